@@ -1,0 +1,4 @@
+pub mod Call
+pub mod Fun
+pub mod Name
+pub mod Rule

@@ -1,0 +1,52 @@
+//! Calls with their operands, by group.
+
+ghost use Rattle.std.specs.Prelude.{◌≡◌, IfOk};
+ghost use Rattle.jg_words.specs.Call.{fun_of};
+
+pub mod frames;
+pub mod refs;
+pub mod strings;
+pub mod vm;
+
+use crate::fun::Fun;
+use frames::FramesCall;
+use refs::RefsCall;
+use std::alloc::AllocError;
+use strings::StringsCall;
+use vm::VmCall;
+
+/// A call: a function of one of the groups with its operands. The thread and the environment
+/// that it comes from stand beside it.
+#[derive(Debug, PartialEq, Eq, Drop)]
+pub enum Call {
+    Vm(VmCall),
+    Refs(RefsCall),
+    Frames(FramesCall),
+    Strings(StringsCall),
+}
+
+impl Call {
+    /// Its function.
+    pub fn fun(&self) -> Fun
+        ensures { result ≡ fun_of self.now }
+    {
+        match self {
+            Call::Vm(call) => Fun::Vm(call.fun()),
+            Call::Refs(call) => Fun::Refs(call.fun()),
+            Call::Frames(call) => Fun::Frames(call.fun()),
+            Call::Strings(call) => Fun::Strings(call.fun()),
+        }
+    }
+
+    /// An equal call. Fails only for want of memory.
+    pub fn try_copy(&self) -> Result<Call, AllocError>
+        ensures { IfOk result (λ copy. copy ≡ self.now) }
+    {
+        match self {
+            Call::Vm(call) => Ok(Call::Vm(call.copy())),
+            Call::Refs(call) => Ok(Call::Refs(call.copy())),
+            Call::Frames(call) => Ok(Call::Frames(call.copy())),
+            Call::Strings(call) => Ok(Call::Strings(call.try_copy()?)),
+        }
+    }
+}

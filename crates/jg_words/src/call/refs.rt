@@ -1,0 +1,43 @@
+ghost use Rattle.std.specs.Prelude.{◌≡◌};
+ghost use Rattle.jg_words.specs.Call.{refs_fun};
+
+use crate::fun::refs::RefsFun;
+use crate::reference::Ref;
+
+/// References (JNI Specification, chapter 4, "Global and Local References").
+#[derive(Debug, PartialEq, Eq, Drop)]
+pub enum RefsCall {
+    NewLocalRef { of: Ref },
+    DeleteLocalRef { of: Ref },
+    IsSameObject { first: Ref, second: Ref },
+    GetObjectRefType { of: Ref },
+}
+
+impl RefsCall {
+    /// Its function.
+    pub fn fun(&self) -> RefsFun
+        ensures { result ≡ refs_fun self.now }
+    {
+        match self {
+            RefsCall::NewLocalRef { .. } => RefsFun::NewLocalRef,
+            RefsCall::DeleteLocalRef { .. } => RefsFun::DeleteLocalRef,
+            RefsCall::IsSameObject { .. } => RefsFun::IsSameObject,
+            RefsCall::GetObjectRefType { .. } => RefsFun::GetObjectRefType,
+        }
+    }
+
+    /// An equal call.
+    pub fn copy(&self) -> RefsCall
+        ensures { result ≡ self.now }
+    {
+        match self {
+            RefsCall::NewLocalRef { of } => RefsCall::NewLocalRef { of: *of },
+            RefsCall::DeleteLocalRef { of } => RefsCall::DeleteLocalRef { of: *of },
+            RefsCall::IsSameObject { first, second } => RefsCall::IsSameObject {
+                first: *first,
+                second: *second,
+            },
+            RefsCall::GetObjectRefType { of } => RefsCall::GetObjectRefType { of: *of },
+        }
+    }
+}

@@ -1,0 +1,38 @@
+//! The words of the guard: threads, references, objects, functions, calls, answers, rules and
+//! journal entries. Nothing here decides anything; the crates above do.
+#![tactic(auto)]
+
+mod buffer;
+mod call;
+mod entry;
+mod fun;
+mod items;
+mod name;
+mod object;
+mod reference;
+mod rule;
+mod thread;
+mod value;
+
+pub use buffer::BufId;
+pub use call::Call;
+pub use call::frames::FramesCall;
+pub use call::refs::RefsCall;
+pub use call::strings::StringsCall;
+pub use call::vm::VmCall;
+pub use entry::{Entry, Outcome, Reply};
+pub use fun::frames::FramesFun;
+pub use fun::refs::RefsFun;
+pub use fun::strings::StringsFun;
+pub use fun::vm::VmFun;
+pub use fun::{Fun, of_name_undoes_name};
+pub use items::{Items, MAX_ITEMS};
+pub use name::{MAX_NAME, Name};
+pub use object::{FieldId, ObjId, Primitive};
+pub use reference::{Kind, Ref};
+pub use rule::Rule;
+pub use thread::{EnvId, Tid};
+pub use value::{Thrown, Value};
+
+#[cfg(test)]
+mod tests;

@@ -1,0 +1,21 @@
+/// An object by its number in the order of making, class objects first, from 0.
+#[derive(Clone, Copy, Debug, PartialEq, Eq)]
+pub struct ObjId(pub u64);
+
+/// A field ID: the number of its class, and its number in that class, from 1.
+#[derive(Clone, Copy, Debug, PartialEq, Eq)]
+pub struct FieldId {
+    pub class: u32,
+    pub field: u32,
+}
+
+/// A primitive type of array items and fields.
+#[derive(Clone, Copy, Debug, PartialEq, Eq)]
+pub enum Primitive {
+    Boolean,
+    Byte,
+    Char,
+    Short,
+    Int,
+    Long,
+}
