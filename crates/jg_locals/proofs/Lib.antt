@@ -1,0 +1,12 @@
+pub mod Members
+pub mod Looking
+pub mod LocalSteps
+pub mod FrameSteps
+pub mod Tops
+pub mod StandingSteps
+pub mod EventLaws
+pub mod Lookups
+pub mod Held
+pub mod Callers
+pub mod Lives
+pub mod Worked

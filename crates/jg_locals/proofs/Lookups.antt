@@ -1,0 +1,98 @@
+-- What the look-ups answer where the rows stand.
+use Rattle.std.proofs.Common.{◌≡◌, ℕ, ◌<◌, Bool, true, false, List, [], ◌∷◌, Option, Some, None, refl, ◌∙◌, ap, sym, subst, arith, inl, inr, eqb-true}
+use Rattle.std.specs.Prelude.{◌==◌, ◌⊎◌, if◌then◌else◌, filter, find, All, IsNone, IsTrue, ◌↔◌}
+use Rattle.std.specs.List.{list_any, AllByRecursion}
+use Rattle.std.specs.Option.{option_map}
+use Rattle.std.proofs.lemmas.Bool.Decides.{nat_tests}
+use Rattle.std.proofs.lemmas.List.Elements.{recursion_from_All}
+use Rattle.jg_locals.specs.History.{Act, Start, Make, Push, Enter, Delete, Pop, Leave, End, Event, acts_of, has_session, depth, is_push, done_at, frames, Local, live_local, object_of, live}
+use Rattle.jg_locals.specs.declared.row.LocalRow.{LocalRow}
+use Rattle.jg_locals.specs.declared.row.FrameRow.{FrameRow}
+use Rattle.jg_locals.specs.Rows.{Rows, Table, is_local, top, pushed, entered, frame_number, depth_number}
+use Rattle.jg_locals.specs.Standing.{AllAllowed, rows_of_local, Stands}
+use Rattle.jg_locals.proofs.Tops.{top_is}
+
+-- a number above all of a thread's is new to it
+above_fresh : (u n : ℕ) (locals : List LocalRow) → AllByRecursion (λ row. row.tid ≡ u → row.n < n) locals → filter (is_local u n) locals ≡ []
+above_fresh u n [] above = refl
+above_fresh u n (row ∷ locals) above =
+    let tail = above_fresh u n locals above.1 in
+    let below = above.0 in
+    grind (arith, nat_tests, tail, below)
+
+pub fresh : (u n : ℕ) (locals : List LocalRow) → All (λ row. row.tid ≡ u → row.n < n) locals → filter (is_local u n) locals ≡ []
+fresh u n locals above = above_fresh u n locals (recursion_from_All _ _ above)
+
+abbrev first : {X : Type 0} → List X → Option X
+first [] = None
+first (x ∷ xs) = Some x
+
+find-filter : {X : Type 0} (p : X → Bool) (xs : List X) → find p xs ≡ first (filter p xs)
+find-filter p [] = refl
+find-filter p (x ∷ xs) = rw (find-filter p xs) (elim (p x) as (λ b. (if b then Some x else first (filter p xs)) ≡ first (if b then x ∷ filter p xs else filter p xs)) [ true ↦ refl | false ↦ refl ])
+
+object_of_first : (t : ℕ) (found : Option Local) → option_map (λ row. row.object) (first (rows_of_local t found)) ≡ object_of found
+object_of_first t None = refl
+object_of_first t (Some l) = refl
+
+pub get_law : (rows : Rows) (e : List Event) (t n : ℕ) → Stands rows e → option_map (λ row. row.object) (find (is_local t n) rows.locals) ≡ live n (acts_of t e)
+get_law rows e t n stands = rw (find-filter, stands.locals t n) (object_of_first t (live_local n (acts_of t e)))
+
+-- without a session nothing is pushed
+pub no_pushes : (d : ℕ) (acts : List Act) → AllAllowed acts → has_session acts ≡ false → done_at is_push d acts ≡ 0
+no_pushes d [] h none = refl
+no_pushes d (Start ∷ acts) h none = cc
+no_pushes d (End ∷ acts) h none = refl
+no_pushes d (Make n o ∷ acts) h none = cc
+no_pushes d (Push ∷ acts) h none = cc
+no_pushes d (Enter ∷ acts) h none = grind (arith, nat_tests, no_pushes d acts h.0 none)
+no_pushes d (Delete n ∷ acts) h none = no_pushes d acts h.0 none
+no_pushes d (Pop ∷ acts) h none = no_pushes d acts h.0 none
+no_pushes d (Leave ∷ acts) h none = no_pushes d acts h.0 none
+
+frame_of_top : (t : ℕ) (acts : List Act) (b : Bool) → has_session acts ≡ b → AllAllowed acts
+    → frame_number (if◌then◌else◌ {A = Option FrameRow} b (Some (record { tid = t; depth = depth acts; frame = frames (depth acts) acts })) None) ≡ frames (depth acts) acts
+frame_of_top t acts true is h = refl
+frame_of_top t acts false is h = omega (arith, no_pushes (depth acts) acts h is)
+
+pub pushed_law : (rows : Rows) (e : List Event) (t : ℕ) → Stands rows e → pushed t rows ≡ frames (depth (acts_of t e)) (acts_of t e)
+pushed_law rows e t stands = rw (top_is rows e t stands) (frame_of_top t (acts_of t e) (has_session (acts_of t e)) refl (stands.allowed t))
+
+pub can_pop_law : (rows : Rows) (e : List Event) (t : ℕ) (b : Bool) → Stands rows e → IsTrue b ↔ (0 < pushed t rows) → IsTrue b ↔ (0 < frames (depth (acts_of t e)) (acts_of t e))
+can_pop_law rows e t b stands test =
+    let P : ℕ → Type 0 = λ k. IsTrue b ↔ (0 < k) in
+    subst P (pushed_law rows e t stands) test
+
+-- a value is seen as its view
+pub reopened : (a b : Table) (e : List Event) → a ≡ b → Stands b.rows e → Stands a.rows e
+reopened a b e is stands =
+    let P : Table → Type 0 = λ v. Stands v.rows e in
+    subst P (sym is) stands
+
+pub pushed_top : (a b : Table) (t : ℕ) (r : FrameRow) → a ≡ b → top t a.rows.frames ≡ Some r → 0 < pushed t b.rows → 0 < r.frame
+pushed_top a b t r is found some =
+    let P : Table → Type 0 = λ v. 0 < pushed t v.rows in
+    let here : 0 < frame_number (top t a.rows.frames) = subst P (sym is) some in
+    let Q : Option FrameRow → Type 0 = λ o. 0 < frame_number o in
+    subst Q found here
+
+pub entered_top : (a b : Table) (t : ℕ) (r : FrameRow) → a ≡ b → top t a.rows.frames ≡ Some r → 0 < entered t b.rows → 0 < r.depth
+entered_top a b t r is found some =
+    let P : Table → Type 0 = λ v. 0 < entered t v.rows in
+    let here : 0 < depth_number (top t a.rows.frames) = subst P (sym is) some in
+    let Q : Option FrameRow → Type 0 = λ o. 0 < depth_number o in
+    subst Q found here
+
+none_is : {X : Type 0} (o : Option X) → IsNone o → o ≡ None
+none_is None h = refl
+none_is (Some x) h = cc
+
+pub no_top : (a b : Table) (t : ℕ) → a ≡ b → IsNone (top t b.rows.frames) → top t a.rows.frames ≡ None
+no_top a b t is none =
+    let P : Table → Type 0 = λ v. IsNone (top t v.rows.frames) in
+    none_is _ (subst P (sym is) none)
+
+pub fresh_in : (a b : Table) (u n : ℕ) → a ≡ b → All (λ row. row.tid ≡ u → row.n < n) b.rows.locals → filter (is_local u n) a.rows.locals ≡ []
+fresh_in a b u n is above =
+    let P : Table → Type 0 = λ v. All (λ row. row.tid ≡ u → row.n < n) v.rows.locals in
+    fresh u n a.rows.locals (subst P (sym is) above)

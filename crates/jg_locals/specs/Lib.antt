@@ -1,0 +1,4 @@
+pub mod History
+pub mod Rows
+pub mod Standing
+pub mod Laws

@@ -1,0 +1,215 @@
+ghost use Rattle.std.specs.Prelude.{◌≡◌, ℕ, ◌+◌, ◌<◌, ◌≤◌, ◌↔◌, ◌||◌, List, [], ◌∷◌, OnOk, OnErr, IsOk, IsNone, IsTrue, All, false, length, slice_index_or};
+ghost use Rattle.std.specs.Option.{option_map};
+ghost use Rattle.jg_locals.specs.History.{Event, by, Start, Make, Push, Enter, Delete, Pop, Leave, End, acts_of, depth, frames, live, holds_object};
+ghost use Rattle.jg_locals.specs.Standing.{Stands};
+ghost use Rattle.jg_locals.specs.Rows.{top, HasFrame, pushed, entered, spare, spare_starts};
+
+use crate::list::{
+    close_activation, close_frame, close_thread, end_activation, end_frame, end_local, end_thread,
+    mark_named, names_object, object_of, top_of,
+};
+use crate::row::{FrameRow, LocalRow};
+use jg_words::{ObjId, Tid};
+use std::alloc::{AllocError, Allocator, Global};
+use std::marker::Model;
+
+/// The live local references and the open frames of all threads. Contracts see the rows, and
+/// beside them the room that `reserve` and `reserve_start` make.
+#[derive(Drop)]
+pub struct Locals<A: Allocator = Global> {
+    locals: Vec<LocalRow, A>,
+    frames: Vec<FrameRow, A>,
+}
+
+impl<A: Allocator> Model for Locals<A> {
+    ghost use Rattle.std.specs.Prelude.{◌-◌, vec_len, vec_capacity};
+    ghost use Rattle.jg_locals.specs.Rows.{Table};
+
+    ghost Value = { Table };
+
+    ghost view = { λ a. record { rows = record { locals = a.locals.items; frames = a.frames.items }; room = record { locals = vec_capacity a.locals - vec_len a.locals; frames = vec_capacity a.frames - vec_len a.frames } } };
+}
+
+impl<A: Allocator + Clone> Locals<A> {
+    /// No thread has a session. Each list takes a handle of its own.
+    pub fn new(locals: A, frames: A) -> Locals<A>
+        ensures { Stands result.rows [] }
+    {
+        Locals {
+            locals: Vec::new(locals),
+            frames: Vec::new(frames),
+        }
+    }
+
+    /// Begins the session of a thread that has none, with an empty base frame at depth 0.
+    pub fn start_thread(&mut self, tid: Tid) -> Result<(), AllocError>
+        requires { IsNone (top tid.0 self.old.rows.frames) }
+        ensures ok { OnOk result ((e : List Event) → Stands self.old.rows e → Stands self.new.rows (by tid.0 Start ∷ e)) }
+        ensures err { OnErr result (self.new.rows ≡ self.old.rows) }
+        ensures room { 0 < spare_starts self.old tid.0 → IsOk result }
+    {
+        self.frames.push(FrameRow {
+            tid: tid.0,
+            depth: 0,
+            frame: 0,
+        })?;
+        Ok(())
+    }
+
+    /// Makes local `n` for the object, in the thread's newest frame. `n` is above the number of
+    /// each local of the thread.
+    pub fn make(&mut self, tid: Tid, n: u64, object: ObjId) -> Result<(), AllocError>
+        requires started { HasFrame tid.0 self.old.rows }
+        requires above { All (λ row. row.tid ≡ tid.0 → row.n < n) self.old.rows.locals }
+        ensures ok { OnOk result ((e : List Event) → Stands self.old.rows e → Stands self.new.rows (by tid.0 (Make n object.0) ∷ e)) }
+        ensures err { OnErr result (self.new.rows ≡ self.old.rows) }
+        ensures room { 0 < spare self.old tid.0 → IsOk result }
+        ensures lowered { spare self.old tid.0 ≤ spare self.new tid.0 + 1 }
+    {
+        let top = top_of(&self.frames, tid.0).unwrap();
+        self.locals.push(LocalRow {
+            tid: tid.0,
+            n,
+            object: object.0,
+            depth: top.depth,
+            frame: top.frame,
+        })?;
+        Ok(())
+    }
+
+    /// Makes room for one more local of the thread, so that the next `make` can't fail.
+    pub fn reserve(&mut self, _tid: Tid) -> Result<(), AllocError>
+        ensures ok { OnOk result (0 < spare self.new _tid.0) }
+        ensures rows { self.new.rows ≡ self.old.rows }
+        ensures starts { spare_starts self.old _tid.0 ≤ spare_starts self.new _tid.0 }
+    {
+        self.locals.try_reserve(1)
+    }
+
+    /// Makes room for the thread's base frame, so that the next `start_thread` can't fail.
+    pub fn reserve_start(&mut self, _tid: Tid) -> Result<(), AllocError>
+        ensures ok { OnOk result (0 < spare_starts self.new _tid.0) }
+        ensures rows { self.new.rows ≡ self.old.rows }
+        ensures locals { spare self.old _tid.0 ≤ spare self.new _tid.0 }
+    {
+        self.frames.try_reserve(1)
+    }
+
+    /// Pushes a frame.
+    pub fn push(&mut self, tid: Tid) -> Result<(), AllocError>
+        requires started { HasFrame tid.0 self.old.rows }
+        requires fits { pushed tid.0 self.old.rows < u64.MAX }
+        ensures ok { OnOk result ((e : List Event) → Stands self.old.rows e → Stands self.new.rows (by tid.0 Push ∷ e)) }
+        ensures err { OnErr result (self.new.rows ≡ self.old.rows) }
+        ensures room { spare self.old tid.0 ≤ spare self.new tid.0 }
+    {
+        let top = top_of(&self.frames, tid.0).unwrap();
+        self.frames.push(FrameRow {
+            tid: tid.0,
+            depth: top.depth,
+            frame: top.frame + 1,
+        })?;
+        Ok(())
+    }
+
+    /// Enters a native method: a new activation, with an empty base frame.
+    pub fn enter(&mut self, tid: Tid) -> Result<(), AllocError>
+        requires started { HasFrame tid.0 self.old.rows }
+        requires fits { entered tid.0 self.old.rows < u64.MAX }
+        ensures ok { OnOk result ((e : List Event) → Stands self.old.rows e → Stands self.new.rows (by tid.0 Enter ∷ e)) }
+        ensures err { OnErr result (self.new.rows ≡ self.old.rows) }
+        ensures room { spare self.old tid.0 ≤ spare self.new tid.0 }
+    {
+        let top = top_of(&self.frames, tid.0).unwrap();
+        self.frames.push(FrameRow {
+            tid: tid.0,
+            depth: top.depth + 1,
+            frame: 0,
+        })?;
+        Ok(())
+    }
+
+    /// Ends the thread's local `n`, if it is live.
+    pub fn delete(&mut self, tid: Tid, n: u64)
+        ensures stands { (e : List Event) → Stands self.old.rows e → Stands self.new.rows (by tid.0 (Delete n) ∷ e) }
+        ensures room { spare self.old tid.0 ≤ spare self.new tid.0 }
+    {
+        end_local(&mut self.locals, tid.0, n);
+    }
+
+    /// Pops the thread's newest frame, with the locals made in it. The test is `can_pop`.
+    pub fn pop(&mut self, tid: Tid)
+        requires { 0 < pushed tid.0 self.old.rows }
+        ensures stands { (e : List Event) → Stands self.old.rows e → Stands self.new.rows (by tid.0 Pop ∷ e) }
+        ensures room { spare self.old tid.0 ≤ spare self.new tid.0 }
+    {
+        let top = top_of(&self.frames, tid.0).unwrap();
+        end_frame(&mut self.locals, tid.0, top.depth, top.frame);
+        close_frame(&mut self.frames, tid.0, top.depth, top.frame);
+    }
+
+    /// Leaves the native method, with all frames and locals of its activation.
+    pub fn leave(&mut self, tid: Tid)
+        requires { 0 < entered tid.0 self.old.rows }
+        ensures stands { (e : List Event) → Stands self.old.rows e → Stands self.new.rows (by tid.0 Leave ∷ e) }
+        ensures room { spare self.old tid.0 ≤ spare self.new tid.0 }
+    {
+        let top = top_of(&self.frames, tid.0).unwrap();
+        end_activation(&mut self.locals, tid.0, top.depth);
+        close_activation(&mut self.frames, tid.0, top.depth);
+    }
+
+    /// Ends the thread's session, with all its frames and locals.
+    pub fn drop_thread(&mut self, tid: Tid)
+        ensures { (e : List Event) → Stands self.old.rows e → Stands self.new.rows (by tid.0 End ∷ e) }
+    {
+        end_thread(&mut self.locals, tid.0);
+        close_thread(&mut self.frames, tid.0);
+    }
+
+    /// The object that the thread's local `n` names, where it is live. What other threads did
+    /// makes no difference.
+    pub fn get(&self, tid: Tid, n: u64) -> Option<ObjId>
+        ensures live { (e : List Event) → Stands self.now.rows e → result ≡ option_map (λ o. record { 0 = o }) (live n (acts_of tid.0 e)) }
+        ensures own_thread { (e f : List Event) → Stands self.now.rows e → acts_of tid.0 e ≡ acts_of tid.0 f → result ≡ option_map (λ o. record { 0 = o }) (live n (acts_of tid.0 f)) }
+    {
+        id_of(object_of(&self.locals, tid.0, n))
+    }
+
+    /// Whether a frame was pushed at the thread's present depth and isn't popped. What other
+    /// threads did makes no difference.
+    pub fn can_pop(&self, tid: Tid) -> bool
+        ensures rows { IsTrue result ↔ (0 < pushed tid.0 self.now.rows) }
+        ensures frames { (e : List Event) → Stands self.now.rows e → IsTrue result ↔ (0 < frames (depth (acts_of tid.0 e)) (acts_of tid.0 e)) }
+        ensures own_thread { (e f : List Event) → Stands self.now.rows e → acts_of tid.0 e ≡ acts_of tid.0 f → IsTrue result ↔ (0 < frames (depth (acts_of tid.0 f)) (acts_of tid.0 f)) }
+    {
+        match top_of(&self.frames, tid.0) {
+            Some(top) => top.frame > 0,
+            None => false,
+        }
+    }
+
+    /// Whether a live local of some thread names the object.
+    pub fn holds_object(&self, object: ObjId) -> bool
+        ensures { (e : List Event) → Stands self.now.rows e → result ≡ holds_object e object.0 }
+    {
+        names_object(&self.locals, object.0)
+    }
+
+    /// Sets the mark of each object that a live local of some thread names, and leaves the
+    /// others. `marks` counts objects by their numbers; those past its end are passed over.
+    pub fn mark_held(&self, marks: &mut [bool])
+        ensures { (e : List Event) → Stands self.now.rows e → (o : ℕ) → o < length marks.old → slice_index_or marks.new o false ≡ (slice_index_or marks.old o false || holds_object e o) }
+    {
+        mark_named(&self.locals, marks);
+    }
+}
+
+fn id_of(object: Option<u64>) -> Option<ObjId>
+    ensures { result ≡ option_map (λ o. record { 0 = o }) object }
+{
+    match object {
+        None => None,
+        Some(object) => Some(ObjId(object)),
+    }
+}

@@ -1,0 +1,19 @@
+-- When rows stand for a list of events.
+use Rattle.std.specs.Prelude.{◌≡◌, ℕ, List}
+use Rattle.jg_threads.specs.History.{Event, acts_of, attached, sessions, depth, pending, refs, buffers}
+use Rattle.jg_threads.specs.Rows.{Row, row_of}
+
+abbrev pub row_after : List Event → ℕ → Row
+row_after e t =
+    record {
+      attached = attached (acts_of t e);
+      sessions = sessions (acts_of t e);
+      depth = depth (acts_of t e);
+      pending = pending (acts_of t e);
+      refs = refs (acts_of t e);
+      buffers = buffers (acts_of t e);
+    }
+
+-- each thread's row is what it did
+abbrev pub Stands : List (ℕ × Row) → List Event → Type 0
+Stands rows e = (t : ℕ) → row_of rows t ≡ row_after e t
