@@ -1,16 +1,16 @@
 -- What a caller that knows the events knows of the rows.
-use Rattle.std.proofs.Common.{◌≡◌, ℕ, ◌<◌, Bool, true, false, List, [], ◌∷◌, ◌++◌, Option, Some, None, refl, subst, arith, inl, inr}
-use Rattle.std.specs.Prelude.{All}
+use Rattle.std.proofs.Common.{◌≡◌, ℕ, ◌<◌, Bool, true, false, List, [], ◌∷◌, ◌++◌, Option, Some, None, refl, sym, subst, arith, inl, inr}
+use Rattle.std.specs.Prelude.{All, IsSome, IsTrue, ◌↔◌}
 use Rattle.std.specs.List.{AllByRecursion}
 use Rattle.std.proofs.lemmas.Bool.Decides.{nat_tests}
-use Rattle.std.proofs.lemmas.List.Elements.{All-from_recursion}
-use Rattle.jg_locals.specs.History.{Act, Start, Make, Push, Enter, Delete, Pop, Leave, End, Event, acts_of, has_session, frames, Making, making, local_if_live, IsMadeBelow}
+use Rattle.std.proofs.lemmas.List.Elements.{All-from_recursion, recursion_from_All}
+use Rattle.jg_locals.specs.History.{Act, Start, Make, Push, Enter, Delete, Pop, Leave, End, Event, acts_of, has_session, frames, Making, making, local_if_live, Local, live_local, object_of, live, IsMadeBelow}
 use Rattle.jg_locals.specs.declared.row.LocalRow.{LocalRow}
 use Rattle.jg_locals.specs.Rows.{Rows, is_local, HasFrame}
 use Rattle.jg_locals.specs.Standing.{AllAllowed, rows_of_local, Stands}
 use Rattle.jg_locals.proofs.LocalSteps.{making_splits}
 use Rattle.jg_locals.proofs.Lookups.{no_pushes}
-use Rattle.jg_locals.proofs.Members.{Member, member_filter}
+use Rattle.jg_locals.proofs.Members.{Member, member_filter, member_filtered, at_member}
 use Rattle.jg_locals.proofs.Tops.{top_is}
 
 -- a thread with a session has a frame
@@ -57,3 +57,37 @@ row_below rows e t n stands below row m mine =
 -- a number above all that were made is above all that are live
 pub above_law : (rows : Rows) (e : List Event) (t n : ℕ) → Stands rows e → IsMadeBelow n (acts_of t e) → All (λ row. row.tid ≡ t → row.n < n) rows.locals
 above_law rows e t n stands below = All-from_recursion _ _ (all_members _ rows.locals (row_below rows e t n stands below))
+
+live_of_row : (t k : ℕ) (row : LocalRow) (found : Option Local) → Member row (rows_of_local t found) → IsSome (object_of found)
+live_of_row t k row None m = absurd m
+live_of_row t k row (Some l) m = refl
+
+row_of_live : (t k : ℕ) (found : Option Local) → IsSome (object_of found) → (row : LocalRow) × Member row (rows_of_local t found)
+row_of_live t k None some = cc
+row_of_live t k (Some l) some = (record { tid = t; n = l.n; object = l.object; depth = l.depth; frame = l.frame }, inl refl)
+
+live_below : (rows : Rows) (e : List Event) (t n k : ℕ) → Stands rows e → All (λ row. row.tid ≡ t → row.n < n) rows.locals → IsSome (live k (acts_of t e)) → k < n
+live_below rows e t n k stands all some =
+    let there = row_of_live t k (live_local k (acts_of t e)) some in
+    let row : LocalRow = there.0 in
+    let P : List LocalRow → Type 0 = λ l. Member row l in
+    let kept = member_filtered (is_local t k) row rows.locals (subst P (sym (stands.locals t k)) there.1) in
+    let below = at_member (λ row. row.tid ≡ t → row.n < n) row rows.locals (recursion_from_All _ _ all) kept.0 in
+    let is : is_local t k row ≡ true = kept.1 in
+    let mine : row.tid ≡ t = grind (arith, nat_tests) in
+    let number : row.n ≡ k = grind (arith, nat_tests) in
+    omega (arith, below mine)
+
+below_live : (rows : Rows) (e : List Event) (t n : ℕ) → Stands rows e → ((k : ℕ) → IsSome (live k (acts_of t e)) → k < n) → (row : LocalRow) → Member row rows.locals → row.tid ≡ t → row.n < n
+below_live rows e t n stands each row m mine =
+    let own : is_local t row.n row ≡ true = grind (arith, nat_tests) in
+    let P : List LocalRow → Type 0 = λ l. Member row l in
+    let there = subst P (stands.locals t row.n) (member_filter (is_local t row.n) row rows.locals m own) in
+    each row.n (live_of_row t row.n row (live_local row.n (acts_of t e)) there)
+
+-- a number is above all of a thread's rows where it is above all its live locals
+pub above_live : (rows : Rows) (e : List Event) (t n : ℕ) (b : Bool) → Stands rows e → IsTrue b ↔ All (λ row. row.tid ≡ t → row.n < n) rows.locals → IsTrue b ↔ ((k : ℕ) → IsSome (live k (acts_of t e)) → k < n)
+above_live rows e t n b stands test = (
+  (λ is k some. live_below rows e t n k stands (test.0 is) some),
+  (λ each. test.1 (All-from_recursion _ _ (all_members _ rows.locals (below_live rows e t n stands each)))),
+)

@@ -1,6 +1,6 @@
 -- Which objects live locals hold.
 use Rattle.std.proofs.Common.{◌≡◌, ℕ, Bool, true, false, List, [], ◌∷◌, ◌++◌, Option, Some, None, refl, ◌∙◌, ap, sym, subst, arith, inl, inr, eqb-true}
-use Rattle.std.specs.Prelude.{◌==◌, ◌&&◌, ◌⊎◌, filter, IsTrue, ◌↔◌}
+use Rattle.std.specs.Prelude.{◌==◌, IsTrue, ◌↔◌}
 use Rattle.std.specs.List.{list_any}
 use Rattle.std.proofs.lemmas.Bool.Decides.{nat_tests}
 use Rattle.jg_locals.specs.History.{Act, Start, Make, Push, Enter, Delete, Pop, Leave, End, Event, acts_of, Local, live_local, object_of, live, is_object, makes_live, holds_object}

@@ -1,8 +1,8 @@
 -- What live means: made, and not ended since.
-use Rattle.std.proofs.Common.{◌≡◌, ◌≢◌, ◌<◌, ℕ, Bool, true, false, List, [], ◌∷◌, ◌++◌, Option, Some, None, refl, ◌∙◌, ap, subst, arith, inl, inr}
-use Rattle.std.specs.Prelude.{◌==◌, ◌⊎◌}
+use Rattle.std.proofs.Common.{◌≡◌, ◌<◌, ℕ, Bool, true, false, List, [], ◌∷◌, ◌++◌, Option, Some, None, refl, ◌∙◌, ap, subst, arith, inl, inr}
+use Rattle.std.specs.Prelude.{◌==◌}
 use Rattle.std.proofs.lemmas.Bool.Decides.{nat_tests}
-use Rattle.jg_locals.specs.History.{Act, Start, Make, Push, Enter, Delete, Pop, Leave, End, how_many, is_enter, is_leave, is_push, is_pop, done_here, ends, survives, Making, making, seen_after, live, local_if_live, object_of}
+use Rattle.jg_locals.specs.History.{Act, Start, Make, Push, Enter, Delete, Pop, Leave, End, how_many, is_enter, is_leave, is_push, is_pop, done_here, ends, survives, Making, making, seen_after, local_if_live, object_of}
 use Rattle.jg_locals.specs.Laws.{IsEndedBy, IsNotEnded, IsNotMade, LiveWasMade, MadeIsLive, DeletedStaysDead}
 use Rattle.jg_locals.proofs.Looking.{survived_before}
 use Rattle.jg_locals.proofs.LocalSteps.{making_splits}

@@ -1,11 +1,11 @@
 -- What the look-ups answer where the rows stand.
-use Rattle.std.proofs.Common.{◌≡◌, ℕ, ◌<◌, Bool, true, false, List, [], ◌∷◌, Option, Some, None, refl, ◌∙◌, ap, sym, subst, arith, inl, inr, eqb-true}
-use Rattle.std.specs.Prelude.{◌==◌, ◌⊎◌, if◌then◌else◌, filter, find, All, IsNone, IsTrue, ◌↔◌}
-use Rattle.std.specs.List.{list_any, AllByRecursion}
-use Rattle.std.specs.Option.{option_map}
+use Rattle.std.proofs.Common.{◌≡◌, ℕ, ◌<◌, Bool, true, false, List, [], ◌∷◌, Option, Some, None, refl, sym, subst, arith}
+use Rattle.std.specs.Prelude.{if◌then◌else◌, filter, find, All, IsNone, IsTrue, ◌↔◌}
+use Rattle.std.specs.List.{AllByRecursion}
+use Rattle.std.specs.Option.{is_some, option_map}
 use Rattle.std.proofs.lemmas.Bool.Decides.{nat_tests}
 use Rattle.std.proofs.lemmas.List.Elements.{recursion_from_All}
-use Rattle.jg_locals.specs.History.{Act, Start, Make, Push, Enter, Delete, Pop, Leave, End, Event, acts_of, has_session, depth, is_push, done_at, frames, Local, live_local, object_of, live}
+use Rattle.jg_locals.specs.History.{Act, Start, Make, Push, Enter, Delete, Pop, Leave, End, Event, acts_of, has_session, session, depth, how_many, is_enter, is_push, done_at, frames, Local, live_local, object_of, live}
 use Rattle.jg_locals.specs.declared.row.LocalRow.{LocalRow}
 use Rattle.jg_locals.specs.declared.row.FrameRow.{FrameRow}
 use Rattle.jg_locals.specs.Rows.{Rows, Table, is_local, top, pushed, entered, frame_number, depth_number}
@@ -57,6 +57,33 @@ frame_of_top t acts false is h = omega (arith, no_pushes (depth acts) acts h is)
 
 pub pushed_law : (rows : Rows) (e : List Event) (t : ℕ) → Stands rows e → pushed t rows ≡ frames (depth (acts_of t e)) (acts_of t e)
 pushed_law rows e t stands = rw (top_is rows e t stands) (frame_of_top t (acts_of t e) (has_session (acts_of t e)) refl (stands.allowed t))
+
+-- and no native method is entered
+no_enters : (acts : List Act) → AllAllowed acts → has_session acts ≡ false → how_many is_enter (session acts) ≡ 0
+no_enters [] h none = refl
+no_enters (Start ∷ acts) h none = cc
+no_enters (End ∷ acts) h none = refl
+no_enters (Make n o ∷ acts) h none = cc
+no_enters (Push ∷ acts) h none = cc
+no_enters (Enter ∷ acts) h none = cc
+no_enters (Delete n ∷ acts) h none = no_enters acts h.0 none
+no_enters (Pop ∷ acts) h none = no_enters acts h.0 none
+no_enters (Leave ∷ acts) h none = no_enters acts h.0 none
+
+depth_of_top : (t : ℕ) (acts : List Act) (b : Bool) → has_session acts ≡ b → AllAllowed acts
+    → depth_number (if◌then◌else◌ {A = Option FrameRow} b (Some (record { tid = t; depth = depth acts; frame = frames (depth acts) acts })) None) ≡ depth acts
+depth_of_top t acts true is h = refl
+depth_of_top t acts false is h = omega (arith, no_enters acts h is)
+
+pub depth_law : (rows : Rows) (e : List Event) (t : ℕ) → Stands rows e → entered t rows ≡ depth (acts_of t e)
+depth_law rows e t stands = rw (top_is rows e t stands) (depth_of_top t (acts_of t e) (has_session (acts_of t e)) refl (stands.allowed t))
+
+some_of_top : (row : FrameRow) (b : Bool) → is_some (if◌then◌else◌ {A = Option FrameRow} b (Some row) None) ≡ b
+some_of_top row true = refl
+some_of_top row false = refl
+
+pub has_session_law : (rows : Rows) (e : List Event) (t : ℕ) → Stands rows e → is_some (top t rows.frames) ≡ has_session (acts_of t e)
+has_session_law rows e t stands = rw (top_is rows e t stands) (some_of_top _ (has_session (acts_of t e)))
 
 pub can_pop_law : (rows : Rows) (e : List Event) (t : ℕ) (b : Bool) → Stands rows e → IsTrue b ↔ (0 < pushed t rows) → IsTrue b ↔ (0 < frames (depth (acts_of t e)) (acts_of t e))
 can_pop_law rows e t b stands test =

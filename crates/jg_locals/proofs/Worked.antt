@@ -1,9 +1,6 @@
 -- The definitions at worked lists of acts, the newest first: each fact holds by computing.
-use Rattle.std.proofs.Common.{◌≡◌, ◌≢◌, ℕ, true, false, List, [], ◌∷◌, ◌++◌, Option, Some, None, refl, ◌∙◌, ap, arith}
-use Rattle.std.specs.Prelude.{Bool, ◌==◌}
-use Rattle.std.proofs.lemmas.Bool.Decides.{nat_tests}
-use Rattle.jg_locals.specs.History.{Act, Start, Make, Push, Enter, Delete, Pop, Leave, End, depth, frames, survives, Making, making, live, local_if_live, object_of}
-use Rattle.jg_locals.proofs.LocalSteps.{making_splits}
+use Rattle.std.proofs.Common.{◌≡◌, List, [], ◌∷◌, Some, None, refl}
+use Rattle.jg_locals.specs.History.{Act, Start, Make, Push, Enter, Pop, Leave, End, depth, frames, live}
 
 abbrev frames_of_a_native : List Act
 frames_of_a_native = Leave ∷ Make 3 9 ∷ Push ∷ Push ∷ Make 2 8 ∷ Enter ∷ Make 1 7 ∷ Start ∷ []

@@ -10,3 +10,6 @@ mod row;
 pub use locals::Locals;
 pub use meanings::{deleted_is_never_live, held_means, live_was_made, made_and_not_ended_is_live};
 pub use row::{FrameRow, LocalRow};
+
+#[cfg(test)]
+mod tests;

@@ -1,9 +1,9 @@
 //! What is looked up in a list of rows, and which of them go.
 
-ghost use Rattle.std.specs.Prelude.{◌≡◌, ◌≤◌, ◌-◌, ◌&&◌, ◌||◌, ◌==◌, ◌<◌, ℕ, false, not, filter, find, length, slice_index_or, vec_len, vec_capacity};
+ghost use Rattle.std.specs.Prelude.{◌≡◌, ◌≤◌, ◌-◌, ◌&&◌, ◌||◌, ◌==◌, ◌<◌, ◌↔◌, ℕ, false, All, IsTrue, not, filter, find, length, slice_index_or, vec_len, vec_capacity};
 ghost use Rattle.std.specs.Option.{option_map};
 ghost use Rattle.std.specs.List.{list_any};
-ghost use Rattle.jg_locals.specs.Rows.{top, is_local};
+ghost use Rattle.jg_locals.specs.Rows.{top, is_local, depth_number, frame_number};
 
 use crate::row::{FrameRow, LocalRow};
 use std::alloc::Allocator;
@@ -15,6 +15,26 @@ pub(crate) fn top_of(frames: &[FrameRow], tid: u16) -> Option<FrameRow>
     frames.iter().rev().copied().find(|frame| frame.tid == tid)
 }
 
+/// How many native methods the thread is in: 0 without a session.
+pub(crate) fn depth_of(frames: &[FrameRow], tid: u16) -> u64
+    ensures { result ≡ depth_number (top tid frames.now) }
+{
+    match top_of(frames, tid) {
+        Some(top) => top.depth,
+        None => 0,
+    }
+}
+
+/// How many frames are pushed at the thread's depth: 0 without a session.
+pub(crate) fn pushed_of(frames: &[FrameRow], tid: u16) -> u64
+    ensures { result ≡ frame_number (top tid frames.now) }
+{
+    match top_of(frames, tid) {
+        Some(top) => top.frame,
+        None => 0,
+    }
+}
+
 /// The object of the thread's local `n`.
 pub(crate) fn object_of(locals: &[LocalRow], tid: u16, n: u64) -> Option<u64>
     ensures { result ≡ option_map (λ row. row.object) (find (is_local tid n) locals.now) }
@@ -23,6 +43,13 @@ pub(crate) fn object_of(locals: &[LocalRow], tid: u16, n: u64) -> Option<u64>
         .iter()
         .find(|local| local.tid == tid && local.n == n)
         .map(|local| local.object)
+}
+
+/// Whether `n` is above the number of each local of the thread.
+pub(crate) fn all_below(locals: &[LocalRow], tid: u16, n: u64) -> bool
+    ensures { IsTrue result ↔ All (λ row. row.tid ≡ tid → row.n < n) locals.now }
+{
+    locals.iter().all(|local| local.tid != tid || local.n < n)
 }
 
 /// Whether some local names the object.

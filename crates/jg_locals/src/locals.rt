@@ -1,12 +1,12 @@
-ghost use Rattle.std.specs.Prelude.{◌≡◌, ℕ, ◌+◌, ◌<◌, ◌≤◌, ◌↔◌, ◌||◌, List, [], ◌∷◌, OnOk, OnErr, IsOk, IsNone, IsTrue, All, false, length, slice_index_or};
-ghost use Rattle.std.specs.Option.{option_map};
-ghost use Rattle.jg_locals.specs.History.{Event, by, Start, Make, Push, Enter, Delete, Pop, Leave, End, acts_of, depth, frames, live, holds_object};
+ghost use Rattle.std.specs.Prelude.{◌≡◌, ℕ, ◌+◌, ◌<◌, ◌≤◌, ◌↔◌, ◌||◌, List, [], ◌∷◌, OnOk, OnErr, IsOk, IsNone, IsSome, IsTrue, All, false, length, slice_index_or};
+ghost use Rattle.std.specs.Option.{is_some, option_map};
+ghost use Rattle.jg_locals.specs.History.{Event, by, Start, Make, Push, Enter, Delete, Pop, Leave, End, acts_of, has_session, depth, frames, live, holds_object};
 ghost use Rattle.jg_locals.specs.Standing.{Stands};
 ghost use Rattle.jg_locals.specs.Rows.{top, HasFrame, pushed, entered, spare, spare_starts};
 
 use crate::list::{
-    close_activation, close_frame, close_thread, end_activation, end_frame, end_local, end_thread,
-    mark_named, names_object, object_of, top_of,
+    all_below, close_activation, close_frame, close_thread, depth_of, end_activation, end_frame,
+    end_local, end_thread, mark_named, names_object, object_of, pushed_of, top_of,
 };
 use crate::row::{FrameRow, LocalRow};
 use jg_words::{ObjId, Tid};
@@ -187,6 +187,40 @@ impl<A: Allocator + Clone> Locals<A> {
             Some(top) => top.frame > 0,
             None => false,
         }
+    }
+
+    /// How many frames were pushed at the thread's present depth and aren't popped: 0 where the
+    /// thread has no session.
+    pub fn pushed(&self, tid: Tid) -> u64
+        ensures rows { result ≡ pushed tid.0 self.now.rows }
+        ensures history { (e : List Event) → Stands self.now.rows e → result ≡ frames (depth (acts_of tid.0 e)) (acts_of tid.0 e) }
+    {
+        pushed_of(&self.frames, tid.0)
+    }
+
+    /// How many native methods the thread has entered in its session and not left: 0 where it has
+    /// no session.
+    pub fn depth(&self, tid: Tid) -> u64
+        ensures rows { result ≡ entered tid.0 self.now.rows }
+        ensures history { (e : List Event) → Stands self.now.rows e → result ≡ depth (acts_of tid.0 e) }
+    {
+        depth_of(&self.frames, tid.0)
+    }
+
+    /// Whether the thread has a session.
+    pub fn has_session(&self, tid: Tid) -> bool
+        ensures rows { result ≡ is_some (top tid.0 self.now.rows.frames) }
+        ensures history { (e : List Event) → Stands self.now.rows e → result ≡ has_session (acts_of tid.0 e) }
+    {
+        top_of(&self.frames, tid.0).is_some()
+    }
+
+    /// Whether `n` is above the number of each live local of the thread.
+    pub fn is_above(&self, tid: Tid, n: u64) -> bool
+        ensures rows { IsTrue result ↔ All (λ row. row.tid ≡ tid.0 → row.n < n) self.now.rows.locals }
+        ensures history { (e : List Event) → Stands self.now.rows e → IsTrue result ↔ ((k : ℕ) → IsSome (live k (acts_of tid.0 e)) → k < n) }
+    {
+        all_below(&self.locals, tid.0, n)
     }
 
     /// Whether a live local of some thread names the object.

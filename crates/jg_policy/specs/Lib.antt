@@ -1,1 +1,13 @@
+pub mod Names
+pub mod Faults
 pub mod Stated
+pub mod BaseClasses
+pub mod Findings
+pub mod Kept
+pub mod Classes
+pub mod Access
+pub mod Links
+pub mod LinkRows
+pub mod LinkStanding
+pub mod LinkKept
+pub mod Laws

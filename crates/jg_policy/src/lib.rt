@@ -1,8 +1,25 @@
-//! The setup of a guard: its classes, and which modules may use native code.
+//! The setup of a guard: its classes, and which modules may use native code. A setup is read
+//! from a text; `notes/FORMATS.md` describes it.
 #![tactic(auto)]
 
+mod access;
+mod base;
+mod class;
+mod fault;
+mod findings;
+mod links;
+mod meanings;
 mod mode;
+mod names;
 mod setup;
+mod tree;
 
+pub use access::{Access, Operation};
+pub use fault::SetupFault;
+pub use links::Links;
+pub use meanings::{linked_means, module_numbers_tell_names, warned_means};
 pub use mode::Mode;
 pub use setup::Setup;
+
+#[cfg(test)]
+mod tests;

@@ -1,30 +1,147 @@
-ghost use Rattle.std.specs.Prelude.{◌≡◌};
-ghost use Rattle.jg_policy.specs.Stated.{closed};
+//! A setup, and the text that it is read from.
+ghost use Rattle.std.specs.Prelude.{◌≡◌, ◌≢◌, ◌||◌, length, map, IfOk, IfErr, OnOk, string_bytes, None, Some, [], nat_lt};
+ghost use Rattle.std.specs.List.{list_any};
+ghost use Rattle.toml.specs.Data.{Members};
+ghost use Rattle.toml.specs.Parse.{parse_document};
+ghost use Rattle.toml.specs.View.{view, table_view, items_view};
+ghost use Rattle.jg_policy.specs.Stated.{StatedSetup, setup_stated, each_item, text_item};
+ghost use Rattle.jg_policy.specs.Faults.{first_of, IsFirstFault};
+ghost use Rattle.jg_policy.specs.Findings.{tree_faults, text_faults_of};
+ghost use Rattle.jg_policy.specs.Kept.{class_view, has_many_kept, is_large_kept};
+ghost use Rattle.indexmap.specs.IndexMap.{values};
 
+mod readers;
+
+use crate::class::{Class, classes_from};
+use crate::fault::SetupFault;
+use crate::findings::shape_fault;
 use crate::mode::Mode;
+use crate::tree::{items_at, text_at, text_of};
+use indexmap::IndexMap;
+use std::alloc::{AllocError, Global};
 use std::marker::Model;
+use toml::{Table, Value};
 
-/// The classes that there are beside the base classes, and which modules may use native code.
-/// Contracts see what it states.
-#[derive(Debug, Drop)]
+/// The most classes that a setup states.
+pub const MAX_CLASSES: usize = 1000;
+
+/// The most fields that a class states, and the most native methods.
+pub const MAX_MEMBERS: usize = 100;
+
+/// The most modules that a setup enables, where repeats count.
+pub const MAX_ENABLED: usize = 1000;
+
+/// The classes of a guard, and which modules may use native code. Contracts see what its text
+/// states.
+#[derive(Drop)]
 pub struct Setup {
     mode: Mode,
+    enabled: Vec<String>,
+    classes: IndexMap<String, Class>,
 }
 
 impl Model for Setup {
-    ghost use Rattle.std.specs.Prelude.{[]};
+    ghost use Rattle.std.specs.Prelude.{◌≡◌, false, map, string_bytes};
     ghost use Rattle.jg_policy.specs.Stated.{StatedSetup};
+    ghost use Rattle.jg_policy.specs.Kept.{class_view, is_large_kept};
 
     ghost Value = { StatedSetup };
 
-    ghost view = { λ s. record { mode = s.mode; enabled = []; classes = [] } };
+    ghost view = { λ s. record { mode = s.mode; enabled = map string_bytes s.enabled.items; classes = map class_view s.classes.entries } };
+
+    ghost invariant = { λ s. is_large_kept s.enabled.items s.classes.entries ≡ false };
 }
 
 impl Setup {
-    /// The setup with the base classes alone, which allows no other module native access.
-    pub fn closed() -> Setup
-        ensures { result ≡ closed }
+    /// The setup that denies native access and states nothing else. It takes no memory.
+    pub fn closed(alloc: Global) -> Setup
+        ensures { result ≡ record { mode = Mode.Deny; enabled = []; classes = [] } }
     {
-        Setup { mode: Mode::Deny }
+        Setup {
+            mode: Mode::Deny,
+            enabled: Vec::new(alloc),
+            classes: IndexMap::new(alloc),
+        }
     }
+
+    /// Reads a setup text. Of the faults that the text has anywhere the first in the order of
+    /// [`SetupFault`] is answered, or `NoMemory` where memory runs out.
+    pub fn read(alloc: Global, text: &str) -> Result<Setup, SetupFault>
+        ensures stated { IfOk result (λ setup. (tree : Members) × (parse_document text.now ≡ Some tree) × (tree_faults tree ≡ []) × (setup ≡ setup_stated tree)) }
+        ensures refused { IfErr result (λ fault. fault ≢ SetupFault.NoMemory → IsFirstFault (text_faults_of (parse_document text.now)) fault) }
+    {
+        match toml::table_from_str(alloc, text) {
+            Ok(table) => match Setup::from_tree(alloc, &table) {
+                Ok(setup) => Ok(setup),
+                Err(fault) => Err(fault),
+            },
+            Err(error) => {
+                if error.is_memory() {
+                    Err(SetupFault::NoMemory)
+                } else {
+                    Err(SetupFault::NotToml)
+                }
+            }
+        }
+    }
+
+    // The setup of a tree, or the first fault found in it.
+    fn from_tree(alloc: Global, table: &Table) -> Result<Setup, SetupFault>
+        ensures stated { IfOk result (λ s. s ≡ setup_stated (table_view table.now)) }
+        ensures clean { OnOk result (first_of (tree_faults (table_view table.now)) ≡ None) }
+        ensures first { IfErr result (λ f. f ≢ SetupFault.NoMemory → first_of (tree_faults (table_view table.now)) ≡ Some f) }
+    {
+        if let Some(fault) = shape_fault(table) {
+            return Err(fault);
+        }
+        let mode = match Mode::named(text_at(table, "illegal_native_access")) {
+            Some(mode) => mode,
+            None => Mode::Deny,
+        };
+        let classes = match classes_from(alloc, items_at(table, "class")) {
+            Ok(classes) => classes,
+            Err(fault) => return Err(fault),
+        };
+        let Ok(enabled) = texts_from(alloc, items_at(table, "enable_native_access")) else {
+            return Err(SetupFault::NoMemory);
+        };
+        if is_too_large(&enabled, &classes) {
+            return Err(SetupFault::TooMany);
+        }
+        Ok(Setup {
+            mode,
+            enabled,
+            classes,
+        })
+    }
+}
+
+// Whether a list is longer than a setup may have.
+fn is_too_large(enabled: &Vec<String>, classes: &IndexMap<String, Class>) -> bool
+    ensures { result ≡ is_large_kept enabled.now.items classes.now.entries }
+{
+    let is_long = classes.len() > MAX_CLASSES || enabled.len() > MAX_ENABLED;
+    is_long || any_has_many_members(classes)
+}
+
+fn any_has_many_members(classes: &IndexMap<String, Class>) -> bool
+    ensures { result ≡ list_any has_many_kept (values classes.now) }
+{
+    classes.values().any(|class| has_many_members(class))
+}
+
+fn has_many_members(class: &Class) -> bool
+    ensures { result ≡ has_many_kept class.now }
+{
+    class.fields.len() > MAX_MEMBERS || class.natives.len() > MAX_MEMBERS
+}
+
+fn texts_from(alloc: Global, values: &[Value]) -> Result<Vec<String>, AllocError>
+    ensures { IfOk result (λ v. map string_bytes v.items ≡ each_item text_item (items_view values.now)) }
+{
+    let mut texts = Vec::new(alloc);
+    for value in values {
+        texts.push(String::from_str(alloc, text_of(value))?)?;
+    }
+    Ok(texts)
 }

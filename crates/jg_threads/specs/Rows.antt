@@ -1,17 +1,9 @@
 -- The rows that the table keeps.
-use Rattle.std.specs.Prelude.{ℕ, ◌-◌, ◌^◌, ◌<◌, Bool, false, List, Option, Some, None}
+use Rattle.std.specs.Prelude.{ℕ, ◌-◌, ◌^◌, ◌<◌, false, List, Option, Some, None}
 use Rattle.std.specs.Ordering.{nat_cmp}
 use Rattle.std.specs.BTreeMap.{is_at}
 use Rattle.std.specs.Map.{lookup}
-
--- what is known of a thread
-pub record Row : Type 0 where
-  pub attached : Bool
-  pub sessions : ℕ
-  pub depth : ℕ
-  pub pending : Option ℕ
-  pub refs : ℕ
-  pub buffers : ℕ
+pub use Rattle.jg_threads.specs.declared.row.Row.{Row}
 
 -- a thread that did nothing
 abbrev pub no_row : Row

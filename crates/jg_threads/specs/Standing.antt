@@ -1,6 +1,6 @@
 -- When rows stand for a list of events.
-use Rattle.std.specs.Prelude.{◌≡◌, ℕ, List}
-use Rattle.jg_threads.specs.History.{Event, acts_of, attached, sessions, depth, pending, refs, buffers}
+use Rattle.std.specs.Prelude.{◌≡◌, ◌≤◌, ℕ, List}
+use Rattle.jg_threads.specs.History.{Event, acts_of, since, is_enter, is_leave, how_many, attached, sessions, depth, pending, refs, buffers}
 use Rattle.jg_threads.specs.Rows.{Row, row_of}
 
 abbrev pub row_after : List Event → ℕ → Row
@@ -14,6 +14,7 @@ row_after e t =
       buffers = buffers (acts_of t e);
     }
 
--- each thread's row is what it did
-abbrev pub Stands : List (ℕ × Row) → List Event → Type 0
-Stands rows e = (t : ℕ) → row_of rows t ≡ row_after e t
+-- each thread's row is what it did, and no thread left more native methods in its session than it entered
+pub record Stands (rows : List (ℕ × Row)) (e : List Event) : Type 0 where
+  pub threads : (t : ℕ) → row_of rows t ≡ row_after e t
+  pub entered : (t : ℕ) → how_many is_leave (since (acts_of t e)) ≤ how_many is_enter (since (acts_of t e))

@@ -1,5 +1,5 @@
 -- The functions' names.
-use Rattle.std.specs.Prelude.{ℕ, List, [], ◌∷◌, Option, codes, find, nat_eq}
+use Rattle.std.specs.Prelude.{ℕ, List, [], ◌∷◌, Option, codes, find, nat_eq, Bool, true, false}
 use Rattle.std.specs.Cmp.Lexicographic.{pointwise}
 use Rattle.jg_words.specs.declared.fun.Fun.{Fun}
 use Rattle.jg_words.specs.declared.fun.Fun.TheVariants.{Vm, Refs, Frames, Strings}
@@ -36,6 +36,13 @@ name_of (Vm fun) = vm_name fun
 name_of (Refs fun) = refs_name fun
 name_of (Frames fun) = frames_name fun
 name_of (Strings fun) = strings_name fun
+
+-- AttachCurrentThread, DetachCurrentThread and GetEnv are no functions of a JNIEnv (JNI Specification, chapter 5)
+abbrev pub needs_env : Fun → Bool
+needs_env (Vm AttachCurrentThread) = false
+needs_env (Vm DetachCurrentThread) = false
+needs_env (Vm GetEnv) = false
+needs_env fun = true
 
 abbrev pub all : List Fun
 all =

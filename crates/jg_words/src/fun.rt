@@ -1,7 +1,7 @@
 //! The functions, by group, and their names.
 
 ghost use Rattle.std.specs.Prelude.{◌≡◌, Some};
-ghost use Rattle.jg_words.specs.Fun.{name_of, named};
+ghost use Rattle.jg_words.specs.Fun.{name_of, needs_env, named};
 ghost use Rattle.jg_words.specs.declared.fun.Fun.{Fun as FunOf};
 
 pub mod frames;
@@ -49,6 +49,18 @@ impl Fun {
             Fun::Frames(fun) => fun.name(),
             Fun::Strings(fun) => fun.name(),
         }
+    }
+
+    /// Whether it takes an environment.
+    pub fn takes_env(self) -> bool
+        ensures { result ≡ needs_env self }
+    {
+        !matches!(
+            self,
+            Fun::Vm(VmFun::AttachCurrentThread)
+                | Fun::Vm(VmFun::DetachCurrentThread)
+                | Fun::Vm(VmFun::GetEnv)
+        )
     }
 
     /// The function of that name, if there is one.

@@ -1,8 +1,8 @@
-use Rattle.std.proofs.Common.{◌≡◌, ◌∙◌, ap, List}
+use Rattle.std.proofs.Common.{◌∙◌, ap, List}
 use Rattle.std.specs.Prelude.{ℕ, Option}
 use Rattle.std.specs.Option.{option_map}
 use Rattle.jg_words.specs.declared.object.ObjId.{ObjId}
-use Rattle.jg_locals.specs.History.{Act, Event, acts_of, live}
+use Rattle.jg_locals.specs.History.{Act, live}
 use Rattle.jg_locals.specs.Standing.{Stands}
 use Rattle.jg_locals.proofs.Lookups.{get_law, reopened}
 use Rattle.jg_locals.proofs.locals.Locals.get.Goals as goal

@@ -1,6 +1,3 @@
-use Rattle.std.proofs.Common.{◌≡◌, ◌∙◌, ap, sym, subst}
-use Rattle.std.specs.Prelude.{◌||◌, ◌==◌, Bool, false, slice_index_or}
-use Rattle.std.specs.List.{list_any}
 use Rattle.jg_locals.specs.Standing.{Stands}
 use Rattle.jg_locals.proofs.Lookups.{reopened}
 use Rattle.jg_locals.proofs.Held.{holds_law}

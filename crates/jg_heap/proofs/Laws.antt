@@ -1,0 +1,181 @@
+-- Proofs of what the definitions over a history mean.
+use Rattle.std.proofs.Common.{ℕ, ◌≡◌, ◌+◌, ◌<◌, ◌≤◌, ◌∙◌, sym, ap, subst, refl, inl, inr, List, [], ◌∷◌, ◌++◌, length, get_or, Bool, true, false, not, ◌&&◌, ◌||◌, ltb, eqb, Some, None, arith, zero-add}
+use Rattle.std.specs.List.{Contains, AllByRecursion, list_any, range_with_len}
+use Rattle.std.proofs.lemmas.Bool.{or_cases, or_left, or_right, and_parts, and_from, and_right, not-true, not_from_false, ltb-true, lt-ltb, eqb-true, eq-eqb, ne_eqb, cond-true, cond-false, false≢true}
+use Rattle.std.proofs.lemmas.List.Folds.{Any-from_list_any, list_any_at}
+use Rattle.std.proofs.lemmas.List.FromFn.{length-range_with_len, get_or-range_with_len}
+use Rattle.std.proofs.lemmas.Map.Views.{any-filter_same}
+use Rattle.jg_words.specs.declared.object.ObjId.{ObjId}
+use Rattle.jg_heap.specs.declared.object.Slot.{Slot}
+use Rattle.jg_heap.specs.declared.object.Slot.TheVariants.{Number, Object as ToObject}
+use Rattle.jg_heap.specs.Making.{Making, slots_in, slot_in}
+use Rattle.jg_heap.specs.Rows.{count_in}
+use Rattle.jg_heap.specs.History.{Event, Made, Wrote, Collected, count_of, making_at, value_at, gone_at, held_at, held_by, holds, points_at, some_slot, going}
+use Rattle.jg_heap.specs.Laws.{StandsInASlot, HeldMeans, WasCollected, GoneMeans, StaysGone, ClassesStay, GoingMeans, Spares, LatestWrite, FirstValue, RowsMean}
+use Rattle.jg_heap.proofs.Pointing.{points_same, by_slot}
+use Rattle.jg_heap.proofs.Told.{count_stands, class_stands, length_stands}
+
+-- ---- gone
+
+later_too : (k : ℕ) (ev : Event) (e : List Event) (o : ℕ) → WasCollected k e o → WasCollected k (ev ∷ e) o
+later_too k ev e o w = (ev ∷ w.0, w.1, w.2, ap (λ (l : List Event). ev ∷ l) w.3, w.4, w.5)
+
+was_collected : (k : ℕ) (e : List Event) (o : ℕ) → gone_at k e o ≡ true → WasCollected k e o
+was_collected k [] o h = absurd (false≢true h)
+was_collected k (Made m ∷ e) o h = later_too k (Made m) e o (was_collected k e o h)
+was_collected k (Wrote p j v ∷ e) o h = later_too k (Wrote p j v) e o (was_collected k e o h)
+was_collected k (Collected roots ∷ e) o h =
+    elim (or_cases (gone_at k e o) (ltb o (count_of k e) && not (held_by (gone_at k e) k roots e o)) h) [
+      | inl before ↦ later_too k (Collected roots) e o (was_collected k e o before)
+      | inr now ↦ let parts = and_parts _ _ now in ([], roots, e, refl, ltb-true o (count_of k e) parts.0, not-true _ parts.1)
+    ]
+
+collected_stays : (k : ℕ) (later : List Event) (roots : List ℕ) (before : List Event) (o : ℕ) → o < count_of k before → held_at k roots before o ≡ false → gone_at k (later ++ Collected roots ∷ before) o ≡ true
+collected_stays k [] roots before o h u = or_right (gone_at k before o) _ (and_from _ _ (lt-ltb o (count_of k before) h) (not_from_false _ u))
+collected_stays k (Made m ∷ later) roots before o h u = collected_stays k later roots before o h u
+collected_stays k (Wrote p j v ∷ later) roots before o h u = collected_stays k later roots before o h u
+collected_stays k (Collected rs ∷ later) roots before o h u = or_left _ _ (collected_stays k later roots before o h u)
+
+pub gone_means : GoneMeans
+gone_means k e o = (was_collected k e o, λ w. ap (λ (l : List Event). gone_at k l o) w.3 ∙ collected_stays k w.0 w.1 w.2 o w.4 w.5)
+
+pub stays_gone : StaysGone
+stays_gone k [] before o h = h
+stays_gone k (Made m ∷ later) before o h = stays_gone k later before o h
+stays_gone k (Wrote p j v ∷ later) before o h = stays_gone k later before o h
+stays_gone k (Collected roots ∷ later) before o h = or_left _ _ (stays_gone k later before o h)
+
+pub classes_stay : ClassesStay
+classes_stay k [] o h = refl
+classes_stay k (Made m ∷ e) o h = classes_stay k e o h
+classes_stay k (Wrote p j v ∷ e) o h = classes_stay k e o h
+classes_stay k (Collected roots ∷ e) o h =
+    let held : held_at k roots e o ≡ true = or_left _ _ (or_left _ _ (lt-ltb o k h)) in
+    rw (classes_stay k e o h) (ap (λ b. ltb o (count_of k e) && not b) held ∙ and_right (ltb o (count_of k e)) false refl)
+
+-- ---- held
+
+names_it : (o : ℕ) (s : Slot) → holds o s ≡ true → (target : ObjId) × (s ≡ ToObject (Some target)) × (target.0 ≡ o)
+names_it o (Number v) h = absurd (false≢true h)
+names_it o (ToObject None) h = absurd (false≢true h)
+names_it o (ToObject (Some target)) h = (target, refl, eqb-true target.0 o h)
+
+in_roots : (roots : List ℕ) (o : ℕ) → list_any (λ r. eqb r o) roots ≡ true → Contains roots o
+in_roots roots o h =
+    let found = Any-from_list_any (λ r. eqb r o) roots h in
+    let P : ℕ → Type 0 = λ x. get_or roots found.0 x ≡ x in
+    (found.0, found.2, subst P (eqb-true found.1 o found.4) found.3)
+
+-- the numbers below n are those of the range
+in_range : (n i j : ℕ) → i < length (range_with_len 0 n) → get_or (range_with_len 0 n) i j ≡ j → (i ≡ j) × (j < n)
+in_range n i j h g =
+    let len : length (range_with_len 0 n) ≡ n = length-range_with_len 0 n in
+    let is : j ≡ 0 + i = sym g ∙ get_or-range_with_len 0 n i j (omega arith) in
+    (omega arith, omega arith)
+
+in_slot : (k : ℕ) (e : List Event) (o : ℕ) → list_any (λ p. not (gone_at k e p) && points_at k e p o) (range_with_len 0 (count_of k e)) ≡ true → StandsInASlot k e o
+in_slot k e o h =
+    let found = Any-from_list_any (λ p. not (gone_at k e p) && points_at k e p o) (range_with_len 0 (count_of k e)) h in
+    let p = found.1 in
+    let parts = and_parts _ _ found.4 in
+    let some : some_slot k e p o ≡ true = sym (points_same k e p o) ∙ parts.1 in
+    let slot = Any-from_list_any (λ j. holds o (value_at k e p j)) (range_with_len 0 (slots_in (making_at k e p))) some in
+    let named = names_it o (value_at k e p slot.1) slot.4 in
+    (p, slot.1, named.0, (in_range (count_of k e) found.0 p found.2 found.3).1, (in_range (slots_in (making_at k e p)) slot.0 slot.1 slot.2 slot.3).1, not-true _ parts.0, named.1, named.2)
+
+by_object : (k : ℕ) (e : List Event) (o : ℕ) → StandsInASlot k e o → list_any (λ p. not (gone_at k e p) && points_at k e p o) (range_with_len 0 (count_of k e)) ≡ true
+by_object k e o w =
+    let p = w.0 in
+    let at : get_or (range_with_len 0 (count_of k e)) p 0 ≡ p = get_or-range_with_len 0 (count_of k e) p 0 w.3 ∙ zero-add p in
+    let points : points_at k e p o ≡ true = points_same k e p o ∙ by_slot k e p o w.1 w.4 (ap (holds o) w.6 ∙ eq-eqb w.2.0 o w.7) in
+    let test : ℕ → Bool = λ q. not (gone_at k e q) && points_at k e q o in
+    list_any_at test (range_with_len 0 (count_of k e)) p 0 (omega (arith, w.3, length-range_with_len 0 (count_of k e))) (ap test at ∙ and_from _ _ (not_from_false _ w.5) points)
+
+root_test : (roots : List ℕ) (o : ℕ) → Contains roots o → list_any (λ r. eqb r o) roots ≡ true
+root_test roots o w = list_any_at (λ r. eqb r o) roots w.0 o w.1 (eq-eqb (get_or roots w.0 o) o w.2)
+
+pub held_means : HeldMeans
+held_means k roots e o = (
+  λ h. elim (or_cases (ltb o k || list_any (λ r. eqb r o) roots) (list_any (λ p. not (gone_at k e p) && points_at k e p o) (range_with_len 0 (count_of k e))) h) [
+    | inl first ↦ elim (or_cases (ltb o k) (list_any (λ r. eqb r o) roots) first) [ inl class ↦ inl (ltb-true o k class) | inr root ↦ inr (inl (in_roots roots o root)) ]
+    | inr slot ↦ inr (inr (in_slot k e o slot))
+  ],
+  λ h. elim h [
+    | inl class ↦ or_left _ _ (or_left _ _ (lt-ltb o k class))
+    | inr other ↦ elim other [ inl root ↦ or_left _ _ (or_right (ltb o k) _ (root_test roots o root)) | inr slot ↦ or_right (ltb o k || list_any (λ r. eqb r o) roots) _ (by_object k e o slot) ]
+  ],
+)
+
+-- ---- rows
+
+pub rows_mean : RowsMean
+rows_mean rows e stands =
+    let n : count_in rows ≡ count_of rows.classes e = count_stands rows e stands in
+    record {
+      count = n;
+      class = λ o h. class_stands rows e o stands (omega arith);
+      len = λ o h. length_stands rows e o stands (omega arith);
+    }
+
+-- ---- values
+
+made_before : (k : ℕ) (later before : List Event) → count_of k before ≤ count_of k (later ++ before)
+made_before k [] before = omega arith
+made_before k (Made m ∷ later) before = omega (arith, made_before k later before)
+made_before k (Wrote p i v ∷ later) before = made_before k later before
+made_before k (Collected roots ∷ later) before = made_before k later before
+
+kept : (k : ℕ) (later before : List Event) (o j : ℕ) → o < count_of k before → AllByRecursion (Spares o j) later → value_at k (later ++ before) o j ≡ value_at k before o j
+kept k [] before o j h s = refl
+kept k (Made m ∷ later) before o j h s = cond-false _ _ _ (ne_eqb o (count_of k (later ++ before)) (λ same. omega (arith, made_before k later before))) ∙ kept k later before o j h s.1
+kept k (Wrote p i v ∷ later) before o j h s = cond-false _ _ _ s.0 ∙ kept k later before o j h s.1
+kept k (Collected roots ∷ later) before o j h s = kept k later before o j h s.1
+
+wrote_value : (k : ℕ) (before : List Event) (o j : ℕ) (v : Slot) → value_at k (Wrote o j v ∷ before) o j ≡ v
+wrote_value k before o j v = rw (eq-eqb o o refl, eq-eqb j j refl) refl
+
+wrote_count : (k : ℕ) (before : List Event) (o j : ℕ) (v : Slot) → count_of k (Wrote o j v ∷ before) ≡ count_of k before
+wrote_count k before o j v = refl
+
+made_value : (k : ℕ) (before : List Event) (m : Making) (j : ℕ) → value_at k (Made m ∷ before) (count_of k before) j ≡ slot_in m j
+made_value k before m j = cond-true _ _ _ (eq-eqb (count_of k before) (count_of k before) refl)
+
+made_count : (k : ℕ) (before : List Event) (m : Making) → count_of k before < count_of k (Made m ∷ before)
+made_count k before m = omega arith
+
+pub latest_write : LatestWrite
+latest_write k later before o j v h s = kept k later (Wrote o j v ∷ before) o j (omega (arith, wrote_count k before o j v)) s ∙ wrote_value k before o j v
+
+pub first_value : FirstValue
+first_value k later before m j s = kept k later (Made m ∷ before) (count_of k before) j (made_count k before m) s ∙ made_value k before m j
+
+-- ---- going
+
+abbrev goes : ℕ → List ℕ → List Event → ℕ → Bool
+goes k roots e o = not (gone_at k e o) && not (held_at k roots e o)
+
+-- whether an object is among those that go
+going_any : (k : ℕ) (roots : List ℕ) (e : List Event) (o : ℕ) → list_any (λ r. eqb r o) (going k roots e) ≡ (goes k roots e o && list_any (λ r. eqb r o) (range_with_len 0 (count_of k e)))
+going_any k roots e o = any-filter_same (λ r. eqb r o) (goes k roots e) (goes k roots e o) (λ r t. ap (goes k roots e) (eqb-true r o t)) (range_with_len 0 (count_of k e))
+
+goes_now : (k : ℕ) (roots : List ℕ) (e : List Event) (o : ℕ) → Contains (going k roots e) o → (gone_at k e o ≡ false) × (gone_at k (Collected roots ∷ e) o ≡ true)
+goes_now k roots e o w =
+    let parts = and_parts (goes k roots e o) _ (sym (going_any k roots e o) ∙ root_test (going k roots e) o w) in
+    let both = and_parts _ _ parts.0 in
+    let there = in_roots (range_with_len 0 (count_of k e)) o parts.1 in
+    (not-true _ both.0, or_right (gone_at k e o) _ (and_from _ _ (lt-ltb o (count_of k e) (in_range (count_of k e) there.0 o there.1 there.2).1) both.1))
+
+now_goes : (k : ℕ) (roots : List ℕ) (e : List Event) (o : ℕ) → gone_at k e o ≡ false → gone_at k (Collected roots ∷ e) o ≡ true → Contains (going k roots e) o
+now_goes k roots e o before after =
+    elim (or_cases (gone_at k e o) (ltb o (count_of k e) && not (held_at k roots e o)) after) [
+      | inl gone ↦ absurd (false≢true (sym before ∙ gone))
+      | inr now ↦
+          let parts = and_parts _ _ now in
+          let made : o < count_of k e = ltb-true o (count_of k e) parts.0 in
+          let at : get_or (range_with_len 0 (count_of k e)) o 0 ≡ o = get_or-range_with_len 0 (count_of k e) o 0 made ∙ zero-add o in
+          let there : list_any (λ r. eqb r o) (range_with_len 0 (count_of k e)) ≡ true = list_any_at (λ r. eqb r o) (range_with_len 0 (count_of k e)) o 0 (omega (arith, length-range_with_len 0 (count_of k e))) (eq-eqb _ o at) in
+          in_roots (going k roots e) o (going_any k roots e o ∙ and_from _ _ (and_from _ _ (not_from_false _ before) parts.1) there)
+    ]
+
+pub going_means : GoingMeans
+going_means k roots e o = (goes_now k roots e o, λ w. now_goes k roots e o w.0 w.1)

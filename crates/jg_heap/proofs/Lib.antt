@@ -1,0 +1,13 @@
+pub mod Lists
+pub mod Items
+mod Told
+mod Steps
+mod Pointing
+mod Sweeping
+mod Collecting
+mod Calls
+mod Laws
+mod Shapes
+mod Next
+mod Whole
+mod Decoding

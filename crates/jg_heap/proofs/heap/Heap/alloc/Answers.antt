@@ -1,0 +1,18 @@
+use Rattle.std.proofs.Common.{ap, ◌∙◌, sym, length}
+use Rattle.std.proofs.lemmas.List.{length-map}
+use Rattle.jg_heap.specs.Making.{making_of}
+use Rattle.jg_heap.specs.Rows.{Rows}
+use Rattle.jg_heap.specs.Kept.{row_of}
+use Rattle.jg_heap.proofs.Told.{count_stands}
+use Rattle.jg_heap.proofs.Calls.{rows_made}
+use Rattle.jg_heap.proofs.heap.Heap.alloc.Goals as goal
+
+pub returns-clause-number : goal.returns-clause-number
+returns-clause-number g c e s =
+    c.len-number.ensures ∙ c.self.inside.objects.ok.0 ∙ sym (length-map c.self.inside.objects.items row_of)
+    ∙ ap (λ (r : Rows). length r.objects) c.self.view_is ∙ count_stands c.args.self.now e s
+
+pub returns-clause-stands : goal.returns-clause-stands
+returns-clause-stands g c e s =
+    rows_made c.self.inside.objects.items c.args.self.now c.self.inside.class_count e (making_of c.args.shape) c.in_ok-object.object _
+    (ap (λ (r : Rows). r.objects) c.self.view_is) (ap (λ (r : Rows). r.classes) c.self.view_is) s c.in_ok-push.ensures.items c.in_ok-object.ensures

@@ -1,0 +1,59 @@
+-- The rows of the objects that the store keeps, and what a call does to one row.
+use Rattle.std.specs.Prelude.{ℕ, Bool, not, ◌&&◌, ◌||◌, List, [], map, slice_set, nat_lt}
+use Rattle.std.specs.List.{list_any, range_with_len, count_by}
+use Rattle.jg_heap.specs.declared.object.Slot.{Slot}
+use Rattle.jg_heap.specs.declared.object.Slot.TheVariants.{Number, Object as ToObject}
+use Rattle.jg_heap.specs.declared.body.Body.{Body}
+use Rattle.jg_heap.specs.declared.body.Body.TheVariants.{Class, Fields, Units, Numbers, References}
+use Rattle.jg_heap.specs.declared.body.Object.{Object}
+use Rattle.jg_heap.specs.Making.{array_class}
+use Rattle.jg_heap.specs.History.{holds}
+use Rattle.jg_heap.specs.Rows.{Row, row_in}
+
+abbrev pub class_of_body : {A : Type 0} → Body A → ℕ
+class_of_body Class = 1
+class_of_body (Fields instance) = instance.class
+class_of_body (Units units) = 2
+class_of_body (Numbers element items) = array_class element
+class_of_body (References items) = 3
+
+abbrev pub units_of_body : {A : Type 0} → Body A → List ℕ
+units_of_body Class = []
+units_of_body (Fields instance) = []
+units_of_body (Units units) = units.items
+units_of_body (Numbers element items) = []
+units_of_body (References items) = []
+
+abbrev pub slots_of_body : {A : Type 0} → Body A → List Slot
+slots_of_body Class = []
+slots_of_body (Fields instance) = instance.slots.items
+slots_of_body (Units units) = []
+slots_of_body (Numbers element items) = map Number items.items
+slots_of_body (References items) = map ToObject items.items
+
+abbrev pub row_of : {A : Type 0} → Object A → Row
+row_of x = record { class = class_of_body x.body; units = units_of_body x.body; slots = slots_of_body x.body; gone = x.gone }
+
+-- the row with a slot written
+abbrev pub with_slot : Row → ℕ → Slot → Row
+with_slot row j v = record row { slots = slice_set row.slots j v }
+
+-- it isn't gone and has a slot that holds o
+abbrev pub row_points_at : ℕ → Row → Bool
+row_points_at o row = not row.gone && list_any (holds o) row.slots
+
+-- what a collection makes of a row
+abbrev pub swept_row : Bool → Row → Row
+swept_row marked row = record row { gone = row.gone || not marked }
+
+-- it goes at a collection
+abbrev pub goes : Bool → Row → Bool
+goes marked row = not row.gone && not marked
+
+-- how many of the first n go
+abbrev pub going_of : (ℕ → Bool) → List Row → ℕ → ℕ
+going_of stays rows n = count_by (λ o. goes (stays o) (row_in rows o)) (range_with_len 0 n)
+
+-- a class object, a root or a slot keeps it
+abbrev pub stays : ℕ → (ℕ → Bool) → List Row → ℕ → Bool
+stays classes is_held rows o = (nat_lt o classes || is_held o) || list_any (row_points_at o) rows

@@ -1,0 +1,71 @@
+-- What the definitions over a history mean, in the words of the list.
+use Rattle.std.specs.Prelude.{ℕ, ℤ, ◌≡◌, ◌<◌, ◌⊎◌, ◌↔◌, false, ◌&&◌, ◌==◌, List, ◌∷◌, ◌++◌, Some, IsTrue}
+use Rattle.std.specs.List.{Contains, AllByRecursion}
+use Rattle.jg_words.specs.declared.object.ObjId.{ObjId}
+use Rattle.jg_heap.specs.declared.object.Slot.{Slot}
+use Rattle.jg_heap.specs.declared.object.Slot.TheVariants.{Object as ToObject}
+use Rattle.jg_heap.specs.Making.{Making, class_in, length_in, slots_in, slot_in}
+use Rattle.jg_heap.specs.Rows.{Rows, count_in, class_at, length_at}
+use Rattle.jg_heap.specs.Standing.{Stands}
+use Rattle.jg_heap.specs.Spelling.{spelt, AreUnits, IsSpeltInItems}
+use Rattle.jg_heap.specs.Reading.{decoded}
+use Rattle.jg_heap.specs.History.{Event, Made, Wrote, Collected, count_of, making_at, value_at, gone_at, held_at, going}
+
+-- some slot of an object that isn't gone holds it
+abbrev pub StandsInASlot : ℕ → List Event → ℕ → Type 0
+StandsInASlot k e o = (p : ℕ) × (j : ℕ) × (target : ObjId) × (p < count_of k e) × (j < slots_in (making_at k e p)) × (gone_at k e p ≡ false) × (value_at k e p j ≡ ToObject (Some target)) × (target.0 ≡ o)
+
+-- an object is held exactly where it is a class object, a root holds it, or it stands in such a slot
+abbrev pub HeldMeans : Type 0
+HeldMeans = (k : ℕ) (roots : List ℕ) (e : List Event) (o : ℕ) → IsTrue (held_at k roots e o) ↔ ((o < k) ⊎ (Contains roots o ⊎ StandsInASlot k e o))
+
+-- some collection, of which this is the list before, found it made and not held
+abbrev pub WasCollected : ℕ → List Event → ℕ → Type 0
+WasCollected k e o = (later : List Event) × (roots : List ℕ) × (before : List Event) × (e ≡ later ++ Collected roots ∷ before) × (o < count_of k before) × (held_at k roots before o ≡ false)
+
+-- an object is gone exactly where that was so
+abbrev pub GoneMeans : Type 0
+GoneMeans = (k : ℕ) (e : List Event) (o : ℕ) → IsTrue (gone_at k e o) ↔ WasCollected k e o
+
+-- what is gone stays gone, whatever comes later
+abbrev pub StaysGone : Type 0
+StaysGone = (k : ℕ) (later before : List Event) (o : ℕ) → IsTrue (gone_at k before o) → IsTrue (gone_at k (later ++ before) o)
+
+-- class objects never go
+abbrev pub ClassesStay : Type 0
+ClassesStay = (k : ℕ) (e : List Event) (o : ℕ) → o < k → gone_at k e o ≡ false
+
+-- those that go at a collection are those that are gone after it and weren't before
+abbrev pub GoingMeans : Type 0
+GoingMeans = (k : ℕ) (roots : List ℕ) (e : List Event) (o : ℕ) → Contains (going k roots e) o ↔ ((gone_at k e o ≡ false) × IsTrue (gone_at k (Collected roots ∷ e) o))
+
+-- the event doesn't write this slot
+abbrev pub Spares : ℕ → ℕ → Event → Type 0
+Spares o j (Made m) = Unit {0}
+Spares o j (Wrote p i v) = ((o == p) && (j == i)) ≡ false
+Spares o j (Collected roots) = Unit {0}
+
+-- a slot of an object that was made holds what the latest write wrote into it
+abbrev pub LatestWrite : Type 0
+LatestWrite = (k : ℕ) (later before : List Event) (o j : ℕ) (v : Slot) → o < count_of k before → AllByRecursion (Spares o j) later → value_at k (later ++ Wrote o j v ∷ before) o j ≡ v
+
+-- one that wasn't written since the making holds what it was made with
+abbrev pub FirstValue : Type 0
+FirstValue = (k : ℕ) (later before : List Event) (m : Making) (j : ℕ) → AllByRecursion (Spares (count_of k before) j) later → value_at k (later ++ Made m ∷ before) (count_of k before) j ≡ slot_in m j
+
+-- what rows that stand for a history say of it
+pub record RowsTell (rows : Rows) (e : List Event) : Type 0 where
+  pub count : count_in rows ≡ count_of rows.classes e
+  pub class : (o : ℕ) → o < count_of rows.classes e → class_at rows o ≡ class_in (making_at rows.classes e o)
+  pub len : (o : ℕ) → o < count_of rows.classes e → length_at rows o ≡ length_in (making_at rows.classes e o)
+
+abbrev pub RowsMean : Type 0
+RowsMean = (rows : Rows) (e : List Event) → Stands rows e → RowsTell rows e
+
+-- the definition that computes finds exactly the units that the items spell
+abbrev pub DecodedMeans : Type 0
+DecodedMeans = (items : List ℤ) (units : List ℕ) → (decoded items ≡ Some units) ↔ IsSpeltInItems units items
+
+-- bytes spell one list of units alone
+abbrev pub SpellingIsUnique : Type 0
+SpellingIsUnique = (units others : List ℕ) → AreUnits units → AreUnits others → spelt units ≡ spelt others → units ≡ others

@@ -1,0 +1,9 @@
+pub mod Making
+pub mod History
+pub mod Rows
+pub mod Standing
+pub mod Kept
+pub mod Laws
+pub mod Spelling
+pub mod Forms
+pub mod Reading

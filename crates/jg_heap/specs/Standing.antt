@@ -1,0 +1,27 @@
+-- When rows stand for a history.
+use Rattle.std.specs.Prelude.{ℕ, ◌≡◌, Bool, List, map, filter}
+use Rattle.std.specs.List.{range_with_len}
+use Rattle.jg_heap.specs.declared.object.Slot.{Slot}
+use Rattle.jg_heap.specs.Making.{class_in, units_in, slots_in}
+use Rattle.jg_heap.specs.Rows.{Row, Rows}
+use Rattle.jg_heap.specs.History.{Event, count_of, making_at, value_at, gone_at}
+
+-- what the slots of an object hold
+unfoldable pub slots_at : ℕ → List Event → ℕ → List Slot
+slots_at k e o = map (value_at k e o) (range_with_len 0 (slots_in (making_at k e o)))
+
+-- the row of an object
+unfoldable pub row_at : ℕ → List Event → ℕ → Row
+row_at k e o = record { class = class_in (making_at k e o); units = units_in (making_at k e o); slots = slots_at k e o; gone = gone_at k e o }
+
+-- the rows of all objects
+unfoldable pub standing : ℕ → List Event → List Row
+standing k e = map (row_at k e) (range_with_len 0 (count_of k e))
+
+-- the rows are exactly those of the objects that the history tells of
+abbrev pub Stands : Rows → List Event → Type 0
+Stands rows e = rows.objects ≡ standing rows.classes e
+
+-- those of the first n objects that are held by this test, ascending
+abbrev pub held_objects : (ℕ → Bool) → ℕ → List ℕ
+held_objects is_held n = filter is_held (range_with_len 0 n)

@@ -1,0 +1,191 @@
+ghost use Rattle.std.specs.Prelude.{◌≡◌, ℕ, ◌+◌, ◌<◌, ◌≤◌, length, map, slice_get, slice_set, Some, IfOk, replicate, pos, false};
+ghost use Rattle.jg_heap.specs.Making.{making_of, array_class, CanMake, HasFields, IsPrimitiveArray, TakesItem};
+ghost use Rattle.jg_heap.specs.Kept.{class_of_body, units_of_body, slots_of_body, row_of};
+ghost use Rattle.jg_heap.specs.Rows.{row_of_making};
+ghost use Rattle.jg_heap.specs.declared.object.Slot.TheVariants.{Number, Object as ToObject};
+
+use crate::instance::Instance;
+use crate::object::{Shape, Slot};
+use jg_words::{ObjId, Primitive};
+use std::alloc::{AllocError, Allocator};
+
+/// What an object holds.
+#[derive(Drop)]
+pub(crate) enum Body<A: Allocator> {
+    /// A class object holds nothing.
+    Class,
+    Fields(Instance<A>),
+    Units(Vec<u16, A>),
+    Numbers {
+        element: Primitive,
+        items: Vec<i64, A>,
+    },
+    References(Vec<Option<ObjId>, A>),
+}
+
+/// An object of the store.
+#[derive(Drop)]
+pub(crate) struct Object<A: Allocator> {
+    pub(crate) body: Body<A>,
+    pub(crate) gone: bool,
+}
+
+/// The number of the class of arrays of these.
+fn class_of_array(element: Primitive) -> u32
+    ensures { result ≡ array_class element }
+{
+    match element {
+        Primitive::Boolean => 4,
+        Primitive::Byte => 5,
+        Primitive::Char => 6,
+        Primitive::Short => 7,
+        Primitive::Int => 8,
+        Primitive::Long => 9,
+    }
+}
+
+/// So many zeros.
+fn zeros<A: Allocator>(alloc: A, length: u32) -> Result<Vec<i64, A>, AllocError>
+    ensures { IfOk result (λ items. items.items ≡ replicate length (pos 0)) }
+{
+    vec![in alloc; 0; length as usize]
+}
+
+/// One reference, so many times.
+fn references<A: Allocator>(
+    alloc: A,
+    first: Option<ObjId>,
+    length: u32,
+) -> Result<Vec<Option<ObjId>, A>, AllocError>
+    ensures { IfOk result (λ items. items.items ≡ replicate length first) }
+{
+    vec![in alloc; first; length as usize]
+}
+
+/// The object that a shape makes.
+#[tactic(auto, using(crate::proofs::Lists::map_replicate))]
+pub(crate) fn object_of<A: Allocator + Clone>(
+    alloc: &A,
+    shape: Shape<A>,
+) -> Result<Object<A>, AllocError>
+    requires { CanMake shape }
+    ensures { IfOk result (λ object. row_of object ≡ row_of_making (making_of shape)) }
+{
+    match shape {
+        Shape::Plain { class, fields } => Ok(made(Body::Fields(Instance {
+            class,
+            slots: fields,
+        }))),
+        Shape::Text(units) => Ok(made(Body::Units(units))),
+        Shape::Numbers { element, length } => {
+            let items = zeros(alloc.clone()?, length)?;
+            Ok(made(Body::Numbers { element, items }))
+        }
+        Shape::Objects { length, first } => {
+            let items = references(alloc.clone()?, first, length)?;
+            Ok(made(Body::References(items)))
+        }
+    }
+}
+
+/// An object as it is made.
+fn made<A: Allocator>(body: Body<A>) -> Object<A>
+    ensures body { result.body ≡ body }
+    ensures gone { result.gone ≡ false }
+{
+    Object { body, gone: false }
+}
+
+impl<A: Allocator> Body<A> {
+    /// The class's number.
+    pub(crate) fn class(&self) -> u32
+        ensures { result ≡ class_of_body self.now }
+    {
+        match self {
+            Body::Class => 1,
+            Body::Fields(instance) => instance.class,
+            Body::Units(_) => 2,
+            Body::Numbers { element, .. } => class_of_array(*element),
+            Body::References(_) => 3,
+        }
+    }
+
+    /// A string's units; none of any other object.
+    pub(crate) fn units(&self) -> &[u16]
+        ensures { result.now ≡ units_of_body self.now }
+    {
+        match self {
+            Body::Units(units) => units.as_slice(),
+            Body::Class | Body::Fields(_) | Body::Numbers { .. } | Body::References(_) => &[],
+        }
+    }
+
+    /// How many units, fields or items there are.
+    pub(crate) fn len(&self) -> usize
+        ensures { result ≡ length (units_of_body self.now) + length (slots_of_body self.now) }
+    {
+        match self {
+            Body::Class => 0,
+            Body::Fields(instance) => instance.slots.len(),
+            Body::Units(units) => units.len(),
+            Body::Numbers { items, .. } => items.len(),
+            Body::References(items) => items.len(),
+        }
+    }
+
+    /// What a slot holds.
+    pub(crate) fn slot(&self, index: usize) -> Slot
+        requires { index < length (slots_of_body self.now) }
+        ensures { slice_get (slots_of_body self.now) index ≡ Some result }
+    {
+        match self {
+            Body::Fields(instance) => instance.slots[index],
+            Body::Numbers { items, .. } => Slot::Number(items[index]),
+            Body::References(items) => Slot::Object(items[index]),
+            Body::Class | Body::Units(_) => unreachable!(),
+        }
+    }
+
+    /// The items of an array of a primitive type.
+    pub(crate) fn numbers(&self) -> &[i64]
+        requires { IsPrimitiveArray (class_of_body self.now) }
+        ensures { slots_of_body self.now ≡ map Number result.now }
+    {
+        match self {
+            Body::Numbers { items, .. } => items.as_slice(),
+            Body::Class | Body::Fields(_) | Body::Units(_) | Body::References(_) => unreachable!(),
+        }
+    }
+
+    /// Writes a field.
+    pub(crate) fn set_field(&mut self, index: usize, value: Slot)
+        requires fields { HasFields (class_of_body self.old) }
+        requires within { index < length (slots_of_body self.old) }
+        ensures class { class_of_body self.new ≡ class_of_body self.old }
+        ensures units { units_of_body self.new ≡ units_of_body self.old }
+        ensures slots { slots_of_body self.new ≡ slice_set (slots_of_body self.old) index value }
+    {
+        match self {
+            Body::Fields(instance) => instance.slots[index] = value,
+            Body::Class | Body::Units(_) | Body::Numbers { .. } | Body::References(_) => {
+                unreachable!()
+            }
+        }
+    }
+
+    /// Writes an array's item.
+    #[tactic(auto, using(crate::proofs::Items::written))]
+    pub(crate) fn set_item(&mut self, index: usize, value: Slot)
+        requires takes { TakesItem (class_of_body self.old) value }
+        requires within { index < length (slots_of_body self.old) }
+        ensures class { class_of_body self.new ≡ class_of_body self.old }
+        ensures units { units_of_body self.new ≡ units_of_body self.old }
+        ensures slots { slots_of_body self.new ≡ slice_set (slots_of_body self.old) index value }
+    {
+        match (self, value) {
+            (Body::Numbers { items, .. }, Slot::Number(number)) => items[index] = number,
+            (Body::References(items), Slot::Object(target)) => items[index] = target,
+            _ => unreachable!(),
+        }
+    }
+}

@@ -1,0 +1,184 @@
+ghost use Rattle.std.specs.Prelude.{◌≡◌, ℕ, ◌<◌, ◌++◌, List, [], ◌∷◌, length, map, IfOk, OnOk, OnErr};
+ghost use Rattle.std.specs.List.{range_with_len};
+ghost use Rattle.jg_heap.specs.declared.object.Slot.TheVariants.{Number};
+ghost use Rattle.jg_heap.specs.Making.{making_of, class_in, units_in, length_in, CanMake, HasFields, IsArrayClass, IsPrimitiveArray, TakesItem};
+ghost use Rattle.jg_heap.specs.History.{Event, Event.Made as Made, Event.Wrote as Wrote, Event.Collected as Collected, count_of, making_at, value_at, gone_at, going};
+ghost use Rattle.jg_heap.specs.Rows.{count_in, class_at, length_at, row_of_making, KeepsShapes};
+ghost use Rattle.jg_heap.specs.Standing.{Stands, held_objects};
+
+use crate::body::{Body, Object, object_of};
+use crate::collect::{Roots, collect_unheld};
+use crate::object::{Shape, Slot};
+use jg_words::ObjId;
+use std::alloc::{AllocError, Allocator, Global};
+use std::marker::Model;
+
+/// The object machine's store. Objects have numbers in the order of their making, from 0, the
+/// class objects first. Contracts see it as its rows.
+#[derive(Drop)]
+pub struct Heap<A: Allocator = Global> {
+    class_count: u64,
+    objects: Vec<Object<A>, A>,
+    marks: Vec<bool, A>,
+}
+
+impl<A: Allocator> Model for Heap<A> {
+    ghost use Rattle.std.specs.Prelude.{map, length, ◌≤◌};
+    ghost use Rattle.jg_heap.specs.Rows.{Rows};
+    ghost use Rattle.jg_heap.specs.Kept.{row_of};
+
+    ghost Value = { Rows };
+
+    ghost view = { λ h. record { classes = h.class_count; objects = map row_of h.objects.items } };
+
+    ghost invariant = { λ h. length h.objects.items ≤ length h.marks.items };
+}
+
+impl<A: Allocator + Clone> Heap<A> {
+    /// A store with the class objects alone. Fails only for want of memory.
+    pub fn new(alloc: A, class_count: u64) -> Result<Heap<A>, AllocError>
+        ensures classes { IfOk result (λ heap. heap.classes ≡ class_count) }
+        ensures stands { IfOk result (λ heap. Stands heap []) }
+    {
+        let mut objects = Vec::new(alloc.clone()?);
+        let mut marks = Vec::new(alloc);
+        for _ in 0..class_count {
+            marks.push(false)?;
+            objects.push(Object {
+                body: Body::Class,
+                gone: false,
+            })?;
+        }
+        Ok(Heap {
+            class_count,
+            objects,
+            marks,
+        })
+    }
+
+    /// Makes an object, with the next number. A plain object is of a class whose objects have
+    /// fields. Fails only for want of memory, and then changes nothing.
+    pub fn alloc(&mut self, shape: Shape<A>) -> Result<ObjId, AllocError>
+        requires { CanMake shape }
+        ensures number { (e : List Event) → Stands self.old e → IfOk result (λ o. o.0 ≡ count_of self.old.classes e) }
+        ensures next { IfOk result (λ o. o.0 ≡ count_in self.old) }
+        ensures stands { (e : List Event) → Stands self.old e → OnOk result (Stands self.new (Made (making_of shape) ∷ e)) }
+        ensures rows { OnOk result (self.new.objects ≡ self.old.objects ++ row_of_making (making_of shape) ∷ []) }
+        ensures classes { self.new.classes ≡ self.old.classes }
+        ensures err { OnErr result (self.new ≡ self.old) }
+    {
+        let number = self.objects.len();
+        let object = object_of(self.objects.allocator(), shape)?;
+        self.marks.resize(number + 1, false)?;
+        self.objects.push(object)?;
+        Ok(ObjId(number as u64))
+    }
+}
+
+impl<A: Allocator> Heap<A> {
+    /// How many objects were made, with the class objects.
+    pub fn len(&self) -> u64
+        ensures history { (e : List Event) → Stands self.now e → result ≡ count_of self.now.classes e }
+        ensures rows { result ≡ count_in self.now }
+    {
+        self.objects.len() as u64
+    }
+
+    /// The number of an object's class.
+    pub fn class_of(&self, object: ObjId) -> u32
+        requires { object.0 < count_in self.now }
+        ensures history { (e : List Event) → Stands self.now e → result ≡ class_in (making_at self.now.classes e object.0) }
+        ensures rows { result ≡ class_at self.now object.0 }
+    {
+        self.objects[object.0 as usize].body.class()
+    }
+
+    /// The UTF-16 units of a string; none of any other object.
+    pub fn string(&self, object: ObjId) -> &[u16]
+        requires { object.0 < count_in self.now }
+        ensures { (e : List Event) → Stands self.now e → result.now ≡ units_in (making_at self.now.classes e object.0) }
+    {
+        self.objects[object.0 as usize].body.units()
+    }
+
+    /// How many items an array has, units a string, fields any other object.
+    pub fn array_len(&self, object: ObjId) -> usize
+        requires { object.0 < count_in self.now }
+        ensures history { (e : List Event) → Stands self.now e → result ≡ length_in (making_at self.now.classes e object.0) }
+        ensures rows { result ≡ length_at self.now object.0 }
+    {
+        self.objects[object.0 as usize].body.len()
+    }
+
+    /// What a field holds. Fields count from 0.
+    pub fn field(&self, object: ObjId, index: usize) -> Slot
+        requires made { object.0 < count_in self.now }
+        requires fields { HasFields (class_at self.now object.0) }
+        requires within { index < length_at self.now object.0 }
+        ensures { (e : List Event) → Stands self.now e → result ≡ value_at self.now.classes e object.0 index }
+    {
+        self.objects[object.0 as usize].body.slot(index)
+    }
+
+    /// Writes a field. Fields count from 0.
+    pub fn set_field(&mut self, object: ObjId, index: usize, value: Slot)
+        requires made { object.0 < count_in self.old }
+        requires fields { HasFields (class_at self.old object.0) }
+        requires within { index < length_at self.old object.0 }
+        ensures stands { (e : List Event) → Stands self.old e → Stands self.new (Wrote object.0 index value ∷ e) }
+        ensures classes { self.new.classes ≡ self.old.classes }
+        ensures shapes { KeepsShapes self.old self.new }
+    {
+        self.objects[object.0 as usize].body.set_field(index, value);
+    }
+
+    /// What an array's item holds. Items count from 0.
+    pub fn element(&self, object: ObjId, index: usize) -> Slot
+        requires made { object.0 < count_in self.now }
+        requires array { IsArrayClass (class_at self.now object.0) }
+        requires within { index < length_at self.now object.0 }
+        ensures { (e : List Event) → Stands self.now e → result ≡ value_at self.now.classes e object.0 index }
+    {
+        self.objects[object.0 as usize].body.slot(index)
+    }
+
+    /// Writes an array's item. Items count from 0.
+    pub fn set_element(&mut self, object: ObjId, index: usize, value: Slot)
+        requires made { object.0 < count_in self.old }
+        requires takes { TakesItem (class_at self.old object.0) value }
+        requires within { index < length_at self.old object.0 }
+        ensures stands { (e : List Event) → Stands self.old e → Stands self.new (Wrote object.0 index value ∷ e) }
+        ensures classes { self.new.classes ≡ self.old.classes }
+        ensures shapes { KeepsShapes self.old self.new }
+    {
+        self.objects[object.0 as usize].body.set_item(index, value);
+    }
+
+    /// All items of an array of a primitive type.
+    pub fn items(&self, object: ObjId) -> &[i64]
+        requires made { object.0 < count_in self.now }
+        requires array { IsPrimitiveArray (class_at self.now object.0) }
+        ensures items { (e : List Event) → Stands self.now e → map Number result.now ≡ map (value_at self.now.classes e object.0) (range_with_len 0 (length_in (making_at self.now.classes e object.0))) }
+        ensures len { length result.now ≡ length_at self.now object.0 }
+    {
+        self.objects[object.0 as usize].body.numbers()
+    }
+
+    /// Whether some collection found that nothing held it.
+    pub fn is_gone(&self, object: ObjId) -> bool
+        requires { object.0 < count_in self.now }
+        ensures { (e : List Event) → Stands self.now e → result ≡ gone_at self.now.classes e object.0 }
+    {
+        self.objects[object.0 as usize].gone
+    }
+
+    /// Lets go of what nothing holds, one link of a chain, and says how many objects those are.
+    pub fn collect<R: Roots>(&mut self, roots: &R) -> u64
+        ensures stands { (e : List Event) → Stands self.old e → Stands self.new (Collected (held_objects (R.is_held roots.now) (count_in self.old)) ∷ e) }
+        ensures count { (e : List Event) → Stands self.old e → result ≡ length (going self.old.classes (held_objects (R.is_held roots.now) (count_in self.old)) e) }
+        ensures classes { self.new.classes ≡ self.old.classes }
+        ensures shapes { KeepsShapes self.old self.new }
+    {
+        collect_unheld(&mut self.objects, &mut self.marks, self.class_count, roots)
+    }
+}

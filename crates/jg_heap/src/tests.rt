@@ -1,0 +1,4 @@
+mod collections;
+mod objects;
+mod refusals;
+mod spellings;

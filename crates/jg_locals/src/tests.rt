@@ -1,0 +1,194 @@
+use crate::Locals;
+use jg_words::{ObjId, Tid};
+use linked_list_allocator::LocalHeap;
+use std::alloc::{AllocError, Allocator};
+use std::process::Abort;
+use std::test::Fail;
+
+const T: Tid = Tid(1);
+
+fn start<A: Allocator + Clone>(
+    rt: &impl Abort,
+    locals: &mut Locals<A>,
+    tid: Tid,
+) -> Result<(), AllocError> {
+    assert!(rt; !locals.has_session(tid));
+    locals.start_thread(tid)
+}
+
+fn make<A: Allocator + Clone>(
+    rt: &impl Abort,
+    locals: &mut Locals<A>,
+    n: u64,
+) -> Result<(), AllocError> {
+    assert!(rt; locals.has_session(T));
+    assert!(rt; locals.is_above(T, n));
+    locals.make(T, n, ObjId(n))
+}
+
+fn push<A: Allocator + Clone>(rt: &impl Abort, locals: &mut Locals<A>) -> Result<(), AllocError> {
+    assert!(rt; locals.has_session(T));
+    assert!(rt; locals.pushed(T) < u64::MAX);
+    locals.push(T)
+}
+
+fn enter<A: Allocator + Clone>(rt: &impl Abort, locals: &mut Locals<A>) -> Result<(), AllocError> {
+    assert!(rt; locals.has_session(T));
+    assert!(rt; locals.depth(T) < u64::MAX);
+    locals.enter(T)
+}
+
+fn leave<A: Allocator + Clone>(rt: &impl Abort, locals: &mut Locals<A>) {
+    assert!(rt; locals.depth(T) > 0);
+    locals.leave(T);
+}
+
+fn pop<A: Allocator + Clone>(rt: &impl Abort, locals: &mut Locals<A>) {
+    assert!(rt; locals.can_pop(T));
+    locals.pop(T);
+}
+
+/// A leave cuts all frames of its activation, and nothing below it.
+#[test]
+fn leave_cuts_frames(rt: HostRuntime) -> Result<(), Fail> {
+    let mut locals = Locals::new(rt.alloc(), rt.alloc());
+    start(&rt, &mut locals, T)?;
+    make(&rt, &mut locals, 1)?;
+    enter(&rt, &mut locals)?;
+    make(&rt, &mut locals, 2)?;
+    push(&rt, &mut locals)?;
+    push(&rt, &mut locals)?;
+    make(&rt, &mut locals, 3)?;
+    assert!(rt; locals.can_pop(T));
+    leave(&rt, &mut locals);
+    assert_eq!(rt; locals.get(T, 1), Some(ObjId(1)));
+    assert_eq!(rt; locals.get(T, 2), None);
+    assert_eq!(rt; locals.get(T, 3), None);
+    assert!(rt; !locals.can_pop(T));
+    Ok(())
+}
+
+/// A pop ends the locals of its frame, a deletion one local, and the session's end all.
+#[test]
+fn each_way_to_end(rt: HostRuntime) -> Result<(), Fail> {
+    let mut locals = Locals::new(rt.alloc(), rt.alloc());
+    start(&rt, &mut locals, T)?;
+    make(&rt, &mut locals, 1)?;
+    make(&rt, &mut locals, 2)?;
+    push(&rt, &mut locals)?;
+    make(&rt, &mut locals, 3)?;
+    assert!(rt; locals.holds_object(ObjId(3)));
+    pop(&rt, &mut locals);
+    assert!(rt; !locals.holds_object(ObjId(3)));
+    locals.delete(T, 1);
+    assert_eq!(rt; locals.get(T, 1), None);
+    let mut marks = [false; 5];
+    locals.mark_held(&mut marks);
+    assert_eq!(rt; marks, [false, false, true, false, false]);
+    locals.drop_thread(T);
+    assert!(rt; !locals.has_session(T));
+    assert_eq!(rt; locals.get(T, 2), None);
+    Ok(())
+}
+
+/// A call that may be refused for want of memory.
+#[derive(Clone, Copy, Debug)]
+enum Growth {
+    Start,
+    Make,
+    Reserve,
+    ReserveStart,
+    Push,
+    Enter,
+}
+
+/// What the look-ups answer of the threads that the `n`th growth is about.
+#[derive(Clone, Copy, Debug, PartialEq, Eq)]
+struct Seen {
+    session: bool,
+    next_session: bool,
+    depth: u64,
+    pushed: u64,
+    newest: Option<ObjId>,
+    next: Option<ObjId>,
+    above: bool,
+    held: bool,
+}
+
+fn look<A: Allocator + Clone>(locals: &Locals<A>, n: u16) -> Seen {
+    let number = n as u64;
+    Seen {
+        session: locals.has_session(T),
+        next_session: locals.has_session(Tid(n)),
+        depth: locals.depth(T),
+        pushed: locals.pushed(T),
+        newest: locals.get(T, number.saturating_sub(1)),
+        next: locals.get(T, number),
+        above: locals.is_above(T, number),
+        held: locals.holds_object(ObjId(number)),
+    }
+}
+
+fn grow<A: Allocator + Clone>(
+    rt: &impl Abort,
+    locals: &mut Locals<A>,
+    growth: Growth,
+    n: u16,
+) -> Result<(), AllocError> {
+    match growth {
+        Growth::Start => start(rt, locals, Tid(n)),
+        Growth::Make => make(rt, locals, n as u64),
+        Growth::Reserve => locals.reserve(T),
+        Growth::ReserveStart => locals.reserve_start(Tid(n)),
+        Growth::Push => push(rt, locals),
+        Growth::Enter => enter(rt, locals),
+    }
+}
+
+/// Uses up the room that a reservation made, which can't be refused.
+fn fill<A: Allocator + Clone>(rt: &impl Abort, locals: &mut Locals<A>, growth: Growth, n: u16) {
+    let filled = match growth {
+        Growth::Reserve => make(rt, locals, n as u64).is_ok(),
+        Growth::ReserveStart => start(rt, locals, Tid(n)).is_ok(),
+        Growth::Start | Growth::Make | Growth::Push | Growth::Enter => true,
+    };
+    assert!(rt; filled);
+}
+
+/// Makes the call until it is refused, which changes nothing; then memory is given back, and the
+/// same call answers.
+fn goes_on<'a>(rt: &impl Abort, heap: &'a LocalHeap, growth: Growth) -> Result<(), Fail> {
+    let mut locals = Locals::new(heap, heap);
+    start(rt, &mut locals, T)?;
+    let mut ballast: Vec<u8, &'a LocalHeap> = Vec::new(heap);
+    ballast.try_reserve(12000)?;
+    for n in 2..1000u16 {
+        let before = look(&locals, n);
+        if grow(rt, &mut locals, growth, n).is_err() {
+            assert_eq!(rt; look(&locals, n), before, "at {growth:?}");
+            drop(ballast);
+            assert!(rt; grow(rt, &mut locals, growth, n).is_ok());
+            fill(rt, &mut locals, growth, n);
+            assert_ne!(rt; look(&locals, n), before, "at {growth:?}");
+            return Ok(());
+        }
+        fill(rt, &mut locals, growth, n);
+    }
+    Err(Fail::from("never refused"))
+}
+
+#[test]
+fn refused_growth(rt: HostRuntime) -> Result<(), Fail> {
+    for growth in [
+        Growth::Start,
+        Growth::Make,
+        Growth::Reserve,
+        Growth::ReserveStart,
+        Growth::Push,
+        Growth::Enter,
+    ] {
+        let heap = LocalHeap::new(rt.alloc(), 16000)?;
+        goes_on(&rt, &heap, growth)?;
+    }
+    Ok(())
+}

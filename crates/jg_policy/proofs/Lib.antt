@@ -1,0 +1,12 @@
+pub mod Keys
+pub mod Firsts
+pub mod Stating
+pub mod Places
+pub mod Repeats
+pub mod Sizes
+pub mod Reading
+pub mod Counting
+pub mod LinkSteps
+pub mod LinkLaws
+pub mod ModuleLaws
+pub mod Trees

@@ -1,0 +1,62 @@
+-- What is kept at a class's number is what the setup states there.
+use Rattle.std.proofs.Common.{◌≡◌, ℕ, ◌+◌, ◌-◌, ◌≤◌, nat_lt, zero, suc, false, List, [], ◌∷◌, length, map, Some, None, slice_get, position, codes, String, Global, string_bytes, refl, ap, ◌∙◌, sym, arith}
+use Rattle.std.proofs.lemmas.Bool.Decides.{nat_tests}
+use Rattle.std.specs.Option.{option_map}
+use Rattle.std.specs.Str.{bytes_eq}
+use Rattle.jg_policy.specs.declared.class.Class.{Class}
+use Rattle.jg_policy.specs.BaseClasses.{base_names}
+use Rattle.jg_policy.specs.Stated.{StatedClass, StatedSetup, class_names}
+use Rattle.jg_policy.specs.Classes.{class_at, class_named, module_names}
+use Rattle.jg_policy.specs.Kept.{class_view}
+use Rattle.jg_policy.proofs.Places.{position-append, position-map, position-cons}
+
+-- the entries of a setup's map of classes
+abbrev pub Entries : Type 0
+Entries = List (String Global × Class)
+
+slice_get-map : {A B : Type 0} (f : A → B) (xs : List A) (i : ℕ) → slice_get (map f xs) i ≡ option_map f (slice_get xs i)
+slice_get-map f [] i = refl
+slice_get-map f (x ∷ xs) zero = refl
+slice_get-map f (x ∷ xs) (suc i) = slice_get-map f xs i
+
+module _ (s : StatedSetup) (es : Entries) (kept : map class_view es ≡ s.classes) (class : ℕ) (above : 15 ≤ class) where
+  class_at-kept : class_at s class ≡ option_map class_view (slice_get es (class - 15))
+  class_at-kept =
+      let is : nat_lt class 15 ≡ false = grind (arith, nat_tests) in
+      rw (is, ← kept) (slice_get-map class_view es (class - 15))
+
+  pub class_found : (e : String Global × Class) → Some e ≡ slice_get es (class - 15) → class_at s class ≡ Some (class_view e)
+  class_found e at = class_at-kept ∙ ap (option_map class_view) (sym at)
+
+  pub class_absent : None ≡ slice_get es (class - 15) → class_at s class ≡ None
+  class_absent at = class_at-kept ∙ ap (option_map class_view) (sym at)
+
+count_base : length base_names ≡ 15
+unfolding base_names
+count_base = refl
+
+module _ (s : StatedSetup) (name : List ℕ) where
+  pub named_base : (base : ℕ) → Some base ≡ position (bytes_eq name) base_names → Some base ≡ class_named s name
+  named_base base is = sym (position-append (bytes_eq name) base_names (class_names s) ∙ rw (← is))
+
+  -- a name that no base class has is sought among the setup's
+  pub named_later : None ≡ position (bytes_eq name) base_names → (es : Entries) → map class_view es ≡ s.classes
+      → class_named s name ≡ option_map (λ i. 15 + i) (position (λ k. bytes_eq name (string_bytes k)) (map (λ e. e.0) es))
+  named_later none es kept =
+      position-append (bytes_eq name) base_names (class_names s)
+      ∙ rw (← none, count_base, ← kept) (ap (option_map (λ i. 15 + i)) (sym (twice es ∙ position-map (map class_view es) (λ (c : StatedClass). c.name) (bytes_eq name))))
+    where
+      twice : (es : Entries) → position (λ k. bytes_eq name (string_bytes k)) (map (λ e. e.0) es) ≡ position (λ (c : StatedClass). bytes_eq name c.name) (map class_view es)
+      twice es = sym (position-map es (λ (e : String Global × Class). e.0) (λ k. bytes_eq name (string_bytes k))) ∙ position-map es class_view (λ (c : StatedClass). bytes_eq name c.name)
+
+  -- and a module other than java.base among those of the setup's classes
+  pub module_later : bytes_eq name (codes "java.base") ≡ false → (es : Entries) → map class_view es ≡ s.classes
+      → position (bytes_eq name) (module_names s) ≡ option_map (λ i. 1 + i) (position (λ (c : Class). bytes_eq name (string_bytes c.module_name)) (map (λ e. e.1) es))
+  module_later other es kept =
+      position-cons (bytes_eq name) (codes "java.base") (map (λ (c : StatedClass). c.module_name) s.classes)
+      ∙ rw (other, ← kept) (ap (option_map (λ i. 1 + i)) (sym (twice es ∙ position-map (map class_view es) (λ (c : StatedClass). c.module_name) (bytes_eq name))))
+    where
+      twice : (es : Entries) → position (λ (c : Class). bytes_eq name (string_bytes c.module_name)) (map (λ e. e.1) es) ≡ position (λ (c : StatedClass). bytes_eq name c.module_name) (map class_view es)
+      twice es =
+          sym (position-map es (λ (e : String Global × Class). e.1) (λ (c : Class). bytes_eq name (string_bytes c.module_name)))
+          ∙ position-map es class_view (λ (c : StatedClass). bytes_eq name c.module_name)

@@ -1,0 +1,125 @@
+//! The native methods that are linked, and the modules that were warned of.
+ghost use Rattle.std.specs.Prelude.{◌≡◌, ◌+◌, ◌<◌, ◌≤◌, ◌==◌, not, List, [], ◌∷◌, filter, IsOk, OnOk, OnErr};
+ghost use Rattle.std.specs.HashSet.{spare};
+ghost use Rattle.jg_policy.specs.Links.{Event, Linked, UnlinkedAll, Warned, linked, warned};
+ghost use Rattle.jg_policy.specs.LinkStanding.{Stands};
+
+use std::alloc::{AllocError, Allocator, Global};
+use std::collections::HashSet;
+use std::hash::{BuildHasherDefault, FoldHasher};
+use std::marker::Model;
+
+/// A native method: its class, and its number in that class, from 1.
+#[derive(Clone, Copy, Debug, PartialEq, Eq, Hash)]
+pub(crate) struct Link {
+    pub(crate) class: u32,
+    pub(crate) native: u32,
+}
+
+/// The native methods that are linked, and the modules that were warned of, by the numbers
+/// that a setup gives them. Contracts see the rows, and for how many more links and warnings
+/// there is room.
+#[derive(Drop)]
+pub struct Links<A: Allocator = Global> {
+    linked: HashSet<Link, BuildHasherDefault<FoldHasher>, A>,
+    warned: HashSet<u32, BuildHasherDefault<FoldHasher>, A>,
+}
+
+impl<A: Allocator> Model for Links<A> {
+    ghost use Rattle.std.specs.Prelude.{map};
+    ghost use Rattle.std.specs.HashSet.{spare};
+    ghost use Rattle.jg_policy.specs.LinkRows.{Table};
+    ghost use Rattle.jg_policy.specs.LinkKept.{link_view};
+
+    ghost Value = { Table };
+
+    ghost view = { λ a. record { rows = record { linked = map link_view a.linked.keys; warned = a.warned.keys }; spare_links = spare a.linked; spare_warnings = spare a.warned } };
+}
+
+impl<A: Allocator + Clone> Links<A> {
+    /// Nothing is linked, and nothing was warned of. It takes no memory; the handles are for
+    /// the two tables.
+    pub fn new(links: A, warnings: A) -> Links<A>
+        ensures { Stands result.rows [] }
+    {
+        Links {
+            linked: HashSet::new(links),
+            warned: HashSet::new(warnings),
+        }
+    }
+
+    /// Links a native method, again if it is linked. Fails only for want of memory, and not
+    /// where there is room for a link.
+    pub fn link(&mut self, class: u32, native: u32) -> Result<(), AllocError>
+        ensures ok { OnOk result ((e : List Event) → Stands self.old.rows e → Stands self.new.rows (Linked class native ∷ e)) }
+        ensures err { OnErr result (self.new.rows ≡ self.old.rows) }
+        ensures room { 0 < self.old.spare_links → IsOk result }
+        ensures lowered { self.old.spare_links ≤ self.new.spare_links + 1 }
+        ensures warnings { self.old.spare_warnings ≤ self.new.spare_warnings }
+    {
+        let Ok(_added) = self.linked.insert(Link { class, native }) else {
+            return Err(AllocError);
+        };
+        Ok(())
+    }
+
+    /// Unlinks all native methods of a class.
+    pub fn unlink_all(&mut self, class: u32)
+        ensures stands { (e : List Event) → Stands self.old.rows e → Stands self.new.rows (UnlinkedAll class ∷ e) }
+        ensures links { self.old.spare_links ≤ self.new.spare_links }
+        ensures warnings { self.old.spare_warnings ≤ self.new.spare_warnings }
+    {
+        drop_class(&mut self.linked, class);
+    }
+
+    /// Whether a native method is linked.
+    pub fn linked(&self, class: u32, native: u32) -> bool
+        ensures { (e : List Event) → Stands self.now.rows e → result ≡ linked e class native }
+    {
+        self.linked.contains(&Link { class, native })
+    }
+
+    /// Notes that the module `home` was warned of. Fails only for want of memory, and not where there is
+    /// room for a warning.
+    pub fn warn(&mut self, home: u32) -> Result<(), AllocError>
+        ensures ok { OnOk result ((e : List Event) → Stands self.old.rows e → Stands self.new.rows (Warned home ∷ e)) }
+        ensures err { OnErr result (self.new.rows ≡ self.old.rows) }
+        ensures room { 0 < self.old.spare_warnings → IsOk result }
+        ensures lowered { self.old.spare_warnings ≤ self.new.spare_warnings + 1 }
+        ensures links { self.old.spare_links ≤ self.new.spare_links }
+    {
+        let Ok(_added) = self.warned.insert(home) else {
+            return Err(AllocError);
+        };
+        Ok(())
+    }
+
+    /// Whether the module `home` was warned of.
+    pub fn warned(&self, home: u32) -> bool
+        ensures { (e : List Event) → Stands self.now.rows e → result ≡ warned e home }
+    {
+        self.warned.contains(&home)
+    }
+
+    /// Makes room for one more link and one more warning. What is linked and warned of stays.
+    pub fn reserve(&mut self) -> Result<(), AllocError>
+        ensures link { OnOk result (0 < self.new.spare_links) }
+        ensures warning { OnOk result (0 < self.new.spare_warnings) }
+        ensures stands { (e : List Event) → Stands self.old.rows e → Stands self.new.rows e }
+        ensures links { self.old.spare_links ≤ self.new.spare_links }
+        ensures warnings { self.old.spare_warnings ≤ self.new.spare_warnings }
+    {
+        self.linked.try_reserve(1)?;
+        self.warned.try_reserve(1)
+    }
+}
+
+fn drop_class<A: Allocator>(
+    linked: &mut HashSet<Link, BuildHasherDefault<FoldHasher>, A>,
+    class: u32,
+)
+    ensures kept { linked.new.keys ≡ filter (λ k. not (class == k.class)) linked.old.keys }
+    ensures room { spare linked.old ≤ spare linked.new }
+{
+    linked.retain(|link| class != link.class);
+}

@@ -1,0 +1,200 @@
+-- The rules, each as its own definition, and the first that a call breaks.
+use Rattle.std.specs.Prelude.{ℕ, ℤ, pos, ◌==◌, ◌&&◌, ◌||◌, Bool, true, false, not, nat_lt, int_le, List, [], ◌∷◌, Option, Some, None}
+use Rattle.std.specs.List.{list_any, list_all, find}
+use Rattle.jg_words.specs.Call.{fun_of}
+use Rattle.jg_words.specs.Fun.{needs_env}
+use Rattle.jg_words.specs.declared.thread.EnvId.{EnvId}
+use Rattle.jg_words.specs.declared.reference.Kind.{Kind}
+use Rattle.jg_words.specs.declared.reference.Kind.TheVariants.{Local, Global, Weak}
+use Rattle.jg_words.specs.declared.reference.Ref.{Ref}
+use Rattle.jg_words.specs.declared.reference.Ref.TheVariants.{Null, To}
+use Rattle.jg_words.specs.declared.rule.Rule.{Rule}
+use Rattle.jg_words.specs.declared.rule.Rule.TheVariants.{WrongThread, Detached, InCritical, Pending, ForeignLocal, DeadReference, WrongRefKind, NullReference, WrongType, BadField, BadBuffer, BadArgument, Pinned, NotOwner, BadFrame, NoNativeAccess, NotLinked}
+use Rattle.jg_words.specs.declared.call.Call.{Call}
+use Rattle.jg_words.specs.declared.call.Call.TheVariants.{Vm, Refs, Frames, Strings}
+use Rattle.jg_words.specs.declared.call.vm.VmCall.{VmCall}
+use Rattle.jg_words.specs.declared.call.vm.VmCall.TheVariants.{AttachCurrentThread, DetachCurrentThread, GetEnv}
+use Rattle.jg_words.specs.declared.call.refs.RefsCall.{RefsCall}
+use Rattle.jg_words.specs.declared.call.refs.RefsCall.TheVariants.{DeleteLocalRef}
+use Rattle.jg_words.specs.declared.call.frames.FramesCall.{FramesCall}
+use Rattle.jg_words.specs.declared.call.frames.FramesCall.TheVariants.{PushLocalFrame, PopLocalFrame}
+use Rattle.jg_words.specs.declared.call.strings.StringsCall.{StringsCall}
+use Rattle.jg_words.specs.declared.call.strings.StringsCall.TheVariants.{NewString, GetStringLength}
+use Rattle.jg_policy.specs.Stated.{StatedSetup}
+use Rattle.jg_rules.specs.Parts.{Parts}
+use Rattle.jg_rules.specs.Names.{Named, Nothing, NamesNull, Names, names, session, depth, open_frames}
+use Rattle.jg_rules.specs.Operands.{Operand, operands, is_of}
+
+abbrev pub of_another : ℕ → Option EnvId → Bool
+of_another t None = false
+of_another t (Some env) = not (env.tid.0 == t)
+
+-- 1: a call from thread 0, the virtual machine itself; or an environment of another thread
+-- (JNI Specification, chapter 2, "JNI Interface Functions and Pointers": a JNIEnv is valid in its own thread alone)
+abbrev pub wrong_thread : ℕ → Option EnvId → Bool
+wrong_thread t env = (t == 0) || of_another t env
+
+abbrev pub is_session : Option ℕ → ℕ → Bool
+is_session None n = false
+is_session (Some m) n = m == n
+
+-- 2: no environment where one is taken, or not the caller's present session (JNI Specification, chapter 5, attachment)
+abbrev pub detached : Parts → ℕ → Option EnvId → Call → Bool
+detached p t None call = needs_env (fun_of call)
+detached p t (Some env) call = not ((env.tid.0 == t) && is_session (session p t) env.session)
+
+-- 3: inside a critical region. No function opens one yet
+abbrev pub in_critical : Call → Bool
+in_critical call = false
+
+-- 4: with an exception pending. No function raises one yet
+abbrev pub while_pending : Call → Bool
+while_pending call = false
+
+abbrev pub is_foreign : ℕ → Ref → Bool
+is_foreign t (To Local maker n) = not (maker.0 == t)
+is_foreign t r = false
+
+-- 5: a local reference whose maker isn't the caller (JNI Specification, chapter 2, "Local References")
+abbrev pub foreign_local : ℕ → Call → Bool
+foreign_local t call = list_any (λ x. is_foreign t x.reference) (operands call)
+
+abbrev pub is_nothing : Named → Bool
+is_nothing Nothing = true
+is_nothing NamesNull = false
+is_nothing (Names o) = false
+
+-- 6: a reference that was never made or has ended (JNI Specification, chapter 2, "Global and Local References")
+abbrev pub dead_reference : Parts → ℕ → Call → Bool
+dead_reference p t call = list_any (λ x. is_nothing (names p t x.reference)) (operands call)
+
+abbrev pub is_not_local : Ref → Bool
+is_not_local Null = false
+is_not_local (To Local maker n) = false
+is_not_local (To Global maker n) = true
+is_not_local (To Weak maker n) = true
+
+abbrev pub refs_wrong_kind : RefsCall → Bool
+refs_wrong_kind (DeleteLocalRef r) = is_not_local r
+refs_wrong_kind call = false
+
+-- 7: the deletion of a reference of another kind (JNI Specification, chapter 4, "Global and Local References")
+abbrev pub wrong_kind : Call → Bool
+wrong_kind (Refs call) = refs_wrong_kind call
+wrong_kind call = false
+
+abbrev pub is_null : Named → Bool
+is_null Nothing = false
+is_null NamesNull = true
+is_null (Names o) = false
+
+-- 8: null where an object is wanted
+abbrev pub null_reference : Parts → ℕ → Call → Bool
+null_reference p t call = list_any (λ x. not x.nullable && is_null (names p t x.reference)) (operands call)
+
+-- the object is not of the operand's type; a reference that names no object doesn't break this rule
+abbrev pub is_wrong : StatedSetup → Parts → Operand → Named → Bool
+is_wrong s p x Nothing = false
+is_wrong s p x NamesNull = false
+is_wrong s p x (Names o) = not (is_of s p x.type o)
+
+-- 9: an object of another type
+abbrev pub wrong_type : StatedSetup → Parts → ℕ → Call → Bool
+wrong_type s p t call = list_any (λ x. is_wrong s p x (names p t x.reference)) (operands call)
+
+-- 10, 11: a field ID or a buffer that isn't the call's. No function takes one yet
+abbrev pub bad_field : Call → Bool
+bad_field call = false
+
+abbrev pub bad_buffer : Call → Bool
+bad_buffer call = false
+
+abbrev pub is_within : ℤ → ℤ → ℤ → Bool
+is_within low high v = int_le low v && int_le v high
+
+abbrev pub frames_bad_argument : FramesCall → Bool
+frames_bad_argument (PushLocalFrame capacity) = not (is_within (pos 0) (pos 65535) capacity)
+frames_bad_argument (PopLocalFrame r) = false
+
+-- a UTF-16 unit
+abbrev pub is_unit : ℤ → Bool
+is_unit v = is_within (pos 0) (pos 65535) v
+
+abbrev pub strings_bad_argument : StringsCall → Bool
+strings_bad_argument (NewString units) = not (list_all is_unit units)
+strings_bad_argument (GetStringLength r) = false
+
+-- 12: a capacity below 0 or above 65,535; a unit that isn't one (JNI Specification, chapter 4, PushLocalFrame, NewString)
+abbrev pub bad_argument : Call → Bool
+bad_argument (Vm call) = false
+bad_argument (Refs call) = false
+bad_argument (Frames call) = frames_bad_argument call
+bad_argument (Strings call) = strings_bad_argument call
+
+-- 13, 14: a pinned reference deleted, a monitor of another thread exited. There are neither yet
+abbrev pub pinned : Call → Bool
+pinned call = false
+
+abbrev pub not_owner : Call → Bool
+not_owner call = false
+
+abbrev pub vm_bad_frame : Parts → ℕ → VmCall → Bool
+vm_bad_frame p t AttachCurrentThread = false
+vm_bad_frame p t DetachCurrentThread = nat_lt 0 (depth p t)
+vm_bad_frame p t GetEnv = false
+
+abbrev pub frames_bad_frame : Parts → ℕ → FramesCall → Bool
+frames_bad_frame p t (PushLocalFrame capacity) = false
+frames_bad_frame p t (PopLocalFrame r) = open_frames p t == 0
+
+-- 15: no frame to pop at this depth (JNI Specification, chapter 4, PopLocalFrame);
+-- a detachment with native methods on the stack (chapter 5, "Detaching from the VM")
+abbrev pub bad_frame : Parts → ℕ → Call → Bool
+bad_frame p t (Vm call) = vm_bad_frame p t call
+bad_frame p t (Refs call) = false
+bad_frame p t (Frames call) = frames_bad_frame p t call
+bad_frame p t (Strings call) = false
+
+-- 16, 17: refused native access (JEP 472), a native method that isn't linked. No function asks for either yet
+abbrev pub no_access : Call → Bool
+no_access call = false
+
+abbrev pub not_linked : Call → Bool
+not_linked call = false
+
+-- the call breaks the rule
+abbrev pub broken : Rule → StatedSetup → Parts → ℕ → Option EnvId → Call → Bool
+broken WrongThread s p t env call = wrong_thread t env
+broken Detached s p t env call = detached p t env call
+broken InCritical s p t env call = in_critical call
+broken Pending s p t env call = while_pending call
+broken ForeignLocal s p t env call = foreign_local t call
+broken DeadReference s p t env call = dead_reference p t call
+broken WrongRefKind s p t env call = wrong_kind call
+broken NullReference s p t env call = null_reference p t call
+broken WrongType s p t env call = wrong_type s p t call
+broken BadField s p t env call = bad_field call
+broken BadBuffer s p t env call = bad_buffer call
+broken BadArgument s p t env call = bad_argument call
+broken Pinned s p t env call = pinned call
+broken NotOwner s p t env call = not_owner call
+broken BadFrame s p t env call = bad_frame p t call
+broken NoNativeAccess s p t env call = no_access call
+broken NotLinked s p t env call = not_linked call
+
+-- the rules in their order
+abbrev pub later_rules : List Rule
+later_rules =
+    InCritical ∷ Pending ∷ ForeignLocal ∷ DeadReference ∷ WrongRefKind ∷ NullReference ∷ WrongType ∷ BadField ∷ BadBuffer
+    ∷ BadArgument ∷ Pinned ∷ NotOwner ∷ BadFrame ∷ NoNativeAccess ∷ NotLinked ∷ []
+
+abbrev pub rules_in_order : List Rule
+rules_in_order = WrongThread ∷ Detached ∷ later_rules
+
+-- the first rule that the call breaks
+abbrev pub verdict : StatedSetup → Parts → ℕ → Option EnvId → Call → Option Rule
+verdict s p t env call = find (λ rule. broken rule s p t env call) rules_in_order
+
+-- the first of those after the first two, which are judged by the call's group; the environment plays no part in them
+abbrev pub later_verdict : StatedSetup → Parts → ℕ → Call → Option Rule
+later_verdict s p t call = find (λ rule. broken rule s p t None call) later_rules

@@ -1,0 +1,17 @@
+//! Sessions of threads, the native methods that they are in, their pending exceptions, and the
+//! numbers of what they were handed out (JNI Specification, chapter 5, "Attaching to the VM", and
+//! chapter 2, "Java Exceptions").
+#![tactic(auto)]
+
+mod meanings;
+mod row;
+mod threads;
+
+pub use meanings::{
+    attached_means, handed_out_numbers_never_fall, pending_means, sessions_never_fall,
+};
+pub use row::Row;
+pub use threads::Threads;
+
+#[cfg(test)]
+mod tests;

@@ -1,0 +1,256 @@
+ghost use Rattle.std.specs.Prelude.{◌≡◌, ◌+◌, ◌-◌, ◌<◌, ◌^◌, ◌↔◌, List, [], ◌∷◌, false, true, if◌then◌else◌, None, Some, IfOk, OnOk, OnErr, IsTrue};
+ghost use Rattle.std.specs.Option.{option_map};
+ghost use Rattle.std.specs.List.{list_any};
+ghost use Rattle.std.specs.Ordering.{nat_cmp};
+ghost use Rattle.std.specs.BTreeMap.{IsOrdered, values};
+ghost use Rattle.jg_threads.specs.History.{Event, by, Attach, Detach, Enter, Leave, Raise, Calm, CountRef, CountBuffer, acts_of, attached, sessions, session, depth, pending, refs, buffers, is_object, is_pending};
+ghost use Rattle.jg_threads.specs.Rows.{row_of, CanCount};
+ghost use Rattle.jg_threads.specs.Standing.{Stands};
+
+use crate::row::{NO_ROW, Row};
+use jg_words::{EnvId, ObjId, Tid};
+use std::alloc::{AllocError, Allocator, Global};
+use std::collections::BTreeMap;
+use std::marker::Model;
+
+/// What is kept of each thread that was ever attached. Contracts see the rows, by thread.
+#[derive(Drop)]
+pub struct Threads<A: Allocator = Global> {
+    rows: BTreeMap<u16, Row, A>,
+}
+
+impl<A: Allocator> Model for Threads<A> {
+    ghost use Rattle.std.specs.Prelude.{List, ℕ};
+    ghost use Rattle.jg_threads.specs.Rows.{Row};
+
+    ghost Value = { List (ℕ × Row) };
+
+    ghost view = { λ a. a.rows.entries };
+}
+
+impl<A: Allocator + Clone> Threads<A> {
+    /// No thread did anything yet.
+    pub fn new(alloc: A) -> Threads<A>
+        ensures { Stands result [] }
+    {
+        Threads {
+            rows: BTreeMap::new(alloc),
+        }
+    }
+
+    /// Attaches the thread: begins its next session, if it has none, and answers the environment
+    /// of its session (`AttachCurrentThread`).
+    pub fn attach(&mut self, tid: Tid) -> Result<EnvId, AllocError>
+        requires { CanCount self.old tid.0 }
+        ensures ok { OnOk result ((e : List Event) → Stands self.old e → Stands self.new (by tid.0 Attach ∷ e)) }
+        ensures env { IfOk result (λ env. (e : List Event) → Stands self.old e → env ≡ record { tid = tid; session = sessions (Attach ∷ acts_of tid.0 e) }) }
+        ensures row { OnOk result (row_of self.new tid.0 ≡ record (row_of self.old tid.0) { attached = true; sessions = (if (row_of self.old tid.0).attached then (row_of self.old tid.0).sessions else (row_of self.old tid.0).sessions + 1) }) }
+        ensures err { OnErr result (self.new ≡ self.old) }
+    {
+        let mut row = self.row(tid);
+        if !row.attached {
+            row.attached = true;
+            row.sessions += 1;
+            self.rows.insert(tid.0, row)?;
+        }
+        Ok(EnvId {
+            tid,
+            session: row.sessions,
+        })
+    }
+
+    /// Ends the thread's session, if it has one, with its native methods and its pending
+    /// exception (`DetachCurrentThread`). Its numbers go on in the next session.
+    pub fn detach(&mut self, tid: Tid)
+        ensures stands { (e : List Event) → Stands self.old e → Stands self.new (by tid.0 Detach ∷ e) }
+        ensures row { row_of self.new tid.0 ≡ record (row_of self.old tid.0) { attached = false; depth = 0; pending = None } }
+    {
+        if let Some(row) = self.rows.get_mut(&tid.0) {
+            *row = Row {
+                attached: false,
+                depth: 0,
+                pending: None,
+                ..*row
+            };
+        }
+    }
+
+    /// The environment of the thread's session, if it has one (`GetEnv`).
+    pub fn env_of(&self, tid: Tid) -> Option<EnvId>
+        ensures { (e : List Event) → Stands self.now e → result ≡ option_map (λ n. record { tid = tid; session = n }) (session (acts_of tid.0 e)) }
+    {
+        let row = self.row(tid);
+        if row.attached {
+            Some(EnvId {
+                tid,
+                session: row.sessions,
+            })
+        } else {
+            None
+        }
+    }
+
+    /// The environment that `attach` would answer.
+    pub fn env_once_attached(&self, tid: Tid) -> EnvId
+        requires { CanCount self.now tid.0 }
+        ensures { (e : List Event) → Stands self.now e → result ≡ record { tid = tid; session = sessions (Attach ∷ acts_of tid.0 e) } }
+    {
+        let row = self.row(tid);
+        let session = if row.attached {
+            row.sessions
+        } else {
+            row.sessions + 1
+        };
+        EnvId { tid, session }
+    }
+
+    /// Whether the thread has a session.
+    pub fn is_attached(&self, tid: Tid) -> bool
+        ensures rows { result ≡ (row_of self.now tid.0).attached }
+        ensures history { (e : List Event) → Stands self.now e → result ≡ attached (acts_of tid.0 e) }
+    {
+        self.row(tid).attached
+    }
+
+    /// Whether each of the thread's counts is below the greatest `u64`.
+    pub fn can_count(&self, tid: Tid) -> bool
+        ensures { IsTrue result ↔ CanCount self.now tid.0 }
+    {
+        let row = self.row(tid);
+        row.sessions < u64::MAX
+            && row.refs < u64::MAX
+            && row.buffers < u64::MAX
+            && row.depth < u64::MAX
+    }
+
+    /// Enters a native method, called by the virtual machine in the thread's session.
+    pub fn enter_native(&mut self, tid: Tid)
+        requires seen { IsTrue (row_of self.old tid.0).attached }
+        requires room { CanCount self.old tid.0 }
+        ensures stands { (e : List Event) → Stands self.old e → Stands self.new (by tid.0 Enter ∷ e) }
+        ensures row { row_of self.new tid.0 ≡ record (row_of self.old tid.0) { depth = (row_of self.old tid.0).depth + 1 } }
+    {
+        if let Some(row) = self.rows.get_mut(&tid.0) {
+            row.depth += 1;
+        }
+    }
+
+    /// Leaves the native method that the thread entered last. The test is `depth`.
+    pub fn leave_native(&mut self, tid: Tid)
+        requires seen { IsTrue (row_of self.old tid.0).attached }
+        requires inside { 0 < (row_of self.old tid.0).depth }
+        ensures stands { (e : List Event) → Stands self.old e → Stands self.new (by tid.0 Leave ∷ e) }
+        ensures row { row_of self.new tid.0 ≡ record (row_of self.old tid.0) { depth = (row_of self.old tid.0).depth - 1 } }
+    {
+        if let Some(row) = self.rows.get_mut(&tid.0) {
+            row.depth -= 1;
+        }
+    }
+
+    /// How many native methods the thread has entered in its session and not left.
+    pub fn depth(&self, tid: Tid) -> u64
+        ensures rows { result ≡ (row_of self.now tid.0).depth }
+        ensures history { (e : List Event) → Stands self.now e → result ≡ depth (acts_of tid.0 e) }
+    {
+        self.row(tid).depth
+    }
+
+    /// The exception that is pending in the thread, if there is one (`ExceptionOccurred`).
+    pub fn pending(&self, tid: Tid) -> Option<ObjId>
+        ensures rows { result ≡ option_map (λ o. record { 0 = o }) (row_of self.now tid.0).pending }
+        ensures history { (e : List Event) → Stands self.now e → result ≡ option_map (λ o. record { 0 = o }) (pending (acts_of tid.0 e)) }
+    {
+        match self.row(tid).pending {
+            None => None,
+            Some(object) => Some(ObjId(object)),
+        }
+    }
+
+    /// Makes the object the thread's pending exception, in place of any other (`Throw`).
+    pub fn set_pending(&mut self, tid: Tid, object: ObjId)
+        requires { IsTrue (row_of self.old tid.0).attached }
+        ensures stands { (e : List Event) → Stands self.old e → Stands self.new (by tid.0 (Raise object.0) ∷ e) }
+        ensures row { row_of self.new tid.0 ≡ record (row_of self.old tid.0) { pending = Some object.0 } }
+    {
+        if let Some(row) = self.rows.get_mut(&tid.0) {
+            row.pending = Some(object.0);
+        }
+    }
+
+    /// No exception is pending in the thread any more (`ExceptionClear`).
+    pub fn clear_pending(&mut self, tid: Tid)
+        ensures stands { (e : List Event) → Stands self.old e → Stands self.new (by tid.0 Calm ∷ e) }
+        ensures row { row_of self.new tid.0 ≡ record (row_of self.old tid.0) { pending = None } }
+    {
+        if let Some(row) = self.rows.get_mut(&tid.0) {
+            row.pending = None;
+        }
+    }
+
+    /// Whether the object is pending in some thread.
+    pub fn is_pending(&self, object: ObjId) -> bool
+        ensures { (e : List Event) → Stands self.now e → result ≡ is_pending e object.0 }
+    {
+        is_pending_in(&self.rows, object.0)
+    }
+
+    /// The number of the next reference that the thread is handed out, from 1 over all its
+    /// sessions.
+    pub fn next_ref(&self, tid: Tid) -> u64
+        requires { CanCount self.now tid.0 }
+        ensures rows { result ≡ (row_of self.now tid.0).refs + 1 }
+        ensures history { (e : List Event) → Stands self.now e → result ≡ refs (acts_of tid.0 e) + 1 }
+    {
+        self.row(tid).refs + 1
+    }
+
+    /// Notes that the thread was handed out a reference.
+    pub fn count_ref(&mut self, tid: Tid)
+        requires seen { IsTrue (row_of self.old tid.0).attached }
+        requires room { CanCount self.old tid.0 }
+        ensures stands { (e : List Event) → Stands self.old e → Stands self.new (by tid.0 CountRef ∷ e) }
+        ensures row { row_of self.new tid.0 ≡ record (row_of self.old tid.0) { refs = (row_of self.old tid.0).refs + 1 } }
+    {
+        if let Some(row) = self.rows.get_mut(&tid.0) {
+            row.refs += 1;
+        }
+    }
+
+    /// The number of the next buffer that the thread is handed out, from 1 over all its sessions.
+    pub fn next_buf(&self, tid: Tid) -> u64
+        requires { CanCount self.now tid.0 }
+        ensures rows { result ≡ (row_of self.now tid.0).buffers + 1 }
+        ensures history { (e : List Event) → Stands self.now e → result ≡ buffers (acts_of tid.0 e) + 1 }
+    {
+        self.row(tid).buffers + 1
+    }
+
+    /// Notes that the thread was handed out a buffer.
+    pub fn count_buf(&mut self, tid: Tid)
+        requires seen { IsTrue (row_of self.old tid.0).attached }
+        requires room { CanCount self.old tid.0 }
+        ensures stands { (e : List Event) → Stands self.old e → Stands self.new (by tid.0 CountBuffer ∷ e) }
+        ensures row { row_of self.new tid.0 ≡ record (row_of self.old tid.0) { buffers = (row_of self.old tid.0).buffers + 1 } }
+    {
+        if let Some(row) = self.rows.get_mut(&tid.0) {
+            row.buffers += 1;
+        }
+    }
+
+    fn row(&self, tid: Tid) -> Row
+        ensures { result ≡ row_of self.now tid.0 }
+    {
+        match self.rows.get(&tid.0) {
+            Some(row) => *row,
+            None => NO_ROW,
+        }
+    }
+}
+
+/// Whether the object is pending by some row.
+fn is_pending_in<A: Allocator>(rows: &BTreeMap<u16, Row, A>, object: u64) -> bool
+    ensures any { result ≡ list_any (λ row. is_object object row.pending) (values rows.now) }
+    ensures ordered { IsOrdered nat_cmp rows.now }
+{
+    rows.values().any(|row| row.has_pending(object))
+}
