@@ -1,5 +1,5 @@
 -- What a call that breaks no rule answers, and the object that it hands out a reference for.
-use Rattle.std.specs.Prelude.{ℕ, ℤ, pos, ◌==◌, Bool, true, false, ◌∷◌, Option, Some, None}
+use Rattle.std.specs.Prelude.{ℕ, ℤ, pos, ◌==◌, Bool, true, false, ◌∷◌, length, Option, Some, None}
 use Rattle.jg_words.specs.declared.thread.Tid.{Tid}
 use Rattle.jg_words.specs.declared.object.ObjId.{ObjId}
 use Rattle.jg_words.specs.declared.reference.Kind.{Kind}
@@ -21,8 +21,10 @@ use Rattle.jg_words.specs.declared.call.strings.StringsCall.TheVariants.{NewStri
 use Rattle.jg_policy.specs.Stated.{StatedSetup}
 use Rattle.jg_threads.specs.History as threads
 use Rattle.jg_rules.specs.declared.answer.Answer.{Answer}
+use Rattle.jg_rules.specs.declared.named.Named.{Named}
+use Rattle.jg_rules.specs.declared.named.Named.TheVariants.{Nothing}
 use Rattle.jg_rules.specs.Parts.{Parts}
-use Rattle.jg_rules.specs.Names.{Named, Nothing, NamesNull, Names, names, object_named, the_object, object_count, length_of, session, next_ref}
+use Rattle.jg_rules.specs.Names.{names, object_named, object_count, units_named, session, next_ref}
 
 abbrev pub plain : Value → Answer
 plain value = record { value = value; object = None }
@@ -69,7 +71,7 @@ frames_answer p t (PopLocalFrame kept) = handed p t (object_named p t.0 kept)
 
 abbrev pub strings_answer : StatedSetup → Parts → Tid → StringsCall → Answer
 strings_answer s p t (NewString units) = handed p t (Some (object_count s p))
-strings_answer s p t (GetStringLength r) = plain (Amount (pos (length_of s p (the_object p t.0 r))))
+strings_answer s p t (GetStringLength r) = plain (Amount (pos (length (units_named s p (object_named p t.0 r)))))
 
 abbrev pub answer : StatedSetup → Parts → Tid → Call → Answer
 answer s p t (Vm call) = vm_answer p t call

@@ -10,7 +10,7 @@ use Rattle.jg_words.specs.declared.call.Call.{Call}
 use Rattle.jg_policy.specs.Stated.{StatedSetup}
 use Rattle.jg_rules.specs.declared.answer.Answer.{Answer}
 use Rattle.jg_rules.specs.Parts.{Parts}
-use Rattle.jg_rules.specs.Effects.{parts}
+use Rattle.jg_rules.specs.Effects.{parts, passed_on}
 use Rattle.jg_rules.specs.Rules.{verdict}
 use Rattle.jg_rules.specs.Answers.{answer}
 
@@ -18,6 +18,10 @@ use Rattle.jg_rules.specs.Answers.{answer}
 abbrev pub entry_by : Option Rule → Answer → Tid → Option EnvId → Call → Entry
 entry_by (Some rule) a t env call = record { tid = t; env = env; call = call; outcome = Denied rule; object = None }
 entry_by None a t env call = record { tid = t; env = env; call = call; outcome = Passed (record { value = a.value; warned = false }); object = a.object }
+
+-- the parts after a call that passes with this answer
+abbrev pub answered : Parts → Tid → Call → Answer → Parts
+answered p t call a = passed_on t.0 call (record { value = a.value; warned = false }) a.object p
 
 -- the entry of a call, as the entries before it leave the machine
 abbrev pub entry_at : StatedSetup → Parts → Tid → Option EnvId → Call → Entry

@@ -5,3 +5,5 @@ pub mod Effects
 pub mod Rules
 pub mod Answers
 pub mod Legal
+pub mod View
+pub mod Unbroken

@@ -1,6 +1,5 @@
 -- What references name, and what is known of threads and objects.
-use Rattle.std.specs.Prelude.{ℕ, ◌+◌, ◌==◌, if◌then◌else◌, Option, Some, None}
-use Rattle.std.specs.Option.{unwrap_or}
+use Rattle.std.specs.Prelude.{ℕ, ◌+◌, ◌==◌, if◌then◌else◌, List, [], Option, Some, None}
 use Rattle.jg_words.specs.declared.reference.Ref.{Ref}
 use Rattle.jg_words.specs.declared.reference.Ref.TheVariants.{Null, To}
 use Rattle.jg_words.specs.declared.reference.Kind.TheVariants.{Local, Global, Weak}
@@ -8,18 +7,14 @@ use Rattle.jg_policy.specs.Stated.{StatedSetup, class_count}
 use Rattle.jg_threads.specs.History as threads
 use Rattle.jg_locals.specs.History as locals
 use Rattle.jg_heap.specs.History as heap
-use Rattle.jg_heap.specs.Making.{class_in, length_in}
+use Rattle.jg_heap.specs.Making.{class_in, units_in}
+use Rattle.jg_rules.specs.declared.named.Named.{Named}
+use Rattle.jg_rules.specs.declared.named.Named.TheVariants.{Nothing, Null as NamesNull, Object}
 use Rattle.jg_rules.specs.Parts.{Parts}
-
--- a reference names nothing (it was never made, has ended, or isn't the thread's), null, or an object
-pub data Named : Type 0 where
-  Nothing : Named
-  NamesNull : Named
-  Names : (object : ℕ) → Named
 
 abbrev pub named_by : Option ℕ → Named
 named_by None = Nothing
-named_by (Some o) = Names o
+named_by (Some o) = Object (record { 0 = o })
 
 -- what a reference names for t: a local is valid in its own thread alone (JNI Specification, chapter 2, "Local References");
 -- no global or weak reference is handed out yet
@@ -32,15 +27,11 @@ names p t (To Weak maker n) = Nothing
 abbrev pub object_in : Named → Option ℕ
 object_in Nothing = None
 object_in NamesNull = None
-object_in (Names o) = Some o
+object_in (Object o) = Some o.0
 
 -- the object that a reference names, where it names one
 abbrev pub object_named : Parts → ℕ → Ref → Option ℕ
 object_named p t r = object_in (names p t r)
-
--- the same for an operand that the rules have found to name one
-abbrev pub the_object : Parts → ℕ → Ref → ℕ
-the_object p t r = unwrap_or (object_named p t r) 0
 
 -- how many objects there are, class objects among them
 abbrev pub object_count : StatedSetup → Parts → ℕ
@@ -49,9 +40,14 @@ object_count s p = heap.count_of (class_count s) p.heap
 abbrev pub class_of : StatedSetup → Parts → ℕ → ℕ
 class_of s p o = class_in (heap.making_at (class_count s) p.heap o)
 
--- a string's length in units, an array's in items
-abbrev pub length_of : StatedSetup → Parts → ℕ → ℕ
-length_of s p o = length_in (heap.making_at (class_count s) p.heap o)
+-- the UTF-16 units of a string
+abbrev pub units_of : StatedSetup → Parts → ℕ → List ℕ
+units_of s p o = units_in (heap.making_at (class_count s) p.heap o)
+
+-- those of the object that a reference names, where it names one
+abbrev pub units_named : StatedSetup → Parts → Option ℕ → List ℕ
+units_named s p None = []
+units_named s p (Some o) = units_of s p o
 
 -- the number of t's present session
 abbrev pub session : Parts → ℕ → Option ℕ

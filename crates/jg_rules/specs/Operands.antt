@@ -11,25 +11,17 @@ use Rattle.jg_words.specs.declared.call.frames.FramesCall.TheVariants.{PushLocal
 use Rattle.jg_words.specs.declared.call.strings.StringsCall.{StringsCall}
 use Rattle.jg_words.specs.declared.call.strings.StringsCall.TheVariants.{NewString, GetStringLength}
 use Rattle.jg_policy.specs.Stated.{StatedSetup}
+use Rattle.jg_rules.specs.declared.operand.ObjectType.{ObjectType}
+use Rattle.jg_rules.specs.declared.operand.ObjectType.TheVariants.{AnyObject, StringObject}
+use Rattle.jg_rules.specs.declared.operand.Operand.{Operand}
 use Rattle.jg_rules.specs.Parts.{Parts}
 use Rattle.jg_rules.specs.Names.{class_of}
 
--- the type of the function's declaration: jobject or jstring
-pub data ObjectType : Type 0 where
-  AnyObject : ObjectType
-  StringObject : ObjectType
-
--- a reference that must name an object of the type, or one that may be null
-pub record Operand : Type 0 where
-  pub reference : Ref
-  pub nullable : Bool
-  pub type : ObjectType
-
 abbrev pub required : Ref → ObjectType → Operand
-required r type = record { reference = r; nullable = false; type = type }
+required r type = record { reference = r; nullable = false; object_type = type }
 
 abbrev pub optional : Ref → Operand
-optional r = record { reference = r; nullable = true; type = AnyObject }
+optional r = record { reference = r; nullable = true; object_type = AnyObject }
 
 abbrev pub vm_operands : VmCall → List Operand
 vm_operands call = []

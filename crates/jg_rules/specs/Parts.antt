@@ -2,7 +2,7 @@
 use Rattle.std.specs.Prelude.{◌≡◌, ℕ, List, []}
 use Rattle.jg_policy.specs.Stated.{StatedSetup, class_count}
 use Rattle.jg_threads.specs.History as threads
-use Rattle.jg_threads.specs.Rows as thread_rows
+use Rattle.jg_threads.specs.declared.row.Row.{Row}
 use Rattle.jg_threads.specs.Standing as thread_standing
 use Rattle.jg_locals.specs.History as locals
 use Rattle.jg_locals.specs.Rows as local_rows
@@ -22,7 +22,7 @@ nothing_yet = record { threads = []; locals = []; heap = [] }
 
 -- what the tables keep
 pub record TableRows : Type 0 where
-  pub threads : List (ℕ × thread_rows.Row)
+  pub threads : List (ℕ × Row)
   pub locals : local_rows.Rows
   pub heap : heap_rows.Rows
 

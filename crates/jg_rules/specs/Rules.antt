@@ -1,5 +1,5 @@
 -- The rules, each as its own definition, and the first that a call breaks.
-use Rattle.std.specs.Prelude.{ℕ, ℤ, pos, ◌==◌, ◌&&◌, ◌||◌, Bool, true, false, not, nat_lt, int_le, List, [], ◌∷◌, Option, Some, None}
+use Rattle.std.specs.Prelude.{ℕ, ℤ, pos, ◌==◌, ◌&&◌, ◌||◌, Bool, true, false, not, if◌then◌else◌, nat_lt, int_le, List, [], ◌∷◌, Option, Some, None}
 use Rattle.std.specs.List.{list_any, list_all, find}
 use Rattle.jg_words.specs.Call.{fun_of}
 use Rattle.jg_words.specs.Fun.{needs_env}
@@ -21,9 +21,13 @@ use Rattle.jg_words.specs.declared.call.frames.FramesCall.TheVariants.{PushLocal
 use Rattle.jg_words.specs.declared.call.strings.StringsCall.{StringsCall}
 use Rattle.jg_words.specs.declared.call.strings.StringsCall.TheVariants.{NewString, GetStringLength}
 use Rattle.jg_policy.specs.Stated.{StatedSetup}
+use Rattle.jg_rules.specs.declared.named.Named.{Named}
+use Rattle.jg_rules.specs.declared.named.Named.TheVariants.{Nothing, Null as NamesNull, Object}
+use Rattle.jg_rules.specs.declared.operand.ObjectType.{ObjectType}
+use Rattle.jg_rules.specs.declared.operand.Operand.{Operand}
 use Rattle.jg_rules.specs.Parts.{Parts}
-use Rattle.jg_rules.specs.Names.{Named, Nothing, NamesNull, Names, names, session, depth, open_frames}
-use Rattle.jg_rules.specs.Operands.{Operand, operands, is_of}
+use Rattle.jg_rules.specs.Names.{names, session, depth, open_frames}
+use Rattle.jg_rules.specs.Operands.{operands, is_of}
 
 abbrev pub of_another : ℕ → Option EnvId → Bool
 of_another t None = false
@@ -62,7 +66,7 @@ foreign_local t call = list_any (λ x. is_foreign t x.reference) (operands call)
 abbrev pub is_nothing : Named → Bool
 is_nothing Nothing = true
 is_nothing NamesNull = false
-is_nothing (Names o) = false
+is_nothing (Object o) = false
 
 -- 6: a reference that was never made or has ended (JNI Specification, chapter 2, "Global and Local References")
 abbrev pub dead_reference : Parts → ℕ → Call → Bool
@@ -86,21 +90,21 @@ wrong_kind call = false
 abbrev pub is_null : Named → Bool
 is_null Nothing = false
 is_null NamesNull = true
-is_null (Names o) = false
+is_null (Object o) = false
 
 -- 8: null where an object is wanted
 abbrev pub null_reference : Parts → ℕ → Call → Bool
 null_reference p t call = list_any (λ x. not x.nullable && is_null (names p t x.reference)) (operands call)
 
 -- the object is not of the operand's type; a reference that names no object doesn't break this rule
-abbrev pub is_wrong : StatedSetup → Parts → Operand → Named → Bool
-is_wrong s p x Nothing = false
-is_wrong s p x NamesNull = false
-is_wrong s p x (Names o) = not (is_of s p x.type o)
+abbrev pub is_wrong : StatedSetup → Parts → ObjectType → Named → Bool
+is_wrong s p type Nothing = false
+is_wrong s p type NamesNull = false
+is_wrong s p type (Object o) = not (is_of s p type o.0)
 
 -- 9: an object of another type
 abbrev pub wrong_type : StatedSetup → Parts → ℕ → Call → Bool
-wrong_type s p t call = list_any (λ x. is_wrong s p x (names p t x.reference)) (operands call)
+wrong_type s p t call = list_any (λ x. is_wrong s p x.object_type (names p t x.reference)) (operands call)
 
 -- 10, 11: a field ID or a buffer that isn't the call's. No function takes one yet
 abbrev pub bad_field : Call → Bool
@@ -198,3 +202,13 @@ verdict s p t env call = find (λ rule. broken rule s p t env call) rules_in_ord
 -- the first of those after the first two, which are judged by the call's group; the environment plays no part in them
 abbrev pub later_verdict : StatedSetup → Parts → ℕ → Call → Option Rule
 later_verdict s p t call = find (λ rule. broken rule s p t None call) later_rules
+
+-- the first of rules 5 to 9 for a call of these operands
+abbrev pub operands_verdict : StatedSetup → Parts → ℕ → List Operand → Bool → Option Rule
+operands_verdict s p t xs is_wrong_kind =
+    if list_any (λ x. is_foreign t x.reference) xs then Some ForeignLocal
+    else if list_any (λ x. is_nothing (names p t x.reference)) xs then Some DeadReference
+    else if is_wrong_kind then Some WrongRefKind
+    else if list_any (λ x. not x.nullable && is_null (names p t x.reference)) xs then Some NullReference
+    else if list_any (λ x. is_wrong s p x.object_type (names p t x.reference)) xs then Some WrongType
+    else None

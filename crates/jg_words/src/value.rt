@@ -1,8 +1,11 @@
+ghost use Rattle.std.specs.Prelude.{◌≡◌, IfOk};
+
 use crate::buffer::BufId;
 use crate::items::Items;
 use crate::object::FieldId;
 use crate::reference::Ref;
 use crate::thread::EnvId;
+use std::alloc::AllocError;
 
 /// The classes of the exceptions that calls throw.
 #[derive(Clone, Copy, Debug, PartialEq, Eq)]
@@ -32,4 +35,26 @@ pub enum Value {
     Detached,
     /// An exception of this class was made, and is pending now.
     Throw(Thrown),
+}
+
+impl Value {
+    /// An equal value. Fails only for want of memory.
+    pub fn try_copy(&self) -> Result<Value, AllocError>
+        ensures { IfOk result (λ copy. copy ≡ self.now) }
+    {
+        match self {
+            Value::Ok => Ok(Value::Ok),
+            Value::Number(number) => Ok(Value::Number(*number)),
+            Value::Truth(truth) => Ok(Value::Truth(*truth)),
+            Value::Null => Ok(Value::Null),
+            Value::Reference(reference) => Ok(Value::Reference(*reference)),
+            Value::Buffer(buffer) => Ok(Value::Buffer(*buffer)),
+            Value::Field(field) => Ok(Value::Field(*field)),
+            Value::Environment(env) => Ok(Value::Environment(*env)),
+            Value::List(items) => Ok(Value::List(items.try_copy()?)),
+            Value::Busy => Ok(Value::Busy),
+            Value::Detached => Ok(Value::Detached),
+            Value::Throw(thrown) => Ok(Value::Throw(*thrown)),
+        }
+    }
 }

@@ -1,0 +1,6 @@
+pub mod Steps
+pub mod Kept
+pub mod Sizes
+pub mod WithoutDenied
+pub mod Replays
+pub mod Fresh

@@ -1,0 +1,160 @@
+-- How many events a history has, and how large the counts are that they give.
+use Rattle.std.proofs.Common.{ℕ, ◌≡◌, ◌+◌, ◌*◌, ◌-◌, ◌≤◌, Bool, true, false, List, [], ◌∷◌, ◌++◌, length, map, Option, Some, None, refl, arith, length-append}
+use Rattle.std.proofs.lemmas.Bool.Decides.{nat_tests}
+use Rattle.std.proofs.lemmas.List.{length-map}
+use Rattle.jg_words.specs.declared.object.ObjId.{ObjId}
+use Rattle.jg_words.specs.declared.reference.Ref.{Ref}
+use Rattle.jg_words.specs.declared.reference.Ref.TheVariants.{Null, To}
+use Rattle.jg_words.specs.declared.reference.Kind.TheVariants.{Local, Global, Weak}
+use Rattle.jg_words.specs.declared.value.Value.{Value}
+use Rattle.jg_words.specs.declared.value.Value.TheVariants.{Reference, Busy, Throw as Threw}
+use Rattle.jg_words.specs.declared.entry.Reply.{Reply}
+use Rattle.jg_words.specs.declared.entry.Outcome.{Outcome}
+use Rattle.jg_words.specs.declared.entry.Outcome.TheVariants.{Passed, Denied}
+use Rattle.jg_words.specs.declared.entry.Entry.{Entry}
+use Rattle.jg_words.specs.declared.call.Call.{Call}
+use Rattle.jg_words.specs.declared.call.Call.TheVariants.{Vm, Refs, Frames, Strings}
+use Rattle.jg_words.specs.declared.call.vm.VmCall.TheVariants.{AttachCurrentThread, DetachCurrentThread, GetEnv}
+use Rattle.jg_words.specs.declared.call.refs.RefsCall.{RefsCall}
+use Rattle.jg_words.specs.declared.call.refs.RefsCall.TheVariants.{NewLocalRef, DeleteLocalRef, IsSameObject, GetObjectRefType}
+use Rattle.jg_words.specs.declared.call.frames.FramesCall.TheVariants.{PushLocalFrame, PopLocalFrame}
+use Rattle.jg_words.specs.declared.call.strings.StringsCall.TheVariants.{NewString, GetStringLength}
+use Rattle.jg_threads.specs.History as threads
+use Rattle.jg_locals.specs.History as locals
+use Rattle.jg_locals.specs.History.{Act, acts_of, is_push, is_pop, done_at, frames}
+use Rattle.jg_heap.specs.History as heap
+use Rattle.jg_rules.specs.Parts.{Parts}
+use Rattle.jg_rules.specs.Effects.{parts, after, passed_on, if_effective, call_threads, call_locals, call_heap, value_threads, value_locals, started, refs_locals}
+
+effective-le : {E : Type 0} (value : Value) (events : List E) (n : ℕ) → length events ≤ n → length (if_effective value events) ≤ n
+effective-le (Threw kind) events n few = omega arith
+effective-le Busy events n few = omega arith
+effective-le _ events n few = few
+
+call_threads-le : (call : Call) → length (call_threads call) ≤ 1
+call_threads-le (Vm AttachCurrentThread) = omega arith
+call_threads-le (Vm DetachCurrentThread) = omega arith
+call_threads-le (Vm GetEnv) = omega arith
+call_threads-le _ = omega arith
+
+value_threads-le : (value : Value) → length (value_threads value) ≤ 1
+value_threads-le (Reference r) = omega arith
+value_threads-le _ = omega arith
+
+started-le : (b : Bool) → length (started b) ≤ 1
+started-le true = omega arith
+started-le false = omega arith
+
+refs_locals-le : (call : RefsCall) → length (refs_locals call) ≤ 1
+refs_locals-le (DeleteLocalRef Null) = omega arith
+refs_locals-le (DeleteLocalRef (To Local maker n)) = omega arith
+refs_locals-le (DeleteLocalRef (To Global maker n)) = omega arith
+refs_locals-le (DeleteLocalRef (To Weak maker n)) = omega arith
+refs_locals-le _ = omega arith
+
+call_locals-le : (p : Parts) (t : ℕ) (call : Call) → length (call_locals p t call) ≤ 1
+call_locals-le p t (Vm AttachCurrentThread) = started-le (threads.attached (threads.acts_of t p.threads))
+call_locals-le p t (Vm DetachCurrentThread) = omega arith
+call_locals-le p t (Vm GetEnv) = omega arith
+call_locals-le p t (Refs call) = refs_locals-le call
+call_locals-le p t (Frames (PushLocalFrame capacity)) = omega arith
+call_locals-le p t (Frames (PopLocalFrame r)) = omega arith
+call_locals-le p t (Strings call) = omega arith
+
+value_locals-le : (value : Value) (o : Option ObjId) → length (value_locals value o) ≤ 1
+value_locals-le (Reference (To Local maker n)) (Some o) = omega arith
+value_locals-le _ _ = omega arith
+
+call_heap-le : (call : Call) → length (call_heap call) ≤ 1
+call_heap-le (Strings (NewString units)) = omega arith
+call_heap-le (Strings (GetStringLength r)) = omega arith
+call_heap-le _ = omega arith
+
+-- two short lists in front of a third
+in_front : {X Y : Type 0} (f : X → Y) (xs ys : List X) (zs : List Y) → length xs ≤ 1 → length ys ≤ 1 → length (map f (xs ++ ys) ++ zs) ≤ length zs + 2
+in_front f xs ys zs one two = simp (length-append, length-map) (omega (arith, one, two))
+
+-- at most two events of threads and of locals and one of the store for each entry
+pub record Small (p : Parts) (k : ℕ) : Type 0 where
+  pub threads : length p.threads ≤ 2 * k
+  pub locals : length p.locals ≤ 2 * k
+  pub heap : length p.heap ≤ k
+
+small_after : (t : ℕ) (call : Call) (outcome : Outcome) (o : Option ObjId) (p : Parts) (k : ℕ) → Small p k → Small (after t call outcome o p) (k + 1)
+small_after t call (Passed reply) o p k old =
+    let acts = in_front (threads.by t) (value_threads reply.value) (if_effective reply.value (call_threads call)) p.threads (value_threads-le reply.value) (effective-le reply.value (call_threads call) 1 (call_threads-le call)) in
+    let of_locals = in_front (locals.by t) (value_locals reply.value o) (if_effective reply.value (call_locals p t call)) p.locals (value_locals-le reply.value o) (effective-le reply.value (call_locals p t call) 1 (call_locals-le p t call)) in
+    let made = effective-le reply.value (call_heap call) 1 (call_heap-le call) in
+    record {
+      threads = omega (arith, acts, old.threads);
+      locals = omega (arith, of_locals, old.locals);
+      heap = simp length-append (omega (arith, made, old.heap));
+    }
+small_after t call (Denied rule) o p k old = record { threads = omega (arith, old.threads); locals = omega (arith, old.locals); heap = omega (arith, old.heap) }
+
+pub small : (h : List Entry) → Small (parts h) (length h)
+small [] = record { threads = omega arith; locals = omega arith; heap = omega arith }
+small (x ∷ h) =
+    let more = small_after x.tid.0 x.call x.outcome x.object (parts h) (length h) (small h) in
+    record { threads = omega (arith, more.threads); locals = omega (arith, more.locals); heap = omega (arith, more.heap) }
+
+-- a count is at most the number of events
+
+did-le : (te : List threads.Event) (t : ℕ) → length (threads.acts_of t te) ≤ length te
+did-le [] t = omega arith
+did-le (ev ∷ te) t = grind (arith, nat_tests, did-le te t)
+
+counted-le : (kind : threads.Act → Bool) (acts : List threads.Act) → threads.how_many kind acts ≤ length acts
+counted-le kind [] = omega arith
+counted-le kind (a ∷ acts) = grind (arith, nat_tests, counted-le kind acts)
+
+since-le : (acts : List threads.Act) → length (threads.since acts) ≤ length acts
+since-le [] = omega arith
+since-le (threads.Detach ∷ acts) = omega arith
+since-le (threads.Attach ∷ acts) = omega (arith, since-le acts)
+since-le (threads.Enter ∷ acts) = omega (arith, since-le acts)
+since-le (threads.Leave ∷ acts) = omega (arith, since-le acts)
+since-le (threads.Raise o ∷ acts) = omega (arith, since-le acts)
+since-le (threads.Calm ∷ acts) = omega (arith, since-le acts)
+since-le (threads.CountRef ∷ acts) = omega (arith, since-le acts)
+since-le (threads.CountBuffer ∷ acts) = omega (arith, since-le acts)
+
+sessions_in-le : (acts : List threads.Act) → threads.sessions acts ≤ length acts
+sessions_in-le [] = omega arith
+sessions_in-le (threads.Attach ∷ acts) = grind (arith, nat_tests, sessions_in-le acts)
+sessions_in-le (threads.Detach ∷ acts) = omega (arith, sessions_in-le acts)
+sessions_in-le (threads.Enter ∷ acts) = omega (arith, sessions_in-le acts)
+sessions_in-le (threads.Leave ∷ acts) = omega (arith, sessions_in-le acts)
+sessions_in-le (threads.Raise o ∷ acts) = omega (arith, sessions_in-le acts)
+sessions_in-le (threads.Calm ∷ acts) = omega (arith, sessions_in-le acts)
+sessions_in-le (threads.CountRef ∷ acts) = omega (arith, sessions_in-le acts)
+sessions_in-le (threads.CountBuffer ∷ acts) = omega (arith, sessions_in-le acts)
+
+pub sessions-le : (te : List threads.Event) (t : ℕ) → threads.sessions (threads.acts_of t te) ≤ length te
+sessions-le te t = omega (arith, sessions_in-le (threads.acts_of t te), did-le te t)
+
+pub refs-le : (te : List threads.Event) (t : ℕ) → threads.refs (threads.acts_of t te) ≤ length te
+refs-le te t = omega (arith, counted-le threads.is_count_ref (threads.acts_of t te), did-le te t)
+
+pub buffers-le : (te : List threads.Event) (t : ℕ) → threads.buffers (threads.acts_of t te) ≤ length te
+buffers-le te t = omega (arith, counted-le threads.is_count_buffer (threads.acts_of t te), did-le te t)
+
+pub depth-le : (te : List threads.Event) (t : ℕ) → threads.depth (threads.acts_of t te) ≤ length te
+depth-le te t = omega (arith, counted-le threads.is_enter (threads.since (threads.acts_of t te)), since-le (threads.acts_of t te), did-le te t)
+
+acts_of-le : (le : List locals.Event) (t : ℕ) → length (acts_of t le) ≤ length le
+acts_of-le [] t = omega arith
+acts_of-le (ev ∷ le) t = grind (arith, nat_tests, acts_of-le le t)
+
+done_at-le : (kind : Act → Bool) (d : ℕ) (acts : List Act) → done_at kind d acts ≤ length acts
+done_at-le kind d [] = omega arith
+done_at-le kind d (a ∷ acts) = grind (arith, nat_tests, done_at-le kind d acts)
+
+pub frames-le : (d t : ℕ) (le : List locals.Event) → frames d (acts_of t le) ≤ length le
+frames-le d t le = omega (arith, done_at-le is_push d (acts_of t le), acts_of-le le t)
+
+pub count_of-le : (k : ℕ) (e : List heap.Event) → heap.count_of k e ≤ k + length e
+count_of-le k [] = omega arith
+count_of-le k (heap.Made m ∷ e) = omega (arith, count_of-le k e)
+count_of-le k (heap.Wrote o j v ∷ e) = omega (arith, count_of-le k e)
+count_of-le k (heap.Collected roots ∷ e) = omega (arith, count_of-le k e)

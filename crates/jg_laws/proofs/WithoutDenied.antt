@@ -1,0 +1,28 @@
+-- A legal history without its denied entries is legal.
+use Rattle.std.proofs.Common.{ℕ, ◌≡◌, List, [], ◌∷◌, refl, ap, sym, ◌∙◌}
+use Rattle.jg_words.specs.declared.entry.Outcome.{Outcome}
+use Rattle.jg_words.specs.declared.entry.Outcome.TheVariants.{Passed, Denied}
+use Rattle.jg_words.specs.declared.entry.Entry.{Entry}
+use Rattle.jg_policy.specs.Stated.{StatedSetup}
+use Rattle.jg_rules.specs.Parts.{Parts}
+use Rattle.jg_rules.specs.Effects.{parts, after}
+use Rattle.jg_rules.specs.Legal.{Legal, entry_at}
+use Rattle.jg_laws.specs.Histories.{passed_only, unless_denied}
+use Rattle.jg_laws.specs.Laws.{DeniedEntriesDoNothing}
+
+parts_one : (o : Outcome) (x : Entry) (h k : List Entry) → x.outcome ≡ o → parts k ≡ parts h → parts (unless_denied o x k) ≡ parts (x ∷ h)
+parts_one (Passed reply) x h k is e = ap (after x.tid.0 x.call x.outcome x.object) e
+parts_one (Denied rule) x h k is e = rw is e
+
+-- denied entries change nothing that later ones see
+pub parts-passed_only : (h : List Entry) → parts (passed_only h) ≡ parts h
+parts-passed_only [] = refl
+parts-passed_only (x ∷ h) = parts_one x.outcome x h (passed_only h) refl (parts-passed_only h)
+
+legal_one : (s : StatedSetup) (o : Outcome) (x : Entry) (h : List Entry) → Legal s (passed_only h) → x ≡ entry_at s (parts h) x.tid x.env x.call → Legal s (unless_denied o x (passed_only h))
+legal_one s (Passed reply) x h old is = (is ∙ sym (ap (λ (p : Parts). entry_at s p x.tid x.env x.call) (parts-passed_only h)), old)
+legal_one s (Denied rule) x h old is = old
+
+pub Legal-passed_only : DeniedEntriesDoNothing
+Legal-passed_only s [] legal = legal
+Legal-passed_only s (x ∷ h) legal = legal_one s x.outcome x h (Legal-passed_only s h legal.1) legal.0

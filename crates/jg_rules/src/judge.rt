@@ -1,0 +1,69 @@
+//! Rules 1 and 2, which are judged for all calls alike, and the groups' own rules after them.
+
+ghost use Rattle.std.specs.Prelude.{◌≡◌};
+ghost use Rattle.jg_rules.specs.Parts.{Parts};
+ghost use Rattle.jg_rules.specs.Rules.{verdict, wrong_thread, detached};
+ghost use Rattle.jg_rules.specs.View.{ViewStands};
+
+mod frames;
+mod references;
+mod refs;
+mod strings;
+mod vm;
+
+use crate::view::View;
+use frames::judge_frames;
+use jg_words::{Call, EnvId, Rule, Tid};
+use refs::judge_refs;
+use std::alloc::Allocator;
+use strings::judge_strings;
+use vm::judge_vm;
+
+/// The first rule that the call breaks, as the tables are now; None where it breaks none.
+pub fn first_broken<A: Allocator + Clone>(
+    view: &View<'_, A>,
+    tid: Tid,
+    env: Option<EnvId>,
+    call: &Call,
+) -> Option<Rule>
+    ensures { (p : Parts) → ViewStands view.now p → result ≡ verdict view.now.setup.now p tid.0 env call.now }
+{
+    if is_wrong_thread(tid, env) {
+        return Some(Rule::WrongThread);
+    }
+    if is_detached(view, tid, env, call) {
+        return Some(Rule::Detached);
+    }
+    match call {
+        Call::Vm(call) => judge_vm(view, tid, call),
+        Call::Refs(call) => judge_refs(view, tid, call),
+        Call::Frames(call) => judge_frames(view, tid, call),
+        Call::Strings(call) => judge_strings(view, tid, call),
+    }
+}
+
+fn is_wrong_thread(tid: Tid, env: Option<EnvId>) -> bool
+    ensures { result ≡ wrong_thread tid.0 env }
+{
+    match env {
+        None => tid.0 == 0,
+        Some(env) => tid.0 == 0 || env.tid.0 != tid.0,
+    }
+}
+
+fn is_detached<A: Allocator + Clone>(
+    view: &View<'_, A>,
+    tid: Tid,
+    env: Option<EnvId>,
+    call: &Call,
+) -> bool
+    ensures { (p : Parts) → ViewStands view.now p → result ≡ detached p tid.0 env call.now }
+{
+    match env {
+        None => call.fun().takes_env(),
+        Some(env) => match view.threads.env_of(tid) {
+            None => true,
+            Some(present) => env.tid.0 != tid.0 || env.session != present.session,
+        },
+    }
+}

@@ -1,0 +1,43 @@
+ghost use Rattle.std.specs.Prelude.{◌≡◌};
+ghost use Rattle.jg_words.specs.declared.call.Call.TheVariants.{Frames};
+ghost use Rattle.jg_rules.specs.Parts.{Parts};
+ghost use Rattle.jg_rules.specs.Rules.{later_verdict, frames_bad_argument};
+ghost use Rattle.jg_rules.specs.View.{ViewStands};
+
+use super::references::judge_one;
+use crate::operand::Operand;
+use crate::view::View;
+use jg_words::{FramesCall, Rule, Tid};
+use std::alloc::Allocator;
+
+const MAX_CAPACITY: i32 = 65_535;
+
+/// The first of the rules after the first two that a call of the group breaks.
+pub(crate) fn judge_frames<A: Allocator + Clone>(
+    view: &View<'_, A>,
+    tid: Tid,
+    call: &FramesCall,
+) -> Option<Rule>
+    ensures { (p : Parts) → ViewStands view.now p → result ≡ later_verdict view.now.setup.now p tid.0 (Frames call.now) }
+{
+    match call {
+        FramesCall::PushLocalFrame { capacity } => {
+            if *capacity < 0 || *capacity > MAX_CAPACITY {
+                Some(Rule::BadArgument)
+            } else {
+                None
+            }
+        }
+        FramesCall::PopLocalFrame { kept } => {
+            let broken = judge_one(view, tid, Operand::optional(*kept), false);
+            if broken.is_some() {
+                return broken;
+            }
+            if view.locals.can_pop(tid) {
+                None
+            } else {
+                Some(Rule::BadFrame)
+            }
+        }
+    }
+}

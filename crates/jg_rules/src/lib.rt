@@ -1,0 +1,15 @@
+//! Which rule a call breaks first, what it answers where it breaks none, and which histories are
+//! legal. The definitions stand in specs/; the code judges by the tables as they are now.
+#![tactic(auto)]
+
+mod answer;
+mod judge;
+mod named;
+mod operand;
+mod view;
+
+pub use answer::Answer;
+pub use judge::first_broken;
+pub use named::{Named, look_up};
+pub use operand::{ObjectType, Operand};
+pub use view::View;

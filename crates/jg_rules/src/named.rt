@@ -1,0 +1,35 @@
+ghost use Rattle.std.specs.Prelude.{◌≡◌};
+ghost use Rattle.jg_rules.specs.Parts.{Parts};
+ghost use Rattle.jg_rules.specs.Names.{names};
+ghost use Rattle.jg_rules.specs.View.{ViewStands};
+
+use crate::view::View;
+use jg_words::{Kind, ObjId, Ref, Tid};
+use std::alloc::Allocator;
+
+/// What a reference names for a thread.
+#[derive(Clone, Copy, Debug, PartialEq, Eq)]
+pub enum Named {
+    /// It was never made, has ended, or is another thread's local.
+    Nothing,
+    Null,
+    Object(ObjId),
+}
+
+/// What a reference names for the thread, as the tables are now.
+pub fn look_up<A: Allocator + Clone>(view: &View<'_, A>, tid: Tid, reference: Ref) -> Named
+    ensures { (p : Parts) → ViewStands view.now p → result ≡ names p tid.0 reference }
+{
+    match reference {
+        Ref::Null => Named::Null,
+        Ref::To {
+            kind: Kind::Local,
+            maker,
+            n,
+        } if maker.0 == tid.0 => match view.locals.get(tid, n) {
+            Some(object) => Named::Object(object),
+            None => Named::Nothing,
+        },
+        Ref::To { .. } => Named::Nothing,
+    }
+}

@@ -1,0 +1,14 @@
+use jg_heap::Heap;
+use jg_locals::Locals;
+use jg_policy::Setup;
+use jg_threads::Threads;
+use std::alloc::{Allocator, Global};
+
+/// The setup and the tables, lent to judge by.
+#[derive(Drop)]
+pub struct View<'a, A: Allocator = Global> {
+    pub setup: &'a Setup,
+    pub threads: &'a Threads<A>,
+    pub locals: &'a Locals<A>,
+    pub heap: &'a Heap<A>,
+}
