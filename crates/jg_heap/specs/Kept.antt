@@ -10,6 +10,7 @@ use Rattle.jg_heap.specs.Making.{array_class}
 use Rattle.jg_heap.specs.History.{holds}
 use Rattle.jg_heap.specs.Rows.{Row, row_in}
 
+-- the class of what has this body, a string's units, and what the slots of any other hold
 abbrev pub class_of_body : {A : Type 0} → Body A → ℕ
 class_of_body Class = 1
 class_of_body (Fields instance) = instance.class
@@ -31,6 +32,7 @@ slots_of_body (Units units) = []
 slots_of_body (Numbers element items) = map Number items.items
 slots_of_body (References items) = map ToObject items.items
 
+-- the row of an object
 abbrev pub row_of : {A : Type 0} → Object A → Row
 row_of x = record { class = class_of_body x.body; units = units_of_body x.body; slots = slots_of_body x.body; gone = x.gone }
 

@@ -27,9 +27,11 @@ candidates items =
 unfoldable pub stands_first : List ℤ → ℕ → Bool
 stands_first items u = nat_lt u 65536 && pointwise int_eq (take (length (spelling u)) items) (map pos (spelling u))
 
+-- the unit at the front
 abbrev pub first_unit : List ℤ → Option ℕ
 first_unit items = find (stands_first items) (candidates items)
 
+-- a unit before those that are read behind it
 abbrev pub before : Option ℕ → (ℕ → Option (List ℕ)) → Option (List ℕ)
 before None rest = None
 before (Some u) rest = option_map (λ units. u ∷ units) (rest u)
@@ -40,5 +42,6 @@ decoded_by [] n = Some []
 decoded_by (x ∷ items) zero = None
 decoded_by (x ∷ items) (suc n) = before (first_unit (x ∷ items)) (λ u. decoded_by (drop (length (spelling u)) (x ∷ items)) n)
 
+-- the units that the items spell, if they spell any
 abbrev pub decoded : List ℤ → Option (List ℕ)
 decoded items = decoded_by items (length items)

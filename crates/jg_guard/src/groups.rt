@@ -1,0 +1,6 @@
+//! For each group of calls: what a call answers, and what it does.
+
+pub(crate) mod frames;
+pub(crate) mod refs;
+pub(crate) mod strings;
+pub(crate) mod vm;

@@ -1,0 +1,202 @@
+ghost use Rattle.std.specs.Prelude.{◌≡◌, ◌<◌, ◌≤◌, ◌⊎◌, ◌↔◌, [], ◌∷◌, length, reverse, IfOk, IfErr, OnErr, None, Some, Err, slice_get, vec_len, vec_capacity};
+ghost use Rattle.std.specs.Option.{option_copied};
+ghost use Rattle.jg_rules.specs.Legal.{Legal};
+ghost use Rattle.jg_rules.specs.Effects.{parts};
+ghost use Rattle.jg_rules.specs.Rules.{verdict};
+ghost use Rattle.jg_guard.specs.Guard.{Takes};
+
+use crate::answer::answer_to;
+use crate::perform::perform;
+use crate::tables::Tables;
+use jg_heap::Heap;
+use jg_locals::Locals;
+use jg_policy::Setup;
+use jg_rules::{Answer, first_broken};
+use jg_threads::Threads;
+use jg_words::{Call, Entry, EnvId, Outcome, Reply, Rule, Tid};
+use std::alloc::{AllocError, Allocator, Global};
+use std::marker::Model;
+
+/// Why a call was neither passed nor denied. The call comes back.
+#[derive(Debug, PartialEq, Eq, Drop)]
+pub enum Refusal {
+    /// The journal has as many entries as it may have.
+    Limit(Call),
+    /// Memory ran out.
+    NoMemory(Call),
+}
+
+/// A guard. Contracts see its setup, its limit and its journal, the newest entry first; its type
+/// keeps that the journal is a legal history, no longer than the limit.
+#[derive(Drop)]
+pub struct Guard<A: Allocator = Global> {
+    setup: Setup,
+    limit: u32,
+    journal: Vec<Entry, A>,
+    tables: Tables<A>,
+}
+
+impl<A: Allocator> Model for Guard<A> {
+    ghost use Rattle.std.specs.Prelude.{reverse};
+    ghost use Rattle.jg_guard.specs.Guard.{State, IsSound};
+    ghost use Rattle.jg_guard.specs.Tables.{rows_of};
+
+    ghost Value = { State };
+
+    ghost view = { λ g. record { setup = g.setup; limit = g.limit; journal = reverse g.journal.items } };
+
+    ghost invariant = { λ g. IsSound (record { setup = g.setup; limit = g.limit; journal = reverse g.journal.items }) (rows_of g.tables) };
+}
+
+impl<A: Allocator + Clone> Guard<A> {
+    /// A guard with an empty journal of at most `limit` entries. Fails only for want of memory.
+    pub fn new(alloc: A, setup: Setup, limit: u32) -> Result<Guard<A>, AllocError>
+        ensures setup { IfOk result (λ guard. guard.setup ≡ setup) }
+        ensures limit { IfOk result (λ guard. guard.limit ≡ limit) }
+        ensures journal { IfOk result (λ guard. guard.journal ≡ []) }
+    {
+        let threads = Threads::new(alloc.clone()?);
+        let locals = Locals::new(alloc.clone()?, alloc.clone()?);
+        let heap = Heap::new(alloc.clone()?, u64::from(setup.class_count()))?;
+        let journal = Vec::new(alloc.clone()?);
+        let tables = Tables {
+            alloc,
+            threads,
+            locals,
+            heap,
+        };
+        Ok(Guard {
+            setup,
+            limit,
+            journal,
+            tables,
+        })
+    }
+
+    /// The first rule that the call breaks as the journal is now, which `call` would deny it by;
+    /// None where it breaks none.
+    pub fn judge(&self, tid: Tid, env: Option<EnvId>, call: &Call) -> Option<Rule>
+        ensures { result ≡ verdict self.now.setup (parts self.now.journal) tid.0 env call.now }
+    {
+        first_broken(&self.tables.view(&self.setup), tid, env, call)
+    }
+
+    /// Judges the call, does it if it breaks no rule, and journals it. `tid` is the thread that
+    /// makes it, `env` the environment that it hands in. A refusal changes nothing: the journal is
+    /// full, or memory ran out, in that order.
+    pub fn call(&mut self, tid: Tid, env: Option<EnvId>, call: Call) -> Result<Outcome, Refusal>
+        ensures ok { IfOk result (λ outcome. Takes self.old self.new tid env call outcome) }
+        ensures err { OnErr result (self.new ≡ self.old) }
+        ensures back { IfErr result (λ refusal. (refusal ≡ Refusal.Limit call) ⊎ (refusal ≡ Refusal.NoMemory call)) }
+        ensures limit { (result ≡ Err (Refusal.Limit call)) ↔ (length self.old.journal ≡ self.old.limit) }
+    {
+        if self.journal.len() >= self.limit as usize {
+            return Err(Refusal::Limit(call));
+        }
+        match self.judge(tid, env, &call) {
+            Some(rule) => self.deny(tid, env, call, rule),
+            None => self.pass(tid, env, call),
+        }
+    }
+
+    fn deny(
+        &mut self,
+        tid: Tid,
+        env: Option<EnvId>,
+        call: Call,
+        rule: Rule,
+    ) -> Result<Outcome, Refusal>
+        requires room { length self.old.journal < self.old.limit }
+        requires denied { verdict self.old.setup (parts self.old.journal) tid.0 env call ≡ Some rule }
+        ensures ok { IfOk result (λ outcome. Takes self.old self.new tid env call outcome) }
+        ensures err { OnErr result (self.new ≡ self.old) }
+        ensures back { IfErr result (λ refusal. refusal ≡ Refusal.NoMemory call) }
+    {
+        if self.journal.try_reserve(1).is_err() {
+            return Err(Refusal::NoMemory(call));
+        }
+        let entry = Entry {
+            tid,
+            env,
+            call,
+            outcome: Outcome::Denied(rule),
+            object: None,
+        };
+        push_reserved(&mut self.journal, entry);
+        Ok(Outcome::Denied(rule))
+    }
+
+    // All that can fail comes before the first change.
+    fn pass(&mut self, tid: Tid, env: Option<EnvId>, call: Call) -> Result<Outcome, Refusal>
+        requires room { length self.old.journal < self.old.limit }
+        requires passed { verdict self.old.setup (parts self.old.journal) tid.0 env call ≡ None }
+        ensures ok { IfOk result (λ outcome. Takes self.old self.new tid env call outcome) }
+        ensures err { OnErr result (self.new ≡ self.old) }
+        ensures back { IfErr result (λ refusal. refusal ≡ Refusal.NoMemory call) }
+    {
+        let Answer { value, object } = answer_to(&self.tables.view(&self.setup), tid, &call);
+        let Ok(answered) = value.try_copy() else {
+            return Err(Refusal::NoMemory(call));
+        };
+        let Ok(()) = self.journal.try_reserve(1) else {
+            return Err(Refusal::NoMemory(call));
+        };
+        let Ok(()) = self.tables.locals.reserve(tid) else {
+            return Err(Refusal::NoMemory(call));
+        };
+        let Ok(()) = self.tables.locals.reserve_start(tid) else {
+            return Err(Refusal::NoMemory(call));
+        };
+        let Ok(()) = perform(&mut self.tables, tid, &call, object) else {
+            return Err(Refusal::NoMemory(call));
+        };
+        let entry = Entry {
+            tid,
+            env,
+            call,
+            outcome: Outcome::Passed(Reply {
+                value,
+                warned: false,
+            }),
+            object,
+        };
+        push_reserved(&mut self.journal, entry);
+        Ok(Outcome::Passed(Reply {
+            value: answered,
+            warned: false,
+        }))
+    }
+
+    /// The most entries that the journal may have.
+    pub fn limit(&self) -> u32
+        ensures { result ≡ self.now.limit }
+    {
+        self.limit
+    }
+
+    /// How many entries the journal has. It is a legal history, within the limit.
+    pub fn journal_len(&self) -> usize
+        ensures len { result ≡ length self.now.journal }
+        ensures within { length self.now.journal ≤ self.now.limit }
+        ensures legal { Legal self.now.setup self.now.journal }
+    {
+        self.journal.len()
+    }
+
+    /// An entry of the journal, the oldest at 0; None past the end.
+    pub fn journal_entry(&self, index: usize) -> Option<&Entry>
+        ensures { option_copied result ≡ slice_get (reverse self.now.journal) index }
+    {
+        self.journal.get(index)
+    }
+}
+
+fn push_reserved<A: Allocator>(journal: &mut Vec<Entry, A>, entry: Entry)
+    requires { vec_len journal.old < vec_capacity journal.old }
+    ensures { reverse journal.new.items ≡ entry ∷ reverse journal.old.items }
+{
+    match journal.push(entry) {
+        Ok(()) => {}
+        Err(_) => unreachable!(),
+    }
+}

@@ -1,0 +1,12 @@
+//! The guard: it judges a call, does it or denies it, and journals it. Its type keeps that the
+//! journal is a legal history and that each table stands for it.
+#![tactic(auto)]
+
+mod answer;
+mod groups;
+mod guard;
+mod hand_out;
+mod perform;
+mod tables;
+
+pub use guard::{Guard, Refusal};
