@@ -10,3 +10,6 @@ mod perform;
 mod tables;
 
 pub use guard::{Guard, Refusal};
+
+#[cfg(test)]
+mod tests;

@@ -47,7 +47,6 @@ one_unit items u v rest tail a b h g =
 
 -- what the test says
 stands_is : (items : List ℤ) (u : ℕ) → stands_first items u ≡ true → (u < 2 ^ 16) × (items ≡ map pos (spelling u) ++ drop (length (spelling u)) items)
-unfolding stands_first
 stands_is items u h =
     let parts = and_parts _ _ h in
     let n = length (spelling u) in
@@ -56,7 +55,6 @@ stands_is items u h =
     (small, sym (take-append-drop n items) ∙ ap (λ (xs : List ℤ). xs ++ drop n items) front)
 
 stands_so : (items : List ℤ) (u : ℕ) (rest : List ℤ) → u < 2 ^ 16 → items ≡ map pos (spelling u) ++ rest → stands_first items u ≡ true
-unfolding stands_first
 stands_so items u rest small h =
     let n = length (spelling u) in
     let front : take n items ≡ map pos (spelling u) = ap (take n) h ∙ take_at (map pos (spelling u)) rest n (length-map (spelling u) pos) in

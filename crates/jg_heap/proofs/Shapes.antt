@@ -5,11 +5,9 @@ use Rattle.jg_heap.specs.Forms.{One, Two, Three}
 use Rattle.jg_heap.specs.Spelling.{spelling, Starts, AreFirst}
 
 pub spelling_one : (u : ℕ) → 0 < u → u < 128 → spelling u ≡ u ∷ []
-unfolding spelling
 spelling_one u a b = cond-true _ _ _ (and_from _ _ (lt-ltb 0 u a) (lt-ltb u 128 b))
 
 pub spelling_two : (u high low : ℕ) → u ≡ high * 64 + low → low < 64 → u < 2048 → (u ≡ 0) ⊎ (128 ≤ u) → spelling u ≡ (192 + high) ∷ (128 + low) ∷ []
-unfolding spelling
 spelling_two u high low is small below other =
     let h : u / 64 ≡ high = omega arith in
     let l : u % 64 ≡ low = omega arith in
@@ -17,7 +15,6 @@ spelling_two u high low is small below other =
     cond-false _ _ _ not_one ∙ cond-true _ _ _ (lt-ltb u 2048 below) ∙ rw (h, l) refl
 
 pub spelling_three : (u high middle low : ℕ) → u ≡ high * 4096 + middle * 64 + low → low < 64 → middle < 64 → 2048 ≤ u → spelling u ≡ (224 + high) ∷ (128 + middle) ∷ (128 + low) ∷ []
-unfolding spelling
 spelling_three u high middle low is small small_middle above =
     let h : u / 4096 ≡ high = omega arith in
     let m : u / 64 % 64 ≡ middle = omega arith in

@@ -24,7 +24,7 @@ candidates items =
     ∷ []
 
 -- it has 16 bits, and its spelling stands at the front
-unfoldable pub stands_first : List ℤ → ℕ → Bool
+abbrev pub stands_first : List ℤ → ℕ → Bool
 stands_first items u = nat_lt u 65536 && pointwise int_eq (take (length (spelling u)) items) (map pos (spelling u))
 
 -- the unit at the front

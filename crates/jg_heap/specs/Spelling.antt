@@ -4,7 +4,7 @@ use Rattle.std.specs.Prelude.{ℕ, ◌≡◌, ◌+◌, ◌/◌, ◌%◌, ◌<◌
 use Rattle.std.specs.List.{flat_map, AllByRecursion}
 
 -- 1 to 127 in one byte, 0 and 128 to 2,047 in two, 2,048 to 65,535 in three
-unfoldable pub spelling : ℕ → List ℕ
+abbrev pub spelling : ℕ → List ℕ
 spelling u = if nat_lt 0 u && nat_lt u 128 then u ∷ [] else (if nat_lt u 2048 then (192 + u / 64) ∷ (128 + u % 64) ∷ [] else ((224 + u / 4096) ∷ (128 + u / 64 % 64) ∷ (128 + u % 64) ∷ []))
 
 -- the bytes that spell the units

@@ -1,5 +1,6 @@
 -- The first of what is found in a tree.
-use Rattle.std.proofs.Common.{◌≡◌, ◌≤◌, nat_le, Bool, true, false, if◌then◌else◌, List, [], ◌∷◌, ◌++◌, Option, Some, None, refl, ◌∙◌, arith, codes}
+use Rattle.std.proofs.Common.{◌≡◌, ℕ, ◌≤◌, nat_le, Bool, true, false, if◌then◌else◌, List, [], ◌∷◌, ◌++◌, Option, Some, None, refl, ◌∙◌, arith, codes}
+use Rattle.std.specs.Prelude.{Result, Ok, Err, IfOk, IfErr, OnOk, ◌≢◌}
 use Rattle.std.proofs.lemmas.Bool.Decides.{nat_tests}
 use Rattle.std.proofs.lemmas.List.Elements.{All-nil, All-cons, All-weaker, All-contains, Contains-push, Contains-append_left, Contains-append_right}
 use Rattle.std.proofs.lemmas.List.Folds.{list_all-append}
@@ -7,12 +8,13 @@ use Rattle.std.specs.List.{list_all}
 use Rattle.std.proofs.lemmas.List.Sums.{AllPass-from_list_all}
 use Rattle.toml.specs.Data.{Data, Items, no_items, item, Members, get_member, as_str, as_integer, as_bool, as_array, as_table}
 use Rattle.jg_policy.specs.declared.fault.SetupFault.{SetupFault}
-use Rattle.jg_policy.specs.declared.fault.SetupFault.TheVariants.{UnknownKey, BadVersion, BadMode, BadName, Duplicate, TooMany}
+use Rattle.jg_policy.specs.declared.fault.SetupFault.TheVariants.{NoMemory, UnknownKey, BadVersion, BadMode, BadName, Duplicate, TooMany}
 use Rattle.jg_policy.specs.declared.names.Spelling.{Spelling}
 use Rattle.jg_policy.specs.declared.names.Spelling.TheVariants.{ModuleName, ClassName, MemberName, FieldType, NativeType}
 use Rattle.jg_policy.specs.Faults.{rank, earlier, first_of, IsFirstFault}
-use Rattle.jg_policy.specs.Stated.{setup_stated}
-use Rattle.jg_policy.specs.Findings.{fault_if, has_unknown_key, member_keys, class_keys, setup_keys, required, optional, of_type, each_of, version_faults, mode_faults, truth_faults, text_faults, array_faults, member_table_faults, member_faults, class_table_faults, class_faults, shape_faults, tree_faults, states_twice, is_too_large}
+use Rattle.jg_policy.specs.Stated.{StatedSetup, setup_stated}
+use Rattle.toml.specs.Parse.{parse_document}
+use Rattle.jg_policy.specs.Findings.{fault_if, has_unknown_key, member_keys, class_keys, setup_keys, required, optional, of_type, each_of, version_faults, mode_faults, truth_faults, text_faults, array_faults, member_table_faults, member_faults, class_table_faults, class_faults, shape_faults, tree_faults, states_twice, is_too_large, text_faults_of}
 use Rattle.jg_policy.proofs.Firsts.{first_of-append}
 
 -- ---- the first of a list
@@ -167,3 +169,17 @@ size_answers ms none once large = first_of-append (shape_faults ms) _ ∙ rw (no
 pub clean_answers : (ms : Members) → first_of (shape_faults ms) ≡ None → states_twice (setup_stated ms).classes ≡ false → is_too_large (setup_stated ms) ≡ false
     → first_of (tree_faults ms) ≡ None
 clean_answers ms none once small = first_of-append (shape_faults ms) _ ∙ rw (none, once, small)
+
+-- ---- from the tree to the text
+
+pub stated_by : (text : List ℕ) (ms : Members) (r : Result StatedSetup SetupFault) → parse_document text ≡ Some ms
+    → IfOk r (λ setup. setup ≡ setup_stated ms) → OnOk r (tree_faults ms ≡ [])
+    → IfOk r (λ setup. (tree : Members) × (parse_document text ≡ Some tree) × (tree_faults tree ≡ []) × (setup ≡ setup_stated tree))
+stated_by text ms (Ok setup) is stated clean = (ms, is, clean, stated)
+stated_by text ms (Err fault) is stated clean = tt
+
+pub refused_by : (text : List ℕ) (ms : Members) (r : Result StatedSetup SetupFault) → parse_document text ≡ Some ms
+    → IfErr r (λ fault. fault ≢ NoMemory → IsFirstFault (tree_faults ms) fault)
+    → IfErr r (λ fault. fault ≢ NoMemory → IsFirstFault (text_faults_of (parse_document text)) fault)
+refused_by text ms (Ok setup) is refused = tt
+refused_by text ms (Err fault) is refused = λ other. rw is (refused other)

@@ -43,6 +43,7 @@ impl Member {
         ensures { IfOk result (λ m. member_view m ≡ member_stated (view value.now)) }
     {
         match value.as_table() {
+            // A value that is no table is a fault, which is found before this is called.
             None => Ok(Member {
                 name: String::new(alloc),
                 signature: String::new(alloc),
@@ -100,6 +101,7 @@ impl Class {
         ensures repeated { IfErr result (λ f. f ≢ SetupFault.NoMemory → (f ≡ SetupFault.Duplicate) × (repeats_member (class_stated (view value.now)) ≡ true)) }
     {
         match value.as_table() {
+            // As for a member.
             None => {
                 let class = Class {
                     module_name: String::new(alloc),

@@ -1,5 +1,5 @@
 //! The setup of a guard: its classes, and which modules may use native code. A setup is read
-//! from a text; `notes/FORMATS.md` describes it.
+//! from a text, which `docs/FORMATS.md` describes.
 #![tactic(auto)]
 
 mod access;

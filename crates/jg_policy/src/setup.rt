@@ -5,7 +5,7 @@ ghost use Rattle.toml.specs.Data.{Members};
 ghost use Rattle.toml.specs.Parse.{parse_document};
 ghost use Rattle.toml.specs.View.{view, table_view, items_view};
 ghost use Rattle.jg_policy.specs.Stated.{StatedSetup, setup_stated, each_item, text_item};
-ghost use Rattle.jg_policy.specs.Faults.{first_of, IsFirstFault};
+ghost use Rattle.jg_policy.specs.Faults.{IsFirstFault};
 ghost use Rattle.jg_policy.specs.Findings.{tree_faults, text_faults_of};
 ghost use Rattle.jg_policy.specs.Kept.{class_view, has_many_kept, is_large_kept};
 ghost use Rattle.indexmap.specs.IndexMap.{values};
@@ -22,14 +22,14 @@ use std::alloc::{AllocError, Global};
 use std::marker::Model;
 use toml::{Table, Value};
 
-/// The most classes that a setup states.
-pub const MAX_CLASSES: usize = 1000;
+// The most classes that a setup states.
+const MAX_CLASSES: usize = 1000;
 
-/// The most fields that a class states, and the most native methods.
-pub const MAX_MEMBERS: usize = 100;
+// The most fields that a class states, and the most native methods.
+const MAX_MEMBERS: usize = 100;
 
-/// The most modules that a setup enables, where repeats count.
-pub const MAX_ENABLED: usize = 1000;
+// The most modules that a setup enables, where repeats count.
+const MAX_ENABLED: usize = 1000;
 
 /// The classes of a guard, and which modules may use native code. Contracts see what its text
 /// states.
@@ -70,26 +70,20 @@ impl Setup {
         ensures stated { IfOk result (λ setup. (tree : Members) × (parse_document text.now ≡ Some tree) × (tree_faults tree ≡ []) × (setup ≡ setup_stated tree)) }
         ensures refused { IfErr result (λ fault. fault ≢ SetupFault.NoMemory → IsFirstFault (text_faults_of (parse_document text.now)) fault) }
     {
-        match toml::table_from_str(alloc, text) {
-            Ok(table) => match Setup::from_tree(alloc, &table) {
-                Ok(setup) => Ok(setup),
-                Err(fault) => Err(fault),
-            },
-            Err(error) => {
-                if error.is_memory() {
-                    Err(SetupFault::NoMemory)
-                } else {
-                    Err(SetupFault::NotToml)
-                }
-            }
-        }
+        let table = match toml::table_from_str(alloc, text) {
+            Ok(table) => table,
+            Err(error) if error.is_memory() => return Err(SetupFault::NoMemory),
+            Err(_) => return Err(SetupFault::NotToml),
+        };
+        Setup::from_tree(alloc, &table)
     }
 
-    // The setup of a tree, or the first fault found in it.
+    // The setup of a tree, or the first fault found in it: a fault of shape or spelling, then
+    // something stated twice, then a list that is too long.
     fn from_tree(alloc: Global, table: &Table) -> Result<Setup, SetupFault>
-        ensures stated { IfOk result (λ s. s ≡ setup_stated (table_view table.now)) }
-        ensures clean { OnOk result (first_of (tree_faults (table_view table.now)) ≡ None) }
-        ensures first { IfErr result (λ f. f ≢ SetupFault.NoMemory → first_of (tree_faults (table_view table.now)) ≡ Some f) }
+        ensures stated { IfOk result (λ setup. setup ≡ setup_stated (table_view table.now)) }
+        ensures clean { OnOk result (tree_faults (table_view table.now) ≡ []) }
+        ensures refused { IfErr result (λ fault. fault ≢ SetupFault.NoMemory → IsFirstFault (tree_faults (table_view table.now)) fault) }
     {
         if let Some(fault) = shape_fault(table) {
             return Err(fault);

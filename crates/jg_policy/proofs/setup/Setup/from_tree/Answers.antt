@@ -1,29 +1,29 @@
 use Rattle.std.proofs.Common.{◌≡◌, ◌∙◌, sym, ap, map, string_bytes, true, false}
 use Rattle.toml.specs.View.{table_view}
 use Rattle.jg_policy.specs.Stated.{setup_stated, each_item, class_stated, text_item}
-use Rattle.jg_policy.specs.Findings.{states_twice}
+use Rattle.jg_policy.specs.Findings.{states_twice, tree_faults}
 use Rattle.jg_policy.specs.Kept.{class_view}
 use Rattle.jg_policy.proofs.Sizes.{large_kept}
-use Rattle.jg_policy.proofs.Trees.{shape_answers, repeat_answers, size_answers, clean_answers}
+use Rattle.jg_policy.proofs.Trees.{shape_answers, repeat_answers, size_answers, clean_answers, first_found, none_found}
 use Rattle.jg_policy.proofs.setup.Setup.from_tree.Goals as goal
 
-pub returns-in-Some-clause-first : goal.returns-in-Some-clause-first
-returns-in-Some-clause-first c _ = shape_answers (table_view c.args.table.now) _ (sym c.in-Some.ensures)
+pub returns-in-Some-clause-refused : goal.returns-in-Some-clause-refused
+returns-in-Some-clause-refused c _ = first_found (tree_faults (table_view c.args.table.now)) _ (shape_answers (table_view c.args.table.now) _ (sym c.in-Some.ensures))
 
-pub returns-in-Err-clause-first : goal.returns-in-Err-clause-first
-returns-in-Err-clause-first c other =
+pub returns-in-Err-clause-refused : goal.returns-in-Err-clause-refused
+returns-in-Err-clause-refused c other =
     let found = c.in-Err.ensures.repeated other in
     let twice : states_twice (setup_stated (table_view c.args.table.now)).classes ≡ true =
     ap (λ items. states_twice (each_item class_stated items)) (sym c.items_at.ensures) ∙ found.1 in
-    rw found.0 (repeat_answers (table_view c.args.table.now) (sym c.in_default.ensures) twice)
+    first_found (tree_faults (table_view c.args.table.now)) _ (rw found.0 (repeat_answers (table_view c.args.table.now) (sym c.in_default.ensures) twice))
 
-pub returns-then-is_too_large-clause-first : goal.returns-then-is_too_large-clause-first
-returns-then-is_too_large-clause-first c _ =
+pub returns-then-is_too_large-clause-refused : goal.returns-then-is_too_large-clause-refused
+returns-then-is_too_large-clause-refused c _ =
     let stated = setup_stated (table_view c.args.table.now) in
     let classes : map class_view c.in-Ok.classes.entries ≡ stated.classes = c.in-Ok.ensures.stated ∙ ap (each_item class_stated) c.items_at.ensures in
     let enabled : map string_bytes c.in-Ok-texts_from.enabled.items ≡ stated.enabled = c.in-Ok-texts_from.ensures ∙ ap (each_item text_item) c.items_at-2.ensures in
     let once : states_twice stated.classes ≡ false = ap states_twice (sym classes) ∙ c.in-Ok.ensures.distinct in
-    size_answers (table_view c.args.table.now) (sym c.in_default.ensures) once (sym (large_kept stated _ _ enabled classes) ∙ sym c.if-is_too_large.ensures)
+    first_found (tree_faults (table_view c.args.table.now)) _ (size_answers (table_view c.args.table.now) (sym c.in_default.ensures) once (sym (large_kept stated _ _ enabled classes) ∙ sym c.if-is_too_large.ensures))
 
 pub invariant_of-result : goal.invariant_of-result
 invariant_of-result c = sym c.if-is_too_large.ensures
@@ -34,4 +34,4 @@ returns-clause-clean c =
     let classes : map class_view c.in-Ok.classes.entries ≡ stated.classes = c.in-Ok.ensures.stated ∙ ap (each_item class_stated) c.items_at.ensures in
     let enabled : map string_bytes c.in-Ok-texts_from.enabled.items ≡ stated.enabled = c.in-Ok-texts_from.ensures ∙ ap (each_item text_item) c.items_at-2.ensures in
     let once : states_twice stated.classes ≡ false = ap states_twice (sym classes) ∙ c.in-Ok.ensures.distinct in
-    clean_answers (table_view c.args.table.now) (sym c.in_default.ensures) once (sym (large_kept stated _ _ enabled classes) ∙ sym c.if-is_too_large.ensures)
+    none_found (tree_faults (table_view c.args.table.now)) (clean_answers (table_view c.args.table.now) (sym c.in_default.ensures) once (sym (large_kept stated _ _ enabled classes) ∙ sym c.if-is_too_large.ensures))
