@@ -1,0 +1,44 @@
+use thiserror::Error;
+
+/// The greatest number that `--limit` and `--turns` take.
+pub const MAX_NUMBER: u32 = 1_000_000;
+
+/// Why the words of a command line ask for nothing.
+#[derive(Clone, Copy, Debug, PartialEq, Eq, Error)]
+pub enum ArgsFault {
+    /// The words ask for the text of `--help`.
+    #[error("help is asked for")]
+    Help,
+    /// The words are no command line of this program.
+    #[error("arguments refused")]
+    Refused,
+    /// Memory ran out while they were read.
+    #[error("arguments: no memory")]
+    NoMemory,
+}
+
+/// What the program is to do.
+#[derive(Clone, Copy, Debug, PartialEq, Eq)]
+pub enum Task<'a> {
+    /// Answers the script on standard input.
+    Check,
+    /// Tests the journal text on standard input.
+    Verify,
+    /// Plays the scripts of a file, each thread's lines by a worker.
+    Play(&'a str),
+}
+
+/// What the words ask for.
+#[derive(Clone, Copy, Debug, PartialEq, Eq)]
+pub struct Asked<'a> {
+    pub task: Task<'a>,
+    /// The file of `--setup`.
+    pub setup: Option<&'a str>,
+    /// The most calls that the guard journals: 0 to 1,000,000, and 1,000,000 where none is given.
+    pub limit: u32,
+    /// How often a worker tries to enter a busy monitor: 1 to 1,000,000, and 1,000 where none is
+    /// given.
+    pub turns: u32,
+    /// Whether what is left at the end is listed.
+    pub leaks: bool,
+}

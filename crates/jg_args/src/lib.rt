@@ -1,0 +1,12 @@
+//! The words of the command line of `jg`. The crate stands alone, since what it calls takes
+//! minutes to check.
+#![tactic(auto)]
+
+mod asked;
+mod words;
+
+pub use asked::{ArgsFault, Asked, MAX_NUMBER, Task};
+pub use words::{help_text, read_words};
+
+#[cfg(test)]
+mod tests;

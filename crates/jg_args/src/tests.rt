@@ -1,0 +1,75 @@
+use crate::{ArgsFault, Asked, Task, help_text, read_words};
+use std::test::Fail;
+
+const DEFAULTS: Asked<'static> = Asked {
+    task: Task::Check,
+    setup: None,
+    limit: 1_000_000,
+    turns: 1000,
+    leaks: false,
+};
+
+#[test]
+fn words_are_read(rt: HostRuntime) -> Result<(), Fail> {
+    assert_eq!(rt; read_words(rt.alloc(), &[]), Ok(DEFAULTS));
+    assert_eq!(rt; read_words(rt.alloc(), &["check"]), Ok(DEFAULTS));
+    let asked = Asked {
+        limit: 0,
+        setup: Some("app.toml"),
+        leaks: true,
+        ..DEFAULTS
+    };
+    let words = ["check", "--leaks", "--limit", "0", "--setup=app.toml"];
+    assert_eq!(rt; read_words(rt.alloc(), &words), Ok(asked));
+    let asked = Asked {
+        task: Task::Verify,
+        ..DEFAULTS
+    };
+    assert_eq!(rt;
+        read_words(rt.alloc(), &["verify", "--limit", "1000000"]),
+        Ok(asked)
+    );
+    let asked = Asked {
+        task: Task::Play("two"),
+        turns: 1,
+        ..DEFAULTS
+    };
+    assert_eq!(rt;
+        read_words(rt.alloc(), &["play", "--turns", "1", "two"]),
+        Ok(asked)
+    );
+    Ok(())
+}
+
+#[test]
+fn words_are_refused(rt: HostRuntime) -> Result<(), Fail> {
+    let refused: [&[&str]; 13] = [
+        &["fly"],
+        &["--fly"],
+        &["--limit"],
+        &["--limit", "1000001"],
+        &["--limit", "-1"],
+        &["--limit", "many"],
+        &["--limit", "1", "--limit", "1"],
+        &["--limit", "1", "check"],
+        &["--leaks", "verify"],
+        &["verify", "--leaks"],
+        &["play"],
+        &["play", "two", "--turns", "0"],
+        &["--turns", "5"],
+    ];
+    for words in refused {
+        assert_eq!(rt;
+            read_words(rt.alloc(), words),
+            Err(ArgsFault::Refused),
+            "at {words:?}"
+        );
+    }
+    assert_eq!(rt; read_words(rt.alloc(), &["--help"]), Err(ArgsFault::Help));
+    assert_eq!(rt;
+        read_words(rt.alloc(), &["check", "--help"]),
+        Err(ArgsFault::Help)
+    );
+    assert!(rt; !help_text(rt.alloc())?.is_empty());
+    Ok(())
+}

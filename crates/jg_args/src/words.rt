@@ -1,0 +1,150 @@
+//! The words after the program's name, by `clap`. What the program can't do yet is read here all
+//! the same, refused where it runs, and left out of the help.
+
+ghost use Rattle.std.specs.Prelude.{◌≤◌, IfOk};
+
+use crate::asked::{ArgsFault, Asked, MAX_NUMBER, Task};
+use clap::error::ErrorKind;
+use clap::{Arg, ArgAction, ArgMatches, Command, value_parser};
+use std::alloc::{AllocError, Global};
+
+const DEFAULT_TURNS: u32 = 1000;
+
+fn setup_arg<'a>(alloc: Global) -> Arg<'a> {
+    Arg::new(alloc, "setup")
+        .long("setup")
+        .value_name("FILE")
+        .help("reads the setup from FILE")
+        .hide(true)
+}
+
+fn limit_arg<'a>(alloc: Global) -> Arg<'a> {
+    Arg::new(alloc, "limit")
+        .long("limit")
+        .value_name("N")
+        .value_parser(value_parser!(u32))
+        .help("journals at most N calls, 0 to 1000000 [default: 1000000]")
+}
+
+fn turns_arg<'a>(alloc: Global) -> Arg<'a> {
+    Arg::new(alloc, "turns")
+        .long("turns")
+        .value_name("N")
+        .value_parser(value_parser!(u32))
+        .help("tries a busy monitor at most N times, 1 to 1000000 [default: 1000]")
+}
+
+fn leaks_arg<'a>(alloc: Global) -> Arg<'a> {
+    Arg::new(alloc, "leaks")
+        .long("leaks")
+        .action(ArgAction::SetTrue)
+        .help("lists what is left at the end")
+        .hide(true)
+}
+
+/// The command line of `jg`.
+fn command<'a>(alloc: Global) -> Result<Command<'a>, AllocError> {
+    let check = Command::new(alloc, "check")
+        .about("answers the script on standard input with its journal")
+        .arg(setup_arg(alloc))?
+        .arg(limit_arg(alloc))?
+        .arg(leaks_arg(alloc))?;
+    let verify = Command::new(alloc, "verify")
+        .about("tests the journal on standard input")
+        .hide(true)
+        .arg(setup_arg(alloc))?
+        .arg(limit_arg(alloc))?;
+    let play = Command::new(alloc, "play")
+        .about("plays the scripts of FILE, each thread's lines by a worker")
+        .hide(true)
+        .arg(Arg::new(alloc, "file").value_name("FILE").required(true))?
+        .arg(setup_arg(alloc))?
+        .arg(limit_arg(alloc))?
+        .arg(turns_arg(alloc))?;
+    Command::new(alloc, "jg")
+        .about("A guard for the Java Native Interface. Without a command it is `check`.")
+        .disable_help_subcommand(true)
+        .arg(setup_arg(alloc))?
+        .arg(limit_arg(alloc))?
+        .arg(leaks_arg(alloc))?
+        .subcommand(check)?
+        .subcommand(verify)?
+        .subcommand(play)
+}
+
+/// The text of `--help`.
+pub fn help_text(alloc: Global) -> Result<String, AllocError> {
+    let mut command = command(alloc)?;
+    command.render_help()
+}
+
+/// The number of an option within its range, or what stands for none.
+fn number(matches: &ArgMatches<'_>, id: &str, least: u32, default: u32) -> Result<u32, ArgsFault>
+    requires low { least ≤ default }
+    requires high { default ≤ 1000000 }
+    ensures { IfOk result (λ n. (least ≤ n) × (n ≤ 1000000)) }
+{
+    if !matches.contains_id(id) {
+        return Ok(default);
+    }
+    match matches.get_one::<u32>(id) {
+        Some(n) if least <= n && n <= MAX_NUMBER => Ok(n),
+        _ => Err(ArgsFault::Refused),
+    }
+}
+
+fn make_asked<'a>(task: Task<'a>, matches: &ArgMatches<'a>) -> Result<Asked<'a>, ArgsFault>
+    ensures limit { IfOk result (λ asked. asked.limit ≤ 1000000) }
+    ensures turns { IfOk result (λ asked. (1 ≤ asked.turns) × (asked.turns ≤ 1000000)) }
+{
+    Ok(Asked {
+        task,
+        setup: matches.get_str("setup"),
+        limit: number(matches, "limit", 0, MAX_NUMBER)?,
+        turns: number(matches, "turns", 1, DEFAULT_TURNS)?,
+        leaks: matches.get_flag("leaks"),
+    })
+}
+
+fn has_options(matches: &ArgMatches<'_>) -> bool {
+    matches.contains_id("setup") || matches.contains_id("limit") || matches.get_flag("leaks")
+}
+
+fn fault_of(kind: ErrorKind) -> ArgsFault {
+    match kind {
+        ErrorKind::DisplayHelp => ArgsFault::Help,
+        ErrorKind::OutOfMemory => ArgsFault::NoMemory,
+        _ => ArgsFault::Refused,
+    }
+}
+
+/// What the words after the program's name ask for. An option before the command's word is
+/// refused.
+pub fn read_words<'a>(alloc: Global, words: &'a [&'a str]) -> Result<Asked<'a>, ArgsFault>
+    ensures limit { IfOk result (λ asked. asked.limit ≤ 1000000) }
+    ensures turns { IfOk result (λ asked. (1 ≤ asked.turns) × (asked.turns ≤ 1000000)) }
+{
+    let Ok(command) = command(alloc) else {
+        return Err(ArgsFault::NoMemory);
+    };
+    let matches = match command.no_binary_name(true).try_get_matches_from(words) {
+        Ok(matches) => matches,
+        Err(error) => return Err(fault_of(error.kind())),
+    };
+    match matches.subcommand() {
+        None => make_asked(Task::Check, &matches),
+        Some((name, inner)) => {
+            if has_options(&matches) {
+                return Err(ArgsFault::Refused);
+            }
+            match name {
+                "verify" => make_asked(Task::Verify, inner),
+                "play" => match inner.get_str("file") {
+                    Some(file) => make_asked(Task::Play(file), inner),
+                    None => Err(ArgsFault::Refused),
+                },
+                _ => make_asked(Task::Check, inner),
+            }
+        }
+    }
+}

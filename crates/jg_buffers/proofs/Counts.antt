@@ -1,0 +1,95 @@
+-- The counts of the pinned buffers, from one call to the next.
+use Rattle.std.proofs.Common.{◌≡◌, ℕ, ◌+◌, ◌-◌, ◌≤◌, length, Bool, true, false, List, Some, None, refl, ◌∙◌, ap, arith, eqb-true}
+use Rattle.std.specs.Prelude.{◌==◌, ◌&&◌, if◌then◌else◌}
+use Rattle.std.specs.Map.{lookup, remove_entry}
+use Rattle.std.specs.BTreeMap.{BTreeMap, get, is_at, insert_entry}
+use Rattle.std.specs.Ordering.{nat_cmp}
+use Rattle.std.proofs.lemmas.Bool.Decides.{nat_tests}
+use Rattle.jg_words.specs.declared.thread.Tid.{Tid}
+use Rattle.jg_words.specs.declared.reference.Ref.{Ref}
+use Rattle.jg_words.specs.declared.reference.Ref.TheVariants.{Null, To}
+use Rattle.jg_words.specs.declared.reference.Kind.{Kind}
+use Rattle.jg_words.specs.declared.reference.Kind.TheVariants.{Local, Global, Weak}
+use Rattle.jg_buffers.specs.declared.pinned.Pinned.{Pinned}
+use Rattle.jg_buffers.specs.History.{same_ref}
+use Rattle.jg_buffers.specs.Keys.{pair_cmp, triple_cmp}
+use Rattle.jg_buffers.specs.Seen.{key_of, count_at}
+use Rattle.jg_buffers.specs.Tallies.{how_many, Counted}
+use Rattle.jg_buffers.proofs.Maps.{at_number, at_key, how_many-insert, how_many-remove, counted_below}
+
+-- equal counts count the same
+pub counts_same : (pins : List ((ℕ × ℕ) × Pinned)) (makers makers' : BTreeMap ℕ ℕ) (vias vias' : BTreeMap (ℕ × ℕ × ℕ) ℕ) → Counted pins makers vias
+    → ((q : ℕ) → count_at (get nat_cmp makers' q) ≡ count_at (get nat_cmp makers q)) → ((q : ℕ × ℕ × ℕ) → count_at (get triple_cmp vias' q) ≡ count_at (get triple_cmp vias q)) → Counted pins makers' vias'
+counts_same pins makers makers' vias vias' was same alike = record {
+  by_maker = λ t. same t ∙ was.by_maker t;
+  by_via = λ r. alike (key_of r) ∙ was.by_via r;
+}
+
+-- the count of a thread fits
+pub maker_below : (pins : List ((ℕ × ℕ) × Pinned)) (makers : BTreeMap ℕ ℕ) (vias : BTreeMap (ℕ × ℕ × ℕ) ℕ) (t : ℕ) → Counted pins makers vias → count_at (get nat_cmp makers t) ≤ length pins
+maker_below pins makers vias t was =
+    let is = was.by_maker t in
+    let below = counted_below (λ e. e.0.0 == t) pins in
+    omega (arith, is, below)
+
+pub via_below : (pins : List ((ℕ × ℕ) × Pinned)) (makers : BTreeMap ℕ ℕ) (vias : BTreeMap (ℕ × ℕ × ℕ) ℕ) (r : Ref) → Counted pins makers vias → count_at (get triple_cmp vias (key_of r)) ≤ length pins
+via_below pins makers vias r was =
+    let is = was.by_via r in
+    let below = counted_below (λ e. same_ref e.1.via r) pins in
+    omega (arith, is, below)
+
+to_is : (k : Kind) (m i : Tid) (n o : ℕ) → (m.0 == i.0) && (n == o) ≡ true → To k m n ≡ To k i o
+to_is k m i n o is =
+    let maker : m.0 ≡ i.0 = grind (arith, nat_tests) in
+    let number : n ≡ o = grind (arith, nat_tests) in
+    ap (λ t. To k (record { 0 = t }) n) maker ∙ ap (λ j. To k i j) number
+
+pub same_ref_is : (r s : Ref) → same_ref r s ≡ true → r ≡ s
+same_ref_is Null Null is = refl
+same_ref_is Null (To k m n) is = cc
+same_ref_is (To k m n) Null is = cc
+same_ref_is (To Local m n) (To Local i o) is = to_is Local m i n o is
+same_ref_is (To Local m n) (To Global i o) is = cc
+same_ref_is (To Local m n) (To Weak i o) is = cc
+same_ref_is (To Global m n) (To Local i o) is = cc
+same_ref_is (To Global m n) (To Global i o) is = to_is Global m i n o is
+same_ref_is (To Global m n) (To Weak i o) is = cc
+same_ref_is (To Weak m n) (To Local i o) is = cc
+same_ref_is (To Weak m n) (To Global i o) is = cc
+same_ref_is (To Weak m n) (To Weak i o) is = to_is Weak m i n o is
+
+raise_by : (a b : ℕ) (same : Bool) → (same ≡ true → a ≡ b) → (if same then a + 1 else b) ≡ (if same then b + 1 else b)
+raise_by a b true alike = ap (λ n. n + 1) (alike refl)
+raise_by a b false alike = refl
+
+lower_by : (a b new : ℕ) (same : Bool) → (same ≡ true → a ≡ b) → b ≡ (if same then new + 1 else new) → (if same then a - 1 else b) ≡ new
+lower_by a b new true alike is =
+    let was : a ≡ b = alike refl in
+    omega (arith, was, is)
+lower_by a b new false alike is = is
+
+-- one more pinned buffer
+pub counts_raised : (pins : List ((ℕ × ℕ) × Pinned)) (makers makers' : BTreeMap ℕ ℕ) (vias vias' : BTreeMap (ℕ × ℕ × ℕ) ℕ) (t n : ℕ) (w : Pinned) → Counted pins makers vias
+    → lookup (is_at (pair_cmp (t, n))) pins ≡ None
+    → ((q : ℕ) → count_at (get nat_cmp makers' q) ≡ (if is_at (nat_cmp t) q then count_at (get nat_cmp makers t) + 1 else count_at (get nat_cmp makers q)))
+    → ((q : ℕ × ℕ × ℕ) → count_at (get triple_cmp vias' q) ≡ (if is_at (triple_cmp (key_of w.via)) q then count_at (get triple_cmp vias (key_of w.via)) + 1 else count_at (get triple_cmp vias q)))
+    → Counted (insert_entry pair_cmp pins (t, n) w) makers' vias'
+counts_raised pins makers makers' vias vias' t n w was none maker via = record {
+  by_maker = λ q. maker q ∙ rw (at_number t q, was.by_maker t, was.by_maker q, how_many-insert (λ e. e.0.0 == q) (t, n) w pins none)
+      (raise_by (how_many (λ e. e.0.0 == t) pins) (how_many (λ e. e.0.0 == q) pins) (t == q) (λ is. ap (λ u. how_many (λ e. e.0.0 == u) pins) (eqb-true t q is)));
+  by_via = λ r. via (key_of r) ∙ rw (at_key w.via r, was.by_via w.via, was.by_via r, how_many-insert (λ e. same_ref e.1.via r) (t, n) w pins none)
+      (raise_by (how_many (λ e. same_ref e.1.via w.via) pins) (how_many (λ e. same_ref e.1.via r) pins) (same_ref w.via r) (λ is. ap (λ u. how_many (λ e. same_ref e.1.via u) pins) (same_ref_is w.via r is)));
+}
+
+-- one pinned buffer less
+pub counts_lowered : (pins : List ((ℕ × ℕ) × Pinned)) (makers makers' : BTreeMap ℕ ℕ) (vias vias' : BTreeMap (ℕ × ℕ × ℕ) ℕ) (t n : ℕ) (w : Pinned) → Counted pins makers vias
+    → lookup (is_at (pair_cmp (t, n))) pins ≡ Some w
+    → ((q : ℕ) → count_at (get nat_cmp makers' q) ≡ (if is_at (nat_cmp t) q then count_at (get nat_cmp makers t) - 1 else count_at (get nat_cmp makers q)))
+    → ((q : ℕ × ℕ × ℕ) → count_at (get triple_cmp vias' q) ≡ (if is_at (triple_cmp (key_of w.via)) q then count_at (get triple_cmp vias (key_of w.via)) - 1 else count_at (get triple_cmp vias q)))
+    → Counted (remove_entry (is_at (pair_cmp (t, n))) pins) makers' vias'
+counts_lowered pins makers makers' vias vias' t n w was found maker via = record {
+  by_maker = λ q. maker q ∙ rw (at_number t q, was.by_maker t, was.by_maker q)
+      (lower_by (how_many (λ e. e.0.0 == t) pins) (how_many (λ e. e.0.0 == q) pins) _ (t == q) (λ is. ap (λ u. how_many (λ e. e.0.0 == u) pins) (eqb-true t q is)) (how_many-remove (λ e. e.0.0 == q) t n w pins found));
+  by_via = λ r. via (key_of r) ∙ rw (at_key w.via r, was.by_via w.via, was.by_via r)
+      (lower_by (how_many (λ e. same_ref e.1.via w.via) pins) (how_many (λ e. same_ref e.1.via r) pins) _ (same_ref w.via r) (λ is. ap (λ u. how_many (λ e. same_ref e.1.via u) pins) (same_ref_is w.via r is)) (how_many-remove (λ e. same_ref e.1.via r) t n w pins found));
+}

@@ -1,0 +1,9 @@
+pub mod Calls
+pub mod Counts
+pub mod Lists
+pub mod Lookups
+pub mod Maps
+pub mod Means
+pub mod Numbers
+pub mod Pins
+pub mod Steps

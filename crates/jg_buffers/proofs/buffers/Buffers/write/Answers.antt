@@ -1,0 +1,22 @@
+use Rattle.std.proofs.Common.{◌≡◌, ◌<◌, rules, sym, subst}
+use Rattle.jg_buffers.specs.Rows.{Rows, row_of, copy_length}
+use Rattle.jg_buffers.specs.Standing.{Stands}
+use Rattle.jg_buffers.proofs.Lookups.{reopened, above_in}
+use Rattle.jg_buffers.proofs.Calls.{seen, write_law, written_numbers}
+use mir.Syntax.{w64}
+use mir.Val.{to_z, of_z}
+use Rattle.jg_buffers.proofs.buffers.Buffers.write.Goals as goal
+
+-- the item is written
+pub returns-clause-stands : goal.returns-clause-stands
+returns-clause-stands g c = λ e stands.
+    let was : Stands (seen c.self.inside.copies.entries c.self.inside.pins.entries) e = reopened _ _ e c.self.view_is stands in
+    let P : Rows → Type 0 = λ r. c.args.index < copy_length (row_of c.args.buf.maker.0 c.args.buf.n r) in
+    let within : c.args.index < copy_length (row_of c.args.buf.maker.0 c.args.buf.n (seen c.self.inside.copies.entries c.self.inside.pins.entries)) = subst P (sym c.self.view_is) c.requires in
+    let plain : to_z w64 (of_z w64 c.args.value) ≡ c.args.value = search rules in
+    write_law c.self.inside.copies.entries c.set_item.new.map.entries c.self.inside.pins.entries e c.args.buf.maker.0 c.args.buf.n c.args.index c.args.value was within c.set_item.ensures.ordered (λ q. rw plain at (c.set_item.ensures.set q))
+
+-- the numbers stay
+pub returns-clause-numbers : goal.returns-clause-numbers
+returns-clause-numbers g c = λ k i above.
+    written_numbers c.self.inside.copies.entries c.set_item.new.map.entries c.self.inside.pins.entries c.args.buf.maker.0 c.args.buf.n c.args.index _ c.set_item.ensures.set k i (above_in _ _ k i c.self.view_is above)

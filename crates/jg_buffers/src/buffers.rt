@@ -1,0 +1,224 @@
+ghost use Rattle.std.specs.Prelude.{◌≡◌, ℕ, ℤ, pos, true, false, ◌<◌, ◌||◌, List, [], ◌∷◌, length, OnOk, OnErr, option_map, slice_get, slice_index_or};
+ghost use Rattle.jg_buffers.specs.History.{Event, Opened, Wrote, Closed, is_critical, copy_with, pin_through, opened, content, contents, in_critical, pinned_by, pins_object, info_of};
+ghost use Rattle.jg_buffers.specs.Rows.{AddsNumber, IsAbove, KeepsNumbers, row_of, copy_length, items_in};
+ghost use Rattle.jg_buffers.specs.Standing.{Stands};
+
+use crate::copied::{Copied, copy_kind, family_of_copy, item_at, set_item};
+use crate::family::Family;
+use crate::info::Info;
+use crate::pinned::{Pinned, ViaKey, family_of_pin, mark_objects, names_object, pin_kind, via_key};
+use crate::tally::{count_of, lower, make_room, raise};
+use jg_words::{BufId, ObjId, Ref, Tid};
+use std::alloc::{AllocError, Allocator, Global};
+use std::collections::BTreeMap;
+use std::marker::Model;
+
+/// The open buffers. Contracts see the rows. Copies and pinned buffers are kept apart, and the
+/// pinned ones are counted by thread and by reference, so that no look-up goes over all of them.
+#[derive(Drop)]
+pub struct Buffers<A: Allocator = Global> {
+    copies: BTreeMap<(u16, u64), Copied<A>, A>,
+    pins: BTreeMap<(u16, u64), Pinned, A>,
+    makers: BTreeMap<u16, u64, A>,
+    vias: BTreeMap<ViaKey, u64, A>,
+    alloc: A,
+}
+
+impl<A: Allocator> Model for Buffers<A> {
+    ghost use Rattle.std.specs.Prelude.{◌++◌, map};
+    ghost use Rattle.jg_buffers.specs.Rows.{Rows};
+    ghost use Rattle.jg_buffers.specs.Seen.{copy_seen, pin_seen};
+    ghost use Rattle.jg_buffers.specs.Tallies.{Counted};
+
+    ghost Value = { Rows };
+
+    ghost view = { λ a. record { lent = map copy_seen a.copies.entries ++ map pin_seen a.pins.entries } };
+
+    ghost invariant = { λ a. Counted a.pins.entries a.makers a.vias };
+}
+
+impl<A: Allocator + Clone> Buffers<A> {
+    /// No buffer is open. Takes no memory; the four maps grow from the first four handles, and the
+    /// items of copies from clones of the last.
+    pub fn new(copies: A, pins: A, makers: A, vias: A, alloc: A) -> Buffers<A>
+        ensures stands { Stands result [] }
+        ensures numbers { (k i : ℕ) → IsAbove k i result }
+    {
+        Buffers {
+            copies: BTreeMap::new(copies),
+            pins: BTreeMap::new(pins),
+            makers: BTreeMap::new(makers),
+            vias: BTreeMap::new(vias),
+            alloc,
+        }
+    }
+
+    /// Opens buffer `n` of the thread, a copy with these items (chapter 4,
+    /// `Get<PrimitiveType>ArrayElements`, `GetStringChars` and `GetStringUTFChars`). Fails only for
+    /// want of memory, and then leaves all unchanged.
+    pub fn open_copy(
+        &mut self,
+        tid: Tid,
+        n: u64,
+        object: ObjId,
+        family: Family,
+        items: &[i64],
+    ) -> Result<(), AllocError>
+        requires above { IsAbove tid.0 n self.old }
+        requires copies { is_critical family ≡ false }
+        ensures ok { OnOk result ((e : List Event) → Stands self.old e → Stands self.new (Opened (copy_with tid.0 n object.0 family items.now) ∷ e)) }
+        ensures err { OnErr result (self.new ≡ self.old) }
+        ensures numbers { AddsNumber tid.0 n self.old self.new }
+    {
+        let items = Vec::from_slice(self.alloc.clone()?, items)?;
+        self.copies.insert(
+            (tid.0, n),
+            Copied {
+                object: object.0,
+                kind: copy_kind(family),
+                items,
+            },
+        )?;
+        Ok(())
+    }
+
+    /// Opens buffer `n` of the thread, a pinned one of `length` items through the reference, and
+    /// with it a critical region (chapter 4, `GetPrimitiveArrayCritical` and `GetStringCritical`).
+    /// Fails only for want of memory, and then leaves all unchanged.
+    pub fn open_pin(
+        &mut self,
+        tid: Tid,
+        n: u64,
+        object: ObjId,
+        family: Family,
+        via: Ref,
+        length: u64,
+    ) -> Result<(), AllocError>
+        requires above { IsAbove tid.0 n self.old }
+        requires pins { is_critical family ≡ true }
+        ensures ok { OnOk result ((e : List Event) → Stands self.old e → Stands self.new (Opened (pin_through tid.0 n object.0 family via length) ∷ e)) }
+        ensures err { OnErr result (self.new ≡ self.old) }
+        ensures numbers { AddsNumber tid.0 n self.old self.new }
+    {
+        let key = via_key(via);
+        make_room(&mut self.makers, tid.0)?;
+        make_room(&mut self.vias, key)?;
+        let _fewer = self.pins.len();
+        self.pins.insert(
+            (tid.0, n),
+            Pinned {
+                object: object.0,
+                kind: pin_kind(family),
+                via,
+                length,
+            },
+        )?;
+        raise(&mut self.makers, &tid.0);
+        raise(&mut self.vias, &key);
+        Ok(())
+    }
+
+    /// What the buffer is, where it is open.
+    pub fn find(&self, buf: BufId) -> Option<Info>
+        ensures row { result ≡ option_map info_of (row_of buf.maker.0 buf.n self.now) }
+        ensures stands { (e : List Event) → Stands self.now e → result ≡ option_map info_of (opened e buf.maker.0 buf.n) }
+    {
+        if let Some(copy) = self.copies.get(&(buf.maker.0, buf.n)) {
+            return Some(Info {
+                maker: buf.maker,
+                object: ObjId(copy.object),
+                family: family_of_copy(copy.kind),
+                via: Ref::Null,
+                length: copy.items.as_slice().len() as u64,
+            });
+        }
+        match self.pins.get(&(buf.maker.0, buf.n)) {
+            None => None,
+            Some(pin) => Some(Info {
+                maker: buf.maker,
+                object: ObjId(pin.object),
+                family: family_of_pin(pin.kind),
+                via: pin.via,
+                length: pin.length,
+            }),
+        }
+    }
+
+    /// The item of an open copy.
+    pub fn read(&self, buf: BufId, index: u64) -> i64
+        requires { index < copy_length (row_of buf.maker.0 buf.n self.now) }
+        ensures row { result ≡ slice_index_or (items_in (row_of buf.maker.0 buf.n self.now)) index (pos 0) }
+        ensures stands { (e : List Event) → Stands self.now e → result ≡ content e buf.maker.0 buf.n index }
+    {
+        item_at(self.commit(buf), index as usize)
+    }
+
+    /// Writes the item of an open copy. The object that it was copied from keeps its own.
+    pub fn write(&mut self, buf: BufId, index: u64, value: i64)
+        requires { index < copy_length (row_of buf.maker.0 buf.n self.old) }
+        ensures stands { (e : List Event) → Stands self.old e → Stands self.new (Wrote buf.maker.0 buf.n index value ∷ e) }
+        ensures numbers { KeepsNumbers self.old self.new }
+    {
+        set_item(
+            &mut self.copies,
+            (buf.maker.0, buf.n),
+            index as usize,
+            value,
+        );
+    }
+
+    /// Lends the items of an open copy as they are now, to be written back into its object; none
+    /// for any other buffer. The copy stays open (chapter 4, `JNI_COMMIT`).
+    pub fn commit(&self, buf: BufId) -> &[i64]
+        ensures row { result.now ≡ items_in (row_of buf.maker.0 buf.n self.now) }
+        ensures length { length result.now ≡ copy_length (row_of buf.maker.0 buf.n self.now) }
+        ensures stands { (e : List Event) → Stands self.now e → result.now ≡ contents e buf.maker.0 buf.n }
+    {
+        match self.copies.get(&(buf.maker.0, buf.n)) {
+            Some(copy) => copy.items.as_slice(),
+            None => &[],
+        }
+    }
+
+    /// Closes the buffer, if it is open. With the last pinned buffer of its thread that thread's
+    /// critical region ends.
+    pub fn close(&mut self, buf: BufId)
+        ensures stands { (e : List Event) → Stands self.old e → Stands self.new (Closed buf.maker.0 buf.n ∷ e) }
+        ensures numbers { KeepsNumbers self.old self.new }
+    {
+        self.copies.remove(&(buf.maker.0, buf.n));
+        if let Some(pin) = self.pins.remove(&(buf.maker.0, buf.n)) {
+            lower(&mut self.makers, &buf.maker.0);
+            lower(&mut self.vias, &via_key(pin.via));
+        }
+    }
+
+    /// Whether the thread is in a critical region: a pinned buffer that it was lent is open.
+    pub fn in_critical(&self, tid: Tid) -> bool
+        ensures { (e : List Event) → Stands self.now e → result ≡ in_critical e tid.0 }
+    {
+        count_of(&self.makers, &tid.0) > 0
+    }
+
+    /// Whether a pinned buffer that was opened through the reference is open.
+    pub fn pinned_by(&self, reference: Ref) -> bool
+        ensures { (e : List Event) → Stands self.now e → result ≡ pinned_by e reference }
+    {
+        count_of(&self.vias, &via_key(reference)) > 0
+    }
+
+    /// Whether a pinned buffer of the object is open. Copies don't hold their object.
+    pub fn pins_object(&self, object: ObjId) -> bool
+        ensures { (e : List Event) → Stands self.now e → result ≡ pins_object e object.0 }
+    {
+        names_object(&self.pins, object.0)
+    }
+
+    /// Sets the mark of each object of which a pinned buffer is open and leaves the other marks. An
+    /// object past the end of `marks` is passed over.
+    pub fn mark_held(&self, marks: &mut [bool])
+        ensures { (e : List Event) → Stands self.now e → (o : ℕ) → slice_get marks.new o ≡ option_map (λ mark. mark || pins_object e o) (slice_get marks.old o) }
+    {
+        mark_objects(&self.pins, marks);
+    }
+}

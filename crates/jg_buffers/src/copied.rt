@@ -1,0 +1,73 @@
+ghost use Rattle.std.specs.Prelude.{◌≡◌, ◌<◌, ℕ, pos, false, if◌then◌else◌, length, slice_index_or};
+ghost use Rattle.jg_buffers.specs.History.{is_critical};
+ghost use Rattle.jg_buffers.specs.Seen.{copy_family, copy_at, copy_item_set};
+ghost use Rattle.std.specs.BTreeMap.{get, IsOrdered};
+ghost use Rattle.jg_buffers.specs.Keys.{pair_cmp, same_pair};
+
+use crate::family::Family;
+use jg_words::Primitive;
+use std::alloc::{Allocator, Global};
+use std::collections::BTreeMap;
+
+/// The families that copy.
+#[derive(Clone, Copy, Debug, PartialEq, Eq)]
+pub enum CopyKind {
+    Elements(Primitive),
+    Chars,
+    UtfChars,
+}
+
+/// An open copy: its object, its family, and its items as they are now.
+#[derive(Drop)]
+pub struct Copied<A: Allocator = Global> {
+    pub object: u64,
+    pub kind: CopyKind,
+    pub items: Vec<i64, A>,
+}
+
+pub fn copy_kind(family: Family) -> CopyKind
+    requires { is_critical family ≡ false }
+    ensures { copy_family result ≡ family }
+{
+    match family {
+        Family::Elements(primitive) => CopyKind::Elements(primitive),
+        Family::Chars => CopyKind::Chars,
+        Family::UtfChars => CopyKind::UtfChars,
+        Family::ArrayCritical => unreachable!(),
+        Family::StringCritical => unreachable!(),
+    }
+}
+
+pub fn family_of_copy(kind: CopyKind) -> Family
+    ensures { result ≡ copy_family kind }
+{
+    match kind {
+        CopyKind::Elements(primitive) => Family::Elements(primitive),
+        CopyKind::Chars => Family::Chars,
+        CopyKind::UtfChars => Family::UtfChars,
+    }
+}
+
+/// Writes an item of the copy, if it is there.
+pub fn set_item<A: Allocator>(
+    map: &mut BTreeMap<(u16, u64), Copied<A>, A>,
+    key: (u16, u64),
+    index: usize,
+    value: i64,
+)
+    ensures ordered { IsOrdered pair_cmp map.new }
+    ensures set { (q : ℕ × ℕ) → copy_at q (get pair_cmp map.new q) ≡ (if same_pair key q then copy_item_set index value (copy_at q (get pair_cmp map.old q)) else copy_at q (get pair_cmp map.old q)) }
+{
+    if let Some(copy) = map.get_mut(&key) {
+        if index < copy.items.len() {
+            copy.items[index] = value;
+        }
+    }
+}
+
+pub fn item_at(items: &[i64], index: usize) -> i64
+    requires { index < length items.now }
+    ensures { result ≡ slice_index_or items.now index (pos 0) }
+{
+    items[index]
+}

@@ -1,0 +1,13 @@
+use jg_words::Primitive;
+
+/// The functions that open a buffer, and that alone may release it: `Get<Type>ArrayElements`,
+/// `GetStringChars` and `GetStringUTFChars` copy; `GetPrimitiveArrayCritical` and
+/// `GetStringCritical` pin.
+#[derive(Clone, Copy, Debug, PartialEq, Eq)]
+pub enum Family {
+    Elements(Primitive),
+    Chars,
+    UtfChars,
+    ArrayCritical,
+    StringCritical,
+}

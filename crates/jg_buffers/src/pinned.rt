@@ -1,0 +1,87 @@
+ghost use Rattle.std.specs.Prelude.{◌≡◌, ℕ, true, ◌==◌, ◌||◌, option_map, slice_get, slice_set};
+ghost use Rattle.std.specs.BTreeMap.{values};
+ghost use Rattle.std.specs.List.{list_any};
+ghost use Rattle.jg_buffers.specs.History.{is_critical};
+ghost use Rattle.jg_buffers.specs.Seen.{pin_family, key_of};
+
+use crate::family::Family;
+use jg_words::{Kind, Ref};
+use std::alloc::Allocator;
+use std::collections::BTreeMap;
+
+/// The families that pin.
+#[derive(Clone, Copy, Debug, PartialEq, Eq)]
+pub enum PinKind {
+    Array,
+    String,
+}
+
+/// An open pinned buffer.
+#[derive(Clone, Copy, Debug, PartialEq, Eq)]
+pub struct Pinned {
+    pub object: u64,
+    pub kind: PinKind,
+    pub via: Ref,
+    pub length: u64,
+}
+
+/// A reference as the key of a map: null, then the local ones, the global ones and the weak ones.
+pub type ViaKey = (u8, u16, u64);
+
+pub fn pin_kind(family: Family) -> PinKind
+    requires { is_critical family ≡ true }
+    ensures { pin_family result ≡ family }
+{
+    match family {
+        Family::Elements(_) => unreachable!(),
+        Family::Chars => unreachable!(),
+        Family::UtfChars => unreachable!(),
+        Family::ArrayCritical => PinKind::Array,
+        Family::StringCritical => PinKind::String,
+    }
+}
+
+pub fn family_of_pin(kind: PinKind) -> Family
+    ensures { result ≡ pin_family kind }
+{
+    match kind {
+        PinKind::Array => Family::ArrayCritical,
+        PinKind::String => Family::StringCritical,
+    }
+}
+
+pub fn via_key(via: Ref) -> ViaKey
+    ensures { result ≡ key_of via }
+{
+    match via {
+        Ref::Null => (0, 0, 0),
+        Ref::To { kind, maker, n } => match kind {
+            Kind::Local => (1, maker.0, n),
+            Kind::Global => (2, maker.0, n),
+            Kind::Weak => (3, maker.0, n),
+        },
+    }
+}
+
+pub fn names_object<A: Allocator>(pins: &BTreeMap<(u16, u64), Pinned, A>, object: u64) -> bool
+    ensures { result ≡ list_any (λ w. w.object == object) (values pins.now) }
+{
+    pins.values().any(|pin| pin.object == object)
+}
+
+pub fn mark_objects<A: Allocator>(pins: &BTreeMap<(u16, u64), Pinned, A>, marks: &mut [bool])
+    ensures { (o : ℕ) → slice_get marks.new o ≡ option_map (λ mark. mark || list_any (λ w. w.object == o) (values pins.now)) (slice_get marks.old o) }
+{
+    for pin in pins.values() {
+        mark(marks, pin.object);
+    }
+}
+
+fn mark(marks: &mut [bool], object: u64)
+    ensures { marks.new ≡ slice_set marks.old object true }
+{
+    let index = object as usize;
+    if index < marks.len() {
+        marks[index] = true;
+    }
+}

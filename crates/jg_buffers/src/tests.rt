@@ -1,0 +1,127 @@
+use crate::{Buffers, Family, Info};
+use jg_words::{BufId, Kind, ObjId, Primitive, Ref, Tid};
+use linked_list_allocator::LocalHeap;
+use std::process::Abort;
+use std::test::Fail;
+
+const T1: Tid = Tid(1);
+
+const T2: Tid = Tid(2);
+
+const ARRAY: ObjId = ObjId(15);
+
+const INTS: Family = Family::Elements(Primitive::Int);
+
+fn buffer(maker: Tid, n: u64) -> BufId {
+    BufId { maker, n }
+}
+
+fn global(maker: Tid, n: u64) -> Ref {
+    Ref::To {
+        kind: Kind::Global,
+        maker,
+        n,
+    }
+}
+
+fn weak(maker: Tid, n: u64) -> Ref {
+    Ref::To {
+        kind: Kind::Weak,
+        maker,
+        n,
+    }
+}
+
+#[test]
+fn nested_pins(rt: HostRuntime) -> Result<(), Fail> {
+    let mut table = Buffers::new(rt.alloc(), rt.alloc(), rt.alloc(), rt.alloc(), rt.alloc());
+    table.open_pin(T1, 1, ARRAY, Family::ArrayCritical, global(T1, 1), 1)?;
+    table.open_pin(T1, 2, ARRAY, Family::ArrayCritical, global(T1, 1), 1)?;
+    let mut marks = [false, false];
+    table.mark_held(&mut marks);
+    assert_eq!(rt; marks, [false, false]);
+    assert!(rt; table.in_critical(T1));
+    assert!(rt; !table.in_critical(T2));
+    assert!(rt; table.pinned_by(global(T1, 1)));
+    assert!(rt; !table.pinned_by(weak(T1, 1)));
+    assert!(rt; table.pins_object(ARRAY));
+    table.close(buffer(T1, 1));
+    assert!(rt; table.in_critical(T1));
+    assert!(rt; table.pinned_by(global(T1, 1)));
+    table.close(buffer(T1, 2));
+    assert!(rt; !table.in_critical(T1));
+    assert!(rt; !table.pinned_by(global(T1, 1)));
+    assert!(rt; !table.pins_object(ARRAY));
+    Ok(())
+}
+
+#[test]
+fn commit_then_abort(rt: HostRuntime) -> Result<(), Fail> {
+    let copy = buffer(T1, 1);
+    let mut table = Buffers::new(rt.alloc(), rt.alloc(), rt.alloc(), rt.alloc(), rt.alloc());
+    table.open_copy(T1, 1, ARRAY, INTS, &[0, 5])?;
+    let info = Info {
+        maker: T1,
+        object: ARRAY,
+        family: INTS,
+        via: Ref::Null,
+        length: 2,
+    };
+    assert_eq!(rt; table.find(copy), Some(info));
+    assert!(rt; table.commit(copy).len() == 2);
+    table.write(copy, 0, 7);
+    assert_eq!(rt; table.commit(copy), [7, 5].as_slice());
+    assert!(rt; table.commit(copy).len() == 2);
+    table.write(copy, 0, 9);
+    assert!(rt; table.commit(copy).len() == 2);
+    assert_eq!(rt; table.read(copy, 0), 9);
+    assert!(rt; !table.in_critical(T1));
+    assert!(rt; !table.pins_object(ARRAY));
+    table.close(copy);
+    assert_eq!(rt; table.find(copy), None);
+    Ok(())
+}
+
+#[test]
+fn marks_of_pins_alone(rt: HostRuntime) -> Result<(), Fail> {
+    let mut table = Buffers::new(rt.alloc(), rt.alloc(), rt.alloc(), rt.alloc(), rt.alloc());
+    table.open_copy(T1, 1, ObjId(0), INTS, &[])?;
+    table.open_pin(T2, 1, ObjId(1), Family::StringCritical, weak(T1, 2), 0)?;
+    let mut marks = [false, false, true];
+    table.mark_held(&mut marks);
+    assert_eq!(rt; marks, [false, true, true]);
+    Ok(())
+}
+
+/// Takes the largest block that the heap still has, so that nothing can grow.
+fn ballast<'a>(heap: &'a LocalHeap) -> Vec<u8, &'a LocalHeap> {
+    let mut block = Vec::new(heap);
+    for size in (0..16384usize).rev() {
+        if block.try_reserve(size).is_ok() {
+            break;
+        }
+    }
+    block
+}
+
+#[test]
+fn refused_growth(rt: HostRuntime) -> Result<(), Fail> {
+    let heap = LocalHeap::new(rt.alloc(), 16384)?;
+    let mut table = Buffers::new(&heap, &heap, &heap, &heap, &heap);
+    let block = ballast(&heap);
+    assert!(rt; table.open_copy(T1, 1, ARRAY, INTS, &[1, 2]).is_err());
+    assert_eq!(rt; table.find(buffer(T1, 1)), None);
+    assert!(rt;
+        table
+            .open_pin(T1, 2, ARRAY, Family::ArrayCritical, global(T1, 1), 2)
+            .is_err()
+    );
+    assert_eq!(rt; table.find(buffer(T1, 2)), None);
+    assert!(rt; !table.in_critical(T1));
+    drop(block);
+    table.open_copy(T1, 3, ARRAY, INTS, &[1, 2])?;
+    table.open_pin(T1, 4, ARRAY, Family::ArrayCritical, global(T1, 1), 2)?;
+    assert!(rt; table.in_critical(T1));
+    assert_eq!(rt; table.commit(buffer(T1, 3)), [1, 2].as_slice());
+    Ok(())
+}

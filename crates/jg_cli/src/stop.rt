@@ -1,0 +1,80 @@
+//! How the program ends.
+
+use jg_args::ArgsFault;
+use jg_script::RunFault;
+use std::alloc::{AllocError, AllocFailed};
+use std::io::Write;
+use thiserror::Error;
+
+/// The status that the program ends with. A journal that differs is 1, once the program tests
+/// journals.
+#[derive(Clone, Copy, Debug, PartialEq, Eq)]
+pub enum Status {
+    /// All was done.
+    Done = 0,
+    /// The script or the arguments are faulty.
+    Faulty = 2,
+    /// The limit was met, or memory ran out.
+    Refused = 3,
+    /// A device failed.
+    Device = 4,
+}
+
+/// Why the program ends before its work is done. Each prints as its line on standard error.
+#[derive(Clone, Copy, Debug, PartialEq, Eq, Error)]
+pub enum Stop {
+    #[error("{0}")]
+    Arguments(ArgsFault),
+    /// Memory ran out before the guard was made.
+    #[error("setup: no memory")]
+    Setup,
+    #[error("{0}")]
+    Run(RunFault),
+}
+
+impl Stop {
+    /// The words are no command line, or ask for what the program can't do.
+    pub const REFUSED: Stop = Stop::Arguments(ArgsFault::Refused);
+
+    /// Memory ran out while the words were read.
+    pub const NO_MEMORY: Stop = Stop::Arguments(ArgsFault::NoMemory);
+
+    /// The status that it ends with.
+    pub fn status(self) -> Status {
+        match self {
+            Stop::Arguments(ArgsFault::Help) => Status::Done,
+            Stop::Arguments(ArgsFault::Refused) => Status::Faulty,
+            Stop::Arguments(ArgsFault::NoMemory) => Status::Refused,
+            Stop::Setup => Status::Refused,
+            Stop::Run(RunFault::Script { .. }) => Status::Faulty,
+            Stop::Run(RunFault::Limit { .. }) => Status::Refused,
+            Stop::Run(RunFault::NoMemory { .. }) => Status::Refused,
+            Stop::Run(RunFault::Read { .. }) => Status::Device,
+            Stop::Run(RunFault::Write { .. }) => Status::Device,
+        }
+    }
+}
+
+impl From<AllocError> for Stop {
+    fn from(_error: AllocError) -> Stop {
+        Stop::NO_MEMORY
+    }
+}
+
+impl<T: Drop> From<AllocFailed<T>> for Stop {
+    fn from(_error: AllocFailed<T>) -> Stop {
+        Stop::NO_MEMORY
+    }
+}
+
+impl From<RunFault> for Stop {
+    fn from(fault: RunFault) -> Stop {
+        Stop::Run(fault)
+    }
+}
+
+/// Says why the program ends. A failed write of that changes nothing.
+pub fn tell<E: Write>(stop: Stop, err: &mut E) -> Status {
+    let _ = writeln!(err, "{stop}");
+    stop.status()
+}

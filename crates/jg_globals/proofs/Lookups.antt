@@ -1,0 +1,137 @@
+-- What the look-ups answer where the rows stand.
+use Rattle.std.proofs.Common.{◌≡◌, ℕ, ◌+◌, ◌<◌, length, get_or, take, Bool, true, false, List, [], ◌∷◌, Option, Some, None, refl, ◌∙◌, ap, sym, subst, arith, inl, inr, eqb-true}
+use Rattle.std.specs.Prelude.{◌==◌, ◌&&◌, ◌||◌, if◌then◌else◌, find, map, slice_get, slice_set}
+use Rattle.std.specs.List.{list_any}
+use Rattle.std.specs.Option.{option_map}
+use Rattle.std.proofs.lemmas.Bool.Decides.{nat_tests}
+use Rattle.std.proofs.lemmas.List.Folds.{list_any_more}
+use Rattle.jg_globals.specs.declared.target.Target.{Target}
+use Rattle.jg_globals.specs.declared.row.StrongRow.{StrongRow}
+use Rattle.jg_globals.specs.declared.row.WeakRow.{WeakRow}
+use Rattle.jg_globals.specs.History.{Event, MakeStrong, MakeWeak, DeleteStrong, DeleteWeak, Clear, is_same, strong, weak_target, is_now, made_and_held, holds_object}
+use Rattle.jg_globals.specs.Rows.{Rows, Strong, is_strong, is_weak, IsAbove}
+use Rattle.jg_globals.specs.Seen.{strong_seen, weak_seen}
+use Rattle.jg_globals.specs.Standing.{Stands, strong_rows, weak_rows}
+use Rattle.jg_globals.proofs.Lists.{first, find-map, list_any-map, Member, any_member, member_filter, any_of_filter, both_ways, slice_get-set, marked_twice}
+
+object_seen : (row : Option StrongRow) → option_map (λ row. row.object) row ≡ option_map (λ row. row.object) (option_map strong_seen row)
+object_seen None = refl
+object_seen (Some row) = refl
+
+object_of_first : (m n : ℕ) (was : Option ℕ) → option_map (λ row. row.object) (first (strong_rows m n was)) ≡ was
+object_of_first m n None = refl
+object_of_first m n (Some o) = refl
+
+pub get_strong_law : (rows : Rows) (e : List Event) (items : List StrongRow) (m n : ℕ) → rows.strong ≡ map strong_seen items → Stands rows e
+    → option_map (λ row. row.object) (find (λ row. row.maker == m && row.n == n) items) ≡ strong e m n
+get_strong_law rows e items m n seen stands =
+    object_seen (find (λ row. row.maker == m && row.n == n) items)
+    ∙ rw (find-map strong_seen (λ row. row.maker == m && row.n == n) (is_strong m n) (λ row. refl) items, sym seen, stands.strong m n) (object_of_first m n (strong e m n))
+
+target_seen : (row : Option WeakRow) → option_map (λ row. row.target) row ≡ option_map (λ row. row.target) (option_map weak_seen row)
+target_seen None = refl
+target_seen (Some row) = refl
+
+target_of_first : (m n : ℕ) (was : Option Target) → option_map (λ row. row.target) (first (weak_rows m n was)) ≡ was
+target_of_first m n None = refl
+target_of_first m n (Some t) = refl
+
+pub get_weak_law : (rows : Rows) (e : List Event) (items : List WeakRow) (m n : ℕ) → rows.weak ≡ map weak_seen items → Stands rows e
+    → option_map (λ row. row.target) (find (λ row. row.maker == m && row.n == n) items) ≡ weak_target e m n
+get_weak_law rows e items m n seen stands =
+    target_seen (find (λ row. row.maker == m && row.n == n) items)
+    ∙ rw (find-map weak_seen (λ row. row.maker == m && row.n == n) (is_weak m n) (λ row. refl) items, sym seen, stands.weak m n) (target_of_first m n (weak_target e m n))
+
+-- a reference in being was made
+made_here : (all e : List Event) (m n o k i p : ℕ) (b : Bool) → is_same m n k i ≡ b → strong all m n ≡ Some o → (strong e m n ≡ Some o → list_any (made_and_held all o) e ≡ true)
+    → (if b then Some p else strong e m n) ≡ Some o → (is_now o (strong all k i) || list_any (made_and_held all o) e) ≡ true
+made_here all e m n o k i p true is now older here =
+    let maker : k ≡ m = grind (arith, nat_tests) in
+    let number : i ≡ n = grind (arith, nat_tests) in
+    rw (maker, number, now) (grind (arith, nat_tests))
+made_here all e m n o k i p false is now older here = rw (older here) (elim (is_now o (strong all k i)) as (λ b. (b || true) ≡ true) [ true ↦ refl | false ↦ refl ])
+
+deleted_here : (e : List Event) (m n o : ℕ) (b : Bool) → if◌then◌else◌ {A = Option ℕ} b None (strong e m n) ≡ Some o → strong e m n ≡ Some o
+deleted_here e m n o true here = cc
+deleted_here e m n o false here = here
+
+pub was_made : (all e : List Event) (m n o : ℕ) → strong all m n ≡ Some o → strong e m n ≡ Some o → list_any (made_and_held all o) e ≡ true
+was_made all [] m n o now here = cc
+was_made all (MakeStrong k i p ∷ e) m n o now here = made_here all e m n o k i p (is_same m n k i) refl now (was_made all e m n o now) here
+was_made all (MakeWeak k i p ∷ e) m n o now here = was_made all e m n o now here
+was_made all (DeleteStrong k i ∷ e) m n o now here = was_made all e m n o now (deleted_here e m n o (is_same m n k i) here)
+was_made all (DeleteWeak k i ∷ e) m n o now here = was_made all e m n o now here
+was_made all (Clear p ∷ e) m n o now here = was_made all e m n o now here
+
+now_is : (o : ℕ) (found : Option ℕ) → is_now o found ≡ true → found ≡ Some o
+now_is o None is = cc
+now_is o (Some p) is =
+    let same : p ≡ o = eqb-true p o is in
+    ap Some same
+
+held_here : (all e : List Event) (o k i : ℕ) (b : Bool) → is_now o (strong all k i) ≡ b → (list_any (made_and_held all o) e ≡ true → (m : ℕ) × ((n : ℕ) × (strong all m n ≡ Some o)))
+    → (b || list_any (made_and_held all o) e) ≡ true → (m : ℕ) × ((n : ℕ) × (strong all m n ≡ Some o))
+held_here all e o k i true is older some = (k, (i, now_is o (strong all k i) is))
+held_here all e o k i false is older some = older some
+
+-- a held object has a reference in being
+pub has_reference : (all e : List Event) (o : ℕ) → list_any (made_and_held all o) e ≡ true → (m : ℕ) × ((n : ℕ) × (strong all m n ≡ Some o))
+has_reference all [] o some = cc
+has_reference all (MakeStrong k i p ∷ e) o some = held_here all e o k i (is_now o (strong all k i)) refl (has_reference all e o) some
+has_reference all (MakeWeak k i p ∷ e) o some = has_reference all e o some
+has_reference all (DeleteStrong k i ∷ e) o some = has_reference all e o some
+has_reference all (DeleteWeak k i ∷ e) o some = has_reference all e o some
+has_reference all (Clear p ∷ e) o some = has_reference all e o some
+
+pub strong_of_member : (m n o : ℕ) (row : Strong) (found : Option ℕ) → Member row (strong_rows m n found) → row.object ≡ o → found ≡ Some o
+strong_of_member m n o row None there is = absurd there
+strong_of_member m n o row (Some p) there is = elim there [ inl same ↦ ap (λ r. Some r.object) (sym same) ∙ ap Some is | inr other ↦ absurd other ]
+
+any_of_strong : (m n o : ℕ) (found : Option ℕ) → found ≡ Some o → list_any (λ row. row.object == o) (strong_rows m n found) ≡ true
+any_of_strong m n o None is = cc
+any_of_strong m n o (Some p) is =
+    let same : p ≡ o = cc in
+    grind (arith, nat_tests)
+
+row_holds : (rows : Rows) (e : List Event) (o : ℕ) → Stands rows e → list_any (λ row. row.object == o) rows.strong ≡ true → holds_object e o ≡ true
+row_holds rows e o stands is =
+    let found = any_member (λ row. row.object == o) rows.strong is in
+    let row : Strong = found.0 in
+    let mine : is_strong row.maker row.n row ≡ true = grind (arith, nat_tests) in
+    let kept = member_filter (is_strong row.maker row.n) row rows.strong found.1.0 mine in
+    let P : List Strong → Type 0 = λ l. Member row l in
+    let there = subst P (stands.strong row.maker row.n) kept in
+    let named : row.object ≡ o = eqb-true row.object o found.1.1 in
+    let now = strong_of_member row.maker row.n o row (strong e row.maker row.n) there named in
+    was_made e e row.maker row.n o now now
+
+held_row : (rows : Rows) (e : List Event) (o : ℕ) → Stands rows e → holds_object e o ≡ true → list_any (λ row. row.object == o) rows.strong ≡ true
+held_row rows e o stands is =
+    let found = has_reference e e o is in
+    let here = any_of_strong found.0 found.1.0 o (strong e found.0 found.1.0) found.1.1 in
+    any_of_filter (λ row. row.object == o) (is_strong found.0 found.1.0) rows.strong (rw (stands.strong found.0 found.1.0) here)
+
+pub holds_law : (rows : Rows) (e : List Event) (items : List StrongRow) (o : ℕ) → rows.strong ≡ map strong_seen items → Stands rows e → list_any (λ row. row.object == o) items ≡ holds_object e o
+holds_law rows e items o seen stands =
+    list_any-map strong_seen (λ row. row.object == o) (λ row. row.object == o) (λ row. refl) items
+    ∙ (ap (list_any (λ row. row.object == o)) (sym seen)
+    ∙ both_ways (list_any (λ row. row.object == o) rows.strong) (holds_object e o) (row_holds rows e o stands) (held_row rows e o stands))
+
+-- the mark of one more row
+pub mark_step : (olds marks : List Bool) (rows : List StrongRow) (i o : ℕ) (d : StrongRow) → i < length rows
+    → slice_get marks o ≡ option_map (λ mark. mark || list_any (λ row. row.object == o) (take i rows)) (slice_get olds o)
+    → slice_get (slice_set marks (get_or rows i d).object true) o ≡ option_map (λ mark. mark || list_any (λ row. row.object == o) (take (i + 1) rows)) (slice_get olds o)
+mark_step olds marks rows i o d within was =
+    rw (slice_get-set marks (get_or rows i d).object o, was, list_any_more (λ row. row.object == o) rows i d within)
+    (marked_twice (list_any (λ row. row.object == o) (take i rows)) ((get_or rows i d).object == o) (slice_get olds o))
+
+-- a value is seen as its view
+pub reopened : (a b : Rows) (e : List Event) → a ≡ b → Stands b e → Stands a e
+reopened a b e is stands =
+    let P : Rows → Type 0 = λ v. Stands v e in
+    subst P (sym is) stands
+
+pub above_in : (a b : Rows) (k i : ℕ) → a ≡ b → IsAbove k i b → IsAbove k i a
+above_in a b k i is above =
+    let P : Rows → Type 0 = λ v. IsAbove k i v in
+    subst P (sym is) above

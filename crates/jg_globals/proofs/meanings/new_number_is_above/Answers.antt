@@ -1,0 +1,5 @@
+use Rattle.jg_globals.proofs.Ended.{above_law}
+use Rattle.jg_globals.proofs.meanings.new_number_is_above.Goals as goal
+
+pub returns : goal.returns
+returns c = above_law

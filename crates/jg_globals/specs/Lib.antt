@@ -1,0 +1,6 @@
+pub mod Clearing
+pub mod History
+pub mod Laws
+pub mod Rows
+pub mod Seen
+pub mod Standing

@@ -1,0 +1,151 @@
+ghost use Rattle.std.specs.Prelude.{◌≡◌, ℕ, ◌||◌, List, [], ◌∷◌, ◌++◌, map, OnOk, OnErr, option_map, slice_get};
+ghost use Rattle.jg_globals.specs.History.{Event, MakeStrong, MakeWeak, Clear, strong_target, target_of, deletion, holds_object};
+ghost use Rattle.jg_globals.specs.Rows.{AddsNumber, IsAbove, KeepsNumbers};
+ghost use Rattle.jg_globals.specs.Standing.{Stands, IsListOf};
+
+use crate::row::{
+    StrongRow, WeakRow, clear_rows, end_strong, end_weak, mark_objects, names_object,
+    object_of_strong, target_of_weak,
+};
+use crate::target::Target;
+use jg_words::{Kind, ObjId, Ref, Tid};
+use std::alloc::{AllocError, Allocator, Global};
+use std::marker::Model;
+
+/// The global and weak global references in being. Contracts see the rows.
+#[derive(Drop)]
+pub struct Globals<A: Allocator = Global> {
+    strong: Vec<StrongRow, A>,
+    weak: Vec<WeakRow, A>,
+}
+
+impl<A: Allocator> Model for Globals<A> {
+    ghost use Rattle.std.specs.Prelude.{map};
+    ghost use Rattle.jg_globals.specs.Rows.{Rows};
+    ghost use Rattle.jg_globals.specs.Seen.{strong_seen, weak_seen};
+
+    ghost Value = { Rows };
+
+    ghost view = { λ a. record { strong = map strong_seen a.strong.items; weak = map weak_seen a.weak.items } };
+}
+
+impl<A: Allocator + Clone> Globals<A> {
+    /// No reference is in being. Takes no memory; the two lists grow from the two handles.
+    pub fn new(strong: A, weak: A) -> Globals<A>
+        ensures stands { Stands result [] }
+        ensures numbers { (k i : ℕ) → IsAbove k i result }
+    {
+        Globals {
+            strong: Vec::new(strong),
+            weak: Vec::new(weak),
+        }
+    }
+
+    /// Makes global reference `n` of `maker`, which names the object (chapter 4, `NewGlobalRef`).
+    /// Fails only for want of memory, and then leaves all unchanged.
+    pub fn make_strong(&mut self, maker: Tid, n: u64, object: ObjId) -> Result<(), AllocError>
+        requires { IsAbove maker.0 n self.old }
+        ensures ok { OnOk result ((e : List Event) → Stands self.old e → Stands self.new (MakeStrong maker.0 n object.0 ∷ e)) }
+        ensures err { OnErr result (self.new ≡ self.old) }
+        ensures numbers { AddsNumber maker.0 n self.old self.new }
+    {
+        self.strong.push(StrongRow {
+            maker: maker.0,
+            n,
+            object: object.0,
+        })?;
+        Ok(())
+    }
+
+    /// Makes weak global reference `n` of `maker`, which names the object until it is cleared
+    /// (chapter 4, `NewWeakGlobalRef`). Fails only for want of memory, and then leaves all
+    /// unchanged.
+    pub fn make_weak(&mut self, maker: Tid, n: u64, object: ObjId) -> Result<(), AllocError>
+        requires { IsAbove maker.0 n self.old }
+        ensures ok { OnOk result ((e : List Event) → Stands self.old e → Stands self.new (MakeWeak maker.0 n object.0 ∷ e)) }
+        ensures err { OnErr result (self.new ≡ self.old) }
+        ensures numbers { AddsNumber maker.0 n self.old self.new }
+    {
+        self.weak.push(WeakRow {
+            maker: maker.0,
+            n,
+            target: Target::Object(object),
+        })?;
+        Ok(())
+    }
+
+    /// Ends a global or weak global reference, if it is in being (chapter 4, `DeleteGlobalRef` and
+    /// `DeleteWeakGlobalRef`). Null and local references are none of this table's: nothing changes.
+    pub fn delete(&mut self, reference: Ref)
+        ensures stands { (e : List Event) → Stands self.old e → Stands self.new (deletion reference ++ e) }
+        ensures numbers { KeepsNumbers self.old self.new }
+    {
+        match reference {
+            Ref::Null => {}
+            Ref::To { kind, maker, n } => match kind {
+                Kind::Local => {}
+                Kind::Global => end_strong(&mut self.strong, maker.0, n),
+                Kind::Weak => end_weak(&mut self.weak, maker.0, n),
+            },
+        }
+    }
+
+    /// What a global or weak global reference in being names; `None` where it isn't in being, and
+    /// for null and local references.
+    pub fn get(&self, reference: Ref) -> Option<Target>
+        ensures { (e : List Event) → Stands self.now e → result ≡ target_of e reference }
+    {
+        match reference {
+            Ref::Null => None,
+            Ref::To { kind, maker, n } => match kind {
+                Kind::Local => None,
+                Kind::Global => object_target(object_of_strong(&self.strong, maker.0, n)),
+                Kind::Weak => target_of_weak(&self.weak, maker.0, n),
+            },
+        }
+    }
+
+    /// Clears the weak references to one object that was collected (chapter 4, "Weak Global
+    /// References").
+    pub fn clear_weak(&mut self, object: ObjId)
+        ensures stands { (e : List Event) → Stands self.old e → Stands self.new (Clear object.0 ∷ e) }
+        ensures numbers { KeepsNumbers self.old self.new }
+    {
+        clear_rows(&mut self.weak, &|other: ObjId| object.0 == other.0);
+    }
+
+    /// Clears the weak references to all objects that meet the test, in one pass: for each list of
+    /// objects that has, of those that a live weak reference names, exactly the ones that meet the
+    /// test, this is the clearing of each of its objects.
+    pub fn clear_weak_where<F: Fn(ObjId) -> bool + Drop>(&mut self, test: F)
+        requires { F.IsAlwaysCallable test }
+        ensures stands { (e : List Event) (objects : List ℕ) → Stands self.old e → IsListOf (F.post test) e objects → Stands self.new (map (λ o. Clear o) objects ++ e) }
+        ensures numbers { KeepsNumbers self.old self.new }
+    {
+        clear_rows(&mut self.weak, &test);
+    }
+
+    /// Whether a global reference names the object. Weak ones don't count: they hold nothing.
+    pub fn holds_object(&self, object: ObjId) -> bool
+        ensures { (e : List Event) → Stands self.now e → result ≡ holds_object e object.0 }
+    {
+        names_object(&self.strong, object.0)
+    }
+
+    /// Sets the mark of each object that a global reference names and leaves the other marks. An
+    /// object past the end of `marks` is passed over.
+    pub fn mark_held(&self, marks: &mut [bool])
+        ensures { (e : List Event) → Stands self.now e → (o : ℕ) → slice_get marks.new o ≡ option_map (λ mark. mark || holds_object e o) (slice_get marks.old o) }
+    {
+        mark_objects(&self.strong, marks);
+    }
+}
+
+fn object_target(object: Option<u64>) -> Option<Target>
+    ensures { result ≡ strong_target object }
+{
+    match object {
+        None => None,
+        Some(object) => Some(Target::Object(ObjId(object))),
+    }
+}

@@ -1,0 +1,103 @@
+use crate::{Globals, Target};
+use jg_words::{Kind, ObjId, Ref, Tid};
+use linked_list_allocator::LocalHeap;
+use std::process::Abort;
+use std::test::Fail;
+
+const T1: Tid = Tid(1);
+
+const T2: Tid = Tid(2);
+
+const TEXT: ObjId = ObjId(15);
+
+fn global(maker: Tid, n: u64) -> Ref {
+    Ref::To {
+        kind: Kind::Global,
+        maker,
+        n,
+    }
+}
+
+fn weak(maker: Tid, n: u64) -> Ref {
+    Ref::To {
+        kind: Kind::Weak,
+        maker,
+        n,
+    }
+}
+
+#[test]
+fn global_reference(rt: HostRuntime) -> Result<(), Fail> {
+    let mut table = Globals::new(rt.alloc(), rt.alloc());
+    table.make_strong(T1, 1, TEXT)?;
+    assert_eq!(rt; table.get(global(T1, 1)), Some(Target::Object(TEXT)));
+    assert_eq!(rt; table.get(global(T2, 1)), None);
+    assert_eq!(rt; table.get(weak(T1, 1)), None);
+    assert_eq!(rt; table.get(Ref::Null), None);
+    assert!(rt; table.holds_object(TEXT));
+    table.delete(weak(T1, 1));
+    assert!(rt; table.holds_object(TEXT));
+    table.delete(global(T1, 1));
+    assert_eq!(rt; table.get(global(T1, 1)), None);
+    assert!(rt; !table.holds_object(TEXT));
+    Ok(())
+}
+
+#[test]
+fn weak_reference(rt: HostRuntime) -> Result<(), Fail> {
+    let mut table = Globals::new(rt.alloc(), rt.alloc());
+    table.make_weak(T1, 1, TEXT)?;
+    assert_eq!(rt; table.get(weak(T1, 1)), Some(Target::Object(TEXT)));
+    assert!(rt; !table.holds_object(TEXT));
+    table.clear_weak(ObjId(16));
+    assert_eq!(rt; table.get(weak(T1, 1)), Some(Target::Object(TEXT)));
+    table.clear_weak(TEXT);
+    assert_eq!(rt; table.get(weak(T1, 1)), Some(Target::Cleared));
+    table.delete(weak(T1, 1));
+    assert_eq!(rt; table.get(weak(T1, 1)), None);
+    Ok(())
+}
+
+#[test]
+fn collection(rt: HostRuntime) -> Result<(), Fail> {
+    let mut table = Globals::new(rt.alloc(), rt.alloc());
+    table.make_strong(T1, 1, ObjId(2))?;
+    table.make_strong(T2, 1, ObjId(9))?;
+    table.make_weak(T1, 2, ObjId(1))?;
+    table.make_weak(T1, 3, ObjId(2))?;
+    let mut marks = [true, false, false, false];
+    table.mark_held(&mut marks);
+    assert_eq!(rt; marks, [true, false, true, false]);
+    table.clear_weak_where(|object: ObjId| object.0 == 1);
+    assert_eq!(rt; table.get(weak(T1, 2)), Some(Target::Cleared));
+    assert_eq!(rt; table.get(weak(T1, 3)), Some(Target::Object(ObjId(2))));
+    Ok(())
+}
+
+/// Takes the largest block that the heap still has, so that no list can grow.
+fn ballast<'a>(heap: &'a LocalHeap) -> Vec<u8, &'a LocalHeap> {
+    let mut block = Vec::new(heap);
+    for size in (0..4096usize).rev() {
+        if block.try_reserve(size).is_ok() {
+            break;
+        }
+    }
+    block
+}
+
+#[test]
+fn refused_growth(rt: HostRuntime) -> Result<(), Fail> {
+    let heap = LocalHeap::new(rt.alloc(), 4096)?;
+    let mut table = Globals::new(&heap, &heap);
+    let block = ballast(&heap);
+    assert!(rt; table.make_strong(T1, 1, TEXT).is_err());
+    assert_eq!(rt; table.get(global(T1, 1)), None);
+    assert!(rt; table.make_weak(T1, 2, TEXT).is_err());
+    assert_eq!(rt; table.get(weak(T1, 2)), None);
+    drop(block);
+    table.make_strong(T1, 3, TEXT)?;
+    table.make_weak(T1, 4, TEXT)?;
+    assert_eq!(rt; table.get(global(T1, 3)), Some(Target::Object(TEXT)));
+    assert_eq!(rt; table.get(weak(T1, 4)), Some(Target::Object(TEXT)));
+    Ok(())
+}

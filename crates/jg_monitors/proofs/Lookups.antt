@@ -1,0 +1,127 @@
+-- What the look-ups answer where the rows stand.
+use Rattle.std.proofs.Common.{◌≡◌, ℕ, ◌<◌, Bool, true, false, List, [], ◌∷◌, Option, Some, None, refl, ◌∙◌, ap, sym, subst, arith}
+use Rattle.std.specs.Prelude.{◌==◌, ◌||◌, if◌then◌else◌, map, slice_get, slice_set}
+use Rattle.std.specs.List.{list_any}
+use Rattle.std.specs.Option.{option_map, is_some as is_there}
+use Rattle.std.specs.Map.{lookup, keys_of}
+use Rattle.std.specs.BTreeMap.{is_at}
+use Rattle.std.specs.Ordering.{nat_cmp}
+use Rattle.jg_monitors.specs.declared.entering.Entering.TheVariants.{Entered, Busy}
+use Rattle.jg_monitors.specs.declared.owned.Owned.{Owned}
+use Rattle.jg_monitors.specs.History.{Event, count, owner, count_of, owner_count, is_some, held, entering}
+use Rattle.jg_monitors.specs.Rows.{Rows, is_of, row_of, owner_in, count_in}
+use Rattle.jg_monitors.specs.Seen.{seen, count_by_owner}
+use Rattle.jg_monitors.specs.Standing.{AllAllowed, rows_of, Stands}
+use Rattle.jg_monitors.specs.Laws.{RowTells}
+use Rattle.jg_monitors.proofs.Lists.{first, slice_get-set, marked_twice}
+use Rattle.jg_monitors.proofs.Counting.{owner_is, no_owner}
+use Rattle.jg_monitors.proofs.Steps.{row_at, find_first, found_row, at_key, Tells, tells}
+
+-- a value is seen as its view
+pub reopened : (a b : Rows) (e : List Event) → a ≡ b → Stands b e → Stands a e
+reopened a b e is stands =
+    let P : Rows → Type 0 = λ v. Stands v e in
+    subst P (sym is) stands
+
+-- the row of an object is what a look-up finds
+pub row_law : (es : List (ℕ × Owned)) (rows : Rows) (o : ℕ) → record { owned = map seen es } ≡ rows → row_of o rows ≡ row_at o (lookup (is_at (nat_cmp o)) es)
+row_law es rows o is = ap (row_of o) (sym is) ∙ found_row o es
+
+owner_told : (e : List Event) (o : ℕ) (found : Option Owned) → AllAllowed e → Tells e o found → owner e o ≡ owner_in (row_at o found)
+owner_told e o None all told = no_owner e o told
+owner_told e o (Some w) all told =
+    let some : 0 < count e w.tid o = omega (arith, told.0, told.1) in
+    owner_is e w.tid o all some
+
+pub owner_law : (es : List (ℕ × Owned)) (e : List Event) (o : ℕ) → Stands (record { owned = map seen es }) e → owner e o ≡ owner_in (row_at o (lookup (is_at (nat_cmp o)) es))
+owner_law es e o stands = owner_told e o (lookup (is_at (nat_cmp o)) es) stands.allowed (tells es e o stands)
+
+count_told : (e : List Event) (o : ℕ) (found : Option Owned) → AllAllowed e → Tells e o found → owner_count e o ≡ count_in (row_at o found)
+count_told e o None all told = ap (count_of e o) (owner_told e o None all told)
+count_told e o (Some w) all told = ap (count_of e o) (owner_told e o (Some w) all told) ∙ told.0
+
+pub count_law : (es : List (ℕ × Owned)) (e : List Event) (o : ℕ) → Stands (record { owned = map seen es }) e → owner_count e o ≡ count_in (row_at o (lookup (is_at (nat_cmp o)) es))
+count_law es e o stands = count_told e o (lookup (is_at (nat_cmp o)) es) stands.allowed (tells es e o stands)
+
+is_owned : (o : ℕ) (found : Option Owned) → is_there found ≡ is_some (owner_in (row_at o found))
+is_owned o None = refl
+is_owned o (Some w) = refl
+
+pub held_law : (es : List (ℕ × Owned)) (e : List Event) (o : ℕ) → Stands (record { owned = map seen es }) e → is_there (lookup (is_at (nat_cmp o)) es) ≡ held e o
+held_law es e o stands = is_owned o (lookup (is_at (nat_cmp o)) es) ∙ ap is_some (sym (owner_law es e o stands))
+
+owner_first : (e : List Event) (o : ℕ) (was : Option ℕ) → owner_in (first (rows_of e o was)) ≡ was
+owner_first e o None = refl
+owner_first e o (Some t) = refl
+
+count_first : (e : List Event) (o : ℕ) (was : Option ℕ) → count_in (first (rows_of e o was)) ≡ count_of e o was
+count_first e o None = refl
+count_first e o (Some t) = refl
+
+-- what any rows that stand tell
+pub rows_law : (rows : Rows) (e : List Event) (o : ℕ) → Stands rows e → RowTells rows e o
+rows_law rows e o stands =
+    let row : row_of o rows ≡ first (rows_of e o (owner e o)) = find_first (is_of o) rows.owned ∙ ap first (stands.owned o) in
+    record {
+      owner = ap owner_in row ∙ owner_first e o (owner e o);
+      count = ap count_in row ∙ count_first e o (owner e o);
+    }
+
+-- ---- entering
+
+entered_by : (t c : ℕ) (w : Owned) (b : Bool) → (if b then Some w.count else None) ≡ Some c → (if b then Entered else Busy) ≡ Entered
+entered_by t c w true is = refl
+entered_by t c w false is = cc
+
+pub may_enter_answer : (t c o : ℕ) (found : Option Owned) → count_by_owner t found ≡ Some c → entering t (owner_in (row_at o found)) ≡ Entered
+may_enter_answer t c o None is = refl
+may_enter_answer t c o (Some w) is = entered_by t c w (w.tid == t) is
+
+busy_by : (w : Owned) (b : Bool) → if◌then◌else◌ {A = Option ℕ} b (Some w.count) None ≡ None → (if b then Entered else Busy) ≡ Busy
+busy_by w true is = cc
+busy_by w false is = refl
+
+pub busy_answer : (t o : ℕ) (found : Option Owned) → count_by_owner t found ≡ None → entering t (owner_in (row_at o found)) ≡ Busy
+busy_answer t o None is = cc
+busy_answer t o (Some w) is = busy_by w (w.tid == t) is
+
+some_is : (a b : ℕ) → Some a ≡ Some b → a ≡ b
+some_is a b is = cc
+
+own_number : (c : ℕ) (w : Owned) (b : Bool) → (if b then Some w.count else None) ≡ Some c → c ≡ w.count
+own_number c w true is = sym (some_is w.count c is)
+own_number c w false is = cc
+
+-- what the thread entered is the count in the row
+pub own_count_law : (t c o : ℕ) (found : Option Owned) → count_by_owner t found ≡ Some c → c ≡ count_in (row_at o found)
+own_count_law t c o None is = sym (some_is 0 c is)
+own_count_law t c o (Some w) is = own_number c w (w.tid == t) is
+
+-- ---- exiting
+
+pub owned_law : (t o : ℕ) (found : Option Owned) → owner_in (row_at o found) ≡ Some t → (w : Owned) × ((found ≡ Some w) × (w.tid ≡ t))
+owned_law t o None is = cc
+owned_law t o (Some w) is = (w, (refl, some_is w.tid t is))
+
+-- ---- marks
+
+keys_found : (o : ℕ) (e : ℕ × Owned) (es : List (ℕ × Owned)) (b : Bool) → list_any (λ k. k == o) (keys_of es) ≡ is_there (lookup (is_at (nat_cmp o)) es)
+    → (b || list_any (λ k. k == o) (keys_of es)) ≡ is_there (if b then Some e.1 else lookup (is_at (nat_cmp o)) es)
+keys_found o e es true is = refl
+keys_found o e es false is = is
+
+-- a key that is found is among the keys
+key_law : (o : ℕ) (es : List (ℕ × Owned)) → list_any (λ k. k == o) (keys_of es) ≡ is_there (lookup (is_at (nat_cmp o)) es)
+key_law o [] = refl
+key_law o (e ∷ es) = keys_found o e es (e.0 == o) (key_law o es) ∙ ap (λ b. is_there (if b then Some e.1 else lookup (is_at (nat_cmp o)) es)) (sym (at_key o e.0))
+
+pub any_key_law : (es : List (ℕ × Owned)) (e : List Event) (o : ℕ) → Stands (record { owned = map seen es }) e → list_any (λ k. k == o) (keys_of es) ≡ held e o
+any_key_law es e o stands = key_law o es ∙ held_law es e o stands
+
+-- the mark of one more key
+pub mark_step : (marks : List Bool) (k o : ℕ) (left rest : List ℕ) (whole : Option Bool) → left ≡ k ∷ rest
+    → option_map (λ mark. mark || list_any (λ j. j == o) left) (slice_get marks o) ≡ whole
+    → option_map (λ mark. mark || list_any (λ j. j == o) rest) (slice_get (slice_set marks k true) o) ≡ whole
+mark_step marks k o left rest whole is was =
+    let P : List ℕ → Type 0 = λ l. option_map (λ mark. mark || list_any (λ j. j == o) l) (slice_get marks o) ≡ whole in
+    rw (slice_get-set marks k o, marked_twice (k == o) (list_any (λ j. j == o) rest) (slice_get marks o)) (subst P is was)

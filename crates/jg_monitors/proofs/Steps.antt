@@ -1,0 +1,235 @@
+-- What a look-up by object tells of the counts, and how that changes with one more event.
+use Rattle.std.proofs.Common.{◌≡◌, ◌≢◌, ℕ, ◌+◌, ◌-◌, ◌<◌, Bool, true, false, zero, suc, List, [], ◌∷◌, Option, Some, None, refl, ◌∙◌, ap, sym, subst, arith, eqb-true}
+use Rattle.std.specs.Prelude.{◌==◌, not, nat_lt, if◌then◌else◌, filter, map}
+use Rattle.std.specs.List.{find}
+use Rattle.std.specs.Map.{lookup, keys_of}
+use Rattle.std.specs.BTreeMap.{is_at}
+use Rattle.std.specs.Ordering.{nat_cmp}
+use Rattle.std.specs.Cmp.{nat_cmp_total, eq_by_cmp_equiv}
+use Rattle.std.specs.List.Sorted.{IsStrictlySortedBy}
+use Rattle.std.proofs.lemmas.Bool.Decides.{nat_tests}
+use Rattle.std.proofs.lemmas.Map.{lookup-none}
+use Rattle.std.proofs.lemmas.Map.Entries.{none_past_head, lookup-filter-values, option_filter}
+use Rattle.std.proofs.lemmas.Map.Keys.{sorted_tail, IsDistinct-from_sorted}
+use Rattle.jg_monitors.specs.declared.owned.Owned.{Owned}
+use Rattle.jg_monitors.specs.History.{Enter, Exit, ReleaseAll, Event, by, count, owner}
+use Rattle.jg_monitors.specs.Rows.{Row, is_of}
+use Rattle.jg_monitors.specs.Seen.{seen, lowered, count_by_owner}
+use Rattle.jg_monitors.specs.Standing.{IsAllowed, AllAllowed, rows_of, Stands}
+use Rattle.jg_monitors.proofs.Lists.{first}
+use Rattle.jg_monitors.proofs.Counting.{count_enter, count_exit, count_release, count_other_thread, count_other_enter, count_other_exit, one_owner, owner_is, owner_has, no_owner, all_free}
+
+-- ---- rows and look-ups
+
+-- what is kept at an object, as a row and as rows
+abbrev pub row_at : ℕ → Option Owned → Option Row
+row_at o None = None
+row_at o (Some w) = Some (seen (o, w))
+
+abbrev pub rows_at : ℕ → Option Owned → List Row
+rows_at o None = []
+rows_at o (Some w) = seen (o, w) ∷ []
+
+pub at_key : (o k : ℕ) → is_at (nat_cmp o) k ≡ (k == o)
+at_key o k = grind (arith, nat_tests)
+
+found_by : (o : ℕ) (e : ℕ × Owned) (es : List (ℕ × Owned)) (b : Bool) → (e.0 == o) ≡ b → find (is_of o) (map seen es) ≡ row_at o (lookup (is_at (nat_cmp o)) es)
+    → (if b then Some (seen e) else find (is_of o) (map seen es)) ≡ row_at o (if b then Some e.1 else lookup (is_at (nat_cmp o)) es)
+found_by o e es true is later = ap (λ k. Some (seen (k, e.1))) (eqb-true e.0 o is)
+found_by o e es false is later = later
+
+pub found_row : (o : ℕ) (es : List (ℕ × Owned)) → find (is_of o) (map seen es) ≡ row_at o (lookup (is_at (nat_cmp o)) es)
+found_row o [] = refl
+found_row o (e ∷ es) = rw (at_key o e.0) (found_by o e es (e.0 == o) refl (found_row o es))
+
+kept_by : (o : ℕ) (e : ℕ × Owned) (es : List (ℕ × Owned)) (b : Bool) → (e.0 == o) ≡ b → IsStrictlySortedBy nat_cmp (keys_of (e ∷ es)) → filter (is_of o) (map seen es) ≡ rows_at o (lookup (is_at (nat_cmp o)) es)
+    → (if b then seen e ∷ filter (is_of o) (map seen es) else filter (is_of o) (map seen es)) ≡ rows_at o (if b then Some e.1 else lookup (is_at (nat_cmp o)) es)
+kept_by o e es true is sorted later =
+    let none : lookup (is_at (nat_cmp o)) es ≡ None = lookup-none (is_at (nat_cmp o)) es (none_past_head (eq_by_cmp_equiv nat_cmp_total) o e es (IsDistinct-from_sorted nat_cmp (keys_of (e ∷ es)) sorted) (at_key o e.0 ∙ is)) in
+    let empty : filter (is_of o) (map seen es) ≡ [] = later ∙ ap (rows_at o) none in
+    rw (empty, eqb-true e.0 o is) refl
+kept_by o e es false is sorted later = later
+
+filter_lookup : (o : ℕ) (es : List (ℕ × Owned)) → IsStrictlySortedBy nat_cmp (keys_of es) → filter (is_of o) (map seen es) ≡ rows_at o (lookup (is_at (nat_cmp o)) es)
+filter_lookup o [] sorted = refl
+filter_lookup o (e ∷ es) sorted =
+    let later = filter_lookup o es (sorted_tail nat_cmp e.0 (keys_of es) sorted) in
+    rw (at_key o e.0) (kept_by o e es (e.0 == o) refl sorted later)
+
+-- ---- what a look-up tells of the counts
+
+abbrev pub Tells : List Event → ℕ → Option Owned → Type 0
+Tells e o None = (t : ℕ) → count e t o ≡ 0
+Tells e o (Some w) = (count e w.tid o ≡ w.count) × (0 < w.count)
+
+abbrev owner_at : Option Row → ℕ
+owner_at None = 0
+owner_at (Some row) = row.owner
+
+abbrev count_at : Option Row → ℕ
+count_at None = 0
+count_at (Some row) = row.count
+
+told_by : (e : List Event) (o : ℕ) (found : Option Owned) (was : Option ℕ) → owner e o ≡ was → AllAllowed e → row_at o found ≡ first (rows_of e o was) → Tells e o found
+told_by e o None None is all same = λ t. all_free e t o all is
+told_by e o None (Some t) is all same = cc
+told_by e o (Some w) None is all same = cc
+told_by e o (Some w) (Some t) is all same =
+    let thread : w.tid ≡ t = ap owner_at same in
+    let number : w.count ≡ count e t o = ap count_at same in
+    let some : 0 < count e t o = owner_has e t o is in
+    (rw thread (sym number), omega (arith, number, some))
+
+pub find_first : {X : Type 0} (p : X → Bool) (xs : List X) → find p xs ≡ first (filter p xs)
+find_first p [] = refl
+find_first p (x ∷ xs) = rw (find_first p xs) (elim (p x) as (λ b. (if b then Some x else first (filter p xs)) ≡ first (if b then x ∷ filter p xs else filter p xs)) [ true ↦ refl | false ↦ refl ])
+
+pub tells : (es : List (ℕ × Owned)) (e : List Event) (o : ℕ) → Stands (record { owned = map seen es }) e → Tells e o (lookup (is_at (nat_cmp o)) es)
+tells es e o stands =
+    told_by e o (lookup (is_at (nat_cmp o)) es) (owner e o) refl stands.allowed
+    (sym (found_row o es) ∙ (find_first (is_of o) (map seen es) ∙ ap first (stands.owned o)))
+
+rows_told : (e : List Event) (o : ℕ) (found : Option Owned) → AllAllowed e → Tells e o found → rows_at o found ≡ rows_of e o (owner e o)
+rows_told e o None all told = rw (no_owner e o told) refl
+rows_told e o (Some w) all told =
+    let some : 0 < count e w.tid o = omega (arith, told.0, told.1) in
+    rw (owner_is e w.tid o all some, told.0) refl
+
+pub stands_by : (es : List (ℕ × Owned)) (e : List Event) → AllAllowed e → IsStrictlySortedBy nat_cmp (keys_of es) → ((o : ℕ) → Tells e o (lookup (is_at (nat_cmp o)) es)) → Stands (record { owned = map seen es }) e
+stands_by es e all sorted each = record {
+  owned = λ o. filter_lookup o es sorted ∙ rows_told e o (lookup (is_at (nat_cmp o)) es) all (each o);
+  allowed = all;
+}
+
+-- ---- one more event
+
+zero_by : (e : List Event) (t u o n : ℕ) → count e u o ≡ n → AllAllowed e → 0 < count e t o → u ≢ t → n ≡ 0
+zero_by e t u o zero is all some differ = refl
+zero_by e t u o (suc n) is all some differ =
+    let there : 0 < count e u o = omega arith in
+    absurd (differ (one_owner e u t o all there some))
+
+-- where one thread owns it, another's count is 0
+zero_else : (e : List Event) (t u o : ℕ) → AllAllowed e → 0 < count e t o → u ≢ t → count e u o ≡ 0
+zero_else e t u o all some differ = zero_by e t u o (count e u o) refl all some differ
+
+some_is : (a b : ℕ) → Some a ≡ Some b → a ≡ b
+some_is a b is = cc
+
+own_by : (e : List Event) (t o c : ℕ) (w : Owned) (b : Bool) → (w.tid == t) ≡ b → AllAllowed e → Tells e o (Some w) → (if b then Some w.count else None) ≡ Some c → (count e t o ≡ c) × IsAllowed t (Enter o) e
+own_by e t o c w true mine all told is =
+    let same : w.tid ≡ t = eqb-true w.tid t mine in
+    let number : w.count ≡ c = some_is w.count c is in
+    let P : ℕ → Type 0 = λ u. (count e u o ≡ w.count) × (0 < w.count) in
+    let here : (count e t o ≡ w.count) × (0 < w.count) = subst P same told in
+    let some : 0 < count e t o = omega (arith, here.0, here.1) in
+    (here.0 ∙ number, λ u differ. zero_else e t u o all some differ)
+own_by e t o c w false mine all told is = cc
+
+-- the count and the condition of a thread that may enter
+pub may_enter : (e : List Event) (t o c : ℕ) (found : Option Owned) → AllAllowed e → Tells e o found → count_by_owner t found ≡ Some c → (count e t o ≡ c) × IsAllowed t (Enter o) e
+may_enter e t o c None all told is =
+    let none : 0 ≡ c = some_is 0 c is in
+    (told t ∙ none, λ u differ. told u)
+may_enter e t o c (Some w) all told is = own_by e t o c w (w.tid == t) refl all told is
+
+pub enter_here : (e : List Event) (t o c : ℕ) → AllAllowed e → count e t o ≡ c → Tells (by t (Enter o) ∷ e) o (Some (record { tid = t; count = c + 1 }))
+enter_here e t o c all is = (count_enter e t o all ∙ ap (λ n. n + 1) is, omega arith)
+
+enter_elsewhere : (e : List Event) (t o q : ℕ) (found : Option Owned) → (o == q) ≡ false → Tells e q found → Tells (by t (Enter o) ∷ e) q found
+enter_elsewhere e t o q None apart told = λ u. count_other_enter e u t q o apart ∙ told u
+enter_elsewhere e t o q (Some w) apart told = (count_other_enter e w.tid t q o apart ∙ told.0, told.1)
+
+enter_each : (e : List Event) (t o c q : ℕ) (found : Option Owned) (b : Bool) → (o == q) ≡ b → AllAllowed e → count e t o ≡ c → Tells e q found
+    → Tells (by t (Enter o) ∷ e) q (if b then Some (record { tid = t; count = c + 1 }) else found)
+enter_each e t o c q found true is all own told =
+    let P : ℕ → Type 0 = λ p. Tells (by t (Enter o) ∷ e) p (Some (record { tid = t; count = c + 1 })) in
+    subst P (eqb-true o q is) (enter_here e t o c all own)
+enter_each e t o c q found false is all own told = enter_elsewhere e t o q found is told
+
+pub enter_law : (es news : List (ℕ × Owned)) (e : List Event) (t o c : ℕ) → Stands (record { owned = map seen es }) e → count_by_owner t (lookup (is_at (nat_cmp o)) es) ≡ Some c
+    → IsStrictlySortedBy nat_cmp (keys_of news) → ((q : ℕ) → lookup (is_at (nat_cmp q)) news ≡ (if o == q then Some (record { tid = t; count = c + 1 }) else lookup (is_at (nat_cmp q)) es))
+    → Stands (record { owned = map seen news }) (by t (Enter o) ∷ e)
+enter_law es news e t o c stands own sorted put =
+    let may = may_enter e t o c (lookup (is_at (nat_cmp o)) es) stands.allowed (tells es e o stands) own in
+    stands_by news (by t (Enter o) ∷ e) (stands.allowed, may.1) sorted
+    (λ q. rw (put q) (enter_each e t o c q (lookup (is_at (nat_cmp q)) es) (o == q) refl stands.allowed may.0 (tells es e q stands)))
+
+freed_by : (e : List Event) (t u o : ℕ) (w : Owned) (b : Bool) → (t == u) ≡ b → nat_lt 1 w.count ≡ false → w.tid ≡ t → AllAllowed e → Tells e o (Some w) → count (by t (Exit o) ∷ e) u o ≡ 0
+freed_by e t u o w true is few mine all told =
+    let same : t ≡ u = eqb-true t u is in
+    let P : ℕ → Type 0 = λ v. count (by t (Exit o) ∷ e) v o ≡ 0 in
+    let Q : ℕ → Type 0 = λ v. count e v o ≡ w.count in
+    let was : count e t o ≡ w.count = subst Q mine told.0 in
+    let last : w.count - 1 ≡ 0 = grind (arith, nat_tests) in
+    subst P same (count_exit e t o ∙ (ap (λ n. n - 1) was ∙ last))
+freed_by e t u o w false is few mine all told =
+    let differ : t ≢ u = grind (arith, nat_tests) in
+    let some : 0 < count e w.tid o = omega (arith, told.0, told.1) in
+    count_other_thread e u t o (Exit o) differ ∙ zero_else e w.tid u o all some (λ same. differ (sym mine ∙ sym same))
+
+exit_here : (e : List Event) (t o : ℕ) (w : Owned) (b : Bool) → nat_lt 1 w.count ≡ b → w.tid ≡ t → AllAllowed e → Tells e o (Some w) → Tells (by t (Exit o) ∷ e) o (if b then Some (record w { count = w.count - 1 }) else None)
+exit_here e t o w true is mine all told =
+    let P : ℕ → Type 0 = λ u. count (by u (Exit o) ∷ e) w.tid o ≡ w.count - 1 in
+    let left : count (by w.tid (Exit o) ∷ e) w.tid o ≡ w.count - 1 = count_exit e w.tid o ∙ ap (λ n. n - 1) told.0 in
+    let more : 0 < w.count - 1 = grind (arith, nat_tests) in
+    (subst P mine left, more)
+exit_here e t o w false is mine all told = λ u. freed_by e t u o w (t == u) refl is mine all told
+
+exit_elsewhere : (e : List Event) (t o q : ℕ) (found : Option Owned) → (o == q) ≡ false → Tells e q found → Tells (by t (Exit o) ∷ e) q found
+exit_elsewhere e t o q None apart told = λ u. count_other_exit e u t q o apart ∙ told u
+exit_elsewhere e t o q (Some w) apart told = (count_other_exit e w.tid t q o apart ∙ told.0, told.1)
+
+exit_each : (e : List Event) (t o q : ℕ) (w : Owned) (found : Option Owned) (b : Bool) → (o == q) ≡ b → w.tid ≡ t → AllAllowed e → Tells e o (Some w) → (o ≡ q → found ≡ Some w) → Tells e q found
+    → Tells (by t (Exit o) ∷ e) q (if b then lowered found else found)
+exit_each e t o q w found true is mine all here same told =
+    let at : o ≡ q = eqb-true o q is in
+    let P : ℕ → Type 0 = λ p. Tells (by t (Exit o) ∷ e) p (lowered (Some w)) in
+    rw (same at) (subst P at (exit_here e t o w (nat_lt 1 w.count) refl mine all here))
+exit_each e t o q w found false is mine all here same told = exit_elsewhere e t o q found is told
+
+pub exit_law : (es news : List (ℕ × Owned)) (e : List Event) (t o : ℕ) (w : Owned) → Stands (record { owned = map seen es }) e → lookup (is_at (nat_cmp o)) es ≡ Some w → w.tid ≡ t
+    → IsStrictlySortedBy nat_cmp (keys_of news) → ((q : ℕ) → lookup (is_at (nat_cmp q)) news ≡ (if o == q then lowered (lookup (is_at (nat_cmp q)) es) else lookup (is_at (nat_cmp q)) es))
+    → Stands (record { owned = map seen news }) (by t (Exit o) ∷ e)
+exit_law es news e t o w stands found mine sorted put =
+    let P : Option Owned → Type 0 = λ f. Tells e o f in
+    let here : Tells e o (Some w) = subst P found (tells es e o stands) in
+    let R : ℕ → Type 0 = λ u. 0 < count e u o in
+    let some : 0 < count e w.tid o = omega (arith, here.0, here.1) in
+    stands_by news (by t (Exit o) ∷ e) (stands.allowed, subst R mine some) sorted
+    (λ q. rw (put q) (exit_each e t o q w (lookup (is_at (nat_cmp q)) es) (o == q) refl mine stands.allowed here
+    (λ same. ap (λ p. lookup (is_at (nat_cmp p)) es) (sym same) ∙ found) (tells es e q stands)))
+
+released_by : (e : List Event) (t u q : ℕ) (b : Bool) → (t == u) ≡ b → count e u q ≡ 0 → count (by t ReleaseAll ∷ e) u q ≡ 0
+released_by e t u q true is was =
+    let P : ℕ → Type 0 = λ v. count (by t ReleaseAll ∷ e) v q ≡ 0 in
+    subst P (eqb-true t u is) (count_release e t q)
+released_by e t u q false is was =
+    let differ : t ≢ u = grind (arith, nat_tests) in
+    count_other_thread e u t q ReleaseAll differ ∙ was
+
+let_go : (e : List Event) (t u q : ℕ) (w : Owned) (b : Bool) → (t == u) ≡ b → w.tid ≡ t → AllAllowed e → Tells e q (Some w) → count (by t ReleaseAll ∷ e) u q ≡ 0
+let_go e t u q w true is mine all told =
+    let P : ℕ → Type 0 = λ v. count (by t ReleaseAll ∷ e) v q ≡ 0 in
+    subst P (eqb-true t u is) (count_release e t q)
+let_go e t u q w false is mine all told =
+    let differ : t ≢ u = grind (arith, nat_tests) in
+    let some : 0 < count e w.tid q = omega (arith, told.0, told.1) in
+    count_other_thread e u t q ReleaseAll differ ∙ zero_else e w.tid u q all some (λ same. differ (sym mine ∙ sym same))
+
+release_owned : (e : List Event) (t q : ℕ) (w : Owned) (b : Bool) → (w.tid == t) ≡ b → AllAllowed e → Tells e q (Some w) → Tells (by t ReleaseAll ∷ e) q (if not b then Some w else None)
+release_owned e t q w true is all told = λ u. let_go e t u q w (t == u) refl (eqb-true w.tid t is) all told
+release_owned e t q w false is all told =
+    let differ : t ≢ w.tid = grind (arith, nat_tests) in
+    (count_other_thread e w.tid t q ReleaseAll differ ∙ told.0, told.1)
+
+release_each : (e : List Event) (t q : ℕ) (found : Option Owned) → AllAllowed e → Tells e q found → Tells (by t ReleaseAll ∷ e) q (option_filter (λ w. not (w.tid == t)) found)
+release_each e t q None all told = λ u. released_by e t u q (t == u) refl (told u)
+release_each e t q (Some w) all told = release_owned e t q w (w.tid == t) refl all told
+
+pub release_law : (es news : List (ℕ × Owned)) (e : List Event) (t : ℕ) → Stands (record { owned = map seen es }) e → IsStrictlySortedBy nat_cmp (keys_of es)
+    → IsStrictlySortedBy nat_cmp (keys_of news) → news ≡ filter (λ x. not (x.1.tid == t)) es
+    → Stands (record { owned = map seen news }) (by t ReleaseAll ∷ e)
+release_law es news e t stands was sorted is =
+    stands_by news (by t ReleaseAll ∷ e) (stands.allowed, tt) sorted
+    (λ q. rw (is, lookup-filter-values (eq_by_cmp_equiv nat_cmp_total) (λ w. not (w.tid == t)) q es (IsDistinct-from_sorted nat_cmp (keys_of es) was)) (release_each e t q (lookup (is_at (nat_cmp q)) es) stands.allowed (tells es e q stands)))

@@ -1,0 +1,15 @@
+//! Monitors: which thread owns the monitor of an object, and how often it entered it (JNI
+//! Specification, chapter 4, "Monitor Operations").
+#![tactic(auto)]
+
+mod entering;
+mod meanings;
+mod monitors;
+mod owned;
+
+pub use entering::Entering;
+pub use meanings::{count_is_bounded, count_means, one_owner, owner_means, rows_tell, since_means};
+pub use monitors::Monitors;
+
+#[cfg(test)]
+mod tests;

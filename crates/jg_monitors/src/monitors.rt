@@ -1,0 +1,118 @@
+ghost use Rattle.std.specs.Prelude.{◌≡◌, ℕ, ◌+◌, ◌<◌, ◌||◌, List, [], ◌∷◌, Some, IfOk, OnErr, option_map, slice_get};
+ghost use Rattle.jg_monitors.specs.History.{Event, by, Enter, Exit, ReleaseAll, owner, owner_count, held, entering};
+ghost use Rattle.jg_monitors.specs.Rows.{row_of, owner_in, count_in};
+ghost use Rattle.jg_monitors.specs.Standing.{Stands};
+
+use crate::entering::Entering;
+use crate::owned::{Owned, look, lower, mark_keys, own_count, put, release};
+use jg_words::{ObjId, Tid};
+use std::alloc::{AllocError, Allocator, Global};
+use std::collections::BTreeMap;
+use std::marker::Model;
+
+/// The owned monitors, by object. Contracts see the rows.
+#[derive(Drop)]
+pub struct Monitors<A: Allocator = Global> {
+    owned: BTreeMap<u64, Owned, A>,
+}
+
+impl<A: Allocator> Model for Monitors<A> {
+    ghost use Rattle.std.specs.Prelude.{map};
+    ghost use Rattle.jg_monitors.specs.Rows.{Rows};
+    ghost use Rattle.jg_monitors.specs.Seen.{seen};
+
+    ghost Value = { Rows };
+
+    ghost view = { λ a. record { owned = map seen a.owned.entries } };
+}
+
+impl<A: Allocator + Clone> Monitors<A> {
+    /// No monitor is owned. Takes no memory.
+    pub fn new(alloc: A) -> Monitors<A>
+        ensures { Stands result [] }
+    {
+        Monitors {
+            owned: BTreeMap::new(alloc),
+        }
+    }
+
+    /// Enters the monitor of the object, once more where the thread owns it already (chapter 4,
+    /// `MonitorEnter`). `Busy` where another thread owns it: nothing changes. Fails only for want
+    /// of memory, and then leaves all unchanged.
+    pub fn enter(&mut self, tid: Tid, object: ObjId) -> Result<Entering, AllocError>
+        requires { count_in (row_of object.0 self.old) < u64.MAX }
+        ensures row { IfOk result (λ answer. answer ≡ entering tid.0 (owner_in (row_of object.0 self.old))) }
+        ensures stands { IfOk result (λ answer. (e : List Event) → Stands self.old e → answer ≡ entering tid.0 (owner e object.0)) }
+        ensures entered { IfOk result (λ answer. answer ≡ Entering.Entered → (e : List Event) → Stands self.old e → Stands self.new (by tid.0 (Enter object.0) ∷ e)) }
+        ensures busy { IfOk result (λ answer. answer ≡ Entering.Busy → self.new ≡ self.old) }
+        ensures err { OnErr result (self.new ≡ self.old) }
+    {
+        let found = look(&self.owned, object.0);
+        let Some(count) = own_count(found, tid.0) else {
+            return Ok(Entering::Busy);
+        };
+        put(
+            &mut self.owned,
+            object.0,
+            Owned {
+                tid: tid.0,
+                count: count + 1,
+            },
+        )?;
+        Ok(Entering::Entered)
+    }
+
+    /// Exits the monitor of the object once; the owner's last exit frees it (chapter 4,
+    /// `MonitorExit`).
+    pub fn exit(&mut self, tid: Tid, object: ObjId)
+        requires { owner_in (row_of object.0 self.old) ≡ Some tid.0 }
+        ensures { (e : List Event) → Stands self.old e → Stands self.new (by tid.0 (Exit object.0) ∷ e) }
+    {
+        lower(&mut self.owned, object.0);
+    }
+
+    /// The thread that owns the monitor of the object.
+    pub fn owner(&self, object: ObjId) -> Option<Tid>
+        ensures row { result ≡ option_map (λ t. record { 0 = t }) (owner_in (row_of object.0 self.now)) }
+        ensures stands { (e : List Event) → Stands self.now e → result ≡ option_map (λ t. record { 0 = t }) (owner e object.0) }
+    {
+        match look(&self.owned, object.0) {
+            Some(owned) => Some(Tid(owned.tid)),
+            None => None,
+        }
+    }
+
+    /// How often the owner entered the monitor of the object and didn't exit it; 0 where it is free.
+    pub fn count(&self, object: ObjId) -> u64
+        ensures row { result ≡ count_in (row_of object.0 self.now) }
+        ensures stands { (e : List Event) → Stands self.now e → result ≡ owner_count e object.0 }
+    {
+        match look(&self.owned, object.0) {
+            Some(owned) => owned.count,
+            None => 0,
+        }
+    }
+
+    /// Releases all monitors that the thread owns, as its detachment does (chapter 5,
+    /// `DetachCurrentThread`).
+    pub fn release_all(&mut self, tid: Tid)
+        ensures { (e : List Event) → Stands self.old e → Stands self.new (by tid.0 ReleaseAll ∷ e) }
+    {
+        release(&mut self.owned, tid.0);
+    }
+
+    /// Whether some thread owns the monitor of the object.
+    pub fn held(&self, object: ObjId) -> bool
+        ensures { (e : List Event) → Stands self.now e → result ≡ held e object.0 }
+    {
+        look(&self.owned, object.0).is_some()
+    }
+
+    /// Sets the mark of each object whose monitor is owned and leaves the other marks. An object
+    /// past the end of `marks` is passed over.
+    pub fn mark_held(&self, marks: &mut [bool])
+        ensures { (e : List Event) → Stands self.now e → (o : ℕ) → slice_get marks.new o ≡ option_map (λ mark. mark || held e o) (slice_get marks.old o) }
+    {
+        mark_keys(&self.owned, marks);
+    }
+}

@@ -1,0 +1,89 @@
+ghost use Rattle.std.specs.Prelude.{◌≡◌, ℕ, ◌==◌, ◌||◌, not, true, if◌then◌else◌, filter, Some, OnOk, OnErr, option_map, slice_get, slice_set};
+ghost use Rattle.std.specs.Ordering.{nat_cmp};
+ghost use Rattle.std.specs.List.{list_any};
+ghost use Rattle.jg_monitors.specs.Seen.{count_by_owner, lowered};
+ghost use Rattle.std.specs.BTreeMap.{get, keys, IsOrdered};
+
+use std::alloc::{AllocError, Allocator};
+use std::collections::BTreeMap;
+
+/// The owner of a monitor, and how often it entered it and didn't exit: at least once.
+#[derive(Clone, Copy, Debug, PartialEq, Eq)]
+pub struct Owned {
+    pub tid: u16,
+    pub count: u64,
+}
+
+pub fn look<A: Allocator>(map: &BTreeMap<u64, Owned, A>, object: u64) -> Option<Owned>
+    ensures { result ≡ get nat_cmp map.now object }
+{
+    map.get(&object).copied()
+}
+
+/// How often the thread entered a monitor that is free or its own; `None` where another owns it.
+pub fn own_count(found: Option<Owned>, tid: u16) -> Option<u64>
+    ensures { result ≡ count_by_owner tid found }
+{
+    match found {
+        None => Some(0),
+        Some(owned) => {
+            if owned.tid == tid {
+                Some(owned.count)
+            } else {
+                None
+            }
+        }
+    }
+}
+
+pub fn put<A: Allocator + Clone>(
+    map: &mut BTreeMap<u64, Owned, A>,
+    object: u64,
+    owned: Owned,
+) -> Result<(), AllocError>
+    ensures put { OnOk result ((q : ℕ) → get nat_cmp map.new q ≡ (if object == q then Some owned else get nat_cmp map.old q)) }
+    ensures ordered { OnOk result (IsOrdered nat_cmp map.new) }
+    ensures err { OnErr result (map.new.entries ≡ map.old.entries) }
+{
+    map.insert(object, owned)?;
+    Ok(())
+}
+
+/// Lowers the count of the object's monitor by one, and frees it at 0. Takes no memory.
+pub fn lower<A: Allocator>(map: &mut BTreeMap<u64, Owned, A>, object: u64)
+    ensures lowered { (q : ℕ) → get nat_cmp map.new q ≡ (if object == q then lowered (get nat_cmp map.old q) else get nat_cmp map.old q) }
+    ensures ordered { IsOrdered nat_cmp map.new }
+{
+    if let Some(owned) = map.get_mut(&object) {
+        if owned.count > 1 {
+            owned.count -= 1;
+            return;
+        }
+    }
+    map.remove(&object);
+}
+
+pub fn release<A: Allocator>(map: &mut BTreeMap<u64, Owned, A>, tid: u16)
+    ensures kept { map.new.entries ≡ filter (λ e. not (e.1.tid == tid)) map.old.entries }
+    ensures ordered { IsOrdered nat_cmp map.new }
+    ensures was_ordered { IsOrdered nat_cmp map.old }
+{
+    map.retain(|_object: &u64, owned: &mut Owned| owned.tid != tid);
+}
+
+pub fn mark_keys<A: Allocator>(map: &BTreeMap<u64, Owned, A>, marks: &mut [bool])
+    ensures { (o : ℕ) → slice_get marks.new o ≡ option_map (λ mark. mark || list_any (λ k. k == o) (keys map.now)) (slice_get marks.old o) }
+{
+    for object in map.keys() {
+        mark(marks, *object);
+    }
+}
+
+fn mark(marks: &mut [bool], object: u64)
+    ensures { marks.new ≡ slice_set marks.old object true }
+{
+    let index = object as usize;
+    if index < marks.len() {
+        marks[index] = true;
+    }
+}

@@ -1,0 +1,81 @@
+use crate::{Entering, Monitors};
+use jg_words::{ObjId, Tid};
+use linked_list_allocator::LocalHeap;
+use std::process::Abort;
+use std::test::Fail;
+
+const T1: Tid = Tid(1);
+
+const T2: Tid = Tid(2);
+
+const TEXT: ObjId = ObjId(15);
+
+#[test]
+fn entered_twice(rt: HostRuntime) -> Result<(), Fail> {
+    let mut table = Monitors::new(rt.alloc());
+    assert_eq!(rt; table.owner(TEXT), None);
+    assert_eq!(rt; table.count(TEXT), 0);
+    assert!(rt; table.count(TEXT) < u64::MAX);
+    assert_eq!(rt; table.enter(T1, TEXT)?, Entering::Entered);
+    assert!(rt; table.count(TEXT) < u64::MAX);
+    assert_eq!(rt; table.enter(T1, TEXT)?, Entering::Entered);
+    assert_eq!(rt; table.count(TEXT), 2);
+    assert!(rt; table.count(TEXT) < u64::MAX);
+    assert_eq!(rt; table.enter(T2, TEXT)?, Entering::Busy);
+    assert_eq!(rt; table.owner(TEXT), Some(T1));
+    table.exit(T1, TEXT);
+    assert!(rt; table.count(TEXT) < u64::MAX);
+    assert_eq!(rt; table.enter(T2, TEXT)?, Entering::Busy);
+    assert_eq!(rt; table.owner(TEXT), Some(T1));
+    table.exit(T1, TEXT);
+    assert!(rt; !table.held(TEXT));
+    assert!(rt; table.count(TEXT) < u64::MAX);
+    assert_eq!(rt; table.enter(T2, TEXT)?, Entering::Entered);
+    assert_eq!(rt; table.owner(TEXT), Some(T2));
+    Ok(())
+}
+
+#[test]
+fn released_with_the_session(rt: HostRuntime) -> Result<(), Fail> {
+    let mut table = Monitors::new(rt.alloc());
+    assert!(rt; table.count(ObjId(1)) < u64::MAX);
+    assert_eq!(rt; table.enter(T1, ObjId(1))?, Entering::Entered);
+    assert!(rt; table.count(ObjId(2)) < u64::MAX);
+    assert_eq!(rt; table.enter(T2, ObjId(2))?, Entering::Entered);
+    assert!(rt; table.count(ObjId(9)) < u64::MAX);
+    assert_eq!(rt; table.enter(T1, ObjId(9))?, Entering::Entered);
+    let mut marks = [false, false, false, true];
+    table.mark_held(&mut marks);
+    assert_eq!(rt; marks, [false, true, true, true]);
+    table.release_all(T1);
+    assert_eq!(rt; table.owner(ObjId(1)), None);
+    assert_eq!(rt; table.owner(ObjId(2)), Some(T2));
+    assert_eq!(rt; table.owner(ObjId(9)), None);
+    Ok(())
+}
+
+/// Takes the largest block that the heap still has, so that no list can grow.
+fn ballast<'a>(heap: &'a LocalHeap) -> Vec<u8, &'a LocalHeap> {
+    let mut block = Vec::new(heap);
+    for size in (0..4096usize).rev() {
+        if block.try_reserve(size).is_ok() {
+            break;
+        }
+    }
+    block
+}
+
+#[test]
+fn refused_growth(rt: HostRuntime) -> Result<(), Fail> {
+    let heap = LocalHeap::new(rt.alloc(), 4096)?;
+    let mut table = Monitors::new(&heap);
+    let block = ballast(&heap);
+    assert!(rt; table.count(TEXT) < u64::MAX);
+    assert!(rt; table.enter(T1, TEXT).is_err());
+    assert!(rt; !table.held(TEXT));
+    drop(block);
+    assert!(rt; table.count(TEXT) < u64::MAX);
+    assert_eq!(rt; table.enter(T1, TEXT)?, Entering::Entered);
+    assert_eq!(rt; table.owner(TEXT), Some(T1));
+    Ok(())
+}

@@ -1,0 +1,5 @@
+pub mod Lines
+pub mod Sessions
+pub mod References
+pub mod Frames
+pub mod Strings

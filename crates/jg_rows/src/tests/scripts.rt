@@ -1,0 +1,56 @@
+//! Scripts and their limits.
+
+use crate::tests::{Row, comes_out};
+use jg_script::{RunFault, ScriptFault};
+use std::test::Fail;
+
+const EMPTY_SCRIPT: Row = Row {
+    limit: 100,
+    script: "",
+    text: "",
+    result: Ok(0),
+};
+
+#[test]
+fn empty_script(rt: HostRuntime) -> Result<(), Fail> {
+    comes_out(rt.alloc(), &EMPTY_SCRIPT)
+}
+
+const LIMIT_THREE: Row = Row {
+    limit: 3,
+    script: "T1 - AttachCurrentThread
+T1 E1.1 NewString [1]
+T1 E1.1 GetStringLength L1.1
+T1 E1.1 DeleteLocalRef L1.1
+",
+    text: "T1 - AttachCurrentThread = E1.1
+T1 E1.1 NewString [1] = L1.1
+T1 E1.1 GetStringLength L1.1 = 1
+",
+    result: Err(RunFault::Limit { line: 4 }),
+};
+
+#[test]
+fn limit_three(rt: HostRuntime) -> Result<(), Fail> {
+    comes_out(rt.alloc(), &LIMIT_THREE)
+}
+
+const UNKNOWN_FUNCTION: Row = Row {
+    limit: 100,
+    script: "T1 - AttachCurrentThread
+T1 E1.1 NewString []
+T1 E1.1 Fly
+",
+    text: "T1 - AttachCurrentThread = E1.1
+T1 E1.1 NewString [] = L1.1
+",
+    result: Err(RunFault::Script {
+        line: 3,
+        fault: ScriptFault::UnknownFunction,
+    }),
+};
+
+#[test]
+fn unknown_function(rt: HostRuntime) -> Result<(), Fail> {
+    comes_out(rt.alloc(), &UNKNOWN_FUNCTION)
+}

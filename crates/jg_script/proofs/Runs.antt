@@ -1,0 +1,102 @@
+-- What the lines taken so far, and the answer to the next one, say of the whole.
+use Rattle.std.proofs.Common.{◌≡◌, ◌≢◌, ℕ, ◌+◌, ◌≤◌, List, [], ◌∷◌, ◌++◌, length, Option, Some, None, IfSome, Ok, Err, ap, sym, ◌∙◌, subst, append_assoc, refl, arith, inl, inr, ◌⊎◌}
+use Rattle.std.specs.Io.KnownBytes.{Appends, IsAtEnd}
+use Rattle.std.proofs.lemmas.List.{append-nil}
+use Rattle.jg_words.specs.declared.entry.Entry.{Entry}
+use Rattle.jg_text.specs.declared.fault.ScriptFault.TheVariants.{LineTooLong}
+use Rattle.jg_text.specs.Faults.{IsFirstFault}
+use Rattle.jg_text.specs.Journal.{call_lines, journal_text}
+use Rattle.jg_guard.specs.Guard.{State}
+use Rattle.jg_script.specs.declared.run_fault.RunFault.{RunFault}
+use Rattle.jg_script.specs.declared.run_fault.RunFault.TheVariants.{Script, Limit, NoMemory, Read, Write}
+use Rattle.jg_script.specs.Answered.{Answers, Journals}
+use Rattle.jg_script.specs.Checked.{Checks, IsWellFormed, IsFollowedBy, TakesOneMore, WritesAll, BeginsWith, IsScript}
+use Rattle.jg_script.specs.Lines.{lines_of, LinesTaken, BeginsTooLong}
+use Rattle.std.proofs.KnownBytes.{Appends-trans}
+
+followed : (a c : Option (List ℕ)) (xs : List (List ℕ)) (line : List ℕ) (P : List ℕ → Type 0) → LinesTaken a c (xs ++ line ∷ []) → P line → IfSome a (λ text. (next : List ℕ) × (more : List (List ℕ)) × (lines_of text ≡ xs ++ next ∷ more) × P next)
+followed None c xs line P e p = tt
+followed (Some text) None xs line P e p = absurd e
+followed (Some text) (Some rest) xs line P e p = (line, lines_of rest, e ∙ append_assoc xs (line ∷ []) (lines_of rest), p)
+
+begun : (a c : Option (List ℕ)) (xs : List (List ℕ)) → LinesTaken a c xs → IfSome a (λ text. (more : List (List ℕ)) × (lines_of text ≡ xs ++ more))
+begun None c xs e = tt
+begun (Some text) None xs e = absurd e
+begun (Some text) (Some rest) xs e = (lines_of rest, e)
+
+begun_before : (a c : Option (List ℕ)) (xs : List (List ℕ)) (line : List ℕ) → LinesTaken a c (xs ++ line ∷ []) → IfSome a (λ text. (more : List (List ℕ)) × (lines_of text ≡ xs ++ more))
+begun_before None c xs line e = tt
+begun_before (Some text) None xs line e = absurd e
+begun_before (Some text) (Some rest) xs line e = (line ∷ lines_of rest, e ∙ append_assoc xs (line ∷ []) (lines_of rest))
+
+pub ended : (a c : Option (List ℕ)) (xs : List (List ℕ)) → LinesTaken a c xs → IsAtEnd c → IfSome a (λ text. lines_of text ≡ xs)
+ended None c xs e done = tt
+ended (Some text) None xs e done = absurd e
+ended (Some text) (Some rest) xs e done = e ∙ ap (λ r. xs ++ lines_of r) done ∙ append-nil xs
+
+-- the line that comes next is too long
+too_long : (a b : Option (List ℕ)) (h : List Entry) → LinesTaken a b (call_lines h) → BeginsTooLong b → IsFollowedBy a h (λ next. IsFirstFault next LineTooLong)
+too_long None b h e long = tt
+too_long (Some text) None h e long = absurd e
+too_long (Some text) (Some rest) h e (bad, more, split, long) =
+    (bad, more, e ∙ ap (λ ls. call_lines h ++ ls) split, record { fault = long; first = λ g low. absurd (omega (arith, low)) })
+
+-- the lines of the longer history
+lines_of_calls : (a c : Option (List ℕ)) (old new : State) (text : List ℕ) (e : Entry) → Journals old new text e → LinesTaken a c (call_lines old.journal ++ text ∷ []) → LinesTaken a c (call_lines new.journal)
+lines_of_calls a c old new text e j taken =
+    subst (LinesTaken a c) (ap (λ t. call_lines old.journal ++ t ∷ []) j.spelt.text ∙ sym (ap call_lines j.journal)) taken
+
+-- what a check knows before a line: the lines taken are those of the guard's journal, their text
+-- is written, and as many are taken
+pub record HasChecked (input input' bytes bytes' : Option (List ℕ)) (limit line : ℕ) (guard : State) : Type 0 where
+  pub read : LinesTaken input input' (call_lines guard.journal)
+  pub written : WritesAll bytes bytes' guard.journal
+  pub counted : line ≡ length guard.journal + 1
+  pub limited : guard.limit ≡ limit
+
+pub long_answered : (input mid input' bytes bytes' : Option (List ℕ)) (limit line : ℕ) (guard : State) → HasChecked input mid bytes bytes' limit line guard → length guard.journal ≤ limit → BeginsTooLong mid → Checks input input' bytes bytes' limit guard.journal (Err (Script line LineTooLong))
+long_answered input mid input' bytes bytes' limit line guard h within long = (too_long input mid guard.journal h.read long, (λ other. absurd (other refl)), h.written, h.counted, within)
+
+module _ (input mid input' bytes part bytes' : Option (List ℕ)) (limit line : ℕ) (old new : State) (text : List ℕ) where
+  -- one more line is taken, and answered
+  pub goes_on : HasChecked input mid bytes part limit line old → LinesTaken input input' (call_lines old.journal ++ text ∷ []) → new.limit ≡ old.limit → Answers part bytes' old new text line (Ok tt)
+      → HasChecked input input' bytes bytes' limit (line + 1) new × (length new.journal ≤ limit) × (IsScript old.journal → IsScript new.journal)
+  goes_on h taken kept (e, j, more) =
+      let len = ap length j.journal in
+      let room = j.room in
+      let limited = h.limited in
+      let counted = h.counted in (
+        record {
+          read = lines_of_calls input input' old new text e j taken;
+          written = subst (λ (g : List ℕ). Appends bytes bytes' g) (sym (ap journal_text j.journal)) (Appends-trans _ _ _ _ _ h.written more);
+          counted = omega arith;
+          limited = kept ∙ h.limited;
+        },
+        omega arith,
+        λ script. subst IsScript (sym j.journal) ((j.spelt.tid, j.spelt.env, j.spelt.call), script),
+      )
+
+  pub answered_err : (fault : RunFault) → HasChecked input mid bytes part limit line old → length old.journal ≤ limit → LinesTaken input input' (call_lines old.journal ++ text ∷ []) → Answers part bytes' old new text line (Err fault)
+      → Checks input input' bytes bytes' limit new.journal (Err fault)
+  answered_err (Script l f) h within taken (device, same, first, is) =
+      let P : State → Type 0 = λ k. IsFollowedBy input k.journal (λ next. IsFirstFault next f) × (f ≢ LineTooLong → TakesOneMore input input' k.journal) × WritesAll bytes bytes' k.journal × (l ≡ length k.journal + 1) × (length k.journal ≤ limit) in
+      let Q : Option (List ℕ) → Type 0 = λ d. WritesAll bytes d old.journal in
+      subst P (sym same) (followed _ _ _ text (λ next. IsFirstFault next f) taken first, (λ _. (text, taken)), subst Q (sym device) h.written, is ∙ h.counted, within)
+  answered_err (Limit l) h within taken (device, same, well, full, is) =
+      let P : State → Type 0 = λ k. IsFollowedBy input k.journal IsWellFormed × TakesOneMore input input' k.journal × WritesAll bytes bytes' k.journal × (l ≡ limit + 1) × (length k.journal ≡ limit) in
+      let Q : Option (List ℕ) → Type 0 = λ d. WritesAll bytes d old.journal in
+      let limited = h.limited in
+      let counted = h.counted in
+      subst P (sym same) (followed _ _ _ text IsWellFormed taken well, (text, taken), subst Q (sym device) h.written, omega arith, full ∙ h.limited)
+  answered_err (NoMemory l) h within taken (device, inl same, is) =
+      let Q : Option (List ℕ) → Type 0 = λ d. WritesAll bytes d old.journal in
+      let P : State → Type 0 = λ k. BeginsWith input k.journal × ((g : List Entry) × ((k.journal ≡ g) ⊎ ((e : Entry) × (k.journal ≡ e ∷ g))) × WritesAll bytes bytes' g × (l ≡ length g + 1)) in
+      subst P (sym same) (begun_before _ _ _ text taken, (old.journal, inl refl, subst Q (sym device) h.written, is ∙ h.counted))
+  answered_err (NoMemory l) h within taken (device, inr (e, j), is) =
+      let Q : Option (List ℕ) → Type 0 = λ d. WritesAll bytes d old.journal in
+      (begun _ _ _ (lines_of_calls _ _ old new text e j taken), (old.journal, inr (e, j.journal), subst Q (sym device) h.written, is ∙ h.counted))
+  answered_err (Read l) h within taken none = absurd none
+  answered_err (Write l) h within taken ((e, j, front), is) =
+      let len = ap length j.journal in
+      let counted = h.counted in
+      (begun _ _ _ (lines_of_calls _ _ old new text e j taken), (e, old.journal, j.journal, (part, h.written, front)), omega arith)

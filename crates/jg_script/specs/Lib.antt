@@ -1,0 +1,5 @@
+pub mod Seen
+pub mod Lines
+pub mod Checked
+pub mod Devices
+pub mod Answered

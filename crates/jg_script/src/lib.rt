@@ -1,0 +1,16 @@
+//! Scripts in, journals out: each line of a script is a call, answered by the line of its entry.
+#![tactic(auto)]
+
+mod answer;
+mod line;
+mod run;
+mod run_fault;
+mod watched;
+
+pub use jg_text::{ScriptFault, read_call, write_entry};
+pub use run::check;
+pub use run_fault::RunFault;
+pub use watched::{DeviceFailed, Watched};
+
+#[cfg(test)]
+mod tests;

@@ -1,0 +1,96 @@
+//! One line of a reader, and one text to a writer.
+
+ghost use Rattle.std.specs.Prelude.{◌≡◌, ℕ, ◌<◌, length, take, IfOk, IfErr, OnOk, OnErr, true};
+ghost use Rattle.std.specs.Io.KnownBytes.{Appends};
+ghost use Rattle.jg_script.specs.Devices.{TakesLine, IsOneLine, FailsLine, Takes};
+
+use crate::watched::{DeviceFailed, Watched};
+use jg_text::MAX_LINE;
+use std::alloc::Global;
+use std::io::{Read, Write};
+
+/// How a line ended: at a line feed, at the end of all, or not within 65,536 bytes.
+#[derive(Clone, Copy, Debug, PartialEq, Eq)]
+enum Ending {
+    Feed,
+    End,
+    Long,
+}
+
+/// Why a line can't be had.
+#[derive(Clone, Copy, Debug, PartialEq, Eq)]
+pub enum LineFault {
+    NoMemory,
+    Read,
+}
+
+/// Takes the next line into the buffer.
+fn read_line<R: Read>(reader: &mut Watched<R>, line: &mut Vec<u8>) -> Result<Ending, LineFault>
+    ensures taken { IfOk result (TakesLine (R.remaining reader.old.device) (R.remaining reader.new.device) line.new.items) }
+    ensures clean { OnOk result (IsOneLine line.new.items) }
+    ensures sound { OnOk result (reader.new.failed ≡ reader.old.failed) }
+    ensures fault { IfErr result (FailsLine reader.old.failed reader.new.failed) }
+{
+    line.clear();
+    for _i in 0..MAX_LINE + 1 {
+        match reader.read_byte() {
+            Err(_) => return Err(LineFault::Read),
+            Ok(None) => return Ok(Ending::End),
+            Ok(Some(b'\n')) => return Ok(Ending::Feed),
+            Ok(Some(byte)) => {
+                if line.push(byte).is_err() {
+                    return Err(LineFault::NoMemory);
+                }
+            }
+        }
+    }
+    Ok(Ending::Long)
+}
+
+/// What was taken: a line with its line feed, a last line without one, nothing since the reader is
+/// at its end, or the beginning of a line that is too long.
+#[derive(Clone, Copy, Debug, PartialEq, Eq)]
+pub enum Taken {
+    Line,
+    LastLine,
+    Nothing,
+    TooLong,
+}
+
+/// Takes the next line into the buffer, without its line feed.
+pub fn next_line<R: Read>(reader: &mut Watched<R>, line: &mut Vec<u8>) -> Result<Taken, LineFault>
+    ensures taken { IfOk result (Takes (R.remaining reader.old.device) (R.remaining reader.new.device) line.new.items) }
+    ensures sound { OnOk result (reader.new.failed ≡ reader.old.failed) }
+    ensures fault { IfErr result (FailsLine reader.old.failed reader.new.failed) }
+{
+    match read_line(reader, line) {
+        Ok(Ending::Feed) => Ok(Taken::Line),
+        Ok(Ending::End) => {
+            if line.is_empty() {
+                Ok(Taken::Nothing)
+            } else {
+                Ok(Taken::LastLine)
+            }
+        }
+        Ok(Ending::Long) => Ok(Taken::TooLong),
+        Err(fault) => Err(fault),
+    }
+}
+
+/// Writes all of the bytes, by single writes. Where the device fails, a front of them is written.
+pub fn write_text<W: Write>(writer: &mut Watched<W>, text: &[u8]) -> Result<(), DeviceFailed>
+    ensures written { OnOk result (Appends (W.contents writer.old.device) (W.contents writer.new.device) text.now) }
+    ensures front { OnErr result ((k : ℕ) × (k < length text.now) × Appends (W.contents writer.old.device) (W.contents writer.new.device) (take k text.now)) }
+    ensures sound { OnOk result (writer.new.failed ≡ writer.old.failed) }
+    ensures failed { OnErr result (writer.new.failed ≡ true) }
+{
+    let mut done = 0;
+    while done < text.len() {
+        let (_, rest) = text.split_at(done);
+        match writer.write_some(rest) {
+            Ok(n) => done += n,
+            Err(failed) => return Err(failed),
+        }
+    }
+    Ok(())
+}

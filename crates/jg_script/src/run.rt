@@ -1,0 +1,64 @@
+//! A script is answered line by line.
+
+ghost use Rattle.std.specs.Prelude.{◌≡◌, []};
+ghost use Rattle.jg_rules.specs.Legal.{Legal};
+ghost use Rattle.jg_script.specs.Checked.{Checks, IsScript, ReaderFails, WriterFails};
+
+use crate::answer::answer_line;
+use crate::line::{LineFault, Taken, next_line};
+use crate::run_fault::RunFault;
+use crate::watched::Watched;
+use jg_guard::Guard;
+use jg_text::ScriptFault;
+use std::alloc::{Allocator, Global};
+use std::io::{Read, Write};
+
+/// Answers the lines of a script, each before the next is read, and gives their number. What was
+/// written before a fault stays written, and what the guard took stays in its journal. Nothing is
+/// read after the first faulty line, so at most the limit and one line more are read.
+pub fn check<A: Allocator + Clone, R: Read, W: Write>(
+    alloc: Global,
+    guard: &mut Guard<A>,
+    reader: &mut Watched<R>,
+    writer: &mut Watched<W>,
+) -> Result<u64, RunFault>
+    requires { guard.old.journal ≡ [] }
+    ensures checks { Checks (R.remaining reader.old.device) (R.remaining reader.new.device) (W.contents writer.old.device) (W.contents writer.new.device) guard.old.limit guard.new.journal result }
+    ensures legal { Legal guard.new.setup guard.new.journal }
+    ensures script { IsScript guard.new.journal }
+    ensures setup { guard.new.setup ≡ guard.old.setup }
+    ensures limit { guard.new.limit ≡ guard.old.limit }
+    ensures reader { ReaderFails reader.old.failed reader.new.failed result }
+    ensures writer { WriterFails writer.old.failed writer.new.failed result }
+{
+    let limit = u64::from(guard.limit());
+    let mut text = Vec::new(alloc);
+    for line in 1..limit + 2 {
+        let taken = match next_line(reader, &mut text) {
+            Ok(taken) => taken,
+            Err(LineFault::Read) => return Err(RunFault::Read { line }),
+            Err(LineFault::NoMemory) => return Err(RunFault::NoMemory { line }),
+        };
+        match taken {
+            Taken::Nothing => return Ok(line - 1),
+            Taken::TooLong => {
+                return Err(RunFault::Script {
+                    line,
+                    fault: ScriptFault::LineTooLong,
+                });
+            }
+            Taken::Line => {
+                if let Err(fault) = answer_line(alloc, guard, writer, &text, line) {
+                    return Err(fault);
+                }
+            }
+            Taken::LastLine => {
+                return match answer_line(alloc, guard, writer, &text, line) {
+                    Ok(()) => Ok(line),
+                    Err(fault) => Err(fault),
+                };
+            }
+        }
+    }
+    unreachable!()
+}

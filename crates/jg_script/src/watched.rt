@@ -1,0 +1,113 @@
+//! Readers and writers that keep whether they failed.
+
+ghost use Rattle.std.specs.Prelude.{◌≡◌, ℕ, true, false, length, take, ◌<◌, ◌≤◌, IfOk, IfErr, OnOk, OnErr, MatchOption, ◌∷◌, []};
+ghost use Rattle.std.specs.Io.KnownBytes.{Keeps, Consumes, Appends, IsAtEnd};
+
+use std::io::{Read, Write};
+use std::marker::Model;
+
+/// A reader or a writer, and whether it has failed: by an error, or by a write that took no byte.
+/// Contracts see both.
+#[derive(Drop)]
+pub struct Watched<D> {
+    device: D,
+    failed: bool,
+}
+
+impl<D> Model for Watched<D> {
+    ghost use Rattle.jg_script.specs.Seen.{Seen};
+
+    ghost Value = { Seen D };
+
+    ghost view = { λ w. record { device = w.device; failed = w.failed } };
+}
+
+/// The device failed in this very call, and is marked so.
+#[derive(Clone, Copy, Debug, PartialEq, Eq)]
+pub struct DeviceFailed;
+
+impl<D> Watched<D> {
+    /// The device, which hasn't failed.
+    pub fn new(device: D) -> Self
+        ensures device { result.device ≡ device }
+        ensures fresh { result.failed ≡ false }
+    {
+        Watched {
+            device,
+            failed: false,
+        }
+    }
+
+    /// The device itself.
+    pub fn into_inner(self) -> D
+        ensures { result ≡ self.device }
+    {
+        let Watched { device, failed: _ } = self;
+        device
+    }
+
+    /// Whether it has failed.
+    pub fn has_failed(&self) -> bool
+        ensures { result ≡ self.now.failed }
+    {
+        self.failed
+    }
+}
+
+impl<R: Read> Watched<R> {
+    /// The next byte, or `None` at the end. After an error the reader is marked as failed.
+    pub fn read_byte(&mut self) -> Result<Option<u8>, DeviceFailed>
+        ensures next { IfOk result (λ next. MatchOption next
+            (Keeps (R.remaining self.old.device) (R.remaining self.new.device) × IsAtEnd (R.remaining self.new.device))
+            (λ byte. Consumes (R.remaining self.old.device) (R.remaining self.new.device) (byte ∷ []))) }
+        ensures kept { OnErr result (Keeps (R.remaining self.old.device) (R.remaining self.new.device)) }
+        ensures sound { OnOk result (self.new.failed ≡ self.old.failed) }
+        ensures failed { OnErr result (self.new.failed ≡ true) }
+    {
+        let mut buffer = [0u8];
+        match self.device.read(&mut buffer) {
+            Ok(0) => Ok(None),
+            Ok(_) => Ok(Some(buffer[0])),
+            Err(_) => {
+                self.failed = true;
+                Err(DeviceFailed)
+            }
+        }
+    }
+}
+
+impl<W: Write> Watched<W> {
+    /// Writes some of the bytes, at least one, and answers how many. After an error, or where no
+    /// byte was taken, the writer is marked as failed.
+    pub fn write_some(&mut self, bytes: &[u8]) -> Result<usize, DeviceFailed>
+        requires { 0 < length bytes.now }
+        ensures some { IfOk result (λ n. (0 < n) × (n ≤ length bytes.now)) }
+        ensures written { IfOk result (λ n. Appends (W.contents self.old.device) (W.contents self.new.device) (take n bytes.now)) }
+        ensures kept { OnErr result (Keeps (W.contents self.old.device) (W.contents self.new.device)) }
+        ensures sound { OnOk result (self.new.failed ≡ self.old.failed) }
+        ensures failed { OnErr result (self.new.failed ≡ true) }
+    {
+        match self.device.write(bytes) {
+            Ok(0) | Err(_) => {
+                self.failed = true;
+                Err(DeviceFailed)
+            }
+            Ok(n) => Ok(n),
+        }
+    }
+
+    /// Hands on what the device itself still buffers.
+    pub fn flush(&mut self) -> Result<(), DeviceFailed>
+        ensures kept { Keeps (W.contents self.old.device) (W.contents self.new.device) }
+        ensures sound { OnOk result (self.new.failed ≡ self.old.failed) }
+        ensures failed { OnErr result (self.new.failed ≡ true) }
+    {
+        match self.device.flush() {
+            Ok(()) => Ok(()),
+            Err(_) => {
+                self.failed = true;
+                Err(DeviceFailed)
+            }
+        }
+    }
+}

@@ -1,0 +1,26 @@
+-- A line whose parts are read is spelt by what was read.
+use Rattle.std.proofs.Common.{◌≡◌, ◌∙◌, ap, sym, ℕ, List, [], ◌∷◌, Option, Some, None, Bor, MatchOption}
+use Rattle.std.specs.Option.{option_copied}
+use Rattle.jg_words.specs.declared.thread.Tid.{Tid}
+use Rattle.jg_words.specs.declared.thread.EnvId.{EnvId}
+use Rattle.jg_words.specs.declared.fun.Fun.{Fun}
+use Rattle.jg_words.specs.declared.call.Call.{Call}
+use Rattle.jg_words.specs.Fun.{name_of}
+use Rattle.jg_words.specs.Call.{fun_of}
+use Rattle.jg_text.specs.Words.{tid_text, env_text}
+use Rattle.jg_text.specs.Operands.{operand_texts}
+use Rattle.jg_text.specs.Spelling.{spelling, line_fields}
+use Rattle.jg_text.specs.Faults.{fields}
+use Rattle.jg_text.specs.Pieces.{rest_fields}
+use Rattle.jg_text.proofs.Cuts.{join_fields}
+
+pub cut_rest : (all : List (List ℕ)) (x : List ℕ) (o : Option (Bor (List ℕ))) → MatchOption o (all ≡ x ∷ []) (λ r. all ≡ x ∷ fields r.now) → all ≡ x ∷ rest_fields (option_copied o)
+cut_rest all x None h = h
+cut_rest all x (Some r) h = h
+
+pub spelt_by_parts : (line : List ℕ) (t : Tid) (e : Option EnvId) (f : Fun) (c : Call) (thread env name behind_thread behind_env : List ℕ) (rest : Option (List ℕ)) → fields line ≡ thread ∷ fields behind_thread → fields behind_thread ≡ env ∷ fields behind_env → fields behind_env ≡ name ∷ rest_fields rest → thread ≡ tid_text t → env ≡ env_text e → name ≡ name_of f → fun_of c ≡ f → operand_texts c ≡ rest_fields rest → line ≡ spelling t e c
+unfolding spelling
+spelt_by_parts line t e f c thread env name behind_thread behind_env rest first second third is_t is_e is_f fun texts =
+    let named : name ≡ name_of (fun_of c) = is_f ∙ ap name_of (sym fun) in
+    let whole : fields line ≡ line_fields t e c = cc in
+    join_fields line (line_fields t e c) whole

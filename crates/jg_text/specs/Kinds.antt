@@ -1,0 +1,8 @@
+-- What kinds of operands there are.
+pub data OperandKind : Type 0 where
+  -- a reference, or `null`
+  Reference : OperandKind
+  -- a number of 32 bits with a sign
+  Number : OperandKind
+  -- a list of numbers of 64 bits with a sign
+  Numbers : OperandKind

@@ -1,0 +1,26 @@
+-- What is so of all lines.
+use Rattle.std.specs.Prelude.{◌≡◌, ℕ, ◌≤◌, List, ◌∷◌, ◌++◌, length, Option}
+use Rattle.jg_words.specs.declared.thread.Tid.{Tid}
+use Rattle.jg_words.specs.declared.thread.EnvId.{EnvId}
+use Rattle.jg_words.specs.declared.call.Call.{Call}
+use Rattle.jg_text.specs.declared.fault.ScriptFault.{ScriptFault}
+use Rattle.jg_text.specs.Spelling.{Spells, spelling}
+use Rattle.jg_text.specs.Words.{FitsTid, FitsEnv}
+use Rattle.jg_text.specs.Operands.{FitsCall}
+use Rattle.jg_text.specs.Faults.{HasFault}
+
+-- a line spells one thread, environment and call at most
+abbrev pub IsSpeltOnce : Type 0
+IsSpeltOnce = (line : List ℕ) (t u : Tid) (e f : Option EnvId) (c d : Call) → Spells line t e c → Spells line u f d → (t ≡ u) × (e ≡ f) × (c ≡ d)
+
+-- a line that spells a call has no fault; so it has at most 65,536 bytes
+abbrev pub IsFaultless : Type 0
+IsFaultless = (line : List ℕ) (t : Tid) (e : Option EnvId) (c : Call) (f : ScriptFault) → Spells line t e c → ¬ HasFault f line
+
+-- what begins with a call and a space begins with one such call alone, whatever follows
+abbrev pub IsBegunOnce : Type 0
+IsBegunOnce = (t u : Tid) (e f : Option EnvId) (c d : Call) (x y : List ℕ) → FitsTid t → FitsEnv e → FitsCall c → FitsTid u → FitsEnv f → FitsCall d → spelling t e c ++ 32 ∷ x ≡ spelling u f d ++ 32 ∷ y → (t ≡ u) × (e ≡ f) × (c ≡ d)
+
+-- a call's line is short, so that a list may stand behind it
+abbrev pub IsShort : Type 0
+IsShort = (t : Tid) (e : Option EnvId) (c : Call) → FitsTid t → FitsEnv e → FitsCall c → length (spelling t e c) ≤ 22000

@@ -1,0 +1,54 @@
+//! The operands of a call, by the call's group: how many there are, reading and writing them.
+
+ghost use Rattle.std.specs.Prelude.{◌≡◌, ◌++◌, length, IfOk, IfErr, OnOk, string_bytes};
+ghost use Rattle.std.specs.Option.{option_copied};
+ghost use Rattle.jg_text.specs.Operands.{operand_kinds, operand_texts};
+ghost use Rattle.jg_text.specs.Pieces.{SpellCall};
+ghost use Rattle.jg_text.specs.Pieces.{rest_fields, after_spaces, IsOperandFault};
+
+mod frames;
+mod refs;
+mod strings;
+mod vm;
+
+use crate::fault::ScriptFault;
+use jg_words::{Call, Fun};
+use std::alloc::{AllocError, Global};
+
+/// How many operands the function takes.
+pub fn arity(fun: Fun) -> usize
+    ensures { result ≡ length (operand_kinds fun) }
+{
+    match fun {
+        Fun::Vm(fun) => vm::arity(fun),
+        Fun::Refs(fun) => refs::arity(fun),
+        Fun::Frames(fun) => frames::arity(fun),
+        Fun::Strings(fun) => strings::arity(fun),
+    }
+}
+
+/// The call of the function whose operands these fields are.
+pub fn read(alloc: Global, fun: Fun, rest: Option<&[u8]>) -> Result<Call, ScriptFault>
+    requires { length (rest_fields (option_copied rest)) ≡ length (operand_kinds fun) }
+    ensures spelt { IfOk result (SpellCall fun (rest_fields (option_copied rest.entry))) }
+    ensures fault { IfErr result (IsOperandFault (operand_kinds fun) (rest_fields (option_copied rest.entry))) }
+{
+    match fun {
+        Fun::Vm(fun) => vm::read(alloc, fun, rest).map(Call::Vm),
+        Fun::Refs(fun) => refs::read(alloc, fun, rest).map(Call::Refs),
+        Fun::Frames(fun) => frames::read(alloc, fun, rest).map(Call::Frames),
+        Fun::Strings(fun) => strings::read(alloc, fun, rest).map(Call::Strings),
+    }
+}
+
+/// The operands, each after a space.
+pub fn write(out: &mut String, call: &Call) -> Result<(), AllocError>
+    ensures { OnOk result (string_bytes out.new ≡ string_bytes out.old ++ after_spaces (operand_texts call.now)) }
+{
+    match call {
+        Call::Vm(call) => vm::write(out, call),
+        Call::Refs(call) => refs::write(out, call),
+        Call::Frames(call) => frames::write(out, call),
+        Call::Strings(call) => strings::write(out, call),
+    }
+}

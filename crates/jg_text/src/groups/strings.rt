@@ -1,0 +1,54 @@
+//! The operands of calls of this group: strings.
+
+ghost use Rattle.std.specs.Prelude.{◌≡◌, ◌++◌, length, map, IfOk, IfErr, OnOk, string_bytes};
+ghost use Rattle.std.specs.List.{AllByRecursion};
+ghost use Rattle.std.specs.Option.{option_copied};
+ghost use Rattle.jg_words.specs.Call.{strings_fun};
+ghost use Rattle.jg_text.specs.Words.{text_of, FitsWord};
+ghost use Rattle.jg_text.specs.Operands.{strings_kinds, strings_operands};
+ghost use Rattle.jg_text.specs.Pieces.{rest_fields, after_spaces, IsOperandFault};
+
+use crate::fault::ScriptFault;
+use crate::operand::{read_one, write_one};
+use jg_words::{StringsCall, StringsFun};
+use std::alloc::{AllocError, Global};
+
+/// How many operands the function takes.
+pub fn arity(fun: StringsFun) -> usize
+    ensures { result ≡ length (strings_kinds fun) }
+{
+    match fun {
+        StringsFun::NewString => 1,
+        StringsFun::GetStringLength => 1,
+    }
+}
+
+/// The call of the function whose operands the fields left spell.
+pub fn read(alloc: Global, fun: StringsFun, rest: Option<&[u8]>) -> Result<StringsCall, ScriptFault>
+    requires { length (rest_fields (option_copied rest)) ≡ length (strings_kinds fun) }
+    ensures fits { IfOk result (λ c. AllByRecursion FitsWord (strings_operands c)) }
+    ensures fun { IfOk result (λ c. strings_fun c ≡ fun) }
+    ensures texts { IfOk result (λ c. map text_of (strings_operands c) ≡ rest_fields (option_copied rest.entry)) }
+    ensures fault { IfErr result (IsOperandFault (strings_kinds fun) (rest_fields (option_copied rest.entry))) }
+{
+    match fun {
+        StringsFun::NewString => {
+            let units = read_one(alloc, rest)?;
+            Ok(StringsCall::NewString { units })
+        }
+        StringsFun::GetStringLength => {
+            let string = read_one(alloc, rest)?;
+            Ok(StringsCall::GetStringLength { string })
+        }
+    }
+}
+
+/// Writes the call's operands, each after a space.
+pub fn write(out: &mut String, call: &StringsCall) -> Result<(), AllocError>
+    ensures { OnOk result (string_bytes out.new ≡ string_bytes out.old ++ after_spaces (map text_of (strings_operands call.now))) }
+{
+    match call {
+        StringsCall::NewString { units } => write_one(out, units),
+        StringsCall::GetStringLength { string } => write_one(out, string),
+    }
+}

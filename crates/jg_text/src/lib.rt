@@ -1,0 +1,21 @@
+//! Calls and journal entries as lines of text: one call a line, one entry a line, and one
+//! spelling of each.
+#![tactic(auto)]
+
+mod fault;
+mod groups;
+mod list;
+mod meanings;
+mod number;
+mod operand;
+mod read;
+mod word;
+mod write;
+
+pub use fault::ScriptFault;
+pub use meanings::{begins_with_one_call, call_is_short, spelt_at_most_once, spelt_has_no_fault};
+pub use read::{MAX_LINE, read_call};
+pub use write::write_entry;
+
+#[cfg(test)]
+mod tests;

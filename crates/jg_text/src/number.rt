@@ -1,0 +1,120 @@
+//! Decimal numbers in their one spelling: no leading zero, no plus, and no minus before 0.
+
+ghost use Rattle.std.specs.Prelude.{◌≡◌, ◌≢◌, ℕ, ℤ, ◌<◌, ◌^◌, ◌++◌, ◌∷◌, ◌==◌, false, IfSome, IfNone, All, FitsSigned, IsTrue, ◌↔◌, MatchOption, length, slice_index};
+ghost use Rattle.std.specs.Int.{w32, w64};
+ghost use Rattle.std.specs.Fmt.{decimal, signed_decimal};
+ghost use Rattle.jg_text.specs.Words.{dotted_text};
+ghost use Rattle.jg_text.specs.Pieces.{IsPlain};
+
+use std::str;
+
+/// Neither a plus stands in front nor a leading zero.
+fn is_plain(text: &[u8]) -> bool
+    ensures { IsTrue result ↔ IsPlain text.now }
+{
+    text.is_empty() || text[0] != b'+' && (text[0] != b'0' || text.len() == 1)
+}
+
+/// The number of at most 64 bits that the text spells.
+pub fn number(text: &[u8]) -> Option<u64>
+    ensures some { IfSome result (λ n. text.now ≡ decimal n) }
+    ensures fits { IfSome result (λ n. n < 2 ^ 64) }
+    ensures none { IfNone result ((n : ℕ) → n < 2 ^ 64 → text.now ≢ decimal n) }
+{
+    if !is_plain(text) {
+        return None;
+    }
+    let Ok(text) = str::from_utf8(text) else {
+        return None;
+    };
+    match text.parse::<u64>() {
+        Ok(n) => Some(n),
+        Err(_) => None,
+    }
+}
+
+/// The number of at most 16 bits that the text spells.
+pub fn small_number(text: &[u8]) -> Option<u16>
+    ensures some { IfSome result (λ n. text.now ≡ decimal n) }
+    ensures none { IfNone result ((n : ℕ) → n < 2 ^ 16 → text.now ≢ decimal n) }
+{
+    match number(text) {
+        Some(n) if n < 0x1_0000 => Some(n as u16),
+        _ => None,
+    }
+}
+
+/// What stands before the first such byte, and what stands after it.
+pub fn cut_at(byte: u8, text: &[u8]) -> Option<(&[u8], &[u8])>
+    ensures some { IfSome result (λ parts. (text.now ≡ parts.0.now ++ byte ∷ parts.1.now) × All (λ b. (b == byte) ≡ false) parts.0.now) }
+    ensures none { IfNone result (All (λ b. (b == byte) ≡ false) text.now) }
+{
+    let i = text.iter().position(|b| *b == byte)?;
+    Some((&text[..i], &text[i + 1..]))
+}
+
+/// The two numbers that the text spells, of 16 and 64 bits at most, with a full stop between them.
+pub fn dotted(text: &[u8]) -> Option<(u16, u64)>
+    ensures some { IfSome result (λ r. text.now ≡ dotted_text r.0 r.1) }
+    ensures none { IfNone result ((a b : ℕ) → a < 2 ^ 16 → b < 2 ^ 64 → text.now ≢ dotted_text a b) }
+{
+    let Some((front, back)) = cut_at(b'.', text) else {
+        return None;
+    };
+    let Some(a) = small_number(front) else {
+        return None;
+    };
+    match number(back) {
+        Some(b) => Some((a, b)),
+        None => None,
+    }
+}
+
+/// What stands behind a minus in front, where there is one.
+fn behind_minus(text: &[u8]) -> Option<&[u8]>
+    ensures { MatchOption result (¬ ((0 < length text.now) × (slice_index text.now 0 ≡ 45))) (λ back. text.now ≡ 45 ∷ back.now) }
+{
+    match text {
+        [b'-', back @ ..] => Some(back),
+        _ => None,
+    }
+}
+
+/// The number of 64 bits that the text spells, with a minus where it is below 0.
+pub fn signed_number(text: &[u8]) -> Option<i64>
+    ensures some { IfSome result (λ z. text.now ≡ signed_decimal z) }
+    ensures fits { IfSome result (λ z. FitsSigned w64 z) }
+    ensures none { IfNone result ((z : ℤ) → FitsSigned w64 z → text.now ≢ signed_decimal z) }
+{
+    match behind_minus(text) {
+        Some(back) => negative(back),
+        None => match number(text) {
+            Some(n) if n < 0x8000_0000_0000_0000 => Some(n as i64),
+            _ => None,
+        },
+    }
+}
+
+/// The number below 0 whose spelling behind the minus is the text.
+fn negative(text: &[u8]) -> Option<i64>
+    ensures some { IfSome result (λ z. 45 ∷ text.now ≡ signed_decimal z) }
+    ensures fits { IfSome result (λ z. FitsSigned w64 z) }
+    ensures none { IfNone result ((z : ℤ) → FitsSigned w64 z → 45 ∷ text.now ≢ signed_decimal z) }
+{
+    match number(text) {
+        Some(n) if n == 0x8000_0000_0000_0000 => Some(i64::MIN),
+        Some(n) if n != 0 && n < 0x8000_0000_0000_0000 => Some(-(n as i64)),
+        _ => None,
+    }
+}
+
+/// The number of 32 bits that the text spells, with a minus where it is below 0.
+pub fn small_signed_number(text: &[u8]) -> Option<i32>
+    ensures some { IfSome result (λ z. text.now ≡ signed_decimal z) }
+    ensures none { IfNone result ((z : ℤ) → FitsSigned w32 z → text.now ≢ signed_decimal z) }
+{
+    match signed_number(text) {
+        Some(z) if -0x8000_0000 <= z && z <= 0x7fff_ffff => Some(z as i32),
+        _ => None,
+    }
+}

@@ -1,0 +1,160 @@
+//! Operands, one or two of them.
+
+ghost use Rattle.std.specs.Prelude.{◌≡◌, ◌++◌, ◌∷◌, [], ◌<◌, length, IfOk, IfErr, OnOk, MatchOption, string_bytes};
+ghost use Rattle.std.specs.Option.{option_copied};
+ghost use Rattle.jg_text.specs.Kinds.{OperandKind};
+ghost use Rattle.jg_text.specs.Words.{SpellsOperand};
+ghost use Rattle.jg_text.specs.Faults.{fields};
+ghost use Rattle.jg_text.specs.Pieces.{rest_fields, after_spaces, IsKindFault, IsOperandFault};
+
+use crate::fault::ScriptFault;
+use crate::list::{push_items, read_items};
+use crate::number::{cut_at, small_signed_number};
+use crate::word::{push_ref, read_ref};
+use jg_words::{Items, Ref};
+use std::alloc::{AllocError, Global};
+
+/// A value that stands as an operand in a line, with one spelling.
+pub trait Operand: Sized + Drop {
+    ghost use Rattle.std.specs.Prelude.{ℕ, List};
+    ghost use Rattle.jg_text.specs.Kinds.{OperandKind};
+
+    // Which kind of operand it is, how a value is spelt, and which values the type can hold.
+    ghost kind: { OperandKind };
+
+    ghost spelt: { Self → List ℕ };
+
+    ghost fits: { Self → Type 0 };
+
+    /// The value that the text spells; else `BadOperand`, or `NoMemory`.
+    fn read(alloc: Global, text: &[u8]) -> Result<Self, ScriptFault>
+        ensures ok { IfOk result (λ a. (text.now ≡ spelt a) × fits a) }
+        ensures kind { IfOk result (λ a. SpellsOperand kind text.now) }
+        ensures err { IfErr result (IsKindFault kind text.now) };
+
+    /// Writes its spelling.
+    fn write(&self, out: &mut String) -> Result<(), AllocError>
+        ensures { OnOk result (string_bytes out.new ≡ string_bytes out.old ++ spelt self.now) };
+}
+
+impl Operand for Ref {
+    ghost use Rattle.jg_text.specs.Kinds.{Reference};
+    ghost use Rattle.jg_text.specs.Words.{ref_text, FitsRef};
+
+    ghost kind = { Reference };
+
+    ghost spelt = { ref_text };
+
+    ghost fits = { FitsRef };
+
+    fn read(_alloc: Global, text: &[u8]) -> Result<Self, ScriptFault> {
+        read_ref(text).ok_or(ScriptFault::BadOperand)
+    }
+
+    fn write(&self, out: &mut String) -> Result<(), AllocError> {
+        push_ref(out, *self)
+    }
+}
+
+impl Operand for i32 {
+    ghost use Rattle.std.specs.Prelude.{FitsSigned};
+    ghost use Rattle.std.specs.Int.{w32};
+    ghost use Rattle.std.specs.Fmt.{signed_decimal};
+    ghost use Rattle.jg_text.specs.Kinds.{Number};
+
+    ghost kind = { Number };
+
+    ghost spelt = { signed_decimal };
+
+    ghost fits = { FitsSigned w32 };
+
+    fn read(_alloc: Global, text: &[u8]) -> Result<Self, ScriptFault> {
+        small_signed_number(text).ok_or(ScriptFault::BadOperand)
+    }
+
+    fn write(&self, out: &mut String) -> Result<(), AllocError> {
+        let i = *self;
+        write!(out, "{i}")
+    }
+}
+
+impl Operand for Items {
+    ghost use Rattle.jg_text.specs.Kinds.{Numbers};
+    ghost use Rattle.jg_text.specs.Words.{items_text, FitsItems};
+
+    ghost kind = { Numbers };
+
+    ghost spelt = { items_text };
+
+    ghost fits = { FitsItems };
+
+    fn read(alloc: Global, text: &[u8]) -> Result<Self, ScriptFault> {
+        read_items(alloc, text)
+    }
+
+    fn write(&self, out: &mut String) -> Result<(), AllocError> {
+        push_items(out, self.as_slice())
+    }
+}
+
+/// The first field, and what stands behind the space after it.
+pub fn cut(text: &[u8]) -> (&[u8], Option<&[u8]>)
+    ensures { MatchOption result.1 (fields text.now ≡ result.0.now ∷ []) (λ rest. fields text.now ≡ result.0.now ∷ fields rest.now) }
+{
+    match cut_at(b' ', text) {
+        Some((front, back)) => (front, Some(back)),
+        None => (text, None),
+    }
+}
+
+/// The first field of what is left, and what is left behind it.
+fn next_field(rest: Option<&[u8]>) -> (&[u8], Option<&[u8]>)
+    requires { 0 < length (rest_fields (option_copied rest)) }
+    ensures { rest_fields (option_copied rest.entry) ≡ result.0.now ∷ rest_fields (option_copied result.1) }
+{
+    match rest {
+        Some(text) => cut(text),
+        None => unreachable!(),
+    }
+}
+
+/// The operand that the one field left spells.
+pub fn read_one<A: Operand>(alloc: Global, rest: Option<&[u8]>) -> Result<A, ScriptFault>
+    requires { length (rest_fields (option_copied rest)) ≡ 1 }
+    ensures ok { IfOk result (λ a. (A.spelt a ∷ [] ≡ rest_fields (option_copied rest.entry)) × A.fits a) }
+    ensures err { IfErr result (IsOperandFault (A.kind ∷ []) (rest_fields (option_copied rest.entry))) }
+{
+    let (first, _) = next_field(rest);
+    A::read(alloc, first)
+}
+
+/// The operands that the two fields left spell.
+pub fn read_two<A: Operand, B: Operand>(
+    alloc: Global,
+    rest: Option<&[u8]>,
+) -> Result<(A, B), ScriptFault>
+    requires { length (rest_fields (option_copied rest)) ≡ 2 }
+    ensures ok { IfOk result (λ r. (A.spelt r.0 ∷ B.spelt r.1 ∷ [] ≡ rest_fields (option_copied rest.entry)) × A.fits r.0 × B.fits r.1) }
+    ensures err { IfErr result (IsOperandFault (A.kind ∷ B.kind ∷ []) (rest_fields (option_copied rest.entry))) }
+{
+    let (first, rest) = next_field(rest);
+    let a = A::read(alloc, first)?;
+    let b = read_one(alloc, rest)?;
+    Ok((a, b))
+}
+
+/// Writes the operand after a space.
+pub fn write_one<A: Operand>(out: &mut String, a: &A) -> Result<(), AllocError>
+    ensures { OnOk result (string_bytes out.new ≡ string_bytes out.old ++ after_spaces (A.spelt a.now ∷ [])) }
+{
+    out.push_str(" ")?;
+    a.write(out)
+}
+
+/// Writes the operands, each after a space.
+pub fn write_two<A: Operand, B: Operand>(out: &mut String, a: &A, b: &B) -> Result<(), AllocError>
+    ensures { OnOk result (string_bytes out.new ≡ string_bytes out.old ++ after_spaces (A.spelt a.now ∷ B.spelt b.now ∷ [])) }
+{
+    write_one(out, a)?;
+    write_one(out, b)
+}

@@ -1,0 +1,108 @@
+//! A line of a script.
+
+ghost use Rattle.std.specs.Prelude.{◌≡◌, ℕ, ◌<◌, ◌∷◌, [], length, IfOk, IfErr, IfSome, IfNone, IsTrue, ◌↔◌, ◌≢◌, All, count_by, ◌==◌, ◌≤◌};
+ghost use Rattle.std.specs.Int.{IsInRange};
+ghost use Rattle.std.specs.Option.{option_copied};
+ghost use Rattle.jg_words.specs.Fun.{name_of, named};
+ghost use Rattle.jg_words.specs.declared.fun.Fun.{Fun as FunOf};
+ghost use Rattle.jg_text.specs.Spelling.{Spells};
+ghost use Rattle.jg_text.specs.Pieces.{SpellCall};
+ghost use Rattle.jg_text.specs.Operands.{operand_kinds};
+ghost use Rattle.jg_text.specs.Faults.{fields, NamesFirstFault};
+ghost use Rattle.jg_text.specs.Pieces.{rest_fields, IsOperandFault};
+
+use crate::fault::ScriptFault;
+use crate::groups;
+use crate::operand::cut;
+use crate::word::{read_env, read_tid};
+use jg_words::{Call, EnvId, Fun, Tid};
+use std::alloc::Global;
+
+/// The most bytes that a line has, without its line feed.
+pub const MAX_LINE: usize = 65_536;
+
+/// Each byte is from 0x20 to 0x7E.
+fn is_printable(line: &[u8]) -> bool
+    ensures { IsTrue result ↔ All (λ b. IsInRange 32 126 b) line.now }
+{
+    line.iter().all(|b| *b >= 0x20 && *b <= 0x7e)
+}
+
+fn count_spaces(text: &[u8]) -> usize
+    ensures counted { result ≡ count_by (λ b. b == 32) text.now }
+    ensures few { result ≤ length text.now }
+{
+    text.iter().filter(|b| **b == b' ').count()
+}
+
+/// How many fields stand behind the function's name.
+fn count_fields(rest: Option<&[u8]>) -> usize
+    ensures { result ≡ length (rest_fields (option_copied rest.entry)) }
+{
+    match rest {
+        None => 0,
+        Some(text) => count_spaces(text) + 1,
+    }
+}
+
+fn find_fun(text: &[u8]) -> Option<Fun>
+    ensures { result ≡ named text.now }
+{
+    Fun::ALL
+        .iter()
+        .copied()
+        .find(|f| f.name().as_bytes() == text)
+}
+
+/// The function of that name.
+fn read_fun(text: &[u8]) -> Option<Fun>
+    ensures some { IfSome result (λ f. text.now ≡ name_of f) }
+    ensures none { IfNone result ((f : FunOf) → text.now ≢ name_of f) }
+{
+    match find_fun(text) {
+        Some(fun) => Some(fun),
+        None => None,
+    }
+}
+
+/// The thread, the environment and the call that a line spells: fields with single spaces
+/// between them, each in its one spelling. Else the fault is the first that the line has of
+/// `LineTooLong`, `NotAscii`, `NoThread`, `NoEnv`, `UnknownFunction`, `WrongCount` and
+/// `BadOperand`; or `NoMemory`, in the place of any answer. The line is handed in without its
+/// line feed.
+pub fn read_call(alloc: Global, line: &[u8]) -> Result<(Tid, Option<EnvId>, Call), ScriptFault>
+    ensures spelt { IfOk result (λ r. Spells line.now r.0 r.1 r.2) }
+    ensures fault { IfErr result (NamesFirstFault line.now) }
+{
+    if line.len() > MAX_LINE {
+        return Err(ScriptFault::LineTooLong);
+    }
+    if !is_printable(line) {
+        return Err(ScriptFault::NotAscii);
+    }
+    let (thread, rest) = cut(line);
+    let Some(tid) = read_tid(thread) else {
+        return Err(ScriptFault::NoThread);
+    };
+    let Some(rest) = rest else {
+        return Err(ScriptFault::NoEnv);
+    };
+    let (env, rest) = cut(rest);
+    let Some(env) = read_env(env) else {
+        return Err(ScriptFault::NoEnv);
+    };
+    let Some(rest) = rest else {
+        return Err(ScriptFault::UnknownFunction);
+    };
+    let (name, rest) = cut(rest);
+    let Some(fun) = read_fun(name) else {
+        return Err(ScriptFault::UnknownFunction);
+    };
+    if count_fields(rest) != groups::arity(fun) {
+        return Err(ScriptFault::WrongCount);
+    }
+    match groups::read(alloc, fun, rest) {
+        Ok(call) => Ok((tid, env, call)),
+        Err(fault) => Err(fault),
+    }
+}

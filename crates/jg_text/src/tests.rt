@@ -1,0 +1,199 @@
+use crate::{MAX_LINE, ScriptFault, read_call, write_entry};
+use jg_words::{
+    BufId, Call, Entry, EnvId, FieldId, FramesCall, Items, Kind, Outcome, Ref, RefsCall, Reply,
+    Rule, StringsCall, Thrown, Tid, Value, VmCall,
+};
+use std::alloc::Global;
+use std::test::Fail;
+
+const ENV: EnvId = EnvId {
+    tid: Tid(1),
+    session: 1,
+};
+
+const LOCAL: Ref = Ref::To {
+    kind: Kind::Local,
+    maker: Tid(1),
+    n: 1,
+};
+
+#[test]
+fn the_first_fault_of_a_line_is_named(rt: HostRuntime) -> Result<(), Fail> {
+    let lines = [
+        ("", ScriptFault::NoThread),
+        ("T65536 - GetEnv", ScriptFault::NoThread),
+        ("T01 - GetEnv", ScriptFault::NoThread),
+        ("T1", ScriptFault::NoEnv),
+        ("T1 x GetEnv", ScriptFault::NoEnv),
+        ("T1  - GetEnv", ScriptFault::NoEnv),
+        ("T1 -", ScriptFault::UnknownFunction),
+        ("T1 - getenv", ScriptFault::UnknownFunction),
+        ("T1 - GetEnv 1", ScriptFault::WrongCount),
+        ("T1 - GetEnv ", ScriptFault::WrongCount),
+        ("T1 E1.1 NewLocalRef", ScriptFault::WrongCount),
+        ("T1 E1.1 NewLocalRef 7", ScriptFault::BadOperand),
+        ("T1 E1.1 PushLocalFrame 2147483648", ScriptFault::BadOperand),
+        ("T1 E1.1 PushLocalFrame -0", ScriptFault::BadOperand),
+        ("T1 E1.1 NewString [1,]", ScriptFault::BadOperand),
+        ("T1 E1.1 NewString [01]", ScriptFault::BadOperand),
+        ("T1\t- GetEnv", ScriptFault::NotAscii),
+        ("T1 - GetEnv\r", ScriptFault::NotAscii),
+    ];
+    for (line, fault) in lines {
+        match read_call(rt.alloc(), line.as_bytes()) {
+            Ok(_) => assert!(rt; false, "`{line}` is read"),
+            Err(named) => assert_eq!(rt; named, fault, "at `{line}`"),
+        }
+    }
+    Ok(())
+}
+
+#[test]
+fn a_line_has_at_most_65536_bytes(rt: HostRuntime) -> Result<(), Fail> {
+    let mut line = vec![in rt.alloc(); b' '; MAX_LINE]?;
+    assert_eq!(rt; line.len(), 65_536);
+    assert_eq!(rt;
+        read_call(rt.alloc(), &line).err(),
+        Some(ScriptFault::NoThread)
+    );
+    line.push(b' ')?;
+    assert_eq!(rt;
+        read_call(rt.alloc(), &line).err(),
+        Some(ScriptFault::LineTooLong)
+    );
+    Ok(())
+}
+
+#[test]
+fn a_call_of_each_group_is_read(rt: HostRuntime) -> Result<(), Fail> {
+    let units = Items::new(vec![in rt.alloc(); 72, -105]?)
+        .ok()
+        .ok_or("items")?;
+    let lines = vec![in rt.alloc();
+        ("T1 - GetEnv", None, Call::Vm(VmCall::GetEnv)),
+        (
+            "T1 E1.1 IsSameObject L1.1 null",
+            Some(ENV),
+            Call::Refs(RefsCall::IsSameObject {
+                first: LOCAL,
+                second: Ref::Null
+            })
+        ),
+        (
+            "T1 E1.1 PushLocalFrame -2147483648",
+            Some(ENV),
+            Call::Frames(FramesCall::PushLocalFrame { capacity: i32::MIN })
+        ),
+        (
+            "T1 E1.1 NewString [72,-105]",
+            Some(ENV),
+            Call::Strings(StringsCall::NewString { units })
+        ),
+    ]?;
+    for (line, env, call) in lines {
+        match read_call(rt.alloc(), line.as_bytes()) {
+            Ok(read) => assert!(rt; read == (Tid(1), env, call), "at `{line}`"),
+            Err(fault) => assert!(rt; false, "`{line}`: {fault}"),
+        }
+    }
+    Ok(())
+}
+
+fn line_of(alloc: Global, outcome: Outcome) -> Result<String, Fail> {
+    let entry = Entry {
+        tid: Tid(1),
+        env: Some(ENV),
+        call: Call::Refs(RefsCall::NewLocalRef { of: Ref::Null }),
+        outcome,
+        object: None,
+    };
+    Ok(write_entry(alloc, &entry)?)
+}
+
+#[test]
+fn each_outcome_has_its_text(rt: HostRuntime) -> Result<(), Fail> {
+    let list = Items::new(vec![in rt.alloc(); 0, -1]?).ok().ok_or("items")?;
+    let none = Items::new(Vec::new(rt.alloc())).ok().ok_or("items")?;
+    let weak = Ref::To {
+        kind: Kind::Weak,
+        maker: Tid(65_535),
+        n: 2,
+    };
+    let values = vec![in rt.alloc();
+        (Value::Ok, "ok"),
+        (Value::Number(i64::MIN), "-9223372036854775808"),
+        (Value::Truth(true), "true"),
+        (Value::Truth(false), "false"),
+        (Value::Null, "null"),
+        (Value::Reference(Ref::Null), "null"),
+        (Value::Reference(LOCAL), "L1.1"),
+        (Value::Reference(weak), "W65535.2"),
+        (
+            Value::Buffer(BufId {
+                maker: Tid(1),
+                n: 3
+            }),
+            "B1.3"
+        ),
+        (
+            Value::Field(FieldId {
+                class: 15,
+                field: 2
+            }),
+            "F15.2"
+        ),
+        (Value::Environment(ENV), "E1.1"),
+        (Value::List(list), "[0,-1]"),
+        (Value::List(none), "[]"),
+        (Value::Busy, "busy"),
+        (Value::Detached, "detached"),
+        (
+            Value::Throw(Thrown::ArrayIndexOutOfBounds),
+            "throw java/lang/ArrayIndexOutOfBoundsException"
+        ),
+        (
+            Value::Throw(Thrown::StringIndexOutOfBounds),
+            "throw java/lang/StringIndexOutOfBoundsException"
+        ),
+        (
+            Value::Throw(Thrown::NoClassDefFound),
+            "throw java/lang/NoClassDefFoundError"
+        ),
+        (
+            Value::Throw(Thrown::NoSuchField),
+            "throw java/lang/NoSuchFieldError"
+        ),
+        (
+            Value::Throw(Thrown::NoSuchMethod),
+            "throw java/lang/NoSuchMethodError"
+        ),
+    ]?;
+    for (value, text) in values {
+        let line = line_of(
+            rt.alloc(),
+            Outcome::Passed(Reply {
+                value,
+                warned: false,
+            }),
+        )?;
+        let wanted = format!(in rt.alloc(); "T1 E1.1 NewLocalRef null = {text}\n")?;
+        assert_eq!(rt; line, wanted);
+    }
+    Ok(())
+}
+
+#[test]
+fn warnings_and_denials_have_their_texts(rt: HostRuntime) -> Result<(), Fail> {
+    let warned = Reply {
+        value: Value::Ok,
+        warned: true,
+    };
+    let line = line_of(rt.alloc(), Outcome::Passed(warned))?;
+    assert_eq!(rt; line.as_str(), "T1 E1.1 NewLocalRef null = ok warn\n");
+    let line = line_of(rt.alloc(), Outcome::Denied(Rule::DeadReference))?;
+    assert_eq!(rt;
+        line.as_str(),
+        "T1 E1.1 NewLocalRef null = deny 6 DeadReference\n"
+    );
+    Ok(())
+}
