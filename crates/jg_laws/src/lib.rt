@@ -7,35 +7,29 @@ ghost use Rattle.jg_laws.specs.Laws.{ReferencesCounted, NoReferenceTwice, NoRefe
 /// The number of a reference that was handed out is below the number of its maker's next one.
 pub fn references_are_counted()
     ensures { ReferencesCounted }
-{
-}
+{}
 
 /// A reference that is handed out was not handed out before.
 pub fn no_reference_twice()
     ensures { NoReferenceTwice }
-{
-}
+{}
 
 /// A reference that named an object, and then named nothing, never names an object again.
 pub fn no_reference_revived()
     ensures { NoReferenceRevived }
-{
-}
+{}
 
 /// A legal history without its denied entries is legal.
 pub fn denied_entries_do_nothing()
     ensures { DeniedEntriesDoNothing }
-{
-}
+{}
 
 /// For each list of threads, environments and calls there is exactly one legal history.
 pub fn one_history_for_the_calls()
     ensures { OneHistoryForTheCalls }
-{
-}
+{}
 
 /// The tables of threads and of locals agree on who has a session, and on each thread's depth.
 pub fn depths_agree()
     ensures { DepthsAgree }
-{
-}
+{}
