@@ -1,16 +1,26 @@
--- What the program did when it ends well.
-use Rattle.std.specs.Prelude.{ℕ, List, [], length, Option, Ok}
+-- What the program did with a script.
+use Rattle.std.specs.Prelude.{ℕ, List, [], length, Option, Result, Ok, Err, ◌⊎◌, ◌≡◌}
 use Rattle.jg_words.specs.declared.entry.Entry.{Entry}
 use Rattle.jg_policy.specs.declared.mode.Mode.TheVariants.{Deny}
 use Rattle.jg_policy.specs.Stated.{StatedSetup}
 use Rattle.jg_rules.specs.Legal.{Legal}
+use Rattle.jg_script.specs.declared.run_fault.RunFault.TheVariants.{Write}
 use Rattle.jg_script.specs.Checked.{Checks}
+use Rattle.jg_cli.specs.declared.stop.Stop.{Stop}
+use Rattle.jg_cli.specs.declared.stop.Stop.TheVariants.{Arguments, Setup, Run}
 
 -- the setup where none is given: the base classes alone, and native access for no other module
 abbrev pub base_setup : StatedSetup
 base_setup = record { mode = Deny; enabled = []; classes = [] }
 
--- all that the reader held are the calls of a legal history, and the text of that history was
--- written
-abbrev pub IsAnswered : Option (List ℕ) → Option (List ℕ) → Option (List ℕ) → Option (List ℕ) → ℕ → Type 0
-IsAnswered input input' bytes bytes' limit = (h : List Entry) × Legal base_setup h × Checks input input' bytes bytes' limit h (Ok (length h))
+-- how the answering of a script ended, and what it did to the bytes of the reader and of the writer
+abbrev pub Ends : Option (List ℕ) → Option (List ℕ) → Option (List ℕ) → Option (List ℕ) → ℕ → Result (Unit {0}) Stop → Type 0
+-- all that the reader held are the calls of a legal history, and the text of that history was written
+Ends input input' bytes bytes' limit (Ok done) =
+    (h : List Entry) × Legal base_setup h × Checks input input' bytes bytes' limit h (Ok (length h))
+-- the check of the script ended so; or what it wrote couldn't be handed on
+Ends input input' bytes bytes' limit (Err (Run fault)) =
+    ((h : List Entry) × Legal base_setup h × Checks input input' bytes bytes' limit h (Err fault)) ⊎ ((line : ℕ) × (fault ≡ Write line))
+-- no guard could be made
+Ends input input' bytes bytes' limit (Err Setup) = Unit {0}
+Ends input input' bytes bytes' limit (Err (Arguments fault)) = ⊥

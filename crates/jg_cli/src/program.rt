@@ -1,7 +1,6 @@
 //! What the program does, over any words, reader and writers.
 
-ghost use Rattle.std.specs.Prelude.{◌≤◌, OnOk};
-ghost use Rattle.jg_cli.specs.Answered.{IsAnswered};
+ghost use Rattle.jg_cli.specs.Answered.{Ends};
 
 use crate::stop::{Status, Stop, tell};
 use jg_args::{ArgsFault, Asked, Task, help_text, read_words};
@@ -20,7 +19,7 @@ fn answer_script<R: Read, W: Write>(
     reader: &mut Watched<R>,
     out: &mut Watched<W>,
 ) -> Result<(), Stop>
-    ensures { OnOk result (IsAnswered (R.remaining reader.old.device) (R.remaining reader.new.device) (W.contents out.old.device) (W.contents out.new.device) limit) }
+    ensures { Ends (R.remaining reader.old.device) (R.remaining reader.new.device) (W.contents out.old.device) (W.contents out.new.device) limit result }
 {
     let Ok(mut guard) = Guard::new(alloc, Setup::closed(alloc), limit) else {
         return Err(Stop::Setup);

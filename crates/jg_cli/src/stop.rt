@@ -67,12 +67,6 @@ impl<T: Drop> From<AllocFailed<T>> for Stop {
     }
 }
 
-impl From<RunFault> for Stop {
-    fn from(fault: RunFault) -> Stop {
-        Stop::Run(fault)
-    }
-}
-
 /// Says why the program ends. A failed write of that changes nothing.
 pub fn tell<E: Write>(stop: Stop, err: &mut E) -> Status {
     let _ = writeln!(err, "{stop}");
