@@ -10,9 +10,9 @@ use Rattle.jg_words.specs.declared.reference.Ref.{Ref}
 use Rattle.jg_buffers.specs.declared.family.Family.{Family}
 use Rattle.jg_buffers.specs.declared.copied.Copied.{Copied}
 use Rattle.jg_buffers.specs.declared.pinned.Pinned.{Pinned}
-use Rattle.jg_buffers.specs.History.{Buffer, Event, Opened, Wrote, Closed, is_same, is_critical, opened, items_now, copy_with, pin_through}
+use Rattle.jg_buffers.specs.History.{Buffer, Event, Opened, Wrote, Closed, is_same, is_critical, info_of, opened, items_now, copy_with, pin_through}
 use Rattle.jg_buffers.specs.Keys.{pair_cmp, same_pair}
-use Rattle.jg_buffers.specs.Rows.{Rows, is_buffer, row_of, copy_length, IsAbove, AddsNumber, KeepsNumbers}
+use Rattle.jg_buffers.specs.Rows.{Rows, is_buffer, row_of, copy_length, IsAbove, AddsNumber, KeepsBuffers, KeepsNumbers}
 use Rattle.jg_buffers.specs.Seen.{copy_seen, pin_seen, copy_at, copy_item_set}
 use Rattle.jg_buffers.specs.Standing.{rows_of, Stands}
 use Rattle.jg_buffers.proofs.Maps.{at_pair, listed, Keyed, found_row, exact}
@@ -222,3 +222,27 @@ written_numbers es news fs t k i v put = keeps_numbers (seen es fs) (seen news f
     let now = sym (ap (λ c. first_of c pin) (put (m, n))) ∙ (sym (row_is news fs (seen news fs) m n refl) ∙ found) in
     let was = written_there i v (m, n) (lookup (is_at (pair_cmp (m, n))) es) pin (same_pair (t, k) (m, n)) b now in
     (was.0, row_is es fs (seen es fs) m n refl ∙ was.1))
+
+-- what doesn't read a buffer's items is kept by a write
+kept_by : {X : Type 0} (f : Option Buffer → X) → ((b : Buffer) (items : List ℤ) → f (Some (record b { items = items })) ≡ f (Some b)) → (i : ℕ) (v : ℤ) (same : Bool) (copy pin : Option Buffer) → f (first_of (if same then copy_item_set i v copy else copy) pin) ≡ f (first_of copy pin)
+kept_by f blind i v true None pin = refl
+kept_by f blind i v true (Some b) pin = blind b (slice_set b.items i v)
+kept_by f blind i v false copy pin = refl
+
+kept_at : {A X : Type 0} (f : Option Buffer → X) → ((b : Buffer) (items : List ℤ) → f (Some (record b { items = items })) ≡ f (Some b)) → (es news : List ((ℕ × ℕ) × Copied A)) (fs : List ((ℕ × ℕ) × Pinned)) (rows : Rows) (t k i : ℕ) (v : ℤ) → seen es fs ≡ rows
+    → ((q : ℕ × ℕ) → copy_at q (lookup (is_at (pair_cmp q)) news) ≡ (if same_pair (t, k) q then copy_item_set i v (copy_at q (lookup (is_at (pair_cmp q)) es)) else copy_at q (lookup (is_at (pair_cmp q)) es)))
+    → (m n : ℕ) → f (row_of m n (seen news fs)) ≡ f (row_of m n rows)
+kept_at f blind es news fs rows t k i v view put m n =
+    let pin : Option Buffer = option_map (λ w. pin_seen ((m, n), w)) (lookup (is_at (pair_cmp (m, n))) fs) in
+    ap f (row_is news fs (seen news fs) m n refl)
+    ∙ ap (λ c. f (first_of c pin)) (put (m, n))
+    ∙ kept_by f blind i v (same_pair (t, k) (m, n)) (copy_at (m, n) (lookup (is_at (pair_cmp (m, n))) es)) pin
+    ∙ sym (ap f (row_is es fs rows m n view))
+
+pub written_buffers : {A : Type 0} (es news : List ((ℕ × ℕ) × Copied A)) (fs : List ((ℕ × ℕ) × Pinned)) (rows : Rows) (t k i : ℕ) (v : ℤ) → seen es fs ≡ rows
+    → ((q : ℕ × ℕ) → copy_at q (lookup (is_at (pair_cmp q)) news) ≡ (if same_pair (t, k) q then copy_item_set i v (copy_at q (lookup (is_at (pair_cmp q)) es)) else copy_at q (lookup (is_at (pair_cmp q)) es)))
+    → KeepsBuffers rows (seen news fs)
+written_buffers es news fs rows t k i v view put = record {
+  info = kept_at (option_map info_of) (λ b items. refl) es news fs rows t k i v view put;
+  len = kept_at copy_length (λ b items. refl) es news fs rows t k i v view put;
+}

@@ -1,6 +1,6 @@
 -- The open critical buffers and the rows of the pinned ones.
 use Rattle.std.proofs.Common.{◌≡◌, ℕ, Bool, true, false, List, [], ◌∷◌, ◌++◌, Option, Some, None, refl, ◌∙◌, ap, sym, subst, arith, inl, inr}
-use Rattle.std.specs.Prelude.{◌==◌, ◌||◌, if◌then◌else◌, filter, map, find, slice_get, slice_set}
+use Rattle.std.specs.Prelude.{◌==◌, ◌||◌, if◌then◌else◌, filter, map, find}
 use Rattle.std.specs.List.{list_any, filter_map, cons_option}
 use Rattle.std.specs.Option.{option_map}
 use Rattle.std.specs.Map.{lookup, values_of}
@@ -13,7 +13,7 @@ use Rattle.jg_buffers.specs.Keys.{pair_cmp}
 use Rattle.jg_buffers.specs.Rows.{is_buffer}
 use Rattle.jg_buffers.specs.Seen.{copy_seen, pin_seen}
 use Rattle.jg_buffers.specs.Standing.{rows_of, Stands}
-use Rattle.jg_buffers.proofs.Lists.{Member, any_member, any_of_filter, member_filter, both_ways, list_any-map, slice_get-set, marked_twice}
+use Rattle.jg_buffers.proofs.Lists.{Member, any_member, any_of_filter, member_filter, both_ways, list_any-map}
 use Rattle.jg_buffers.proofs.Maps.{listed, found_row}
 use Rattle.jg_buffers.proofs.Steps.{tells}
 use Rattle.jg_buffers.proofs.Lookups.{IsBlind, copies_free, pins_critical, still_open}
@@ -159,13 +159,3 @@ pub object_law : {A : Type 0} (o : ℕ) (es : List ((ℕ × ℕ) × Copied A)) (
     → list_any (λ w. w.object == o) (values_of fs) ≡ pins_object e o
 object_law o es fs e stands =
     sym (list_any-map (λ (f : (ℕ × ℕ) × Pinned). f.1) (λ f. f.1.object == o) (λ w. w.object == o) (λ f. refl) fs) ∙ pin_law (λ b. b.object == o) (λ b items. refl) es fs e stands
-
--- ---- marks
-
--- the mark of one more pinned buffer
-pub mark_step : (marks : List Bool) (w : Pinned) (o : ℕ) (left rest : List Pinned) (whole : Option Bool) → left ≡ w ∷ rest
-    → option_map (λ mark. mark || list_any (λ v. v.object == o) left) (slice_get marks o) ≡ whole
-    → option_map (λ mark. mark || list_any (λ v. v.object == o) rest) (slice_get (slice_set marks w.object true) o) ≡ whole
-mark_step marks w o left rest whole is was =
-    let P : List Pinned → Type 0 = λ l. option_map (λ mark. mark || list_any (λ v. v.object == o) l) (slice_get marks o) ≡ whole in
-    rw (slice_get-set marks w.object o, marked_twice (w.object == o) (list_any (λ v. v.object == o) rest) (slice_get marks o)) (subst P is was)

@@ -109,6 +109,11 @@ pinned_by e r = list_any (λ b. same_ref b.via r) (pins e)
 abbrev pub pins_object : List Event → ℕ → Bool
 pins_object e o = list_any (λ b. b.object == o) (pins e)
 
+-- the reference is null
+abbrev pub is_null : Ref → Bool
+is_null Null = true
+is_null (To kind maker n) = false
+
 -- what a look-up tells of an open buffer
 abbrev pub info_of : Buffer → Info
 info_of b = record { maker = record { 0 = b.maker }; object = record { 0 = b.object }; family = b.family; via = b.via; length = b.length }

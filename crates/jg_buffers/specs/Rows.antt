@@ -1,6 +1,7 @@
 -- The rows that the table keeps.
 use Rattle.std.specs.Prelude.{◌≡◌, ℕ, ℤ, ◌<◌, Bool, if◌then◌else◌, List, [], find, All, Option, Some, None}
-use Rattle.jg_buffers.specs.History.{Buffer, is_same, is_critical}
+use Rattle.std.specs.Option.{option_map}
+use Rattle.jg_buffers.specs.History.{Buffer, is_same, is_critical, info_of}
 
 -- the open buffers, each with its items as they are now
 pub record Rows : Type 0 where
@@ -21,6 +22,11 @@ copy_length (Some row) = if is_critical row.family then 0 else row.length
 abbrev pub items_in : Option Buffer → List ℤ
 items_in None = []
 items_in (Some row) = row.items
+
+-- the same buffers are open, each with the object, the family, the reference and the length that it had
+pub record KeepsBuffers (old new : Rows) : Type 0 where
+  pub info : (m i : ℕ) → option_map info_of (row_of m i new) ≡ option_map info_of (row_of m i old)
+  pub len : (m i : ℕ) → copy_length (row_of m i new) ≡ copy_length (row_of m i old)
 
 -- the number is above each number of that maker in the rows
 abbrev pub IsAbove : ℕ → ℕ → Rows → Type 0

@@ -1,7 +1,8 @@
 ghost use Rattle.std.specs.Prelude.{◌≡◌, ℕ, ℤ, pos, true, false, ◌<◌, ◌||◌, List, [], ◌∷◌, length, OnOk, OnErr, option_map, slice_get, slice_index_or};
-ghost use Rattle.jg_buffers.specs.History.{Event, Opened, Wrote, Closed, is_critical, copy_with, pin_through, opened, content, contents, in_critical, pinned_by, pins_object, info_of};
-ghost use Rattle.jg_buffers.specs.Rows.{AddsNumber, IsAbove, KeepsNumbers, row_of, copy_length, items_in};
+ghost use Rattle.jg_buffers.specs.History.{Event, Opened, Wrote, Closed, is_critical, copy_with, pin_through, opened, content, contents, in_critical, pinned_by, pins_object, info_of, is_null};
+ghost use Rattle.jg_buffers.specs.Rows.{AddsNumber, IsAbove, KeepsBuffers, KeepsNumbers, row_of, copy_length, items_in};
 ghost use Rattle.jg_buffers.specs.Standing.{Stands};
+ghost use Rattle.jg_lists.specs.Marks.{Marks};
 
 use crate::copied::{Copied, copy_kind, family_of_copy, item_at, set_item};
 use crate::family::Family;
@@ -96,6 +97,7 @@ impl<A: Allocator + Clone> Buffers<A> {
     ) -> Result<(), AllocError>
         requires above { IsAbove tid.0 n self.old }
         requires pins { is_critical family ≡ true }
+        requires through { is_null via ≡ false }
         ensures ok { OnOk result ((e : List Event) → Stands self.old e → Stands self.new (Opened (pin_through tid.0 n object.0 family via length) ∷ e)) }
         ensures err { OnErr result (self.new ≡ self.old) }
         ensures numbers { AddsNumber tid.0 n self.old self.new }
@@ -158,6 +160,7 @@ impl<A: Allocator + Clone> Buffers<A> {
         requires { index < copy_length (row_of buf.maker.0 buf.n self.old) }
         ensures stands { (e : List Event) → Stands self.old e → Stands self.new (Wrote buf.maker.0 buf.n index value ∷ e) }
         ensures numbers { KeepsNumbers self.old self.new }
+        ensures buffers { KeepsBuffers self.old self.new }
     {
         set_item(
             &mut self.copies,
@@ -217,7 +220,7 @@ impl<A: Allocator + Clone> Buffers<A> {
     /// Sets the mark of each object of which a pinned buffer is open and leaves the other marks. An
     /// object past the end of `marks` is passed over.
     pub fn mark_held(&self, marks: &mut [bool])
-        ensures { (e : List Event) → Stands self.now e → (o : ℕ) → slice_get marks.new o ≡ option_map (λ mark. mark || pins_object e o) (slice_get marks.old o) }
+        ensures { (e : List Event) → Stands self.now e → Marks (pins_object e) marks.old marks.new }
     {
         mark_objects(&self.pins, marks);
     }

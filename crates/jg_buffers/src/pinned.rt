@@ -1,10 +1,12 @@
-ghost use Rattle.std.specs.Prelude.{◌≡◌, ℕ, true, ◌==◌, ◌||◌, option_map, slice_get, slice_set};
+ghost use Rattle.std.specs.Prelude.{◌≡◌, true, ◌==◌};
 ghost use Rattle.std.specs.BTreeMap.{values};
 ghost use Rattle.std.specs.List.{list_any};
+ghost use Rattle.jg_lists.specs.Marks.{Marks};
 ghost use Rattle.jg_buffers.specs.History.{is_critical};
 ghost use Rattle.jg_buffers.specs.Seen.{pin_family, key_of};
 
 use crate::family::Family;
+use jg_lists::mark;
 use jg_words::{Kind, Ref};
 use std::alloc::Allocator;
 use std::collections::BTreeMap;
@@ -70,18 +72,9 @@ pub fn names_object<A: Allocator>(pins: &BTreeMap<(u16, u64), Pinned, A>, object
 }
 
 pub fn mark_objects<A: Allocator>(pins: &BTreeMap<(u16, u64), Pinned, A>, marks: &mut [bool])
-    ensures { (o : ℕ) → slice_get marks.new o ≡ option_map (λ mark. mark || list_any (λ w. w.object == o) (values pins.now)) (slice_get marks.old o) }
+    ensures { Marks (λ o. list_any (λ w. w.object == o) (values pins.now)) marks.old marks.new }
 {
     for pin in pins.values() {
         mark(marks, pin.object);
-    }
-}
-
-fn mark(marks: &mut [bool], object: u64)
-    ensures { marks.new ≡ slice_set marks.old object true }
-{
-    let index = object as usize;
-    if index < marks.len() {
-        marks[index] = true;
     }
 }

@@ -1,3 +1,6 @@
+ghost use Rattle.std.specs.Prelude.{◌≡◌, false};
+ghost use Rattle.jg_buffers.specs.History.{is_null};
+
 use crate::{Buffers, Family, Info};
 use jg_words::{BufId, Kind, ObjId, Primitive, Ref, Tid};
 use linked_list_allocator::LocalHeap;
@@ -16,7 +19,9 @@ fn buffer(maker: Tid, n: u64) -> BufId {
     BufId { maker, n }
 }
 
-fn global(maker: Tid, n: u64) -> Ref {
+fn global(maker: Tid, n: u64) -> Ref
+    ensures { is_null result ≡ false }
+{
     Ref::To {
         kind: Kind::Global,
         maker,
@@ -24,7 +29,9 @@ fn global(maker: Tid, n: u64) -> Ref {
     }
 }
 
-fn weak(maker: Tid, n: u64) -> Ref {
+fn weak(maker: Tid, n: u64) -> Ref
+    ensures { is_null result ≡ false }
+{
     Ref::To {
         kind: Kind::Weak,
         maker,

@@ -25,7 +25,7 @@ fn start(rt: &HostRuntime) -> Result<Status, Stop> {
     for word in &args {
         words.push(word.as_str())?;
     }
-    let Ok(reader) = BufReader::new(alloc, rt.stdin()) else {
+    let Ok(reader) = BufReader::with_capacity(alloc, 4096, rt.stdin()) else {
         return Err(Stop::NO_MEMORY);
     };
     let Ok(out) = BufWriter::new(alloc, rt.stdout()) else {

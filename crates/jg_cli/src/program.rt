@@ -8,12 +8,12 @@ use jg_guard::Guard;
 use jg_policy::Setup;
 use jg_script::{RunFault, Watched, check};
 use std::alloc::Global;
-use std::io::{Read, Write};
+use std::io::{BufRead, Write};
 
 /// Answers the script that the reader holds. What is still buffered is handed on before it ends,
 /// also where it ends by a fault; a failure of that counts as a failed write of the last line that
 /// the guard took.
-fn answer_script<R: Read, W: Write>(
+fn answer_script<R: BufRead, W: Write>(
     alloc: Global,
     limit: u32,
     reader: &mut Watched<R>,
@@ -21,7 +21,7 @@ fn answer_script<R: Read, W: Write>(
 ) -> Result<(), Stop>
     ensures { Ends (R.remaining reader.old.device) (R.remaining reader.new.device) (W.contents out.old.device) (W.contents out.new.device) limit result }
 {
-    let Ok(mut guard) = Guard::new(alloc, Setup::closed(alloc), limit) else {
+    let Ok(mut guard) = Guard::new(alloc, alloc, Setup::closed(alloc), limit) else {
         return Err(Stop::Setup);
     };
     let checked = check(alloc, &mut guard, reader, out);
@@ -45,7 +45,7 @@ fn print_help<W: Write>(alloc: Global, out: &mut W) -> Result<(), Stop> {
 }
 
 /// Does what is asked for, as far as the program can: it answers scripts under the base setup.
-fn serve<R: Read + Drop, W: Write + Drop>(
+fn serve<R: BufRead + Drop, W: Write + Drop>(
     alloc: Global,
     asked: Asked<'_>,
     reader: R,
@@ -69,7 +69,7 @@ fn serve<R: Read + Drop, W: Write + Drop>(
 }
 
 /// Runs the program on the words after its name.
-pub fn run<R: Read + Drop, W: Write + Drop, E: Write>(
+pub fn run<R: BufRead + Drop, W: Write + Drop, E: Write>(
     alloc: Global,
     words: &[&str],
     reader: R,

@@ -1,7 +1,7 @@
 use crate::program::run;
 use crate::stop::Status;
 use std::io;
-use std::io::{ErrorKind, Read, Write};
+use std::io::{BufReader, ErrorKind, Read, Write};
 use std::test::Fail;
 
 /// A reader or a writer that fails at once.
@@ -143,7 +143,13 @@ fn failing_devices_have_their_texts(rt: HostRuntime) -> Result<(), Fail> {
     let mut out = Vec::new(rt.alloc());
     let mut err = Vec::new(rt.alloc());
     assert_eq!(rt;
-        run(rt.alloc(), &[], Broken, &mut out, &mut err),
+        run(
+            rt.alloc(),
+            &[],
+            BufReader::new(rt.alloc(), Broken)?,
+            &mut out,
+            &mut err
+        ),
         Status::Device
     );
     assert!(rt; err.as_slice() == b"line 1: read failed\n".as_slice());
@@ -172,7 +178,13 @@ fn failing_devices_have_their_texts(rt: HostRuntime) -> Result<(), Fail> {
     );
     assert!(rt; err.as_slice() == b"line 1: write failed\n".as_slice());
     assert_eq!(rt;
-        run(rt.alloc(), &["--fly"], Broken, &mut out, &mut Broken),
+        run(
+            rt.alloc(),
+            &["--fly"],
+            BufReader::new(rt.alloc(), Broken)?,
+            &mut out,
+            &mut Broken
+        ),
         Status::Faulty
     );
     Ok(())
@@ -183,7 +195,13 @@ fn the_help_goes_to_the_output(rt: HostRuntime) -> Result<(), Fail> {
     let mut out = Vec::new(rt.alloc());
     let mut err = Vec::new(rt.alloc());
     assert_eq!(rt;
-        run(rt.alloc(), &["--help"], Broken, &mut out, &mut err),
+        run(
+            rt.alloc(),
+            &["--help"],
+            BufReader::new(rt.alloc(), Broken)?,
+            &mut out,
+            &mut err
+        ),
         Status::Done
     );
     assert!(rt; !out.is_empty() && err.is_empty());

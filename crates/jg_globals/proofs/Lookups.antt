@@ -1,10 +1,9 @@
 -- What the look-ups answer where the rows stand.
-use Rattle.std.proofs.Common.{◌≡◌, ℕ, ◌+◌, ◌<◌, length, get_or, take, Bool, true, false, List, [], ◌∷◌, Option, Some, None, refl, ◌∙◌, ap, sym, subst, arith, inl, inr, eqb-true}
-use Rattle.std.specs.Prelude.{◌==◌, ◌&&◌, ◌||◌, if◌then◌else◌, find, map, slice_get, slice_set}
+use Rattle.std.proofs.Common.{◌≡◌, ℕ, Bool, true, false, List, [], ◌∷◌, Option, Some, None, refl, ◌∙◌, ap, sym, subst, arith, inl, inr, eqb-true}
+use Rattle.std.specs.Prelude.{◌==◌, ◌&&◌, ◌||◌, if◌then◌else◌, find, map}
 use Rattle.std.specs.List.{list_any}
 use Rattle.std.specs.Option.{option_map}
 use Rattle.std.proofs.lemmas.Bool.Decides.{nat_tests}
-use Rattle.std.proofs.lemmas.List.Folds.{list_any_more}
 use Rattle.jg_globals.specs.declared.target.Target.{Target}
 use Rattle.jg_globals.specs.declared.row.StrongRow.{StrongRow}
 use Rattle.jg_globals.specs.declared.row.WeakRow.{WeakRow}
@@ -12,7 +11,7 @@ use Rattle.jg_globals.specs.History.{Event, MakeStrong, MakeWeak, DeleteStrong, 
 use Rattle.jg_globals.specs.Rows.{Rows, Strong, is_strong, is_weak, IsAbove}
 use Rattle.jg_globals.specs.Seen.{strong_seen, weak_seen}
 use Rattle.jg_globals.specs.Standing.{Stands, strong_rows, weak_rows}
-use Rattle.jg_globals.proofs.Lists.{first, find-map, list_any-map, Member, any_member, member_filter, any_of_filter, both_ways, slice_get-set, marked_twice}
+use Rattle.jg_globals.proofs.Lists.{first, find-map, list_any-map, Member, any_member, member_filter, any_of_filter, both_ways}
 
 object_seen : (row : Option StrongRow) → option_map (λ row. row.object) row ≡ option_map (λ row. row.object) (option_map strong_seen row)
 object_seen None = refl
@@ -116,14 +115,6 @@ holds_law rows e items o seen stands =
     list_any-map strong_seen (λ row. row.object == o) (λ row. row.object == o) (λ row. refl) items
     ∙ (ap (list_any (λ row. row.object == o)) (sym seen)
     ∙ both_ways (list_any (λ row. row.object == o) rows.strong) (holds_object e o) (row_holds rows e o stands) (held_row rows e o stands))
-
--- the mark of one more row
-pub mark_step : (olds marks : List Bool) (rows : List StrongRow) (i o : ℕ) (d : StrongRow) → i < length rows
-    → slice_get marks o ≡ option_map (λ mark. mark || list_any (λ row. row.object == o) (take i rows)) (slice_get olds o)
-    → slice_get (slice_set marks (get_or rows i d).object true) o ≡ option_map (λ mark. mark || list_any (λ row. row.object == o) (take (i + 1) rows)) (slice_get olds o)
-mark_step olds marks rows i o d within was =
-    rw (slice_get-set marks (get_or rows i d).object o, was, list_any_more (λ row. row.object == o) rows i d within)
-    (marked_twice (list_any (λ row. row.object == o) (take i rows)) ((get_or rows i d).object == o) (slice_get olds o))
 
 -- a value is seen as its view
 pub reopened : (a b : Rows) (e : List Event) → a ≡ b → Stands b e → Stands a e

@@ -1,7 +1,8 @@
-ghost use Rattle.std.specs.Prelude.{◌≡◌, ℕ, ◌||◌, List, [], ◌∷◌, ◌++◌, map, OnOk, OnErr, option_map, slice_get};
+ghost use Rattle.std.specs.Prelude.{◌≡◌, ℕ, List, [], ◌∷◌, ◌++◌, map, OnOk, OnErr};
 ghost use Rattle.jg_globals.specs.History.{Event, MakeStrong, MakeWeak, Clear, strong_target, target_of, deletion, holds_object};
 ghost use Rattle.jg_globals.specs.Rows.{AddsNumber, IsAbove, KeepsNumbers};
 ghost use Rattle.jg_globals.specs.Standing.{Stands, IsListOf};
+ghost use Rattle.jg_lists.specs.Marks.{Marks};
 
 use crate::row::{
     StrongRow, WeakRow, clear_rows, end_strong, end_weak, mark_objects, names_object,
@@ -135,7 +136,7 @@ impl<A: Allocator + Clone> Globals<A> {
     /// Sets the mark of each object that a global reference names and leaves the other marks. An
     /// object past the end of `marks` is passed over.
     pub fn mark_held(&self, marks: &mut [bool])
-        ensures { (e : List Event) → Stands self.now e → (o : ℕ) → slice_get marks.new o ≡ option_map (λ mark. mark || holds_object e o) (slice_get marks.old o) }
+        ensures { (e : List Event) → Stands self.now e → Marks (holds_object e) marks.old marks.new }
     {
         mark_objects(&self.strong, marks);
     }

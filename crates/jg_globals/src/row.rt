@@ -1,8 +1,10 @@
-ghost use Rattle.std.specs.Prelude.{◌≡◌, ℕ, true, ◌==◌, ◌&&◌, ◌||◌, not, filter, find, option_map, slice_get, slice_set};
+ghost use Rattle.std.specs.Prelude.{◌≡◌, ◌==◌, ◌&&◌, not, filter, find, option_map};
 ghost use Rattle.std.specs.List.{list_any};
+ghost use Rattle.jg_lists.specs.Marks.{Marks};
 ghost use Rattle.jg_globals.specs.Clearing.{IsCleared, EachCleared};
 
 use crate::target::Target;
+use jg_lists::mark;
 use jg_words::ObjId;
 use std::alloc::Allocator;
 
@@ -57,19 +59,10 @@ pub fn names_object(rows: &[StrongRow], object: u64) -> bool
 }
 
 pub fn mark_objects(rows: &[StrongRow], marks: &mut [bool])
-    ensures { (o : ℕ) → slice_get marks.new o ≡ option_map (λ mark. mark || list_any (λ row. row.object == o) rows.now) (slice_get marks.old o) }
+    ensures { Marks (λ o. list_any (λ row. row.object == o) rows.now) marks.old marks.new }
 {
     for row in rows {
         mark(marks, row.object);
-    }
-}
-
-fn mark(marks: &mut [bool], object: u64)
-    ensures { marks.new ≡ slice_set marks.old object true }
-{
-    let index = object as usize;
-    if index < marks.len() {
-        marks[index] = true;
     }
 }
 

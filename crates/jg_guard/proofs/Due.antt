@@ -1,7 +1,8 @@
 -- What the tables hold where a call is due, and how they stand after it.
-use Rattle.std.proofs.Common.{ℕ, ◌≡◌, ◌+◌, ◌-◌, ◌<◌, ◌≤◌, ◌^◌, Bool, true, false, List, [], ◌∷◌, length, Option, Some, None, refl, ap, ◌∙◌, sym, subst, arith}
-use Rattle.std.specs.Prelude.{◌==◌, ◌&&◌, All, not, cond, map, ℤ, IsTrue, IsNone}
+use Rattle.std.proofs.Common.{ℕ, ◌≡◌, ◌+◌, ◌-◌, ◌<◌, ◌≤◌, ◌^◌, Bool, true, false, List, [], ◌∷◌, ◌++◌, map, length, Option, Some, None, refl, ap, ◌∙◌, sym, subst, arith, length-append}
+use Rattle.std.specs.Prelude.{◌==◌, ◌&&◌, All, not, cond, IsNone, IsTrue}
 use Rattle.std.proofs.lemmas.Bool.Decides.{nat_tests}
+use Rattle.std.proofs.lemmas.List.{length-map}
 use Rattle.jg_words.specs.Call.{fun_of}
 use Rattle.jg_words.specs.Fun.{needs_env}
 use Rattle.jg_words.specs.declared.thread.EnvId.{EnvId}
@@ -10,48 +11,56 @@ use Rattle.jg_words.specs.declared.object.ObjId.{ObjId}
 use Rattle.jg_words.specs.declared.reference.Ref.{Ref}
 use Rattle.jg_words.specs.declared.reference.Ref.TheVariants.{Null, To}
 use Rattle.jg_words.specs.declared.reference.Kind.TheVariants.{Local, Global, Weak}
-use Rattle.jg_words.specs.declared.call.Call.TheVariants.{Refs, Frames, Strings}
-use Rattle.jg_words.specs.declared.call.refs.RefsCall.TheVariants.{NewLocalRef, DeleteLocalRef}
-use Rattle.jg_words.specs.declared.call.frames.FramesCall.TheVariants.{PopLocalFrame}
-use Rattle.jg_words.specs.declared.call.strings.StringsCall.TheVariants.{NewString}
-use Rattle.jg_policy.specs.Stated.{StatedSetup}
-use Rattle.jg_heap.specs.Making.{Text}
-use Rattle.jg_heap.specs.History.{Made}
-use Rattle.jg_rules.specs.Effects.{unit_of}
+use Rattle.jg_words.specs.declared.value.Value.{Value}
+use Rattle.jg_words.specs.declared.value.Value.TheVariants.{Reference, Buffer as Lent, Busy, Throw as Threw}
 use Rattle.jg_words.specs.declared.call.Call.{Call}
+use Rattle.jg_policy.specs.Stated.{StatedSetup}
 use Rattle.jg_threads.specs.History as threads
 use Rattle.jg_threads.specs.declared.row.Row.{Row}
 use Rattle.jg_threads.specs.Rows.{row_of, CanCount}
 use Rattle.jg_threads.specs.Standing as thread_standing
-use Rattle.jg_locals.specs.History.{Event, by, Pop, acts_of, has_session, depth, frames, IsMadeBelow}
+use Rattle.jg_locals.specs.History.{acts_of, has_session, depth, frames, IsMadeBelow}
 use Rattle.jg_locals.specs.Rows.{Rows, HasFrame, pushed, top, spare}
 use Rattle.jg_locals.specs.Standing as local_standing
 use Rattle.jg_locals.proofs.Callers.{has_frame_law, above_law}
 use Rattle.jg_locals.proofs.Lookups.{pushed_law}
 use Rattle.jg_locals.proofs.Tops.{top_is}
-use Rattle.jg_locals.proofs.StandingSteps.{acts_more}
+use Rattle.jg_globals.proofs.Ended.{above_law as global_above_law}
 use Rattle.jg_rules.specs.Parts.{Parts, TableRows, TablesStand}
-use Rattle.jg_rules.specs.Names.{next_ref, open_frames, object_count}
+use Rattle.jg_rules.specs.Names.{next_ref, open_frames}
+use Rattle.jg_rules.specs.Effects.{done_by, done_if, is_effective, settled, passed_on, call_threads}
+use Rattle.jg_rules.specs.Access.{native_class, home_of}
 use Rattle.jg_rules.specs.Rules.{detached, is_session}
-use Rattle.jg_rules.specs.Answers.{handed, refs_answer}
-use Rattle.jg_rules.specs.Legal.{answered}
-use Rattle.jg_laws.proofs.Sizes.{sessions-le, refs-le, buffers-le, depth-le, frames-le}
+use Rattle.jg_rules.specs.Unbroken.{Unbroken}
+use Rattle.jg_rules.specs.Answers.{answer}
+use Rattle.jg_rules.specs.declared.answer.Answer.{Answer}
+use Rattle.jg_laws.specs.Laws.{Agree}
+use Rattle.jg_laws.specs.Proper.{IsProper, ProperAnswer}
+use Rattle.jg_laws.proofs.Proper.{proper}
+use Rattle.jg_laws.proofs.Acts.{attached_done, next_done}
+use Rattle.jg_laws.proofs.Steps.{each_done}
+use Rattle.jg_laws.proofs.Kept.{Agreed, agree_steps, below_steps, Below}
+use Rattle.jg_laws.proofs.Sizes.{sessions-le, refs-le, buffers-le, depth-le, frames-le, call_threads-le}
 use Rattle.jg_guard.specs.declared.tables.Tables.{Tables}
-use Rattle.jg_guard.specs.Tables.{IsOrdinary, CanHandOut, handed_on, deleted_on}
+use Rattle.jg_guard.specs.Tables.{rows_of, IsOrdinary, IsDue, CanHandOut, CanMakeGlobal, CanLend, CanSettle, CanSettleGlobal, CanThrow, makes_local, makes_global}
+use Rattle.jg_guard.specs.Settled.{saying_of, warned_on}
 
 -- each count may rise by one
-pub counts : (p : Parts) (rows : List (ℕ × Row)) (t : ℕ) → IsOrdinary p → thread_standing.Stands rows p.threads → CanCount rows t
-counts p rows t o stands =
+counts_few : (p : Parts) (rows : List (ℕ × Row)) (t : ℕ) → length p.threads < 2 ^ 63 → thread_standing.Stands rows p.threads → CanCount rows t
+counts_few p rows t few stands =
     let sessions = ap (λ (r : Row). r.sessions) (stands.threads t) in
     let refs = ap (λ (r : Row). r.refs) (stands.threads t) in
     let buffers = ap (λ (r : Row). r.buffers) (stands.threads t) in
     let depth = ap (λ (r : Row). r.depth) (stands.threads t) in
     record {
-      sessions = omega (arith, sessions, sessions-le p.threads t, o.few_threads);
-      refs = omega (arith, refs, refs-le p.threads t, o.few_threads);
-      buffers = omega (arith, buffers, buffers-le p.threads t, o.few_threads);
-      depth = omega (arith, depth, depth-le p.threads t, o.few_threads);
+      sessions = omega (arith, sessions, sessions-le p.threads t, few);
+      refs = omega (arith, refs, refs-le p.threads t, few);
+      buffers = omega (arith, buffers, buffers-le p.threads t, few);
+      depth = omega (arith, depth, depth-le p.threads t, few);
     }
+
+pub counts : (p : Parts) (rows : List (ℕ × Row)) (t : ℕ) → IsOrdinary p → thread_standing.Stands rows p.threads → CanCount rows t
+counts p rows t o stands = counts_few p rows t (omega (arith, o.few_threads)) stands
 
 attached_if : (a b : Bool) (n m : ℕ) → not (b && is_session (cond a (Some n) None) m) ≡ false → a ≡ true
 attached_if true b n m h = refl
@@ -63,33 +72,9 @@ pub attached_caller : (p : Parts) (t : ℕ) (env : Option EnvId) (call : Call) �
 attached_caller p t None call takes is = absurd (cc (takes, is))
 attached_caller p t (Some env) call takes is = attached_if (threads.attached (threads.acts_of t p.threads)) (env.tid.0 == t) _ env.session is
 
--- a thread that is attached may be handed out a reference
-pub can_hand_out : {A : Type 0} (p : Parts) (tables : Tables A) (t : ℕ) → IsOrdinary p → thread_standing.Stands tables.threads p.threads → local_standing.Stands tables.locals.rows p.locals
-    → threads.attached (threads.acts_of t p.threads) ≡ true → 0 < spare tables.locals t → CanHandOut tables t
-can_hand_out p tables t o stands local_stands is room =
-    let refs = ap (λ (r : Row). r.refs) (stands.threads t) in
-    record {
-      counts = counts p tables.threads t o stands;
-      attached = ap (λ (r : Row). r.attached) (stands.threads t) ∙ is;
-      started = has_frame_law tables.locals.rows p.locals t local_stands (sym (o.agree t).session ∙ is);
-      above = subst (λ (n : ℕ). All (λ row. row.tid ≡ t → row.n < n + 1) tables.locals.rows.locals) (sym refs) (above_law tables.locals.rows p.locals t (next_ref p t) local_stands (o.below t));
-      room = room;
-    }
-
--- so may it after a frame was popped
-pub can_hand_out_below : {A : Type 0} (p : Parts) (tables : Tables A) (t : ℕ) → IsOrdinary p → thread_standing.Stands tables.threads p.threads → local_standing.Stands tables.locals.rows (by t Pop ∷ p.locals)
-    → threads.attached (threads.acts_of t p.threads) ≡ true → 0 < spare tables.locals t → CanHandOut tables t
-can_hand_out_below p tables t o stands local_stands is room =
-    let refs = ap (λ (r : Row). r.refs) (stands.threads t) in
-    let acts = acts_more t t Pop p.locals refl in
-    let made : IsMadeBelow (next_ref p t) (acts_of t (by t Pop ∷ p.locals)) = rw acts (o.below t) in
-    record {
-      counts = counts p tables.threads t o stands;
-      attached = ap (λ (r : Row). r.attached) (stands.threads t) ∙ is;
-      started = has_frame_law tables.locals.rows (by t Pop ∷ p.locals) t local_stands (ap has_session acts ∙ (sym (o.agree t).session ∙ is));
-      above = subst (λ (n : ℕ). All (λ row. row.tid ≡ t → row.n < n + 1) tables.locals.rows.locals) (sym refs) (above_law tables.locals.rows (by t Pop ∷ p.locals) t (next_ref p t) local_stands made);
-      room = room;
-    }
+-- an attached thread has a frame
+pub has_frame : (p : Parts) (rows : Rows) (t : ℕ) → IsOrdinary p → local_standing.Stands rows p.locals → threads.attached (threads.acts_of t p.threads) ≡ true → HasFrame t rows
+has_frame p rows t o stands is = has_frame_law rows p.locals t stands (sym (o.agree t).session ∙ is)
 
 -- a frame may be pushed
 pub can_push : (p : Parts) (rows : Rows) (t : ℕ) → IsOrdinary p → local_standing.Stands rows p.locals → pushed t rows < 18446744073709551615
@@ -109,42 +94,132 @@ can_start p rows t o stands is =
     let none : has_session (acts_of t p.locals) ≡ false = sym (o.agree t).session ∙ is in
     rw (top_is rows p.locals t stands, none) refl
 
--- ---- the tables after a call that hands out a reference, or deletes one
+-- ---- where the tables still stand
 
--- the object of an answer that hands out what was found
-reference_for : (p q : Parts) (t : Tid) (found : Option ℕ) (object : Option ObjId) → object ≡ (handed p t found).object → handed_on t.0 object q ≡ handed_on t.0 (handed p t found).object q
-reference_for p q t found object is = ap (λ (o : Option ObjId). handed_on t.0 o q) is
+pub due_still : (s : StatedSetup) (old new : TableRows) (t : ℕ) (call : Call) (due : IsDue s old t call) → TablesStand s new due.events → IsDue s new t call
+due_still s old new t call due stand = record { events = due.events; env = due.env; ordinary = due.ordinary; stand = stand; unbroken = due.unbroken; counts = counts due.events new.threads t due.ordinary stand.threads }
 
-made_for : (setup : StatedSetup) (p : Parts) (t : Tid) (r : Ref) (found : Option ℕ) (rows : TableRows) → TablesStand setup rows (handed_on t.0 (handed p t found).object p) → TablesStand setup rows (answered p t (Refs (NewLocalRef r)) (handed p t found))
-made_for setup p t r None rows stands = stands
-made_for setup p t r (Some o) rows stands = stands
+-- ---- what an answer makes can be made
 
-pub reference_made : (setup : StatedSetup) (p : Parts) (t : Tid) (r : Ref) (found : Option ℕ) (object : Option ObjId) (rows : TableRows) → object ≡ (handed p t found).object
-    → TablesStand setup rows (handed_on t.0 object p) → TablesStand setup rows (answered p t (Refs (NewLocalRef r)) (handed p t found))
-reference_made setup p t r found object rows is stands = made_for setup p t r found rows (subst (λ (q : Parts). TablesStand setup rows q) (reference_for p p t found object is) stands)
+pub is_on : (p : Parts) (rows : List (ℕ × Row)) (t : ℕ) → thread_standing.Stands rows p.threads → threads.attached (threads.acts_of t p.threads) ≡ true → IsTrue (row_of rows t).attached
+is_on p rows t stands is = ap (λ (r : Row). r.attached) (stands.threads t) ∙ is
 
--- p after t popped a frame
-abbrev popped : ℕ → Parts → Parts
-popped t p = record p { locals = by t Pop ∷ p.locals }
+-- what is known after a call's own events
+pub record After (q : Parts) (t : ℕ) : Type 0 where
+  pub few : length q.threads < 2 ^ 63
+  pub agree : Agree (threads.acts_of t q.threads) (acts_of t q.locals)
+  pub below : IsMadeBelow (next_ref q t) (acts_of t q.locals)
 
-popped_for : (setup : StatedSetup) (p : Parts) (t : Tid) (r : Ref) (found : Option ℕ) (rows : TableRows) → TablesStand setup rows (handed_on t.0 (handed p t found).object (popped t.0 p)) → TablesStand setup rows (answered p t (Frames (PopLocalFrame r)) (handed p t found))
-popped_for setup p t r None rows stands = stands
-popped_for setup p t r (Some o) rows stands = stands
+pub after_done : (s : StatedSetup) (p : Parts) (t : ℕ) (env : Option EnvId) (call : Call) → Unbroken s p t env call → IsOrdinary p → After (done_by s t call p) t
+after_done s p t env call kept o =
+    let old : (u : ℕ) → Agreed (threads.acts_of u p.threads) (acts_of u p.locals) = λ u. (o.agree u, o.resting u) in
+    let few : length (map (threads.by t) (call_threads s p t call) ++ p.threads) ≤ length p.threads + 1 = simp (length-append, length-map) (omega (arith, call_threads-le s p t call)) in
+    record {
+      few = omega (arith, few, o.few_threads);
+      agree = (each_done (λ q. (u : ℕ) → Agreed (threads.acts_of u q.threads) (acts_of u q.locals)) agree_steps s p t env call kept old t).0;
+      below = each_done Below below_steps s p t env call kept o.below t;
+    }
 
-pub frame_popped : (setup : StatedSetup) (p : Parts) (t : Tid) (r : Ref) (found : Option ℕ) (object : Option ObjId) (rows : TableRows) → object ≡ (handed p t found).object
-    → TablesStand setup rows (handed_on t.0 object (popped t.0 p)) → TablesStand setup rows (answered p t (Frames (PopLocalFrame r)) (handed p t found))
-frame_popped setup p t r found object rows is stands = popped_for setup p t r found rows (subst (λ (q : Parts). TablesStand setup rows q) (reference_for p (popped t.0 p) t found object is) stands)
+-- an attached thread whose tables stand for a call's own events may be handed out its next local
+pub can_hand_out : {A : Type 0} (s : StatedSetup) (p : Parts) (tables : Tables A) (t : ℕ) (n : ℕ) (env : Option EnvId) (call : Call) → After (done_by s t call p) t
+    → TablesStand s (rows_of tables) (done_by s t call p) → needs_env (fun_of call) ≡ true → detached p t env call ≡ false → n ≡ next_ref p t → 0 < spare tables.locals t → CanHandOut tables t n
+can_hand_out s p tables t n env call after stand takes is next room =
+    let q : Parts = done_by s t call p in
+    let on = attached_done s p t call takes (attached_caller p t env call takes is) in
+    record {
+      counts = counts_few q tables.threads t after.few stand.threads;
+      attached = is_on q tables.threads t stand.threads on;
+      started = has_frame_law tables.locals.rows q.locals t stand.locals (sym after.agree.session ∙ on);
+      above = subst (λ (k : ℕ). All (λ row. row.tid ≡ t → row.n < k) tables.locals.rows.locals) (next_done s p t call t ∙ sym next) (above_law tables.locals.rows q.locals t (next_ref q t) stand.locals after.below);
+      room = room;
+    }
 
-pub local_deleted : (setup : StatedSetup) (p : Parts) (t : Tid) (r : Ref) (rows : TableRows) → TablesStand setup rows (deleted_on t.0 r p) → TablesStand setup rows (answered p t (Refs (DeleteLocalRef r)) (refs_answer p t (DeleteLocalRef r)))
-local_deleted setup p t Null rows stands = stands
-local_deleted setup p t (To Local maker n) rows stands = stands
-local_deleted setup p t (To Global maker n) rows stands = stands
-local_deleted setup p t (To Weak maker n) rows stands = stands
+-- an attached thread may be handed out its next global reference
+pub can_make_global : {A : Type 0} (s : StatedSetup) (p : Parts) (tables : Tables A) (t maker : Tid) (n : ℕ) (env : Option EnvId) (call : Call) → IsOrdinary p
+    → TablesStand s (rows_of tables) p → needs_env (fun_of call) ≡ true → detached p t.0 env call ≡ false → maker ≡ t → n ≡ next_ref p t.0 → CanMakeGlobal tables t.0 maker.0 n
+can_make_global s p tables t maker n env call o stand takes is own next =
+    record {
+      counts = counts p tables.threads t.0 o stand.threads;
+      attached = is_on p tables.threads t.0 stand.threads (attached_caller p t.0 env call takes is);
+      above = rw (own, next) (global_above_law tables.globals p.globals t.0 (next_ref p t.0) stand.globals (o.globals_below t.0));
+    }
 
--- p after a string was made
-abbrev stored : List ℤ → Parts → Parts
-stored units p = record p { heap = Made (Text (map unit_of units)) ∷ p.heap }
+pub can_settle : {A : Type 0} (s : StatedSetup) (p : Parts) (tables : Tables A) (t : Tid) (env : Option EnvId) (call : Call) (value : Value) (warned : Bool) (o : Option ObjId)
+    → IsProper s p t call value warned o → is_effective value ≡ true → makes_global value ≡ false
+    → After (done_by s t.0 call p) t.0 → TablesStand s (rows_of tables) (done_by s t.0 call p) → detached p t.0 env call ≡ false → (makes_local value ≡ true → needs_env (fun_of call) ≡ true → 0 < spare tables.locals t.0)
+    → CanSettle tables t.0 value o
+can_settle s p tables t env call (Reference r) warned None own effective not_global after stand is room = absurd own
+can_settle s p tables t env call (Reference Null) warned (Some o) own effective not_global after stand is room = absurd own
+can_settle s p tables t env call (Reference (To Local maker n)) warned (Some o) own effective not_global after stand is room = can_hand_out s p tables t.0 n env call after stand own.0 is own.2 (room refl own.0)
+can_settle s p tables t env call (Reference (To Global maker n)) warned (Some o) own effective not_global after stand is room = absurd cc
+can_settle s p tables t env call (Reference (To Weak maker n)) warned (Some o) own effective not_global after stand is room = absurd cc
+can_settle s p tables t env call (Lent b) warned o own effective not_global after stand is room = record { counts = counts_few (done_by s t.0 call p) tables.threads t.0 after.few stand.threads; attached = is_on (done_by s t.0 call p) tables.threads t.0 stand.threads (attached_done s p t.0 call own.0 (attached_caller p t.0 env call own.0 is)) }
+can_settle s p tables t env call Busy warned o own effective not_global after stand is room = absurd cc
+can_settle s p tables t env call (Threw kind) warned o own effective not_global after stand is room = absurd cc
+can_settle s p tables t env call value warned o own effective not_global after stand is room = tt
 
-pub string_made : (setup : StatedSetup) (p : Parts) (t : Tid) (units : List ℤ) (object : Option ObjId) (rows : TableRows) → object ≡ (handed p t (Some (object_count setup p))).object
-    → TablesStand setup rows (handed_on t.0 object (stored units p)) → TablesStand setup rows (answered p t (Strings (NewString units)) (handed p t (Some (object_count setup p))))
-string_made setup p t units object rows is stands = subst (λ (q : Parts). TablesStand setup rows q) (reference_for p (stored units p) t (Some (object_count setup p)) object is) stands
+pub can_settle_global : {A : Type 0} (s : StatedSetup) (p : Parts) (tables : Tables A) (t : Tid) (env : Option EnvId) (call : Call) (value : Value) (warned : Bool) (o : Option ObjId)
+    → IsProper s p t call value warned o → makes_global value ≡ true → IsOrdinary p → TablesStand s (rows_of tables) p → detached p t.0 env call ≡ false → CanSettleGlobal tables t.0 value o
+can_settle_global s p tables t env call (Reference r) warned None own global before stand is = absurd own
+can_settle_global s p tables t env call (Reference Null) warned (Some o) own global before stand is = absurd own
+can_settle_global s p tables t env call (Reference (To Local maker n)) warned (Some o) own global before stand is = absurd cc
+can_settle_global s p tables t env call (Reference (To Global maker n)) warned (Some o) own global before stand is = can_make_global s p tables t maker n env call before stand own.0 is own.1 own.2
+can_settle_global s p tables t env call (Reference (To Weak maker n)) warned (Some o) own global before stand is = can_make_global s p tables t maker n env call before stand own.0 is own.1 own.2
+can_settle_global s p tables t env call value warned o own global before stand is = absurd cc
+
+-- a call that does nothing of its own takes an environment
+pub takes_env : (s : StatedSetup) (p : Parts) (t : Tid) (call : Call) (value : Value) (warned : Bool) (o : Option ObjId) → IsProper s p t call value warned o → is_effective value ≡ false → needs_env (fun_of call) ≡ true
+takes_env s p t call (Threw kind) warned None own none = absurd own
+takes_env s p t call (Threw kind) warned (Some o) own none = own.0
+takes_env s p t call Busy warned o own none = own.0
+takes_env s p t call value warned o own none = absurd cc
+
+pub can_throw : (s : StatedSetup) (p : Parts) (t : Tid) (call : Call) (value : Value) (warned : Bool) (o : Option ObjId) → IsProper s p t call value warned o → is_effective value ≡ false → CanThrow value o
+can_throw s p t call (Threw kind) warned None own none = own
+can_throw s p t call (Threw kind) warned (Some o) own none = tt
+can_throw s p t call Busy warned o own none = tt
+can_throw s p t call value warned o own none = absurd cc
+
+-- ---- the tables stand for all events of a passed call
+
+pub stand_at : (s s' : StatedSetup) (rows rows' : TableRows) (p : Parts) → s' ≡ s → rows' ≡ rows → TablesStand s rows p → TablesStand s' rows' p
+stand_at s s' rows rows' p same_setup same_rows stand = rw (same_setup, same_rows) stand
+
+pub due_at : (s s' : StatedSetup) (rows rows' : TableRows) (t : ℕ) (call : Call) → s' ≡ s → rows' ≡ rows → IsDue s rows t call → IsDue s' rows' t call
+due_at s s' rows rows' t call same_setup same_rows due = rw (same_setup, same_rows) due
+
+pub own_proper : (s : StatedSetup) (p : Parts) (t : Tid) (call : Call) (given : Answer) → given ≡ answer s p t call → ProperAnswer s p t call given
+own_proper s p t call given is = rw is (proper s p t call)
+
+-- nothing of its own
+settled_none : (s : StatedSetup) (home : Option ℕ) (p : Parts) (t : Tid) (call : Call) (value : Value) (warned : Bool) (o : Option ObjId) → IsProper s p t call value warned o → is_effective value ≡ false
+    → settled None t.0 (saying_of value) o p ≡ settled home t.0 (record { value = value; warned = warned }) o (done_if (is_effective value) s t.0 call p)
+settled_none s home p t call (Threw kind) warned None own none = absurd own
+settled_none s home p t call (Threw kind) warned (Some o) own none = rw own.2 refl
+settled_none s home p t call Busy warned o own none = rw own.1 refl
+settled_none s home p t call value warned o own none = absurd cc
+
+pub stand_none : (s : StatedSetup) (rows : TableRows) (p : Parts) (t : Tid) (call : Call) (given : Answer) → given ≡ answer s p t call → is_effective given.reply.value ≡ false
+    → TablesStand s rows (settled None t.0 (saying_of given.reply.value) given.object p) → TablesStand s rows (passed_on s t.0 call given.reply given.object p)
+stand_none s rows p t call given is none stand =
+    let own : ProperAnswer s p t call given = rw is (proper s p t call) in
+    subst (λ (q : Parts). TablesStand s rows q) (settled_none s (home_of s (native_class s p t.0 call)) p t call given.reply.value given.reply.warned given.object own none) stand
+
+settled_globals : (s : StatedSetup) (home : Option ℕ) (p : Parts) (t : Tid) (call : Call) (value : Value) (warned : Bool) (o : Option ObjId) → IsProper s p t call value warned o → makes_global value ≡ true
+    → settled None t.0 (saying_of value) o p ≡ settled home t.0 (record { value = value; warned = warned }) o (done_if (is_effective value) s t.0 call p)
+settled_globals s home p t call (Reference r) warned None own global = absurd own
+settled_globals s home p t call (Reference Null) warned (Some o) own global = absurd own
+settled_globals s home p t call (Reference (To Local maker n)) warned (Some o) own global = absurd cc
+settled_globals s home p t call (Reference (To Global maker n)) warned (Some o) own global = rw own.4 (ap (settled None t.0 (saying_of (Reference (To Global maker n))) (Some o)) (sym own.3))
+settled_globals s home p t call (Reference (To Weak maker n)) warned (Some o) own global = rw own.4 (ap (settled None t.0 (saying_of (Reference (To Weak maker n))) (Some o)) (sym own.3))
+settled_globals s home p t call value warned o own global = absurd cc
+
+pub stand_global : (s : StatedSetup) (rows : TableRows) (p : Parts) (t : Tid) (call : Call) (given : Answer) → given ≡ answer s p t call → makes_global given.reply.value ≡ true
+    → TablesStand s rows (settled None t.0 (saying_of given.reply.value) given.object p) → TablesStand s rows (passed_on s t.0 call given.reply given.object p)
+stand_global s rows p t call given is global stand =
+    let own : ProperAnswer s p t call given = rw is (proper s p t call) in
+    subst (λ (q : Parts). TablesStand s rows q) (settled_globals s (home_of s (native_class s p t.0 call)) p t call given.reply.value given.reply.warned given.object own global) stand
+
+pub stand_done : (s : StatedSetup) (rows : TableRows) (home : Option ℕ) (p : Parts) (t : Tid) (call : Call) (given : Answer) → home ≡ home_of s (native_class s p t.0 call) → is_effective given.reply.value ≡ true
+    → TablesStand s rows (warned_on given.reply.warned home (settled None t.0 (saying_of given.reply.value) given.object (done_by s t.0 call p))) → TablesStand s rows (passed_on s t.0 call given.reply given.object p)
+stand_done s rows home p t call given is effective stand = rw (effective, sym is) stand

@@ -10,21 +10,31 @@ use Rattle.jg_rules.specs.Effects.{parts}
 use Rattle.jg_rules.specs.Rules.{verdict}
 use Rattle.jg_rules.specs.Answers.{answer}
 use Rattle.jg_rules.specs.Legal.{Legal, entry_at, entry_by}
-use Rattle.jg_laws.proofs.Kept.{agree, below}
+use Rattle.jg_laws.proofs.Kept.{agree, agreed, below, globals_below}
 use Rattle.jg_laws.proofs.Sizes.{small}
-use Rattle.jg_guard.specs.Guard.{State, IsSound}
-use Rattle.jg_guard.specs.Tables.{IsOrdinary}
+use Rattle.jg_words.specs.declared.rule.Rule.{Rule}
+use Rattle.jg_words.specs.declared.entry.Outcome.TheVariants.{Passed, Denied}
+use Rattle.jg_rules.specs.declared.answer.Answer.{Answer}
+use Rattle.jg_rules.proofs.Kept.{unbroken}
+use Rattle.jg_guard.specs.Guard.{State, IsSound, Takes}
+use Rattle.jg_guard.proofs.Due.{counts}
+use Rattle.jg_guard.specs.Tables.{IsOrdinary, IsDue, IsAnswered}
+use Rattle.jg_words.specs.declared.value.Value.{Value}
+use Rattle.jg_words.specs.declared.object.ObjId.{ObjId}
+use Rattle.std.specs.Prelude.{Bool}
 
 -- the events of a sound guard's journal
-pub ordinary : (state : State) (rows : TableRows) → IsSound state rows → IsOrdinary (parts state.journal)
+pub ordinary : (state : State) (rows : TableRows) → IsSound state rows → IsOrdinary (parts state.setup state.journal)
 ordinary state rows s =
-    let sizes = small state.journal in
+    let sizes = small state.setup state.journal in
     record {
       agree = λ t. agree state.setup state.journal t s.legal;
+      resting = λ t. (agreed state.setup state.journal s.legal t).1;
       below = below state.setup state.journal s.legal;
+      globals_below = globals_below state.setup state.journal s.legal;
       few_threads = omega (arith, sizes.threads, s.bounded, s.small);
       few_locals = omega (arith, sizes.locals, s.bounded, s.small);
-      few_objects = omega (arith, sizes.heap, s.bounded, s.small);
+      few_monitors = omega (arith, sizes.monitors, s.bounded, s.small);
     }
 
 pub entry_passed : (s : StatedSetup) (p : Parts) (t : Tid) (env : Option EnvId) (call : Call) → verdict s p t.0 env call ≡ None → entry_at s p t env call ≡ entry_by None (answer s p t call) t env call
@@ -32,7 +42,47 @@ entry_passed s p t env call none = rw none refl
 
 -- one entry more keeps a guard sound
 pub sound_after : (state : State) (journal : List Entry) (x : Entry) (rows rows' : TableRows)
-    → IsSound state rows → length state.journal < state.limit → journal ≡ x ∷ state.journal → x ≡ entry_at state.setup (parts state.journal) x.tid x.env x.call → TablesStand state.setup rows' (parts (x ∷ state.journal))
+    → IsSound state rows → length state.journal < state.limit → journal ≡ x ∷ state.journal → x ≡ entry_at state.setup (parts state.setup state.journal) x.tid x.env x.call → TablesStand state.setup rows' (parts state.setup (x ∷ state.journal))
     → IsSound (record state { journal = journal }) rows'
 sound_after state journal x rows rows' s room is legal stands =
     record { legal = rw is (legal, s.legal); small = s.small; bounded = rw is (omega arith); tables = rw is stands }
+
+abbrev pub due_of : (state : State) (rows : TableRows) (t : Tid) (env : Option EnvId) (call : Call) → IsSound state rows → verdict state.setup (parts state.setup state.journal) t.0 env call ≡ None → IsDue state.setup rows t.0 call
+due_of state rows t env call s none =
+    let p : Parts = parts state.setup state.journal in
+    record { events = p; env = env; ordinary = ordinary state rows s; stand = s.tables; unbroken = unbroken state.setup p t.0 env call none; counts = counts p rows.threads t.0 (ordinary state rows s) s.tables.threads }
+
+-- the entry of a denied call
+abbrev pub denied_entry : Tid → Option EnvId → Call → Rule → Entry
+denied_entry t env call rule = record { tid = t; env = env; call = call; outcome = Denied rule; object = None }
+
+pub entry_denied : (s : StatedSetup) (p : Parts) (t : Tid) (env : Option EnvId) (call : Call) (rule : Rule) → verdict s p t.0 env call ≡ Some rule → denied_entry t env call rule ≡ entry_at s p t env call
+entry_denied s p t env call rule is = rw is refl
+
+-- the entry of a passed one
+abbrev pub passed_entry : Tid → Option EnvId → Call → Answer → Entry
+passed_entry t env call given = record { tid = t; env = env; call = call; outcome = Passed given.reply; object = given.object }
+
+pub entry_given : (s : StatedSetup) (p : Parts) (t : Tid) (env : Option EnvId) (call : Call) (given : Answer) → verdict s p t.0 env call ≡ None → given ≡ answer s p t call → passed_entry t env call given ≡ entry_at s p t env call
+entry_given s p t env call given none is = rw (none, is) refl
+
+-- the guard took the entry
+pub takes_entry : (old : State) (rows : TableRows) (x : Entry) (journal : List Entry) → IsSound old rows → journal ≡ x ∷ old.journal → x ≡ entry_at old.setup (parts old.setup old.journal) x.tid x.env x.call
+    → Takes old (record old { journal = journal }) x.tid x.env x.call x.outcome
+takes_entry old rows x journal s is legal = record { setup = refl; limit = refl; journal = is ∙ ap (λ (y : Entry). y ∷ old.journal) legal; answered = ap (λ (y : Entry). y.outcome) legal; legal = rw is (legal, s.legal) }
+
+pub denied_sound : (state : State) (journal : List Entry) (rows : TableRows) (t : Tid) (env : Option EnvId) (call : Call) (rule : Rule) → IsSound state rows → length state.journal < state.limit
+    → verdict state.setup (parts state.setup state.journal) t.0 env call ≡ Some rule → journal ≡ denied_entry t env call rule ∷ state.journal → IsSound (record state { journal = journal }) rows
+denied_sound state journal rows t env call rule s room denied is =
+    sound_after state journal (denied_entry t env call rule) rows rows s room is (entry_denied state.setup (parts state.setup state.journal) t env call rule denied) s.tables
+
+pub answered_at : (s s' : StatedSetup) (p : Parts) (t : Tid) (call : Call) (given : Answer) → s' ≡ s → given ≡ answer s' p t call → given ≡ answer s p t call
+answered_at s s' p t call given same is = is ∙ ap (λ (r : StatedSetup). answer r p t call) same
+
+same_answer : (a b : Answer) → a.reply.value ≡ b.reply.value → a.reply.warned ≡ b.reply.warned → a.object ≡ b.object → a ≡ b
+same_answer a b value warned object = ap (λ (v : Value). record { reply = record { value = v; warned = a.reply.warned }; object = a.object }) value ∙ (ap (λ (w : Bool). record { reply = record { value = b.reply.value; warned = w }; object = a.object }) warned ∙ ap (λ (o : Option ObjId). record { reply = record { value = b.reply.value; warned = b.reply.warned }; object = o }) object)
+
+pub answered_due : (state : State) (rows : TableRows) (t : Tid) (env : Option EnvId) (call : Call) (given : Answer) (again : Answer) → IsSound state rows → verdict state.setup (parts state.setup state.journal) t.0 env call ≡ None
+    → given ≡ answer state.setup (parts state.setup state.journal) t call → again.reply.value ≡ given.reply.value → again.reply.warned ≡ given.reply.warned → again.object ≡ given.object → IsAnswered state.setup rows t call again
+answered_due state rows t env call given again s none is value warned object =
+    record { due = due_of state rows t env call s none; answered = same_answer again given value warned object ∙ is }

@@ -21,13 +21,13 @@ pub record IsSound (state : State) (rows : TableRows) : Type 0 where
   pub legal : Legal state.setup state.journal
   pub small : state.limit < 2 ^ 32
   pub bounded : length state.journal ≤ state.limit
-  pub tables : TablesStand state.setup rows (parts state.journal)
+  pub tables : TablesStand state.setup rows (parts state.setup state.journal)
 
 -- the guard took one call more: the journal has its entry in front, which is denied by the first broken rule or passed with
 -- the answer; that outcome was answered, and the journal is legal
 pub record Takes (old new : State) (t : Tid) (env : Option EnvId) (call : Call) (outcome : Outcome) : Type 0 where
   pub setup : new.setup ≡ old.setup
   pub limit : new.limit ≡ old.limit
-  pub journal : new.journal ≡ entry_at old.setup (parts old.journal) t env call ∷ old.journal
-  pub answered : outcome ≡ (entry_at old.setup (parts old.journal) t env call).outcome
+  pub journal : new.journal ≡ entry_at old.setup (parts old.setup old.journal) t env call ∷ old.journal
+  pub answered : outcome ≡ (entry_at old.setup (parts old.setup old.journal) t env call).outcome
   pub legal : Legal new.setup new.journal

@@ -1,10 +1,10 @@
 //! What a call answers, group by group: it only reads.
 
-ghost use Rattle.std.specs.Prelude.{◌≡◌, ◌<◌, ◌^◌};
-ghost use Rattle.jg_threads.specs.Rows.{CanCount};
+ghost use Rattle.std.specs.Prelude.{◌≡◌, IfOk};
 ghost use Rattle.jg_rules.specs.Parts.{Parts};
-ghost use Rattle.jg_rules.specs.View.{ViewStands};
+ghost use Rattle.jg_rules.specs.View.{ViewStands, rows_in};
 ghost use Rattle.jg_rules.specs.Answers.{answer};
+ghost use Rattle.jg_guard.specs.Tables.{IsDue};
 
 use crate::groups::frames::answer_frames;
 use crate::groups::refs::answer_refs;
@@ -12,17 +12,23 @@ use crate::groups::strings::answer_strings;
 use crate::groups::vm::answer_vm;
 use jg_rules::{Answer, View};
 use jg_words::{Call, Tid};
-use std::alloc::Allocator;
+use std::alloc::{AllocError, Allocator, Global};
 
-/// What the call answers, where it breaks no rule.
-pub(crate) fn answer_to<A: Allocator + Clone>(view: &View<'_, A>, tid: Tid, call: &Call) -> Answer
-    requires { CanCount view.now.threads.now tid.0 }
-    ensures { (p : Parts) → ViewStands view.now p → result ≡ answer view.now.setup.now p tid call.now }
+/// What the call answers, where it breaks no rule. `lists` is for the items of a list answer.
+pub(crate) fn answer_to<A: Allocator + Clone>(
+    view: &View<'_, A>,
+    lists: Global,
+    tid: Tid,
+    call: &Call,
+) -> Result<Answer, AllocError>
+    requires { IsDue view.now.setup.now (rows_in view.now) tid.0 call.now }
+    ensures { IfOk result (λ given. (p : Parts) → ViewStands view.now p → given ≡ answer view.now.setup.now p tid call.now) }
 {
+    let _lists = lists;
     match call {
-        Call::Vm(call) => answer_vm(view, tid, call),
-        Call::Refs(call) => answer_refs(view, tid, call),
-        Call::Frames(call) => answer_frames(view, tid, call),
-        Call::Strings(call) => answer_strings(view, tid, call),
+        Call::Vm(call) => Ok(answer_vm(view, tid, call)),
+        Call::Refs(call) => Ok(answer_refs(view, tid, call)),
+        Call::Frames(call) => Ok(answer_frames(view, tid, call)),
+        Call::Strings(call) => Ok(answer_strings(view, tid, call)),
     }
 }

@@ -8,10 +8,13 @@ ghost use Rattle.jg_guard.specs.Guard.{Takes};
 use crate::answer::answer_to;
 use crate::perform::perform;
 use crate::tables::Tables;
+use jg_buffers::Buffers;
+use jg_globals::Globals;
 use jg_heap::Heap;
 use jg_locals::Locals;
-use jg_policy::Setup;
-use jg_rules::{Answer, first_broken};
+use jg_monitors::Monitors;
+use jg_policy::{Links, Setup};
+use jg_rules::first_broken;
 use jg_threads::Threads;
 use jg_words::{Call, Entry, EnvId, Outcome, Reply, Rule, Tid};
 use std::alloc::{AllocError, Allocator, Global};
@@ -49,21 +52,37 @@ impl<A: Allocator> Model for Guard<A> {
 }
 
 impl<A: Allocator + Clone> Guard<A> {
-    /// A guard with an empty journal of at most `limit` entries. Fails only for want of memory.
-    pub fn new(alloc: A, setup: Setup, limit: u32) -> Result<Guard<A>, AllocError>
+    /// A guard with an empty journal of at most `limit` entries. `lists` is for the items of list
+    /// answers. Fails only for want of memory.
+    pub fn new(alloc: A, lists: Global, setup: Setup, limit: u32) -> Result<Guard<A>, AllocError>
         ensures setup { IfOk result (λ guard. guard.setup ≡ setup) }
         ensures limit { IfOk result (λ guard. guard.limit ≡ limit) }
         ensures journal { IfOk result (λ guard. guard.journal ≡ []) }
     {
         let threads = Threads::new(alloc.clone()?);
         let locals = Locals::new(alloc.clone()?, alloc.clone()?);
+        let globals = Globals::new(alloc.clone()?, alloc.clone()?);
+        let buffers = Buffers::new(
+            alloc.clone()?,
+            alloc.clone()?,
+            alloc.clone()?,
+            alloc.clone()?,
+            alloc.clone()?,
+        );
+        let monitors = Monitors::new(alloc.clone()?, alloc.clone()?);
+        let links = Links::new(alloc.clone()?, alloc.clone()?);
         let heap = Heap::new(alloc.clone()?, u64::from(setup.class_count()))?;
         let journal = Vec::new(alloc.clone()?);
         let tables = Tables {
             alloc,
+            lists,
             threads,
             locals,
+            globals,
+            buffers,
+            monitors,
             heap,
+            links,
         };
         Ok(Guard {
             setup,
@@ -76,7 +95,7 @@ impl<A: Allocator + Clone> Guard<A> {
     /// The first rule that the call breaks as the journal is now, which `call` would deny it by;
     /// None where it breaks none.
     pub fn judge(&self, tid: Tid, env: Option<EnvId>, call: &Call) -> Option<Rule>
-        ensures { result ≡ verdict self.now.setup (parts self.now.journal) tid.0 env call.now }
+        ensures { result ≡ verdict self.now.setup (parts self.now.setup self.now.journal) tid.0 env call.now }
     {
         first_broken(&self.tables.view(&self.setup), tid, env, call)
     }
@@ -107,7 +126,7 @@ impl<A: Allocator + Clone> Guard<A> {
         rule: Rule,
     ) -> Result<Outcome, Refusal>
         requires room { length self.old.journal < self.old.limit }
-        requires denied { verdict self.old.setup (parts self.old.journal) tid.0 env call ≡ Some rule }
+        requires denied { verdict self.old.setup (parts self.old.setup self.old.journal) tid.0 env call ≡ Some rule }
         ensures ok { IfOk result (λ outcome. Takes self.old self.new tid env call outcome) }
         ensures err { OnErr result (self.new ≡ self.old) }
         ensures back { IfErr result (λ refusal. refusal ≡ Refusal.NoMemory call) }
@@ -129,42 +148,34 @@ impl<A: Allocator + Clone> Guard<A> {
     // All that can fail comes before the first change.
     fn pass(&mut self, tid: Tid, env: Option<EnvId>, call: Call) -> Result<Outcome, Refusal>
         requires room { length self.old.journal < self.old.limit }
-        requires passed { verdict self.old.setup (parts self.old.journal) tid.0 env call ≡ None }
+        requires passed { verdict self.old.setup (parts self.old.setup self.old.journal) tid.0 env call ≡ None }
         ensures ok { IfOk result (λ outcome. Takes self.old self.new tid env call outcome) }
         ensures err { OnErr result (self.new ≡ self.old) }
         ensures back { IfErr result (λ refusal. refusal ≡ Refusal.NoMemory call) }
     {
-        let Answer { value, object } = answer_to(&self.tables.view(&self.setup), tid, &call);
-        let Ok(answered) = value.try_copy() else {
+        let view = self.tables.view(&self.setup);
+        let Ok(given) = answer_to(&view, self.tables.lists, tid, &call) else {
+            return Err(Refusal::NoMemory(call));
+        };
+        let Ok(value) = given.reply.value.try_copy() else {
             return Err(Refusal::NoMemory(call));
         };
         let Ok(()) = self.journal.try_reserve(1) else {
             return Err(Refusal::NoMemory(call));
         };
-        let Ok(()) = self.tables.locals.reserve(tid) else {
+        let Ok(()) = perform(&mut self.tables, &self.setup, tid, &call, &given) else {
             return Err(Refusal::NoMemory(call));
         };
-        let Ok(()) = self.tables.locals.reserve_start(tid) else {
-            return Err(Refusal::NoMemory(call));
-        };
-        let Ok(()) = perform(&mut self.tables, tid, &call, object) else {
-            return Err(Refusal::NoMemory(call));
-        };
+        let warned = given.reply.warned;
         let entry = Entry {
             tid,
             env,
             call,
-            outcome: Outcome::Passed(Reply {
-                value,
-                warned: false,
-            }),
-            object,
+            outcome: Outcome::Passed(given.reply),
+            object: given.object,
         };
         push_reserved(&mut self.journal, entry);
-        Ok(Outcome::Passed(Reply {
-            value: answered,
-            warned: false,
-        }))
+        Ok(Outcome::Passed(Reply { value, warned }))
     }
 
     /// The most entries that the journal may have.

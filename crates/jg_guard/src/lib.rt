@@ -5,8 +5,8 @@
 mod answer;
 mod groups;
 mod guard;
-mod hand_out;
 mod perform;
+mod settle;
 mod tables;
 
 pub use guard::{Guard, Refusal};

@@ -1,47 +1,101 @@
 //! What a call does, group by group.
 
-ghost use Rattle.std.specs.Prelude.{◌≡◌, OnOk, OnErr};
+ghost use Rattle.std.specs.Prelude.{◌≡◌, true, false, OnOk, OnErr};
 ghost use Rattle.jg_policy.specs.Stated.{StatedSetup};
 ghost use Rattle.jg_rules.specs.Parts.{Parts, TablesStand};
+ghost use Rattle.jg_rules.specs.Names.{session};
+ghost use Rattle.jg_rules.specs.Access.{native_class, home_of};
 ghost use Rattle.jg_rules.specs.Answers.{answer};
-ghost use Rattle.jg_rules.specs.Legal.{answered};
-ghost use Rattle.jg_guard.specs.Tables.{rows_of, SameRows, IsDue};
+ghost use Rattle.jg_rules.specs.Effects as effects;
+ghost use Rattle.jg_rules.specs.Effects.{passed_on, done_by};
+ghost use Rattle.jg_rules.specs.View.{ViewStands};
+ghost use Rattle.jg_guard.specs.Tables as tables_of;
+ghost use Rattle.jg_guard.specs.Tables.{rows_of, StillStand, IsAnswered, IsEffective, KeepsRoom};
 
 use crate::groups::frames::perform_frames;
 use crate::groups::refs::perform_refs;
 use crate::groups::strings::perform_strings;
 use crate::groups::vm::perform_vm;
+use crate::settle::{
+    is_effective, make_room, makes_global, settle, settle_global, throw_if, warn_if,
+};
 use crate::tables::Tables;
-use jg_words::{Call, ObjId, Tid};
+use jg_policy::Setup;
+use jg_rules::{Answer, home_named};
+use jg_words::{Call, Tid};
 use std::alloc::{AllocError, Allocator};
 
-/// Does what a passed call does, with the object of its answer. There is room for one local and
-/// one base frame more. An `Err` leaves all rows as they were.
+/// Does what a passed call does: its own events, and then those of its answer. An `Err` leaves all
+/// as it stood.
 pub(crate) fn perform<A: Allocator + Clone>(
     tables: &mut Tables<A>,
+    setup: &Setup,
     tid: Tid,
     call: &Call,
-    object: Option<ObjId>,
+    given: &Answer,
 ) -> Result<(), AllocError>
-    requires { IsDue tables.old tid.0 call.now }
-    ensures stands { OnOk result ((setup : StatedSetup) (p : Parts) → TablesStand setup (rows_of tables.old) p → object ≡ (answer setup p tid call.now).object → TablesStand setup (rows_of tables.new) (answered p tid call.now (answer setup p tid call.now))) }
-    ensures err { OnErr result (SameRows tables.old tables.new) }
+    requires { IsAnswered setup.now (rows_of tables.old) tid call.now given.now }
+    ensures stands { OnOk result ((p : Parts) → TablesStand setup.now (rows_of tables.old) p → given.now ≡ answer setup.now p tid call.now → TablesStand setup.now (rows_of tables.new) (passed_on setup.now tid.0 call.now given.now.reply given.now.object p)) }
+    ensures err { OnErr result (StillStand setup.now (rows_of tables.old) (rows_of tables.new)) }
+{
+    if !is_effective(&given.reply.value) {
+        throw_if(tables, tid, given)?;
+        return Ok(());
+    }
+    if makes_global(&given.reply.value) {
+        settle_global(tables, tid, given)?;
+        return Ok(());
+    }
+    do_and_settle(tables, setup, tid, call, given)
+}
+
+fn do_and_settle<A: Allocator + Clone>(
+    tables: &mut Tables<A>,
+    setup: &Setup,
+    tid: Tid,
+    call: &Call,
+    given: &Answer,
+) -> Result<(), AllocError>
+    requires answered { IsAnswered setup.now (rows_of tables.old) tid call.now given.now }
+    requires effective { effects.is_effective given.now.reply.value ≡ true }
+    requires not_global { tables_of.makes_global given.now.reply.value ≡ false }
+    ensures stands { OnOk result ((p : Parts) → TablesStand setup.now (rows_of tables.old) p → given.now ≡ answer setup.now p tid call.now → TablesStand setup.now (rows_of tables.new) (passed_on setup.now tid.0 call.now given.now.reply given.now.object p)) }
+    ensures err { OnErr result (StillStand setup.now (rows_of tables.old) (rows_of tables.new)) }
+{
+    make_room(tables, tid, &given.reply)?;
+    let home = home_named(&tables.view(setup), tid, call);
+    do_call(tables, setup, tid, call)?;
+    settle(tables, tid, given);
+    warn_if(tables, given.reply.warned, home);
+    Ok(())
+}
+
+fn do_call<A: Allocator + Clone>(
+    tables: &mut Tables<A>,
+    setup: &Setup,
+    tid: Tid,
+    call: &Call,
+) -> Result<(), AllocError>
+    requires { IsEffective setup.now (rows_of tables.old) tid call.now }
+    ensures stands { OnOk result ((p : Parts) → TablesStand setup.now (rows_of tables.old) p → TablesStand setup.now (rows_of tables.new) (done_by setup.now tid.0 call.now p)) }
+    ensures room { OnOk result (KeepsRoom tables.old tables.new tid.0 call.now) }
+    ensures err { OnErr result (rows_of tables.new ≡ rows_of tables.old) }
 {
     match call {
         Call::Vm(call) => {
-            perform_vm(tables, tid, call)?;
+            perform_vm(tables, setup, tid, call)?;
             Ok(())
         }
         Call::Refs(call) => {
-            perform_refs(tables, tid, call, object);
+            perform_refs(tables, setup, tid, call);
             Ok(())
         }
         Call::Frames(call) => {
-            perform_frames(tables, tid, call, object)?;
+            perform_frames(tables, setup, tid, call)?;
             Ok(())
         }
         Call::Strings(call) => {
-            perform_strings(tables, tid, call, object)?;
+            perform_strings(tables, setup, tid, call)?;
             Ok(())
         }
     }

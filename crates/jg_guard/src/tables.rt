@@ -1,34 +1,47 @@
+use jg_buffers::Buffers;
+use jg_globals::Globals;
 use jg_heap::Heap;
 use jg_locals::Locals;
-use jg_policy::Setup;
+use jg_monitors::Monitors;
+use jg_policy::{Links, Setup};
 use jg_rules::View;
 use jg_threads::Threads;
-use std::alloc::Allocator;
+use std::alloc::{Allocator, Global};
 
-/// The state of the machine, and a handle to the memory that it takes.
+/// The state of the machine, a handle to the memory that it takes, and one to the memory that
+/// list answers take.
 #[derive(Drop)]
 pub(crate) struct Tables<A: Allocator> {
     pub(crate) alloc: A,
+    pub(crate) lists: Global,
     pub(crate) threads: Threads<A>,
     pub(crate) locals: Locals<A>,
+    pub(crate) globals: Globals<A>,
+    pub(crate) buffers: Buffers<A>,
+    pub(crate) monitors: Monitors<A>,
     pub(crate) heap: Heap<A>,
+    pub(crate) links: Links<A>,
 }
 
 impl<A: Allocator> Tables<A> {
     ghost use Rattle.std.specs.Prelude.{◌≡◌};
+    ghost use Rattle.jg_rules.specs.View.{rows_in};
+    ghost use Rattle.jg_guard.specs.Tables.{rows_of};
 
     /// The tables, lent to judge and to answer by.
     pub(crate) fn view<'a>(&'a self, setup: &'a Setup) -> View<'a, A>
         ensures setup { result.setup.now ≡ setup.now }
-        ensures threads { result.threads.now ≡ self.now.threads }
-        ensures locals { result.locals.now ≡ self.now.locals }
-        ensures heap { result.heap.now ≡ self.now.heap }
+        ensures rows { rows_in result ≡ rows_of self.now }
     {
         View {
             setup,
             threads: &self.threads,
             locals: &self.locals,
+            globals: &self.globals,
+            buffers: &self.buffers,
+            monitors: &self.monitors,
             heap: &self.heap,
+            links: &self.links,
         }
     }
 }

@@ -44,7 +44,7 @@ fn is_denied(answer: Result<Outcome, Refusal>, want: Rule) -> bool {
 /// What `judge` says is what `call` denies by; the journal has both entries.
 #[test]
 fn judges_answers_and_journals(rt: HostRuntime) -> Result<(), Fail> {
-    let mut guard = Guard::new(rt.alloc(), Setup::closed(rt.alloc()), 3)?;
+    let mut guard = Guard::new(rt.alloc(), rt.alloc(), Setup::closed(rt.alloc()), 3)?;
     assert_eq!(rt; guard.limit(), 3);
     assert_eq!(rt; guard.judge(T, None, &push_frame()), Some(Rule::Detached));
     assert!(rt; is_denied(guard.call(T, None, push_frame()), Rule::Detached));
@@ -62,7 +62,7 @@ fn judges_answers_and_journals(rt: HostRuntime) -> Result<(), Fail> {
 
 /// Makes the call until its growth is refused; then memory is given back, and it answers.
 fn goes_on(rt: &impl Abort, alloc: Global, heap: &LocalHeap, strings: bool) -> Result<(), Fail> {
-    let mut guard = Guard::new(heap, Setup::closed(alloc), 1000)?;
+    let mut guard = Guard::new(heap, alloc, Setup::closed(alloc), 1000)?;
     assert!(rt; guard.call(T, None, attach()).is_ok());
     let mut kept: Vec<u8, &LocalHeap> = Vec::new(heap);
     kept.try_reserve(12_000)?;
@@ -103,6 +103,6 @@ fn a_refused_call_changes_nothing(rt: HostRuntime) -> Result<(), Fail> {
 #[test]
 fn a_guard_needs_room_for_its_class_objects(rt: HostRuntime) -> Result<(), Fail> {
     let heap = LocalHeap::new(rt.alloc(), 64)?;
-    assert!(rt; Guard::new(&heap, Setup::closed(rt.alloc()), 3).is_err());
+    assert!(rt; Guard::new(&heap, rt.alloc(), Setup::closed(rt.alloc()), 3).is_err());
     Ok(())
 }

@@ -1,20 +1,19 @@
 -- What each changing call does to the store's rows, from what it did to its objects.
 use Rattle.std.proofs.Common.{ℕ, ◌≡◌, ◌≢◌, inl, inr, get_or-set_same, get_or-set_other, ◌+◌, ◌<◌, ◌∙◌, sym, ap, List, ◌∷◌, ◌++◌, [], length, map, get_or, set, arith, Bool}
-use Rattle.std.proofs.lemmas.List.{length-map, length-set, map-append, map-set, get_or_past}
-use Rattle.std.proofs.lemmas.Bool.{cases_eq, cases_lt}
+use Rattle.std.proofs.lemmas.List.{length-set, map-append, map-set}
+use Rattle.std.proofs.lemmas.Bool.{cases_eq}
 use Rattle.jg_heap.specs.declared.body.Object.{Object}
 use Rattle.jg_heap.specs.declared.body.Body.{Body}
 use Rattle.jg_heap.specs.declared.object.Slot.{Slot}
 use Rattle.jg_heap.specs.declared.object.Slot.TheVariants.{Number, Object as ToObject}
 use Rattle.jg_heap.specs.Making.{Making, TakesItem}
 use Rattle.jg_heap.specs.Rows.{Row, Rows, row_in, no_row, count_in, KeepsShapes}
-use Rattle.jg_heap.specs.Kept.{row_of, class_of_body, units_of_body, slots_of_body, with_slot, swept_row, stays, going_of}
+use Rattle.jg_heap.specs.Kept.{row_of, class_of_body, units_of_body, slots_of_body, with_slot, ended_row}
 use Rattle.jg_heap.specs.Rows.{row_of_making}
-use Rattle.jg_heap.specs.History.{Event, Made, Wrote, Collected, count_of, going}
-use Rattle.jg_heap.specs.Standing.{Stands, standing, slots_at, held_objects}
-use Rattle.jg_heap.proofs.Told.{kept, row_stands, slots_stand, count_stands, length-standing}
+use Rattle.jg_heap.specs.History.{Event, Made, Wrote, count_of}
+use Rattle.jg_heap.specs.Standing.{Stands, standing, slots_at}
+use Rattle.jg_heap.proofs.Told.{kept, row_stands, slots_stand, count_stands}
 use Rattle.jg_heap.proofs.Steps.{standing_made, standing_wrote}
-use Rattle.jg_heap.proofs.Collecting.{standing_collected, going_collected}
 
 -- with one object more
 pub rows_made : {A : Type 0} (items : List (Object A)) (rows : Rows) (k : ℕ) (e : List Event) (m : Making) (x : Object A) (more : List (Object A)) → map row_of items ≡ rows.objects → k ≡ rows.classes → Stands rows e → more ≡ items ++ x ∷ [] → row_of x ≡ row_of_making m → map row_of more ≡ standing k (Made m ∷ e)
@@ -30,38 +29,6 @@ rows_wrote items rows k e o j v x y view classes stands made within is wrote =
     map-set row_of items o y ∙ ap (λ (xs : List Row). set xs o (row_of y)) (view ∙ stands)
     ∙ ap (set (standing rows.classes e) o) (wrote ∙ ap (λ (r : Row). with_slot r j v) (kept items rows.objects o x view made is ∙ row_stands rows e o stands made))
     ∙ sym (standing_wrote rows.classes e o j v (omega arith) (omega arith)) ∙ ap (λ n. standing n (Wrote o j v ∷ e)) (sym classes)
-
--- the rows before a collection, against the history
-base_is : {A : Type 0} (items before : List (Object A)) (rows : Rows) (k : ℕ) (e : List Event) → before ≡ items → map row_of items ≡ rows.objects → k ≡ rows.classes → Stands rows e → map row_of before ≡ standing k e
-base_is items before rows k e is view classes stands = ap (map row_of) is ∙ view ∙ stands ∙ ap (λ n. standing n e) (sym classes)
-
-length_is : {A : Type 0} (before : List (Object A)) (k : ℕ) (e : List Event) → map row_of before ≡ standing k e → length before ≡ count_of k e
-length_is before k e base = sym (length-map before row_of) ∙ ap length base ∙ length-standing k e
-
-count_is : (rows : Rows) (k : ℕ) (e : List Event) → k ≡ rows.classes → Stands rows e → count_of k e ≡ count_in rows
-count_is rows k e classes stands = ap (λ n. count_of n e) classes ∙ sym (count_stands rows e stands)
-
--- after a collection
-pub rows_collected : {A : Type 0} (is_held : ℕ → Bool) (items before new : List (Object A)) (rows : Rows) (k : ℕ) (e : List Event) → before ≡ items → map row_of items ≡ rows.objects → k ≡ rows.classes → Stands rows e → length new ≡ length before
-    → ((o : ℕ) → o < length before → row_in (map row_of new) o ≡ swept_row (stays k is_held (map row_of before) o) (row_in (map row_of before) o))
-    → map row_of new ≡ standing k (Collected (held_objects is_held (count_in rows)) ∷ e)
-rows_collected is_held items before new rows k e is view classes stands len swept =
-    let base : map row_of before ≡ standing k e = base_is items before rows k e is view classes stands in
-    let n : length before ≡ count_of k e = length_is before k e base in
-    standing_collected is_held k e (map row_of new) (length-map new row_of ∙ len ∙ n) (λ o h. swept o (omega arith) ∙ ap (λ (rs : List Row). swept_row (stays k is_held rs o) (row_in rs o)) base)
-    ∙ ap (λ m. standing k (Collected (held_objects is_held m) ∷ e)) (count_is rows k e classes stands)
-
--- how many went
-pub rows_went : {A : Type 0} (is_held : ℕ → Bool) (items before : List (Object A)) (rows : Rows) (k : ℕ) (e : List Event) → before ≡ items → map row_of items ≡ rows.objects → k ≡ rows.classes → Stands rows e
-    → going_of (stays k is_held (map row_of before)) (map row_of before) (length before) ≡ length (going rows.classes (held_objects is_held (count_in rows)) e)
-rows_went is_held items before rows k e is view classes stands =
-    let base : map row_of before ≡ standing k e = base_is items before rows k e is view classes stands in
-    let n : length before ≡ count_of k e = length_is before k e base in
-    ap (λ (rs : List Row). going_of (stays k is_held rs) rs (length before)) base
-    ∙ ap (going_of (stays k is_held (standing k e)) (standing k e)) n
-    ∙ going_collected is_held k e
-    ∙ ap (λ m. length (going k (held_objects is_held m) e)) (count_is rows k e classes stands)
-    ∙ ap (λ m. length (going m (held_objects is_held (count_in rows)) e)) classes
 
 -- what has items isn't a string
 pub takes_no_text : (class : ℕ) (v : Slot) → TakesItem class v → class ≢ 2
@@ -107,22 +74,6 @@ shapes_wrote items rows k o j v x y view made is wrote =
     }
 
 -- a collection keeps the shapes
-pub shapes_collected : {A : Type 0} (items before new : List (Object A)) (rows : Rows) (k : ℕ) (test : ℕ → Bool) → before ≡ items → map row_of items ≡ rows.objects → length new ≡ length before
-    → ((o : ℕ) → o < length before → row_in (map row_of new) o ≡ swept_row (test o) (row_in (map row_of before) o))
-    → KeepsShapes rows (record { classes = k; objects = map row_of new })
-shapes_collected items before new rows k test is view len swept =
-    let base : map row_of before ≡ rows.objects = ap (map row_of) is ∙ view in
-    let n : length (map row_of new) ≡ length new = length-map new row_of in
-    let m : length (map row_of before) ≡ length before = length-map before row_of in
-    let t : length (map row_of before) ≡ count_in rows = ap (λ (rs : List Row). length rs) base in
-    record {
-      count = omega arith;
-      class = λ p. elim (cases_lt p (length before)) [
-        | inl inside ↦ ap (λ (r : Row). r.class) (swept p inside) ∙ ap (λ (rs : List Row). (row_in rs p).class) base
-        | inr past ↦ ap (λ (r : Row). r.class) (get_or_past (map row_of new) p no_row (omega arith) ∙ sym (get_or_past rows.objects p no_row (omega arith)))
-      ];
-      len = λ p. elim (cases_lt p (length before)) [
-        | inl inside ↦ ap (λ (r : Row). length r.units + length r.slots) (swept p inside) ∙ ap (λ (rs : List Row). length (row_in rs p).units + length (row_in rs p).slots) base
-        | inr past ↦ ap (λ (r : Row). length r.units + length r.slots) (get_or_past (map row_of new) p no_row (omega arith) ∙ sym (get_or_past rows.objects p no_row (omega arith)))
-      ];
-    }
+pub shapes_swept : (rows : Rows) (k : ℕ) (new : List Row) (goes : ℕ → Bool) → length new ≡ length rows.objects → ((o : ℕ) → row_in new o ≡ ended_row (goes o) (row_in rows.objects o)) → KeepsShapes rows (record { classes = k; objects = new })
+shapes_swept rows k new goes len ended =
+    record { count = len; class = λ p. ap (λ (r : Row). r.class) (ended p); len = λ p. ap (λ (r : Row). length r.units + length r.slots) (ended p) }

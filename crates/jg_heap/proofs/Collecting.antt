@@ -1,93 +1,152 @@
 -- What a collection does to the rows that the history tells.
-use Rattle.std.proofs.Common.{ℕ, ◌≡◌, ◌<◌, ◌∙◌, sym, ap, refl, List, ◌∷◌, [], length, map, get_or, arith, Bool, true, false, not, ◌&&◌, ◌||◌, ltb, eqb, zero-add}
-use Rattle.std.specs.Prelude.{replicate}
+use Rattle.std.proofs.Common.{ℕ, ◌≡◌, ◌<◌, ◌≤◌, ◌∙◌, sym, ap, refl, List, ◌∷◌, [], length, map, get_or, arith, Bool, false, not, ◌&&◌, ◌||◌, ltb, eqb, Some}
+use Rattle.std.specs.Prelude.{replicate, filter}
 use Rattle.std.specs.List.{range_with_len, list_any}
-use Rattle.std.proofs.lemmas.List.FromFn.{fill_by_all, length-range_with_len, get_or-range_with_len}
-use Rattle.std.proofs.lemmas.List.Folds.{list_any_at}
-use Rattle.std.proofs.lemmas.List.Sums.{length-filter}
-use Rattle.std.proofs.lemmas.List.{length-replicate, get_or-replicate}
-use Rattle.std.proofs.lemmas.Map.Views.{any-filter_same}
-use Rattle.std.proofs.lemmas.Bool.{lt-ltb, eq-eqb, eqb-true}
+use Rattle.std.proofs.lemmas.List.FromFn.{fill_by_all, length-range_with_len}
+use Rattle.std.proofs.lemmas.List.{length-replicate, get_or-replicate, length-map}
+use Rattle.std.proofs.lemmas.Option.{slice_get-get_or, get_or_from_slice_get}
+use Rattle.std.proofs.lemmas.Bool.{lt-ltb, and_right}
 use Rattle.jg_heap.specs.declared.body.Object.{Object}
 use Rattle.jg_heap.specs.Making.{Plain}
-use Rattle.jg_heap.specs.Rows.{Row, row_in, no_row}
-use Rattle.jg_heap.specs.Kept.{row_of, swept_row, goes, going_of, stays, row_points_at}
+use Rattle.jg_heap.specs.Rows.{Row, Rows, row_in, no_row, count_in}
+use Rattle.jg_heap.specs.Kept.{row_of, swept_row, ended_row, row_points_at, slot_of_row_holds, live_in}
 use Rattle.jg_heap.specs.Rows.{row_of_making}
 use Rattle.jg_heap.specs.History.{Event, Collected, count_of, gone_at, held_at, points_at, going}
-use Rattle.jg_heap.specs.Standing.{standing, row_at, slots_at, held_objects}
-use Rattle.jg_heap.proofs.Lists.{list_any_map, list_any_agree}
+use Rattle.jg_heap.specs.Standing.{Stands, standing, row_at, slots_at, MarksRoots, MarksHeld, MarksNone}
+use Rattle.jg_heap.proofs.Lists.{any_filter, any_agree, filter_filter, keep_agree, kept_any, or_swapped, goes_alike, gone_alike, length-filter-le}
 use Rattle.jg_heap.proofs.Pointing.{points_slots}
-use Rattle.jg_heap.proofs.Sweeping.{count_agree}
+use Rattle.jg_heap.proofs.Sweeping.{goes_now}
 use Rattle.jg_heap.proofs.Steps.{standing_is}
-use Rattle.jg_heap.proofs.Told.{row_in-standing, gone-row_at}
+use Rattle.jg_heap.proofs.Told.{length-standing, row_in-standing, gone-row_at, count_stands}
 
 row_collected : (k : ℕ) (roots : List ℕ) (e : List Event) (o : ℕ) → o < count_of k e → row_at k (Collected roots ∷ e) o ≡ swept_row (held_at k roots e o) (row_at k e o)
 unfolding row_at slots_at
 row_collected k roots e o h = rw (lt-ltb o (count_of k e) h) refl
 
-and_true : (b : Bool) → (b && true) ≡ b
-and_true true = refl
-and_true false = refl
-
--- the objects that roots hold hold it, where it is one of the first n
-roots_any : (is_held : ℕ → Bool) (n o : ℕ) → o < n → list_any (λ r. eqb r o) (held_objects is_held n) ≡ is_held o
-roots_any is_held n o h =
-    any-filter_same (λ r. eqb r o) is_held (is_held o) (λ r t. ap is_held (eqb-true r o t)) (range_with_len 0 n)
-    ∙ ap (λ b. is_held o && b) (list_any_at (λ r. eqb r o) (range_with_len 0 n) o 0 (omega (arith, length-range_with_len 0 n)) (eq-eqb (get_or (range_with_len 0 n) o 0) o (get_or-range_with_len 0 n o 0 h ∙ zero-add o)))
-    ∙ and_true (is_held o)
-
 points_row : (k : ℕ) (e : List Event) (p o : ℕ) → row_points_at o (row_at k e p) ≡ (not (gone_at k e p) && points_at k e p o)
 unfolding row_at
 points_row k e p o = ap (λ b. not (gone_at k e p) && b) (points_slots k e p o)
 
-points_rows : (k : ℕ) (e : List Event) (o : ℕ) → list_any (row_points_at o) (standing k e) ≡ list_any (λ p. not (gone_at k e p) && points_at k e p o) (range_with_len 0 (count_of k e))
-points_rows k e o =
-    ap (list_any (row_points_at o)) (standing_is k e)
-    ∙ list_any_map (row_at k e) (row_points_at o) (range_with_len 0 (count_of k e))
-    ∙ list_any_agree (λ p. row_points_at o (row_at k e p)) (λ p. not (gone_at k e p) && points_at k e p o) (λ p. points_row k e p o) (range_with_len 0 (count_of k e))
+gone_there : (k : ℕ) (e : List Event) (o : ℕ) → o < count_of k e → (row_in (standing k e) o).gone ≡ gone_at k e o
+gone_there k e o h = ap (λ (r : Row). r.gone) (row_in-standing k e o h) ∙ gone-row_at k e o
 
--- what stays, against the history
-stays_is : (is_held : ℕ → Bool) (k : ℕ) (e : List Event) (o : ℕ) → o < count_of k e → stays k is_held (standing k e) o ≡ held_at k (held_objects is_held (count_of k e)) e o
-stays_is is_held k e o h =
-    ap (λ b. (ltb o k || b) || list_any (row_points_at o) (standing k e)) (sym (roots_any is_held (count_of k e) o h))
-    ∙ ap (λ b. (ltb o k || list_any (λ r. eqb r o) (held_objects is_held (count_of k e))) || b) (points_rows k e o)
+-- some slot of an object that isn't gone holds it
+live_points : (k : ℕ) (e : List Event) (o : ℕ) → list_any (slot_of_row_holds (standing k e) o) (live_in (standing k e)) ≡ list_any (λ p. not (gone_at k e p) && points_at k e p o) (range_with_len 0 (count_of k e))
+live_points k e o =
+    let rows : List Row = standing k e in
+    any_filter (slot_of_row_holds rows o) (λ p. not (row_in rows p).gone) (range_with_len 0 (length rows))
+    ∙ ap (λ n. list_any (λ p. not (row_in rows p).gone && slot_of_row_holds rows o p) (range_with_len 0 n)) (length-standing k e)
+    ∙ any_agree (λ p. not (row_in rows p).gone && slot_of_row_holds rows o p) (λ p. not (gone_at k e p) && points_at k e p o) 0 (count_of k e)
+    (λ p h. ap (λ (r : Row). row_points_at o r) (row_in-standing k e p (omega arith)) ∙ points_row k e p o)
 
-row_after : (is_held : ℕ → Bool) (k : ℕ) (e : List Event) (new : List Row)
-    → ((o : ℕ) → o < count_of k e → row_in new o ≡ swept_row (stays k is_held (standing k e) o) (row_in (standing k e) o))
-    → (o : ℕ) → o < count_of k e → row_in new o ≡ row_at k (Collected (held_objects is_held (count_of k e)) ∷ e) o
-row_after is_held k e new swept o h =
-    swept o h
-    ∙ ap (λ b. swept_row b (row_in (standing k e) o)) (stays_is is_held k e o h)
-    ∙ ap (swept_row (held_at k (held_objects is_held (count_of k e)) e o)) (row_in-standing k e o h)
-    ∙ sym (row_collected k (held_objects is_held (count_of k e)) e o h)
+-- with the class objects and what slots hold marked, the marks say what is held
+pub marks_held : (k : ℕ) (roots : List ℕ) (e : List Event) (old new : List Bool) → count_of k e ≤ length old → length new ≡ length old → MarksRoots k roots e old
+    → ((o : ℕ) → o < length old → get_or new o false ≡ ((get_or old o false || ltb o k) || list_any (slot_of_row_holds (standing k e) o) (live_in (standing k e))))
+    → MarksHeld k roots e new
+marks_held k roots e old new room len was now o h there =
+    slice_get-get_or new o false (omega arith)
+    ∙ ap Some (now o (omega arith)
+    ∙ ap (λ b. (b || ltb o k) || list_any (slot_of_row_holds (standing k e) o) (live_in (standing k e))) (get_or_from_slice_get old o _ false (was o h there))
+    ∙ ap (λ b. (list_any (λ r. eqb r o) roots || ltb o k) || b) (live_points k e o)
+    ∙ or_swapped (list_any (λ r. eqb r o) roots) (ltb o k) _)
 
--- after a collection
-pub standing_collected : (is_held : ℕ → Bool) (k : ℕ) (e : List Event) (new : List Row) → length new ≡ count_of k e
-    → ((o : ℕ) → o < count_of k e → row_in new o ≡ swept_row (stays k is_held (standing k e) o) (row_in (standing k e) o))
-    → new ≡ standing k (Collected (held_objects is_held (count_of k e)) ∷ e)
-standing_collected is_held k e new len swept =
-    let roots = held_objects is_held (count_of k e) in
-    fill_by_all (row_at k (Collected roots ∷ e)) new (count_of k e) no_row len (row_after is_held k e new swept)
+-- how many of those in being aren't marked
+pub unmarked_going : (k : ℕ) (roots : List ℕ) (e : List Event) (marks : List Bool) → MarksHeld k roots e marks → length (filter (λ o. not (get_or marks o false)) (live_in (standing k e))) ≡ length (going k roots e)
+unmarked_going k roots e marks held =
+    let rows : List Row = standing k e in
+    ap length (filter_filter (λ o. not (get_or marks o false)) (λ o. not (row_in rows o).gone) (range_with_len 0 (length rows))
+    ∙ ap (λ n. filter (λ o. not (row_in rows o).gone && not (get_or marks o false)) (range_with_len 0 n)) (length-standing k e)
+    ∙ keep_agree (λ o. not (row_in rows o).gone && not (get_or marks o false)) (λ o. not (gone_at k e o) && not (held_at k roots e o)) 0 (count_of k e)
+    (λ o h. ap (λ b. not b && not (get_or marks o false)) (gone_there k e o (omega arith))
+    ∙ goes_alike (gone_at k e o) (get_or marks o false) (held_at k roots e o) (λ there. get_or_from_slice_get marks o _ false (held o (omega arith) there))))
+
+-- what a collection leaves, where it ends what isn't marked
+row_swept : (k : ℕ) (roots : List ℕ) (e : List Event) (marks : List Bool) → MarksHeld k roots e marks → (o : ℕ) → o < count_of k e
+    → ended_row (list_any (λ p. not (get_or marks p false) && eqb p o) (live_in (standing k e))) (row_in (standing k e) o) ≡ row_at k (Collected roots ∷ e) o
+row_swept k roots e marks held o h =
+    let rows : List Row = standing k e in
+    let row : Row = row_in rows o in
+    let gone : row.gone ≡ gone_at k e o = gone_there k e o h in
+    let same : (row.gone || (not row.gone && not (get_or marks o false))) ≡ (row.gone || not (held_at k roots e o)) =
+    gone_alike row.gone (get_or marks o false) (held_at k roots e o) (λ there. get_or_from_slice_get marks o _ false (held o h (sym gone ∙ there))) in
+    ap (λ b. ended_row b row) (goes_now rows (λ p. get_or marks p false) o (omega (arith, length-standing k e)))
+    ∙ ap (λ b. record row { gone = b }) same
+    ∙ ap (swept_row (held_at k roots e o)) (row_in-standing k e o h)
+    ∙ sym (row_collected k roots e o h)
+
+pub standing_swept : (k : ℕ) (roots : List ℕ) (e : List Event) (marks : List Bool) (new : List Row) → length new ≡ count_of k e → MarksHeld k roots e marks
+    → ((o : ℕ) → row_in new o ≡ ended_row (list_any (λ p. not (get_or marks p false) && eqb p o) (live_in (standing k e))) (row_in (standing k e) o))
+    → new ≡ standing k (Collected roots ∷ e)
+standing_swept k roots e marks new len held ended =
+    fill_by_all (row_at k (Collected roots ∷ e)) new (count_of k e) no_row len (λ o h. ended o ∙ row_swept k roots e marks held o h)
     ∙ sym (standing_is k (Collected roots ∷ e))
 
-goes_is : (is_held : ℕ → Bool) (k : ℕ) (e : List Event) (o : ℕ) → o < count_of k e → goes (stays k is_held (standing k e) o) (row_in (standing k e) o) ≡ (not (gone_at k e o) && not (held_at k (held_objects is_held (count_of k e)) e o))
-goes_is is_held k e o h =
-    ap (λ b. goes b (row_in (standing k e) o)) (stays_is is_held k e o h)
-    ∙ ap (λ (r : Row). not r.gone && not (held_at k (held_objects is_held (count_of k e)) e o)) (row_in-standing k e o h)
-    ∙ ap (λ b. not b && not (held_at k (held_objects is_held (count_of k e)) e o)) (gone-row_at k e o)
+-- unset marks
+pub marks_none : (k : ℕ) (e : List Event) (old new : List Bool) → count_of k e ≤ length old → length new ≡ length old
+    → ((o : ℕ) → get_or new o false ≡ (get_or old o false && not (list_any (λ p. eqb p o) (live_in (standing k e)))))
+    → MarksNone k e new
+marks_none k e old new room len unset o h there =
+    let rows : List Row = standing k e in
+    slice_get-get_or new o false (omega arith)
+    ∙ ap Some (unset o
+    ∙ ap (λ b. get_or old o false && not b) (kept_any (λ p. not (row_in rows p).gone) (length rows) o (omega (arith, length-standing k e)) ∙ ap not (gone_there k e o h ∙ there))
+    ∙ and_right (get_or old o false) false refl)
 
--- how many go
-pub going_collected : (is_held : ℕ → Bool) (k : ℕ) (e : List Event) → going_of (stays k is_held (standing k e)) (standing k e) (count_of k e) ≡ length (going k (held_objects is_held (count_of k e)) e)
-going_collected is_held k e =
-    let goes_now : ℕ → Bool = λ o. not (gone_at k e o) && not (held_at k (held_objects is_held (count_of k e)) e o) in
-    count_agree (λ o. goes (stays k is_held (standing k e) o) (row_in (standing k e) o)) goes_now 0 (count_of k e) (λ o h. goes_is is_held k e o (omega arith))
-    ∙ sym (length-filter goes_now (range_with_len 0 (count_of k e)))
+-- ---- the same, from what the store keeps
+
+live_is : {A : Type 0} (items : List (Object A)) (live kept : List ℕ) (rows : Rows) (k : ℕ) (e : List Event) → live ≡ kept → kept ≡ live_in (map row_of items) → record { classes = k; objects = map row_of items } ≡ rows → Stands rows e → live ≡ live_in (standing rows.classes e)
+live_is items live kept rows k e same keeps view stands = same ∙ keeps ∙ ap live_in (ap (λ (r : Rows). r.objects) view ∙ stands)
+
+pub marks_of : {A : Type 0} (items before : List (Object A)) (live kept : List ℕ) (rows : Rows) (k : ℕ) (e : List Event) (roots : List ℕ) (old mid new : List Bool)
+    → before ≡ items → live ≡ kept → kept ≡ live_in (map row_of items) → record { classes = k; objects = map row_of items } ≡ rows → Stands rows e
+    → count_in rows ≤ length old → length mid ≡ length old → length new ≡ length mid
+    → ((o : ℕ) → o < length old → get_or mid o false ≡ (get_or old o false || ltb o k))
+    → ((o : ℕ) → o < length mid → get_or new o false ≡ (get_or mid o false || list_any (slot_of_row_holds (map row_of before) o) live))
+    → MarksRoots rows.classes roots e old → MarksHeld rows.classes roots e new
+marks_of items before live kept rows k e roots old mid new is same keeps view stands room n m classes slots was =
+    let base : map row_of before ≡ standing rows.classes e = ap (map row_of) is ∙ ap (λ (r : Rows). r.objects) view ∙ stands in
+    let all : live ≡ live_in (standing rows.classes e) = live_is items live kept rows k e same keeps view stands in
+    let many : count_in rows ≡ count_of rows.classes e = count_stands rows e stands in
+    marks_held rows.classes roots e old new (omega arith) (m ∙ n) was
+    (λ o h. slots o (omega arith) ∙ ap (λ b. b || list_any (slot_of_row_holds (map row_of before) o) live) (classes o h)
+    ∙ ap (λ c. (get_or old o false || ltb o c) || list_any (slot_of_row_holds (map row_of before) o) live) (ap (λ (r : Rows). r.classes) view)
+    ∙ ap (λ (rs : List Row). (get_or old o false || ltb o rows.classes) || list_any (slot_of_row_holds rs o) live) base
+    ∙ ap (λ (os : List ℕ). (get_or old o false || ltb o rows.classes) || list_any (slot_of_row_holds (standing rows.classes e) o) os) all)
+
+pub count_of_unmarked : {A : Type 0} (items : List (Object A)) (live kept : List ℕ) (rows : Rows) (k : ℕ) (e : List Event) (roots : List ℕ) (marks : List Bool) → live ≡ kept → kept ≡ live_in (map row_of items) → record { classes = k; objects = map row_of items } ≡ rows → Stands rows e
+    → MarksHeld rows.classes roots e marks → length (filter (λ o. not (get_or marks o false)) live) ≡ length (going rows.classes roots e)
+count_of_unmarked items live kept rows k e roots marks same keeps view stands held =
+    ap (λ (os : List ℕ). length (filter (λ o. not (get_or marks o false)) os)) (live_is items live kept rows k e same keeps view stands) ∙ unmarked_going rows.classes roots e marks held
+
+-- no more go than there are
+pub unmarked_bound : {A : Type 0} (items : List (Object A)) (live kept : List ℕ) (rows : Rows) (k count : ℕ) (p : ℕ → Bool) → live ≡ kept → kept ≡ live_in (map row_of items) → record { classes = k; objects = map row_of items } ≡ rows → count ≡ length (filter p live) → count ≤ count_in rows
+unmarked_bound items live kept rows k count p same keeps view is =
+    let n : length live ≡ length (live_in rows.objects) = ap length (same ∙ keeps ∙ ap live_in (ap (λ (r : Rows). r.objects) view)) in
+    let r : length (range_with_len 0 (count_in rows)) ≡ count_in rows = length-range_with_len 0 (count_in rows) in
+    let a : length (filter p live) ≤ length live = length-filter-le p live in
+    let b : length (live_in rows.objects) ≤ length (range_with_len 0 (count_in rows)) = length-filter-le (λ o. not (row_in rows.objects o).gone) (range_with_len 0 (count_in rows)) in
+    omega arith
+
+pub none_of : {A : Type 0} (items : List (Object A)) (live kept : List ℕ) (rows : Rows) (k : ℕ) (e : List Event) (old new : List Bool) → live ≡ kept → kept ≡ live_in (map row_of items) → record { classes = k; objects = map row_of items } ≡ rows → Stands rows e
+    → count_in rows ≤ length old → length new ≡ length old → ((o : ℕ) → get_or new o false ≡ (get_or old o false && not (list_any (λ p. eqb p o) live))) → MarksNone rows.classes e new
+none_of items live kept rows k e old new same keeps view stands room len unset =
+    let many : count_in rows ≡ count_of rows.classes e = count_stands rows e stands in
+    marks_none rows.classes e old new (omega arith) len
+    (λ o. unset o ∙ ap (λ (os : List ℕ). get_or old o false && not (list_any (λ p. eqb p o) os)) (live_is items live kept rows k e same keeps view stands))
+
+pub rows_swept : {A : Type 0} (items before new : List (Object A)) (live kept : List ℕ) (rows : Rows) (k : ℕ) (e : List Event) (roots : List ℕ) (marks : List Bool)
+    → before ≡ items → live ≡ kept → kept ≡ live_in (map row_of items) → record { classes = k; objects = map row_of items } ≡ rows → Stands rows e → length new ≡ length before
+    → ((o : ℕ) → row_in (map row_of new) o ≡ ended_row (list_any (λ p. not (get_or marks p false) && eqb p o) live) (row_in (map row_of before) o))
+    → MarksHeld rows.classes roots e marks → map row_of new ≡ standing k (Collected roots ∷ e)
+rows_swept items before new live kept rows k e roots marks is same keeps view stands len ended held =
+    let base : map row_of before ≡ standing rows.classes e = ap (map row_of) is ∙ ap (λ (r : Rows). r.objects) view ∙ stands in
+    let all : live ≡ live_in (standing rows.classes e) = live_is items live kept rows k e same keeps view stands in
+    standing_swept rows.classes roots e marks (map row_of new) (length-map new row_of ∙ len ∙ sym (length-map before row_of) ∙ ap length base ∙ length-standing rows.classes e) held
+    (λ o. ended o ∙ ap (λ (os : List ℕ). ended_row (list_any (λ p. not (get_or marks p false) && eqb p o) os) (row_in (map row_of before) o)) all
+    ∙ ap (λ (rs : List Row). ended_row (list_any (λ p. not (get_or marks p false) && eqb p o) (live_in (standing rows.classes e))) (row_in rs o)) base)
+    ∙ ap (λ c. standing c (Collected roots ∷ e)) (sym (ap (λ (r : Rows). r.classes) view))
 
 -- the rows of a new store
 pub standing_new : (k : ℕ) → replicate k (row_of_making (Plain 1 [])) ≡ standing k []
 unfolding standing row_at slots_at
 standing_new k = fill_by_all (row_at k []) (replicate k (row_of_making (Plain 1 []))) k no_row (length-replicate k (row_of_making (Plain 1 []))) (λ o h. get_or-replicate k o _ no_row h)
-
--- the marks of the objects say what stays
-pub marks_stay : {A : Type 0} (k : ℕ) (is_held : ℕ → Bool) (items : List (Object A)) (o : ℕ) (a b : Bool) → a ≡ (ltb o k || is_held o) → b ≡ (a || list_any (λ x. row_points_at o (row_of x)) items) → b ≡ stays k is_held (map row_of items) o
-marks_stay k is_held items o a b h g = g ∙ ap (λ c. c || list_any (λ x. row_points_at o (row_of x)) items) h ∙ ap (λ c. (ltb o k || is_held o) || c) (sym (list_any_map row_of (row_points_at o) items))

@@ -11,7 +11,8 @@ use Rattle.jg_heap.specs.declared.object.Slot.TheVariants.{Number, Object as ToO
 use Rattle.jg_heap.specs.Making.{Making, slots_in, slot_in}
 use Rattle.jg_heap.specs.Rows.{count_in}
 use Rattle.jg_heap.specs.History.{Event, Made, Wrote, Collected, count_of, making_at, value_at, gone_at, held_at, held_by, holds, points_at, some_slot, going}
-use Rattle.jg_heap.specs.Laws.{StandsInASlot, HeldMeans, WasCollected, GoneMeans, StaysGone, ClassesStay, GoingMeans, Spares, LatestWrite, FirstValue, RowsMean}
+use Rattle.jg_heap.specs.Laws.{StandsInASlot, HeldMeans, WasCollected, GoneMeans, StaysGone, ClassesStay, GoingMeans, Spares, LatestWrite, FirstValue, MadeAs, MadeStays, ClassesAre, RootsMean, GoingIsBounded, RowsMean}
+use Rattle.jg_heap.proofs.Lists.{kept_any, length-filter-le}
 use Rattle.jg_heap.proofs.Pointing.{points_same, by_slot}
 use Rattle.jg_heap.proofs.Told.{count_stands, class_stands, length_stands}
 
@@ -179,3 +180,46 @@ now_goes k roots e o before after =
 
 pub going_means : GoingMeans
 going_means k roots e o = (goes_now k roots e o, λ w. now_goes k roots e o w.0 w.1)
+
+-- ---- makings
+
+count_later : (k : ℕ) (later before : List Event) → count_of k before ≤ count_of k (later ++ before)
+count_later k [] before = omega arith
+count_later k (Made m ∷ later) before = omega (arith, count_later k later before)
+count_later k (Wrote p j v ∷ later) before = count_later k later before
+count_later k (Collected roots ∷ later) before = count_later k later before
+
+pub made_stays : MadeStays
+made_stays k [] before o h = refl
+made_stays k (Made m ∷ later) before o h =
+    let grows : count_of k before ≤ count_of k (later ++ before) = count_later k later before in
+    cond-false _ _ _ (ne_eqb o (count_of k (later ++ before)) (λ same. omega arith)) ∙ made_stays k later before o h
+made_stays k (Wrote p j v ∷ later) before o h = made_stays k later before o h
+made_stays k (Collected roots ∷ later) before o h = made_stays k later before o h
+
+pub made_as : MadeAs
+made_as k later before m =
+    made_stays k later (Made m ∷ before) (count_of k before) (omega arith) ∙ cond-true _ _ _ (eq-eqb (count_of k before) (count_of k before) refl)
+
+classes_counted : (k : ℕ) (e : List Event) → k ≤ count_of k e
+classes_counted k [] = omega arith
+classes_counted k (Made m ∷ e) = omega (arith, classes_counted k e)
+classes_counted k (Wrote p j v ∷ e) = classes_counted k e
+classes_counted k (Collected roots ∷ e) = classes_counted k e
+
+pub classes_are : ClassesAre
+classes_are k [] o h = refl
+classes_are k (Made m ∷ e) o h =
+    let more : k ≤ count_of k e = classes_counted k e in
+    cond-false _ _ _ (ne_eqb o (count_of k e) (λ same. omega arith)) ∙ classes_are k e o h
+classes_are k (Wrote p j v ∷ e) o h = classes_are k e o h
+classes_are k (Collected roots ∷ e) o h = classes_are k e o h
+
+pub roots_mean : RootsMean
+roots_mean is_held n o h = kept_any is_held n o h
+
+pub going_bounded : GoingIsBounded
+going_bounded k roots e =
+    let n : length (range_with_len 0 (count_of k e)) ≡ count_of k e = length-range_with_len 0 (count_of k e) in
+    let m : length (going k roots e) ≤ length (range_with_len 0 (count_of k e)) = length-filter-le (λ o. not (gone_at k e o) && not (held_at k roots e o)) (range_with_len 0 (count_of k e)) in
+    omega arith

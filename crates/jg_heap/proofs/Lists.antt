@@ -1,8 +1,14 @@
 -- Lists and tests, whatever they hold.
-use Rattle.std.proofs.Common.{ℕ, ◌≡◌, ◌<◌, ◌∙◌, sym, ap, refl, List, [], ◌∷◌, map, replicate, zero, suc, Bool, true, false, ◌||◌, inl, inr, arith}
+use Rattle.std.proofs.Common.{ℕ, ◌≡◌, ◌<◌, ◌≤◌, ◌+◌, ◌++◌, ◌∙◌, sym, ap, refl, List, [], ◌∷◌, length, get_or, map, replicate, zero, suc, Bool, true, false, not, ◌||◌, ◌&&◌, eqb, inl, inr, arith, zero-add}
+use Rattle.std.specs.Prelude.{All, filter}
 use Rattle.std.specs.List.{list_any, range_with_len}
-use Rattle.std.proofs.lemmas.Bool.{or_cases, or_left, or_right}
-use Rattle.std.proofs.lemmas.List.FromFn.{length-map-range_with_len, get_or-map-range_with_len, fill_by_all}
+use Rattle.std.proofs.lemmas.Bool.{or_cases, or_left, or_right, cases_Bool, eq-eqb, eqb-true}
+use Rattle.std.proofs.lemmas.List.{map-id}
+use Rattle.std.proofs.lemmas.List.Elements.{All-filter, All-from_get_or}
+use Rattle.std.proofs.lemmas.List.Folds.{list_any_at}
+use Rattle.std.proofs.lemmas.List.Filters.{length-filter_both}
+use Rattle.std.proofs.lemmas.Map.Views.{any-filter_same}
+use Rattle.std.proofs.lemmas.List.FromFn.{length-map-range_with_len, get_or-map-range_with_len, fill_by_all, map-range_with_len_more, length-range_with_len, get_or-range_with_len}
 
 pub map_replicate : {A B : Type 0} (f : A → B) (n : ℕ) (x : A) → map f (replicate n x) ≡ replicate n (f x)
 map_replicate f zero x = refl
@@ -40,3 +46,89 @@ or_none false b h = sym h
 pub or_more : (first before last all now next : Bool) → now ≡ (first || before) → next ≡ (now || last) → all ≡ (before || last) → next ≡ (first || all)
 or_more true before last all now next h g is = g ∙ ap (λ b. b || last) h
 or_more false before last all now next h g is = g ∙ ap (λ b. b || last) h ∙ sym is
+
+-- a test of what another test keeps
+pub any_filter : {X : Type 0} (p q : X → Bool) (xs : List X) → list_any p (filter q xs) ≡ list_any (λ x. q x && p x) xs
+any_filter p q [] = refl
+any_filter p q (x ∷ xs) =
+    elim (cases_Bool (q x)) [
+      | inl keeps ↦ rw (keeps) (ap (λ b. p x || b) (any_filter p q xs))
+      | inr drops ↦ rw (drops) (any_filter p q xs)
+    ]
+
+pub filter_filter : {X : Type 0} (p q : X → Bool) (xs : List X) → filter p (filter q xs) ≡ filter (λ x. q x && p x) xs
+filter_filter p q [] = refl
+filter_filter p q (x ∷ xs) =
+    elim (cases_Bool (q x)) [
+      | inl keeps ↦ elim (cases_Bool (p x)) [ inl t ↦ rw (keeps, t) (ap (λ ys. x ∷ ys) (filter_filter p q xs)) | inr f ↦ rw (keeps, f) (filter_filter p q xs) ]
+      | inr drops ↦ rw (drops) (filter_filter p q xs)
+    ]
+
+-- two tests that agree on numbers in a row
+pub any_agree : (p q : ℕ → Bool) (a n : ℕ) → ((o : ℕ) → o < a + n → p o ≡ q o) → list_any p (range_with_len a n) ≡ list_any q (range_with_len a n)
+any_agree p q a zero h = refl
+any_agree p q a (suc n) h = rw (h a (omega arith), any_agree p q (a + 1) n (λ o l. h o (omega arith))) refl
+
+pub keep_agree : (p q : ℕ → Bool) (a n : ℕ) → ((o : ℕ) → o < a + n → p o ≡ q o) → filter p (range_with_len a n) ≡ filter q (range_with_len a n)
+keep_agree p q a zero h = refl
+keep_agree p q a (suc n) h = rw (h a (omega arith), keep_agree p q (a + 1) n (λ o l. h o (omega arith))) refl
+
+-- one number more
+pub range_more : (n : ℕ) → range_with_len 0 (n + 1) ≡ range_with_len 0 n ++ n ∷ []
+range_more n =
+    sym (map-id (range_with_len 0 (n + 1))) ∙ map-range_with_len_more (λ (o : ℕ). o) 0 n n (zero-add n) ∙ ap (λ (os : List ℕ). os ++ n ∷ []) (map-id (range_with_len 0 n))
+
+-- the numbers below n that a test keeps are below n
+pub kept_below : (p : ℕ → Bool) (n : ℕ) → All (λ o. o < n) (filter p (range_with_len 0 n))
+kept_below p n =
+    All-filter p (λ o. o < n) (range_with_len 0 n)
+    (All-from_get_or (λ o. o < n) (range_with_len 0 n) 0 (λ i h. let below : i < n = omega (arith, length-range_with_len 0 n) in let is : get_or (range_with_len 0 n) i 0 ≡ i = get_or-range_with_len 0 n i 0 below ∙ zero-add i in omega arith))
+
+and_true : (b : Bool) → (b && true) ≡ b
+and_true true = refl
+and_true false = refl
+
+-- a number below n is among those that a test keeps where it passes
+pub kept_any : (p : ℕ → Bool) (n o : ℕ) → o < n → list_any (λ r. eqb r o) (filter p (range_with_len 0 n)) ≡ p o
+kept_any p n o h =
+    any-filter_same (λ r. eqb r o) p (p o) (λ r t. ap p (eqb-true r o t)) (range_with_len 0 n)
+    ∙ ap (λ b. p o && b) (list_any_at (λ r. eqb r o) (range_with_len 0 n) o 0 (omega (arith, length-range_with_len 0 n)) (eq-eqb (get_or (range_with_len 0 n) o 0) o (get_or-range_with_len 0 n o 0 h ∙ zero-add o)))
+    ∙ and_true (p o)
+
+-- ---- gone, marked and held
+
+pub or_swapped : (roots classes slots : Bool) → ((roots || classes) || slots) ≡ ((classes || roots) || slots)
+or_swapped true true slots = refl
+or_swapped true false slots = refl
+or_swapped false true slots = refl
+or_swapped false false slots = refl
+
+-- what isn't gone and not marked is what isn't gone and not held
+pub goes_alike : (gone marked held : Bool) → (gone ≡ false → marked ≡ held) → (not gone && not marked) ≡ (not gone && not held)
+goes_alike true marked held h = refl
+goes_alike false marked held h = ap not (h refl)
+
+pub gone_alike : (gone marked held : Bool) → (gone ≡ false → marked ≡ held) → (gone || (not gone && not marked)) ≡ (gone || not held)
+gone_alike true marked held h = refl
+gone_alike false marked held h = ap not (h refl)
+
+pub stays_alike : (gone marked : Bool) → (not gone && marked) ≡ not (gone || (not gone && not marked))
+stays_alike true marked = refl
+stays_alike false true = refl
+stays_alike false false = refl
+
+not_or : (a b : Bool) → (not a && not b) ≡ not (a || b)
+not_or true b = refl
+not_or false b = refl
+
+-- one more that is unset
+pub unset_more : (first before last all now next : Bool) → now ≡ (first && not before) → next ≡ (now && not last) → all ≡ (before || last) → next ≡ (first && not all)
+unset_more true before last all now next h g is = g ∙ ap (λ b. b && not last) h ∙ not_or before last ∙ ap not (sym is)
+unset_more false before last all now next h g is = g ∙ ap (λ b. b && not last) h
+
+pub or_both : (a b c : Bool) → ((a || b) || c) ≡ (a || (b || c))
+or_both true b c = refl
+or_both false b c = refl
+
+pub length-filter-le : {X : Type 0} (p : X → Bool) (xs : List X) → length (filter p xs) ≤ length xs
+length-filter-le p xs = omega (arith, length-filter_both p (λ x. not (p x)) (λ x. refl) xs)

@@ -1,37 +1,15 @@
--- One turn of the loop that lets go of objects.
-use Rattle.std.proofs.Common.{ℕ, ◌≡◌, ◌+◌, ◌<◌, ◌≤◌, ◌≢◌, ◌∙◌, sym, ap, refl, List, length, map, get_or, set, arith, Bool, false, cond, inl, inr, get_or-set_same, get_or-set_other, zero, suc, subst, add-one, add-zero, zero-add}
-use Rattle.std.specs.List.{range_with_len, count_by}
-use Rattle.std.proofs.lemmas.List.{get_or-map, length-map, map-set}
-use Rattle.std.proofs.lemmas.Bool.{cases_eq}
-use Rattle.std.proofs.lemmas.List.Sums.{sum_by-cons}
+-- The turns of the loops that let go of objects, and the numbers of those that aren't gone.
+use Rattle.std.proofs.Common.{ℕ, ◌≡◌, ◌+◌, ◌<◌, ◌≢◌, ◌∙◌, sym, ap, refl, List, [], ◌∷◌, ◌++◌, length, map, get_or, set, arith, Bool, true, false, not, ◌&&◌, ◌||◌, eqb, inl, inr, get_or-set_same, get_or-set_other, subst, length-append}
+use Rattle.std.specs.Prelude.{All, filter}
+use Rattle.std.specs.List.{list_any, range_with_len}
+use Rattle.std.proofs.Math.Seq.{get_or-append_seam}
+use Rattle.std.proofs.lemmas.List.{get_or_append_left, get_or-map, length-map, length-set, map-set, map-append}
+use Rattle.std.proofs.lemmas.List.Elements.{filter-append}
+use Rattle.std.proofs.lemmas.Bool.{cases_eq, eq-eqb, ne_eqb}
 use Rattle.jg_heap.specs.declared.body.Object.{Object}
 use Rattle.jg_heap.specs.Rows.{Row, row_in, no_row}
-use Rattle.jg_heap.specs.Kept.{row_of, swept_row, goes, going_of}
-
--- one number more
-pub count_more : (p : ℕ → Bool) (a n : ℕ) → count_by p (range_with_len a (n + 1)) ≡ count_by p (range_with_len a n) + cond (p (a + n)) 1 0
-count_more p a zero = rw (add-zero a) (omega arith)
-count_more p a (suc n) =
-    let h : count_by p (range_with_len (a + 1) (n + 1)) ≡ count_by p (range_with_len (a + 1) n) + cond (p (a + suc n)) 1 0 = count_more p (a + 1) n ∙ ap (λ m. count_by p (range_with_len (a + 1) n) + cond (p m) 1 0) (omega arith) in
-    let g : count_by p (range_with_len (a + 1) (suc n)) ≡ count_by p (range_with_len (a + 1) n) + cond (p (a + suc n)) 1 0 = ap (λ m. count_by p (range_with_len (a + 1) m)) (sym (add-one n)) ∙ h in
-    let one : count_by p (range_with_len a (suc (suc n))) ≡ cond (p a) 1 0 + count_by p (range_with_len (a + 1) (suc n)) = sum_by-cons (λ x. cond (p x) 1 0) a (range_with_len (a + 1) (suc n)) in
-    let two : count_by p (range_with_len a (suc n)) ≡ cond (p a) 1 0 + count_by p (range_with_len (a + 1) n) = sum_by-cons (λ x. cond (p x) 1 0) a (range_with_len (a + 1) n) in
-    ap (λ m. count_by p (range_with_len a m)) (add-one (suc n)) ∙ omega arith
-
-pub going_more : (stays : ℕ → Bool) (rows : List Row) (n : ℕ) → going_of stays rows (n + 1) ≡ going_of stays rows n + cond (goes (stays n) (row_in rows n)) 1 0
-going_more stays rows n = count_more (λ o. goes (stays o) (row_in rows o)) 0 n ∙ ap (λ m. count_by (λ o. goes (stays o) (row_in rows o)) (range_with_len 0 n) + cond (goes (stays m) (row_in rows m)) 1 0) (zero-add n)
-
--- two tests that agree below a number count alike there
-pub count_agree : (p q : ℕ → Bool) (a n : ℕ) → ((o : ℕ) → o < a + n → p o ≡ q o) → count_by p (range_with_len a n) ≡ count_by q (range_with_len a n)
-count_agree p q a zero h = refl
-count_agree p q a (suc n) h =
-    sum_by-cons (λ x. cond (p x) 1 0) a (range_with_len (a + 1) n)
-    ∙ ap (λ b. cond b 1 0 + count_by p (range_with_len (a + 1) n)) (h a (omega arith))
-    ∙ ap (λ m. cond (q a) 1 0 + m) (count_agree p q (a + 1) n (λ o l. h o (omega arith)))
-    ∙ sym (sum_by-cons (λ x. cond (q x) 1 0) a (range_with_len (a + 1) n))
-
-pub going_agree : (stays marked : ℕ → Bool) (rows : List Row) (n : ℕ) → ((o : ℕ) → o < n → marked o ≡ stays o) → going_of marked rows n ≡ going_of stays rows n
-going_agree stays marked rows n h = count_agree (λ o. goes (marked o) (row_in rows o)) (λ o. goes (stays o) (row_in rows o)) 0 n (λ o l. ap (λ b. goes b (row_in rows o)) (h o (omega arith)))
+use Rattle.jg_heap.specs.Kept.{row_of, ended_row, live_in}
+use Rattle.jg_heap.proofs.Lists.{keep_agree, range_more, kept_below, kept_any, any_filter, filter_filter, stays_alike, or_both}
 
 row_set : {A : Type 0} (cur : List (Object A)) (i : ℕ) (y : Object A) → i < length cur → row_in (map row_of (set cur i y)) i ≡ row_of y
 row_set cur i y h =
@@ -42,20 +20,94 @@ row_set cur i y h =
 row_set_other : {A : Type 0} (cur : List (Object A)) (i o : ℕ) (y : Object A) → o ≢ i → row_in (map row_of (set cur i y)) o ≡ row_in (map row_of cur) o
 row_set_other cur i o y h = ap (λ (r : List Row). row_in r o) (map-set row_of cur i y) ∙ rw get_or-set_other refl
 
-pub swept_more : {A : Type 0} (rows : List Row) (marks : List Bool) (cur : List (Object A)) (i : ℕ) (x y : Object A) → i < length cur → x ≡ get_or cur i x → row_of y ≡ swept_row (get_or marks i false) (row_of x)
-    → ((o : ℕ) → o < i → row_in (map row_of cur) o ≡ swept_row (get_or marks o false) (row_in rows o)) → ((o : ℕ) → i ≤ o → row_in (map row_of cur) o ≡ row_in rows o)
-    → (o : ℕ) → o < i + 1 → row_in (map row_of (set cur i y)) o ≡ swept_row (get_or marks o false) (row_in rows o)
-swept_more rows marks cur i x y inside is says swept rest o h =
-    elim (cases_eq o i) [
+-- ---- letting go
+
+or_false : (b : Bool) → b ≡ (b || false)
+or_false true = refl
+or_false false = refl
+
+or_true : (b : Bool) → true ≡ (b || true)
+or_true true = refl
+or_true false = refl
+
+-- none goes
+pub ended_none : (row : Row) → row ≡ ended_row false row
+ended_none row = ap (λ g. record row { gone = g }) (or_false row.gone)
+
+-- one object goes
+pub ended_one : {A : Type 0} (cur : List (Object A)) (p o : ℕ) (d y : Object A) → p < length cur → row_of y ≡ record (row_of (get_or cur p d)) { gone = true } → row_in (map row_of (set cur p y)) o ≡ ended_row (eqb p o) (row_in (map row_of cur) o)
+ended_one cur p o d y inside ends =
+    elim (cases_eq p o) [
       | inl same ↦
-          let P : ℕ → Type 0 = λ n. row_in (map row_of (set cur i y)) n ≡ swept_row (get_or marks n false) (row_in rows n) in
-          subst P (sym same)
-          (row_set cur i y inside ∙ says ∙ ap (swept_row (get_or marks i false)) (ap row_of is ∙ sym (get_or-map row_of cur i x no_row inside) ∙ rest i (omega arith)))
-      | inr other ↦ row_set_other cur i o y other ∙ swept o (omega arith)
+          let here : row_of (get_or cur p d) ≡ row_in (map row_of cur) p = sym (get_or-map row_of cur p d no_row inside) in
+          ap (λ q. row_in (map row_of (set cur p y)) q) (sym same) ∙ row_set cur p y inside ∙ ends ∙ ap (λ (r : Row). record r { gone = true }) here
+          ∙ ap (λ g. record (row_in (map row_of cur) p) { gone = g }) (or_true (row_in (map row_of cur) p).gone) ∙ ap (λ q. ended_row true (row_in (map row_of cur) q)) same
+          ∙ ap (λ c. ended_row c (row_in (map row_of cur) o)) (sym (eq-eqb p o same))
+      | inr other ↦
+          row_set_other cur p o y (λ same. other (sym same)) ∙ ended_none (row_in (map row_of cur) o) ∙ ap (λ c. ended_row c (row_in (map row_of cur) o)) (sym (ne_eqb p o other))
     ]
 
-pub rest_more : {A : Type 0} (rows : List Row) (cur : List (Object A)) (i : ℕ) (y : Object A) → ((o : ℕ) → i ≤ o → row_in (map row_of cur) o ≡ row_in rows o) → (o : ℕ) → i + 1 ≤ o → row_in (map row_of (set cur i y)) o ≡ row_in rows o
-rest_more rows cur i y rest o h = let other : o ≢ i = λ same. omega arith in row_set_other cur i o y other ∙ rest o (omega arith)
+-- what goes at one and at the other
+pub ended_both : (row mid new : Row) (b c all : Bool) → mid ≡ ended_row b row → new ≡ ended_row c mid → all ≡ (b || c) → new ≡ ended_row all row
+ended_both row mid new b c all is says both = says ∙ ap (ended_row c) is ∙ ap (λ g. record row { gone = g }) (or_both row.gone b c) ∙ ap (λ d. ended_row d row) (sym both)
 
-pub count_turn : (b : Bool) (stays : ℕ → Bool) (rows : List Row) (n count more : ℕ) → count ≡ going_of stays rows n → b ≡ goes (stays n) (row_in rows n) → more ≡ count + cond b 1 0 → more ≡ going_of stays rows (n + 1)
-count_turn b stays rows n count more h is e = e ∙ rw (h, is) (sym (going_more stays rows n))
+-- ---- the numbers of those that aren't gone
+
+pub live_below : (rows : List Row) → All (λ p. p < length rows) (live_in rows)
+live_below rows = kept_below (λ o. not (row_in rows o).gone) (length rows)
+
+live_same : (f g : List Row) → length f ≡ length g → ((o : ℕ) → o < length g → (row_in f o).gone ≡ (row_in g o).gone) → live_in f ≡ live_in g
+live_same f g len h =
+    ap (λ n. filter (λ o. not (row_in f o).gone) (range_with_len 0 n)) len ∙ keep_agree (λ o. not (row_in f o).gone) (λ o. not (row_in g o).gone) 0 (length g) (λ o l. ap not (h o (omega arith)))
+
+-- all of them are numbers of objects
+pub within : {A : Type 0} (items before : List (Object A)) (live kept : List ℕ) → before ≡ items → live ≡ kept → kept ≡ live_in (map row_of items) → All (λ p. p < length before) live
+within items before live kept is same keeps =
+    subst (λ (os : List ℕ). All (λ p. p < length before) os) (sym (same ∙ keeps))
+    (subst (λ n. All (λ p. p < n) (live_in (map row_of items))) (length-map items row_of ∙ ap (λ (xs : List (Object _)). length xs) (sym is)) (live_below (map row_of items)))
+
+-- which of the first objects go
+pub goes_now : (rows : List Row) (marked : ℕ → Bool) (o : ℕ) → o < length rows → list_any (λ p. not (marked p) && eqb p o) (live_in rows) ≡ (not (row_in rows o).gone && not (marked o))
+goes_now rows marked o h =
+    sym (any_filter (λ p. eqb p o) (λ p. not (marked p)) (live_in rows))
+    ∙ ap (list_any (λ p. eqb p o)) (filter_filter (λ p. not (marked p)) (λ p. not (row_in rows p).gone) (range_with_len 0 (length rows)))
+    ∙ kept_any (λ p. not (row_in rows p).gone && not (marked p)) (length rows) o h
+
+-- after a collection
+pub live_swept : (old new : List Row) (marked : ℕ → Bool) → length new ≡ length old
+    → ((o : ℕ) → row_in new o ≡ ended_row (list_any (λ p. not (marked p) && eqb p o) (live_in old)) (row_in old o))
+    → filter marked (live_in old) ≡ live_in new
+live_swept old new marked len ended =
+    filter_filter marked (λ o. not (row_in old o).gone) (range_with_len 0 (length old))
+    ∙ keep_agree (λ o. not (row_in old o).gone && marked o) (λ o. not (row_in new o).gone) 0 (length old)
+    (λ o l. stays_alike (row_in old o).gone (marked o) ∙ ap (λ b. not ((row_in old o).gone || b)) (sym (goes_now old marked o (omega arith))) ∙ ap (λ (r : Row). not r.gone) (sym (ended o)))
+    ∙ ap (λ n. filter (λ o. not (row_in new o).gone) (range_with_len 0 n)) (sym len)
+
+-- with one object more
+pub live_more : (rows : List Row) (r : Row) → r.gone ≡ false → live_in rows ++ length rows ∷ [] ≡ live_in (rows ++ r ∷ [])
+live_more rows r is =
+    let n = length rows in
+    let all = rows ++ r ∷ [] in
+    let len : length all ≡ n + 1 = length-append rows (r ∷ []) in
+    let keeps : ℕ → Bool = λ o. not (row_in all o).gone in
+    let last : keeps n ≡ true = ap (λ (x : Row). not x.gone) (get_or-append_seam rows r [] no_row) ∙ ap not is in
+    sym (ap (λ m. filter keeps (range_with_len 0 m)) len
+    ∙ ap (filter keeps) (range_more n)
+    ∙ filter-append keeps (range_with_len 0 n) (n ∷ [])
+    ∙ ap (λ (os : List ℕ). os ++ filter keeps (n ∷ [])) (keep_agree keeps (λ o. not (row_in rows o).gone) 0 n (λ o l. ap (λ (x : Row). not x.gone) (get_or_append_left rows (r ∷ []) no_row o (omega arith))))
+    ∙ ap (λ (os : List ℕ). live_in rows ++ os) (rw (last) refl))
+
+-- one slot written
+pub live_wrote : {A : Type 0} (cur : List (Object A)) (p : ℕ) (x y : Object A) → p < length cur → x ≡ get_or cur p x → (row_of y).gone ≡ (row_of x).gone → live_in (map row_of (set cur p y)) ≡ live_in (map row_of cur)
+live_wrote cur p x y inside is same =
+    live_same (map row_of (set cur p y)) (map row_of cur) (length-map (set cur p y) row_of ∙ length-set cur p y ∙ sym (length-map cur row_of))
+    (λ o h. elim (cases_eq o p) [
+      | inl here ↦ ap (λ q. (row_in (map row_of (set cur p y)) q).gone) here ∙ ap (λ (r : Row). r.gone) (row_set cur p y inside) ∙ same ∙ ap (λ (z : Object _). (row_of z).gone) is ∙ ap (λ (r : Row). r.gone) (sym (get_or-map row_of cur p x no_row inside)) ∙ ap (λ q. (row_in (map row_of cur) q).gone) (sym here)
+      | inr other ↦ ap (λ (r : Row). r.gone) (row_set_other cur p o y other)
+    ])
+
+-- with an object made
+pub live_made : {A : Type 0} (items more : List (Object A)) (kept after : List ℕ) (x : Object A) (n : ℕ) → kept ≡ live_in (map row_of items) → more ≡ items ++ x ∷ [] → (row_of x).gone ≡ false → n ≡ length items → after ≡ kept ++ n ∷ [] → after ≡ live_in (map row_of more)
+live_made items more kept after x n keeps is fresh len made =
+    made ∙ ap (λ (os : List ℕ). os ++ n ∷ []) keeps ∙ ap (λ m. live_in (map row_of items) ++ m ∷ []) (len ∙ sym (length-map items row_of))
+    ∙ live_more (map row_of items) (row_of x) fresh ∙ ap live_in (sym (ap (map row_of) is ∙ map-append row_of items (x ∷ [])))

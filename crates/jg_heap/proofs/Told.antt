@@ -90,6 +90,12 @@ kept items objects o x view inside is =
     let m : length (map row_of items) ≡ length objects = ap length view in
     ap row_of is ∙ sym (get_or-map row_of items o x no_row (omega arith)) ∙ ap (λ (r : List Row). row_in r o) view
 
+pub made_inside : {A : Type 0} (items : List (Object A)) (rows : Rows) (o : ℕ) → map row_of items ≡ rows.objects → o < count_in rows → o < length items
+made_inside items rows o view made =
+    let n : length (map row_of items) ≡ length items = length-map items row_of in
+    let m : length (map row_of items) ≡ count_in rows = ap length view in
+    omega arith
+
 -- what was read in a slot is its value
 pub value_stands : (rows : Rows) (e : List Event) (o j : ℕ) (v : Slot) → Stands rows e → o < count_in rows → slice_get (row_in rows.objects o).slots j ≡ Some v → v ≡ value_at rows.classes e o j
 value_stands rows e o j v stands made read =

@@ -1,6 +1,6 @@
 -- The rows of the objects that the store keeps, and what a call does to one row.
-use Rattle.std.specs.Prelude.{ℕ, Bool, not, ◌&&◌, ◌||◌, List, [], map, slice_set, nat_lt}
-use Rattle.std.specs.List.{list_any, range_with_len, count_by}
+use Rattle.std.specs.Prelude.{ℕ, Bool, not, ◌&&◌, ◌||◌, List, [], length, map, filter, slice_set}
+use Rattle.std.specs.List.{list_any, range_with_len}
 use Rattle.jg_heap.specs.declared.object.Slot.{Slot}
 use Rattle.jg_heap.specs.declared.object.Slot.TheVariants.{Number, Object as ToObject}
 use Rattle.jg_heap.specs.declared.body.Body.{Body}
@@ -14,21 +14,21 @@ use Rattle.jg_heap.specs.Rows.{Row, row_in}
 abbrev pub class_of_body : {A : Type 0} → Body A → ℕ
 class_of_body Class = 1
 class_of_body (Fields instance) = instance.class
-class_of_body (Units units) = 2
+class_of_body (Units text) = 2
 class_of_body (Numbers element items) = array_class element
 class_of_body (References items) = 3
 
 abbrev pub units_of_body : {A : Type 0} → Body A → List ℕ
 units_of_body Class = []
 units_of_body (Fields instance) = []
-units_of_body (Units units) = units.items
+units_of_body (Units text) = text.units.items
 units_of_body (Numbers element items) = []
 units_of_body (References items) = []
 
 abbrev pub slots_of_body : {A : Type 0} → Body A → List Slot
 slots_of_body Class = []
 slots_of_body (Fields instance) = instance.slots.items
-slots_of_body (Units units) = []
+slots_of_body (Units text) = []
 slots_of_body (Numbers element items) = map Number items.items
 slots_of_body (References items) = map ToObject items.items
 
@@ -44,18 +44,18 @@ with_slot row j v = record row { slots = slice_set row.slots j v }
 abbrev pub row_points_at : ℕ → Row → Bool
 row_points_at o row = not row.gone && list_any (holds o) row.slots
 
--- what a collection makes of a row
+-- some slot of the row of p holds o
+abbrev pub slot_of_row_holds : List Row → ℕ → ℕ → Bool
+slot_of_row_holds rows o p = list_any (holds o) (row_in rows p).slots
+
+-- what a collection makes of a row that it finds marked or not
 abbrev pub swept_row : Bool → Row → Row
 swept_row marked row = record row { gone = row.gone || not marked }
 
--- it goes at a collection
-abbrev pub goes : Bool → Row → Bool
-goes marked row = not row.gone && not marked
+-- the row of an object that goes or not
+abbrev pub ended_row : Bool → Row → Row
+ended_row goes row = record row { gone = row.gone || goes }
 
--- how many of the first n go
-abbrev pub going_of : (ℕ → Bool) → List Row → ℕ → ℕ
-going_of stays rows n = count_by (λ o. goes (stays o) (row_in rows o)) (range_with_len 0 n)
-
--- a class object, a root or a slot keeps it
-abbrev pub stays : ℕ → (ℕ → Bool) → List Row → ℕ → Bool
-stays classes is_held rows o = (nat_lt o classes || is_held o) || list_any (row_points_at o) rows
+-- the numbers of the objects that aren't gone, ascending
+abbrev pub live_in : List Row → List ℕ
+live_in rows = filter (λ o. not (row_in rows o).gone) (range_with_len 0 (length rows))

@@ -1,12 +1,12 @@
 -- What the definitions over a history mean, in the words of the list.
-use Rattle.std.specs.Prelude.{ℕ, ℤ, ◌≡◌, ◌<◌, ◌⊎◌, ◌↔◌, false, ◌&&◌, ◌==◌, List, ◌∷◌, ◌++◌, Some, IsTrue}
-use Rattle.std.specs.List.{Contains, AllByRecursion}
+use Rattle.std.specs.Prelude.{ℕ, ℤ, Bool, [], length, ◌≤◌, ◌≡◌, ◌<◌, ◌⊎◌, ◌↔◌, false, ◌&&◌, ◌==◌, List, ◌∷◌, ◌++◌, Some, IsTrue}
+use Rattle.std.specs.List.{Contains, AllByRecursion, list_any}
 use Rattle.jg_words.specs.declared.object.ObjId.{ObjId}
 use Rattle.jg_heap.specs.declared.object.Slot.{Slot}
 use Rattle.jg_heap.specs.declared.object.Slot.TheVariants.{Object as ToObject}
-use Rattle.jg_heap.specs.Making.{Making, class_in, length_in, slots_in, slot_in}
+use Rattle.jg_heap.specs.Making.{Making, Plain, class_in, length_in, slots_in, slot_in}
 use Rattle.jg_heap.specs.Rows.{Rows, count_in, class_at, length_at}
-use Rattle.jg_heap.specs.Standing.{Stands}
+use Rattle.jg_heap.specs.Standing.{Stands, held_objects}
 use Rattle.jg_heap.specs.Spelling.{spelt, AreUnits, IsSpeltInItems}
 use Rattle.jg_heap.specs.Reading.{decoded}
 use Rattle.jg_heap.specs.History.{Event, Made, Wrote, Collected, count_of, making_at, value_at, gone_at, held_at, going}
@@ -52,6 +52,25 @@ LatestWrite = (k : ℕ) (later before : List Event) (o j : ℕ) (v : Slot) → o
 -- one that wasn't written since the making holds what it was made with
 abbrev pub FirstValue : Type 0
 FirstValue = (k : ℕ) (later before : List Event) (m : Making) (j : ℕ) → AllByRecursion (Spares (count_of k before) j) later → value_at k (later ++ Made m ∷ before) (count_of k before) j ≡ slot_in m j
+
+-- as what an object was made: what its making says, whatever comes later
+abbrev pub MadeAs : Type 0
+MadeAs = (k : ℕ) (later before : List Event) (m : Making) → making_at k (later ++ Made m ∷ before) (count_of k before) ≡ m
+
+abbrev pub MadeStays : Type 0
+MadeStays = (k : ℕ) (later before : List Event) (o : ℕ) → o < count_of k before → making_at k (later ++ before) o ≡ making_at k before o
+
+-- class objects are plain objects of class 1
+abbrev pub ClassesAre : Type 0
+ClassesAre = (k : ℕ) (e : List Event) (o : ℕ) → o < k → making_at k e o ≡ Plain 1 []
+
+-- the objects that a test holds are listed where it does
+abbrev pub RootsMean : Type 0
+RootsMean = (is_held : ℕ → Bool) (n o : ℕ) → o < n → list_any (λ r. r == o) (held_objects is_held n) ≡ is_held o
+
+-- no more go at a collection than there are
+abbrev pub GoingIsBounded : Type 0
+GoingIsBounded = (k : ℕ) (roots : List ℕ) (e : List Event) → length (going k roots e) ≤ count_of k e
 
 -- what rows that stand for a history say of it
 pub record RowsTell (rows : Rows) (e : List Event) : Type 0 where

@@ -1,5 +1,5 @@
 -- As what an object is made.
-use Rattle.std.specs.Prelude.{ℕ, pos, ◌≤◌, ◌≡◌, List, [], length, slice_index_or}
+use Rattle.std.specs.Prelude.{ℕ, pos, ◌≤◌, ◌<◌, ◌^◌, ◌≡◌, List, [], length, slice_index_or}
 use Rattle.jg_words.specs.declared.object.Primitive.{Primitive}
 use Rattle.jg_words.specs.declared.object.Primitive.TheVariants.{Boolean, Byte, Char, Short, Int, Long}
 use Rattle.jg_heap.specs.declared.object.Slot.{Slot}
@@ -76,9 +76,9 @@ abbrev pub TakesItem : ℕ → Slot → Type 0
 TakesItem class (Number v) = IsPrimitiveArray class
 TakesItem class (Object target) = class ≡ 3
 
--- a plain object is of a class whose objects have fields
+-- a plain object is of a class whose objects have fields, and a string's spelling has a length below 2 ^ 63
 abbrev pub CanMake : {A : Type 0} → Shape A → Type 0
 CanMake (PlainShape class fields) = HasFields class
-CanMake (TextShape units) = Unit {0}
+CanMake (TextShape units) = length units.items < 2 ^ 61
 CanMake (Numbers element n) = Unit {0}
 CanMake (Objects n first) = Unit {0}

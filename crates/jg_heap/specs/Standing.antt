@@ -1,10 +1,10 @@
 -- When rows stand for a history.
-use Rattle.std.specs.Prelude.{ℕ, ◌≡◌, Bool, List, map, filter}
-use Rattle.std.specs.List.{range_with_len}
+use Rattle.std.specs.Prelude.{ℕ, ◌≡◌, ◌<◌, ◌==◌, Bool, false, List, Some, map, filter, slice_get}
+use Rattle.std.specs.List.{list_any, range_with_len}
 use Rattle.jg_heap.specs.declared.object.Slot.{Slot}
 use Rattle.jg_heap.specs.Making.{class_in, units_in, slots_in}
 use Rattle.jg_heap.specs.Rows.{Row, Rows}
-use Rattle.jg_heap.specs.History.{Event, count_of, making_at, value_at, gone_at}
+use Rattle.jg_heap.specs.History.{Event, count_of, making_at, value_at, gone_at, held_at}
 
 -- what the slots of an object hold
 unfoldable pub slots_at : ℕ → List Event → ℕ → List Slot
@@ -25,3 +25,15 @@ Stands rows e = rows.objects ≡ standing rows.classes e
 -- those of the first n objects that are held by this test, ascending
 abbrev pub held_objects : (ℕ → Bool) → ℕ → List ℕ
 held_objects is_held n = filter is_held (range_with_len 0 n)
+
+-- the mark of each object that isn't gone says whether it is one of the roots
+abbrev pub MarksRoots : ℕ → List ℕ → List Event → List Bool → Type 0
+MarksRoots k roots e marks = (o : ℕ) → o < count_of k e → gone_at k e o ≡ false → slice_get marks o ≡ Some (list_any (λ r. r == o) roots)
+
+-- the mark of each object that isn't gone says whether something keeps it
+abbrev pub MarksHeld : ℕ → List ℕ → List Event → List Bool → Type 0
+MarksHeld k roots e marks = (o : ℕ) → o < count_of k e → gone_at k e o ≡ false → slice_get marks o ≡ Some (held_at k roots e o)
+
+-- the mark of each object that isn't gone is unset
+abbrev pub MarksNone : ℕ → List Event → List Bool → Type 0
+MarksNone k e marks = (o : ℕ) → o < count_of k e → gone_at k e o ≡ false → slice_get marks o ≡ Some false

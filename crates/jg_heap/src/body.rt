@@ -1,10 +1,10 @@
-ghost use Rattle.std.specs.Prelude.{◌≡◌, ℕ, ◌+◌, ◌<◌, ◌≤◌, length, map, slice_get, slice_set, Some, IfOk, replicate, pos, false};
-ghost use Rattle.jg_heap.specs.Making.{making_of, array_class, CanMake, HasFields, IsPrimitiveArray, TakesItem};
+ghost use Rattle.std.specs.Prelude.{◌≡◌, ℕ, ◌+◌, ◌<◌, ◌≤◌, ◌^◌, length, map, slice_get, slice_set, Some, IfOk, replicate, pos, false};
+ghost use Rattle.jg_heap.specs.Making.{making_of, array_class, CanMake, HasFields, IsArrayClass, IsPrimitiveArray, TakesItem};
 ghost use Rattle.jg_heap.specs.Kept.{class_of_body, units_of_body, slots_of_body, row_of};
 ghost use Rattle.jg_heap.specs.Rows.{row_of_making};
 ghost use Rattle.jg_heap.specs.declared.object.Slot.TheVariants.{Number, Object as ToObject};
 
-use crate::instance::Instance;
+use crate::instance::{Instance, Text};
 use crate::object::{Shape, Slot};
 use jg_words::{ObjId, Primitive};
 use std::alloc::{AllocError, Allocator};
@@ -15,7 +15,7 @@ pub(crate) enum Body<A: Allocator> {
     /// A class object holds nothing.
     Class,
     Fields(Instance<A>),
-    Units(Vec<u16, A>),
+    Units(Text<A>),
     Numbers {
         element: Primitive,
         items: Vec<i64, A>,
@@ -76,7 +76,7 @@ pub(crate) fn object_of<A: Allocator + Clone>(
             class,
             slots: fields,
         }))),
-        Shape::Text(units) => Ok(made(Body::Units(units))),
+        Shape::Text(units) => Ok(made(Body::Units(Text { units }))),
         Shape::Numbers { element, length } => {
             let items = zeros(alloc.clone()?, length)?;
             Ok(made(Body::Numbers { element, items }))
@@ -112,22 +112,24 @@ impl<A: Allocator> Body<A> {
 
     /// A string's units; none of any other object.
     pub(crate) fn units(&self) -> &[u16]
-        ensures { result.now ≡ units_of_body self.now }
+        ensures units { result.now ≡ units_of_body self.now }
+        ensures short { length result.now < 2 ^ 61 }
     {
         match self {
-            Body::Units(units) => units.as_slice(),
+            Body::Units(text) => text.units.as_slice(),
             Body::Class | Body::Fields(_) | Body::Numbers { .. } | Body::References(_) => &[],
         }
     }
 
     /// How many units, fields or items there are.
     pub(crate) fn len(&self) -> usize
-        ensures { result ≡ length (units_of_body self.now) + length (slots_of_body self.now) }
+        ensures len { result ≡ length (units_of_body self.now) + length (slots_of_body self.now) }
+        ensures fits { result < 2 ^ 63 }
     {
         match self {
             Body::Class => 0,
             Body::Fields(instance) => instance.slots.len(),
-            Body::Units(units) => units.len(),
+            Body::Units(text) => text.units.len(),
             Body::Numbers { items, .. } => items.len(),
             Body::References(items) => items.len(),
         }
@@ -136,7 +138,8 @@ impl<A: Allocator> Body<A> {
     /// What a slot holds.
     pub(crate) fn slot(&self, index: usize) -> Slot
         requires { index < length (slots_of_body self.now) }
-        ensures { slice_get (slots_of_body self.now) index ≡ Some result }
+        ensures read { slice_get (slots_of_body self.now) index ≡ Some result }
+        ensures sort { IsArrayClass (class_of_body self.now) → TakesItem (class_of_body self.now) result }
     {
         match self {
             Body::Fields(instance) => instance.slots[index],

@@ -1,8 +1,8 @@
-ghost use Rattle.std.specs.Prelude.{◌≡◌, ℕ, ◌<◌, ◌≤◌, Bool, false, ◌||◌, length, slice_index_or, nat_lt, map};
+ghost use Rattle.std.specs.Prelude.{◌≡◌, ℕ, ◌<◌, ◌≤◌, All, false, not, ◌&&◌, ◌||◌, ◌==◌, length, slice_index_or, nat_lt, map, filter};
 ghost use Rattle.std.specs.List.{list_any};
 ghost use Rattle.jg_heap.specs.declared.object.Slot.TheVariants.{Object as ToObject};
 ghost use Rattle.jg_heap.specs.History.{holds};
-ghost use Rattle.jg_heap.specs.Kept.{slots_of_body, row_of, row_points_at, swept_row, goes, going_of, stays};
+ghost use Rattle.jg_heap.specs.Kept.{slots_of_body, row_of, ended_row, slot_of_row_holds};
 ghost use Rattle.jg_heap.specs.Rows.{row_in};
 
 use crate::body::{Body, Object};
@@ -10,21 +10,28 @@ use crate::object::Slot;
 use jg_words::ObjId;
 use std::alloc::Allocator;
 
-/// What holds objects from outside the store: references, pending exceptions, buffers, monitors.
-pub trait Roots {
-    ghost is_held: { Self → ℕ → Bool };
-
-    /// Whether one of them holds the object.
-    fn holds(&self, object: ObjId) -> bool
-        ensures { result ≡ is_held self.now object.0 };
+/// Whether the object is marked.
+fn is_marked(marks: &[bool], object: u64) -> bool
+    ensures { result ≡ slice_index_or marks.now object false }
+{
+    marks.get(object as usize).copied().unwrap_or(false)
 }
 
-/// Marks the class objects and what the roots hold, and nothing else.
-fn mark_roots<R: Roots>(marks: &mut [bool], class_count: u64, roots: &R)
-    ensures { (o : ℕ) → o < length marks.old → slice_index_or marks.new o false ≡ (nat_lt o class_count || R.is_held roots.now o) }
+/// Unsets the mark of an object.
+fn unset(marks: &mut [bool], object: u64)
+    ensures { (o : ℕ) → slice_index_or marks.new o false ≡ (slice_index_or marks.old o false && not (object == o)) }
 {
-    for (i, mark) in marks.iter_mut().enumerate() {
-        *mark = (i as u64) < class_count || roots.holds(ObjId(i as u64));
+    if object < marks.len() as u64 {
+        marks[object as usize] = false;
+    }
+}
+
+/// Unsets the marks of these objects.
+pub(crate) fn unmark(marks: &mut [bool], objects: &[u64])
+    ensures { (o : ℕ) → slice_index_or marks.new o false ≡ (slice_index_or marks.old o false && not (list_any (λ p. p == o) objects.now)) }
+{
+    for object in objects {
+        unset(marks, *object);
     }
 }
 
@@ -36,6 +43,15 @@ fn mark(marks: &mut [bool], target: Option<ObjId>)
         if target.0 < marks.len() as u64 {
             marks[target.0 as usize] = true;
         }
+    }
+}
+
+/// Marks the class objects.
+pub(crate) fn mark_classes(marks: &mut [bool], class_count: u64)
+    ensures { (o : ℕ) → o < length marks.old → slice_index_or marks.new o false ≡ (slice_index_or marks.old o false || nat_lt o class_count) }
+{
+    for object in 0..class_count {
+        mark(marks, Some(ObjId(object)));
     }
 }
 
@@ -72,61 +88,52 @@ fn mark_slots<A: Allocator>(marks: &mut [bool], body: &Body<A>)
     }
 }
 
-/// Marks each object that stands in a slot of this one, unless it is gone.
-fn mark_object<A: Allocator>(marks: &mut [bool], object: &Object<A>)
-    ensures { (o : ℕ) → o < length marks.old → slice_index_or marks.new o false ≡ (slice_index_or marks.old o false || row_points_at o (row_of object.now)) }
+/// Marks each object that stands in a slot of one of those in being.
+pub(crate) fn mark_pointed<A: Allocator>(marks: &mut [bool], objects: &[Object<A>], live: &[u64])
+    requires { All (λ p. p < length objects.now) live.now }
+    ensures { (o : ℕ) → o < length marks.old → slice_index_or marks.new o false ≡ (slice_index_or marks.old o false || list_any (slot_of_row_holds (map row_of objects.now) o) live.now) }
 {
-    if !object.gone {
-        mark_slots(marks, &object.body);
+    for object in live {
+        mark_slots(marks, &objects[*object as usize].body);
     }
 }
 
-/// Marks each object that stands in a slot of an object that isn't gone.
-fn mark_pointed<A: Allocator>(marks: &mut [bool], objects: &[Object<A>])
-    ensures { (o : ℕ) → o < length marks.old → slice_index_or marks.new o false ≡ (slice_index_or marks.old o false || list_any (λ x. row_points_at o (row_of x)) objects.now) }
-{
-    for object in objects {
-        mark_object(marks, object);
-    }
-}
-
-/// Lets go of an object that isn't marked, and says whether it goes now.
-fn let_go<A: Allocator>(object: &mut Object<A>, marked: bool) -> bool
-    ensures row { row_of object.new ≡ swept_row marked (row_of object.old) }
-    ensures went { result ≡ goes marked (row_of object.old) }
-{
-    let goes = !object.gone && !marked;
-    object.gone = object.gone || !marked;
-    goes
-}
-
-/// Lets go of what isn't marked, and counts it.
-fn sweep<A: Allocator>(objects: &mut [Object<A>], marks: &[bool]) -> u64
-    requires { length objects.old ≤ length marks.now }
-    ensures rows { (o : ℕ) → o < length objects.old → row_in (map row_of objects.new) o ≡ swept_row (slice_index_or marks.now o false) (row_in (map row_of objects.old) o) }
-    ensures count { result ≡ going_of (λ o. slice_index_or marks.now o false) (map row_of objects.old) (length objects.old) }
+/// How many of those in being aren't marked.
+pub(crate) fn count_unmarked(marks: &[bool], live: &[u64]) -> u64
+    ensures { result ≡ length (filter (λ o. not (slice_index_or marks.now o false)) live.now) }
 {
     let mut count = 0;
-    for (i, object) in objects.iter_mut().enumerate() {
-        if let_go(object, marks[i]) {
+    for object in live {
+        if !is_marked(marks, *object) {
             count += 1;
         }
     }
     count
 }
 
-/// Lets go of what neither a class object, a root nor a slot holds, and counts it.
-pub(crate) fn collect_unheld<A: Allocator, R: Roots>(
-    objects: &mut [Object<A>],
-    marks: &mut [bool],
-    class_count: u64,
-    roots: &R,
-) -> u64
-    requires { length objects.old ≤ length marks.old }
-    ensures rows { (o : ℕ) → o < length objects.old → row_in (map row_of objects.new) o ≡ swept_row (stays class_count (R.is_held roots.now) (map row_of objects.old) o) (row_in (map row_of objects.old) o) }
-    ensures count { result ≡ going_of (stays class_count (R.is_held roots.now) (map row_of objects.old)) (map row_of objects.old) (length objects.old) }
+/// Lets go of an object, unless it is marked.
+fn end<A: Allocator>(objects: &mut [Object<A>], object: u64, marked: bool)
+    requires { object < length objects.old }
+    ensures { (o : ℕ) → row_in (map row_of objects.new) o ≡ ended_row (not marked && object == o) (row_in (map row_of objects.old) o) }
 {
-    mark_roots(marks, class_count, roots);
-    mark_pointed(marks, objects);
-    sweep(objects, marks)
+    if !marked {
+        objects[object as usize].gone = true;
+    }
+}
+
+/// Lets go of those in being that aren't marked.
+pub(crate) fn let_go<A: Allocator>(objects: &mut [Object<A>], live: &[u64], marks: &[bool])
+    requires { All (λ p. p < length objects.old) live.now }
+    ensures { (o : ℕ) → row_in (map row_of objects.new) o ≡ ended_row (list_any (λ p. not (slice_index_or marks.now p false) && p == o) live.now) (row_in (map row_of objects.old) o) }
+{
+    for object in live {
+        end(objects, *object, is_marked(marks, *object));
+    }
+}
+
+/// Keeps the numbers of those that are marked.
+pub(crate) fn keep_marked<A: Allocator>(live: &mut Vec<u64, A>, marks: &[bool])
+    ensures { live.new.items ≡ filter (λ o. slice_index_or marks.now o false) live.old.items }
+{
+    live.retain(|object| is_marked(marks, *object));
 }

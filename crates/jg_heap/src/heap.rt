@@ -1,13 +1,13 @@
-ghost use Rattle.std.specs.Prelude.{◌≡◌, ℕ, ◌<◌, ◌++◌, List, [], ◌∷◌, length, map, IfOk, OnOk, OnErr};
+ghost use Rattle.std.specs.Prelude.{◌≡◌, ℕ, ◌<◌, ◌≤◌, ◌^◌, ◌++◌, List, [], ◌∷◌, length, map, IfOk, OnOk, OnErr};
 ghost use Rattle.std.specs.List.{range_with_len};
 ghost use Rattle.jg_heap.specs.declared.object.Slot.TheVariants.{Number};
 ghost use Rattle.jg_heap.specs.Making.{making_of, class_in, units_in, length_in, CanMake, HasFields, IsArrayClass, IsPrimitiveArray, TakesItem};
 ghost use Rattle.jg_heap.specs.History.{Event, Event.Made as Made, Event.Wrote as Wrote, Event.Collected as Collected, count_of, making_at, value_at, gone_at, going};
 ghost use Rattle.jg_heap.specs.Rows.{count_in, class_at, length_at, row_of_making, KeepsShapes};
-ghost use Rattle.jg_heap.specs.Standing.{Stands, held_objects};
+ghost use Rattle.jg_heap.specs.Standing.{Stands, MarksNone, MarksRoots, MarksHeld};
 
 use crate::body::{Body, Object, object_of};
-use crate::collect::{Roots, collect_unheld};
+use crate::collect::{count_unmarked, keep_marked, let_go, mark_classes, mark_pointed, unmark};
 use crate::object::{Shape, Slot};
 use jg_words::ObjId;
 use std::alloc::{AllocError, Allocator, Global};
@@ -19,19 +19,20 @@ use std::marker::Model;
 pub struct Heap<A: Allocator = Global> {
     class_count: u64,
     objects: Vec<Object<A>, A>,
-    marks: Vec<bool, A>,
+    /// The numbers of the objects that aren't gone, ascending.
+    live: Vec<u64, A>,
 }
 
 impl<A: Allocator> Model for Heap<A> {
-    ghost use Rattle.std.specs.Prelude.{map, length, ◌≤◌};
+    ghost use Rattle.std.specs.Prelude.{map, ◌≡◌};
     ghost use Rattle.jg_heap.specs.Rows.{Rows};
-    ghost use Rattle.jg_heap.specs.Kept.{row_of};
+    ghost use Rattle.jg_heap.specs.Kept.{row_of, live_in};
 
     ghost Value = { Rows };
 
     ghost view = { λ h. record { classes = h.class_count; objects = map row_of h.objects.items } };
 
-    ghost invariant = { λ h. length h.objects.items ≤ length h.marks.items };
+    ghost invariant = { λ h. h.live.items ≡ live_in (map row_of h.objects.items) };
 }
 
 impl<A: Allocator + Clone> Heap<A> {
@@ -41,9 +42,9 @@ impl<A: Allocator + Clone> Heap<A> {
         ensures stands { IfOk result (λ heap. Stands heap []) }
     {
         let mut objects = Vec::new(alloc.clone()?);
-        let mut marks = Vec::new(alloc);
-        for _ in 0..class_count {
-            marks.push(false)?;
+        let mut live = Vec::new(alloc);
+        for class in 0..class_count {
+            live.push(class)?;
             objects.push(Object {
                 body: Body::Class,
                 gone: false,
@@ -52,7 +53,7 @@ impl<A: Allocator + Clone> Heap<A> {
         Ok(Heap {
             class_count,
             objects,
-            marks,
+            live,
         })
     }
 
@@ -69,8 +70,9 @@ impl<A: Allocator + Clone> Heap<A> {
     {
         let number = self.objects.len();
         let object = object_of(self.objects.allocator(), shape)?;
-        self.marks.resize(number + 1, false)?;
+        self.live.reserve(1)?;
         self.objects.push(object)?;
+        self.live.push_reserved(number as u64);
         Ok(ObjId(number as u64))
     }
 }
@@ -80,6 +82,7 @@ impl<A: Allocator> Heap<A> {
     pub fn len(&self) -> u64
         ensures history { (e : List Event) → Stands self.now e → result ≡ count_of self.now.classes e }
         ensures rows { result ≡ count_in self.now }
+        ensures fits { result < 2 ^ 63 }
     {
         self.objects.len() as u64
     }
@@ -96,7 +99,8 @@ impl<A: Allocator> Heap<A> {
     /// The UTF-16 units of a string; none of any other object.
     pub fn string(&self, object: ObjId) -> &[u16]
         requires { object.0 < count_in self.now }
-        ensures { (e : List Event) → Stands self.now e → result.now ≡ units_in (making_at self.now.classes e object.0) }
+        ensures history { (e : List Event) → Stands self.now e → result.now ≡ units_in (making_at self.now.classes e object.0) }
+        ensures short { length result.now < 2 ^ 61 }
     {
         self.objects[object.0 as usize].body.units()
     }
@@ -106,6 +110,7 @@ impl<A: Allocator> Heap<A> {
         requires { object.0 < count_in self.now }
         ensures history { (e : List Event) → Stands self.now e → result ≡ length_in (making_at self.now.classes e object.0) }
         ensures rows { result ≡ length_at self.now object.0 }
+        ensures fits { result < 2 ^ 63 }
     {
         self.objects[object.0 as usize].body.len()
     }
@@ -137,7 +142,8 @@ impl<A: Allocator> Heap<A> {
         requires made { object.0 < count_in self.now }
         requires array { IsArrayClass (class_at self.now object.0) }
         requires within { index < length_at self.now object.0 }
-        ensures { (e : List Event) → Stands self.now e → result ≡ value_at self.now.classes e object.0 index }
+        ensures sort { TakesItem (class_at self.now object.0) result }
+        ensures history { (e : List Event) → Stands self.now e → result ≡ value_at self.now.classes e object.0 index }
     {
         self.objects[object.0 as usize].body.slot(index)
     }
@@ -172,13 +178,35 @@ impl<A: Allocator> Heap<A> {
         self.objects[object.0 as usize].gone
     }
 
-    /// Lets go of what nothing holds, one link of a chain, and says how many objects those are.
-    pub fn collect<R: Roots>(&mut self, roots: &R) -> u64
-        ensures stands { (e : List Event) → Stands self.old e → Stands self.new (Collected (held_objects (R.is_held roots.now) (count_in self.old)) ∷ e) }
-        ensures count { (e : List Event) → Stands self.old e → result ≡ length (going self.old.classes (held_objects (R.is_held roots.now) (count_in self.old)) e) }
+    /// Unsets the mark of each object that isn't gone, before the roots mark theirs.
+    pub fn unmark(&self, marks: &mut [bool])
+        requires { count_in self.now ≤ length marks.old }
+        ensures { (e : List Event) → Stands self.now e → MarksNone self.now.classes e marks.new }
+    {
+        unmark(marks, &self.live);
+    }
+
+    /// How many objects nothing holds, where the roots marked theirs. Marks all that is held, for
+    /// `sweep`.
+    pub fn count_unheld(&self, marks: &mut [bool]) -> u64
+        requires { count_in self.now ≤ length marks.old }
+        ensures count { (e : List Event) (roots : List ℕ) → Stands self.now e → MarksRoots self.now.classes roots e marks.old → result ≡ length (going self.now.classes roots e) }
+        ensures marks { (e : List Event) (roots : List ℕ) → Stands self.now e → MarksRoots self.now.classes roots e marks.old → MarksHeld self.now.classes roots e marks.new }
+        ensures bound { result ≤ count_in self.now }
+    {
+        mark_classes(marks, self.class_count);
+        mark_pointed(marks, &self.objects, &self.live);
+        count_unmarked(marks, &self.live)
+    }
+
+    /// Lets go of what isn't marked, one link of a chain.
+    pub fn sweep(&mut self, marks: &[bool])
+        requires { count_in self.old ≤ length marks.now }
+        ensures stands { (e : List Event) (roots : List ℕ) → Stands self.old e → MarksHeld self.old.classes roots e marks.now → Stands self.new (Collected roots ∷ e) }
         ensures classes { self.new.classes ≡ self.old.classes }
         ensures shapes { KeepsShapes self.old self.new }
     {
-        collect_unheld(&mut self.objects, &mut self.marks, self.class_count, roots)
+        let_go(&mut self.objects, &self.live, marks);
+        keep_marked(&mut self.live, marks);
     }
 }

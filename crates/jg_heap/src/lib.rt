@@ -10,7 +10,6 @@ pub mod meanings;
 mod mutf8;
 mod object;
 
-pub use collect::Roots;
 pub use heap::Heap;
 pub use mutf8::{from_mutf8, from_mutf8_items, is_mutf8, mutf8_len, to_mutf8};
 pub use object::{Shape, Slot};

@@ -1,7 +1,7 @@
 //! What the definitions over a history mean. Each of these functions does nothing: its contract
 //! is a law that callers may cite.
 
-ghost use Rattle.jg_heap.specs.Laws.{HeldMeans, GoneMeans, StaysGone, ClassesStay, GoingMeans, LatestWrite, FirstValue, RowsMean, DecodedMeans, SpellingIsUnique};
+ghost use Rattle.jg_heap.specs.Laws.{HeldMeans, GoneMeans, StaysGone, ClassesStay, GoingMeans, LatestWrite, FirstValue, MadeAs, MadeStays, ClassesAre, RootsMean, GoingIsBounded, RowsMean, DecodedMeans, SpellingIsUnique};
 
 /// An object is held exactly where it is a class object, a root holds it, or it stands in a slot
 /// of an object that isn't gone.
@@ -33,6 +33,23 @@ pub fn going_means()
 pub fn value_means()
     ensures latest { LatestWrite }
     ensures first { FirstValue }
+{}
+
+/// What an object was made as is what its making says, and stays so over later events.
+pub fn making_means()
+    ensures made { MadeAs }
+    ensures stays { MadeStays }
+    ensures classes { ClassesAre }
+{}
+
+/// The list of the objects that a test holds has exactly those.
+pub fn roots_mean()
+    ensures { RootsMean }
+{}
+
+/// No more objects go at a collection than there are.
+pub fn going_is_bounded()
+    ensures { GoingIsBounded }
 {}
 
 /// What rows that stand for a history say of it: how many objects there are, and the class and

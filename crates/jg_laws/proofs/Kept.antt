@@ -1,5 +1,5 @@
 -- What the events of a legal history keep.
-use Rattle.std.proofs.Common.{ℕ, ◌≡◌, ◌≢◌, ◌+◌, ◌-◌, ◌<◌, ◌≤◌, Bool, true, false, List, [], ◌∷◌, refl, subst, sym, ap, ◌∙◌, arith}
+use Rattle.std.proofs.Common.{ℕ, ◌≡◌, ◌≢◌, ◌+◌, ◌-◌, ◌<◌, ◌≤◌, Bool, true, false, List, [], ◌∷◌, ◌++◌, refl, subst, sym, ap, ◌∙◌, arith}
 use Rattle.std.specs.Prelude.{◌==◌}
 use Rattle.std.proofs.lemmas.Bool.Decides.{nat_tests}
 use Rattle.jg_words.specs.declared.entry.Entry.{Entry}
@@ -12,14 +12,10 @@ use Rattle.jg_rules.specs.Names.{next_ref}
 use Rattle.jg_rules.specs.Effects.{parts}
 use Rattle.jg_rules.specs.Legal.{Legal}
 use Rattle.jg_laws.specs.Laws.{Agree}
-use Rattle.jg_laws.proofs.Steps.{Steps, each_legal}
-
--- what a thread did, one act later
-pub did_more : (u : ℕ) (a : threads.Act) (te : List threads.Event) → threads.acts_of u (threads.by u a ∷ te) ≡ a ∷ threads.acts_of u te
-did_more u a te = grind (arith, nat_tests)
-
-pub did_same : (t u : ℕ) (a : threads.Act) (te : List threads.Event) → t ≢ u → threads.acts_of t (threads.by u a ∷ te) ≡ threads.acts_of t te
-did_same t u a te differ = grind (arith, nat_tests)
+use Rattle.jg_globals.specs.History as globals
+use Rattle.jg_globals.specs.Laws as global_laws
+use Rattle.jg_laws.proofs.Acts.{did_more, did_same, refs_same}
+use Rattle.jg_laws.proofs.Steps.{Steps, each_legal, makes_no_global, make_no_global}
 
 -- the two tables agree on a thread, which is in no native method outside a session
 abbrev pub Agreed : List threads.Act → List Act → Type 0
@@ -69,17 +65,28 @@ agree_steps = record {
   begins = λ p u is old. agreed_both p.threads p.locals u threads.Attach Start old (begun_here _ _ is (old u));
   begun = λ p u is old. agreed_threads p.threads p.locals u threads.Attach old (attached_again _ _ is (old u));
   ends = λ p u old. agreed_both p.threads p.locals u threads.Detach End old (record { session = refl; depth = refl }, λ no. refl);
-  hands = λ p u o old. agreed_both p.threads p.locals u threads.CountRef (Make (next_ref p u) o) old (agreed_still _ _ _ _ refl refl refl refl (old u));
+  to_globals = λ p e none old. old;
+  to_buffers = λ p e old. old;
+  to_monitors = λ p e old. old;
+  to_heap = λ p e old. old;
+  to_links = λ p e old. old;
+  hands = λ p u n o is old. agreed_both p.threads p.locals u threads.CountRef (Make n o) old (agreed_still _ _ _ _ refl refl refl refl (old u));
+  hands_strong = λ p u n o is old. agreed_threads p.threads p.locals u threads.CountRef old (agreed_still _ _ _ _ refl refl refl refl (old u));
+  hands_weak = λ p u n o is old. agreed_threads p.threads p.locals u threads.CountRef old (agreed_still _ _ _ _ refl refl refl refl (old u));
+  lends = λ p u old. agreed_threads p.threads p.locals u threads.CountBuffer old (agreed_still _ _ _ _ refl refl refl refl (old u));
+  raises = λ p u o old. agreed_threads p.threads p.locals u (threads.Raise o) old (agreed_still _ _ _ _ refl refl refl refl (old u));
   deletes = λ p u n old. agreed_locals p.threads p.locals u (Delete n) old (agreed_still _ _ _ _ refl refl refl refl (old u));
   pushes = λ p u old. agreed_locals p.threads p.locals u Push old (agreed_still _ _ _ _ refl refl refl refl (old u));
-  pops = λ p u old. agreed_locals p.threads p.locals u Pop old (agreed_still _ _ _ _ refl refl refl refl (old u));
-  stores = λ p m old. old;
+  pops = λ p u some old. agreed_locals p.threads p.locals u Pop old (agreed_still _ _ _ _ refl refl refl refl (old u));
 }
 
-pub agree : (s : StatedSetup) (h : List Entry) (t : ℕ) → Legal s h → Agree (threads.acts_of t (parts h).threads) (acts_of t (parts h).locals)
-agree s h t legal =
+pub agreed : (s : StatedSetup) (h : List Entry) → Legal s h → (t : ℕ) → Agreed (threads.acts_of t (parts s h).threads) (acts_of t (parts s h).locals)
+agreed s h legal t =
     let start : (t : ℕ) → Agreed (threads.acts_of t []) (acts_of t []) = λ t. (record { session = refl; depth = refl }, λ no. refl) in
-    (each_legal (λ p. (t : ℕ) → Agreed (threads.acts_of t p.threads) (acts_of t p.locals)) agree_steps start s h legal t).0
+    each_legal (λ p. (t : ℕ) → Agreed (threads.acts_of t p.threads) (acts_of t p.locals)) agree_steps start s h legal t
+
+pub agree : (s : StatedSetup) (h : List Entry) (t : ℕ) → Legal s h → Agree (threads.acts_of t (parts s h).threads) (acts_of t (parts s h).locals)
+agree s h t legal = (agreed s h legal t).0
 
 -- each local's number was handed out
 abbrev pub Below : Parts → Type 0
@@ -97,13 +104,8 @@ below_more n m (Leave ∷ acts) le below = below_more n m acts le below
 below_more n m (End ∷ acts) le below = below_more n m acts le below
 
 -- an act that hands out nothing leaves each thread's next number
-next_same : (p : Parts) (u : ℕ) (a : threads.Act) → threads.refs (a ∷ threads.acts_of u p.threads) ≡ threads.refs (threads.acts_of u p.threads)
-    → (t : ℕ) → next_ref (record p { threads = threads.by u a ∷ p.threads }) t ≡ next_ref p t
-next_same p u a quiet t =
-    each_thread (λ v. next_ref (record p { threads = threads.by u a ∷ p.threads }) v ≡ next_ref p v) u
-    (ap (λ n. n + 1) (ap threads.refs (did_more u a p.threads) ∙ quiet))
-    (λ v differ. ap (λ acts. threads.refs acts + 1) (did_same v u a p.threads differ))
-    t
+next_same : (p : Parts) (u : ℕ) (a : threads.Act) → threads.is_count_ref a ≡ false → (t : ℕ) → next_ref (record p { threads = threads.by u a ∷ p.threads }) t ≡ next_ref p t
+next_same p u a quiet t = ap (λ n. n + 1) (refs_same p.threads u a quiet t)
 
 -- an act that makes no local
 below_same : (p : Parts) (u : ℕ) (a : Act) → ((n : ℕ) (acts : List Act) → IsMadeBelow n acts → IsMadeBelow n (a ∷ acts)) → Below p → (t : ℕ) → IsMadeBelow (next_ref p t) (acts_of t (by u a ∷ p.locals))
@@ -113,12 +115,19 @@ below_same p u a keeps old t =
     (λ v differ. rw (acts_same v u a p.locals differ) (old v))
     t
 
-below_quiet : (p : Parts) (u : ℕ) (a : threads.Act) (le : List Event) → threads.refs (a ∷ threads.acts_of u p.threads) ≡ threads.refs (threads.acts_of u p.threads)
+below_quiet : (p : Parts) (u : ℕ) (a : threads.Act) (le : List Event) → threads.is_count_ref a ≡ false
     → ((t : ℕ) → IsMadeBelow (next_ref p t) (acts_of t le)) → (t : ℕ) → IsMadeBelow (next_ref (record p { threads = threads.by u a ∷ p.threads }) t) (acts_of t le)
 below_quiet p u a le quiet old t = rw (next_same p u a quiet t) (old t)
 
 pub next_more : (p : Parts) (u : ℕ) → next_ref (record p { threads = threads.by u threads.CountRef ∷ p.threads }) u ≡ next_ref p u + 1
 next_more p u = rw (did_more u threads.CountRef p.threads) refl
+
+below_counted : (p : Parts) (u : ℕ) → Below p → (t : ℕ) → IsMadeBelow (next_ref (record p { threads = threads.by u threads.CountRef ∷ p.threads }) t) (acts_of t p.locals)
+below_counted p u old t =
+    each_thread (λ v. IsMadeBelow (next_ref (record p { threads = threads.by u threads.CountRef ∷ p.threads }) v) (acts_of v p.locals)) u
+    (subst (λ (n : ℕ). IsMadeBelow n (acts_of u p.locals)) (sym (next_more p u)) (below_more (next_ref p u) (next_ref p u + 1) (acts_of u p.locals) (omega arith) (old u)))
+    (λ v differ. rw (did_same v u threads.CountRef p.threads differ) (old v))
+    t
 
 below_made : (p : Parts) (u o : ℕ) → Below p → (t : ℕ) → IsMadeBelow (next_ref (record p { threads = threads.by u threads.CountRef ∷ p.threads }) t) (acts_of t (by u (Make (next_ref p u) o) ∷ p.locals))
 below_made p u o old t =
@@ -133,31 +142,105 @@ below_steps = record {
   begins = λ p u is old. below_quiet p u threads.Attach (by u Start ∷ p.locals) refl (below_same p u Start (λ n acts b. b) old);
   begun = λ p u is old. below_quiet p u threads.Attach p.locals refl old;
   ends = λ p u old. below_quiet p u threads.Detach (by u End ∷ p.locals) refl (below_same p u End (λ n acts b. b) old);
-  hands = λ p u o old. below_made p u o old;
+  to_globals = λ p e none old. old;
+  to_buffers = λ p e old. old;
+  to_monitors = λ p e old. old;
+  to_heap = λ p e old. old;
+  to_links = λ p e old. old;
+  hands = λ p u n o is old. rw is (below_made p u o old);
+  hands_strong = λ p u n o is old. below_counted p u old;
+  hands_weak = λ p u n o is old. below_counted p u old;
+  lends = λ p u old. below_quiet p u threads.CountBuffer p.locals refl old;
+  raises = λ p u o old. below_quiet p u (threads.Raise o) p.locals refl old;
   deletes = λ p u n old. below_same p u (Delete n) (λ k acts b. b) old;
   pushes = λ p u old. below_same p u Push (λ n acts b. b) old;
-  pops = λ p u old. below_same p u Pop (λ n acts b. b) old;
-  stores = λ p m old. old;
+  pops = λ p u some old. below_same p u Pop (λ n acts b. b) old;
 }
 
-pub below : (s : StatedSetup) (h : List Entry) → Legal s h → Below (parts h)
+pub below : (s : StatedSetup) (h : List Entry) → Legal s h → Below (parts s h)
 below s h legal = each_legal Below below_steps (λ t. tt) s h legal
 
 -- a thread's next number never falls
 abbrev pub AtLeast : ℕ → ℕ → Parts → Type 0
 AtLeast t n p = n ≤ next_ref p t
 
+counted_at_least : (t n : ℕ) (p : Parts) (u : ℕ) → n ≤ next_ref p t → n ≤ next_ref (record p { threads = threads.by u threads.CountRef ∷ p.threads }) t
+counted_at_least t n p u old =
+    each_thread (λ v. n ≤ next_ref p v → n ≤ next_ref (record p { threads = threads.by u threads.CountRef ∷ p.threads }) v) u
+    (λ le. rw (next_more p u) (omega (arith, le)))
+    (λ v differ le. rw (did_same v u threads.CountRef p.threads differ) le)
+    t old
+
 pub at_least_steps : (t n : ℕ) → Steps (AtLeast t n)
 at_least_steps t n = record {
   begins = λ p u is old. rw (next_same p u threads.Attach refl t) old;
   begun = λ p u is old. rw (next_same p u threads.Attach refl t) old;
   ends = λ p u old. rw (next_same p u threads.Detach refl t) old;
-  hands = λ p u o old. each_thread (λ v. n ≤ next_ref p v → n ≤ next_ref (record p { threads = threads.by u threads.CountRef ∷ p.threads }) v) u
-      (λ le. rw (next_more p u) (omega (arith, le)))
-      (λ v differ le. rw (did_same v u threads.CountRef p.threads differ) le)
-      t old;
   deletes = λ p u k old. old;
   pushes = λ p u old. old;
-  pops = λ p u old. old;
-  stores = λ p m old. old;
+  pops = λ p u some old. old;
+  to_globals = λ p e none old. old;
+  to_buffers = λ p e old. old;
+  to_monitors = λ p e old. old;
+  to_heap = λ p e old. old;
+  to_links = λ p e old. old;
+  hands = λ p u k o is old. counted_at_least t n p u old;
+  hands_strong = λ p u k o is old. counted_at_least t n p u old;
+  hands_weak = λ p u k o is old. counted_at_least t n p u old;
+  lends = λ p u old. rw (next_same p u threads.CountBuffer refl t) old;
+  raises = λ p u o old. rw (next_same p u (threads.Raise o) refl t) old;
 }
+
+-- ---- each global reference's number was handed out
+
+abbrev pub GlobalsBelow : Parts → Type 0
+GlobalsBelow p = (t : ℕ) → global_laws.IsMadeBelow t (next_ref p t) p.globals
+
+global_more : (t n m : ℕ) (e : List globals.Event) → n ≤ m → global_laws.IsMadeBelow t n e → global_laws.IsMadeBelow t m e
+global_more t n m [] le below = below
+global_more t n m (globals.MakeStrong k i o ∷ e) le below = (λ is. omega (arith, below.0 is, le), global_more t n m e le below.1)
+global_more t n m (globals.MakeWeak k i o ∷ e) le below = (λ is. omega (arith, below.0 is, le), global_more t n m e le below.1)
+global_more t n m (globals.DeleteStrong k i ∷ e) le below = global_more t n m e le below
+global_more t n m (globals.DeleteWeak k i ∷ e) le below = global_more t n m e le below
+global_more t n m (globals.Clear o ∷ e) le below = global_more t n m e le below
+
+global_none : (t n : ℕ) (e g : List globals.Event) → make_no_global e ≡ true → global_laws.IsMadeBelow t n g → global_laws.IsMadeBelow t n (e ++ g)
+global_none t n [] g none below = below
+global_none t n (globals.MakeStrong k i o ∷ e) g none below = absurd cc
+global_none t n (globals.MakeWeak k i o ∷ e) g none below = absurd cc
+global_none t n (globals.DeleteStrong k i ∷ e) g none below = global_none t n e g none below
+global_none t n (globals.DeleteWeak k i ∷ e) g none below = global_none t n e g none below
+global_none t n (globals.Clear o ∷ e) g none below = global_none t n e g none below
+
+global_quiet : (p : Parts) (u : ℕ) (a : threads.Act) → threads.is_count_ref a ≡ false → GlobalsBelow p → GlobalsBelow (record p { threads = threads.by u a ∷ p.threads })
+global_quiet p u a quiet old t = rw (next_same p u a quiet t) (old t)
+
+global_counted : (p : Parts) (u : ℕ) → GlobalsBelow p → GlobalsBelow (record p { threads = threads.by u threads.CountRef ∷ p.threads })
+global_counted p u old t = global_more t (next_ref p t) _ p.globals (counted_at_least t (next_ref p t) p u (omega arith)) (old t)
+
+-- the number that is handed out now is below its maker's next one
+global_first : (p : Parts) (u n t : ℕ) → n ≡ next_ref p u → u ≡ t → n < next_ref (record p { threads = threads.by u threads.CountRef ∷ p.threads }) t
+global_first p u n t is same = subst (λ (v : ℕ). n < next_ref (record p { threads = threads.by u threads.CountRef ∷ p.threads }) v) same (omega (arith, is, next_more p u))
+
+pub global_steps : Steps GlobalsBelow
+global_steps = record {
+  begins = λ p u is old. global_quiet p u threads.Attach refl old;
+  begun = λ p u is old. global_quiet p u threads.Attach refl old;
+  ends = λ p u old. global_quiet p u threads.Detach refl old;
+  deletes = λ p u k old. old;
+  pushes = λ p u old. old;
+  pops = λ p u some old. old;
+  to_globals = λ p e none old t. global_none t (next_ref p t) e p.globals none (old t);
+  to_buffers = λ p e old. old;
+  to_monitors = λ p e old. old;
+  to_heap = λ p e old. old;
+  to_links = λ p e old. old;
+  hands = λ p u n o is old. global_counted p u old;
+  hands_strong = λ p u n o is old t. (global_first p u n t is, global_counted p u old t);
+  hands_weak = λ p u n o is old t. (global_first p u n t is, global_counted p u old t);
+  lends = λ p u old. global_quiet p u threads.CountBuffer refl old;
+  raises = λ p u o old. global_quiet p u (threads.Raise o) refl old;
+}
+
+pub globals_below : (s : StatedSetup) (h : List Entry) → Legal s h → GlobalsBelow (parts s h)
+globals_below s h legal = each_legal GlobalsBelow global_steps (λ t. tt) s h legal

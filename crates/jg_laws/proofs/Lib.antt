@@ -1,3 +1,5 @@
+pub mod Acts
+pub mod Proper
 pub mod Steps
 pub mod Kept
 pub mod Sizes

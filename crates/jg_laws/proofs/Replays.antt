@@ -25,13 +25,13 @@ asked_at s p t env call = asked_by (verdict s p t.0 env call) (answer s p t call
 Legal-history_of : (s : StatedSetup) (calls : List Asked) → Legal s (history_of s calls)
 Legal-history_of s [] = tt
 Legal-history_of s (c ∷ calls) =
-    let asked = asked_at s (parts (history_of s calls)) c.tid c.env c.call in
-    (ap (λ (q : Asked). entry_at s (parts (history_of s calls)) q.tid q.env q.call) (sym asked), Legal-history_of s calls)
+    let asked = asked_at s (parts s (history_of s calls)) c.tid c.env c.call in
+    (ap (λ (q : Asked). entry_at s (parts s (history_of s calls)) q.tid q.env q.call) (sym asked), Legal-history_of s calls)
 
 calls_of-history_of : (s : StatedSetup) (calls : List Asked) → calls_of (history_of s calls) ≡ calls
 calls_of-history_of s [] = refl
 calls_of-history_of s (c ∷ calls) =
-    let first : asked_in (entry_at s (parts (history_of s calls)) c.tid c.env c.call) ≡ c = asked_at s (parts (history_of s calls)) c.tid c.env c.call in
+    let first : asked_in (entry_at s (parts s (history_of s calls)) c.tid c.env c.call) ≡ c = asked_at s (parts s (history_of s calls)) c.tid c.env c.call in
     let rest = calls_of-history_of s calls in
     cc (first, rest)
 
@@ -41,9 +41,9 @@ heads c d cs ds is = cc
 tails : (c d : Asked) (cs ds : List Asked) → (c ∷ cs) ≡ (d ∷ ds) → cs ≡ ds
 tails c d cs ds is = cc
 
-one_entry : (s : StatedSetup) (x y : Entry) (g h : List Entry) → x ≡ entry_at s (parts g) x.tid x.env x.call → y ≡ entry_at s (parts h) y.tid y.env y.call → asked_in x ≡ asked_in y → g ≡ h → x ≡ y
+one_entry : (s : StatedSetup) (x y : Entry) (g h : List Entry) → x ≡ entry_at s (parts s g) x.tid x.env x.call → y ≡ entry_at s (parts s h) y.tid y.env y.call → asked_in x ≡ asked_in y → g ≡ h → x ≡ y
 one_entry s x y g h xs ys asked same =
-    xs ∙ (ap (λ (q : Asked). entry_at s (parts g) q.tid q.env q.call) asked ∙ (ap (λ (k : List Entry). entry_at s (parts k) y.tid y.env y.call) same ∙ sym ys))
+    xs ∙ (ap (λ (q : Asked). entry_at s (parts s g) q.tid q.env q.call) asked ∙ (ap (λ (k : List Entry). entry_at s (parts s k) y.tid y.env y.call) same ∙ sym ys))
 
 -- two legal histories of the same calls are the same
 one_legal : (s : StatedSetup) (g h : List Entry) → Legal s g → Legal s h → calls_of g ≡ calls_of h → g ≡ h

@@ -7,7 +7,7 @@ use Rattle.jg_words.specs.declared.reference.Ref.{Ref}
 use Rattle.jg_words.specs.declared.reference.Ref.TheVariants.{Null, To}
 use Rattle.jg_words.specs.declared.reference.Kind.TheVariants.{Local, Global, Weak}
 use Rattle.jg_words.specs.declared.value.Value.{Value}
-use Rattle.jg_words.specs.declared.value.Value.TheVariants.{Reference, Busy, Throw as Threw}
+use Rattle.jg_words.specs.declared.value.Value.TheVariants.{Reference, Buffer as Lent, Throw as Threw}
 use Rattle.jg_words.specs.declared.entry.Reply.{Reply}
 use Rattle.jg_words.specs.declared.entry.Outcome.{Outcome}
 use Rattle.jg_words.specs.declared.entry.Outcome.TheVariants.{Passed, Denied}
@@ -24,79 +24,93 @@ use Rattle.jg_locals.specs.History as locals
 use Rattle.jg_locals.specs.History.{Act, acts_of, is_push, is_pop, done_at, frames}
 use Rattle.jg_heap.specs.History as heap
 use Rattle.jg_rules.specs.Parts.{Parts}
-use Rattle.jg_rules.specs.Effects.{parts, after, passed_on, if_effective, call_threads, call_locals, call_heap, value_threads, value_locals, started, refs_locals}
+use Rattle.jg_rules.specs.Effects.{parts, after, is_effective, if_effective, call_threads, call_locals, call_monitors, value_threads, value_locals, started, deletes_local}
+use Rattle.jg_policy.specs.Stated.{StatedSetup}
+use Rattle.jg_monitors.specs.History as monitors
 
-effective-le : {E : Type 0} (value : Value) (events : List E) (n : ℕ) → length events ≤ n → length (if_effective value events) ≤ n
-effective-le (Threw kind) events n few = omega arith
-effective-le Busy events n few = omega arith
-effective-le _ events n few = few
+effective-le : {E : Type 0} (b : Bool) (events : List E) (n : ℕ) → length events ≤ n → length (if_effective b events) ≤ n
+effective-le false events n few = omega arith
+effective-le true events n few = few
 
-call_threads-le : (call : Call) → length (call_threads call) ≤ 1
-call_threads-le (Vm AttachCurrentThread) = omega arith
-call_threads-le (Vm DetachCurrentThread) = omega arith
-call_threads-le (Vm GetEnv) = omega arith
-call_threads-le _ = omega arith
+pub call_threads-le : (s : StatedSetup) (p : Parts) (t : ℕ) (call : Call) → length (call_threads s p t call) ≤ 1
+call_threads-le s p t (Vm AttachCurrentThread) = omega arith
+call_threads-le s p t (Vm DetachCurrentThread) = omega arith
+call_threads-le s p t (Vm GetEnv) = omega arith
+call_threads-le s p t (Refs call) = omega arith
+call_threads-le s p t (Frames call) = omega arith
+call_threads-le s p t (Strings call) = omega arith
 
-value_threads-le : (value : Value) → length (value_threads value) ≤ 1
-value_threads-le (Reference r) = omega arith
-value_threads-le _ = omega arith
+value_threads-le : (value : Value) (o : Option ObjId) → length (value_threads value o) ≤ 1
+value_threads-le (Reference r) o = omega arith
+value_threads-le (Lent b) o = omega arith
+value_threads-le (Threw kind) (Some o) = omega arith
+value_threads-le _ _ = omega arith
 
 started-le : (b : Bool) → length (started b) ≤ 1
 started-le true = omega arith
 started-le false = omega arith
 
-refs_locals-le : (call : RefsCall) → length (refs_locals call) ≤ 1
-refs_locals-le (DeleteLocalRef Null) = omega arith
-refs_locals-le (DeleteLocalRef (To Local maker n)) = omega arith
-refs_locals-le (DeleteLocalRef (To Global maker n)) = omega arith
-refs_locals-le (DeleteLocalRef (To Weak maker n)) = omega arith
-refs_locals-le _ = omega arith
+deletes_local-le : (r : Ref) → length (deletes_local r) ≤ 1
+deletes_local-le Null = omega arith
+deletes_local-le (To Local maker n) = omega arith
+deletes_local-le (To Global maker n) = omega arith
+deletes_local-le (To Weak maker n) = omega arith
 
-call_locals-le : (p : Parts) (t : ℕ) (call : Call) → length (call_locals p t call) ≤ 1
-call_locals-le p t (Vm AttachCurrentThread) = started-le (threads.attached (threads.acts_of t p.threads))
-call_locals-le p t (Vm DetachCurrentThread) = omega arith
-call_locals-le p t (Vm GetEnv) = omega arith
-call_locals-le p t (Refs call) = refs_locals-le call
-call_locals-le p t (Frames (PushLocalFrame capacity)) = omega arith
-call_locals-le p t (Frames (PopLocalFrame r)) = omega arith
-call_locals-le p t (Strings call) = omega arith
+call_locals-le : (s : StatedSetup) (p : Parts) (t : ℕ) (call : Call) → length (call_locals s p t call) ≤ 1
+call_locals-le s p t (Vm AttachCurrentThread) = started-le (threads.attached (threads.acts_of t p.threads))
+call_locals-le s p t (Vm DetachCurrentThread) = omega arith
+call_locals-le s p t (Vm GetEnv) = omega arith
+call_locals-le s p t (Refs (NewLocalRef r)) = omega arith
+call_locals-le s p t (Refs (DeleteLocalRef r)) = deletes_local-le r
+call_locals-le s p t (Refs (IsSameObject r u)) = omega arith
+call_locals-le s p t (Refs (GetObjectRefType r)) = omega arith
+call_locals-le s p t (Frames (PushLocalFrame capacity)) = omega arith
+call_locals-le s p t (Frames (PopLocalFrame r)) = omega arith
+call_locals-le s p t (Strings call) = omega arith
 
 value_locals-le : (value : Value) (o : Option ObjId) → length (value_locals value o) ≤ 1
 value_locals-le (Reference (To Local maker n)) (Some o) = omega arith
 value_locals-le _ _ = omega arith
 
-call_heap-le : (call : Call) → length (call_heap call) ≤ 1
-call_heap-le (Strings (NewString units)) = omega arith
-call_heap-le (Strings (GetStringLength r)) = omega arith
-call_heap-le _ = omega arith
+call_monitors-le : (s : StatedSetup) (p : Parts) (t : ℕ) (call : Call) → length (call_monitors s p t call) ≤ 1
+call_monitors-le s p t (Vm AttachCurrentThread) = omega arith
+call_monitors-le s p t (Vm DetachCurrentThread) = omega arith
+call_monitors-le s p t (Vm GetEnv) = omega arith
+call_monitors-le s p t (Refs call) = omega arith
+call_monitors-le s p t (Frames call) = omega arith
+call_monitors-le s p t (Strings call) = omega arith
 
 -- two short lists in front of a third
-in_front : {X Y : Type 0} (f : X → Y) (xs ys : List X) (zs : List Y) → length xs ≤ 1 → length ys ≤ 1 → length (map f (xs ++ ys) ++ zs) ≤ length zs + 2
+in_front : {X Y : Type 0} (f : X → Y) (xs ys : List X) (zs : List Y) → length xs ≤ 1 → length ys ≤ 1 → length (map f xs ++ (map f ys ++ zs)) ≤ length zs + 2
 in_front f xs ys zs one two = simp (length-append, length-map) (omega (arith, one, two))
 
--- at most two events of threads and of locals and one of the store for each entry
+in_front_once : {X Y : Type 0} (f : X → Y) (xs : List X) (zs : List Y) → length xs ≤ 1 → length (map f xs ++ zs) ≤ length zs + 1
+in_front_once f xs zs one = simp (length-append, length-map) (omega (arith, one))
+
+-- at most two events of threads and of locals and one of monitors for each entry
 pub record Small (p : Parts) (k : ℕ) : Type 0 where
   pub threads : length p.threads ≤ 2 * k
   pub locals : length p.locals ≤ 2 * k
-  pub heap : length p.heap ≤ k
+  pub monitors : length p.monitors ≤ k
 
-small_after : (t : ℕ) (call : Call) (outcome : Outcome) (o : Option ObjId) (p : Parts) (k : ℕ) → Small p k → Small (after t call outcome o p) (k + 1)
-small_after t call (Passed reply) o p k old =
-    let acts = in_front (threads.by t) (value_threads reply.value) (if_effective reply.value (call_threads call)) p.threads (value_threads-le reply.value) (effective-le reply.value (call_threads call) 1 (call_threads-le call)) in
-    let of_locals = in_front (locals.by t) (value_locals reply.value o) (if_effective reply.value (call_locals p t call)) p.locals (value_locals-le reply.value o) (effective-le reply.value (call_locals p t call) 1 (call_locals-le p t call)) in
-    let made = effective-le reply.value (call_heap call) 1 (call_heap-le call) in
+small_after : (s : StatedSetup) (t : ℕ) (call : Call) (outcome : Outcome) (o : Option ObjId) (p : Parts) (k : ℕ) → Small p k → Small (after s t call outcome o p) (k + 1)
+small_after s t call (Passed reply) o p k old =
+    let b : Bool = is_effective reply.value in
+    let acts = in_front (threads.by t) (value_threads reply.value o) (if_effective b (call_threads s p t call)) p.threads (value_threads-le reply.value o) (effective-le b (call_threads s p t call) 1 (call_threads-le s p t call)) in
+    let of_locals = in_front (locals.by t) (value_locals reply.value o) (if_effective b (call_locals s p t call)) p.locals (value_locals-le reply.value o) (effective-le b (call_locals s p t call) 1 (call_locals-le s p t call)) in
+    let of_monitors = in_front_once (monitors.by t) (if_effective b (call_monitors s p t call)) p.monitors (effective-le b (call_monitors s p t call) 1 (call_monitors-le s p t call)) in
     record {
       threads = omega (arith, acts, old.threads);
       locals = omega (arith, of_locals, old.locals);
-      heap = simp length-append (omega (arith, made, old.heap));
+      monitors = omega (arith, of_monitors, old.monitors);
     }
-small_after t call (Denied rule) o p k old = record { threads = omega (arith, old.threads); locals = omega (arith, old.locals); heap = omega (arith, old.heap) }
+small_after s t call (Denied rule) o p k old = record { threads = omega (arith, old.threads); locals = omega (arith, old.locals); monitors = omega (arith, old.monitors) }
 
-pub small : (h : List Entry) → Small (parts h) (length h)
-small [] = record { threads = omega arith; locals = omega arith; heap = omega arith }
-small (x ∷ h) =
-    let more = small_after x.tid.0 x.call x.outcome x.object (parts h) (length h) (small h) in
-    record { threads = omega (arith, more.threads); locals = omega (arith, more.locals); heap = omega (arith, more.heap) }
+pub small : (s : StatedSetup) (h : List Entry) → Small (parts s h) (length h)
+small s [] = record { threads = omega arith; locals = omega arith; monitors = omega arith }
+small s (x ∷ h) =
+    let more = small_after s x.tid.0 x.call x.outcome x.object (parts s h) (length h) (small s h) in
+    record { threads = omega (arith, more.threads); locals = omega (arith, more.locals); monitors = omega (arith, more.monitors) }
 
 -- a count is at most the number of events
 

@@ -5,7 +5,7 @@ use Rattle.std.specs.List.{AllByRecursion}
 use Rattle.std.proofs.lemmas.Bool.Decides.{nat_tests}
 use Rattle.std.proofs.lemmas.List.Elements.{All-from_recursion, recursion_from_All}
 use Rattle.jg_locals.specs.History.{Act, Start, Make, Push, Enter, Delete, Pop, Leave, End, Event, acts_of, has_session, frames, Making, making, local_if_live, Local, live_local, object_of, live, IsMadeBelow}
-use Rattle.jg_locals.specs.declared.row.LocalRow.{LocalRow}
+use Rattle.jg_locals.specs.Rows.{LocalRow}
 use Rattle.jg_locals.specs.Rows.{Rows, is_local, HasFrame}
 use Rattle.jg_locals.specs.Standing.{AllAllowed, rows_of_local, Stands}
 use Rattle.jg_locals.proofs.LocalSteps.{making_splits}

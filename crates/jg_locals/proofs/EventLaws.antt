@@ -5,8 +5,8 @@ use Rattle.std.proofs.lemmas.Bool.Decides.{nat_tests}
 use Rattle.std.proofs.lemmas.List.{append-nil}
 use Rattle.std.proofs.lemmas.List.Elements.{filter-append}
 use Rattle.jg_locals.specs.History.{Act, Start, Make, Push, Enter, Delete, Pop, Leave, End, Event, by, acts_of, has_session, depth, frames, making, live_local}
-use Rattle.jg_locals.specs.declared.row.LocalRow.{LocalRow}
-use Rattle.jg_locals.specs.declared.row.FrameRow.{FrameRow}
+use Rattle.jg_locals.specs.Rows.{LocalRow}
+use Rattle.jg_locals.specs.Rows.{FrameRow}
 use Rattle.jg_locals.specs.Rows.{Rows, is_local, top}
 use Rattle.jg_locals.specs.Standing.{AllAllowed, rows_of_local, open_frames, Stands}
 use Rattle.jg_locals.proofs.LocalSteps.{row_made, rows_step, none_live}

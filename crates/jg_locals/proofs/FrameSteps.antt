@@ -7,7 +7,7 @@ use Rattle.std.proofs.lemmas.List.Elements.{filter-append}
 use Rattle.jg_locals.specs.History.{Act, Push, Enter, Pop, Leave, has_session, depth, frames}
 use Rattle.jg_locals.specs.Standing.{AllAllowed, rows_at, rows_up_to, open_frames}
 use Rattle.jg_locals.proofs.Looking.{leaves_at_most_enters, pops_at_most_pushes}
-use Rattle.jg_locals.specs.declared.row.FrameRow.{FrameRow}
+use Rattle.jg_locals.specs.Rows.{FrameRow}
 
 -- the rows up to a depth tell the frames up to it and no more
 pub rows_up_to_same : (t d : ℕ) (acts others : List Act) → ((k : ℕ) → k ≤ d → frames k acts ≡ frames k others) → rows_up_to t d acts ≡ rows_up_to t d others

@@ -4,7 +4,7 @@ use Rattle.std.specs.Prelude.{◌==◌, IsTrue, ◌↔◌}
 use Rattle.std.specs.List.{list_any}
 use Rattle.std.proofs.lemmas.Bool.Decides.{nat_tests}
 use Rattle.jg_locals.specs.History.{Act, Start, Make, Push, Enter, Delete, Pop, Leave, End, Event, acts_of, Local, live_local, object_of, live, is_object, makes_live, holds_object}
-use Rattle.jg_locals.specs.declared.row.LocalRow.{LocalRow}
+use Rattle.jg_locals.specs.Rows.{LocalRow}
 use Rattle.jg_locals.specs.Rows.{Rows, is_local}
 use Rattle.jg_locals.specs.Standing.{rows_of_local, Stands}
 use Rattle.jg_locals.specs.Laws.{HeldMeans}

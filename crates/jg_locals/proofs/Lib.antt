@@ -1,4 +1,8 @@
 pub mod Members
+pub mod Chains
+pub mod Numbers
+pub mod Invariant
+pub mod Gathered
 pub mod Looking
 pub mod LocalSteps
 pub mod FrameSteps
@@ -6,6 +10,7 @@ pub mod Tops
 pub mod StandingSteps
 pub mod EventLaws
 pub mod Lookups
+pub mod Threads
 pub mod Held
 pub mod Callers
 pub mod Lives

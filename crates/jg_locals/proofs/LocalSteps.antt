@@ -5,7 +5,7 @@ use Rattle.std.proofs.lemmas.Bool.Decides.{nat_tests}
 use Rattle.jg_locals.specs.History.{Act, Start, Make, Push, Enter, Delete, Pop, Leave, End, has_session, depth, frames, survives, Making, making, seen_after, local_if_live, live_local}
 use Rattle.jg_locals.specs.Standing.{AllAllowed, rows_of_local}
 use Rattle.jg_locals.proofs.Looking.{depth_since, frames_since, survived_before, survived_here, survived_frame}
-use Rattle.jg_locals.specs.declared.row.LocalRow.{LocalRow}
+use Rattle.jg_locals.specs.Rows.{LocalRow}
 
 -- whether the act, done at a depth and a count of open frames, leaves the local
 abbrev pub keeps : Act → ℕ → ℕ → LocalRow → Bool

@@ -6,8 +6,8 @@ use Rattle.std.specs.Option.{is_some, option_map}
 use Rattle.std.proofs.lemmas.Bool.Decides.{nat_tests}
 use Rattle.std.proofs.lemmas.List.Elements.{recursion_from_All}
 use Rattle.jg_locals.specs.History.{Act, Start, Make, Push, Enter, Delete, Pop, Leave, End, Event, acts_of, has_session, session, depth, how_many, is_enter, is_push, done_at, frames, Local, live_local, object_of, live}
-use Rattle.jg_locals.specs.declared.row.LocalRow.{LocalRow}
-use Rattle.jg_locals.specs.declared.row.FrameRow.{FrameRow}
+use Rattle.jg_locals.specs.Rows.{LocalRow}
+use Rattle.jg_locals.specs.Rows.{FrameRow}
 use Rattle.jg_locals.specs.Rows.{Rows, Table, is_local, top, pushed, entered, frame_number, depth_number}
 use Rattle.jg_locals.specs.Standing.{AllAllowed, rows_of_local, Stands}
 use Rattle.jg_locals.proofs.Tops.{top_is}
@@ -95,31 +95,3 @@ pub reopened : (a b : Table) (e : List Event) → a ≡ b → Stands b.rows e �
 reopened a b e is stands =
     let P : Table → Type 0 = λ v. Stands v.rows e in
     subst P (sym is) stands
-
-pub pushed_top : (a b : Table) (t : ℕ) (r : FrameRow) → a ≡ b → top t a.rows.frames ≡ Some r → 0 < pushed t b.rows → 0 < r.frame
-pushed_top a b t r is found some =
-    let P : Table → Type 0 = λ v. 0 < pushed t v.rows in
-    let here : 0 < frame_number (top t a.rows.frames) = subst P (sym is) some in
-    let Q : Option FrameRow → Type 0 = λ o. 0 < frame_number o in
-    subst Q found here
-
-pub entered_top : (a b : Table) (t : ℕ) (r : FrameRow) → a ≡ b → top t a.rows.frames ≡ Some r → 0 < entered t b.rows → 0 < r.depth
-entered_top a b t r is found some =
-    let P : Table → Type 0 = λ v. 0 < entered t v.rows in
-    let here : 0 < depth_number (top t a.rows.frames) = subst P (sym is) some in
-    let Q : Option FrameRow → Type 0 = λ o. 0 < depth_number o in
-    subst Q found here
-
-none_is : {X : Type 0} (o : Option X) → IsNone o → o ≡ None
-none_is None h = refl
-none_is (Some x) h = cc
-
-pub no_top : (a b : Table) (t : ℕ) → a ≡ b → IsNone (top t b.rows.frames) → top t a.rows.frames ≡ None
-no_top a b t is none =
-    let P : Table → Type 0 = λ v. IsNone (top t v.rows.frames) in
-    none_is _ (subst P (sym is) none)
-
-pub fresh_in : (a b : Table) (u n : ℕ) → a ≡ b → All (λ row. row.tid ≡ u → row.n < n) b.rows.locals → filter (is_local u n) a.rows.locals ≡ []
-fresh_in a b u n is above =
-    let P : Table → Type 0 = λ v. All (λ row. row.tid ≡ u → row.n < n) v.rows.locals in
-    fresh u n a.rows.locals (subst P (sym is) above)

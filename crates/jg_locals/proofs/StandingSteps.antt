@@ -5,8 +5,8 @@ use Rattle.std.proofs.lemmas.Bool.Decides.{nat_tests}
 use Rattle.std.proofs.lemmas.List.Elements.{filter-append}
 use Rattle.std.proofs.lemmas.List.{append-nil}
 use Rattle.jg_locals.specs.History.{Act, Event, by, acts_of, depth, frames, making, seen_after, live_local, Local}
-use Rattle.jg_locals.specs.declared.row.LocalRow.{LocalRow}
-use Rattle.jg_locals.specs.declared.row.FrameRow.{FrameRow}
+use Rattle.jg_locals.specs.Rows.{LocalRow}
+use Rattle.jg_locals.specs.Rows.{FrameRow}
 use Rattle.jg_locals.specs.Rows.{is_local}
 use Rattle.jg_locals.specs.Standing.{IsAllowed, AllAllowed, rows_of_local, open_frames}
 use Rattle.jg_locals.proofs.LocalSteps.{keeps, rows_step}

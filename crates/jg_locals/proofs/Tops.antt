@@ -4,18 +4,12 @@ use Rattle.std.specs.Prelude.{◌==◌, if◌then◌else◌, filter, find}
 use Rattle.std.specs.Option.{option_or}
 use Rattle.std.proofs.lemmas.List.{reverse-append}
 use Rattle.std.proofs.lemmas.List.Folds.{find-append}
+use Rattle.jg_locals.specs.Seen.{last}
+use Rattle.jg_locals.proofs.Chains.{last-push}
 use Rattle.jg_locals.specs.History.{Act, Event, acts_of, has_session, depth, frames}
-use Rattle.jg_locals.specs.declared.row.FrameRow.{FrameRow}
+use Rattle.jg_locals.specs.Rows.{FrameRow}
 use Rattle.jg_locals.specs.Rows.{Rows, top}
 use Rattle.jg_locals.specs.Standing.{rows_at, rows_up_to, open_frames, Stands}
-
-abbrev pub last : {X : Type 0} → List X → Option X
-last [] = None
-last (x ∷ xs) = option_or (last xs) (Some x)
-
-pub last-push : {X : Type 0} (xs : List X) (x : X) → last (xs ++ x ∷ []) ≡ Some x
-last-push [] x = refl
-last-push (y ∷ xs) x = rw (last-push xs x) refl
 
 pub last-append : {X : Type 0} (xs ys : List X) (y : X) → last ys ≡ Some y → last (xs ++ ys) ≡ Some y
 last-append [] ys y is = is

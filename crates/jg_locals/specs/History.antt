@@ -1,6 +1,8 @@
 -- Local references and frames, told by looking back over what threads did. A list has the newest first.
 -- JNI Specification, chapter 2, "Local References": valid in the thread that made them, freed when the native method returns;
 -- chapter 4, PushLocalFrame and PopLocalFrame.
+use Rattle.jg_lists.specs.Acts as acts
+pub use Rattle.jg_lists.specs.Acts.{by, acts_of, how_many}
 use Rattle.std.specs.Prelude.{ℕ, ◌+◌, ◌-◌, ◌<◌, Bool, true, false, ◌==◌, ◌&&◌, not, nat_le, if◌then◌else◌, List, [], ◌∷◌, Option, Some, None}
 use Rattle.std.specs.List.{list_any}
 
@@ -16,17 +18,8 @@ pub data Act : Type 0 where
   End : Act
 
 -- an act, with the thread that did it
-pub record Event : Type 0 where
-  pub tid : ℕ
-  pub act : Act
-
-abbrev pub by : ℕ → Act → Event
-by t a = record { tid = t; act = a }
-
--- what the thread did
-abbrev pub acts_of : ℕ → List Event → List Act
-acts_of t [] = []
-acts_of t (ev ∷ e) = if ev.tid == t then ev.act ∷ acts_of t e else acts_of t e
+abbrev pub Event : Type 0
+Event = acts.Event Act
 
 abbrev pub is_enter : Act → Bool
 is_enter Enter = true
@@ -43,10 +36,6 @@ is_push a = false
 abbrev pub is_pop : Act → Bool
 is_pop Pop = true
 is_pop a = false
-
-abbrev pub how_many : (Act → Bool) → List Act → ℕ
-how_many kind [] = 0
-how_many kind (a ∷ acts) = if kind a then how_many kind acts + 1 else how_many kind acts
 
 -- the acts since the thread's session began, which are none where it has no session
 abbrev pub session : List Act → List Act

@@ -1,4 +1,5 @@
 pub mod History
 pub mod Rows
+pub mod Seen
 pub mod Standing
 pub mod Laws

@@ -1,29 +1,52 @@
 -- The rows that the table keeps, and the room that it has.
 use Rattle.std.specs.Prelude.{ℕ, Bool, ◌==◌, ◌&&◌, List, find, reverse, Option, Some, None, IsSome}
-use Rattle.jg_locals.specs.declared.row.LocalRow.{LocalRow}
-use Rattle.jg_locals.specs.declared.row.FrameRow.{FrameRow}
+use Rattle.std.specs.Map.{lookup}
+use Rattle.std.specs.Ordering.{nat_cmp}
+use Rattle.std.specs.BTreeMap.{is_at}
+
+-- a live local of a thread: its number and object, with the depth and the number of open frames just after its making
+pub record LocalRow : Type 0 where
+  pub tid : ℕ
+  pub n : ℕ
+  pub object : ℕ
+  pub depth : ℕ
+  pub frame : ℕ
+
+-- an open frame of a thread: 0 for what an activation began with, and those pushed in it count from 1
+pub record FrameRow : Type 0 where
+  pub tid : ℕ
+  pub depth : ℕ
+  pub frame : ℕ
 
 -- the rows of locals and of frames, each thread's oldest first
 pub record Rows : Type 0 where
   pub locals : List LocalRow
   pub frames : List FrameRow
 
--- for how many more rows there is room
+-- for how many more rows of a thread there is room
 pub record Room : Type 0 where
   pub locals : ℕ
   pub frames : ℕ
 
 pub record Table : Type 0 where
   pub rows : Rows
-  pub room : Room
+  pub room : List (ℕ × Room)
+
+abbrev pub room_or_none : Option Room → Room
+room_or_none None = record { locals = 0; frames = 0 }
+room_or_none (Some room) = room
+
+-- the thread's room
+abbrev pub room_of : List (ℕ × Room) → ℕ → Room
+room_of rooms t = room_or_none (lookup (is_at (nat_cmp t)) rooms)
 
 -- for how many more locals of the thread there is room
 abbrev pub spare : Table → ℕ → ℕ
-spare table t = table.room.locals
+spare table t = (room_of table.room t).locals
 
 -- for how many more base frames of the thread there is room
 abbrev pub spare_starts : Table → ℕ → ℕ
-spare_starts table t = table.room.frames
+spare_starts table t = (room_of table.room t).frames
 
 -- the row is of the thread's local n
 abbrev pub is_local : ℕ → ℕ → LocalRow → Bool

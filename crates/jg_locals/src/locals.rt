@@ -1,33 +1,41 @@
 ghost use Rattle.std.specs.Prelude.{◌≡◌, ℕ, ◌+◌, ◌<◌, ◌≤◌, ◌↔◌, ◌||◌, List, [], ◌∷◌, OnOk, OnErr, IsOk, IsNone, IsSome, IsTrue, All, false, length, slice_index_or};
 ghost use Rattle.std.specs.Option.{is_some, option_map};
 ghost use Rattle.jg_locals.specs.History.{Event, by, Start, Make, Push, Enter, Delete, Pop, Leave, End, acts_of, has_session, depth, frames, live, holds_object};
+ghost use Rattle.jg_lists.specs.Marks.{Marks};
 ghost use Rattle.jg_locals.specs.Standing.{Stands};
-ghost use Rattle.jg_locals.specs.Rows.{top, HasFrame, pushed, entered, spare, spare_starts};
+ghost use Rattle.jg_locals.specs.Rows.{top, HasFrame, pushed, entered, frame_number, depth_number, spare, spare_starts};
+ghost use Rattle.jg_locals.specs.Seen.{frame_row};
 
-use crate::list::{
-    all_below, close_activation, close_frame, close_thread, depth_of, end_activation, end_frame,
-    end_local, end_thread, mark_named, names_object, object_of, pushed_of, top_of,
+use crate::row::Frame;
+use crate::stack::Stack;
+use crate::stacks::{
+    add_stack, delete_at, drop_at, is_above_at, leave_at, make_at, mark_named_in, names_object_in,
+    object_at, open_at, pop_at, reserve_at, reserve_frame_at, top_at,
 };
-use crate::row::{FrameRow, LocalRow};
 use jg_words::{ObjId, Tid};
 use std::alloc::{AllocError, Allocator, Global};
+use std::collections::BTreeMap;
 use std::marker::Model;
 
 /// The live local references and the open frames of all threads. Contracts see the rows, and
 /// beside them the room that `reserve` and `reserve_start` make.
 #[derive(Drop)]
 pub struct Locals<A: Allocator = Global> {
-    locals: Vec<LocalRow, A>,
-    frames: Vec<FrameRow, A>,
+    stacks: BTreeMap<u16, Stack<A>, A>,
+    alloc: A,
 }
 
 impl<A: Allocator> Model for Locals<A> {
-    ghost use Rattle.std.specs.Prelude.{◌-◌, vec_len, vec_capacity};
+    ghost use Rattle.std.specs.BTreeMap.{IsOrdered};
+    ghost use Rattle.std.specs.Ordering.{nat_cmp};
     ghost use Rattle.jg_locals.specs.Rows.{Table};
+    ghost use Rattle.jg_locals.specs.Seen.{rows_seen, rooms_seen};
 
     ghost Value = { Table };
 
-    ghost view = { λ a. record { rows = record { locals = a.locals.items; frames = a.frames.items }; room = record { locals = vec_capacity a.locals - vec_len a.locals; frames = vec_capacity a.frames - vec_len a.frames } } };
+    ghost view = { λ a. record { rows = rows_seen a.stacks.entries; room = rooms_seen a.stacks.entries } };
+
+    ghost invariant = { λ a. IsOrdered nat_cmp a.stacks };
 }
 
 impl<A: Allocator + Clone> Locals<A> {
@@ -36,8 +44,8 @@ impl<A: Allocator + Clone> Locals<A> {
         ensures { Stands result.rows [] }
     {
         Locals {
-            locals: Vec::new(locals),
-            frames: Vec::new(frames),
+            stacks: BTreeMap::new(locals),
+            alloc: frames,
         }
     }
 
@@ -48,12 +56,8 @@ impl<A: Allocator + Clone> Locals<A> {
         ensures err { OnErr result (self.new.rows ≡ self.old.rows) }
         ensures room { 0 < spare_starts self.old tid.0 → IsOk result }
     {
-        self.frames.push(FrameRow {
-            tid: tid.0,
-            depth: 0,
-            frame: 0,
-        })?;
-        Ok(())
+        add_stack(&mut self.stacks, &self.alloc, tid.0)?;
+        open_at(&mut self.stacks, tid.0, Frame { depth: 0, frame: 0 })
     }
 
     /// Makes local `n` for the object, in the thread's newest frame. `n` is above the number of
@@ -66,33 +70,28 @@ impl<A: Allocator + Clone> Locals<A> {
         ensures room { 0 < spare self.old tid.0 → IsOk result }
         ensures lowered { spare self.old tid.0 ≤ spare self.new tid.0 + 1 }
     {
-        let top = top_of(&self.frames, tid.0).unwrap();
-        self.locals.push(LocalRow {
-            tid: tid.0,
-            n,
-            object: object.0,
-            depth: top.depth,
-            frame: top.frame,
-        })?;
-        Ok(())
+        let top = top_at(&self.stacks, tid.0).unwrap();
+        make_at(&mut self.stacks, tid.0, top, n, object.0)
     }
 
     /// Makes room for one more local of the thread, so that the next `make` can't fail.
-    pub fn reserve(&mut self, _tid: Tid) -> Result<(), AllocError>
-        ensures ok { OnOk result (0 < spare self.new _tid.0) }
+    pub fn reserve(&mut self, tid: Tid) -> Result<(), AllocError>
+        ensures ok { OnOk result (0 < spare self.new tid.0) }
         ensures rows { self.new.rows ≡ self.old.rows }
-        ensures starts { spare_starts self.old _tid.0 ≤ spare_starts self.new _tid.0 }
+        ensures starts { spare_starts self.old tid.0 ≤ spare_starts self.new tid.0 }
     {
-        self.locals.try_reserve(1)
+        add_stack(&mut self.stacks, &self.alloc, tid.0)?;
+        reserve_at(&mut self.stacks, tid.0)
     }
 
     /// Makes room for the thread's base frame, so that the next `start_thread` can't fail.
-    pub fn reserve_start(&mut self, _tid: Tid) -> Result<(), AllocError>
-        ensures ok { OnOk result (0 < spare_starts self.new _tid.0) }
+    pub fn reserve_start(&mut self, tid: Tid) -> Result<(), AllocError>
+        ensures ok { OnOk result (0 < spare_starts self.new tid.0) }
         ensures rows { self.new.rows ≡ self.old.rows }
-        ensures locals { spare self.old _tid.0 ≤ spare self.new _tid.0 }
+        ensures locals { spare self.old tid.0 ≤ spare self.new tid.0 }
     {
-        self.frames.try_reserve(1)
+        add_stack(&mut self.stacks, &self.alloc, tid.0)?;
+        reserve_frame_at(&mut self.stacks, tid.0)
     }
 
     /// Pushes a frame.
@@ -103,13 +102,15 @@ impl<A: Allocator + Clone> Locals<A> {
         ensures err { OnErr result (self.new.rows ≡ self.old.rows) }
         ensures room { spare self.old tid.0 ≤ spare self.new tid.0 }
     {
-        let top = top_of(&self.frames, tid.0).unwrap();
-        self.frames.push(FrameRow {
-            tid: tid.0,
-            depth: top.depth,
-            frame: top.frame + 1,
-        })?;
-        Ok(())
+        let top = top_at(&self.stacks, tid.0).unwrap();
+        open_at(
+            &mut self.stacks,
+            tid.0,
+            Frame {
+                depth: top.depth,
+                frame: top.frame + 1,
+            },
+        )
     }
 
     /// Enters a native method: a new activation, with an empty base frame.
@@ -120,13 +121,15 @@ impl<A: Allocator + Clone> Locals<A> {
         ensures err { OnErr result (self.new.rows ≡ self.old.rows) }
         ensures room { spare self.old tid.0 ≤ spare self.new tid.0 }
     {
-        let top = top_of(&self.frames, tid.0).unwrap();
-        self.frames.push(FrameRow {
-            tid: tid.0,
-            depth: top.depth + 1,
-            frame: 0,
-        })?;
-        Ok(())
+        let top = top_at(&self.stacks, tid.0).unwrap();
+        open_at(
+            &mut self.stacks,
+            tid.0,
+            Frame {
+                depth: top.depth + 1,
+                frame: 0,
+            },
+        )
     }
 
     /// Ends the thread's local `n`, if it is live.
@@ -134,7 +137,7 @@ impl<A: Allocator + Clone> Locals<A> {
         ensures stands { (e : List Event) → Stands self.old.rows e → Stands self.new.rows (by tid.0 (Delete n) ∷ e) }
         ensures room { spare self.old tid.0 ≤ spare self.new tid.0 }
     {
-        end_local(&mut self.locals, tid.0, n);
+        delete_at(&mut self.stacks, tid.0, n);
     }
 
     /// Pops the thread's newest frame, with the locals made in it. The test is `can_pop`.
@@ -143,9 +146,8 @@ impl<A: Allocator + Clone> Locals<A> {
         ensures stands { (e : List Event) → Stands self.old.rows e → Stands self.new.rows (by tid.0 Pop ∷ e) }
         ensures room { spare self.old tid.0 ≤ spare self.new tid.0 }
     {
-        let top = top_of(&self.frames, tid.0).unwrap();
-        end_frame(&mut self.locals, tid.0, top.depth, top.frame);
-        close_frame(&mut self.frames, tid.0, top.depth, top.frame);
+        let top = top_at(&self.stacks, tid.0).unwrap();
+        pop_at(&mut self.stacks, tid.0, top);
     }
 
     /// Leaves the native method, with all frames and locals of its activation.
@@ -154,17 +156,15 @@ impl<A: Allocator + Clone> Locals<A> {
         ensures stands { (e : List Event) → Stands self.old.rows e → Stands self.new.rows (by tid.0 Leave ∷ e) }
         ensures room { spare self.old tid.0 ≤ spare self.new tid.0 }
     {
-        let top = top_of(&self.frames, tid.0).unwrap();
-        end_activation(&mut self.locals, tid.0, top.depth);
-        close_activation(&mut self.frames, tid.0, top.depth);
+        let top = top_at(&self.stacks, tid.0).unwrap();
+        leave_at(&mut self.stacks, tid.0, top);
     }
 
     /// Ends the thread's session, with all its frames and locals.
     pub fn drop_thread(&mut self, tid: Tid)
         ensures { (e : List Event) → Stands self.old.rows e → Stands self.new.rows (by tid.0 End ∷ e) }
     {
-        end_thread(&mut self.locals, tid.0);
-        close_thread(&mut self.frames, tid.0);
+        drop_at(&mut self.stacks, tid.0);
     }
 
     /// The object that the thread's local `n` names, where it is live. What other threads did
@@ -173,7 +173,7 @@ impl<A: Allocator + Clone> Locals<A> {
         ensures live { (e : List Event) → Stands self.now.rows e → result ≡ option_map (λ o. record { 0 = o }) (live n (acts_of tid.0 e)) }
         ensures own_thread { (e f : List Event) → Stands self.now.rows e → acts_of tid.0 e ≡ acts_of tid.0 f → result ≡ option_map (λ o. record { 0 = o }) (live n (acts_of tid.0 f)) }
     {
-        id_of(object_of(&self.locals, tid.0, n))
+        id_of(object_at(&self.stacks, tid.0, n))
     }
 
     /// Whether a frame was pushed at the thread's present depth and isn't popped. What other
@@ -183,10 +183,7 @@ impl<A: Allocator + Clone> Locals<A> {
         ensures frames { (e : List Event) → Stands self.now.rows e → IsTrue result ↔ (0 < frames (depth (acts_of tid.0 e)) (acts_of tid.0 e)) }
         ensures own_thread { (e f : List Event) → Stands self.now.rows e → acts_of tid.0 e ≡ acts_of tid.0 f → IsTrue result ↔ (0 < frames (depth (acts_of tid.0 f)) (acts_of tid.0 f)) }
     {
-        match top_of(&self.frames, tid.0) {
-            Some(top) => top.frame > 0,
-            None => false,
-        }
+        frame_in(top_at(&self.stacks, tid.0)) > 0
     }
 
     /// How many frames were pushed at the thread's present depth and aren't popped: 0 where the
@@ -195,7 +192,7 @@ impl<A: Allocator + Clone> Locals<A> {
         ensures rows { result ≡ pushed tid.0 self.now.rows }
         ensures history { (e : List Event) → Stands self.now.rows e → result ≡ frames (depth (acts_of tid.0 e)) (acts_of tid.0 e) }
     {
-        pushed_of(&self.frames, tid.0)
+        frame_in(top_at(&self.stacks, tid.0))
     }
 
     /// How many native methods the thread has entered in its session and not left: 0 where it has
@@ -204,7 +201,7 @@ impl<A: Allocator + Clone> Locals<A> {
         ensures rows { result ≡ entered tid.0 self.now.rows }
         ensures history { (e : List Event) → Stands self.now.rows e → result ≡ depth (acts_of tid.0 e) }
     {
-        depth_of(&self.frames, tid.0)
+        depth_in(top_at(&self.stacks, tid.0))
     }
 
     /// Whether the thread has a session.
@@ -212,7 +209,7 @@ impl<A: Allocator + Clone> Locals<A> {
         ensures rows { result ≡ is_some (top tid.0 self.now.rows.frames) }
         ensures history { (e : List Event) → Stands self.now.rows e → result ≡ has_session (acts_of tid.0 e) }
     {
-        top_of(&self.frames, tid.0).is_some()
+        top_at(&self.stacks, tid.0).is_some()
     }
 
     /// Whether `n` is above the number of each live local of the thread.
@@ -220,22 +217,22 @@ impl<A: Allocator + Clone> Locals<A> {
         ensures rows { IsTrue result ↔ All (λ row. row.tid ≡ tid.0 → row.n < n) self.now.rows.locals }
         ensures history { (e : List Event) → Stands self.now.rows e → IsTrue result ↔ ((k : ℕ) → IsSome (live k (acts_of tid.0 e)) → k < n) }
     {
-        all_below(&self.locals, tid.0, n)
+        is_above_at(&self.stacks, tid.0, n)
     }
 
     /// Whether a live local of some thread names the object.
     pub fn holds_object(&self, object: ObjId) -> bool
         ensures { (e : List Event) → Stands self.now.rows e → result ≡ holds_object e object.0 }
     {
-        names_object(&self.locals, object.0)
+        names_object_in(&self.stacks, object.0)
     }
 
     /// Sets the mark of each object that a live local of some thread names, and leaves the
     /// others. `marks` counts objects by their numbers; those past its end are passed over.
     pub fn mark_held(&self, marks: &mut [bool])
-        ensures { (e : List Event) → Stands self.now.rows e → (o : ℕ) → o < length marks.old → slice_index_or marks.new o false ≡ (slice_index_or marks.old o false || holds_object e o) }
+        ensures { (e : List Event) → Stands self.now.rows e → Marks (holds_object e) marks.old marks.new }
     {
-        mark_named(&self.locals, marks);
+        mark_named_in(&self.stacks, marks);
     }
 }
 
@@ -245,5 +242,23 @@ fn id_of(object: Option<u64>) -> Option<ObjId>
     match object {
         None => None,
         Some(object) => Some(ObjId(object)),
+    }
+}
+
+fn frame_in(top: Option<Frame>) -> u64
+    ensures { (t : ℕ) → result ≡ frame_number (option_map (frame_row t) top) }
+{
+    match top {
+        None => 0,
+        Some(top) => top.frame,
+    }
+}
+
+fn depth_in(top: Option<Frame>) -> u64
+    ensures { (t : ℕ) → result ≡ depth_number (option_map (frame_row t) top) }
+{
+    match top {
+        None => 0,
+        Some(top) => top.depth,
     }
 }

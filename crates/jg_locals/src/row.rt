@@ -1,19 +1,19 @@
-/// A live local reference as the table shows it: its thread, number and object, with the depth
-/// and the number of open frames just after its making.
+/// A local as a thread's stack keeps it: its number and object, the depth and the number of open
+/// frames just after its making, and whether it is live. A dead one stays until the list is
+/// closed up or cut.
 #[derive(Clone, Copy, Debug, PartialEq, Eq)]
-pub struct LocalRow {
-    pub tid: u16,
+pub struct Slot {
     pub n: u64,
     pub object: u64,
     pub depth: u64,
     pub frame: u64,
+    pub live: bool,
 }
 
-/// An open frame as the table shows it: `frame` is 0 for what an activation began with, and
-/// those pushed in it count from 1.
+/// An open frame: `frame` is 0 for what an activation began with, and those pushed in it count
+/// from 1.
 #[derive(Clone, Copy, Debug, PartialEq, Eq)]
-pub struct FrameRow {
-    pub tid: u16,
+pub struct Frame {
     pub depth: u64,
     pub frame: u64,
 }

@@ -91,6 +91,49 @@ fn each_way_to_end(rt: HostRuntime) -> Result<(), Fail> {
     Ok(())
 }
 
+/// Deletions in any order leave exactly the others, and an ended number can be made again.
+#[test]
+fn deletions_close_up(rt: HostRuntime) -> Result<(), Fail> {
+    let mut locals = Locals::new(rt.alloc(), rt.alloc());
+    start(&rt, &mut locals, T)?;
+    for n in 1..101u64 {
+        make(&rt, &mut locals, n)?;
+    }
+    for n in 1..101u64 {
+        if n % 3 != 0 {
+            locals.delete(T, n);
+        }
+        assert_eq!(rt; locals.get(T, n).is_some(), n % 3 == 0);
+    }
+    for n in 1..101u64 {
+        assert_eq!(rt; locals.get(T, n).is_some(), n % 3 == 0);
+    }
+    locals.delete(T, 99);
+    assert!(rt; locals.is_above(T, 97));
+    make(&rt, &mut locals, 98)?;
+    assert_eq!(rt; locals.get(T, 98), Some(ObjId(98)));
+    assert_eq!(rt; locals.get(T, 99), None);
+    Ok(())
+}
+
+/// What one thread does leaves another's locals and frames.
+#[test]
+fn threads_apart(rt: HostRuntime) -> Result<(), Fail> {
+    let other = Tid(2);
+    let mut locals = Locals::new(rt.alloc(), rt.alloc());
+    start(&rt, &mut locals, other)?;
+    start(&rt, &mut locals, T)?;
+    push(&rt, &mut locals)?;
+    make(&rt, &mut locals, 1)?;
+    assert_eq!(rt; locals.get(other, 1), None);
+    assert!(rt; !locals.can_pop(other));
+    locals.drop_thread(other);
+    assert!(rt; !locals.has_session(other));
+    assert_eq!(rt; locals.get(T, 1), Some(ObjId(1)));
+    assert!(rt; locals.can_pop(T));
+    Ok(())
+}
+
 /// A call that may be refused for want of memory.
 #[derive(Clone, Copy, Debug)]
 enum Growth {

@@ -3,3 +3,4 @@ pub mod Lists
 pub mod Lookups
 pub mod Splits
 pub mod Steps
+mod Pairs

@@ -1,8 +1,9 @@
 -- What the look-ups answer where the rows stand.
 use Rattle.std.proofs.Common.{◌≡◌, ℕ, ◌<◌, Bool, true, false, List, [], ◌∷◌, Option, Some, None, refl, ◌∙◌, ap, sym, subst, arith}
-use Rattle.std.specs.Prelude.{◌==◌, ◌||◌, if◌then◌else◌, map, slice_get, slice_set}
+use Rattle.std.specs.Prelude.{◌==◌, ◌||◌, if◌then◌else◌, map}
+use Rattle.std.specs.Prelude.{Result, Ok, Err, OnErr}
 use Rattle.std.specs.List.{list_any}
-use Rattle.std.specs.Option.{option_map, is_some as is_there}
+use Rattle.std.specs.Option.{is_some as is_there}
 use Rattle.std.specs.Map.{lookup, keys_of}
 use Rattle.std.specs.BTreeMap.{is_at}
 use Rattle.std.specs.Ordering.{nat_cmp}
@@ -13,7 +14,7 @@ use Rattle.jg_monitors.specs.Rows.{Rows, is_of, row_of, owner_in, count_in}
 use Rattle.jg_monitors.specs.Seen.{seen, count_by_owner}
 use Rattle.jg_monitors.specs.Standing.{AllAllowed, rows_of, Stands}
 use Rattle.jg_monitors.specs.Laws.{RowTells}
-use Rattle.jg_monitors.proofs.Lists.{first, slice_get-set, marked_twice}
+use Rattle.jg_monitors.proofs.Lists.{first}
 use Rattle.jg_monitors.proofs.Counting.{owner_is, no_owner}
 use Rattle.jg_monitors.proofs.Steps.{row_at, find_first, found_row, at_key, Tells, tells}
 
@@ -118,10 +119,7 @@ key_law o (e ∷ es) = keys_found o e es (e.0 == o) (key_law o es) ∙ ap (λ b.
 pub any_key_law : (es : List (ℕ × Owned)) (e : List Event) (o : ℕ) → Stands (record { owned = map seen es }) e → list_any (λ k. k == o) (keys_of es) ≡ held e o
 any_key_law es e o stands = key_law o es ∙ held_law es e o stands
 
--- the mark of one more key
-pub mark_step : (marks : List Bool) (k o : ℕ) (left rest : List ℕ) (whole : Option Bool) → left ≡ k ∷ rest
-    → option_map (λ mark. mark || list_any (λ j. j == o) left) (slice_get marks o) ≡ whole
-    → option_map (λ mark. mark || list_any (λ j. j == o) rest) (slice_get (slice_set marks k true) o) ≡ whole
-mark_step marks k o left rest whole is was =
-    let P : List ℕ → Type 0 = λ l. option_map (λ mark. mark || list_any (λ j. j == o) l) (slice_get marks o) ≡ whole in
-    rw (slice_get-set marks k o, marked_twice (k == o) (list_any (λ j. j == o) rest) (slice_get marks o)) (subst P is was)
+-- a fact holds where a call failed, too
+pub on_err : {T E : Type 0} (result : Result T E) (P : Type 0) → P → OnErr result P
+on_err (Ok x) P p = tt
+on_err (Err x) P p = p

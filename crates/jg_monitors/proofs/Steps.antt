@@ -9,7 +9,7 @@ use Rattle.std.specs.Cmp.{nat_cmp_total, eq_by_cmp_equiv}
 use Rattle.std.specs.List.Sorted.{IsStrictlySortedBy}
 use Rattle.std.proofs.lemmas.Bool.Decides.{nat_tests}
 use Rattle.std.proofs.lemmas.Map.{lookup-none}
-use Rattle.std.proofs.lemmas.Map.Entries.{none_past_head, lookup-filter-values, option_filter}
+use Rattle.std.proofs.lemmas.Map.Entries.{none_past_head, option_filter}
 use Rattle.std.proofs.lemmas.Map.Keys.{sorted_tail, IsDistinct-from_sorted}
 use Rattle.jg_monitors.specs.declared.owned.Owned.{Owned}
 use Rattle.jg_monitors.specs.History.{Enter, Exit, ReleaseAll, Event, by, count, owner}
@@ -227,9 +227,9 @@ release_each : (e : List Event) (t q : ℕ) (found : Option Owned) → AllAllowe
 release_each e t q None all told = λ u. released_by e t u q (t == u) refl (told u)
 release_each e t q (Some w) all told = release_owned e t q w (w.tid == t) refl all told
 
-pub release_law : (es news : List (ℕ × Owned)) (e : List Event) (t : ℕ) → Stands (record { owned = map seen es }) e → IsStrictlySortedBy nat_cmp (keys_of es)
-    → IsStrictlySortedBy nat_cmp (keys_of news) → news ≡ filter (λ x. not (x.1.tid == t)) es
+pub release_law : (es news : List (ℕ × Owned)) (e : List Event) (t : ℕ) → Stands (record { owned = map seen es }) e
+    → IsStrictlySortedBy nat_cmp (keys_of news) → ((q : ℕ) → lookup (is_at (nat_cmp q)) news ≡ option_filter (λ w. not (w.tid == t)) (lookup (is_at (nat_cmp q)) es))
     → Stands (record { owned = map seen news }) (by t ReleaseAll ∷ e)
-release_law es news e t stands was sorted is =
+release_law es news e t stands sorted is =
     stands_by news (by t ReleaseAll ∷ e) (stands.allowed, tt) sorted
-    (λ q. rw (is, lookup-filter-values (eq_by_cmp_equiv nat_cmp_total) (λ w. not (w.tid == t)) q es (IsDistinct-from_sorted nat_cmp (keys_of es) was)) (release_each e t q (lookup (is_at (nat_cmp q)) es) stands.allowed (tells es e q stands)))
+    (λ q. rw (is q) (release_each e t q (lookup (is_at (nat_cmp q)) es) stands.allowed (tells es e q stands)))

@@ -1,4 +1,6 @@
 -- Monitors, told by looking back. A list of events has the newest first.
+use Rattle.jg_lists.specs.Acts as acts
+pub use Rattle.jg_lists.specs.Acts.{by, acts_of, how_many}
 use Rattle.std.specs.Prelude.{ℕ, ◌+◌, ◌-◌, Bool, true, false, ◌==◌, nat_lt, if◌then◌else◌, List, [], ◌∷◌, map, Option, Some, None}
 use Rattle.std.specs.List.{find}
 use Rattle.jg_monitors.specs.declared.entering.Entering.{Entering}
@@ -10,18 +12,9 @@ pub data Act : Type 0 where
   Exit : (object : ℕ) → Act
   ReleaseAll : Act
 
--- an act, with the thread that did it. An attempt to enter that found the monitor busy is no event
-pub record Event : Type 0 where
-  pub tid : ℕ
-  pub act : Act
-
-abbrev pub by : ℕ → Act → Event
-by t a = record { tid = t; act = a }
-
--- what the thread did
-abbrev pub acts_of : ℕ → List Event → List Act
-acts_of t [] = []
-acts_of t (ev ∷ e) = if ev.tid == t then ev.act ∷ acts_of t e else acts_of t e
+-- an act, with the thread that did it
+abbrev pub Event : Type 0
+Event = acts.Event Act
 
 -- what it did since it last released all
 abbrev pub since : List Act → List Act
@@ -38,10 +31,6 @@ enters o a = false
 abbrev pub exits : ℕ → Act → Bool
 exits o (Exit p) = p == o
 exits o a = false
-
-abbrev pub how_many : (Act → Bool) → List Act → ℕ
-how_many kind [] = 0
-how_many kind (a ∷ acts) = if kind a then how_many kind acts + 1 else how_many kind acts
 
 -- how often the thread entered the monitor and didn't exit it since it last released all (JNI chapter 4, "MonitorEnter" and "MonitorExit")
 abbrev pub count : List Event → ℕ → ℕ → ℕ

@@ -1,4 +1,5 @@
 pub mod History
+pub mod Keys
 pub mod Laws
 pub mod Rows
 pub mod Seen

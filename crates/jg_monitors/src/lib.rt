@@ -3,6 +3,8 @@
 #![tactic(auto)]
 
 mod entering;
+mod held;
+mod holdings;
 mod meanings;
 mod monitors;
 mod owned;

@@ -1,10 +1,12 @@
-ghost use Rattle.std.specs.Prelude.{◌≡◌, ℕ, ◌+◌, ◌<◌, ◌||◌, List, [], ◌∷◌, Some, IfOk, OnErr, option_map, slice_get};
+ghost use Rattle.std.specs.Prelude.{◌≡◌, ℕ, ◌+◌, ◌<◌, List, [], ◌∷◌, None, Some, IfOk, OnErr, option_map};
 ghost use Rattle.jg_monitors.specs.History.{Event, by, Enter, Exit, ReleaseAll, owner, owner_count, held, entering};
 ghost use Rattle.jg_monitors.specs.Rows.{row_of, owner_in, count_in};
 ghost use Rattle.jg_monitors.specs.Standing.{Stands};
+ghost use Rattle.jg_lists.specs.Marks.{Marks};
 
 use crate::entering::Entering;
-use crate::owned::{Owned, look, lower, mark_keys, own_count, put, release};
+use crate::holdings::{lower, put, release};
+use crate::owned::{Owned, look, mark_keys, own_count};
 use jg_words::{ObjId, Tid};
 use std::alloc::{AllocError, Allocator, Global};
 use std::collections::BTreeMap;
@@ -14,25 +16,33 @@ use std::marker::Model;
 #[derive(Drop)]
 pub struct Monitors<A: Allocator = Global> {
     owned: BTreeMap<u64, Owned, A>,
+    /// The same by thread and object, for a release of all that one thread owns.
+    held: BTreeMap<(u32, u64), (), A>,
 }
 
 impl<A: Allocator> Model for Monitors<A> {
     ghost use Rattle.std.specs.Prelude.{map};
     ghost use Rattle.jg_monitors.specs.Rows.{Rows};
     ghost use Rattle.jg_monitors.specs.Seen.{seen};
+    ghost use Rattle.jg_monitors.specs.Keys.{Agree};
+    ghost use Rattle.std.specs.BTreeMap.{IsOrdered};
+    ghost use Rattle.std.specs.Ordering.{nat_cmp};
 
     ghost Value = { Rows };
 
     ghost view = { λ a. record { owned = map seen a.owned.entries } };
+
+    ghost invariant = { λ a. IsOrdered nat_cmp a.owned × Agree a.owned a.held };
 }
 
 impl<A: Allocator + Clone> Monitors<A> {
-    /// No monitor is owned. Takes no memory.
-    pub fn new(alloc: A) -> Monitors<A>
+    /// No monitor is owned. Takes no memory; the two maps grow from the two handles.
+    pub fn new(owned: A, held: A) -> Monitors<A>
         ensures { Stands result [] }
     {
         Monitors {
-            owned: BTreeMap::new(alloc),
+            owned: BTreeMap::new(owned),
+            held: BTreeMap::new(held),
         }
     }
 
@@ -46,6 +56,7 @@ impl<A: Allocator + Clone> Monitors<A> {
         ensures entered { IfOk result (λ answer. answer ≡ Entering.Entered → (e : List Event) → Stands self.old e → Stands self.new (by tid.0 (Enter object.0) ∷ e)) }
         ensures busy { IfOk result (λ answer. answer ≡ Entering.Busy → self.new ≡ self.old) }
         ensures err { OnErr result (self.new ≡ self.old) }
+        ensures free { OnErr result (owner_in (row_of object.0 self.old) ≡ None) }
     {
         let found = look(&self.owned, object.0);
         let Some(count) = own_count(found, tid.0) else {
@@ -53,6 +64,7 @@ impl<A: Allocator + Clone> Monitors<A> {
         };
         put(
             &mut self.owned,
+            &mut self.held,
             object.0,
             Owned {
                 tid: tid.0,
@@ -68,7 +80,7 @@ impl<A: Allocator + Clone> Monitors<A> {
         requires { owner_in (row_of object.0 self.old) ≡ Some tid.0 }
         ensures { (e : List Event) → Stands self.old e → Stands self.new (by tid.0 (Exit object.0) ∷ e) }
     {
-        lower(&mut self.owned, object.0);
+        lower(&mut self.owned, &mut self.held, tid.0, object.0);
     }
 
     /// The thread that owns the monitor of the object.
@@ -98,7 +110,7 @@ impl<A: Allocator + Clone> Monitors<A> {
     pub fn release_all(&mut self, tid: Tid)
         ensures { (e : List Event) → Stands self.old e → Stands self.new (by tid.0 ReleaseAll ∷ e) }
     {
-        release(&mut self.owned, tid.0);
+        release(&mut self.owned, &mut self.held, tid.0);
     }
 
     /// Whether some thread owns the monitor of the object.
@@ -111,7 +123,7 @@ impl<A: Allocator + Clone> Monitors<A> {
     /// Sets the mark of each object whose monitor is owned and leaves the other marks. An object
     /// past the end of `marks` is passed over.
     pub fn mark_held(&self, marks: &mut [bool])
-        ensures { (e : List Event) → Stands self.now e → (o : ℕ) → slice_get marks.new o ≡ option_map (λ mark. mark || held e o) (slice_get marks.old o) }
+        ensures { (e : List Event) → Stands self.now e → Marks (held e) marks.old marks.new }
     {
         mark_keys(&self.owned, marks);
     }

@@ -1,9 +1,11 @@
-ghost use Rattle.std.specs.Prelude.{◌≡◌, ℕ, ◌==◌, ◌||◌, not, true, if◌then◌else◌, filter, Some, OnOk, OnErr, option_map, slice_get, slice_set};
+ghost use Rattle.std.specs.Prelude.{◌≡◌, ℕ, ◌==◌, if◌then◌else◌, None, Some, OnOk, OnErr};
 ghost use Rattle.std.specs.Ordering.{nat_cmp};
 ghost use Rattle.std.specs.List.{list_any};
 ghost use Rattle.jg_monitors.specs.Seen.{count_by_owner, lowered};
 ghost use Rattle.std.specs.BTreeMap.{get, keys, IsOrdered};
+ghost use Rattle.jg_lists.specs.Marks.{Marks};
 
+use jg_lists::mark;
 use std::alloc::{AllocError, Allocator};
 use std::collections::BTreeMap;
 
@@ -36,7 +38,7 @@ pub fn own_count(found: Option<Owned>, tid: u16) -> Option<u64>
     }
 }
 
-pub fn put<A: Allocator + Clone>(
+pub fn set_owner<A: Allocator + Clone>(
     map: &mut BTreeMap<u64, Owned, A>,
     object: u64,
     owned: Owned,
@@ -44,13 +46,14 @@ pub fn put<A: Allocator + Clone>(
     ensures put { OnOk result ((q : ℕ) → get nat_cmp map.new q ≡ (if object == q then Some owned else get nat_cmp map.old q)) }
     ensures ordered { OnOk result (IsOrdered nat_cmp map.new) }
     ensures err { OnErr result (map.new.entries ≡ map.old.entries) }
+    ensures absent { OnErr result (get nat_cmp map.old object ≡ None) }
 {
     map.insert(object, owned)?;
     Ok(())
 }
 
 /// Lowers the count of the object's monitor by one, and frees it at 0. Takes no memory.
-pub fn lower<A: Allocator>(map: &mut BTreeMap<u64, Owned, A>, object: u64)
+pub fn lower_count<A: Allocator>(map: &mut BTreeMap<u64, Owned, A>, object: u64)
     ensures lowered { (q : ℕ) → get nat_cmp map.new q ≡ (if object == q then lowered (get nat_cmp map.old q) else get nat_cmp map.old q) }
     ensures ordered { IsOrdered nat_cmp map.new }
 {
@@ -63,27 +66,18 @@ pub fn lower<A: Allocator>(map: &mut BTreeMap<u64, Owned, A>, object: u64)
     map.remove(&object);
 }
 
-pub fn release<A: Allocator>(map: &mut BTreeMap<u64, Owned, A>, tid: u16)
-    ensures kept { map.new.entries ≡ filter (λ e. not (e.1.tid == tid)) map.old.entries }
+/// Frees the object's monitor. Takes no memory.
+pub fn free<A: Allocator>(map: &mut BTreeMap<u64, Owned, A>, object: u64)
+    ensures freed { (q : ℕ) → get nat_cmp map.new q ≡ (if object == q then None else get nat_cmp map.old q) }
     ensures ordered { IsOrdered nat_cmp map.new }
-    ensures was_ordered { IsOrdered nat_cmp map.old }
 {
-    map.retain(|_object: &u64, owned: &mut Owned| owned.tid != tid);
+    map.remove(&object);
 }
 
 pub fn mark_keys<A: Allocator>(map: &BTreeMap<u64, Owned, A>, marks: &mut [bool])
-    ensures { (o : ℕ) → slice_get marks.new o ≡ option_map (λ mark. mark || list_any (λ k. k == o) (keys map.now)) (slice_get marks.old o) }
+    ensures { Marks (λ o. list_any (λ k. k == o) (keys map.now)) marks.old marks.new }
 {
     for object in map.keys() {
         mark(marks, *object);
-    }
-}
-
-fn mark(marks: &mut [bool], object: u64)
-    ensures { marks.new ≡ slice_set marks.old object true }
-{
-    let index = object as usize;
-    if index < marks.len() {
-        marks[index] = true;
     }
 }

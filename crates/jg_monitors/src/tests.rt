@@ -12,7 +12,7 @@ const TEXT: ObjId = ObjId(15);
 
 #[test]
 fn entered_twice(rt: HostRuntime) -> Result<(), Fail> {
-    let mut table = Monitors::new(rt.alloc());
+    let mut table = Monitors::new(rt.alloc(), rt.alloc());
     assert_eq!(rt; table.owner(TEXT), None);
     assert_eq!(rt; table.count(TEXT), 0);
     assert!(rt; table.count(TEXT) < u64::MAX);
@@ -37,7 +37,7 @@ fn entered_twice(rt: HostRuntime) -> Result<(), Fail> {
 
 #[test]
 fn released_with_the_session(rt: HostRuntime) -> Result<(), Fail> {
-    let mut table = Monitors::new(rt.alloc());
+    let mut table = Monitors::new(rt.alloc(), rt.alloc());
     assert!(rt; table.count(ObjId(1)) < u64::MAX);
     assert_eq!(rt; table.enter(T1, ObjId(1))?, Entering::Entered);
     assert!(rt; table.count(ObjId(2)) < u64::MAX);
@@ -68,7 +68,7 @@ fn ballast<'a>(heap: &'a LocalHeap) -> Vec<u8, &'a LocalHeap> {
 #[test]
 fn refused_growth(rt: HostRuntime) -> Result<(), Fail> {
     let heap = LocalHeap::new(rt.alloc(), 4096)?;
-    let mut table = Monitors::new(&heap);
+    let mut table = Monitors::new(&heap, &heap);
     let block = ballast(&heap);
     assert!(rt; table.count(TEXT) < u64::MAX);
     assert!(rt; table.enter(T1, TEXT).is_err());

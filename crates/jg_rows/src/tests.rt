@@ -23,7 +23,7 @@ struct Row {
 
 /// A new guard answers the row's script as the row says.
 fn comes_out(alloc: Global, row: &Row) -> Result<(), Fail> {
-    let mut guard = Guard::new(alloc, Setup::closed(alloc), row.limit)?;
+    let mut guard = Guard::new(alloc, alloc, Setup::closed(alloc), row.limit)?;
     let mut reader = Watched::new(row.script.as_bytes());
     let mut writer = Watched::new(Vec::new(alloc));
     if check(alloc, &mut guard, &mut reader, &mut writer) != row.result {

@@ -7,7 +7,8 @@ use Rattle.jg_words.specs.declared.reference.Kind.TheVariants.{Local, Global, We
 use Rattle.jg_words.specs.declared.reference.Ref.{Ref}
 use Rattle.jg_words.specs.declared.reference.Ref.TheVariants.{Null, To}
 use Rattle.jg_words.specs.declared.value.Value.{Value}
-use Rattle.jg_words.specs.declared.value.Value.TheVariants.{Ok as Done, Number as Amount, Truth, Null as NullAnswer, Reference, Environment, Detached as NotAttached}
+use Rattle.jg_words.specs.declared.value.Value.TheVariants.{Ok as Done, Number as Amount, Truth, Null as NullAnswer, Reference, Environment, Detached as NotAttached, Throw as Threw}
+use Rattle.jg_words.specs.declared.value.Thrown.{Thrown}
 use Rattle.jg_words.specs.declared.call.Call.{Call}
 use Rattle.jg_words.specs.declared.call.Call.TheVariants.{Vm, Refs, Frames, Strings}
 use Rattle.jg_words.specs.declared.call.vm.VmCall.{VmCall}
@@ -24,15 +25,27 @@ use Rattle.jg_rules.specs.declared.answer.Answer.{Answer}
 use Rattle.jg_rules.specs.declared.named.Named.{Named}
 use Rattle.jg_rules.specs.declared.named.Named.TheVariants.{Nothing}
 use Rattle.jg_rules.specs.Parts.{Parts}
+use Rattle.jg_rules.specs.Access.{warns}
 use Rattle.jg_rules.specs.Names.{names, object_named, object_count, units_named, session, next_ref}
 
-abbrev pub plain : Value → Answer
-plain value = record { value = value; object = None }
+abbrev pub saying : Value → Option ObjId → Answer
+saying value object = record { reply = record { value = value; warned = false }; object = object }
 
--- a new local reference for the object, or null for null
-abbrev pub handed : Parts → Tid → Option ℕ → Answer
-handed p t None = plain NullAnswer
-handed p t (Some o) = record { value = Reference (To Local t (next_ref p t.0)); object = Some (record { 0 = o }) }
+abbrev pub plain : Value → Answer
+plain value = saying value None
+
+-- a new reference of the kind for the object, or null for null
+abbrev pub handed : Parts → Tid → Kind → Option ℕ → Answer
+handed p t kind None = plain NullAnswer
+handed p t kind (Some o) = saying (Reference (To kind t (next_ref p t.0))) (Some (record { 0 = o }))
+
+-- a new exception
+abbrev pub thrown : StatedSetup → Parts → Thrown → Answer
+thrown s p kind = saying (Threw kind) (Some (record { 0 = object_count s p }))
+
+-- the same with a warning, where one is due for a use of native code by the class
+abbrev pub admitted : StatedSetup → Parts → Option ℕ → Answer → Answer
+admitted s p class a = record { reply = record { value = a.reply.value; warned = warns s p class }; object = a.object }
 
 abbrev pub present_env : Tid → Option ℕ → Value
 present_env t None = NotAttached
@@ -59,7 +72,7 @@ ref_type named (To Global maker n) = pos 2
 ref_type named (To Weak maker n) = pos 3
 
 abbrev pub refs_answer : Parts → Tid → RefsCall → Answer
-refs_answer p t (NewLocalRef r) = handed p t (object_named p t.0 r)
+refs_answer p t (NewLocalRef r) = handed p t Local (object_named p t.0 r)
 refs_answer p t (DeleteLocalRef r) = plain Done
 refs_answer p t (IsSameObject r u) = plain (Truth (same_object (object_named p t.0 r) (object_named p t.0 u)))
 refs_answer p t (GetObjectRefType r) = plain (Amount (ref_type (names p t.0 r) r))
@@ -67,10 +80,10 @@ refs_answer p t (GetObjectRefType r) = plain (Amount (ref_type (names p t.0 r) r
 -- what `kept` names gets a reference in the frame below (JNI Specification, chapter 4, PopLocalFrame)
 abbrev pub frames_answer : Parts → Tid → FramesCall → Answer
 frames_answer p t (PushLocalFrame capacity) = plain Done
-frames_answer p t (PopLocalFrame kept) = handed p t (object_named p t.0 kept)
+frames_answer p t (PopLocalFrame kept) = handed p t Local (object_named p t.0 kept)
 
 abbrev pub strings_answer : StatedSetup → Parts → Tid → StringsCall → Answer
-strings_answer s p t (NewString units) = handed p t (Some (object_count s p))
+strings_answer s p t (NewString units) = handed p t Local (Some (object_count s p))
 strings_answer s p t (GetStringLength r) = plain (Amount (pos (length (units_named s p (object_named p t.0 r)))))
 
 abbrev pub answer : StatedSetup → Parts → Tid → Call → Answer

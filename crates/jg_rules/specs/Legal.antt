@@ -14,14 +14,14 @@ use Rattle.jg_rules.specs.Effects.{parts, passed_on}
 use Rattle.jg_rules.specs.Rules.{verdict}
 use Rattle.jg_rules.specs.Answers.{answer}
 
--- denied by the rule, or passed with the answer; nothing asks for restricted access yet, so nothing is warned
+-- denied by the rule, or passed with the answer
 abbrev pub entry_by : Option Rule → Answer → Tid → Option EnvId → Call → Entry
 entry_by (Some rule) a t env call = record { tid = t; env = env; call = call; outcome = Denied rule; object = None }
-entry_by None a t env call = record { tid = t; env = env; call = call; outcome = Passed (record { value = a.value; warned = false }); object = a.object }
+entry_by None a t env call = record { tid = t; env = env; call = call; outcome = Passed a.reply; object = a.object }
 
 -- the parts after a call that passes with this answer
-abbrev pub answered : Parts → Tid → Call → Answer → Parts
-answered p t call a = passed_on t.0 call (record { value = a.value; warned = false }) a.object p
+abbrev pub answered : StatedSetup → Parts → Tid → Call → Answer → Parts
+answered s p t call a = passed_on s t.0 call a.reply a.object p
 
 -- the entry of a call, as the entries before it leave the machine
 abbrev pub entry_at : StatedSetup → Parts → Tid → Option EnvId → Call → Entry
@@ -30,7 +30,7 @@ entry_at s p t env call = entry_by (verdict s p t.0 env call) (answer s p t call
 -- each entry is the one that its call has at the entries before it: denied by the first broken rule, else passed with the answer
 abbrev pub Legal : StatedSetup → List Entry → Type 0
 Legal s [] = Unit {0}
-Legal s (x ∷ h) = (x ≡ entry_at s (parts h) x.tid x.env x.call) × Legal s h
+Legal s (x ∷ h) = (x ≡ entry_at s (parts s h) x.tid x.env x.call) × Legal s h
 
 -- a call as it is asked for
 pub record Asked : Type 0 where
@@ -48,7 +48,7 @@ calls_of h = map asked_in h
 -- the history of these calls, the newest call first
 abbrev pub history_of : StatedSetup → List Asked → List Entry
 history_of s [] = []
-history_of s (c ∷ calls) = entry_at s (parts (history_of s calls)) c.tid c.env c.call ∷ history_of s calls
+history_of s (c ∷ calls) = entry_at s (parts s (history_of s calls)) c.tid c.env c.call ∷ history_of s calls
 
 -- the history of these calls, in the order in which they are made
 abbrev pub replay : StatedSetup → List Asked → List Entry

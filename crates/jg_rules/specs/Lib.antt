@@ -1,5 +1,7 @@
 pub mod Parts
 pub mod Names
+pub mod Access
+pub mod Passing
 pub mod Operands
 pub mod Effects
 pub mod Rules

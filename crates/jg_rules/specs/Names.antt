@@ -6,6 +6,9 @@ use Rattle.jg_words.specs.declared.reference.Kind.TheVariants.{Local, Global, We
 use Rattle.jg_policy.specs.Stated.{StatedSetup, class_count}
 use Rattle.jg_threads.specs.History as threads
 use Rattle.jg_locals.specs.History as locals
+use Rattle.jg_globals.specs.History as globals
+use Rattle.jg_globals.specs.declared.target.Target.{Target}
+use Rattle.jg_globals.specs.declared.target.Target.TheVariants.{Object as ToObject, Cleared}
 use Rattle.jg_heap.specs.History as heap
 use Rattle.jg_heap.specs.Making.{class_in, units_in}
 use Rattle.jg_rules.specs.declared.named.Named.{Named}
@@ -16,13 +19,18 @@ abbrev pub named_by : Option ℕ → Named
 named_by None = Nothing
 named_by (Some o) = Object (record { 0 = o })
 
--- what a reference names for t: a local is valid in its own thread alone (JNI Specification, chapter 2, "Local References");
--- no global or weak reference is handed out yet
+-- a cleared weak reference counts as null (chapter 4, "Weak Global References")
+abbrev pub named_by_target : Option Target → Named
+named_by_target None = Nothing
+named_by_target (Some (ToObject o)) = Object o
+named_by_target (Some Cleared) = NamesNull
+
+-- what a reference names for t: a local is valid in its own thread alone (JNI Specification, chapter 2, "Local References")
 abbrev pub names : Parts → ℕ → Ref → Named
 names p t Null = NamesNull
 names p t (To Local maker n) = if maker.0 == t then named_by (locals.live n (locals.acts_of t p.locals)) else Nothing
-names p t (To Global maker n) = Nothing
-names p t (To Weak maker n) = Nothing
+names p t (To Global maker n) = named_by_target (globals.target_of p.globals (To Global maker n))
+names p t (To Weak maker n) = named_by_target (globals.target_of p.globals (To Weak maker n))
 
 abbrev pub object_in : Named → Option ℕ
 object_in Nothing = None
@@ -61,6 +69,13 @@ depth p t = threads.depth (threads.acts_of t p.threads)
 abbrev pub open_frames : Parts → ℕ → ℕ
 open_frames p t = locals.frames (locals.depth (locals.acts_of t p.locals)) (locals.acts_of t p.locals)
 
--- the number of the next reference that t is handed out
+-- the exception that is pending for t
+abbrev pub pending : Parts → ℕ → Option ℕ
+pending p t = threads.pending (threads.acts_of t p.threads)
+
+-- the number of the next reference that t is handed out, and of the next buffer
 abbrev pub next_ref : Parts → ℕ → ℕ
 next_ref p t = threads.refs (threads.acts_of t p.threads) + 1
+
+abbrev pub next_buffer : Parts → ℕ → ℕ
+next_buffer p t = threads.buffers (threads.acts_of t p.threads) + 1

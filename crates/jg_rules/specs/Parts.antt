@@ -1,12 +1,24 @@
 -- What a history is to each table, and when the tables stand for it.
 use Rattle.std.specs.Prelude.{◌≡◌, ℕ, List, []}
 use Rattle.jg_policy.specs.Stated.{StatedSetup, class_count}
+use Rattle.jg_policy.specs.Links as links
+use Rattle.jg_policy.specs.LinkRows as link_rows
+use Rattle.jg_policy.specs.LinkStanding as link_standing
 use Rattle.jg_threads.specs.History as threads
 use Rattle.jg_threads.specs.declared.row.Row.{Row}
 use Rattle.jg_threads.specs.Standing as thread_standing
 use Rattle.jg_locals.specs.History as locals
 use Rattle.jg_locals.specs.Rows as local_rows
 use Rattle.jg_locals.specs.Standing as local_standing
+use Rattle.jg_globals.specs.History as globals
+use Rattle.jg_globals.specs.Rows as global_rows
+use Rattle.jg_globals.specs.Standing as global_standing
+use Rattle.jg_buffers.specs.History as buffers
+use Rattle.jg_buffers.specs.Rows as buffer_rows
+use Rattle.jg_buffers.specs.Standing as buffer_standing
+use Rattle.jg_monitors.specs.History as monitors
+use Rattle.jg_monitors.specs.Rows as monitor_rows
+use Rattle.jg_monitors.specs.Standing as monitor_standing
 use Rattle.jg_heap.specs.History as heap
 use Rattle.jg_heap.specs.Rows as heap_rows
 use Rattle.jg_heap.specs.Standing as heap_standing
@@ -15,20 +27,32 @@ use Rattle.jg_heap.specs.Standing as heap_standing
 pub record Parts : Type 0 where
   pub threads : List threads.Event
   pub locals : List locals.Event
+  pub globals : List globals.Event
+  pub buffers : List buffers.Event
+  pub monitors : List monitors.Event
   pub heap : List heap.Event
+  pub links : List links.Event
 
 abbrev pub nothing_yet : Parts
-nothing_yet = record { threads = []; locals = []; heap = [] }
+nothing_yet = record { threads = []; locals = []; globals = []; buffers = []; monitors = []; heap = []; links = [] }
 
 -- what the tables keep
 pub record TableRows : Type 0 where
   pub threads : List (ℕ × Row)
   pub locals : local_rows.Rows
+  pub globals : global_rows.Rows
+  pub buffers : buffer_rows.Rows
+  pub monitors : monitor_rows.Rows
   pub heap : heap_rows.Rows
+  pub links : link_rows.Rows
 
 -- each table stands for its events, and the store has the setup's class objects
 pub record TablesStand (setup : StatedSetup) (rows : TableRows) (p : Parts) : Type 0 where
   pub threads : thread_standing.Stands rows.threads p.threads
   pub locals : local_standing.Stands rows.locals p.locals
+  pub globals : global_standing.Stands rows.globals p.globals
+  pub buffers : buffer_standing.Stands rows.buffers p.buffers
+  pub monitors : monitor_standing.Stands rows.monitors p.monitors
   pub heap : heap_standing.Stands rows.heap p.heap
+  pub links : link_standing.Stands rows.links p.links
   pub classes : rows.heap.classes ≡ class_count setup

@@ -15,7 +15,7 @@ use Rattle.jg_words.specs.declared.call.Call.TheVariants.{Vm, Refs, Frames, Stri
 use Rattle.jg_words.specs.declared.call.vm.VmCall.{VmCall}
 use Rattle.jg_words.specs.declared.call.vm.VmCall.TheVariants.{AttachCurrentThread, DetachCurrentThread, GetEnv}
 use Rattle.jg_words.specs.declared.call.refs.RefsCall.{RefsCall}
-use Rattle.jg_words.specs.declared.call.refs.RefsCall.TheVariants.{DeleteLocalRef}
+use Rattle.jg_words.specs.declared.call.refs.RefsCall.TheVariants.{NewLocalRef, DeleteLocalRef, IsSameObject, GetObjectRefType}
 use Rattle.jg_words.specs.declared.call.frames.FramesCall.{FramesCall}
 use Rattle.jg_words.specs.declared.call.frames.FramesCall.TheVariants.{PushLocalFrame, PopLocalFrame}
 use Rattle.jg_words.specs.declared.call.strings.StringsCall.{StringsCall}
@@ -26,7 +26,11 @@ use Rattle.jg_rules.specs.declared.named.Named.TheVariants.{Nothing, Null as Nam
 use Rattle.jg_rules.specs.declared.operand.ObjectType.{ObjectType}
 use Rattle.jg_rules.specs.declared.operand.Operand.{Operand}
 use Rattle.jg_rules.specs.Parts.{Parts}
-use Rattle.jg_rules.specs.Names.{names, session, depth, open_frames}
+use Rattle.std.specs.Option.{is_some}
+use Rattle.jg_buffers.specs.History as buffers
+use Rattle.jg_rules.specs.Access.{native_class, refuses}
+use Rattle.jg_rules.specs.Passing.{passes_critical, passes_pending}
+use Rattle.jg_rules.specs.Names.{names, session, depth, open_frames, pending}
 use Rattle.jg_rules.specs.Operands.{operands, is_of}
 
 abbrev pub of_another : ℕ → Option EnvId → Bool
@@ -47,13 +51,13 @@ abbrev pub detached : Parts → ℕ → Option EnvId → Call → Bool
 detached p t None call = needs_env (fun_of call)
 detached p t (Some env) call = not ((env.tid.0 == t) && is_session (session p t) env.session)
 
--- 3: inside a critical region. No function opens one yet
-abbrev pub in_critical : Call → Bool
-in_critical call = false
+-- 3: inside a critical region: the caller has an open critical buffer
+abbrev pub in_critical : Parts → ℕ → Call → Bool
+in_critical p t call = not (passes_critical (fun_of call)) && buffers.in_critical p.buffers t
 
--- 4: with an exception pending. No function raises one yet
-abbrev pub while_pending : Call → Bool
-while_pending call = false
+-- 4: with an exception pending
+abbrev pub while_pending : Parts → ℕ → Call → Bool
+while_pending p t call = not (passes_pending (fun_of call)) && is_some (pending p t)
 
 abbrev pub is_foreign : ℕ → Ref → Bool
 is_foreign t (To Local maker n) = not (maker.0 == t)
@@ -79,13 +83,17 @@ is_not_local (To Global maker n) = true
 is_not_local (To Weak maker n) = true
 
 abbrev pub refs_wrong_kind : RefsCall → Bool
+refs_wrong_kind (NewLocalRef r) = false
 refs_wrong_kind (DeleteLocalRef r) = is_not_local r
-refs_wrong_kind call = false
+refs_wrong_kind (IsSameObject r u) = false
+refs_wrong_kind (GetObjectRefType r) = false
 
 -- 7: the deletion of a reference of another kind (JNI Specification, chapter 4, "Global and Local References")
 abbrev pub wrong_kind : Call → Bool
+wrong_kind (Vm call) = false
 wrong_kind (Refs call) = refs_wrong_kind call
-wrong_kind call = false
+wrong_kind (Frames call) = false
+wrong_kind (Strings call) = false
 
 abbrev pub is_null : Named → Bool
 is_null Nothing = false
@@ -129,11 +137,11 @@ strings_bad_argument (NewString units) = not (list_all is_unit units)
 strings_bad_argument (GetStringLength r) = false
 
 -- 12: a capacity below 0 or above 65,535; a unit that isn't one (JNI Specification, chapter 4, PushLocalFrame, NewString)
-abbrev pub bad_argument : Call → Bool
-bad_argument (Vm call) = false
-bad_argument (Refs call) = false
-bad_argument (Frames call) = frames_bad_argument call
-bad_argument (Strings call) = strings_bad_argument call
+abbrev pub bad_argument : StatedSetup → Call → Bool
+bad_argument s (Vm call) = false
+bad_argument s (Refs call) = false
+bad_argument s (Frames call) = frames_bad_argument call
+bad_argument s (Strings call) = strings_bad_argument call
 
 -- 13, 14: a pinned reference deleted, a monitor of another thread exited. There are neither yet
 abbrev pub pinned : Call → Bool
@@ -159,10 +167,11 @@ bad_frame p t (Refs call) = false
 bad_frame p t (Frames call) = frames_bad_frame p t call
 bad_frame p t (Strings call) = false
 
--- 16, 17: refused native access (JEP 472), a native method that isn't linked. No function asks for either yet
-abbrev pub no_access : Call → Bool
-no_access call = false
+-- 16: refused native access (JEP 472)
+abbrev pub no_access : StatedSetup → Parts → ℕ → Call → Bool
+no_access s p t call = refuses s (native_class s p t call)
 
+-- 17: a native method that isn't linked. No function asks for one yet
 abbrev pub not_linked : Call → Bool
 not_linked call = false
 
@@ -170,8 +179,8 @@ not_linked call = false
 abbrev pub broken : Rule → StatedSetup → Parts → ℕ → Option EnvId → Call → Bool
 broken WrongThread s p t env call = wrong_thread t env
 broken Detached s p t env call = detached p t env call
-broken InCritical s p t env call = in_critical call
-broken Pending s p t env call = while_pending call
+broken InCritical s p t env call = in_critical p t call
+broken Pending s p t env call = while_pending p t call
 broken ForeignLocal s p t env call = foreign_local t call
 broken DeadReference s p t env call = dead_reference p t call
 broken WrongRefKind s p t env call = wrong_kind call
@@ -179,27 +188,27 @@ broken NullReference s p t env call = null_reference p t call
 broken WrongType s p t env call = wrong_type s p t call
 broken BadField s p t env call = bad_field call
 broken BadBuffer s p t env call = bad_buffer call
-broken BadArgument s p t env call = bad_argument call
+broken BadArgument s p t env call = bad_argument s call
 broken Pinned s p t env call = pinned call
 broken NotOwner s p t env call = not_owner call
 broken BadFrame s p t env call = bad_frame p t call
-broken NoNativeAccess s p t env call = no_access call
+broken NoNativeAccess s p t env call = no_access s p t call
 broken NotLinked s p t env call = not_linked call
 
 -- the rules in their order
 abbrev pub later_rules : List Rule
 later_rules =
-    InCritical ∷ Pending ∷ ForeignLocal ∷ DeadReference ∷ WrongRefKind ∷ NullReference ∷ WrongType ∷ BadField ∷ BadBuffer
+    ForeignLocal ∷ DeadReference ∷ WrongRefKind ∷ NullReference ∷ WrongType ∷ BadField ∷ BadBuffer
     ∷ BadArgument ∷ Pinned ∷ NotOwner ∷ BadFrame ∷ NoNativeAccess ∷ NotLinked ∷ []
 
 abbrev pub rules_in_order : List Rule
-rules_in_order = WrongThread ∷ Detached ∷ later_rules
+rules_in_order = WrongThread ∷ Detached ∷ InCritical ∷ Pending ∷ later_rules
 
 -- the first rule that the call breaks
 abbrev pub verdict : StatedSetup → Parts → ℕ → Option EnvId → Call → Option Rule
 verdict s p t env call = find (λ rule. broken rule s p t env call) rules_in_order
 
--- the first of those after the first two, which are judged by the call's group; the environment plays no part in them
+-- the first of those after the first four, which are judged by the call's group; the environment plays no part in them
 abbrev pub later_verdict : StatedSetup → Parts → ℕ → Call → Option Rule
 later_verdict s p t call = find (λ rule. broken rule s p t None call) later_rules
 

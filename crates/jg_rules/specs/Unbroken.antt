@@ -4,23 +4,24 @@ use Rattle.jg_words.specs.declared.thread.EnvId.{EnvId}
 use Rattle.jg_words.specs.declared.call.Call.{Call}
 use Rattle.jg_policy.specs.Stated.{StatedSetup}
 use Rattle.jg_rules.specs.Parts.{Parts}
-use Rattle.jg_rules.specs.Rules.{wrong_thread, detached, in_critical, while_pending, foreign_local, dead_reference, wrong_kind, null_reference, wrong_type, bad_field, bad_buffer, bad_argument, pinned, not_owner, bad_frame, no_access, not_linked}
+use Rattle.jg_words.specs.declared.rule.Rule.TheVariants.{WrongThread, Detached, InCritical, Pending, ForeignLocal, DeadReference, WrongRefKind, NullReference, WrongType, BadField, BadBuffer, BadArgument, Pinned, NotOwner, BadFrame, NoNativeAccess, NotLinked}
+use Rattle.jg_rules.specs.Rules.{broken}
 
 pub record Unbroken (s : StatedSetup) (p : Parts) (t : ℕ) (env : Option EnvId) (call : Call) : Type 0 where
-  pub own_thread : wrong_thread t env ≡ false
-  pub is_attached : detached p t env call ≡ false
-  pub not_critical : in_critical call ≡ false
-  pub calm : while_pending call ≡ false
-  pub own_locals : foreign_local t call ≡ false
-  pub alive : dead_reference p t call ≡ false
-  pub right_kind : wrong_kind call ≡ false
-  pub not_null : null_reference p t call ≡ false
-  pub right_type : wrong_type s p t call ≡ false
-  pub right_field : bad_field call ≡ false
-  pub right_buffer : bad_buffer call ≡ false
-  pub right_argument : bad_argument call ≡ false
-  pub not_pinned : pinned call ≡ false
-  pub owned : not_owner call ≡ false
-  pub right_frame : bad_frame p t call ≡ false
-  pub accessible : no_access call ≡ false
-  pub is_linked : not_linked call ≡ false
+  pub own_thread : broken WrongThread s p t env call ≡ false
+  pub is_attached : broken Detached s p t env call ≡ false
+  pub not_critical : broken InCritical s p t env call ≡ false
+  pub calm : broken Pending s p t env call ≡ false
+  pub own_locals : broken ForeignLocal s p t env call ≡ false
+  pub alive : broken DeadReference s p t env call ≡ false
+  pub right_kind : broken WrongRefKind s p t env call ≡ false
+  pub not_null : broken NullReference s p t env call ≡ false
+  pub right_type : broken WrongType s p t env call ≡ false
+  pub right_field : broken BadField s p t env call ≡ false
+  pub right_buffer : broken BadBuffer s p t env call ≡ false
+  pub right_argument : broken BadArgument s p t env call ≡ false
+  pub not_pinned : broken Pinned s p t env call ≡ false
+  pub owned : broken NotOwner s p t env call ≡ false
+  pub right_frame : broken BadFrame s p t env call ≡ false
+  pub accessible : broken NoNativeAccess s p t env call ≡ false
+  pub is_linked : broken NotLinked s p t env call ≡ false

@@ -1,8 +1,8 @@
-//! Rules 1 and 2, which are judged for all calls alike, and the groups' own rules after them.
+//! Rules 1 to 4, which are judged for all calls alike, and the groups' own rules after them.
 
 ghost use Rattle.std.specs.Prelude.{◌≡◌};
 ghost use Rattle.jg_rules.specs.Parts.{Parts};
-ghost use Rattle.jg_rules.specs.Rules.{verdict, wrong_thread, detached};
+ghost use Rattle.jg_rules.specs.Rules.{verdict, wrong_thread, detached, in_critical, while_pending};
 ghost use Rattle.jg_rules.specs.View.{ViewStands};
 
 mod frames;
@@ -11,6 +11,7 @@ mod refs;
 mod strings;
 mod vm;
 
+use crate::passing::{passes_critical_region, passes_pending_exception};
 use crate::view::View;
 use frames::judge_frames;
 use jg_words::{Call, EnvId, Rule, Tid};
@@ -33,6 +34,12 @@ pub fn first_broken<A: Allocator + Clone>(
     }
     if is_detached(view, tid, env, call) {
         return Some(Rule::Detached);
+    }
+    if is_in_critical(view, tid, call) {
+        return Some(Rule::InCritical);
+    }
+    if is_while_pending(view, tid, call) {
+        return Some(Rule::Pending);
     }
     match call {
         Call::Vm(call) => judge_vm(view, tid, call),
@@ -66,4 +73,16 @@ fn is_detached<A: Allocator + Clone>(
             Some(present) => env.tid.0 != tid.0 || env.session != present.session,
         },
     }
+}
+
+fn is_in_critical<A: Allocator + Clone>(view: &View<'_, A>, tid: Tid, call: &Call) -> bool
+    ensures { (p : Parts) → ViewStands view.now p → result ≡ in_critical p tid.0 call.now }
+{
+    !passes_critical_region(call.fun()) && view.buffers.in_critical(tid)
+}
+
+fn is_while_pending<A: Allocator + Clone>(view: &View<'_, A>, tid: Tid, call: &Call) -> bool
+    ensures { (p : Parts) → ViewStands view.now p → result ≡ while_pending p tid.0 call.now }
+{
+    !passes_pending_exception(call.fun()) && view.threads.pending(tid).is_some()
 }

@@ -1,9 +1,10 @@
 ghost use Rattle.std.specs.Prelude.{◌≡◌};
 ghost use Rattle.jg_rules.specs.Parts.{Parts};
-ghost use Rattle.jg_rules.specs.Names.{names};
+ghost use Rattle.jg_rules.specs.Names.{names, named_by_target};
 ghost use Rattle.jg_rules.specs.View.{ViewStands};
 
 use crate::view::View;
+use jg_globals::Target;
 use jg_words::{Kind, ObjId, Ref, Tid};
 use std::alloc::Allocator;
 
@@ -30,6 +31,27 @@ pub fn look_up<A: Allocator + Clone>(view: &View<'_, A>, tid: Tid, reference: Re
             Some(object) => Named::Object(object),
             None => Named::Nothing,
         },
-        Ref::To { .. } => Named::Nothing,
+        Ref::To {
+            kind: Kind::Local,
+            ..
+        } => Named::Nothing,
+        Ref::To {
+            kind: Kind::Global,
+            ..
+        } => named_by(view.globals.get(reference)),
+        Ref::To {
+            kind: Kind::Weak,
+            ..
+        } => named_by(view.globals.get(reference)),
+    }
+}
+
+fn named_by(target: Option<Target>) -> Named
+    ensures { result ≡ named_by_target target }
+{
+    match target {
+        None => Named::Nothing,
+        Some(Target::Object(object)) => Named::Object(object),
+        Some(Target::Cleared) => Named::Null,
     }
 }

@@ -1,6 +1,9 @@
+use jg_buffers::Buffers;
+use jg_globals::Globals;
 use jg_heap::Heap;
 use jg_locals::Locals;
-use jg_policy::Setup;
+use jg_monitors::Monitors;
+use jg_policy::{Links, Setup};
 use jg_threads::Threads;
 use std::alloc::{Allocator, Global};
 
@@ -10,5 +13,9 @@ pub struct View<'a, A: Allocator = Global> {
     pub setup: &'a Setup,
     pub threads: &'a Threads<A>,
     pub locals: &'a Locals<A>,
+    pub globals: &'a Globals<A>,
+    pub buffers: &'a Buffers<A>,
+    pub monitors: &'a Monitors<A>,
     pub heap: &'a Heap<A>,
+    pub links: &'a Links<A>,
 }

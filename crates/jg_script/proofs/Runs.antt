@@ -1,6 +1,6 @@
 -- What the lines taken so far, and the answer to the next one, say of the whole.
 use Rattle.std.proofs.Common.{◌≡◌, ◌≢◌, ℕ, ◌+◌, ◌≤◌, List, [], ◌∷◌, ◌++◌, length, Option, Some, None, IfSome, Ok, Err, ap, sym, ◌∙◌, subst, append_assoc, refl, arith, inl, inr, ◌⊎◌}
-use Rattle.std.specs.Io.KnownBytes.{Appends, IsAtEnd}
+use Rattle.std.specs.Io.KnownBytes.{Appends, Consumes, IsAtEnd}
 use Rattle.std.proofs.lemmas.List.{append-nil}
 use Rattle.jg_words.specs.declared.entry.Entry.{Entry}
 use Rattle.jg_text.specs.declared.fault.ScriptFault.TheVariants.{LineTooLong}
@@ -10,9 +10,10 @@ use Rattle.jg_guard.specs.Guard.{State}
 use Rattle.jg_script.specs.declared.run_fault.RunFault.{RunFault}
 use Rattle.jg_script.specs.declared.run_fault.RunFault.TheVariants.{Script, Limit, NoMemory, Read, Write}
 use Rattle.jg_script.specs.Answered.{Answers, Journals}
-use Rattle.jg_script.specs.Checked.{Checks, IsWellFormed, IsFollowedBy, TakesOneMore, WritesAll, BeginsWith, IsScript}
-use Rattle.jg_script.specs.Lines.{lines_of, LinesTaken, BeginsTooLong}
-use Rattle.std.proofs.KnownBytes.{Appends-trans}
+use Rattle.jg_script.specs.Checked.{Checks, Reads, script_text, IsWellFormed, IsFollowedBy, TakesOneMore, WritesAll, BeginsWith, IsScript}
+use Rattle.jg_script.specs.Lines.{lines_of, LinesTaken, BeginsTooLong, ReadsOneMore}
+use Rattle.jg_script.specs.Devices.{TakesFront}
+use Rattle.std.proofs.KnownBytes.{Appends-trans, Consumes-trans}
 
 followed : (a c : Option (List ℕ)) (xs : List (List ℕ)) (line : List ℕ) (P : List ℕ → Type 0) → LinesTaken a c (xs ++ line ∷ []) → P line → IfSome a (λ text. (next : List ℕ) × (more : List (List ℕ)) × (lines_of text ≡ xs ++ next ∷ more) × P next)
 followed None c xs line P e p = tt
@@ -100,3 +101,30 @@ module _ (input mid input' bytes part bytes' : Option (List ℕ)) (limit line : 
       let len = ap length j.journal in
       let counted = h.counted in
       (begun _ _ _ (lines_of_calls _ _ old new text e j taken), (e, old.journal, j.journal, (part, h.written, front)), omega arith)
+
+-- what was read
+one_more : (input mid input' : Option (List ℕ)) (text : List ℕ) → Consumes input mid text → TakesFront mid input' → ReadsOneMore input input' text
+one_more input mid input' text e (bytes, front, taken) = (bytes, front, Consumes-trans input mid input' text bytes e taken)
+
+pub reads_front : (input mid input' : Option (List ℕ)) (g : List Entry) → Consumes input mid (script_text g) → TakesFront mid input' → ReadsOneMore input input' (script_text g)
+reads_front input mid input' g e front = one_more input mid input' (script_text g) e front
+
+pub no_memory_reads : (input mid input' bytes bytes' : Option (List ℕ)) (limit line : ℕ) (guard : State) → HasChecked input mid bytes bytes' limit line guard → Consumes input mid (script_text guard.journal) → TakesFront mid input' → Reads input input' guard.journal (Err (NoMemory line))
+no_memory_reads input mid input' bytes bytes' limit line guard h e front = (guard.journal, inl refl, h.counted, one_more input mid input' (script_text guard.journal) e front)
+
+pub line_reads : (input mid input' : Option (List ℕ)) (old new : State) (text : List ℕ) (e : Entry) → Consumes input mid (script_text old.journal) → Consumes mid input' (text ++ 10 ∷ []) → Journals old new text e → Consumes input input' (script_text new.journal)
+line_reads input mid input' old new text e before taken j =
+    subst (Consumes input input') (ap (λ (t : List ℕ). script_text old.journal ++ (t ++ 10 ∷ [])) (j.spelt.text) ∙ sym (ap script_text j.journal)) (Consumes-trans input mid input' (script_text old.journal) (text ++ 10 ∷ []) before taken)
+
+pub answered_reads : (input mid input' bytes part bytes' : Option (List ℕ)) (limit line : ℕ) (old new : State) (text : List ℕ) (fault : RunFault) → HasChecked input mid bytes part limit line old → Consumes input mid (script_text old.journal) → TakesFront mid input' → Answers part bytes' old new text line (Err fault) → Reads input input' new.journal (Err fault)
+answered_reads input mid input' bytes part bytes' limit line old new text (Script l f) h e front (device, same, first, is) =
+    subst (λ (k : State). ReadsOneMore input input' (script_text k.journal)) (sym same) (one_more input mid input' (script_text old.journal) e front)
+answered_reads input mid input' bytes part bytes' limit line old new text (Limit l) h e front (device, same, well, full, is) =
+    subst (λ (k : State). ReadsOneMore input input' (script_text k.journal)) (sym same) (one_more input mid input' (script_text old.journal) e front)
+answered_reads input mid input' bytes part bytes' limit line old new text (NoMemory l) h e front (device, inl same, is) =
+    (old.journal, inl (ap (λ (k : State). k.journal) same), is ∙ h.counted, one_more input mid input' (script_text old.journal) e front)
+answered_reads input mid input' bytes part bytes' limit line old new text (NoMemory l) h e front (device, inr (x, j), is) =
+    (old.journal, inr (x, j.journal), is ∙ h.counted, one_more input mid input' (script_text old.journal) e front)
+answered_reads input mid input' bytes part bytes' limit line old new text (Read l) h e front none = absurd none
+answered_reads input mid input' bytes part bytes' limit line old new text (Write l) h e front ((x, j, back), is) =
+    (x, old.journal, j.journal, one_more input mid input' (script_text old.journal) e front)

@@ -10,10 +10,10 @@ use Rattle.jg_text.specs.Spelling.{Spells}
 use Rattle.jg_text.specs.Words.{FitsTid, FitsEnv}
 use Rattle.jg_text.specs.Operands.{FitsCall}
 use Rattle.jg_text.specs.Faults.{IsFirstFault}
-use Rattle.jg_text.specs.Journal.{call_lines, entry_text, journal_text}
+use Rattle.jg_text.specs.Journal.{call_line, call_lines, entry_text, journal_text}
 use Rattle.jg_script.specs.declared.run_fault.RunFault.{RunFault}
 use Rattle.jg_script.specs.declared.run_fault.RunFault.TheVariants.{Script, Limit, NoMemory, Read, Write}
-use Rattle.jg_script.specs.Lines.{lines_of, LinesTaken}
+use Rattle.jg_script.specs.Lines.{lines_of, LinesTaken, ReadsOneMore}
 
 -- a line that spells some call
 abbrev pub IsWellFormed : List ℕ → Type 0
@@ -67,13 +67,30 @@ Checks input input' bytes bytes' limit h (Err (Read line)) =
 Checks input input' bytes bytes' limit h (Err (Write line)) =
     BeginsWith input h × ((e : Entry) × (g : List Entry) × (h ≡ e ∷ g) × ((mid : Option (List ℕ)) × WritesAll bytes mid g × WritesFront mid bytes' e)) × (line ≡ length h)
 
+-- the lines of a history's calls, each with its line feed
+abbrev pub script_text : List Entry → List ℕ
+script_text [] = []
+script_text (e ∷ h) = script_text h ++ (call_line e ++ 10 ∷ [])
+
+-- what a check that ended with this result read: all, or no more than the lines of its history and
+-- a front of one more; of the line that it ended at the call may be in the history
+abbrev pub Reads : Option (List ℕ) → Option (List ℕ) → List Entry → Result ℕ RunFault → Type 0
+Reads input input' h (Ok n) = IsAtEnd input'
+Reads input input' h (Err (Script line fault)) = ReadsOneMore input input' (script_text h)
+Reads input input' h (Err (Limit line)) = ReadsOneMore input input' (script_text h)
+Reads input input' h (Err (Read line)) = ReadsOneMore input input' (script_text h)
+Reads input input' h (Err (NoMemory line)) =
+    (g : List Entry) × ((h ≡ g) ⊎ ((e : Entry) × (h ≡ e ∷ g))) × (line ≡ length g + 1) × ReadsOneMore input input' (script_text g)
+Reads input input' h (Err (Write line)) =
+    (e : Entry) × (g : List Entry) × (h ≡ e ∷ g) × ReadsOneMore input input' (script_text g)
+
 -- each entry's call is one that a line can spell
 abbrev pub IsScript : List Entry → Type 0
 IsScript [] = Unit {0}
 IsScript (e ∷ h) = (FitsTid e.tid × FitsEnv e.env × FitsCall e.call) × IsScript h
 
--- the reader failed in a check that answers `Read`, and in no other
-abbrev pub ReaderFails : Bool → Bool → Result ℕ RunFault → Type 0
+-- the reader failed where the answer is `Read`, and nowhere else
+abbrev pub ReaderFails : {N : Type 0} → Bool → Bool → Result N RunFault → Type 0
 ReaderFails old new (Err (Read line)) = new ≡ true
 ReaderFails old new (Err (Script line fault)) = new ≡ old
 ReaderFails old new (Err (Limit line)) = new ≡ old

@@ -3,3 +3,5 @@ pub mod Lines
 pub mod Checked
 pub mod Devices
 pub mod Answered
+pub mod Replayed
+pub mod Entries

@@ -3,11 +3,14 @@
 
 mod answer;
 mod line;
+mod piece;
+mod replay;
 mod run;
 mod run_fault;
 mod watched;
 
 pub use jg_text::{ScriptFault, read_call, write_entry};
+pub use replay::{Verdict, verify};
 pub use run::check;
 pub use run_fault::RunFault;
 pub use watched::{DeviceFailed, Watched};

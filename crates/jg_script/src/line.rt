@@ -2,12 +2,12 @@
 
 ghost use Rattle.std.specs.Prelude.{◌≡◌, ℕ, ◌<◌, length, take, IfOk, IfErr, OnOk, OnErr, true};
 ghost use Rattle.std.specs.Io.KnownBytes.{Appends};
-ghost use Rattle.jg_script.specs.Devices.{TakesLine, IsOneLine, FailsLine, Takes};
+ghost use Rattle.jg_script.specs.Devices.{TakesLine, TakesFront, IsOneLine, FailsLine, Takes, TakesBytes};
 
+use crate::piece::{LineFault, Piece};
 use crate::watched::{DeviceFailed, Watched};
 use jg_text::MAX_LINE;
-use std::alloc::Global;
-use std::io::{Read, Write};
+use std::io::{BufRead, Write};
 
 /// How a line ended: at a line feed, at the end of all, or not within 65,536 bytes.
 #[derive(Clone, Copy, Debug, PartialEq, Eq)]
@@ -17,31 +17,30 @@ enum Ending {
     Long,
 }
 
-/// Why a line can't be had.
-#[derive(Clone, Copy, Debug, PartialEq, Eq)]
-pub enum LineFault {
-    NoMemory,
-    Read,
-}
-
 /// Takes the next line into the buffer.
-fn read_line<R: Read>(reader: &mut Watched<R>, line: &mut Vec<u8>) -> Result<Ending, LineFault>
+fn read_line<R: BufRead>(reader: &mut Watched<R>, line: &mut Vec<u8>) -> Result<Ending, LineFault>
     ensures taken { IfOk result (TakesLine (R.remaining reader.old.device) (R.remaining reader.new.device) line.new.items) }
+    ensures front { TakesFront (R.remaining reader.old.device) (R.remaining reader.new.device) }
     ensures clean { OnOk result (IsOneLine line.new.items) }
     ensures sound { OnOk result (reader.new.failed ≡ reader.old.failed) }
     ensures fault { IfErr result (FailsLine reader.old.failed reader.new.failed) }
 {
     line.clear();
-    for _i in 0..MAX_LINE + 1 {
-        match reader.read_byte() {
-            Err(_) => return Err(LineFault::Read),
-            Ok(None) => return Ok(Ending::End),
-            Ok(Some(b'\n')) => return Ok(Ending::Feed),
-            Ok(Some(byte)) => {
-                if line.push(byte).is_err() {
-                    return Err(LineFault::NoMemory);
+    while line.len() <= MAX_LINE {
+        match reader.take_piece(MAX_LINE + 1 - line.len(), line) {
+            Err(fault) => return Err(fault),
+            Ok(Piece::Feed) => return Ok(Ending::Feed),
+            Ok(Piece::More) => {}
+            Ok(Piece::Nothing) => match reader.read_byte() {
+                Err(_) => return Err(LineFault::Read),
+                Ok(None) => return Ok(Ending::End),
+                Ok(Some(b'\n')) => return Ok(Ending::Feed),
+                Ok(Some(byte)) => {
+                    if line.push(byte).is_err() {
+                        return Err(LineFault::NoMemory);
+                    }
                 }
-            }
+            },
         }
     }
     Ok(Ending::Long)
@@ -58,7 +57,13 @@ pub enum Taken {
 }
 
 /// Takes the next line into the buffer, without its line feed.
-pub fn next_line<R: Read>(reader: &mut Watched<R>, line: &mut Vec<u8>) -> Result<Taken, LineFault>
+pub fn next_line<R: BufRead>(
+    reader: &mut Watched<R>,
+    line: &mut Vec<u8>,
+) -> Result<Taken, LineFault>
+    ensures bytes { IfOk result (TakesBytes (R.remaining reader.old.device) (R.remaining reader.new.device) line.new.items) }
+    ensures front { TakesFront (R.remaining reader.old.device) (R.remaining reader.new.device) }
+    ensures clean { OnOk result (IsOneLine line.new.items) }
     ensures taken { IfOk result (Takes (R.remaining reader.old.device) (R.remaining reader.new.device) line.new.items) }
     ensures sound { OnOk result (reader.new.failed ≡ reader.old.failed) }
     ensures fault { IfErr result (FailsLine reader.old.failed reader.new.failed) }

@@ -2,21 +2,22 @@
 
 ghost use Rattle.std.specs.Prelude.{◌≡◌, []};
 ghost use Rattle.jg_rules.specs.Legal.{Legal};
-ghost use Rattle.jg_script.specs.Checked.{Checks, IsScript, ReaderFails, WriterFails};
+ghost use Rattle.jg_script.specs.Checked.{Checks, Reads, IsScript, ReaderFails, WriterFails};
 
 use crate::answer::answer_line;
-use crate::line::{LineFault, Taken, next_line};
+use crate::line::{Taken, next_line};
+use crate::piece::LineFault;
 use crate::run_fault::RunFault;
 use crate::watched::Watched;
 use jg_guard::Guard;
 use jg_text::ScriptFault;
 use std::alloc::{Allocator, Global};
-use std::io::{Read, Write};
+use std::io::{BufRead, Write};
 
 /// Answers the lines of a script, each before the next is read, and gives their number. What was
 /// written before a fault stays written, and what the guard took stays in its journal. Nothing is
 /// read after the first faulty line, so at most the limit and one line more are read.
-pub fn check<A: Allocator + Clone, R: Read, W: Write>(
+pub fn check<A: Allocator + Clone, R: BufRead, W: Write>(
     alloc: Global,
     guard: &mut Guard<A>,
     reader: &mut Watched<R>,
@@ -24,6 +25,7 @@ pub fn check<A: Allocator + Clone, R: Read, W: Write>(
 ) -> Result<u64, RunFault>
     requires { guard.old.journal ≡ [] }
     ensures checks { Checks (R.remaining reader.old.device) (R.remaining reader.new.device) (W.contents writer.old.device) (W.contents writer.new.device) guard.old.limit guard.new.journal result }
+    ensures reads { Reads (R.remaining reader.old.device) (R.remaining reader.new.device) guard.new.journal result }
     ensures legal { Legal guard.new.setup guard.new.journal }
     ensures script { IsScript guard.new.journal }
     ensures setup { guard.new.setup ≡ guard.old.setup }
@@ -33,6 +35,7 @@ pub fn check<A: Allocator + Clone, R: Read, W: Write>(
 {
     let limit = u64::from(guard.limit());
     let mut text = Vec::new(alloc);
+    let mut out = String::new(alloc);
     for line in 1..limit + 2 {
         let taken = match next_line(reader, &mut text) {
             Ok(taken) => taken,
@@ -48,12 +51,12 @@ pub fn check<A: Allocator + Clone, R: Read, W: Write>(
                 });
             }
             Taken::Line => {
-                if let Err(fault) = answer_line(alloc, guard, writer, &text, line) {
+                if let Err(fault) = answer_line(alloc, guard, writer, &mut out, &text, line) {
                     return Err(fault);
                 }
             }
             Taken::LastLine => {
-                return match answer_line(alloc, guard, writer, &text, line) {
+                return match answer_line(alloc, guard, writer, &mut out, &text, line) {
                     Ok(()) => Ok(line),
                     Err(fault) => Err(fault),
                 };

@@ -1,10 +1,10 @@
-use crate::{RunFault, ScriptFault, Watched, check};
+use crate::{RunFault, ScriptFault, Verdict, Watched, check, verify};
 use jg_guard::Guard;
 use jg_policy::Setup;
 use linked_list_allocator::LocalHeap;
 use std::alloc::Global;
 use std::io;
-use std::io::{ErrorKind, Read, Write};
+use std::io::{BufRead, BufReader, ErrorKind, Read, Write};
 use std::test::Fail;
 
 /// A writer that takes one byte at a time, and has room for so many.
@@ -54,8 +54,8 @@ struct Done {
     writer_failed: bool,
 }
 
-fn run<R: Read + Drop>(alloc: Global, script: R, limit: u32, room: usize) -> Result<Done, Fail> {
-    let mut guard = Guard::new(alloc, Setup::closed(alloc), limit)?;
+fn run<R: BufRead + Drop>(alloc: Global, script: R, limit: u32, room: usize) -> Result<Done, Fail> {
+    let mut guard = Guard::new(alloc, alloc, Setup::closed(alloc), limit)?;
     let mut reader = Watched::new(script);
     let mut writer = Watched::new(Trickle {
         bytes: Vec::new(alloc),
@@ -142,7 +142,8 @@ fn scripts_are_answered(rt: HostRuntime) -> Result<(), Fail> {
 #[test]
 fn a_reader_fails_after_two_lines(rt: HostRuntime) -> Result<(), Fail> {
     let bytes = b"T1 - GetEnv\nT2 - GetEnv\nT3 - Get".as_slice();
-    let done = run(rt.alloc(), Broken { bytes }, 10, 1000)?;
+    let reader = BufReader::with_capacity(rt.alloc(), 7, Broken { bytes })?;
+    let done = run(rt.alloc(), reader, 10, 1000)?;
     assert_eq!(rt; done.result, Err(RunFault::Read { line: 3 }));
     assert!(rt;
         done.written.as_slice() == b"T1 - GetEnv = detached\nT2 - GetEnv = detached\n".as_slice()
@@ -211,7 +212,7 @@ fn a_refused_growth_names_its_line(rt: HostRuntime) -> Result<(), Fail> {
         script.extend_from_slice(line)?;
     }
     let heap = LocalHeap::new(rt.alloc(), 20_000)?;
-    let mut guard = Guard::new(&heap, Setup::closed(rt.alloc()), 1000)?;
+    let mut guard = Guard::new(&heap, rt.alloc(), Setup::closed(rt.alloc()), 1000)?;
     assert_eq!(rt; guard.journal_len(), 0);
     let mut reader = Watched::new(script.as_slice());
     let mut writer = Watched::new(Vec::new(rt.alloc()));
@@ -228,5 +229,86 @@ fn a_refused_growth_names_its_line(rt: HostRuntime) -> Result<(), Fail> {
         guard.journal_len().saturating_mul(answer.len())
     );
     assert!(rt; written.starts_with(answer) && written.ends_with(answer));
+    Ok(())
+}
+
+/// What `verify` answers to the text, and whether the reader failed.
+fn read_back<R: BufRead + Drop>(
+    alloc: Global,
+    text: R,
+    limit: u32,
+) -> (Result<Verdict, RunFault>, bool) {
+    let mut reader = Watched::new(text);
+    let result = verify(alloc, alloc, Setup::closed(alloc), limit, &mut reader);
+    (result, reader.has_failed())
+}
+
+#[test]
+fn journals_are_read_back(rt: HostRuntime) -> Result<(), Fail> {
+    let altered = "T1 - AttachCurrentThread = E1.1\nT1 E1.1 NewString [72,105] = L1.2\n";
+    let doubled =
+        "T1 - AttachCurrentThread = E1.1\nT1 - AttachCurrentThread = E1.1\nT1 E1.1 NewString [] = L1.1\nT1 E1.1 NewString [] = L1.1\n";
+    let (cut, _) = FIRST_PATH_ANSWERED.split_at(FIRST_PATH_ANSWERED.len() - 1);
+    let readings = [
+        ("", 0, Ok(Verdict::Legal)),
+        (FIRST_PATH_ANSWERED, 6, Ok(Verdict::Legal)),
+        (altered, 10, Ok(Verdict::Differs(2))),
+        (doubled, 10, Ok(Verdict::Differs(4))),
+        (cut, 10, Ok(Verdict::Differs(6))),
+        (FIRST_PATH_ANSWERED, 5, Err(RunFault::Limit { line: 6 })),
+        (cut, 5, Err(RunFault::Limit { line: 6 })),
+        (FIRST_PATH, 10, Ok(Verdict::Differs(1))),
+        ("T1 - GetEnv = ", 0, Err(RunFault::Limit { line: 1 })),
+        ("T1 - GetEnv =", 0, Ok(Verdict::Differs(1))),
+        ("T1 - GetEnv 1 = ", 0, Ok(Verdict::Differs(1))),
+        ("T01 - GetEnv = detached\n", 10, Ok(Verdict::Differs(1))),
+        ("\n", 10, Ok(Verdict::Differs(1))),
+        ("\n", 0, Ok(Verdict::Differs(1))),
+    ];
+    for (text, limit, result) in readings {
+        let (answer, failed) = read_back(rt.alloc(), text.as_bytes(), limit);
+        assert_eq!(rt; answer, result, "at `{text}`");
+        assert!(rt; !failed, "at `{text}`");
+    }
+    Ok(())
+}
+
+#[test]
+fn a_long_line_past_the_limit_is_past_the_limit(rt: HostRuntime) -> Result<(), Fail> {
+    let mut text = Vec::new(rt.alloc());
+    text.extend_from_slice(b"T1 - GetEnv = ".as_slice())?;
+    for _ in 0..70_000u32 {
+        text.push(200)?;
+    }
+    let past = Err(RunFault::Limit { line: 1 });
+    assert_eq!(rt; read_back(rt.alloc(), text.as_slice(), 0), (past, false));
+    let differs = Ok(Verdict::Differs(1));
+    assert_eq!(rt; read_back(rt.alloc(), text.as_slice(), 1), (differs, false));
+    Ok(())
+}
+
+#[test]
+fn a_journal_cannot_be_read(rt: HostRuntime) -> Result<(), Fail> {
+    let bytes = b"T1 - GetEnv = detached\nT1 - G".as_slice();
+    let unread = Err(RunFault::Read { line: 2 });
+    let reader = BufReader::with_capacity(rt.alloc(), 7, Broken { bytes })?;
+    assert_eq!(rt; read_back(rt.alloc(), reader, 10), (unread, true));
+    Ok(())
+}
+
+#[test]
+fn a_refused_growth_ends_a_reading(rt: HostRuntime) -> Result<(), Fail> {
+    let mut text = Vec::new(rt.alloc());
+    for _ in 0..1000u32 {
+        text.extend_from_slice(b"T1 - GetEnv = detached\n".as_slice())?;
+    }
+    let heap = LocalHeap::new(rt.alloc(), 20_000)?;
+    let mut reader = Watched::new(text.as_slice());
+    let closed = Setup::closed(rt.alloc());
+    match verify(rt.alloc(), &heap, closed, 1000, &mut reader) {
+        Err(RunFault::NoMemory { line }) => assert!(rt; line > 1),
+        _ => assert!(rt; false, "no growth is refused"),
+    }
+    assert!(rt; !reader.has_failed());
     Ok(())
 }

@@ -2,8 +2,10 @@
 
 ghost use Rattle.std.specs.Prelude.{◌≡◌, ℕ, true, false, length, take, ◌<◌, ◌≤◌, IfOk, IfErr, OnOk, OnErr, MatchOption, ◌∷◌, []};
 ghost use Rattle.std.specs.Io.KnownBytes.{Keeps, Consumes, Appends, IsAtEnd};
+ghost use Rattle.jg_script.specs.Devices.{TakesPiece, FailsLine};
 
-use std::io::{Read, Write};
+use crate::piece::{LineFault, Piece, take_piece};
+use std::io::{BufRead, Read, Write};
 use std::marker::Model;
 
 /// A reader or a writer, and whether it has failed: by an error, or by a write that took no byte.
@@ -51,6 +53,28 @@ impl<D> Watched<D> {
         ensures { result ≡ self.now.failed }
     {
         self.failed
+    }
+}
+
+impl<R: BufRead> Watched<R> {
+    /// Takes a piece of a line: all up to the next line feed that one look at the device shows, and
+    /// at most `room` bytes. They go to the line's end, without the line feed. After an error the
+    /// reader is marked as failed.
+    pub fn take_piece(&mut self, room: usize, line: &mut Vec<u8>) -> Result<Piece, LineFault>
+        requires { 0 < room }
+        ensures taken { IfOk result (TakesPiece (R.remaining self.old.device) (R.remaining self.new.device) line.old.items line.new.items room) }
+        ensures kept { OnErr result (Keeps (R.remaining self.old.device) (R.remaining self.new.device) × (line.new.items ≡ line.old.items)) }
+        ensures sound { OnOk result (self.new.failed ≡ self.old.failed) }
+        ensures fault { IfErr result (FailsLine self.old.failed self.new.failed) }
+    {
+        match take_piece(&mut self.device, room, line) {
+            Ok(piece) => Ok(piece),
+            Err(LineFault::NoMemory) => Err(LineFault::NoMemory),
+            Err(LineFault::Read) => {
+                self.failed = true;
+                Err(LineFault::Read)
+            }
+        }
     }
 }
 

@@ -57,14 +57,14 @@ seen_digits : (bs : List ℕ) → AllDigits 10 bs → AllByRecursion (λ b. IsIn
 seen_digits [] h = tt
 seen_digits (b ∷ bs) h = let digit = digit_from_value b h.0 in (omega (arith, digit), seen_digits bs h.1)
 
-seen_number : (n : ℕ) → n < 2 ^ 64 → IsVisible (decimal n)
+pub seen_number : (n : ℕ) → n < 2 ^ 64 → IsVisible (decimal n)
 seen_number n small = All-from_recursion (λ b. IsInRange 33 126 b) (decimal n) (seen_digits (decimal n) (digits_decimal own n small))
 
-seen_signed : (z : ℤ) → FitsSigned w64 z → IsVisible (signed_decimal z)
+pub seen_signed : (z : ℤ) → FitsSigned w64 z → IsVisible (signed_decimal z)
 seen_signed (pos n) fits = seen_number n (omega (arith, fits))
 seen_signed (negsuc m) fits = seen_cons 45 (decimal (suc m)) (omega arith) (seen_number (suc m) (omega (arith, fits)))
 
-seen_dotted : (a b : ℕ) → a < 2 ^ 64 → b < 2 ^ 64 → IsVisible (dotted_text a b)
+pub seen_dotted : (a b : ℕ) → a < 2 ^ 64 → b < 2 ^ 64 → IsVisible (dotted_text a b)
 seen_dotted a b ha hb = seen_append (decimal a) (46 ∷ decimal b) (seen_number a ha) (seen_cons 46 (decimal b) (omega arith) (seen_number b hb))
 
 seen_joined : (xs : List ℤ) → Fit xs → IsVisible (join_with_byte 44 (map signed_decimal xs))
@@ -158,7 +158,7 @@ words_same (a ∷ us) (b ∷ vs) e h k t =
     let more = words_same us vs kinds h.1 k.1 texts in
     cc (one, more)
 
-both_true : (a b : Bool) → (a && b) ≡ true → (a ≡ true) × (b ≡ true)
+pub both_true : (a b : Bool) → (a && b) ≡ true → (a ≡ true) × (b ≡ true)
 both_true true true e = (refl, refl)
 both_true true false e = absurd (cc)
 both_true false true e = absurd (cc)
@@ -170,7 +170,7 @@ is_seen b = nat_lt 32 b && nat_lt b 127
 in_range : (b : ℕ) → nat_lt 32 b ≡ true → nat_lt b 127 ≡ true → IsInRange 33 126 b
 in_range b h k = grind (arith, nat_tests)
 
-below : (a b : ℕ) → nat_lt a b ≡ true → a < b
+pub below : (a b : ℕ) → nat_lt a b ≡ true → a < b
 below a b h = grind (arith, nat_tests)
 
 seen_by_test : (bs : List ℕ) → list_all is_seen bs ≡ true → AllByRecursion (λ b. IsInRange 33 126 b) bs
@@ -181,7 +181,7 @@ seen_by_test (b ∷ bs) h =
     (in_range b two.0 two.1, seen_by_test bs parts.1)
 
 -- each operand is seen
-seen_word : (a : Word) → FitsWord a → IsVisible (text_of a)
+pub seen_word : (a : Word) → FitsWord a → IsVisible (text_of a)
 seen_word (of_ref Null) h = All-from_recursion (λ b. IsInRange 33 126 b) (ref_text Null) (seen_by_test (ref_text Null) refl)
 seen_word (of_ref (To Local maker n)) h = seen_cons 76 (dotted_text maker.0 n) (omega arith) (seen_dotted maker.0 n (omega (arith, h.0)) h.1)
 seen_word (of_ref (To Global maker n)) h = seen_cons 71 (dotted_text maker.0 n) (omega arith) (seen_dotted maker.0 n (omega (arith, h.0)) h.1)
@@ -257,13 +257,13 @@ spelt_once line t u e f c d h k =
     )
 
 -- bounds
-dotted_short : (a b : ℕ) → a < 2 ^ 64 → b < 2 ^ 64 → length (dotted_text a b) ≤ 41
+pub dotted_short : (a b : ℕ) → a < 2 ^ 64 → b < 2 ^ 64 → length (dotted_text a b) ≤ 41
 dotted_short a b ha hb = simp length-append (omega (arith, length-decimal-le 20 a (omega arith) (omega arith) ha, length-decimal-le 20 b (omega arith) (omega arith) hb))
 
-signed_short : (z : ℤ) → FitsSigned w64 z → length (signed_decimal z) ≤ 20
+pub signed_short : (z : ℤ) → FitsSigned w64 z → length (signed_decimal z) ≤ 20
 signed_short z h = let small = mag_fits z h in length_signed_le 19 z (omega arith) small
 
-joined_short : (xs : List ℤ) → Fit xs → length (join_with_byte 44 (map signed_decimal xs)) ≤ 21 * length xs
+pub joined_short : (xs : List ℤ) → Fit xs → length (join_with_byte 44 (map signed_decimal xs)) ≤ 21 * length xs
 joined_short [] f = omega arith
 joined_short (x ∷ []) f = omega (arith, signed_short x (f 0 x (omega arith)))
 joined_short (x ∷ y ∷ ys) f =
@@ -300,7 +300,7 @@ short_call t e c ht he hc =
     rw (join_operands (name_of (fun_of c)) (operand_texts c))
     (omega (arith, total (decimal t.0) (env_text e) (name_of (fun_of c)) (after_spaces (operand_texts c)), length-decimal-le 20 t.0 (omega arith) (omega (arith, ht)) (omega (arith, ht)), env_short e he, name_short (fun_of c), rest, few_words c))
 
-wide : (bs : List ℕ) → IsVisible bs → All (λ b. IsInRange 32 126 b) bs
+pub wide : (bs : List ℕ) → IsVisible bs → All (λ b. IsInRange 32 126 b) bs
 wide bs h = λ k d within. let v = h k d within in omega (arith, v)
 
 printable_join : (parts : List (List ℕ)) → AllByRecursion IsVisible parts → All (λ b. IsInRange 32 126 b) (join_with_byte 32 parts)
@@ -332,7 +332,7 @@ spelt_head t e c ht he hc = record {
   split = fields_spelling t e c ht he hc;
 }
 
-same_count : (c : Call) → length (operand_texts c) ≡ length (operand_kinds (fun_of c))
+pub same_count : (c : Call) → length (operand_texts c) ≡ length (operand_kinds (fun_of c))
 same_count c = let count = simp length-map at (ap length (same_kinds c)) in simp length-map count
 
 pub spelt_faultless : (line : List ℕ) (t : Tid) (e : Option EnvId) (c : Call) (f : ScriptFault) → Spells line t e c → ¬ HasFault f line
@@ -350,7 +350,7 @@ fields_more part (next ∷ parts) more h =
     ∙ split_first 32 part (join_with_byte 32 (next ∷ parts) ++ 32 ∷ more) h.0
     ∙ ap (λ ps. part ∷ ps) (fields_more next parts more h.1)
 
-fields_longer : (t : Tid) (e : Option EnvId) (c : Call) (more : List ℕ) → FitsTid t → FitsEnv e → FitsCall c → fields (spelling t e c ++ 32 ∷ more) ≡ line_fields t e c ++ fields more
+pub fields_longer : (t : Tid) (e : Option EnvId) (c : Call) (more : List ℕ) → FitsTid t → FitsEnv e → FitsCall c → fields (spelling t e c ++ 32 ∷ more) ≡ line_fields t e c ++ fields more
 unfolding spelling
 fields_longer t e c more ht he hc = fields_more (tid_text t) (env_text e ∷ name_of (fun_of c) ∷ operand_texts c) more (clean_all (line_fields t e c) (seen_fields t e c ht he hc))
 

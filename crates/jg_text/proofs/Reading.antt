@@ -13,6 +13,10 @@ use Rattle.jg_text.specs.Spelling.{spelling, line_fields}
 use Rattle.jg_text.specs.Faults.{fields}
 use Rattle.jg_text.specs.Pieces.{rest_fields}
 use Rattle.jg_text.proofs.Cuts.{join_fields}
+use Rattle.std.proofs.Common.{◌+◌, ◌<◌, length, Bool, false, get_or, take, All, ◌↔◌, subst, sym, arith, take-take, get_or-take, length-take-le}
+use Rattle.std.specs.Prelude.{IsTrue}
+use Rattle.std.specs.Int.{IsInRange}
+use Rattle.std.proofs.lemmas.List.Elements.{All-more, All-take, All-get_or}
 
 pub cut_rest : (all : List (List ℕ)) (x : List ℕ) (o : Option (Bor (List ℕ))) → MatchOption o (all ≡ x ∷ []) (λ r. all ≡ x ∷ fields r.now) → all ≡ x ∷ rest_fields (option_copied o)
 cut_rest all x None h = h
@@ -24,3 +28,19 @@ spelt_by_parts line t e f c thread env name behind_thread behind_env rest first 
     let named : name ≡ name_of (fun_of c) = is_f ∙ ap name_of (sym fun) in
     let whole : fields line ≡ line_fields t e c = cc in
     join_fields line (line_fields t e c) whole
+
+abbrev Seen : ℕ → Type 0
+Seen b = IsInRange 32 126 b
+
+-- one byte more is printable, or isn't
+pub seen_more : (xs : List ℕ) (i : ℕ) (p q : Bool) → i < length xs → q ≡ p → Seen (get_or xs i 0) → (IsTrue p ↔ All Seen (take i xs)) → IsTrue q ↔ All Seen (take (i + 1) xs)
+seen_more xs i p q within same seen h = (
+  λ t. All-more Seen xs i 0 within (h.0 (subst IsTrue same t)) seen,
+  λ whole. subst IsTrue (sym same) (h.1 (subst (All Seen) (take-take i (i + 1) xs (omega arith)) (All-take Seen i (take (i + 1) xs) whole))),
+)
+
+pub seen_over : (xs : List ℕ) (i : ℕ) (q : Bool) → i < length xs → q ≡ false → ¬ Seen (get_or xs i 0) → IsTrue q ↔ All Seen (take (i + 1) xs)
+seen_over xs i q within is odd = (
+  λ t. absurd (cc),
+  λ whole. absurd (odd (subst Seen (get_or-take (i + 1) xs i 0 (omega arith)) (All-get_or Seen (take (i + 1) xs) i 0 (omega (arith, length-take-le (i + 1) xs (omega (arith, within)))) whole))),
+)

@@ -1,5 +1,6 @@
 -- The text of a journal, whose newest entry stands first in the list.
-use Rattle.std.specs.Prelude.{ℕ, Bool, true, false, List, [], ◌∷◌, ◌++◌, codes}
+use Rattle.std.specs.Prelude.{ℕ, Bool, true, false, List, [], ◌∷◌, ◌++◌, codes, FitsSigned}
+use Rattle.std.specs.Int.{w64}
 use Rattle.std.specs.Fmt.{decimal, signed_decimal}
 use Rattle.jg_words.specs.Rule.{number_of, name_of}
 use Rattle.jg_words.specs.declared.entry.Entry.{Entry}
@@ -10,7 +11,7 @@ use Rattle.jg_words.specs.declared.value.Thrown.{Thrown}
 use Rattle.jg_words.specs.declared.value.Thrown.TheVariants.{ArrayIndexOutOfBounds, StringIndexOutOfBounds, NoClassDefFound, NoSuchField, NoSuchMethod}
 use Rattle.jg_words.specs.declared.value.Value.{Value}
 use Rattle.jg_words.specs.declared.value.Value.TheVariants as value
-use Rattle.jg_text.specs.Words.{ref_text, buf_text, field_text, env_id_text, items_text}
+use Rattle.jg_text.specs.Words.{ref_text, buf_text, field_text, env_id_text, items_text, FitsRef, FitsBuf, FitsField, FitsEnvId, FitsItems}
 use Rattle.jg_text.specs.Spelling.{spelling}
 
 abbrev pub thrown_name : Thrown → List ℕ
@@ -48,6 +49,20 @@ outcome_text (Denied rule) = codes "deny " ++ decimal (number_of rule) ++ 32 ∷
 
 abbrev pub call_line : Entry → List ℕ
 call_line e = spelling e.tid e.env e.call
+
+-- which outcomes the program's types can hold
+abbrev pub FitsValue : Value → Type 0
+FitsValue (value.Number n) = FitsSigned w64 n
+FitsValue (value.Reference r) = FitsRef r
+FitsValue (value.Buffer b) = FitsBuf b
+FitsValue (value.Field f) = FitsField f
+FitsValue (value.Environment e) = FitsEnvId e
+FitsValue (value.List xs) = FitsItems xs
+FitsValue _ = Unit {0}
+
+abbrev pub FitsOutcome : Outcome → Type 0
+FitsOutcome (Passed reply) = FitsValue reply.value
+FitsOutcome (Denied rule) = Unit {0}
 
 unfoldable pub entry_text : Entry → List ℕ
 entry_text e = call_line e ++ codes " = " ++ outcome_text e.outcome ++ 10 ∷ []

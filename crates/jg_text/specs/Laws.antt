@@ -1,5 +1,8 @@
 -- What is so of all lines.
-use Rattle.std.specs.Prelude.{◌≡◌, ℕ, ◌≤◌, List, ◌∷◌, ◌++◌, length, Option}
+use Rattle.std.specs.Prelude.{◌≡◌, ℕ, ◌≤◌, List, [], ◌∷◌, ◌++◌, length, Option, All}
+use Rattle.std.specs.Int.{IsInRange}
+use Rattle.jg_words.specs.declared.entry.Entry.{Entry}
+use Rattle.jg_text.specs.Journal.{entry_text, FitsOutcome}
 use Rattle.jg_words.specs.declared.thread.Tid.{Tid}
 use Rattle.jg_words.specs.declared.thread.EnvId.{EnvId}
 use Rattle.jg_words.specs.declared.call.Call.{Call}
@@ -24,3 +27,7 @@ IsBegunOnce = (t u : Tid) (e f : Option EnvId) (c d : Call) (x y : List ℕ) →
 -- a call's line is short, so that a list may stand behind it
 abbrev pub IsShort : Type 0
 IsShort = (t : Tid) (e : Option EnvId) (c : Call) → FitsTid t → FitsEnv e → FitsCall c → length (spelling t e c) ≤ 22000
+
+-- an entry's text is one line: printable, of at most 65,536 bytes, and its line feed
+abbrev pub IsOneLine : Type 0
+IsOneLine = (x : Entry) → FitsTid x.tid → FitsEnv x.env → FitsCall x.call → FitsOutcome x.outcome → (line : List ℕ) × (entry_text x ≡ line ++ 10 ∷ []) × All (λ b. IsInRange 32 126 b) line × (length line ≤ 65536)

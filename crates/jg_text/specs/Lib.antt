@@ -6,3 +6,4 @@ pub mod Faults
 pub mod Pieces
 pub mod Journal
 pub mod Laws
+pub mod Begun

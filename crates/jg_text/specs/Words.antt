@@ -69,6 +69,12 @@ abbrev pub FitsRef : Ref → Type 0
 FitsRef Null = Unit {0}
 FitsRef (To kind maker n) = FitsTid maker × (n < 2 ^ 64)
 
+abbrev pub FitsBuf : BufId → Type 0
+FitsBuf b = FitsTid b.maker × (b.n < 2 ^ 64)
+
+abbrev pub FitsField : FieldId → Type 0
+FitsField f = (f.class < 2 ^ 32) × (f.field < 2 ^ 32)
+
 abbrev pub FitsItems : List ℤ → Type 0
 FitsItems xs = (length xs ≤ 1000) × All (λ x. FitsSigned w64 x) xs
 

@@ -2,6 +2,8 @@
 //! spelling of each.
 #![tactic(auto)]
 
+mod begun;
+mod digits;
 mod fault;
 mod groups;
 mod list;
@@ -12,10 +14,13 @@ mod read;
 mod word;
 mod write;
 
+pub use begun::read_begun;
 pub use fault::ScriptFault;
-pub use meanings::{begins_with_one_call, call_is_short, spelt_at_most_once, spelt_has_no_fault};
+pub use meanings::{
+    begins_with_one_call, call_is_short, entry_is_one_line, spelt_at_most_once, spelt_has_no_fault,
+};
 pub use read::{MAX_LINE, read_call};
-pub use write::write_entry;
+pub use write::{push_entry, write_entry};
 
 #[cfg(test)]
 mod tests;

@@ -8,6 +8,7 @@ ghost use Rattle.jg_text.specs.Words.{items_text, FitsItems};
 ghost use Rattle.jg_text.specs.Kinds.{Numbers};
 ghost use Rattle.jg_text.specs.Pieces.{IsKindFault, IsBadNumber, IsBracketed};
 
+use crate::digits::push_signed;
 use crate::fault::ScriptFault;
 use crate::number::{cut_at, signed_number};
 use jg_words::Items;
@@ -74,15 +75,15 @@ pub fn read_items(alloc: Global, text: &[u8]) -> Result<Items, ScriptFault>
 
 /// Writes the list's spelling.
 pub fn push_items(out: &mut String, items: &[i64]) -> Result<(), AllocError>
-    ensures { OnOk result (string_bytes out.new ≡ string_bytes out.old ++ items_text items.now) }
+    ensures written { OnOk result (string_bytes out.new ≡ string_bytes out.old ++ items_text items.now) }
+    ensures fits { OnOk result (All (λ z. FitsSigned w64 z) items.now) }
 {
     out.push_str("[")?;
     for (i, item) in items.iter().enumerate() {
         if i != 0 {
             out.push_str(",")?;
         }
-        let item = *item;
-        write!(out, "{item}")?;
+        push_signed(out, *item)?;
     }
     out.push_str("]")
 }

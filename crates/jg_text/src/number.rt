@@ -1,8 +1,9 @@
 //! Decimal numbers in their one spelling: no leading zero, no plus, and no minus before 0.
 
-ghost use Rattle.std.specs.Prelude.{◌≡◌, ◌≢◌, ℕ, ℤ, ◌<◌, ◌^◌, ◌++◌, ◌∷◌, ◌==◌, false, IfSome, IfNone, All, FitsSigned, IsTrue, ◌↔◌, MatchOption, length, slice_index};
+ghost use Rattle.std.specs.Prelude.{◌≡◌, ◌≢◌, ℕ, ℤ, ◌<◌, ◌≤◌, ◌^◌, ◌++◌, ◌∷◌, ◌==◌, false, IfSome, IfNone, All, FitsSigned, IsTrue, ◌↔◌, MatchOption, length, slice_index};
 ghost use Rattle.std.specs.Int.{w32, w64};
 ghost use Rattle.std.specs.Fmt.{decimal, signed_decimal};
+ghost use Rattle.std.specs.Str.Parse.{AllDigits, digits_value};
 ghost use Rattle.jg_text.specs.Words.{dotted_text};
 ghost use Rattle.jg_text.specs.Pieces.{IsPlain};
 
@@ -15,6 +16,56 @@ fn is_plain(text: &[u8]) -> bool
     text.is_empty() || text[0] != b'+' && (text[0] != b'0' || text.len() == 1)
 }
 
+/// The number that so few digits write that any does fit.
+fn value_of(text: &[u8]) -> Option<u64>
+    requires { length text.now ≤ 19 }
+    ensures some { IfSome result (λ n. AllDigits 10 text.now × (n ≡ digits_value 10 text.now)) }
+    ensures none { IfNone result (¬ AllDigits 10 text.now) }
+{
+    let mut value = 0;
+    for i in 0..text.len() {
+        let byte = text[i];
+        if byte < b'0' || b'9' < byte {
+            return None;
+        }
+        value = value * 10 + u64::from(byte - b'0');
+    }
+    Some(value)
+}
+
+/// The number that a text of at most 19 bytes spells.
+fn short_number(text: &[u8]) -> Option<u64>
+    requires plain { IsPlain text.now }
+    requires short { length text.now ≤ 19 }
+    ensures some { IfSome result (λ n. text.now ≡ decimal n) }
+    ensures fits { IfSome result (λ n. n < 2 ^ 64) }
+    ensures none { IfNone result ((n : ℕ) → n < 2 ^ 64 → text.now ≢ decimal n) }
+{
+    if text.is_empty() {
+        return None;
+    }
+    match value_of(text) {
+        Some(n) => Some(n),
+        None => None,
+    }
+}
+
+/// The number of at most 64 bits that a text of any length spells.
+fn long_number(text: &[u8]) -> Option<u64>
+    requires plain { IsPlain text.now }
+    ensures some { IfSome result (λ n. text.now ≡ decimal n) }
+    ensures fits { IfSome result (λ n. n < 2 ^ 64) }
+    ensures none { IfNone result ((n : ℕ) → n < 2 ^ 64 → text.now ≢ decimal n) }
+{
+    let Ok(text) = str::from_utf8(text) else {
+        return None;
+    };
+    match text.parse::<u64>() {
+        Ok(n) => Some(n),
+        Err(_) => None,
+    }
+}
+
 /// The number of at most 64 bits that the text spells.
 pub fn number(text: &[u8]) -> Option<u64>
     ensures some { IfSome result (λ n. text.now ≡ decimal n) }
@@ -24,12 +75,10 @@ pub fn number(text: &[u8]) -> Option<u64>
     if !is_plain(text) {
         return None;
     }
-    let Ok(text) = str::from_utf8(text) else {
-        return None;
-    };
-    match text.parse::<u64>() {
-        Ok(n) => Some(n),
-        Err(_) => None,
+    if text.len() <= 19 {
+        short_number(text)
+    } else {
+        long_number(text)
     }
 }
 

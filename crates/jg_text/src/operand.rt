@@ -7,6 +7,7 @@ ghost use Rattle.jg_text.specs.Words.{SpellsOperand};
 ghost use Rattle.jg_text.specs.Faults.{fields};
 ghost use Rattle.jg_text.specs.Pieces.{rest_fields, after_spaces, IsKindFault, IsOperandFault};
 
+use crate::digits::push_signed;
 use crate::fault::ScriptFault;
 use crate::list::{push_items, read_items};
 use crate::number::{cut_at, small_signed_number};
@@ -73,8 +74,7 @@ impl Operand for i32 {
     }
 
     fn write(&self, out: &mut String) -> Result<(), AllocError> {
-        let i = *self;
-        write!(out, "{i}")
+        push_signed(out, i64::from(*self))
     }
 }
 

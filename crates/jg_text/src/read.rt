@@ -1,6 +1,6 @@
 //! A line of a script.
 
-ghost use Rattle.std.specs.Prelude.{◌≡◌, ℕ, ◌<◌, ◌∷◌, [], length, IfOk, IfErr, IfSome, IfNone, IsTrue, ◌↔◌, ◌≢◌, All, count_by, ◌==◌, ◌≤◌};
+ghost use Rattle.std.specs.Prelude.{◌≡◌, ℕ, ◌<◌, ◌∷◌, [], length, IfOk, IfErr, IfSome, IfNone, IsTrue, ◌↔◌, ◌≢◌, All, Contains, count_by, ◌==◌, ◌≤◌};
 ghost use Rattle.std.specs.Int.{IsInRange};
 ghost use Rattle.std.specs.Option.{option_copied};
 ghost use Rattle.jg_words.specs.Fun.{name_of, named};
@@ -15,7 +15,7 @@ use crate::fault::ScriptFault;
 use crate::groups;
 use crate::operand::cut;
 use crate::word::{read_env, read_tid};
-use jg_words::{Call, EnvId, Fun, Tid};
+use jg_words::{Call, EnvId, FramesFun, Fun, RefsFun, StringsFun, Tid, VmFun};
 use std::alloc::Global;
 
 /// The most bytes that a line has, without its line feed.
@@ -25,7 +25,14 @@ pub const MAX_LINE: usize = 65_536;
 fn is_printable(line: &[u8]) -> bool
     ensures { IsTrue result ↔ All (λ b. IsInRange 32 126 b) line.now }
 {
-    line.iter().all(|b| *b >= 0x20 && *b <= 0x7e)
+    // No way out of the loop, so that it goes over many bytes at once.
+    let mut printable = true;
+    for i in 0..line.len() {
+        if line[i] < 0x20 || line[i] > 0x7e {
+            printable = false;
+        }
+    }
+    printable
 }
 
 fn count_spaces(text: &[u8]) -> usize
@@ -45,24 +52,56 @@ fn count_fields(rest: Option<&[u8]>) -> usize
     }
 }
 
-fn find_fun(text: &[u8]) -> Option<Fun>
-    ensures { result ≡ named text.now }
+/// The functions whose names have so many bytes, at each length up to the longest.
+const BY_LENGTH: [&[Fun]; 20] = [
+    &[],
+    &[],
+    &[],
+    &[],
+    &[],
+    &[],
+    &[Fun::Vm(VmFun::GetEnv)],
+    &[],
+    &[],
+    &[Fun::Strings(StringsFun::NewString)],
+    &[],
+    &[Fun::Refs(RefsFun::NewLocalRef)],
+    &[Fun::Refs(RefsFun::IsSameObject)],
+    &[Fun::Frames(FramesFun::PopLocalFrame)],
+    &[
+        Fun::Refs(RefsFun::DeleteLocalRef),
+        Fun::Frames(FramesFun::PushLocalFrame),
+    ],
+    &[Fun::Strings(StringsFun::GetStringLength)],
+    &[Fun::Refs(RefsFun::GetObjectRefType)],
+    &[],
+    &[],
+    &[
+        Fun::Vm(VmFun::AttachCurrentThread),
+        Fun::Vm(VmFun::DetachCurrentThread),
+    ],
+];
+
+/// Functions among which those are whose names have so many bytes.
+fn of_length(size: usize) -> &'static [Fun]
+    ensures { (f : FunOf) → length (name_of f) ≡ size → Contains result.now f }
 {
-    Fun::ALL
-        .iter()
-        .copied()
-        .find(|f| f.name().as_bytes() == text)
+    if size < BY_LENGTH.len() {
+        BY_LENGTH[size]
+    } else {
+        &[]
+    }
 }
 
 /// The function of that name.
-fn read_fun(text: &[u8]) -> Option<Fun>
+pub fn read_fun(text: &[u8]) -> Option<Fun>
     ensures some { IfSome result (λ f. text.now ≡ name_of f) }
     ensures none { IfNone result ((f : FunOf) → text.now ≢ name_of f) }
 {
-    match find_fun(text) {
-        Some(fun) => Some(fun),
-        None => None,
-    }
+    of_length(text.len())
+        .iter()
+        .copied()
+        .find(|f| f.name().as_bytes() == text)
 }
 
 /// The thread, the environment and the call that a line spells: fields with single spaces

@@ -1,10 +1,11 @@
 //! Threads, environments, references, buffers and fields, each with one spelling.
 
 ghost use Rattle.std.specs.Prelude.{◌≡◌, ◌≢◌, ℕ, ◌<◌, ◌^◌, ◌∷◌, ◌++◌, IfSome, IfNone, IfOk, IfErr, OnOk, string_bytes};
-ghost use Rattle.jg_text.specs.Words.{tid_text, env_text, ref_text, buf_text, field_text, FitsTid, FitsEnv, FitsRef, SpellsOperand};
+ghost use Rattle.jg_text.specs.Words.{tid_text, env_text, ref_text, buf_text, field_text, FitsTid, FitsEnv, FitsRef, FitsBuf, FitsField, SpellsOperand};
 ghost use Rattle.jg_text.specs.Kinds.{OperandKind, Reference};
 ghost use Rattle.jg_text.specs.Pieces.{IsNoTid, IsNoEnv};
 
+use crate::digits::{push_dotted, push_number};
 use crate::number::{dotted, small_number};
 use jg_words::{BufId, EnvId, FieldId, Kind, Ref, Tid};
 use std::alloc::AllocError;
@@ -74,27 +75,28 @@ pub fn read_ref(text: &[u8]) -> Option<Ref>
 pub fn push_tid(out: &mut String, tid: Tid) -> Result<(), AllocError>
     ensures { OnOk result (string_bytes out.new ≡ string_bytes out.old ++ tid_text tid) }
 {
-    let n = tid.0;
-    write!(out, "T{n}")
+    out.push_str("T")?;
+    push_number(out, u64::from(tid.0))
 }
 
 /// Writes the environment's spelling, or `-` for none.
 pub fn push_env(out: &mut String, env: Option<EnvId>) -> Result<(), AllocError>
-    ensures { OnOk result (string_bytes out.new ≡ string_bytes out.old ++ env_text env) }
+    ensures written { OnOk result (string_bytes out.new ≡ string_bytes out.old ++ env_text env) }
+    ensures fits { OnOk result (FitsEnv env) }
 {
     match env {
         None => out.push_str("-"),
         Some(env) => {
-            let tid = env.tid.0;
-            let session = env.session;
-            write!(out, "E{tid}.{session}")
+            out.push_str("E")?;
+            push_dotted(out, u64::from(env.tid.0), env.session)
         }
     }
 }
 
 /// Writes the reference's spelling.
 pub fn push_ref(out: &mut String, r: Ref) -> Result<(), AllocError>
-    ensures { OnOk result (string_bytes out.new ≡ string_bytes out.old ++ ref_text r) }
+    ensures written { OnOk result (string_bytes out.new ≡ string_bytes out.old ++ ref_text r) }
+    ensures fits { OnOk result (FitsRef r) }
 {
     match r {
         Ref::Null => out.push_str("null"),
@@ -104,26 +106,25 @@ pub fn push_ref(out: &mut String, r: Ref) -> Result<(), AllocError>
                 Kind::Global => "G",
                 Kind::Weak => "W",
             })?;
-            let maker = maker.0;
-            write!(out, "{maker}.{n}")
+            push_dotted(out, u64::from(maker.0), n)
         }
     }
 }
 
 /// Writes the buffer's spelling.
 pub fn push_buf(out: &mut String, b: BufId) -> Result<(), AllocError>
-    ensures { OnOk result (string_bytes out.new ≡ string_bytes out.old ++ buf_text b) }
+    ensures written { OnOk result (string_bytes out.new ≡ string_bytes out.old ++ buf_text b) }
+    ensures fits { OnOk result (FitsBuf b) }
 {
-    let maker = b.maker.0;
-    let n = b.n;
-    write!(out, "B{maker}.{n}")
+    out.push_str("B")?;
+    push_dotted(out, u64::from(b.maker.0), b.n)
 }
 
 /// Writes the field's spelling.
 pub fn push_field(out: &mut String, f: FieldId) -> Result<(), AllocError>
-    ensures { OnOk result (string_bytes out.new ≡ string_bytes out.old ++ field_text f) }
+    ensures written { OnOk result (string_bytes out.new ≡ string_bytes out.old ++ field_text f) }
+    ensures fits { OnOk result (FitsField f) }
 {
-    let class = f.class;
-    let field = f.field;
-    write!(out, "F{class}.{field}")
+    out.push_str("F")?;
+    push_dotted(out, u64::from(f.class), u64::from(f.field))
 }

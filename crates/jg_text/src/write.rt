@@ -4,8 +4,9 @@ ghost use Rattle.std.specs.Prelude.{◌≡◌, ◌++◌, ◌∷◌, IfOk, OnOk, 
 ghost use Rattle.jg_text.specs.Operands.{operand_texts};
 ghost use Rattle.jg_text.specs.Pieces.{after_spaces};
 ghost use Rattle.jg_text.specs.Words.{env_id_text};
-ghost use Rattle.jg_text.specs.Journal.{entry_text, outcome_text, value_text, reply_text, thrown_name};
+ghost use Rattle.jg_text.specs.Journal.{entry_text, outcome_text, value_text, reply_text, thrown_name, FitsValue, FitsOutcome};
 
+use crate::digits::{push_number, push_signed};
 use crate::groups;
 use crate::list::push_items;
 use crate::word::{push_buf, push_env, push_field, push_ref, push_tid};
@@ -27,14 +28,12 @@ fn name_of_thrown(thrown: Thrown) -> &'static str
 
 /// Writes the text of what a passed call answers.
 fn push_value(out: &mut String, value: &Value) -> Result<(), AllocError>
-    ensures { OnOk result (string_bytes out.new ≡ string_bytes out.old ++ value_text value.now) }
+    ensures written { OnOk result (string_bytes out.new ≡ string_bytes out.old ++ value_text value.now) }
+    ensures fits { OnOk result (FitsValue value.now) }
 {
     match value {
         Value::Ok => out.push_str("ok"),
-        Value::Number(n) => {
-            let n = *n;
-            write!(out, "{n}")
-        }
+        Value::Number(n) => push_signed(out, *n),
         Value::Truth(true) => out.push_str("true"),
         Value::Truth(false) => out.push_str("false"),
         Value::Null => out.push_str("null"),
@@ -55,7 +54,8 @@ fn push_value(out: &mut String, value: &Value) -> Result<(), AllocError>
 
 /// Writes the same, with its warning.
 fn push_reply(out: &mut String, reply: &Reply) -> Result<(), AllocError>
-    ensures { OnOk result (string_bytes out.new ≡ string_bytes out.old ++ reply_text reply.now) }
+    ensures written { OnOk result (string_bytes out.new ≡ string_bytes out.old ++ reply_text reply.now) }
+    ensures fits { OnOk result (FitsValue reply.now.value) }
 {
     push_value(out, &reply.value)?;
     if reply.warned {
@@ -66,31 +66,45 @@ fn push_reply(out: &mut String, reply: &Reply) -> Result<(), AllocError>
 
 /// Writes the outcome's text.
 fn push_outcome(out: &mut String, outcome: &Outcome) -> Result<(), AllocError>
-    ensures { OnOk result (string_bytes out.new ≡ string_bytes out.old ++ outcome_text outcome.now) }
+    ensures written { OnOk result (string_bytes out.new ≡ string_bytes out.old ++ outcome_text outcome.now) }
+    ensures fits { OnOk result (FitsOutcome outcome.now) }
 {
     match outcome {
         Outcome::Passed(reply) => push_reply(out, reply),
         Outcome::Denied(rule) => {
             let number = rule.number();
             let name = rule.name();
-            write!(out, "deny {number} {name}")
+            out.push_str("deny ")?;
+            push_number(out, u64::from(number))?;
+            out.push_str(" ")?;
+            out.push_str(name)
         }
     }
 }
 
-/// The entry's line of the journal, with its line feed. Fails only for want of memory.
-pub fn write_entry(alloc: Global, entry: &Entry) -> Result<String, AllocError>
-    ensures { IfOk result (λ text. string_bytes text ≡ entry_text entry.now) }
+/// Writes the entry's line of the journal, with its line feed.
+pub fn push_entry(out: &mut String, entry: &Entry) -> Result<(), AllocError>
+    ensures written { OnOk result (string_bytes out.new ≡ string_bytes out.old ++ entry_text entry.now) }
+    ensures fits { OnOk result (FitsOutcome entry.now.outcome) }
 {
-    let mut out = String::new(alloc);
-    push_tid(&mut out, entry.tid)?;
+    push_tid(out, entry.tid)?;
     out.push_str(" ")?;
-    push_env(&mut out, entry.env)?;
+    push_env(out, entry.env)?;
     out.push_str(" ")?;
     out.push_str(entry.call.fun().name())?;
-    groups::write(&mut out, &entry.call)?;
+    groups::write(out, &entry.call)?;
     out.push_str(" = ")?;
-    push_outcome(&mut out, &entry.outcome)?;
+    push_outcome(out, &entry.outcome)?;
     out.push_str("\n")?;
+    Ok(())
+}
+
+/// The entry's line of the journal, with its line feed. Fails only for want of memory.
+pub fn write_entry(alloc: Global, entry: &Entry) -> Result<String, AllocError>
+    ensures written { IfOk result (λ text. string_bytes text ≡ entry_text entry.now) }
+    ensures fits { OnOk result (FitsOutcome entry.now.outcome) }
+{
+    let mut out = String::with_capacity(alloc, 128)?;
+    push_entry(&mut out, entry)?;
     Ok(out)
 }

@@ -11,6 +11,7 @@ use Rattle.std.proofs.lemmas.Bool.Decides.{nat_tests}
 use Rattle.std.proofs.lemmas.List.Folds.{list_any_none}
 use Rattle.std.proofs.lemmas.Map.Keys.{IsDistinct-from_sorted}
 use Rattle.std.proofs.lemmas.Map.Views.{All-values_from_lookup}
+use Rattle.jg_lists.proofs.Marks.{marks_stay}
 use Rattle.jg_threads.specs.History.{Event, acts_of, pending, is_object, is_pending}
 use Rattle.jg_threads.specs.Rows.{Row, row_or_none}
 use Rattle.jg_threads.specs.Standing.{row_after, Stands}
@@ -91,3 +92,5 @@ by_cases rows e o false sorted stands is =
 -- the rows tell which objects are pending
 pub pending_law : (rows : List (ℕ × Row)) (e : List Event) (o : ℕ) → IsStrictlySortedBy nat_cmp (keys_of rows) → Stands rows e → list_any (λ row. is_object o row.pending) (values_of rows) ≡ is_pending e o
 pending_law rows e o sorted stands = by_cases rows e o (is_pending e o) sorted stands refl
+
+pub ruleset none = (marks_stay)

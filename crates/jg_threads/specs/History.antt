@@ -1,5 +1,7 @@
 -- Sessions, native methods, exceptions and numbers of threads, told by looking back over what threads did.
 -- A list has the newest first. JNI Specification, chapter 5 (attachment), chapter 2 ("Exceptions and Error Codes").
+use Rattle.jg_lists.specs.Acts as acts
+pub use Rattle.jg_lists.specs.Acts.{by, acts_of, how_many}
 use Rattle.std.specs.Prelude.{ℕ, ◌+◌, ◌-◌, Bool, true, false, ◌==◌, if◌then◌else◌, List, [], ◌∷◌, Option, Some, None}
 use Rattle.std.specs.List.{list_any}
 
@@ -16,21 +18,8 @@ pub data Act : Type 0 where
   CountBuffer : Act
 
 -- an act, with the thread that did it
-pub record Event : Type 0 where
-  pub tid : ℕ
-  pub act : Act
-
-abbrev pub by : ℕ → Act → Event
-by t a = record { tid = t; act = a }
-
--- what the thread did
-abbrev pub acts_of : ℕ → List Event → List Act
-acts_of t [] = []
-acts_of t (ev ∷ e) = if ev.tid == t then ev.act ∷ acts_of t e else acts_of t e
-
-abbrev pub how_many : (Act → Bool) → List Act → ℕ
-how_many kind [] = 0
-how_many kind (a ∷ acts) = if kind a then how_many kind acts + 1 else how_many kind acts
+abbrev pub Event : Type 0
+Event = acts.Event Act
 
 abbrev pub is_attach : Act → Bool
 is_attach Attach = true

@@ -1,5 +1,8 @@
 ghost use Rattle.std.specs.Prelude.{◌≡◌};
 ghost use Rattle.jg_threads.specs.History.{is_object};
+ghost use Rattle.jg_lists.specs.Marks.{Marks};
+
+use jg_lists::mark;
 
 /// What is kept of a thread.
 #[derive(Clone, Copy, Debug, PartialEq, Eq)]
@@ -36,6 +39,16 @@ impl Row {
         match self.pending {
             None => false,
             Some(pending) => pending == object,
+        }
+    }
+
+    /// Sets the mark of the thread's pending exception.
+    #[tactic(auto, using(crate::proofs::Pending::none))]
+    pub(crate) fn mark_pending(&self, marks: &mut [bool])
+        ensures { Marks (λ o. is_object o self.now.pending) marks.old marks.new }
+    {
+        if let Some(pending) = self.pending {
+            mark(marks, pending);
         }
     }
 }

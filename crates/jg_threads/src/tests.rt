@@ -76,6 +76,9 @@ fn exceptions(rt: HostRuntime) -> Result<(), Fail> {
     threads.clear_pending(U);
     assert!(rt; threads.is_pending(ObjId(7)));
     assert!(rt; !threads.is_pending(ObjId(8)));
+    let mut marks = [false; 9];
+    threads.mark_held(&mut marks);
+    assert!(rt; marks[7] && !marks[8]);
     assert!(rt; threads.is_attached(T));
     threads.set_pending(T, ObjId(8));
     assert!(rt; !threads.is_pending(ObjId(7)));

@@ -4,7 +4,8 @@ ghost use Rattle.std.specs.List.{list_any};
 ghost use Rattle.std.specs.Ordering.{nat_cmp};
 ghost use Rattle.std.specs.BTreeMap.{IsOrdered, values};
 ghost use Rattle.jg_threads.specs.History.{Event, by, Attach, Detach, Enter, Leave, Raise, Calm, CountRef, CountBuffer, acts_of, attached, sessions, session, depth, pending, refs, buffers, is_object, is_pending};
-ghost use Rattle.jg_threads.specs.Rows.{row_of, CanCount};
+ghost use Rattle.jg_threads.specs.Rows.{row_of, no_row, CanCount};
+ghost use Rattle.jg_lists.specs.Marks.{Marks};
 ghost use Rattle.jg_threads.specs.Standing.{Stands};
 
 use crate::row::{NO_ROW, Row};
@@ -46,6 +47,7 @@ impl<A: Allocator + Clone> Threads<A> {
         ensures env { IfOk result (λ env. (e : List Event) → Stands self.old e → env ≡ record { tid = tid; session = sessions (Attach ∷ acts_of tid.0 e) }) }
         ensures row { OnOk result (row_of self.new tid.0 ≡ record (row_of self.old tid.0) { attached = true; sessions = (if (row_of self.old tid.0).attached then (row_of self.old tid.0).sessions else (row_of self.old tid.0).sessions + 1) }) }
         ensures err { OnErr result (self.new ≡ self.old) }
+        ensures first { OnErr result (row_of self.old tid.0 ≡ no_row) }
     {
         let mut row = self.row(tid);
         if !row.attached {
@@ -194,6 +196,14 @@ impl<A: Allocator + Clone> Threads<A> {
         is_pending_in(&self.rows, object.0)
     }
 
+    /// Sets the mark of each object that is pending in some thread and leaves the other marks. An
+    /// object past the end of `marks` is passed over.
+    pub fn mark_held(&self, marks: &mut [bool])
+        ensures { (e : List Event) → Stands self.now e → Marks (is_pending e) marks.old marks.new }
+    {
+        mark_pending(&self.rows, marks);
+    }
+
     /// The number of the next reference that the thread is handed out, from 1 over all its
     /// sessions.
     pub fn next_ref(&self, tid: Tid) -> u64
@@ -253,4 +263,14 @@ fn is_pending_in<A: Allocator>(rows: &BTreeMap<u16, Row, A>, object: u64) -> boo
     ensures ordered { IsOrdered nat_cmp rows.now }
 {
     rows.values().any(|row| row.has_pending(object))
+}
+
+/// Marks each object that is pending by some row.
+fn mark_pending<A: Allocator>(rows: &BTreeMap<u16, Row, A>, marks: &mut [bool])
+    ensures marks { Marks (λ o. list_any (λ row. is_object o row.pending) (values rows.now)) marks.old marks.new }
+    ensures ordered { IsOrdered nat_cmp rows.now }
+{
+    for row in rows.values() {
+        row.mark_pending(marks);
+    }
 }

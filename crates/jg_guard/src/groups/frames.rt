@@ -1,17 +1,17 @@
-ghost use Rattle.std.specs.Prelude.{◌≡◌, OnOk, OnErr};
+ghost use Rattle.std.specs.Prelude.{◌≡◌, ◌≤◌, OnOk, OnErr};
 ghost use Rattle.jg_words.specs.declared.call.Call.TheVariants.{Frames};
 ghost use Rattle.jg_policy.specs.Stated.{StatedSetup};
-ghost use Rattle.jg_threads.specs.Rows.{CanCount};
 ghost use Rattle.jg_rules.specs.Parts.{Parts, TablesStand};
-ghost use Rattle.jg_rules.specs.View.{ViewStands};
+ghost use Rattle.jg_rules.specs.View.{ViewStands, rows_in};
 ghost use Rattle.jg_rules.specs.Answers.{frames_answer};
-ghost use Rattle.jg_rules.specs.Legal.{answered};
-ghost use Rattle.jg_guard.specs.Tables.{rows_of, SameRows, IsDue};
+ghost use Rattle.jg_guard.specs.Tables.{rows_of, IsDue, IsEffective, KeepsRoom};
+ghost use Rattle.jg_rules.specs.Effects.{done_by};
 
-use crate::hand_out::{hand_out, handing_out, object_of, plain};
+use crate::settle::{handing_out, object_of, plain};
 use crate::tables::Tables;
+use jg_policy::Setup;
 use jg_rules::{Answer, View, look_up};
-use jg_words::{FramesCall, ObjId, Tid, Value};
+use jg_words::{FramesCall, Kind, Tid, Value};
 use std::alloc::{AllocError, Allocator};
 
 /// What a call of the group answers, where it breaks no rule.
@@ -20,33 +20,34 @@ pub(crate) fn answer_frames<A: Allocator + Clone>(
     tid: Tid,
     call: &FramesCall,
 ) -> Answer
-    requires { CanCount view.now.threads.now tid.0 }
+    requires { IsDue view.now.setup.now (rows_in view.now) tid.0 (Frames call.now) }
     ensures { (p : Parts) → ViewStands view.now p → result ≡ frames_answer p tid call.now }
 {
     match call {
         FramesCall::PushLocalFrame { .. } => plain(Value::Ok),
         FramesCall::PopLocalFrame { kept } => {
-            handing_out(view, tid, object_of(look_up(view, tid, *kept)))
+            handing_out(view, tid, Kind::Local, object_of(look_up(view, tid, *kept)))
         }
     }
 }
 
-/// Does what a passed call of the group does. An `Err` leaves all rows as they were.
+/// Does what a call of the group does beside handing out a reference. An `Err` leaves all rows as
+/// they were.
 pub(crate) fn perform_frames<A: Allocator + Clone>(
     tables: &mut Tables<A>,
+    setup: &Setup,
     tid: Tid,
     call: &FramesCall,
-    object: Option<ObjId>,
 ) -> Result<(), AllocError>
-    requires { IsDue tables.old tid.0 (Frames call.now) }
-    ensures stands { OnOk result ((setup : StatedSetup) (p : Parts) → TablesStand setup (rows_of tables.old) p → object ≡ (frames_answer p tid call.now).object → TablesStand setup (rows_of tables.new) (answered p tid (Frames call.now) (frames_answer p tid call.now))) }
-    ensures err { OnErr result (SameRows tables.old tables.new) }
+    requires { IsEffective setup.now (rows_of tables.old) tid (Frames call.now) }
+    ensures stands { OnOk result ((p : Parts) → TablesStand setup.now (rows_of tables.old) p → TablesStand setup.now (rows_of tables.new) (done_by setup.now tid.0 (Frames call.now) p)) }
+    ensures room { OnOk result (KeepsRoom tables.old tables.new tid.0 (Frames call.now)) }
+    ensures err { OnErr result (rows_of tables.new ≡ rows_of tables.old) }
 {
     match call {
         FramesCall::PushLocalFrame { .. } => tables.locals.push(tid),
         FramesCall::PopLocalFrame { .. } => {
             tables.locals.pop(tid);
-            hand_out(tables, tid, object);
             Ok(())
         }
     }

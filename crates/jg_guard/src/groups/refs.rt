@@ -1,17 +1,19 @@
-ghost use Rattle.std.specs.Prelude.{◌≡◌};
+ghost use Rattle.std.specs.Prelude.{◌≡◌, ◌≤◌};
 ghost use Rattle.jg_words.specs.declared.call.Call.TheVariants.{Refs};
 ghost use Rattle.jg_policy.specs.Stated.{StatedSetup};
-ghost use Rattle.jg_threads.specs.Rows.{CanCount};
 ghost use Rattle.jg_rules.specs.Parts.{Parts, TablesStand};
-ghost use Rattle.jg_rules.specs.View.{ViewStands};
+ghost use Rattle.jg_rules.specs.View.{ViewStands, rows_in};
 ghost use Rattle.jg_rules.specs.Answers.{refs_answer, ref_type};
-ghost use Rattle.jg_rules.specs.Legal.{answered};
-ghost use Rattle.jg_guard.specs.Tables.{rows_of, IsDue, deleted_on};
+ghost use Rattle.jg_guard.specs.Tables.{rows_of, IsDue, IsEffective, KeepsRoom};
+ghost use Rattle.jg_guard.specs.Settled.{deleted_on};
+ghost use Rattle.jg_rules.specs.Effects.{done_by};
+ghost use Rattle.jg_locals.specs.Rows.{spare};
 
-use crate::hand_out::{hand_out, handing_out, object_of, plain};
+use crate::settle::{handing_out, object_of, plain};
 use crate::tables::Tables;
+use jg_policy::Setup;
 use jg_rules::{Answer, Named, View, look_up};
-use jg_words::{Kind, ObjId, Ref, RefsCall, Tid, Value};
+use jg_words::{Kind, Ref, RefsCall, Tid, Value};
 use std::alloc::Allocator;
 
 /// What GetObjectRefType says of a reference that names this.
@@ -35,12 +37,12 @@ pub(crate) fn answer_refs<A: Allocator + Clone>(
     tid: Tid,
     call: &RefsCall,
 ) -> Answer
-    requires { CanCount view.now.threads.now tid.0 }
+    requires { IsDue view.now.setup.now (rows_in view.now) tid.0 (Refs call.now) }
     ensures { (p : Parts) → ViewStands view.now p → result ≡ refs_answer p tid call.now }
 {
     match call {
         RefsCall::NewLocalRef { of } => {
-            handing_out(view, tid, object_of(look_up(view, tid, *of)))
+            handing_out(view, tid, Kind::Local, object_of(look_up(view, tid, *of)))
         }
         RefsCall::DeleteLocalRef { .. } => plain(Value::Ok),
         RefsCall::IsSameObject { first, second } => plain(Value::Truth(
@@ -52,18 +54,19 @@ pub(crate) fn answer_refs<A: Allocator + Clone>(
     }
 }
 
-/// Does what a passed call of the group does.
+/// Does what a call of the group does beside handing out a reference.
 pub(crate) fn perform_refs<A: Allocator + Clone>(
     tables: &mut Tables<A>,
+    setup: &Setup,
     tid: Tid,
     call: &RefsCall,
-    object: Option<ObjId>,
 )
-    requires { IsDue tables.old tid.0 (Refs call.now) }
-    ensures { (setup : StatedSetup) (p : Parts) → TablesStand setup (rows_of tables.old) p → object ≡ (refs_answer p tid call.now).object → TablesStand setup (rows_of tables.new) (answered p tid (Refs call.now) (refs_answer p tid call.now)) }
+    requires { IsEffective setup.now (rows_of tables.old) tid (Refs call.now) }
+    ensures stands { (p : Parts) → TablesStand setup.now (rows_of tables.old) p → TablesStand setup.now (rows_of tables.new) (done_by setup.now tid.0 (Refs call.now) p) }
+    ensures room { KeepsRoom tables.old tables.new tid.0 (Refs call.now) }
 {
     match call {
-        RefsCall::NewLocalRef { .. } => hand_out(tables, tid, object),
+        RefsCall::NewLocalRef { .. } => {}
         RefsCall::DeleteLocalRef { of } => delete_local(tables, tid, *of),
         RefsCall::IsSameObject { .. } => {}
         RefsCall::GetObjectRefType { .. } => {}
@@ -71,7 +74,9 @@ pub(crate) fn perform_refs<A: Allocator + Clone>(
 }
 
 fn delete_local<A: Allocator + Clone>(tables: &mut Tables<A>, tid: Tid, reference: Ref)
-    ensures { (setup : StatedSetup) (p : Parts) → TablesStand setup (rows_of tables.old) p → TablesStand setup (rows_of tables.new) (deleted_on tid.0 reference p) }
+    ensures stands { (setup : StatedSetup) (p : Parts) → TablesStand setup (rows_of tables.old) p → TablesStand setup (rows_of tables.new) (deleted_on tid.0 reference p) }
+    ensures room { spare tables.old.locals tid.0 ≤ spare tables.new.locals tid.0 }
+    ensures warnings { tables.new.links ≡ tables.old.links }
 {
     if let Ref::To {
         kind: Kind::Local,

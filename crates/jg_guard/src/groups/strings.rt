@@ -1,23 +1,23 @@
-ghost use Rattle.std.specs.Prelude.{◌≡◌, map, length, pos, true, IfOk, OnOk, OnErr};
+ghost use Rattle.std.specs.Prelude.{◌≡◌, ◌≤◌, map, length, pos, true, IfOk, OnOk, OnErr};
 ghost use Rattle.std.specs.Option.{option_map};
 ghost use Rattle.std.specs.List.{list_all};
 ghost use Rattle.jg_words.specs.declared.call.Call.TheVariants.{Strings};
 ghost use Rattle.jg_policy.specs.Stated.{StatedSetup};
-ghost use Rattle.jg_threads.specs.Rows.{CanCount};
 ghost use Rattle.jg_rules.specs.Parts.{Parts, TablesStand};
-ghost use Rattle.jg_rules.specs.View.{ViewStands};
+ghost use Rattle.jg_rules.specs.View.{ViewStands, rows_in};
 ghost use Rattle.jg_rules.specs.Names.{units_named};
 ghost use Rattle.jg_rules.specs.Effects.{unit_of};
 ghost use Rattle.jg_rules.specs.Rules.{is_unit};
 ghost use Rattle.jg_rules.specs.Answers.{strings_answer};
-ghost use Rattle.jg_rules.specs.Legal.{answered};
-ghost use Rattle.jg_guard.specs.Tables.{rows_of, SameRows, IsDue};
+ghost use Rattle.jg_guard.specs.Tables.{rows_of, IsDue, IsEffective, KeepsRoom};
+ghost use Rattle.jg_rules.specs.Effects.{done_by};
 
-use crate::hand_out::{hand_out, handing_out, object_of, plain};
+use crate::settle::{handing_out, object_of, plain};
 use crate::tables::Tables;
 use jg_heap::Shape;
+use jg_policy::Setup;
 use jg_rules::{Answer, View, look_up};
-use jg_words::{ObjId, StringsCall, Tid, Value};
+use jg_words::{Kind, ObjId, StringsCall, Tid, Value};
 use std::alloc::{AllocError, Allocator};
 
 /// The length of a string, in UTF-16 units; 0 of no object.
@@ -36,11 +36,13 @@ pub(crate) fn answer_strings<A: Allocator + Clone>(
     tid: Tid,
     call: &StringsCall,
 ) -> Answer
-    requires { CanCount view.now.threads.now tid.0 }
+    requires { IsDue view.now.setup.now (rows_in view.now) tid.0 (Strings call.now) }
     ensures { (p : Parts) → ViewStands view.now p → result ≡ strings_answer view.now.setup.now p tid call.now }
 {
     match call {
-        StringsCall::NewString { .. } => { handing_out(view, tid, Some(ObjId(view.heap.len()))) }
+        StringsCall::NewString { .. } => {
+            handing_out(view, tid, Kind::Local, Some(ObjId(view.heap.len())))
+        }
         StringsCall::GetStringLength { string } => {
             let length = length_of(view, object_of(look_up(view, tid, *string)));
             plain(Value::Number(length))
@@ -71,22 +73,23 @@ fn units_of<A: Allocator>(alloc: A, items: &[i64]) -> Result<Vec<u16, A>, AllocE
     Ok(units)
 }
 
-/// Does what a passed call of the group does. An `Err` leaves all rows as they were.
+/// Does what a call of the group does beside handing out a reference. An `Err` leaves all rows as
+/// they were.
 pub(crate) fn perform_strings<A: Allocator + Clone>(
     tables: &mut Tables<A>,
+    setup: &Setup,
     tid: Tid,
     call: &StringsCall,
-    object: Option<ObjId>,
 ) -> Result<(), AllocError>
-    requires { IsDue tables.old tid.0 (Strings call.now) }
-    ensures stands { OnOk result ((setup : StatedSetup) (p : Parts) → TablesStand setup (rows_of tables.old) p → object ≡ (strings_answer setup p tid call.now).object → TablesStand setup (rows_of tables.new) (answered p tid (Strings call.now) (strings_answer setup p tid call.now))) }
-    ensures err { OnErr result (SameRows tables.old tables.new) }
+    requires { IsEffective setup.now (rows_of tables.old) tid (Strings call.now) }
+    ensures stands { OnOk result ((p : Parts) → TablesStand setup.now (rows_of tables.old) p → TablesStand setup.now (rows_of tables.new) (done_by setup.now tid.0 (Strings call.now) p)) }
+    ensures room { OnOk result (KeepsRoom tables.old tables.new tid.0 (Strings call.now)) }
+    ensures err { OnErr result (rows_of tables.new ≡ rows_of tables.old) }
 {
     match call {
         StringsCall::NewString { units } => {
             let units = units_of(tables.alloc.clone()?, units.as_slice())?;
             tables.heap.alloc(Shape::Text(units))?;
-            hand_out(tables, tid, object);
             Ok(())
         }
         StringsCall::GetStringLength { .. } => Ok(()),

@@ -84,6 +84,7 @@ fn units_of<I: MaybeByte, A: Allocator>(
     requires { length items.now < 2 ^ 63 }
     ensures found { IfOk result (λ found. IfSome found (λ units. IsSpeltInItems units.items (map I.number items.now))) }
     ensures none { IfOk result (λ found. IfNone found ((units : List ℕ) → IsSpeltInItems units (map I.number items.now) → ⊥)) }
+    ensures short { IfOk result (λ found. IfSome found (λ units. length units.items ≤ length items.now)) }
 {
     let mut units = Vec::new(alloc);
     let mut at = 0;
@@ -125,6 +126,7 @@ pub fn from_mutf8_items<A: Allocator>(
     ensures decoded { IfOk result (λ found. option_map (λ units. units.items) found ≡ decoded items.now) }
     ensures found { IfOk result (λ found. IfSome found (λ units. IsSpeltInItems units.items items.now)) }
     ensures none { IfOk result (λ found. IfNone found ((units : List ℕ) → IsSpeltInItems units items.now → ⊥)) }
+    ensures short { IfOk result (λ found. IfSome found (λ units. length units.items ≤ length items.now)) }
 {
     units_of(alloc, items)
 }

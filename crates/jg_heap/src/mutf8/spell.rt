@@ -47,7 +47,8 @@ fn unit_len(unit: u16) -> usize
 
 /// How many bytes spell the units: what `GetStringUTFLength` answers.
 pub fn mutf8_len(units: &[u16]) -> usize
-    ensures { result ≡ length (spelt units.now) }
+    ensures len { result ≡ length (spelt units.now) }
+    ensures small { result ≤ 3 * length units.now }
 {
     let mut total = 0;
     for unit in units {

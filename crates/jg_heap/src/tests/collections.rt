@@ -1,20 +1,27 @@
-use crate::{Heap, Roots, Shape, Slot};
+use crate::{Heap, Shape, Slot};
 use jg_words::ObjId;
 use std::test::Fail;
 
-/// Holds the objects of these numbers.
-#[derive(Drop)]
-struct Held<'a>(&'a [u64]);
-
-impl Roots for Held<'_> {
-    ghost use Rattle.std.specs.Prelude.{◌==◌};
-    ghost use Rattle.std.specs.List.{list_any};
-
-    ghost is_held = { λ roots o. list_any (λ n. n == o) roots.0.now };
-
-    fn holds(&self, object: ObjId) -> bool {
-        self.0.iter().any(|n| *n == object.0)
+/// What goes at a collection with these objects as roots.
+fn collect(heap: &mut Heap, roots: &[u64]) -> Option<u64> {
+    let mut room = [true; 32];
+    let marks = &mut room;
+    if heap.len() > 32 {
+        return None;
     }
+    heap.unmark(marks);
+    for root in roots {
+        if *root < 32 {
+            marks[*root as usize] = true;
+        }
+    }
+    let count = heap.count_unheld(marks);
+    let len = heap.len();
+    if len > 32 {
+        return None;
+    }
+    heap.sweep(marks);
+    Some(count)
 }
 
 #[test]
@@ -28,12 +35,12 @@ fn a_chain_goes_one_link_for_each_collection(rt: HostRuntime) -> Result<(), Fail
     assert!(rt; first.0 == 15 && second.0 == 16 && heap.len() == 17);
     assert!(rt; heap.class_of(first) == 3 && heap.array_len(first) == 1);
     heap.set_element(first, 0, Slot::Object(Some(second)));
-    assert_eq!(rt; heap.collect(&Held(&[15])), 0);
-    assert_eq!(rt; heap.collect(&Held(&[])), 1);
+    assert_eq!(rt; collect(&mut heap, &[15]), Some(0));
+    assert_eq!(rt; collect(&mut heap, &[]), Some(1));
     assert!(rt; second.0 < heap.len() && first.0 < heap.len());
     assert!(rt; heap.is_gone(first) && !heap.is_gone(second));
-    assert_eq!(rt; heap.collect(&Held(&[])), 1);
-    assert_eq!(rt; heap.collect(&Held(&[])), 0);
+    assert_eq!(rt; collect(&mut heap, &[]), Some(1));
+    assert_eq!(rt; collect(&mut heap, &[]), Some(0));
     Ok(())
 }
 
@@ -47,10 +54,12 @@ fn an_array_that_holds_itself_never_goes(rt: HostRuntime) -> Result<(), Fail> {
     assert!(rt; array.0 == 15 && heap.len() == 16);
     assert!(rt; heap.class_of(array) == 3 && heap.array_len(array) == 3);
     heap.set_element(array, 2, Slot::Object(Some(array)));
-    assert_eq!(rt; heap.collect(&Held(&[])), 0);
-    assert_eq!(rt; heap.collect(&Held(&[])), 0);
+    assert_eq!(rt; collect(&mut heap, &[]), Some(0));
+    assert_eq!(rt; collect(&mut heap, &[]), Some(0));
+    assert!(rt; array.0 < heap.len());
+    assert!(rt; heap.class_of(array) == 3 && heap.array_len(array) == 3);
     heap.set_element(array, 2, Slot::Object(None));
-    assert_eq!(rt; heap.collect(&Held(&[])), 1);
+    assert_eq!(rt; collect(&mut heap, &[]), Some(1));
     Ok(())
 }
 
@@ -62,9 +71,9 @@ fn a_slot_of_a_gone_object_holds_nothing(rt: HostRuntime) -> Result<(), Fail> {
         length: 2,
         first: Some(text),
     })?;
-    assert_eq!(rt; heap.collect(&Held(&[array.0])), 0);
-    assert_eq!(rt; heap.collect(&Held(&[])), 1);
-    assert_eq!(rt; heap.collect(&Held(&[])), 1);
+    assert_eq!(rt; collect(&mut heap, &[array.0]), Some(0));
+    assert_eq!(rt; collect(&mut heap, &[]), Some(1));
+    assert_eq!(rt; collect(&mut heap, &[]), Some(1));
     assert_eq!(rt; heap.len(), 17);
     Ok(())
 }

@@ -18,7 +18,7 @@ fn a_store_that_finds_no_room_is_refused(rt: HostRuntime) -> Result<(), Fail> {
 fn goes_on<'a>(rt: &impl Abort, room: &'a LocalHeap) -> Result<(), Fail> {
     let mut heap = Heap::new(room, 15)?;
     let mut ballast: Vec<u8, &'a LocalHeap> = Vec::new(room);
-    ballast.try_reserve(8192)?;
+    ballast.try_reserve(49152)?;
     for _ in 0..1000u32 {
         let before = heap.len();
         let shape = Shape::Numbers {
@@ -42,7 +42,7 @@ fn goes_on<'a>(rt: &impl Abort, room: &'a LocalHeap) -> Result<(), Fail> {
 #[test]
 fn a_refused_making_changes_nothing(rt: HostRuntime) -> Result<(), Fail> {
     for step in 0..40usize {
-        let room = LocalHeap::new(rt.alloc(), 16000 + step * 48)?;
+        let room = LocalHeap::new(rt.alloc(), 57000 + step * 48)?;
         goes_on(&rt, &room)?;
         assert_eq!(rt; room.used(), 0);
     }

@@ -12,7 +12,7 @@ use std::alloc::Allocator;
 
 const MAX_CAPACITY: i32 = 65_535;
 
-/// The first of the rules after the first two that a call of the group breaks.
+/// The first of the rules after the first four that a call of the group breaks.
 pub(crate) fn judge_frames<A: Allocator + Clone>(
     view: &View<'_, A>,
     tid: Tid,

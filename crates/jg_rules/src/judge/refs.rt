@@ -19,7 +19,7 @@ fn is_of_another_kind(reference: Ref) -> bool
     }
 }
 
-/// The first of the rules after the first two that a call of the group breaks.
+/// The first of the rules after the first four that a call of the group breaks.
 pub(crate) fn judge_refs<A: Allocator + Clone>(
     view: &View<'_, A>,
     tid: Tid,

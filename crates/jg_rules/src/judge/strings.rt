@@ -17,7 +17,7 @@ fn are_units(items: &[i64]) -> bool
     items.iter().all(|item| 0 <= *item && *item <= 0xFFFF)
 }
 
-/// The first of the rules after the first two that a call of the group breaks.
+/// The first of the rules after the first four that a call of the group breaks.
 pub(crate) fn judge_strings<A: Allocator + Clone>(
     view: &View<'_, A>,
     tid: Tid,

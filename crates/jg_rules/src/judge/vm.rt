@@ -8,7 +8,7 @@ use crate::view::View;
 use jg_words::{Rule, Tid, VmCall};
 use std::alloc::Allocator;
 
-/// The first of the rules after the first two that a call of the group breaks.
+/// The first of the rules after the first four that a call of the group breaks.
 pub(crate) fn judge_vm<A: Allocator + Clone>(
     view: &View<'_, A>,
     tid: Tid,

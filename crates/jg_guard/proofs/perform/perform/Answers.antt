@@ -1,13 +1,37 @@
+use Rattle.std.proofs.Common.{rules, ◌≡◌, true, false}
+use Rattle.jg_rules.specs.Effects.{is_effective}
+use Rattle.jg_guard.specs.Tables.{makes_global}
+use Rattle.jg_guard.proofs.Due.{is_on, attached_caller, takes_env, can_throw, can_settle_global, own_proper, stand_none, stand_global}
 use Rattle.jg_guard.proofs.perform.perform.Goals as goal
 
-pub returns-in_ok-perform_vm-in-Vm-clause-stands : goal.returns-in_ok-perform_vm-in-Vm-clause-stands
-returns-in_ok-perform_vm-in-Vm-clause-stands g c = λ setup p stands is. rw c.in-Vm.is (c.in_ok-perform_vm-in-Vm.ensures.stands setup p stands)
+pub throw_if-requires-clause-attached : goal.throw_if-requires-clause-attached
+throw_if-requires-clause-attached g c =
+    let due = c.requires.due in
+    let given = c.args.given.now in
+    let none : is_effective given.reply.value ≡ false = search rules in
+    let own = own_proper c.args.setup.now due.events c.args.tid c.args.call.now given c.requires.answered in
+    is_on due.events c.args.tables.now.threads c.args.tid.0 due.stand.threads
+    (attached_caller due.events c.args.tid.0 due.env c.args.call.now (takes_env c.args.setup.now due.events c.args.tid c.args.call.now given.reply.value given.reply.warned given.object own none) due.unbroken.is_attached)
 
-pub returns-in-Refs-clause-stands : goal.returns-in-Refs-clause-stands
-returns-in-Refs-clause-stands g c = λ setup p stands is. rw c.in-Refs.is (c.perform_refs.ensures setup p stands (rw c.in-Refs.is at is))
+pub throw_if-requires-clause-exception : goal.throw_if-requires-clause-exception
+throw_if-requires-clause-exception g c =
+    let given = c.args.given.now in
+    let none : is_effective given.reply.value ≡ false = search rules in
+    can_throw c.args.setup.now c.requires.due.events c.args.tid c.args.call.now given.reply.value given.reply.warned given.object (own_proper c.args.setup.now c.requires.due.events c.args.tid c.args.call.now given c.requires.answered) none
 
-pub returns-in_ok-perform_frames-in-Frames-clause-stands : goal.returns-in_ok-perform_frames-in-Frames-clause-stands
-returns-in_ok-perform_frames-in-Frames-clause-stands g c = λ setup p stands is. rw c.in-Frames.is (c.in_ok-perform_frames-in-Frames.ensures.stands setup p stands (rw c.in-Frames.is at is))
+pub returns-then-not-is_effective-clause-stands : goal.returns-then-not-is_effective-clause-stands
+returns-then-not-is_effective-clause-stands g c =
+    let none : is_effective c.args.given.now.reply.value ≡ false = search rules in
+    λ p stands is. stand_none c.args.setup.now _ p c.args.tid c.args.call.now c.args.given.now is none (c.in_ok-throw_if.ensures.stands c.args.setup.now p stands)
 
-pub returns-in_ok-perform_strings-in-Strings-clause-stands : goal.returns-in_ok-perform_strings-in-Strings-clause-stands
-returns-in_ok-perform_strings-in-Strings-clause-stands g c = λ setup p stands is. rw c.in-Strings.is (c.in_ok-perform_strings-in-Strings.ensures.stands setup p stands (rw c.in-Strings.is at is))
+pub settle_global-requires : goal.settle_global-requires
+settle_global-requires g c =
+    let due = c.requires.due in
+    let given = c.args.given.now in
+    let global : makes_global given.reply.value ≡ true = search rules in
+    can_settle_global c.args.setup.now due.events c.args.tables.now c.args.tid due.env c.args.call.now given.reply.value given.reply.warned given.object (own_proper c.args.setup.now due.events c.args.tid c.args.call.now given c.requires.answered) global due.ordinary due.stand due.unbroken.is_attached
+
+pub returns-then-makes_global-clause-stands : goal.returns-then-makes_global-clause-stands
+returns-then-makes_global-clause-stands g c =
+    let global : makes_global c.args.given.now.reply.value ≡ true = search rules in
+    λ p stands is. stand_global c.args.setup.now _ p c.args.tid c.args.call.now c.args.given.now is global (c.in_ok-settle_global.ensures.stands c.args.setup.now p stands)

@@ -2,7 +2,7 @@ use Rattle.std.proofs.Common.{◌≡◌, ◌<◌, rules, sym, subst}
 use Rattle.jg_buffers.specs.Rows.{Rows, row_of, copy_length}
 use Rattle.jg_buffers.specs.Standing.{Stands}
 use Rattle.jg_buffers.proofs.Lookups.{reopened, above_in}
-use Rattle.jg_buffers.proofs.Calls.{seen, write_law, written_numbers}
+use Rattle.jg_buffers.proofs.Calls.{seen, write_law, written_numbers, written_buffers}
 use mir.Syntax.{w64}
 use mir.Val.{to_z, of_z}
 use Rattle.jg_buffers.proofs.buffers.Buffers.write.Goals as goal
@@ -20,3 +20,8 @@ returns-clause-stands g c = λ e stands.
 pub returns-clause-numbers : goal.returns-clause-numbers
 returns-clause-numbers g c = λ k i above.
     written_numbers c.self.inside.copies.entries c.set_item.new.map.entries c.self.inside.pins.entries c.args.buf.maker.0 c.args.buf.n c.args.index _ c.set_item.ensures.set k i (above_in _ _ k i c.self.view_is above)
+
+-- and what is known of each buffer
+pub returns-clause-buffers : goal.returns-clause-buffers
+returns-clause-buffers g c =
+    written_buffers c.self.inside.copies.entries c.set_item.new.map.entries c.self.inside.pins.entries _ c.args.buf.maker.0 c.args.buf.n c.args.index _ c.self.view_is c.set_item.ensures.set

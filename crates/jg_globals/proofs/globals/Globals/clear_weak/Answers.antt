@@ -4,7 +4,7 @@ use Rattle.std.proofs.lemmas.List.{with_items_is}
 use Rattle.jg_globals.specs.Standing.{Stands}
 use Rattle.jg_globals.specs.Seen.{strong_seen, weak_seen}
 use Rattle.std.proofs.lemmas.Bool.Decides.{nat_tests}
-use Rattle.jg_globals.proofs.Lists.{or_false}
+use Rattle.jg_lists.proofs.Marks.{or_false}
 use Rattle.jg_globals.proofs.Lookups.{reopened, above_in}
 use Rattle.jg_globals.proofs.Numbers.{cleared_kept}
 use Rattle.jg_globals.proofs.Steps.{clear_law}

@@ -1,4 +1,4 @@
-use Rattle.std.proofs.Common.{rules, ◌∙◌}
+use Rattle.std.proofs.Common.{rules, ◌∙◌, ◌≡◌, []}
 use Rattle.jg_guard.proofs.guard.Guard.new.Goals as goal
 
 -- the empty journal is legal, and empty tables stand for it
@@ -10,7 +10,11 @@ invariant_of-result g c = record {
   tables = record {
     threads = search rules;
     locals = search rules;
+    globals = search rules;
+    buffers = (let none : c.new-journal.result.items ≡ [] = search rules in rw none c.new-buffers.ensures.stands);
+    monitors = search rules;
     heap = search rules;
+    links = search rules;
     classes = search rules;
   };
 }

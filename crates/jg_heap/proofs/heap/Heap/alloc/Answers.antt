@@ -1,7 +1,8 @@
-use Rattle.std.proofs.Common.{ap, ◌∙◌, sym, length}
+use Rattle.std.proofs.Common.{ap, ◌∙◌, ◌++◌, ◌∷◌, [], ℕ, List, sym, length}
+use Rattle.jg_heap.proofs.Sweeping.{live_made}
 use Rattle.std.proofs.lemmas.List.{length-map}
 use Rattle.jg_heap.specs.Making.{making_of}
-use Rattle.jg_heap.specs.Rows.{Rows}
+use Rattle.jg_heap.specs.Rows.{Row, Rows}
 use Rattle.jg_heap.specs.Kept.{row_of}
 use Rattle.jg_heap.proofs.Told.{count_stands}
 use Rattle.jg_heap.proofs.Calls.{rows_made}
@@ -16,3 +17,8 @@ pub returns-clause-stands : goal.returns-clause-stands
 returns-clause-stands g c e s =
     rows_made c.self.inside.objects.items c.args.self.now c.self.inside.class_count e (making_of c.args.shape) c.in_ok-object.object _
     (ap (λ (r : Rows). r.objects) c.self.view_is) (ap (λ (r : Rows). r.classes) c.self.view_is) s c.in_ok-push.ensures.items c.in_ok-object.ensures
+
+pub invariant_of-self-2 : goal.invariant_of-self-2
+invariant_of-self-2 g c =
+    live_made c.self.inside.objects.items _ c.self.inside.live.items _ c.in_ok-object.object _ c.self.invariant c.in_ok-push.ensures.items (ap (λ (r : Row). r.gone) c.in_ok-object.ensures)
+    (c.len-number.ensures ∙ c.self.inside.objects.ok.0) (c.push_reserved.ensures.items ∙ ap (λ (os : List ℕ). os ++ c.len-number.result ∷ []) c.in_ok-reserve.ensures.items)

@@ -1,10 +1,17 @@
-use Rattle.std.proofs.Common.{ap, sym, ◌∙◌}
+use Rattle.std.proofs.Common.{ap, subst, sym, ◌∙◌}
+use Rattle.jg_heap.specs.Making.{IsArrayClass, TakesItem}
 use Rattle.std.specs.Prelude.{slice_get}
 use Rattle.jg_heap.specs.Rows.{Row, Rows}
 use Rattle.jg_heap.proofs.Told.{kept, value_stands}
 use Rattle.jg_heap.proofs.heap.Heap.element.Goals as goal
 
-pub returns : goal.returns
-returns g c e s =
+pub returns-clause-history : goal.returns-clause-history
+returns-clause-history g c e s =
     let row = kept c.self.inside.objects.items c.args.self.now.objects c.args.object.0 c.index.result.now (ap (λ (r : Rows). r.objects) c.self.view_is) c.requires.made c.index.ensures in
-    value_stands c.args.self.now e c.args.object.0 c.args.index c.slot.result s c.requires.made (ap (λ (r : Row). slice_get r.slots c.args.index) (sym row) ∙ c.slot.ensures)
+    value_stands c.args.self.now e c.args.object.0 c.args.index c.slot.result s c.requires.made (ap (λ (r : Row). slice_get r.slots c.args.index) (sym row) ∙ c.slot.ensures.read)
+
+pub returns-clause-sort : goal.returns-clause-sort
+returns-clause-sort g c =
+    let row = kept c.self.inside.objects.items c.args.self.now.objects c.args.object.0 c.index.result.now (ap (λ (r : Rows). r.objects) c.self.view_is) c.requires.made c.index.ensures in
+    let P : Row → Type 0 = λ (r : Row). IsArrayClass r.class → TakesItem r.class c.slot.result in
+    subst P row c.slot.ensures.sort c.requires.array

@@ -7,4 +7,4 @@ use Rattle.jg_heap.proofs.heap.Heap.field.Goals as goal
 pub returns : goal.returns
 returns g c e s =
     let row = kept c.self.inside.objects.items c.args.self.now.objects c.args.object.0 c.index.result.now (ap (λ (r : Rows). r.objects) c.self.view_is) c.requires.made c.index.ensures in
-    value_stands c.args.self.now e c.args.object.0 c.args.index c.slot.result s c.requires.made (ap (λ (r : Row). slice_get r.slots c.args.index) (sym row) ∙ c.slot.ensures)
+    value_stands c.args.self.now e c.args.object.0 c.args.index c.slot.result s c.requires.made (ap (λ (r : Row). slice_get r.slots c.args.index) (sym row) ∙ c.slot.ensures.read)

@@ -1,6 +1,7 @@
-use Rattle.std.proofs.Common.{ap}
+use Rattle.std.proofs.Common.{ap, refl, sym, ◌∙◌}
+use Rattle.jg_heap.proofs.Sweeping.{live_wrote}
 use Rattle.jg_heap.specs.Rows.{Rows}
-use Rattle.jg_heap.proofs.Told.{kept, slots_within}
+use Rattle.jg_heap.proofs.Told.{kept, made_inside, slots_within}
 use Rattle.jg_heap.proofs.Calls.{row_written, rows_wrote, shapes_wrote, takes_no_text}
 use Rattle.jg_heap.proofs.heap.Heap.set_element.Goals as goal
 
@@ -18,3 +19,8 @@ returns-clause-shapes g c =
     shapes_wrote c.self.inside.objects.items c.args.self.now c.self.inside.class_count c.args.object.0 c.args.index c.args.value c.index_mut.result.now _
     (ap (λ (r : Rows). r.objects) c.self.view_is) c.requires.made c.index_mut.ensures.value
     (row_written c.index_mut.result.now c.set_item.new.self c.args.index c.args.value c.set_item.ensures.class c.set_item.ensures.units c.set_item.ensures.slots)
+
+pub invariant_of-self : goal.invariant_of-self
+invariant_of-self g c =
+    c.self.invariant
+    ∙ sym (live_wrote c.self.inside.objects.items c.args.object.0 c.index_mut.result.now _ (made_inside c.self.inside.objects.items c.args.self.now c.args.object.0 (ap (λ (r : Rows). r.objects) c.self.view_is) c.requires.made) c.index_mut.ensures.value refl)

@@ -3,8 +3,8 @@ use Rattle.jg_heap.specs.Rows.{Row, Rows}
 use Rattle.jg_heap.proofs.Told.{kept, units_stand}
 use Rattle.jg_heap.proofs.heap.Heap.string.Goals as goal
 
-pub returns : goal.returns
-returns g c e s =
-    c.units.ensures
+pub returns-clause-history : goal.returns-clause-history
+returns-clause-history g c e s =
+    c.units.ensures.units
     ∙ ap (λ (r : Row). r.units) (kept c.self.inside.objects.items c.args.self.now.objects c.args.object.0 c.index.result.now (ap (λ (r : Rows). r.objects) c.self.view_is) c.requires c.index.ensures)
     ∙ units_stand c.args.self.now e c.args.object.0 s c.requires

@@ -1,10 +1,9 @@
-use Rattle.jg_locals.specs.Standing.{Stands}
-use Rattle.jg_locals.proofs.EventLaws.{delete_law}
 use Rattle.jg_locals.proofs.Lookups.{reopened}
+use Rattle.jg_locals.proofs.Threads.{table_seen, delete_step, room_up}
 use Rattle.jg_locals.proofs.locals.Locals.delete.Goals as goal
 
--- the local goes
 pub returns-clause-stands : goal.returns-clause-stands
-returns-clause-stands g c = λ e stands.
-    let was : Stands (record { locals = c.self.inside.locals.items; frames = c.self.inside.frames.items }) e = reopened _ _ e c.self.view_is stands in
-    rw c.end_local.ensures.kept (delete_law _ e c.args.tid.0 c.args.n was)
+returns-clause-stands g c = λ e stands. delete_step c.self.inside.stacks c.delete_at.new.stacks c.args.tid.0 c.args.n e c.self.invariant (c.delete_at.ensures.ordered c.self.invariant) c.delete_at.ensures.changes (reopened (table_seen c.self.inside.stacks) c.args.self.now e c.self.view_is stands)
+
+pub returns-clause-room : goal.returns-clause-room
+returns-clause-room g c = room_up c.self.inside.stacks c.delete_at.new.stacks c.args.self.now c.args.tid.0 c.self.view_is c.delete_at.ensures.room

@@ -1,10 +1,10 @@
-use Rattle.std.proofs.Common.{◌≡◌, ◌∙◌, rules}
-use Rattle.std.specs.Option.{is_some}
-use Rattle.jg_locals.specs.Rows.{top}
+use Rattle.std.proofs.Common.{◌∙◌}
 use Rattle.jg_locals.proofs.Lookups.{has_session_law}
+use Rattle.jg_locals.proofs.Threads.{session_seen}
 use Rattle.jg_locals.proofs.locals.Locals.has_session.Goals as goal
 
+pub returns-clause-rows : goal.returns-clause-rows
+returns-clause-rows g c = c.is_some.ensures ∙ session_seen c.self.inside.stacks c.args.self.now c.args.tid.0 c.top_at.result c.self.invariant c.self.view_is c.top_at.ensures
+
 pub returns-clause-history : goal.returns-clause-history
-returns-clause-history g c = λ e stands.
-    let is : c.is_some.result ≡ is_some (top c.args.tid.0 c.args.self.now.rows.frames) = search rules in
-    is ∙ has_session_law _ e c.args.tid.0 stands
+returns-clause-history g c = λ e stands. c.is_some.ensures ∙ (session_seen c.self.inside.stacks c.args.self.now c.args.tid.0 c.top_at.result c.self.invariant c.self.view_is c.top_at.ensures ∙ has_session_law c.args.self.now.rows e c.args.tid.0 stands)

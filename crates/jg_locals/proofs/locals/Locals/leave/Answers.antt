@@ -1,14 +1,17 @@
-use Rattle.std.proofs.Common.{◌≡◌, ◌<◌, Some}
-use Rattle.jg_locals.specs.Rows.{top}
-use Rattle.jg_locals.specs.Standing.{Stands}
-use Rattle.jg_locals.proofs.EventLaws.{leave_law}
-use Rattle.jg_locals.proofs.Lookups.{reopened, entered_top}
+use Rattle.std.proofs.Common.{◌≡◌, ◌<◌, Some, arith}
+use Rattle.jg_locals.specs.Seen.{last, stack_at, frames_in}
+use Rattle.jg_locals.proofs.Lookups.{reopened}
+use Rattle.jg_locals.proofs.Threads.{table_seen, leave_step, entered_some, entered_is, room_up}
 use Rattle.jg_locals.proofs.locals.Locals.leave.Goals as goal
 
--- the activation goes
+pub unwrap-top-requires : goal.unwrap-top-requires
+unwrap-top-requires g c = entered_some c.self.inside.stacks c.args.self.now c.args.tid.0 c.top_at.result c.self.invariant c.self.view_is c.top_at.ensures c.requires
+
 pub returns-clause-stands : goal.returns-clause-stands
 returns-clause-stands g c = λ e stands.
-    let was : Stands (record { locals = c.self.inside.locals.items; frames = c.self.inside.frames.items }) e = reopened _ _ e c.self.view_is stands in
-    let is : top c.args.tid.0 c.self.inside.frames.items ≡ Some c.unwrap-top.result = cc in
-    let some : 0 < c.unwrap-top.result.depth = entered_top _ _ c.args.tid.0 c.unwrap-top.result c.self.view_is is c.requires in
-    rw (c.end_activation.ensures.kept, c.close_activation.ensures) (leave_law _ e c.args.tid.0 c.unwrap-top.result was is some)
+    let is : last (frames_in (stack_at c.args.tid.0 c.self.inside.stacks.entries)) ≡ Some c.unwrap-top.result = cc in
+    let some : 0 < c.unwrap-top.result.depth = omega (arith, entered_is c.self.inside.stacks c.args.self.now c.args.tid.0 c.unwrap-top.result c.self.invariant c.self.view_is is, c.requires) in
+    leave_step c.self.inside.stacks c.leave_at.new.stacks c.args.tid.0 c.unwrap-top.result e c.self.invariant (c.leave_at.ensures.ordered c.self.invariant) is some c.leave_at.ensures.changes (reopened (table_seen c.self.inside.stacks) c.args.self.now e c.self.view_is stands)
+
+pub returns-clause-room : goal.returns-clause-room
+returns-clause-room g c = room_up c.self.inside.stacks c.leave_at.new.stacks c.args.self.now c.args.tid.0 c.self.view_is c.leave_at.ensures.room

@@ -1,14 +1,17 @@
-use Rattle.std.proofs.Common.{◌≡◌, ◌<◌, Some}
-use Rattle.jg_locals.specs.Rows.{top}
-use Rattle.jg_locals.specs.Standing.{Stands}
-use Rattle.jg_locals.proofs.EventLaws.{pop_law}
-use Rattle.jg_locals.proofs.Lookups.{reopened, pushed_top}
+use Rattle.std.proofs.Common.{◌≡◌, ◌<◌, Some, arith}
+use Rattle.jg_locals.specs.Seen.{last, stack_at, frames_in}
+use Rattle.jg_locals.proofs.Lookups.{reopened}
+use Rattle.jg_locals.proofs.Threads.{table_seen, pop_step, pushed_some, pushed_is, room_up}
 use Rattle.jg_locals.proofs.locals.Locals.pop.Goals as goal
 
--- the newest frame goes
+pub unwrap-top-requires : goal.unwrap-top-requires
+unwrap-top-requires g c = pushed_some c.self.inside.stacks c.args.self.now c.args.tid.0 c.top_at.result c.self.invariant c.self.view_is c.top_at.ensures c.requires
+
 pub returns-clause-stands : goal.returns-clause-stands
 returns-clause-stands g c = λ e stands.
-    let was : Stands (record { locals = c.self.inside.locals.items; frames = c.self.inside.frames.items }) e = reopened _ _ e c.self.view_is stands in
-    let is : top c.args.tid.0 c.self.inside.frames.items ≡ Some c.unwrap-top.result = cc in
-    let some : 0 < c.unwrap-top.result.frame = pushed_top _ _ c.args.tid.0 c.unwrap-top.result c.self.view_is is c.requires in
-    rw (c.end_frame.ensures.kept, c.close_frame.ensures) (pop_law _ e c.args.tid.0 c.unwrap-top.result was is some)
+    let is : last (frames_in (stack_at c.args.tid.0 c.self.inside.stacks.entries)) ≡ Some c.unwrap-top.result = cc in
+    let some : 0 < c.unwrap-top.result.frame = omega (arith, pushed_is c.self.inside.stacks c.args.self.now c.args.tid.0 c.unwrap-top.result c.self.invariant c.self.view_is is, c.requires) in
+    pop_step c.self.inside.stacks c.pop_at.new.stacks c.args.tid.0 c.unwrap-top.result e c.self.invariant (c.pop_at.ensures.ordered c.self.invariant) is some c.pop_at.ensures.changes (reopened (table_seen c.self.inside.stacks) c.args.self.now e c.self.view_is stands)
+
+pub returns-clause-room : goal.returns-clause-room
+returns-clause-room g c = room_up c.self.inside.stacks c.pop_at.new.stacks c.args.self.now c.args.tid.0 c.self.view_is c.pop_at.ensures.room

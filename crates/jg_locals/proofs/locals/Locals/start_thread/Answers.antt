@@ -1,13 +1,22 @@
-use Rattle.std.proofs.Common.{◌≡◌, None}
-use Rattle.jg_locals.specs.Rows.{top}
-use Rattle.jg_locals.specs.Standing.{Stands}
-use Rattle.jg_locals.proofs.EventLaws.{start_law}
-use Rattle.jg_locals.proofs.Lookups.{reopened, no_top}
+use Rattle.std.proofs.Common.{◌≡◌, ◌∙◌, ap}
+use Rattle.jg_locals.specs.Rows.{Table}
+use Rattle.jg_locals.specs.Seen.{rows_seen}
+use Rattle.jg_locals.proofs.Threads.{start_step, none_top, next_first, has_stack, starts_from, ok_not_err, restand, on_ok}
 use Rattle.jg_locals.proofs.locals.Locals.start_thread.Goals as goal
 
--- the base frame is added
+pub returns-in_err-add_stack-clause-room : goal.returns-in_err-add_stack-clause-room
+returns-in_err-add_stack-clause-room g c = λ some. absurd (ok_not_err c.add_stack.result _ (c.add_stack.ensures.had (has_stack c.self.inside.stacks c.args.self.now c.args.tid.0 c.self.view_is some)) c.in_err-add_stack.was)
+
+pub open_at-requires-clause-next : goal.open_at-requires-clause-next
+open_at-requires-clause-next g c =
+    let same : rows_seen c.add_stack.new.stacks.entries ≡ c.args.self.now.rows = c.add_stack.ensures.rows ∙ ap (λ (t : Table). t.rows) c.self.view_is in
+    next_first c.add_stack.new.stacks c.args.tid.0 _ (c.add_stack.ensures.ordered c.self.invariant) (none_top (rows_seen c.add_stack.new.stacks.entries) c.args.self.now.rows c.args.tid.0 same c.requires)
+
 pub returns-clause-ok : goal.returns-clause-ok
-returns-clause-ok g c = λ e stands.
-    let was : Stands (record { locals = c.self.inside.locals.items; frames = c.self.inside.frames.items }) e = reopened _ _ e c.self.view_is stands in
-    let is : top c.args.tid.0 c.self.inside.frames.items ≡ None = no_top _ _ c.args.tid.0 c.self.view_is c.requires in
-    rw c.in_ok-push.ensures.items (start_law _ e c.args.tid.0 was is)
+returns-clause-ok g c = on_ok c.open_at.result (λ changes. λ e stands.
+    let same : rows_seen c.add_stack.new.stacks.entries ≡ c.args.self.now.rows = c.add_stack.ensures.rows ∙ ap (λ (t : Table). t.rows) c.self.view_is in
+    let ordered = c.add_stack.ensures.ordered c.self.invariant in
+    start_step c.add_stack.new.stacks c.open_at.new.stacks c.args.tid.0 e ordered (c.open_at.ensures.ordered ordered) (none_top (rows_seen c.add_stack.new.stacks.entries) c.args.self.now.rows c.args.tid.0 same c.requires) changes (restand (rows_seen c.add_stack.new.stacks.entries) c.args.self.now.rows e same stands)) c.open_at.ensures.ok
+
+pub returns-clause-room : goal.returns-clause-room
+returns-clause-room g c = λ some. c.open_at.ensures.has_room (starts_from c.self.inside.stacks c.add_stack.new.stacks c.args.self.now c.args.tid.0 c.self.view_is c.add_stack.ensures.starts some)

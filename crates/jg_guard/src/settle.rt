@@ -1,0 +1,312 @@
+//! What an answer makes, whichever call it was: a reference, a buffer's number, an exception, a
+//! warning.
+
+ghost use Rattle.std.specs.Prelude.{◌≡◌, ◌<◌, ◌∷◌, true, false, None, OnOk, OnErr, IsTrue};
+ghost use Rattle.std.specs.Option.{option_map};
+ghost use Rattle.jg_words.specs.declared.call.Call.{Call};
+ghost use Rattle.jg_policy.specs.Stated.{StatedSetup};
+ghost use Rattle.jg_threads.specs.Rows.{row_of, CanCount};
+ghost use Rattle.jg_rules.specs.Parts.{Parts, TablesStand};
+ghost use Rattle.jg_rules.specs.Names.{object_in, object_count};
+ghost use Rattle.jg_rules.specs.View.{ViewStands};
+ghost use Rattle.jg_rules.specs.Answers.{handed};
+ghost use Rattle.jg_rules.specs.Effects as effects;
+ghost use Rattle.jg_guard.specs.Tables as tables_of;
+ghost use Rattle.jg_guard.specs.Tables.{rows_of, StillStand, CanHandOut, CanMakeGlobal, CanLend, CanSettle, CanSettleGlobal, CanThrow, HasRoom};
+ghost use Rattle.jg_guard.specs.Settled.{local_on, strong_on, weak_on, thrown_on, lent_on, warned_on, saying_of};
+
+use crate::tables::Tables;
+use jg_heap::Shape;
+use jg_rules::{Answer, Named, View};
+use jg_words::{Kind, ObjId, Ref, Reply, Thrown, Tid, Value};
+use std::alloc::{AllocError, Allocator};
+
+/// An answer that makes nothing.
+pub(crate) fn plain(value: Value) -> Answer
+    ensures { result ≡ record { reply = record { value = value; warned = false }; object = None } }
+{
+    Answer {
+        reply: Reply {
+            value,
+            warned: false,
+        },
+        object: None,
+    }
+}
+
+/// The object that is named, if one is.
+pub(crate) fn object_of(named: Named) -> Option<ObjId>
+    ensures { option_map (λ o. o.0) result ≡ object_in named }
+{
+    match named {
+        Named::Nothing | Named::Null => None,
+        Named::Object(object) => Some(object),
+    }
+}
+
+/// The answer of a new reference of the kind for the object, or of null for none.
+pub(crate) fn handing_out<A: Allocator + Clone>(
+    view: &View<'_, A>,
+    tid: Tid,
+    kind: Kind,
+    object: Option<ObjId>,
+) -> Answer
+    requires { CanCount view.now.threads.now tid.0 }
+    ensures { (p : Parts) → ViewStands view.now p → result ≡ handed p tid kind (option_map (λ o. o.0) object) }
+{
+    match object {
+        None => plain(Value::Null),
+        Some(object) => {
+            let n = view.threads.next_ref(tid);
+            Answer {
+                reply: Reply {
+                    value: Value::Reference(Ref::To {
+                        kind,
+                        maker: tid,
+                        n,
+                    }),
+                    warned: false,
+                },
+                object: Some(object),
+            }
+        }
+    }
+}
+
+/// Whether the call does anything of its own.
+pub(crate) fn is_effective(value: &Value) -> bool
+    ensures { result ≡ effects.is_effective value.now }
+{
+    match value {
+        Value::Throw(_) => false,
+        Value::Busy => false,
+        Value::Ok => true,
+        Value::Number(_) => true,
+        Value::Truth(_) => true,
+        Value::Null => true,
+        Value::Reference(_) => true,
+        Value::Buffer(_) => true,
+        Value::Field(_) => true,
+        Value::Environment(_) => true,
+        Value::List(_) => true,
+        Value::Detached => true,
+    }
+}
+
+fn makes_local(value: &Value) -> bool
+    ensures { result ≡ tables_of.makes_local value.now }
+{
+    matches!(
+        value,
+        Value::Reference(Ref::To {
+            kind: Kind::Local,
+            ..
+        })
+    )
+}
+
+/// Whether a global or weak reference is handed out.
+pub(crate) fn makes_global(value: &Value) -> bool
+    ensures { result ≡ tables_of.makes_global value.now }
+{
+    matches!(
+        value,
+        Value::Reference(Ref::To {
+            kind: Kind::Global,
+            ..
+        }) | Value::Reference(Ref::To {
+            kind: Kind::Weak,
+            ..
+        })
+    )
+}
+
+/// Makes room for what the answer makes.
+pub(crate) fn make_room<A: Allocator + Clone>(
+    tables: &mut Tables<A>,
+    tid: Tid,
+    reply: &Reply,
+) -> Result<(), AllocError>
+    ensures ok { OnOk result (HasRoom tables.new tid.0 reply.now) }
+    ensures still { (setup : StatedSetup) → StillStand setup (rows_of tables.old) (rows_of tables.new) }
+    ensures threads { tables.new.threads ≡ tables.old.threads }
+{
+    if reply.warned {
+        tables.links.reserve()?;
+    }
+    if makes_local(&reply.value) {
+        tables.locals.reserve(tid)?;
+    }
+    Ok(())
+}
+
+fn hand_out<A: Allocator + Clone>(tables: &mut Tables<A>, tid: Tid, n: u64, object: ObjId)
+    requires { CanHandOut tables.old tid.0 n }
+    ensures stands { (setup : StatedSetup) (p : Parts) → TablesStand setup (rows_of tables.old) p → TablesStand setup (rows_of tables.new) (local_on tid.0 n object p) }
+    ensures warnings { tables.new.links ≡ tables.old.links }
+{
+    match tables.locals.make(tid, n, object) {
+        Ok(()) => tables.threads.count_ref(tid),
+        Err(_) => unreachable!(),
+    }
+}
+
+fn make_strong<A: Allocator + Clone>(
+    tables: &mut Tables<A>,
+    tid: Tid,
+    maker: Tid,
+    n: u64,
+    object: ObjId,
+) -> Result<(), AllocError>
+    requires { CanMakeGlobal tables.old tid.0 maker.0 n }
+    ensures stands { OnOk result ((setup : StatedSetup) (p : Parts) → TablesStand setup (rows_of tables.old) p → TablesStand setup (rows_of tables.new) (strong_on tid.0 maker.0 n object p)) }
+    ensures err { OnErr result (rows_of tables.new ≡ rows_of tables.old) }
+{
+    tables.globals.make_strong(maker, n, object)?;
+    tables.threads.count_ref(tid);
+    Ok(())
+}
+
+fn make_weak<A: Allocator + Clone>(
+    tables: &mut Tables<A>,
+    tid: Tid,
+    maker: Tid,
+    n: u64,
+    object: ObjId,
+) -> Result<(), AllocError>
+    requires { CanMakeGlobal tables.old tid.0 maker.0 n }
+    ensures stands { OnOk result ((setup : StatedSetup) (p : Parts) → TablesStand setup (rows_of tables.old) p → TablesStand setup (rows_of tables.new) (weak_on tid.0 maker.0 n object p)) }
+    ensures err { OnErr result (rows_of tables.new ≡ rows_of tables.old) }
+{
+    tables.globals.make_weak(maker, n, object)?;
+    tables.threads.count_ref(tid);
+    Ok(())
+}
+
+fn class_number(thrown: Thrown) -> u32
+    ensures { result ≡ effects.class_thrown thrown }
+{
+    match thrown {
+        Thrown::ArrayIndexOutOfBounds => 10,
+        Thrown::StringIndexOutOfBounds => 11,
+        Thrown::NoClassDefFound => 12,
+        Thrown::NoSuchField => 13,
+        Thrown::NoSuchMethod => 14,
+    }
+}
+
+fn throw<A: Allocator + Clone>(
+    tables: &mut Tables<A>,
+    tid: Tid,
+    thrown: Thrown,
+    object: ObjId,
+) -> Result<(), AllocError>
+    requires { IsTrue (row_of tables.old.threads tid.0).attached }
+    ensures stands { OnOk result ((setup : StatedSetup) (p : Parts) → TablesStand setup (rows_of tables.old) p → TablesStand setup (rows_of tables.new) (thrown_on tid.0 thrown object p)) }
+    ensures err { OnErr result (rows_of tables.new ≡ rows_of tables.old) }
+{
+    let fields = Vec::new(tables.alloc.clone()?);
+    tables.heap.alloc(Shape::Plain {
+        class: class_number(thrown),
+        fields,
+    })?;
+    tables.threads.set_pending(tid, object);
+    Ok(())
+}
+
+/// Makes the exception of a call that threw, pending; nothing where a monitor was busy.
+pub(crate) fn throw_if<A: Allocator + Clone>(
+    tables: &mut Tables<A>,
+    tid: Tid,
+    given: &Answer,
+) -> Result<(), AllocError>
+    requires attached { IsTrue (row_of tables.old.threads tid.0).attached }
+    requires exception { CanThrow given.now.reply.value given.now.object }
+    ensures stands { OnOk result ((setup : StatedSetup) (p : Parts) → TablesStand setup (rows_of tables.old) p → TablesStand setup (rows_of tables.new) (effects.settled None tid.0 (saying_of given.now.reply.value) given.now.object p)) }
+    ensures err { OnErr result (rows_of tables.new ≡ rows_of tables.old) }
+{
+    match &given.reply.value {
+        Value::Throw(thrown) => match given.object {
+            Some(object) => {
+                throw(tables, tid, *thrown, object)?;
+                Ok(())
+            }
+            None => unreachable!(),
+        },
+        Value::Busy => Ok(()),
+        _ => unreachable!(),
+    }
+}
+
+/// Makes the global or weak reference that a call hands out.
+pub(crate) fn settle_global<A: Allocator + Clone>(
+    tables: &mut Tables<A>,
+    tid: Tid,
+    given: &Answer,
+) -> Result<(), AllocError>
+    requires { CanSettleGlobal tables.old tid.0 given.now.reply.value given.now.object }
+    ensures stands { OnOk result ((setup : StatedSetup) (p : Parts) → TablesStand setup (rows_of tables.old) p → TablesStand setup (rows_of tables.new) (effects.settled None tid.0 (saying_of given.now.reply.value) given.now.object p)) }
+    ensures err { OnErr result (rows_of tables.new ≡ rows_of tables.old) }
+{
+    match &given.reply.value {
+        Value::Reference(reference) => match (reference, given.object) {
+            (Ref::To { kind, maker, n }, Some(object)) => match kind {
+                Kind::Local => unreachable!(),
+                Kind::Global => {
+                    make_strong(tables, tid, *maker, *n, object)?;
+                    Ok(())
+                }
+                Kind::Weak => {
+                    make_weak(tables, tid, *maker, *n, object)?;
+                    Ok(())
+                }
+            },
+            _ => unreachable!(),
+        },
+        _ => unreachable!(),
+    }
+}
+
+/// Makes what an answer makes, where there is room for it.
+pub(crate) fn settle<A: Allocator + Clone>(tables: &mut Tables<A>, tid: Tid, given: &Answer)
+    requires { CanSettle tables.old tid.0 given.now.reply.value given.now.object }
+    ensures stands { (setup : StatedSetup) (p : Parts) → TablesStand setup (rows_of tables.old) p → TablesStand setup (rows_of tables.new) (effects.settled None tid.0 (saying_of given.now.reply.value) given.now.object p) }
+    ensures warnings { tables.new.links ≡ tables.old.links }
+{
+    match &given.reply.value {
+        Value::Reference(reference) => match (reference, given.object) {
+            (Ref::To { kind, n, .. }, Some(object)) => match kind {
+                Kind::Local => hand_out(tables, tid, *n, object),
+                Kind::Global => unreachable!(),
+                Kind::Weak => unreachable!(),
+            },
+            _ => unreachable!(),
+        },
+        Value::Buffer(_) => tables.threads.count_buf(tid),
+        Value::Throw(_) => unreachable!(),
+        Value::Busy => unreachable!(),
+        Value::Ok => {}
+        Value::Number(_) => {}
+        Value::Truth(_) => {}
+        Value::Null => {}
+        Value::Field(_) => {}
+        Value::Environment(_) => {}
+        Value::List(_) => {}
+        Value::Detached => {}
+    }
+}
+
+/// Notes that the module was warned of, if the answer says so.
+pub(crate) fn warn_if<A: Allocator + Clone>(tables: &mut Tables<A>, warned: bool, home: Option<u32>)
+    requires { warned ≡ true → 0 < tables.old.links.spare_warnings }
+    ensures { (setup : StatedSetup) (p : Parts) → TablesStand setup (rows_of tables.old) p → TablesStand setup (rows_of tables.new) (warned_on warned home p) }
+{
+    if warned {
+        if let Some(home) = home {
+            match tables.links.warn(home) {
+                Ok(()) => {}
+                Err(_) => unreachable!(),
+            }
+        }
+    }
+}

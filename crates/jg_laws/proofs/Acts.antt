@@ -1,0 +1,94 @@
+-- What a thread did, one act or a few acts later.
+use Rattle.std.proofs.Common.{ℕ, ◌≡◌, ◌≢◌, ◌+◌, Bool, true, false, List, [], ◌∷◌, ◌++◌, map, refl, ap, sym, ◌∙◌, arith}
+use Rattle.std.specs.Prelude.{◌==◌, ◌&&◌, not}
+use Rattle.std.specs.List.{list_all}
+use Rattle.std.proofs.lemmas.Bool.Decides.{nat_tests}
+use Rattle.jg_words.specs.Call.{fun_of}
+use Rattle.jg_words.specs.Fun.{needs_env}
+use Rattle.jg_words.specs.declared.call.Call.{Call}
+use Rattle.jg_words.specs.declared.call.Call.TheVariants.{Vm, Refs, Frames, Strings}
+use Rattle.jg_words.specs.declared.call.vm.VmCall.TheVariants.{AttachCurrentThread, DetachCurrentThread, GetEnv}
+use Rattle.jg_policy.specs.Stated.{StatedSetup}
+use Rattle.jg_threads.specs.History.{Act, Attach, Detach, Enter, Leave, Raise, Calm, CountRef, CountBuffer, Event, by, acts_of, attached, refs, is_count_ref, how_many}
+use Rattle.jg_locals.proofs.StandingSteps.{each_thread}
+use Rattle.jg_rules.specs.Parts.{Parts}
+use Rattle.jg_rules.specs.Names.{next_ref}
+use Rattle.jg_rules.specs.Effects.{call_threads, done_if, done_by, if_effective}
+
+pub did_more : (u : ℕ) (a : Act) (te : List Event) → acts_of u (by u a ∷ te) ≡ a ∷ acts_of u te
+did_more u a te = grind (arith, nat_tests)
+
+pub did_same : (t u : ℕ) (a : Act) (te : List Event) → t ≢ u → acts_of t (by u a ∷ te) ≡ acts_of t te
+did_same t u a te differ = grind (arith, nat_tests)
+
+-- an act that hands out nothing leaves each thread's next number
+pub refs_same : (te : List Event) (u : ℕ) (a : Act) → is_count_ref a ≡ false → (t : ℕ) → refs (acts_of t (by u a ∷ te)) ≡ refs (acts_of t te)
+refs_same te u a quiet t =
+    each_thread (λ v. refs (acts_of v (by u a ∷ te)) ≡ refs (acts_of v te)) u
+    (ap refs (did_more u a te) ∙ grind (arith, nat_tests, quiet))
+    (λ v differ. ap refs (did_same v u a te differ))
+    t
+
+-- none of the acts hands out a reference
+abbrev pub are_quiet : List Act → Bool
+are_quiet [] = true
+are_quiet (a ∷ acts) = not (is_count_ref a) && are_quiet acts
+
+refs_if : (b : Bool) (te : List Event) (u : ℕ) (a : Act) (acts : List Act) → (are_quiet acts ≡ true → (t : ℕ) → refs (acts_of t (map (by u) acts ++ te)) ≡ refs (acts_of t te))
+    → is_count_ref a ≡ b → (not b && are_quiet acts) ≡ true → (t : ℕ) → refs (acts_of t (by u a ∷ (map (by u) acts ++ te))) ≡ refs (acts_of t te)
+refs_if true te u a acts rest is quiet t = absurd cc
+refs_if false te u a acts rest is quiet t = refs_same (map (by u) acts ++ te) u a is t ∙ rest quiet t
+
+pub refs_quiet : (te : List Event) (u : ℕ) (acts : List Act) → are_quiet acts ≡ true → (t : ℕ) → refs (acts_of t (map (by u) acts ++ te)) ≡ refs (acts_of t te)
+refs_quiet te u [] quiet t = refl
+refs_quiet te u (a ∷ acts) quiet t = refs_if (is_count_ref a) te u a acts (refs_quiet te u acts) refl quiet t
+
+-- no call hands out a reference among its own events
+call_quiet : (s : StatedSetup) (p : Parts) (t : ℕ) (call : Call) → are_quiet (call_threads s p t call) ≡ true
+call_quiet s p t (Vm AttachCurrentThread) = refl
+call_quiet s p t (Vm DetachCurrentThread) = refl
+call_quiet s p t (Vm GetEnv) = refl
+call_quiet s p t (Refs call) = refl
+call_quiet s p t (Frames call) = refl
+call_quiet s p t (Strings call) = refl
+
+pub next_done : (s : StatedSetup) (p : Parts) (t : ℕ) (call : Call) (u : ℕ) → next_ref (done_by s t call p) u ≡ next_ref p u
+next_done s p t call u = ap (λ n. n + 1) (refs_quiet p.threads t (call_threads s p t call) (call_quiet s p t call) u)
+
+pub next_done_if : (b : Bool) (s : StatedSetup) (p : Parts) (t : ℕ) (call : Call) (u : ℕ) → next_ref (done_if b s t call p) u ≡ next_ref p u
+next_done_if true s p t call u = next_done s p t call u
+next_done_if false s p t call u = refl
+
+-- a thread's own acts come before what it did
+pub acts_own : (u : ℕ) (acts : List Act) (te : List Event) → acts_of u (map (by u) acts ++ te) ≡ acts ++ acts_of u te
+acts_own u [] te = refl
+acts_own u (a ∷ acts) te = did_more u a (map (by u) acts ++ te) ∙ ap (λ xs. a ∷ xs) (acts_own u acts te)
+
+-- none of the acts is a detachment
+abbrev pub stay : List Act → Bool
+stay [] = true
+stay (Detach ∷ acts) = false
+stay (a ∷ acts) = stay acts
+
+stays_attached : (acts old : List Act) → stay acts ≡ true → attached old ≡ true → attached (acts ++ old) ≡ true
+stays_attached [] old is on = on
+stays_attached (Detach ∷ acts) old is on = absurd cc
+stays_attached (Attach ∷ acts) old is on = refl
+stays_attached (Enter ∷ acts) old is on = stays_attached acts old is on
+stays_attached (Leave ∷ acts) old is on = stays_attached acts old is on
+stays_attached (Raise o ∷ acts) old is on = stays_attached acts old is on
+stays_attached (Calm ∷ acts) old is on = stays_attached acts old is on
+stays_attached (CountRef ∷ acts) old is on = stays_attached acts old is on
+stays_attached (CountBuffer ∷ acts) old is on = stays_attached acts old is on
+
+-- no call that takes an environment ends the session
+call_stays : (s : StatedSetup) (p : Parts) (t : ℕ) (call : Call) → needs_env (fun_of call) ≡ true → stay (call_threads s p t call) ≡ true
+call_stays s p t (Vm AttachCurrentThread) env = refl
+call_stays s p t (Vm DetachCurrentThread) env = absurd cc
+call_stays s p t (Vm GetEnv) env = refl
+call_stays s p t (Refs call) env = refl
+call_stays s p t (Frames call) env = refl
+call_stays s p t (Strings call) env = refl
+
+pub attached_done : (s : StatedSetup) (p : Parts) (t : ℕ) (call : Call) → needs_env (fun_of call) ≡ true → attached (acts_of t p.threads) ≡ true → attached (acts_of t (done_by s t call p).threads) ≡ true
+attached_done s p t call env on = rw (acts_own t (call_threads s p t call) p.threads) (stays_attached (call_threads s p t call) (acts_of t p.threads) (call_stays s p t call env) on)

@@ -1,0 +1,79 @@
+-- Marks that are set one after another.
+use Rattle.std.proofs.Common.{◌≡◌, ◌≢◌, ◌<◌, ◌≤◌, ◌+◌, length, get_or, take, ℕ, Bool, true, false, List, [], ◌∷◌, Option, Some, None, refl, ◌∙◌, sym, ap, arith, inl, inr}
+use Rattle.std.specs.Prelude.{◌==◌, ◌||◌, ◌⊎◌, slice_get, slice_set}
+use Rattle.std.specs.List.{list_any}
+use Rattle.std.specs.Option.{option_map}
+use Rattle.std.proofs.lemmas.Bool.Decides.{nat_tests}
+use Rattle.std.proofs.lemmas.List.{get_or-set_same, get_or-set_other, length-set, take_all}
+use Rattle.std.proofs.lemmas.List.Folds.{list_any_more}
+use Rattle.std.proofs.lemmas.Bool.{cases_lt}
+use Rattle.std.proofs.lemmas.Option.{slice_get_past, slice_get-get_or}
+use Rattle.jg_lists.specs.Marks.{Marks}
+
+pub or_false : (b : Bool) → (b || false) ≡ b
+or_false true = refl
+or_false false = refl
+
+or_true : (b : Bool) → (b || true) ≡ true
+or_true true = refl
+or_true false = refl
+
+or_assoc : (a b c : Bool) → ((a || b) || c) ≡ (a || (b || c))
+or_assoc true b c = refl
+or_assoc false b c = refl
+
+set_at : (marks : List Bool) (i o : ℕ) (b : Bool) → (i == o) ≡ b → o < length marks → get_or (slice_set marks i true) o false ≡ (get_or marks o false || b)
+set_at marks i o true is within =
+    let same : i ≡ o = grind (arith, nat_tests) in
+    rw (same, get_or-set_same marks o true false within, or_true (get_or marks o false)) refl
+set_at marks i o false is within =
+    let apart : o ≢ i = grind (arith, nat_tests) in
+    rw (get_or-set_other marks i o true false apart, or_false (get_or marks o false)) refl
+
+within_or_past : (marks : List Bool) (i o : ℕ) → (o < length marks) ⊎ (length marks ≤ o) → slice_get (slice_set marks i true) o ≡ option_map (λ mark. mark || i == o) (slice_get marks o)
+within_or_past marks i o (inl within) =
+    let new : o < length (slice_set marks i true) = simp length-set within in
+    rw (slice_get-get_or (slice_set marks i true) o false new, slice_get-get_or marks o false within) (ap Some (set_at marks i o (i == o) refl within))
+within_or_past marks i o (inr past) =
+    let new : length (slice_set marks i true) ≤ o = simp length-set past in
+    rw (slice_get_past (slice_set marks i true) o new, slice_get_past marks o past) refl
+
+-- one mark is set
+pub marked : (marks : List Bool) (i : ℕ) → Marks (λ o. i == o) marks (slice_set marks i true)
+marked marks i o = within_or_past marks i o (cases_lt o (length marks))
+
+marked_twice : (a b : Bool) (mark : Option Bool) → option_map (λ m. m || b) (option_map (λ m. m || a) mark) ≡ option_map (λ m. m || (a || b)) mark
+marked_twice a b None = refl
+marked_twice a b (Some m) = ap Some (or_assoc m a b)
+
+same_mark : (mark : Option Bool) → mark ≡ option_map (λ m. m || false) mark
+same_mark None = refl
+same_mark (Some m) = ap Some (sym (or_false m))
+
+-- none is set
+pub marks_stay : (marks : List Bool) → Marks (λ o. false) marks marks
+marks_stay marks o = same_mark (slice_get marks o)
+
+-- marks that are set in two turns
+pub marks_more : (before last all : ℕ → Bool) (old mid new : List Bool) → Marks before old mid → Marks last mid new → ((o : ℕ) → all o ≡ (before o || last o)) → Marks all old new
+marks_more before last all old mid new was now both o =
+    now o ∙ ap (option_map (λ m. m || last o)) (was o) ∙ marked_twice (before o) (last o) (slice_get old o) ∙ ap (λ b. option_map (λ m. m || b) (slice_get old o)) (sym (both o))
+
+-- the marks of what one more item of a list names
+pub marks_item : {X : Type 0} (test : X → ℕ → Bool) (xs : List X) (i : ℕ) (d : X) (old mid new : List Bool) → i < length xs → Marks (λ o. list_any (λ x. test x o) (take i xs)) old mid → Marks (test (get_or xs i d)) mid new
+    → Marks (λ o. list_any (λ x. test x o) (take (i + 1) xs)) old new
+marks_item test xs i d old mid new within was now =
+    marks_more (λ o. list_any (λ x. test x o) (take i xs)) (test (get_or xs i d)) (λ o. list_any (λ x. test x o) (take (i + 1) xs)) old mid new was now (λ o. list_any_more (λ x. test x o) xs i d within)
+
+-- those of all items
+pub marks_all : {X : Type 0} (test : X → ℕ → Bool) (xs : List X) (i : ℕ) (old new : List Bool) → length xs ≤ i → Marks (λ o. list_any (λ x. test x o) (take i xs)) old new → Marks (λ o. list_any (λ x. test x o) xs) old new
+marks_all test xs i old new past was o = was o ∙ ap (λ l. option_map (λ m. m || list_any (λ x. test x o) l) (slice_get old o)) (take_all i xs past)
+
+-- with the marks of one item set, those of the rest are left
+pub marks_left : {X : Type 0} (test : X → ℕ → Bool) (x : X) (left rest : List X) (o : ℕ) (mid new : List Bool) (whole : Option Bool) → left ≡ x ∷ rest → Marks (test x) mid new
+    → option_map (λ m. m || list_any (λ y. test y o) left) (slice_get mid o) ≡ whole → option_map (λ m. m || list_any (λ y. test y o) rest) (slice_get new o) ≡ whole
+marks_left test x left rest o mid new whole is now was =
+    ap (option_map (λ m. m || list_any (λ y. test y o) rest)) (now o)
+    ∙ marked_twice (test x o) (list_any (λ y. test y o) rest) (slice_get mid o)
+    ∙ ap (λ l. option_map (λ m. m || list_any (λ y. test y o) l) (slice_get mid o)) (sym is)
+    ∙ was

@@ -1,0 +1,20 @@
+-- What threads did. A list has the newest first.
+use Rattle.std.specs.Prelude.{ℕ, ◌+◌, Bool, ◌==◌, if◌then◌else◌, List, [], ◌∷◌}
+
+-- an act, with the thread that did it
+pub record Event (Act : Type 0) : Type 0 where
+  pub tid : ℕ
+  pub act : Act
+
+abbrev pub by : {Act : Type 0} → ℕ → Act → Event Act
+by t a = record { tid = t; act = a }
+
+-- what the thread did
+abbrev pub acts_of : {Act : Type 0} → ℕ → List (Event Act) → List Act
+acts_of t [] = []
+acts_of t (ev ∷ e) = if ev.tid == t then ev.act ∷ acts_of t e else acts_of t e
+
+-- how many are of the kind
+abbrev pub how_many : {X : Type 0} → (X → Bool) → List X → ℕ
+how_many kind [] = 0
+how_many kind (x ∷ xs) = if kind x then how_many kind xs + 1 else how_many kind xs

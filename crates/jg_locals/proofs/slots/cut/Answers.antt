@@ -1,0 +1,24 @@
+use Rattle.std.proofs.Common.{rules, ◌≡◌, ◌∙◌, true, false, arith}
+use Rattle.jg_locals.specs.Seen.{last, passes, stays}
+use Rattle.jg_locals.proofs.Numbers.{cut_one, sound_front, rises_front, below_all, live_left}
+use Rattle.jg_locals.proofs.slots.cut.Goals as goal
+
+pub loop-from-preserved : goal.loop-from-preserved
+loop-from-preserved g c =
+    let fails : passes (stays c.args.from) (last c.loop-from.slots.items) ≡ false = search rules in
+    let was = c.pop.ensures.items in (
+      cut_one (stays c.args.from) c.pop.new.self.items c.loop-from.slots.items c.pop.result was fails ∙ c.loop-from.invariant.0,
+      rises_front c.pop.new.self.items c.loop-from.slots.items c.pop.result was c.loop-from.invariant.1,
+      (λ frames sound. sound_front c.pop.new.self.items c.loop-from.slots.items c.pop.result frames was (c.loop-from.invariant.2 frames sound)),
+      omega (arith, c.loop-from.invariant.3, c.pop.ensures.len, c.pop.ensures.capacity),
+    )
+
+pub returns-clause-live : goal.returns-clause-live
+returns-clause-live g c =
+    let ends : passes (stays c.args.from) (last c.loop-from.slots.items) ≡ true = search rules in
+    live_left c.args.from c.loop-from.slots.items (below_all c.args.from c.loop-from.slots.items c.loop-from.invariant.1 ends) ∙ c.loop-from.invariant.0
+
+pub returns-clause-below : goal.returns-clause-below
+returns-clause-below g c =
+    let ends : passes (stays c.args.from) (last c.loop-from.slots.items) ≡ true = search rules in
+    below_all c.args.from c.loop-from.slots.items c.loop-from.invariant.1 ends

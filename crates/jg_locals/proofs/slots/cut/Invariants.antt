@@ -1,0 +1,16 @@
+use Rattle.std.proofs.Common.{◌≡◌, ◌≤◌, ◌-◌, List}
+use Rattle.std.specs.Prelude.{filter, vec_len, vec_capacity}
+use Rattle.jg_locals.specs.declared.row.Frame.{Frame}
+use Rattle.jg_locals.specs.Seen.{Chain, is_before, stays, Sound}
+use Rattle.jg_locals.proofs.slots.cut.Given as goal
+
+-- what is cut off does not stay
+abbrev pub invariant-loop-from : goal.invariant-loop-from
+invariant-loop-from g l =
+    (filter (stays l.from) l.slots.items ≡ filter (stays l.from) l.initial.slots.items)
+    × Chain is_before l.slots.items
+    × ((frames : List Frame) → Sound l.initial.slots.items frames → Sound l.slots.items frames)
+    × (vec_capacity l.initial.slots - vec_len l.initial.slots ≤ vec_capacity l.slots - vec_len l.slots)
+
+abbrev pub decreases-loop-from : goal.decreases-loop-from
+decreases-loop-from g l = vec_len l.slots

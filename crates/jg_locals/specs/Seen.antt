@@ -1,0 +1,136 @@
+-- What contracts see of the stacks that the code keeps.
+use Rattle.std.specs.Prelude.{◌≡◌, ◌≢◌, ℕ, Bool, true, false, ◌==◌, ◌&&◌, ◌||◌, not, nat_lt, nat_le, List, [], ◌∷◌, ◌++◌, map, Option, Some, None}
+use Rattle.std.specs.Option.{option_or}
+use Rattle.std.specs.List.{AllByRecursion, list_any}
+use Rattle.std.specs.Map.{lookup}
+use Rattle.std.specs.Ordering.{nat_cmp}
+use Rattle.std.specs.BTreeMap.{BTreeMap, is_at}
+use Rattle.jg_locals.specs.declared.row.Slot.{Slot}
+use Rattle.jg_locals.specs.declared.row.Frame.{Frame}
+use Rattle.jg_locals.specs.Rows.{LocalRow, FrameRow, Rows, Room}
+
+abbrev pub last : {X : Type 0} → List X → Option X
+last [] = None
+last (x ∷ xs) = option_or (last xs) (Some x)
+
+-- each element stands in r to each later one
+abbrev pub Chain : {X : Type 0} → (X → X → Bool) → List X → Type 0
+Chain r [] = Unit {0}
+Chain r (x ∷ xs) = AllByRecursion (λ y. r x y ≡ true) xs × Chain r xs
+
+-- ---- one thread
+
+abbrev pub is_live : Slot → Bool
+is_live s = s.live
+
+-- the slot was made in the frame, in one below it, in that one or one below it
+abbrev pub is_in : Slot → Frame → Bool
+is_in s f = s.depth == f.depth && s.frame == f.frame
+
+abbrev pub is_below : Slot → Frame → Bool
+is_below s f = nat_lt s.depth f.depth || (s.depth == f.depth && nat_lt s.frame f.frame)
+
+abbrev pub is_up_to : Slot → Frame → Bool
+is_up_to s f = nat_lt s.depth f.depth || (s.depth == f.depth && nat_le s.frame f.frame)
+
+-- the slot has a lower number, and its frame is not above the other's
+abbrev pub is_before : Slot → Slot → Bool
+is_before s t = nat_lt s.n t.n && (nat_lt s.depth t.depth || (s.depth == t.depth && nat_le s.frame t.frame))
+
+-- the frame was opened earlier
+abbrev pub is_under : Frame → Frame → Bool
+is_under f g = nat_lt f.depth g.depth || (f.depth == g.depth && nat_lt f.frame g.frame)
+
+abbrev pub is_same_frame : Frame → Frame → Bool
+is_same_frame f g = f.depth == g.depth && f.frame == g.frame
+
+-- the slot is live, and where a frame is named, below it
+abbrev pub stays : Option Frame → Slot → Bool
+stays None s = s.live
+stays (Some f) s = s.live && is_below s f
+
+abbrev pub IsBelowAll : Option Frame → List Slot → Type 0
+IsBelowAll None slots = Unit {0}
+IsBelowAll (Some f) slots = AllByRecursion (λ s. is_below s f ≡ true) slots
+
+abbrev pub passes : (Slot → Bool) → Option Slot → Bool
+passes p None = true
+passes p (Some s) = p s
+
+-- the slots ascend, by number and by frame, and each is of one of the frames
+pub record Sound (slots : List Slot) (frames : List Frame) : Type 0 where
+  pub rises : Chain is_before slots
+  pub inside : AllByRecursion (λ s. list_any (is_in s) frames ≡ true) slots
+
+-- and the frames ascend, and the newest slot is live
+pub record Kept (slots : List Slot) (frames : List Frame) : Type 0 where
+  pub sound : Sound slots frames
+  pub opened : Chain is_under frames
+  pub ends : passes is_live (last slots) ≡ true
+
+-- the live locals and the open frames of one thread, oldest first, with its room
+pub record StackRows : Type 0 where
+  pub locals : List Slot
+  pub frames : List Frame
+  pub room : Room
+
+abbrev pub slot_made : ℕ → ℕ → Frame → Slot
+slot_made n o f = record { n = n; object = o; depth = f.depth; frame = f.frame; live = true }
+
+-- the frame may be opened above the newest
+abbrev pub IsNext : Option Frame → Frame → Type 0
+IsNext None f = Unit {0}
+IsNext (Some g) f = is_under g f ≡ true
+
+abbrev pub is_from : Frame → Option Frame → Bool
+is_from g None = false
+is_from g (Some f) = not (is_under f g)
+
+-- ---- all threads
+
+abbrev pub slots_in : Option StackRows → List Slot
+slots_in None = []
+slots_in (Some v) = v.locals
+
+abbrev pub frames_in : Option StackRows → List Frame
+frames_in None = []
+frames_in (Some v) = v.frames
+
+abbrev pub room_in : Option StackRows → Room
+room_in None = record { locals = 0; frames = 0 }
+room_in (Some v) = v.room
+
+abbrev pub stack_at : ℕ → List (ℕ × StackRows) → Option StackRows
+stack_at t es = lookup (is_at (nat_cmp t)) es
+
+abbrev pub local_row : ℕ → Slot → LocalRow
+local_row t s = record { tid = t; n = s.n; object = s.object; depth = s.depth; frame = s.frame }
+
+abbrev pub frame_row : ℕ → Frame → FrameRow
+frame_row t f = record { tid = t; depth = f.depth; frame = f.frame }
+
+-- what f gives of each entry, one after the other
+abbrev pub gather : {V X : Type 0} → (ℕ → V → List X) → List (ℕ × V) → List X
+gather f [] = []
+gather f (e ∷ es) = f e.0 e.1 ++ gather f es
+
+abbrev pub locals_of : ℕ → StackRows → List LocalRow
+locals_of t v = map (local_row t) v.locals
+
+abbrev pub frames_of : ℕ → StackRows → List FrameRow
+frames_of t v = map (frame_row t) v.frames
+
+abbrev pub rows_seen : List (ℕ × StackRows) → Rows
+rows_seen es = record { locals = gather locals_of es; frames = gather frames_of es }
+
+abbrev pub rooms_seen : List (ℕ × StackRows) → List (ℕ × Room)
+rooms_seen es = map (λ e. (e.0, e.1.room)) es
+
+abbrev pub room_seen : List (ℕ × StackRows) → ℕ → Room
+room_seen es t = room_in (stack_at t es)
+
+-- the thread's stack now has these locals and frames, and the other stacks are as they were
+pub record Changes (u : ℕ) (old new : BTreeMap ℕ StackRows) (slots : List Slot) (opened : List Frame) : Type 0 where
+  pub locals : slots_in (stack_at u new.entries) ≡ slots
+  pub frames : frames_in (stack_at u new.entries) ≡ opened
+  pub others : (t : ℕ) → t ≢ u → stack_at t new.entries ≡ stack_at t old.entries

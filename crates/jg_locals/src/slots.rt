@@ -1,0 +1,218 @@
+//! One thread's list of locals, which ascends by number, and its list of frames.
+
+ghost use Rattle.std.specs.Prelude.{◌≡◌, ◌≢◌, ◌≤◌, ◌<◌, ◌-◌, ◌&&◌, ◌==◌, ◌||◌, ◌↔◌, ℕ, IsTrue, List, All, Some, None, MatchOption, true, false, not, nat_le, filter, find, length, slice_index_or, vec_len, vec_capacity};
+ghost use Rattle.std.specs.Option.{option_map, option_to_list};
+ghost use Rattle.std.specs.List.{AllByRecursion, list_any};
+ghost use Rattle.jg_lists.specs.Marks.{Marks};
+ghost use Rattle.jg_locals.specs.Seen.{Chain, is_before, is_under, is_live, last, passes, stays, is_below, is_from, IsBelowAll, Sound};
+ghost use Rattle.jg_locals.specs.declared.row.Frame.{Frame};
+
+use crate::row::{Frame, Slot};
+use jg_lists::mark;
+use std::alloc::Allocator;
+
+/// Where the local `n` stands, live or dead.
+pub fn place_of(slots: &[Slot], n: u64) -> Option<usize>
+    requires { Chain is_before slots.now }
+    ensures { MatchOption result (AllByRecursion (λ s. (s.n == n) ≡ false) slots.now) (λ i. (i < length slots.now) × ((s : Slot) → (slice_index_or slots.now i s).n ≡ n)) }
+{
+    match slots.binary_search_by_key(&n, |slot| slot.n) {
+        Ok(i) => Some(i),
+        Err(_place) => None,
+    }
+}
+
+/// The object of the live local `n`.
+pub fn object_of(slots: &[Slot], n: u64) -> Option<u64>
+    requires { Chain is_before slots.now }
+    ensures { result ≡ option_map (λ s. s.object) (find (λ s. s.n == n) (filter is_live slots.now)) }
+{
+    let i = place_of(slots, n)?;
+    if slots[i].live {
+        Some(slots[i].object)
+    } else {
+        None
+    }
+}
+
+/// Marks the local `n` dead, and answers whether it was live.
+fn mark_dead<A: Allocator>(slots: &mut Vec<Slot, A>, n: u64) -> bool
+    requires { Chain is_before slots.old.items }
+    ensures marked { filter is_live slots.new.items ≡ filter (λ s. not (s.n == n)) (filter is_live slots.old.items) }
+    ensures sound { (frames : List Frame) → Sound slots.old.items frames → Sound slots.new.items frames }
+    ensures rises { Chain is_before slots.new.items }
+    ensures room { vec_capacity slots.old - vec_len slots.old ≤ vec_capacity slots.new - vec_len slots.new }
+{
+    match place_of(slots, n) {
+        Some(i) => {
+            let was = slots[i].live;
+            slots[i].live = false;
+            was
+        }
+        None => false,
+    }
+}
+
+/// The newest slot, live or dead.
+pub fn newest_slot(slots: &[Slot]) -> Option<Slot>
+    ensures { result ≡ last slots.now }
+{
+    slots.last().copied()
+}
+
+/// The newest frame.
+pub fn newest_frame(frames: &[Frame]) -> Option<Frame>
+    ensures { result ≡ last frames.now }
+{
+    frames.last().copied()
+}
+
+fn is_below(slot: Slot, frame: Frame) -> bool
+    ensures { result ≡ is_below slot frame }
+{
+    slot.depth < frame.depth || slot.depth == frame.depth && slot.frame < frame.frame
+}
+
+/// Whether the newest slot, if any, is live and, where a frame is named, below it.
+fn ends_well(slots: &[Slot], from: Option<Frame>) -> bool
+    ensures ends { result ≡ passes (stays from) (last slots.now) }
+    ensures some { result ≡ false → 0 < length slots.now }
+{
+    let Some(slot) = newest_slot(slots) else {
+        return true;
+    };
+    match from {
+        None => slot.live,
+        Some(frame) => slot.live && is_below(slot, frame),
+    }
+}
+
+/// Cuts off the newest slots that are dead or, where a frame is named, not below it.
+pub fn cut<A: Allocator>(slots: &mut Vec<Slot, A>, from: Option<Frame>)
+    requires { Chain is_before slots.old.items }
+    ensures live { filter is_live slots.new.items ≡ filter (stays from) slots.old.items }
+    ensures below { IsBelowAll from slots.new.items }
+    ensures sound { (frames : List Frame) → Sound slots.old.items frames → Sound slots.new.items frames }
+    ensures ends { passes is_live (last slots.new.items) ≡ true }
+    ensures room { vec_capacity slots.old - vec_len slots.old ≤ vec_capacity slots.new - vec_len slots.new }
+{
+    while !ends_well(slots, from) {
+        slots.pop();
+    }
+}
+
+/// Closes the list up: the dead slots go.
+pub fn close_up<A: Allocator>(slots: &mut Vec<Slot, A>)
+    ensures kept { slots.new.items ≡ filter is_live slots.old.items }
+    ensures room { vec_capacity slots.old - vec_len slots.old ≤ vec_capacity slots.new - vec_len slots.new }
+{
+    slots.retain(|slot| slot.live);
+}
+
+/// Ends the local `n`, and answers whether it was live.
+pub fn end_local<A: Allocator>(slots: &mut Vec<Slot, A>, n: u64) -> bool
+    requires { Chain is_before slots.old.items }
+    ensures live { filter is_live slots.new.items ≡ filter (λ s. not (s.n == n)) (filter is_live slots.old.items) }
+    ensures sound { (frames : List Frame) → Sound slots.old.items frames → Sound slots.new.items frames }
+    ensures ends { passes is_live (last slots.new.items) ≡ true }
+    ensures room { vec_capacity slots.old - vec_len slots.old ≤ vec_capacity slots.new - vec_len slots.new }
+{
+    let was = mark_dead(slots, n);
+    cut(slots, None);
+    was
+}
+
+/// Closes the list up if more than half of it may be dead. `dead` is at least the number of the
+/// dead slots, and so is the answer.
+pub fn close_up_if<A: Allocator>(slots: &mut Vec<Slot, A>, dead: usize) -> usize
+    ensures live { filter is_live slots.new.items ≡ filter is_live slots.old.items }
+    ensures sound { (frames : List Frame) → Sound slots.old.items frames → Sound slots.new.items frames }
+    ensures below { (frame : Frame) → IsBelowAll (Some frame) slots.old.items → IsBelowAll (Some frame) slots.new.items }
+    ensures ends { passes is_live (last slots.old.items) ≡ true → passes is_live (last slots.new.items) ≡ true }
+    ensures room { vec_capacity slots.old - vec_len slots.old ≤ vec_capacity slots.new - vec_len slots.new }
+{
+    let dead = dead.min(slots.len());
+    if dead > slots.len() / 2 {
+        close_up(slots);
+        0
+    } else {
+        dead
+    }
+}
+
+/// Whether `n` is above the number of each live local.
+pub fn is_above_all(slots: &[Slot], n: u64) -> bool
+    requires rises { Chain is_before slots.now }
+    requires ends { passes is_live (last slots.now) ≡ true }
+    ensures { IsTrue result ↔ All (λ s. s.n < n) (filter is_live slots.now) }
+{
+    match newest_slot(slots) {
+        None => true,
+        Some(slot) => slot.n < n,
+    }
+}
+
+fn is_under(frame: Frame, other: Frame) -> bool
+    ensures { result ≡ is_under frame other }
+{
+    frame.depth < other.depth || frame.depth == other.depth && frame.frame < other.frame
+}
+
+/// Whether there is a newest frame, and not one under the other.
+fn ends_from(frames: &[Frame], from: Frame) -> bool
+    ensures ends { result ≡ is_from from (last frames.now) }
+    ensures some { result ≡ true → 0 < length frames.now }
+{
+    match newest_frame(frames) {
+        None => false,
+        Some(frame) => !is_under(frame, from),
+    }
+}
+
+/// Closes the newest frames that are not under the other.
+pub fn close_from<A: Allocator>(frames: &mut Vec<Frame, A>, from: Frame)
+    requires { Chain is_under frames.old.items }
+    ensures kept { frames.new.items ≡ filter (λ f. is_under f from) frames.old.items }
+    ensures room { vec_capacity frames.old - vec_len frames.old ≤ vec_capacity frames.new - vec_len frames.new }
+{
+    while ends_from(frames, from) {
+        frames.pop();
+    }
+}
+
+/// Whether some live local names the object.
+pub fn names_object(slots: &[Slot], object: u64) -> bool
+    ensures { result ≡ list_any (λ s. s.object == object) (filter is_live slots.now) }
+{
+    some_names(slots, object)
+}
+
+fn some_names(slots: &[Slot], object: u64) -> bool
+    ensures { result ≡ list_any (λ s. s.live && s.object == object) slots.now }
+{
+    slots.iter().any(|slot| slot.live && slot.object == object)
+}
+
+/// Sets the mark of the slot's object, if the slot is live.
+fn mark_if_live(slot: &Slot, marks: &mut [bool])
+    ensures { Marks (λ o. slot.now.live && slot.now.object == o) marks.old marks.new }
+{
+    if slot.live {
+        mark(marks, slot.object);
+    }
+}
+
+/// Marks each object that a live local names. Objects past the end of `marks` are passed over.
+pub fn mark_named(slots: &[Slot], marks: &mut [bool])
+    ensures { Marks (λ o. list_any (λ s. s.object == o) (filter is_live slots.now)) marks.old marks.new }
+{
+    mark_some(slots, marks);
+}
+
+fn mark_some(slots: &[Slot], marks: &mut [bool])
+    ensures { Marks (λ o. list_any (λ s. s.live && s.object == o) slots.now) marks.old marks.new }
+{
+    for slot in slots {
+        mark_if_live(slot, marks);
+    }
+}

@@ -1,0 +1,54 @@
+-- Native access (JEP 472): the class that a call asks for it with, and what the setup says of its module.
+use Rattle.std.specs.Prelude.{ℕ, ◌&&◌, Bool, true, false, not, Option, Some, None, option_and_then}
+use Rattle.jg_words.specs.declared.call.Call.{Call}
+use Rattle.jg_words.specs.declared.call.Call.TheVariants.{Vm, Refs, Frames, Strings}
+use Rattle.jg_words.specs.declared.call.vm.VmCall.{VmCall}
+use Rattle.jg_words.specs.declared.call.vm.VmCall.TheVariants.{AttachCurrentThread, DetachCurrentThread, GetEnv}
+use Rattle.jg_policy.specs.declared.access.Access.{Access}
+use Rattle.jg_policy.specs.declared.access.Access.TheVariants.{Allowed, AllowedWithWarning, Refused}
+use Rattle.jg_policy.specs.declared.access.Operation.TheVariants.{Load}
+use Rattle.jg_policy.specs.Stated.{StatedSetup}
+use Rattle.jg_policy.specs.Access.{access_of}
+use Rattle.jg_policy.specs.Classes.{module_of}
+use Rattle.jg_policy.specs.Links.{warned}
+use Rattle.jg_rules.specs.Parts.{Parts}
+
+-- the class whose module decides
+abbrev pub vm_class : StatedSetup → Parts → ℕ → VmCall → Option ℕ
+vm_class s p t AttachCurrentThread = None
+vm_class s p t DetachCurrentThread = None
+vm_class s p t GetEnv = None
+
+abbrev pub native_class : StatedSetup → Parts → ℕ → Call → Option ℕ
+native_class s p t (Vm call) = vm_class s p t call
+native_class s p t (Refs call) = None
+native_class s p t (Frames call) = None
+native_class s p t (Strings call) = None
+
+-- the number of the class's module
+abbrev pub home_of : StatedSetup → Option ℕ → Option ℕ
+home_of s class = option_and_then (module_of s) class
+
+abbrev pub is_refused : Access → Bool
+is_refused Allowed = false
+is_refused AllowedWithWarning = false
+is_refused Refused = true
+
+-- version 1 of the setup treats each operation alike
+abbrev pub refuses : StatedSetup → Option ℕ → Bool
+refuses s None = false
+refuses s (Some class) = is_refused (access_of s class Load)
+
+abbrev pub is_warning : Access → Bool
+is_warning Allowed = false
+is_warning AllowedWithWarning = true
+is_warning Refused = false
+
+abbrev pub unwarned : Parts → Option ℕ → Bool
+unwarned p None = false
+unwarned p (Some home) = not (warned p.links home)
+
+-- the first use of a module whose access comes with a warning
+abbrev pub warns : StatedSetup → Parts → Option ℕ → Bool
+warns s p None = false
+warns s p (Some class) = is_warning (access_of s class Load) && unwarned p (module_of s class)

@@ -1,0 +1,33 @@
+-- Which functions may be called inside a critical region, and which with an exception pending.
+use Rattle.std.specs.Prelude.{Bool, true, false}
+use Rattle.jg_words.specs.declared.fun.Fun.{Fun}
+use Rattle.jg_words.specs.declared.fun.Fun.TheVariants.{Vm, Refs, Frames, Strings}
+use Rattle.jg_words.specs.declared.fun.vm.VmFun.{VmFun}
+use Rattle.jg_words.specs.declared.fun.vm.VmFun.TheVariants.{AttachCurrentThread, DetachCurrentThread, GetEnv}
+use Rattle.jg_words.specs.declared.fun.refs.RefsFun.{RefsFun}
+use Rattle.jg_words.specs.declared.fun.refs.RefsFun.TheVariants.{NewLocalRef, DeleteLocalRef, IsSameObject, GetObjectRefType}
+
+-- inside a critical region none of these (JNI Specification, chapter 4, GetPrimitiveArrayCritical)
+abbrev pub passes_critical : Fun → Bool
+passes_critical (Vm fun) = false
+passes_critical (Refs fun) = false
+passes_critical (Frames fun) = false
+passes_critical (Strings fun) = false
+
+abbrev pub vm_passes_pending : VmFun → Bool
+vm_passes_pending AttachCurrentThread = true
+vm_passes_pending DetachCurrentThread = true
+vm_passes_pending GetEnv = true
+
+abbrev pub refs_passes_pending : RefsFun → Bool
+refs_passes_pending NewLocalRef = false
+refs_passes_pending DeleteLocalRef = true
+refs_passes_pending IsSameObject = false
+refs_passes_pending GetObjectRefType = false
+
+-- with an exception pending (JNI Specification, chapter 2, "Exceptions and Error Codes")
+abbrev pub passes_pending : Fun → Bool
+passes_pending (Vm fun) = vm_passes_pending fun
+passes_pending (Refs fun) = refs_passes_pending fun
+passes_pending (Frames fun) = true
+passes_pending (Strings fun) = false

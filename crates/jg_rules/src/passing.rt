@@ -1,0 +1,49 @@
+ghost use Rattle.std.specs.Prelude.{◌≡◌};
+ghost use Rattle.jg_rules.specs.Passing.{passes_critical, vm_passes_pending, refs_passes_pending, passes_pending};
+
+use jg_words::{Fun, RefsFun, VmFun};
+
+/// Whether the function may be called inside a critical region.
+pub(crate) fn passes_critical_region(fun: Fun) -> bool
+    ensures { result ≡ passes_critical fun }
+{
+    match fun {
+        Fun::Vm(_) => false,
+        Fun::Refs(_) => false,
+        Fun::Frames(_) => false,
+        Fun::Strings(_) => false,
+    }
+}
+
+fn vm_passes(fun: VmFun) -> bool
+    ensures { result ≡ vm_passes_pending fun }
+{
+    match fun {
+        VmFun::AttachCurrentThread => true,
+        VmFun::DetachCurrentThread => true,
+        VmFun::GetEnv => true,
+    }
+}
+
+fn refs_passes(fun: RefsFun) -> bool
+    ensures { result ≡ refs_passes_pending fun }
+{
+    match fun {
+        RefsFun::NewLocalRef => false,
+        RefsFun::DeleteLocalRef => true,
+        RefsFun::IsSameObject => false,
+        RefsFun::GetObjectRefType => false,
+    }
+}
+
+/// Whether the function may be called with an exception pending.
+pub(crate) fn passes_pending_exception(fun: Fun) -> bool
+    ensures { result ≡ passes_pending fun }
+{
+    match fun {
+        Fun::Vm(fun) => vm_passes(fun),
+        Fun::Refs(fun) => refs_passes(fun),
+        Fun::Frames(_) => true,
+        Fun::Strings(_) => false,
+    }
+}

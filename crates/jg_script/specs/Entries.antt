@@ -1,0 +1,61 @@
+-- What taking one call does, and what replaying one line of a journal does. No public contract
+-- stands on this.
+use Rattle.std.specs.Prelude.{◌≡◌, ℕ, ◌<◌, ◌≤◌, List, [], ◌∷◌, ◌++◌, length, Option, Result, Ok, Err, ◌⊎◌, Bool, true, false}
+use Rattle.jg_words.specs.declared.thread.Tid.{Tid}
+use Rattle.jg_words.specs.declared.thread.EnvId.{EnvId}
+use Rattle.jg_words.specs.declared.call.Call.{Call}
+use Rattle.jg_words.specs.declared.entry.Entry.{Entry}
+use Rattle.jg_rules.specs.Effects.{parts}
+use Rattle.jg_rules.specs.Legal.{entry_at}
+use Rattle.jg_guard.specs.Guard.{State}
+use Rattle.jg_text.specs.Begun.{BeginsCall}
+use Rattle.jg_text.specs.Journal.{entry_text}
+use Rattle.jg_script.specs.Checked.{IsScript}
+use Rattle.jg_script.specs.Devices.{IsOneLine}
+use Rattle.jg_script.specs.Replayed.{GoesOn}
+use Rattle.jg_script.specs.declared.replay.Verdict.{Verdict}
+use Rattle.jg_script.specs.declared.replay.Verdict.TheVariants.{Legal, Differs}
+use Rattle.jg_script.specs.declared.run_fault.RunFault.{RunFault}
+use Rattle.jg_script.specs.declared.run_fault.RunFault.TheVariants.{Script, Limit, NoMemory, Read, Write}
+
+-- the entry of a call that the guard takes next
+abbrev pub next_entry : State → Tid → Option EnvId → Call → Entry
+next_entry guard t env call = entry_at guard.setup (parts guard.setup guard.journal) t env call
+
+-- the guard took it
+pub record Took (old new : State) (e : Entry) : Type 0 where
+  pub journal : new.journal ≡ e ∷ old.journal
+  pub room : length old.journal < old.limit
+
+-- why line n's call isn't answered: it isn't taken, or its entry's line can't be had
+abbrev pub FailsCall : State → State → Entry → ℕ → RunFault → Type 0
+FailsCall old new e n (Limit line) = (new ≡ old) × (length old.journal ≡ old.limit) × (line ≡ n)
+FailsCall old new e n (NoMemory line) = ((new ≡ old) ⊎ Took old new e) × (line ≡ n)
+FailsCall old new e n (Script line fault) = ⊥
+FailsCall old new e n (Read line) = ⊥
+FailsCall old new e n (Write line) = ⊥
+
+-- what the reader has left begins with this text: then comes the line feed, or nothing, or the
+-- text has more bytes than a line may have
+abbrev pub IsCut : List ℕ → List ℕ → Type 0
+IsCut text tail = (tail ≡ []) ⊎ (((more : List ℕ) × (tail ≡ 10 ∷ more)) ⊎ (length text ≡ 65537))
+
+-- what replaying line n did: the guard took its entry, or there is no such entry
+abbrev pub Replays : State → State → List ℕ → ℕ → Result Bool RunFault → Type 0
+Replays old new text n (Ok true) = (e : Entry) × Took old new e × IsScript (e ∷ []) × (entry_text e ≡ text ++ 10 ∷ []) × (length text ≤ 65536)
+Replays old new text n (Ok false) = (tail : List ℕ) → IsOneLine text → IsCut text tail → ¬ GoesOn old.setup old.journal (text ++ tail)
+Replays old new text n (Err (NoMemory line)) = line ≡ n
+Replays old new text n (Err (Script line fault)) = ⊥
+Replays old new text n (Err (Limit line)) = ⊥
+Replays old new text n (Err (Read line)) = ⊥
+Replays old new text n (Err (Write line)) = ⊥
+
+-- how a line past the limit is answered
+abbrev pub IsPast : List ℕ → ℕ → Result Verdict RunFault → Type 0
+IsPast text n (Ok (Differs line)) = (line ≡ n) × (¬ BeginsCall text)
+IsPast text n (Ok Legal) = ⊥
+IsPast text n (Err (Limit line)) = (line ≡ n) × BeginsCall text
+IsPast text n (Err (NoMemory line)) = line ≡ n
+IsPast text n (Err (Script line fault)) = ⊥
+IsPast text n (Err (Read line)) = ⊥
+IsPast text n (Err (Write line)) = ⊥

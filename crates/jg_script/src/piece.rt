@@ -1,0 +1,60 @@
+//! A piece of a line, of what a buffered device shows.
+
+ghost use Rattle.std.specs.Prelude.{◌≡◌, ◌<◌, IfOk, OnErr};
+ghost use Rattle.std.specs.Io.KnownBytes.{Keeps};
+ghost use Rattle.jg_script.specs.Devices.{TakesPiece};
+
+use memchr::memchr;
+use std::io::BufRead;
+
+/// Why a line can't be had.
+#[derive(Clone, Copy, Debug, PartialEq, Eq)]
+pub enum LineFault {
+    NoMemory,
+    Read,
+}
+
+/// How a piece ended: at a line feed, or within its line. `Nothing` is no piece, since the device
+/// shows nothing.
+#[derive(Clone, Copy, Debug, PartialEq, Eq)]
+pub enum Piece {
+    Feed,
+    More,
+    Nothing,
+}
+
+/// Takes all up to the next line feed that one look at the device shows, and at most `room` bytes.
+/// They go to the line's end, without the line feed. Where memory runs out nothing is taken.
+pub fn take_piece<B: BufRead>(
+    device: &mut B,
+    room: usize,
+    line: &mut Vec<u8>,
+) -> Result<Piece, LineFault>
+    requires { 0 < room }
+    ensures taken { IfOk result (TakesPiece (B.remaining device.old) (B.remaining device.new) line.old.items line.new.items room) }
+    ensures kept { OnErr result (Keeps (B.remaining device.old) (B.remaining device.new) × (line.new.items ≡ line.old.items)) }
+{
+    let Ok(shown) = device.fill_buf() else {
+        return Err(LineFault::Read);
+    };
+    if shown.is_empty() {
+        return Ok(Piece::Nothing);
+    }
+    let most = shown.len().min(room);
+    match memchr(b'\n', &shown[..most]) {
+        Some(i) => {
+            if line.extend_from_slice(&shown[..i]).is_err() {
+                return Err(LineFault::NoMemory);
+            }
+            device.consume(i + 1);
+            Ok(Piece::Feed)
+        }
+        None => {
+            if line.extend_from_slice(&shown[..most]).is_err() {
+                return Err(LineFault::NoMemory);
+            }
+            device.consume(most);
+            Ok(Piece::More)
+        }
+    }
+}

@@ -1,0 +1,6 @@
+use Rattle.std.proofs.Common.{arith}
+use Rattle.jg_text.proofs.Plain.{always}
+use Rattle.jg_text.proofs.word.push_buf.Goals as goal
+
+pub returns-clause-fits : goal.returns-clause-fits
+returns-clause-fits c = always c.push_dotted.result (omega arith, omega arith)
