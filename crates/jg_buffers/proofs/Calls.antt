@@ -38,16 +38,20 @@ own_key t k = at_pair (t, k) (t, k) ∙ grind (arith, nat_tests)
 changed_here : {X : Type 0} (es news : List ((ℕ × ℕ) × X)) (t k : ℕ) (w : Option X) → Changes es news t k w → lookup (is_at (pair_cmp (t, k))) news ≡ w
 changed_here es news t k w put = put (t, k) ∙ ap (λ b. if b then w else lookup (is_at (pair_cmp (t, k))) es) (own_key t k)
 
-same_elsewhere : {X : Type 0} (es news : List ((ℕ × ℕ) × X)) (t k : ℕ) (w : Option X) → Changes es news t k w → (m n : ℕ) → is_same m n t k ≡ false → lookup (is_at (pair_cmp (m, n))) news ≡ lookup (is_at (pair_cmp (m, n))) es
+same_elsewhere : {X : Type 0} (es news : List ((ℕ × ℕ) × X)) (t k : ℕ) (w : Option X) → Changes es news t k w → (m n : ℕ) → is_same m n t k ≡ false
+    → lookup (is_at (pair_cmp (m, n))) news ≡ lookup (is_at (pair_cmp (m, n))) es
 same_elsewhere es news t k w put m n apart = put (m, n) ∙ ap (λ b. if b then w else lookup (is_at (pair_cmp (m, n))) es) (other_key m n t k apart)
 
-exact_found : {X : Type 0} (f : (ℕ × ℕ) × X → Buffer) (keyed : Keyed f) (es : List ((ℕ × ℕ) × X)) → IsStrictlySortedBy pair_cmp (keys_of es) → (m n : ℕ) → filter (is_buffer m n) (map f es) ≡ listed (find (is_buffer m n) (map f es))
+exact_found : {X : Type 0} (f : (ℕ × ℕ) × X → Buffer) (keyed : Keyed f) (es : List ((ℕ × ℕ) × X)) → IsStrictlySortedBy pair_cmp (keys_of es) → (m n : ℕ)
+    → filter (is_buffer m n) (map f es) ≡ listed (find (is_buffer m n) (map f es))
 exact_found f keyed es sorted m n = exact f keyed es sorted m n ∙ ap listed (sym (found_row f keyed m n es))
 
-found_same : {X : Type 0} (f : (ℕ × ℕ) × X → Buffer) (keyed : Keyed f) (es news : List ((ℕ × ℕ) × X)) (m n : ℕ) → lookup (is_at (pair_cmp (m, n))) news ≡ lookup (is_at (pair_cmp (m, n))) es → find (is_buffer m n) (map f news) ≡ find (is_buffer m n) (map f es)
+found_same : {X : Type 0} (f : (ℕ × ℕ) × X → Buffer) (keyed : Keyed f) (es news : List ((ℕ × ℕ) × X)) (m n : ℕ) → lookup (is_at (pair_cmp (m, n))) news ≡ lookup (is_at (pair_cmp (m, n))) es
+    → find (is_buffer m n) (map f news) ≡ find (is_buffer m n) (map f es)
 found_same f keyed es news m n same = found_row f keyed m n news ∙ (ap (option_map (λ w. f ((m, n), w))) same ∙ sym (found_row f keyed m n es))
 
-found_here : {X : Type 0} (f : (ℕ × ℕ) × X → Buffer) (keyed : Keyed f) (news : List ((ℕ × ℕ) × X)) (m n : ℕ) (found : Option X) → lookup (is_at (pair_cmp (m, n))) news ≡ found → find (is_buffer m n) (map f news) ≡ option_map (λ w. f ((m, n), w)) found
+found_here : {X : Type 0} (f : (ℕ × ℕ) × X → Buffer) (keyed : Keyed f) (news : List ((ℕ × ℕ) × X)) (m n : ℕ) (found : Option X) → lookup (is_at (pair_cmp (m, n))) news ≡ found
+    → find (is_buffer m n) (map f news) ≡ option_map (λ w. f ((m, n), w)) found
 found_here f keyed news m n found is = found_row f keyed m n news ∙ ap (option_map (λ w. f ((m, n), w))) is
 
 -- a new number has no row in either map
@@ -57,7 +61,8 @@ new_number es fs e t k stands above =
     nothing_there e t k (find (is_buffer t k) (map copy_seen es)) (find (is_buffer t k) (map pin_seen fs)) (tells (map copy_seen es) (map pin_seen fs) e t k stands).agrees
     (closed_law (seen es fs) e t k stands (no_row (seen es fs) t k above))
 
-pub open_copy_law : {A : Type 0} (es news : List ((ℕ × ℕ) × Copied A)) (fs : List ((ℕ × ℕ) × Pinned)) (e : List Event) (t k o : ℕ) (family : Family) (items : List ℤ) (w : Copied A) → is_critical family ≡ false
+pub open_copy_law : {A : Type 0} (es news : List ((ℕ × ℕ) × Copied A)) (fs : List ((ℕ × ℕ) × Pinned)) (e : List Event) (t k o : ℕ) (family : Family) (items : List ℤ) (w : Copied A)
+    → is_critical family ≡ false
     → Stands (seen es fs) e → IsAbove t k (seen es fs) → IsStrictlySortedBy pair_cmp (keys_of news) → Changes es news t k (Some w) → copy_seen ((t, k), w) ≡ copy_with t k o family items
     → Stands (seen news fs) (Opened (copy_with t k o family items) ∷ e)
 open_copy_law es news fs e t k o family items w copies stands above sorted put is =
@@ -69,9 +74,11 @@ open_copy_law es news fs e t k o family items w copies stands above sorted put i
     (exact_found copy_seen (λ i j x. refl) news sorted) (λ m n. (told m n).pin)
     (λ m n apart. (found_same copy_seen (λ i j x. refl) es news m n (same_elsewhere es news t k (Some w) put m n apart), refl))
     (λ m n apart. rows_elsewhere_opened e m n (copy_with t k o family items) apart)
-    (ap (λ c. listed c ++ listed (find (is_buffer t k) (map pin_seen fs))) here ∙ (ap (λ p. copy_seen ((t, k), w) ∷ [] ++ listed p) none.1 ∙ (ap (λ b. b ∷ []) is ∙ rows_of_copy e t k o family items copies))))
+    (ap (λ c. listed c ++ listed (find (is_buffer t k) (map pin_seen fs))) here
+    ∙ (ap (λ p. copy_seen ((t, k), w) ∷ [] ++ listed p) none.1 ∙ (ap (λ b. b ∷ []) is ∙ rows_of_copy e t k o family items copies))))
 
-pub open_pin_law : {A : Type 0} (es : List ((ℕ × ℕ) × Copied A)) (fs news : List ((ℕ × ℕ) × Pinned)) (e : List Event) (t k o : ℕ) (family : Family) (via : Ref) (count : ℕ) (w : Pinned) → is_critical family ≡ true
+pub open_pin_law : {A : Type 0} (es : List ((ℕ × ℕ) × Copied A)) (fs news : List ((ℕ × ℕ) × Pinned)) (e : List Event) (t k o : ℕ) (family : Family) (via : Ref) (count : ℕ) (w : Pinned)
+    → is_critical family ≡ true
     → Stands (seen es fs) e → IsAbove t k (seen es fs) → IsStrictlySortedBy pair_cmp (keys_of news) → Changes fs news t k (Some w) → pin_seen ((t, k), w) ≡ pin_through t k o family via count
     → Stands (seen es news) (Opened (pin_through t k o family via count) ∷ e)
 open_pin_law es fs news e t k o family via count w pins stands above sorted put is =
@@ -98,7 +105,8 @@ pub no_pin : {A : Type 0} (es : List ((ℕ × ℕ) × Copied A)) (fs : List ((�
 no_pin es fs t k above =
     let none : find (is_buffer t k) (map copy_seen es ++ map pin_seen fs) ≡ None = find_first (is_buffer t k) (map copy_seen es ++ map pin_seen fs) ∙ ap first (no_row (seen es fs) t k above) in
     not_mapped (λ w. pin_seen ((t, k), w)) (lookup (is_at (pair_cmp (t, k))) fs)
-    (sym (found_row pin_seen (λ i j x. refl) t k fs) ∙ second_none (find (is_buffer t k) (map copy_seen es)) (find (is_buffer t k) (map pin_seen fs)) (sym (find_both (is_buffer t k) (map copy_seen es) (map pin_seen fs)) ∙ none))
+    (sym (found_row pin_seen (λ i j x. refl) t k fs) ∙ second_none (find (is_buffer t k) (map copy_seen es)) (find (is_buffer t k) (map pin_seen fs))
+    (sym (find_both (is_buffer t k) (map copy_seen es) (map pin_seen fs)) ∙ none))
 
 pub close_law : {A : Type 0} (es news : List ((ℕ × ℕ) × Copied A)) (fs others : List ((ℕ × ℕ) × Pinned)) (e : List Event) (t k : ℕ)
     → Stands (seen es fs) e → IsStrictlySortedBy pair_cmp (keys_of news) → IsStrictlySortedBy pair_cmp (keys_of others) → Changes es news t k None → Changes fs others t k None
@@ -110,7 +118,10 @@ close_law es news fs others e t k stands sorted ordered drops removes =
     stands_by (map copy_seen news) (map pin_seen others) (Closed t k ∷ e)
     (each_key (Closed t k ∷ e) e t k (map copy_seen es) (map pin_seen fs) (map copy_seen news) (map pin_seen others) told
     (exact_found copy_seen (λ i j x. refl) news sorted) (exact_found pin_seen (λ i j x. refl) others ordered)
-    (λ m n apart. (found_same copy_seen (λ i j x. refl) es news m n (same_elsewhere es news t k None drops m n apart), found_same pin_seen (λ i j x. refl) fs others m n (same_elsewhere fs others t k None removes m n apart)))
+    (λ m n apart. (
+      found_same copy_seen (λ i j x. refl) es news m n (same_elsewhere es news t k None drops m n apart),
+      found_same pin_seen (λ i j x. refl) fs others m n (same_elsewhere fs others t k None removes m n apart),
+    ))
     (λ m n apart. rows_elsewhere_closed e m n t k apart)
     (ap (λ c. listed c ++ listed (find (is_buffer t k) (map pin_seen others))) copy ∙ (ap listed pin ∙ sym (rows_of_closed e t k))))
 
@@ -125,7 +136,8 @@ pin_short t k w i within = rw pins_critical at within
 copy_long : {A : Type 0} (t k : ℕ) (w : Copied A) (i : ℕ) → i < copy_length (Some (copy_seen ((t, k), w))) → i < length w.items.items
 copy_long t k w i within = rw copies_free at within
 
-wrote_by : (e : List Event) (t k i : ℕ) (v : ℤ) (x : Buffer) (pin was : Option Buffer) → opened e t k ≡ was → listed (Some x) ++ listed pin ≡ rows_of e t k was → is_critical x.family ≡ false → i < x.length
+wrote_by : (e : List Event) (t k i : ℕ) (v : ℤ) (x : Buffer) (pin was : Option Buffer) → opened e t k ≡ was → listed (Some x) ++ listed pin ≡ rows_of e t k was → is_critical x.family ≡ false
+    → i < x.length
     → listed (Some (record x { items = slice_set x.items i v })) ++ listed pin ≡ rows_of (Wrote t k i v ∷ e) t k was
 wrote_by e t k i v x pin None is agrees free within = cc
 wrote_by e t k i v x (Some p) (Some b) is agrees free within = cc
@@ -147,9 +159,11 @@ write_here e t k i v (Some w) pin agrees within =
     let long : i < length w.items.items = copy_long t k w i within in
     wrote_by e t k i v (copy_seen ((t, k), w)) (option_map (λ u. pin_seen ((t, k), u)) pin) (opened e t k) refl agrees (copies_free w.kind) long
 
-pub write_law : {A : Type 0} (es news : List ((ℕ × ℕ) × Copied A)) (fs : List ((ℕ × ℕ) × Pinned)) (e : List Event) (t k i : ℕ) (v : ℤ) → Stands (seen es fs) e → i < copy_length (row_of t k (seen es fs))
+pub write_law : {A : Type 0} (es news : List ((ℕ × ℕ) × Copied A)) (fs : List ((ℕ × ℕ) × Pinned)) (e : List Event) (t k i : ℕ) (v : ℤ) → Stands (seen es fs) e
+    → i < copy_length (row_of t k (seen es fs))
     → IsStrictlySortedBy pair_cmp (keys_of news)
-    → ((q : ℕ × ℕ) → copy_at q (lookup (is_at (pair_cmp q)) news) ≡ (if same_pair (t, k) q then copy_item_set i v (copy_at q (lookup (is_at (pair_cmp q)) es)) else copy_at q (lookup (is_at (pair_cmp q)) es)))
+    → ((q : ℕ × ℕ) → copy_at q (lookup (is_at (pair_cmp q)) news)
+    ≡ (if same_pair (t, k) q then copy_item_set i v (copy_at q (lookup (is_at (pair_cmp q)) es)) else copy_at q (lookup (is_at (pair_cmp q)) es)))
     → Stands (seen news fs) (Wrote t k i v ∷ e)
 write_law es news fs e t k i v stands within sorted put =
     let told = λ (m n : ℕ). tells (map copy_seen es) (map pin_seen fs) e m n stands in
@@ -163,17 +177,24 @@ write_law es news fs e t k i v stands within sorted put =
     let agrees = subst R pin (subst Q copy (told t k).agrees) in
     let here = write_here e t k i v (lookup (is_at (pair_cmp (t, k))) es) (lookup (is_at (pair_cmp (t, k))) fs) agrees short in
     let now : find (is_buffer t k) (map copy_seen news) ≡ copy_item_set i v (copy_at (t, k) (lookup (is_at (pair_cmp (t, k))) es)) =
-    found_row copy_seen (λ a b x. refl) t k news ∙ (put (t, k) ∙ ap (λ b. if b then copy_item_set i v (copy_at (t, k) (lookup (is_at (pair_cmp (t, k))) es)) else copy_at (t, k) (lookup (is_at (pair_cmp (t, k))) es)) own) in
+    found_row copy_seen (λ a b x. refl) t k news ∙ (put (t, k) ∙ ap (λ b. if b then copy_item_set i v (copy_at (t, k) (lookup (is_at (pair_cmp (t, k))) es))
+    else copy_at (t, k) (lookup (is_at (pair_cmp (t, k))) es)) own) in
     stands_by (map copy_seen news) (map pin_seen fs) (Wrote t k i v ∷ e)
     (each_key (Wrote t k i v ∷ e) e t k (map copy_seen es) (map pin_seen fs) (map copy_seen news) (map pin_seen fs) told
     (exact_found copy_seen (λ a b x. refl) news sorted) (λ m n. (told m n).pin)
-    (λ m n apart. (found_row copy_seen (λ a b x. refl) m n news ∙ (put (m, n) ∙ (ap (λ b. if b then copy_item_set i v (copy_at (m, n) (lookup (is_at (pair_cmp (m, n))) es)) else copy_at (m, n) (lookup (is_at (pair_cmp (m, n))) es)) apart ∙ sym (found_row copy_seen (λ a b x. refl) m n es))), refl))
+    (λ m n apart. (
+      found_row copy_seen (λ a b x. refl) m n news
+          ∙ (put (m, n) ∙ (ap (λ b. if b then copy_item_set i v (copy_at (m, n) (lookup (is_at (pair_cmp (m, n))) es)) else copy_at (m, n) (lookup (is_at (pair_cmp (m, n))) es)) apart
+          ∙ sym (found_row copy_seen (λ a b x. refl) m n es))),
+      refl,
+    ))
     (λ m n apart. rows_elsewhere_wrote e m n t k i v apart)
     (ap (λ c. listed c ++ listed (find (is_buffer t k) (map pin_seen fs))) now ∙ (ap (λ p. listed (copy_item_set i v (copy_at (t, k) (lookup (is_at (pair_cmp (t, k))) es))) ++ listed p) pin ∙ here)))
 
 -- ---- numbers
 
-row_same : {A : Type 0} (es news : List ((ℕ × ℕ) × Copied A)) (fs others : List ((ℕ × ℕ) × Pinned)) (m n : ℕ) → lookup (is_at (pair_cmp (m, n))) news ≡ lookup (is_at (pair_cmp (m, n))) es → lookup (is_at (pair_cmp (m, n))) others ≡ lookup (is_at (pair_cmp (m, n))) fs
+row_same : {A : Type 0} (es news : List ((ℕ × ℕ) × Copied A)) (fs others : List ((ℕ × ℕ) × Pinned)) (m n : ℕ) → lookup (is_at (pair_cmp (m, n))) news ≡ lookup (is_at (pair_cmp (m, n))) es
+    → lookup (is_at (pair_cmp (m, n))) others ≡ lookup (is_at (pair_cmp (m, n))) fs
     → row_of m n (seen news others) ≡ row_of m n (seen es fs)
 row_same es news fs others m n left right =
     row_is news others (seen news others) m n refl
@@ -181,7 +202,8 @@ row_same es news fs others m n left right =
     ∙ (ap (λ p. first_of (option_map (λ w. copy_seen ((m, n), w)) (lookup (is_at (pair_cmp (m, n))) es)) (option_map (λ w. pin_seen ((m, n), w)) p)) right
     ∙ sym (row_is es fs (seen es fs) m n refl)))
 
-pub copy_numbers : {A : Type 0} (es news : List ((ℕ × ℕ) × Copied A)) (fs : List ((ℕ × ℕ) × Pinned)) (t k : ℕ) (w : Copied A) → Changes es news t k (Some w) → AddsNumber t k (seen es fs) (seen news fs)
+pub copy_numbers : {A : Type 0} (es news : List ((ℕ × ℕ) × Copied A)) (fs : List ((ℕ × ℕ) × Pinned)) (t k : ℕ) (w : Copied A) → Changes es news t k (Some w)
+    → AddsNumber t k (seen es fs) (seen news fs)
 copy_numbers es news fs t k w put = adds_number (seen es fs) (seen news fs) t k
     (λ m n b apart found. (b, sym (row_same es news fs fs m n (same_elsewhere es news t k (Some w) put m n apart) refl) ∙ found))
 
@@ -204,8 +226,10 @@ closed_numbers_by es news fs others t k drops removes m n b true is found =
 closed_numbers_by es news fs others t k drops removes m n b false is found =
     (b, sym (row_same es news fs others m n (same_elsewhere es news t k None drops m n is) (same_elsewhere fs others t k None removes m n is)) ∙ found)
 
-pub closed_numbers : {A : Type 0} (es news : List ((ℕ × ℕ) × Copied A)) (fs others : List ((ℕ × ℕ) × Pinned)) (t k : ℕ) → Changes es news t k None → Changes fs others t k None → KeepsNumbers (seen es fs) (seen news others)
-closed_numbers es news fs others t k drops removes = keeps_numbers (seen es fs) (seen news others) (λ m n b found. closed_numbers_by es news fs others t k drops removes m n b (is_same m n t k) refl found)
+pub closed_numbers : {A : Type 0} (es news : List ((ℕ × ℕ) × Copied A)) (fs others : List ((ℕ × ℕ) × Pinned)) (t k : ℕ) → Changes es news t k None → Changes fs others t k None
+    → KeepsNumbers (seen es fs) (seen news others)
+closed_numbers es news fs others t k drops removes = keeps_numbers (seen es fs) (seen news others)
+    (λ m n b found. closed_numbers_by es news fs others t k drops removes m n b (is_same m n t k) refl found)
 
 written_there : {A : Type 0} (i : ℕ) (v : ℤ) (q : ℕ × ℕ) (copy : Option (Copied A)) (pin : Option Buffer) (same : Bool) (b : Buffer)
     → first_of (if same then copy_item_set i v (copy_at q copy) else copy_at q copy) pin ≡ Some b → (x : Buffer) × (first_of (copy_at q copy) pin ≡ Some x)
@@ -214,7 +238,8 @@ written_there i v q (Some w) pin true b is = (copy_seen (q, w), refl)
 written_there i v q copy pin false b is = (b, is)
 
 pub written_numbers : {A : Type 0} (es news : List ((ℕ × ℕ) × Copied A)) (fs : List ((ℕ × ℕ) × Pinned)) (t k i : ℕ) (v : ℤ)
-    → ((q : ℕ × ℕ) → copy_at q (lookup (is_at (pair_cmp q)) news) ≡ (if same_pair (t, k) q then copy_item_set i v (copy_at q (lookup (is_at (pair_cmp q)) es)) else copy_at q (lookup (is_at (pair_cmp q)) es)))
+    → ((q : ℕ × ℕ) → copy_at q (lookup (is_at (pair_cmp q)) news)
+    ≡ (if same_pair (t, k) q then copy_item_set i v (copy_at q (lookup (is_at (pair_cmp q)) es)) else copy_at q (lookup (is_at (pair_cmp q)) es)))
     → KeepsNumbers (seen es fs) (seen news fs)
 written_numbers es news fs t k i v put = keeps_numbers (seen es fs) (seen news fs)
     (λ m n b found.
@@ -224,13 +249,16 @@ written_numbers es news fs t k i v put = keeps_numbers (seen es fs) (seen news f
     (was.0, row_is es fs (seen es fs) m n refl ∙ was.1))
 
 -- what doesn't read a buffer's items is kept by a write
-kept_by : {X : Type 0} (f : Option Buffer → X) → ((b : Buffer) (items : List ℤ) → f (Some (record b { items = items })) ≡ f (Some b)) → (i : ℕ) (v : ℤ) (same : Bool) (copy pin : Option Buffer) → f (first_of (if same then copy_item_set i v copy else copy) pin) ≡ f (first_of copy pin)
+kept_by : {X : Type 0} (f : Option Buffer → X) → ((b : Buffer) (items : List ℤ) → f (Some (record b { items = items })) ≡ f (Some b)) → (i : ℕ) (v : ℤ) (same : Bool) (copy pin : Option Buffer)
+    → f (first_of (if same then copy_item_set i v copy else copy) pin) ≡ f (first_of copy pin)
 kept_by f blind i v true None pin = refl
 kept_by f blind i v true (Some b) pin = blind b (slice_set b.items i v)
 kept_by f blind i v false copy pin = refl
 
-kept_at : {A X : Type 0} (f : Option Buffer → X) → ((b : Buffer) (items : List ℤ) → f (Some (record b { items = items })) ≡ f (Some b)) → (es news : List ((ℕ × ℕ) × Copied A)) (fs : List ((ℕ × ℕ) × Pinned)) (rows : Rows) (t k i : ℕ) (v : ℤ) → seen es fs ≡ rows
-    → ((q : ℕ × ℕ) → copy_at q (lookup (is_at (pair_cmp q)) news) ≡ (if same_pair (t, k) q then copy_item_set i v (copy_at q (lookup (is_at (pair_cmp q)) es)) else copy_at q (lookup (is_at (pair_cmp q)) es)))
+kept_at : {A X : Type 0} (f : Option Buffer → X) → ((b : Buffer) (items : List ℤ) → f (Some (record b { items = items })) ≡ f (Some b))
+    → (es news : List ((ℕ × ℕ) × Copied A)) (fs : List ((ℕ × ℕ) × Pinned)) (rows : Rows) (t k i : ℕ) (v : ℤ) → seen es fs ≡ rows
+    → ((q : ℕ × ℕ) → copy_at q (lookup (is_at (pair_cmp q)) news)
+    ≡ (if same_pair (t, k) q then copy_item_set i v (copy_at q (lookup (is_at (pair_cmp q)) es)) else copy_at q (lookup (is_at (pair_cmp q)) es)))
     → (m n : ℕ) → f (row_of m n (seen news fs)) ≡ f (row_of m n rows)
 kept_at f blind es news fs rows t k i v view put m n =
     let pin : Option Buffer = option_map (λ w. pin_seen ((m, n), w)) (lookup (is_at (pair_cmp (m, n))) fs) in
@@ -240,7 +268,8 @@ kept_at f blind es news fs rows t k i v view put m n =
     ∙ sym (ap f (row_is es fs rows m n view))
 
 pub written_buffers : {A : Type 0} (es news : List ((ℕ × ℕ) × Copied A)) (fs : List ((ℕ × ℕ) × Pinned)) (rows : Rows) (t k i : ℕ) (v : ℤ) → seen es fs ≡ rows
-    → ((q : ℕ × ℕ) → copy_at q (lookup (is_at (pair_cmp q)) news) ≡ (if same_pair (t, k) q then copy_item_set i v (copy_at q (lookup (is_at (pair_cmp q)) es)) else copy_at q (lookup (is_at (pair_cmp q)) es)))
+    → ((q : ℕ × ℕ) → copy_at q (lookup (is_at (pair_cmp q)) news)
+    ≡ (if same_pair (t, k) q then copy_item_set i v (copy_at q (lookup (is_at (pair_cmp q)) es)) else copy_at q (lookup (is_at (pair_cmp q)) es)))
     → KeepsBuffers rows (seen news fs)
 written_buffers es news fs rows t k i v view put = record {
   info = kept_at (option_map info_of) (λ b items. refl) es news fs rows t k i v view put;

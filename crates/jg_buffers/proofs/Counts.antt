@@ -19,7 +19,8 @@ use Rattle.jg_buffers.proofs.Maps.{at_number, at_key, how_many-insert, how_many-
 
 -- equal counts count the same
 pub counts_same : (pins : List ((ℕ × ℕ) × Pinned)) (makers makers' : BTreeMap ℕ ℕ) (vias vias' : BTreeMap (ℕ × ℕ × ℕ) ℕ) → Counted pins makers vias
-    → ((q : ℕ) → count_at (get nat_cmp makers' q) ≡ count_at (get nat_cmp makers q)) → ((q : ℕ × ℕ × ℕ) → count_at (get triple_cmp vias' q) ≡ count_at (get triple_cmp vias q)) → Counted pins makers' vias'
+    → ((q : ℕ) → count_at (get nat_cmp makers' q) ≡ count_at (get nat_cmp makers q)) → ((q : ℕ × ℕ × ℕ) → count_at (get triple_cmp vias' q) ≡ count_at (get triple_cmp vias q))
+    → Counted pins makers' vias'
 counts_same pins makers makers' vias vias' was same alike = record {
   by_maker = λ t. same t ∙ was.by_maker t;
   by_via = λ r. alike (key_of r) ∙ was.by_via r;
@@ -78,7 +79,8 @@ counts_raised pins makers makers' vias vias' t n w was none maker via = record {
   by_maker = λ q. maker q ∙ rw (at_number t q, was.by_maker t, was.by_maker q, how_many-insert (λ e. e.0.0 == q) (t, n) w pins none)
       (raise_by (how_many (λ e. e.0.0 == t) pins) (how_many (λ e. e.0.0 == q) pins) (t == q) (λ is. ap (λ u. how_many (λ e. e.0.0 == u) pins) (eqb-true t q is)));
   by_via = λ r. via (key_of r) ∙ rw (at_key w.via r, was.by_via w.via, was.by_via r, how_many-insert (λ e. same_ref e.1.via r) (t, n) w pins none)
-      (raise_by (how_many (λ e. same_ref e.1.via w.via) pins) (how_many (λ e. same_ref e.1.via r) pins) (same_ref w.via r) (λ is. ap (λ u. how_many (λ e. same_ref e.1.via u) pins) (same_ref_is w.via r is)));
+      (raise_by (how_many (λ e. same_ref e.1.via w.via) pins) (how_many (λ e. same_ref e.1.via r) pins) (same_ref w.via r)
+      (λ is. ap (λ u. how_many (λ e. same_ref e.1.via u) pins) (same_ref_is w.via r is)));
 }
 
 -- one pinned buffer less
@@ -89,7 +91,9 @@ pub counts_lowered : (pins : List ((ℕ × ℕ) × Pinned)) (makers makers' : BT
     → Counted (remove_entry (is_at (pair_cmp (t, n))) pins) makers' vias'
 counts_lowered pins makers makers' vias vias' t n w was found maker via = record {
   by_maker = λ q. maker q ∙ rw (at_number t q, was.by_maker t, was.by_maker q)
-      (lower_by (how_many (λ e. e.0.0 == t) pins) (how_many (λ e. e.0.0 == q) pins) _ (t == q) (λ is. ap (λ u. how_many (λ e. e.0.0 == u) pins) (eqb-true t q is)) (how_many-remove (λ e. e.0.0 == q) t n w pins found));
+      (lower_by (how_many (λ e. e.0.0 == t) pins) (how_many (λ e. e.0.0 == q) pins) _ (t == q) (λ is. ap (λ u. how_many (λ e. e.0.0 == u) pins) (eqb-true t q is))
+      (how_many-remove (λ e. e.0.0 == q) t n w pins found));
   by_via = λ r. via (key_of r) ∙ rw (at_key w.via r, was.by_via w.via, was.by_via r)
-      (lower_by (how_many (λ e. same_ref e.1.via w.via) pins) (how_many (λ e. same_ref e.1.via r) pins) _ (same_ref w.via r) (λ is. ap (λ u. how_many (λ e. same_ref e.1.via u) pins) (same_ref_is w.via r is)) (how_many-remove (λ e. same_ref e.1.via r) t n w pins found));
+      (lower_by (how_many (λ e. same_ref e.1.via w.via) pins) (how_many (λ e. same_ref e.1.via r) pins) _ (same_ref w.via r)
+      (λ is. ap (λ u. how_many (λ e. same_ref e.1.via u) pins) (same_ref_is w.via r is)) (how_many-remove (λ e. same_ref e.1.via r) t n w pins found));
 }

@@ -17,7 +17,8 @@ abbrev pub Member : {X : Type 0} → X → List X → Type 0
 Member x [] = ⊥
 Member x (y ∷ ys) = (x ≡ y) ⊎ Member x ys
 
-any_member_cons : {X : Type 0} (p : X → Bool) (x : X) (xs : List X) (b : Bool) → p x ≡ b → (list_any p xs ≡ true → (y : X) × (Member y xs × (p y ≡ true))) → list_any p (x ∷ xs) ≡ true → (y : X) × (Member y (x ∷ xs) × (p y ≡ true))
+any_member_cons : {X : Type 0} (p : X → Bool) (x : X) (xs : List X) (b : Bool) → p x ≡ b → (list_any p xs ≡ true → (y : X) × (Member y xs × (p y ≡ true))) → list_any p (x ∷ xs) ≡ true
+    → (y : X) × (Member y (x ∷ xs) × (p y ≡ true))
 any_member_cons p x xs true here tail is = (x, (inl refl, here))
 any_member_cons p x xs false here tail is =
     let rest : list_any p xs ≡ true = grind (arith, nat_tests) in

@@ -73,13 +73,15 @@ pins_critical Array = refl
 pins_critical String = refl
 
 long_by : {A : Type 0} (q : ℕ × ℕ) (copy : Option (Copied A)) (pin : Option Pinned)
-    → copy_length (first_of (option_map (λ w. copy_seen (q, w)) copy) (option_map (λ w. pin_seen (q, w)) pin)) ≡ length (items_in (first_of (option_map (λ w. copy_seen (q, w)) copy) (option_map (λ w. pin_seen (q, w)) pin)))
+    → copy_length (first_of (option_map (λ w. copy_seen (q, w)) copy) (option_map (λ w. pin_seen (q, w)) pin))
+    ≡ length (items_in (first_of (option_map (λ w. copy_seen (q, w)) copy) (option_map (λ w. pin_seen (q, w)) pin)))
 long_by q (Some w) pin = rw (copies_free w.kind) refl
 long_by q None None = refl
 long_by q None (Some w) = rw (pins_critical w.kind) refl
 
 -- an open copy is as long as its items
-pub long_law : {A : Type 0} (es : List ((ℕ × ℕ) × Copied A)) (fs : List ((ℕ × ℕ) × Pinned)) (rows : Rows) (m n : ℕ) → record { lent = map copy_seen es ++ map pin_seen fs } ≡ rows → copy_length (row_of m n rows) ≡ length (items_in (row_of m n rows))
+pub long_law : {A : Type 0} (es : List ((ℕ × ℕ) × Copied A)) (fs : List ((ℕ × ℕ) × Pinned)) (rows : Rows) (m n : ℕ) → record { lent = map copy_seen es ++ map pin_seen fs } ≡ rows
+    → copy_length (row_of m n rows) ≡ length (items_in (row_of m n rows))
 long_law es fs rows m n is =
     let row = row_is es fs rows m n is in
     ap copy_length row ∙ (long_by (m, n) (lookup (is_at (pair_cmp (m, n))) es) (lookup (is_at (pair_cmp (m, n))) fs) ∙ ap (λ r. length (items_in r)) (sym row))
@@ -97,7 +99,8 @@ either false b is = is
 some_buffer : (a b : Buffer) → Some a ≡ Some b → a ≡ b
 some_buffer a b is = cc
 
-opened_is_by : (e : List Event) (m n : ℕ) (at b : Buffer) (c : Bool) → is_same m n at.maker at.n ≡ c → (opened e m n ≡ Some b → is_same m n b.maker b.n ≡ true) → (if c then Some at else opened e m n) ≡ Some b → is_same m n b.maker b.n ≡ true
+opened_is_by : (e : List Event) (m n : ℕ) (at b : Buffer) (c : Bool) → is_same m n at.maker at.n ≡ c → (opened e m n ≡ Some b → is_same m n b.maker b.n ≡ true)
+    → (if c then Some at else opened e m n) ≡ Some b → is_same m n b.maker b.n ≡ true
 opened_is_by e m n at b true is older now =
     let P : Buffer → Type 0 = λ x. is_same m n x.maker x.n ≡ true in
     subst P (some_buffer at b now) is

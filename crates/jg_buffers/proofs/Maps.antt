@@ -75,15 +75,18 @@ found_by : {X : Type 0} (f : (ℕ × ℕ) × X → Buffer) (m n : ℕ) (e : (ℕ
 found_by f m n e es true is later = ap (λ k. Some (f (k, e.1))) (pair_is e.0 m n is)
 found_by f m n e es false is later = later
 
-pub found_row : {X : Type 0} (f : (ℕ × ℕ) × X → Buffer) (keyed : Keyed f) (m n : ℕ) (es : List ((ℕ × ℕ) × X)) → find (is_buffer m n) (map f es) ≡ option_map (λ w. f ((m, n), w)) (lookup (is_at (pair_cmp (m, n))) es)
+pub found_row : {X : Type 0} (f : (ℕ × ℕ) × X → Buffer) (keyed : Keyed f) (m n : ℕ) (es : List ((ℕ × ℕ) × X))
+    → find (is_buffer m n) (map f es) ≡ option_map (λ w. f ((m, n), w)) (lookup (is_at (pair_cmp (m, n))) es)
 found_row f keyed m n [] = refl
 found_row f keyed m n (e ∷ es) = rw (at_pair (m, n) e.0, keyed m n e) (found_by f m n e es (same_pair e.0 (m, n)) refl (found_row f keyed m n es))
 
 kept_by : {X : Type 0} (f : (ℕ × ℕ) × X → Buffer) (m n : ℕ) (e : (ℕ × ℕ) × X) (es : List ((ℕ × ℕ) × X)) (b : Bool) → same_pair e.0 (m, n) ≡ b → IsStrictlySortedBy pair_cmp (keys_of (e ∷ es))
     → filter (is_buffer m n) (map f es) ≡ listed (option_map (λ w. f ((m, n), w)) (lookup (is_at (pair_cmp (m, n))) es))
-    → (if b then f e ∷ filter (is_buffer m n) (map f es) else filter (is_buffer m n) (map f es)) ≡ listed (option_map (λ w. f ((m, n), w)) (if b then Some e.1 else lookup (is_at (pair_cmp (m, n))) es))
+    → (if b then f e ∷ filter (is_buffer m n) (map f es) else filter (is_buffer m n) (map f es))
+    ≡ listed (option_map (λ w. f ((m, n), w)) (if b then Some e.1 else lookup (is_at (pair_cmp (m, n))) es))
 kept_by f m n e es true is sorted later =
-    let none : lookup (is_at (pair_cmp (m, n))) es ≡ None = lookup-none (is_at (pair_cmp (m, n))) es (none_past_head (eq_by_cmp_equiv pair_total) (m, n) e es (IsDistinct-from_sorted pair_cmp (keys_of (e ∷ es)) sorted) (at_pair (m, n) e.0 ∙ is)) in
+    let none : lookup (is_at (pair_cmp (m, n))) es ≡ None = lookup-none (is_at (pair_cmp (m, n))) es
+    (none_past_head (eq_by_cmp_equiv pair_total) (m, n) e es (IsDistinct-from_sorted pair_cmp (keys_of (e ∷ es)) sorted) (at_pair (m, n) e.0 ∙ is)) in
     let empty : filter (is_buffer m n) (map f es) ≡ [] = later ∙ ap (λ o. listed (option_map (λ w. f ((m, n), w)) o)) none in
     ap (λ l. f e ∷ l) empty ∙ ap (λ k. f (k, e.1) ∷ []) (pair_is e.0 m n is)
 kept_by f m n e es false is sorted later = later
@@ -131,7 +134,8 @@ head_none false v rest none = (refl, none)
 clash : (b : Bool) → b ≡ true → b ≡ false → ⊥
 clash b is isnt = cc
 
-inserted_by : {X : Type 0} (p : (ℕ × ℕ) × X → Bool) (k : ℕ × ℕ) (v : X) (e : (ℕ × ℕ) × X) (es : List ((ℕ × ℕ) × X)) (o : Ordering) → pair_cmp k e.0 ≡ o → (is_at (pair_cmp k) e.0 ≡ false) × (lookup (is_at (pair_cmp k)) es ≡ None)
+inserted_by : {X : Type 0} (p : (ℕ × ℕ) × X → Bool) (k : ℕ × ℕ) (v : X) (e : (ℕ × ℕ) × X) (es : List ((ℕ × ℕ) × X)) (o : Ordering) → pair_cmp k e.0 ≡ o
+    → (is_at (pair_cmp k) e.0 ≡ false) × (lookup (is_at (pair_cmp k)) es ≡ None)
     → (lookup (is_at (pair_cmp k)) es ≡ None → how_many p (insert_entry pair_cmp es k v) ≡ (if p (k, v) then how_many p es + 1 else how_many p es))
     → how_many p (match_ordering o ((k, v) ∷ e ∷ es) ((e.0, v) ∷ es) (e ∷ insert_entry pair_cmp es k v)) ≡ (if p (k, v) then how_many p (e ∷ es) + 1 else how_many p (e ∷ es))
 inserted_by p k v e es Less is none later = refl
@@ -148,9 +152,11 @@ some_is : {X : Type 0} (a b : X) → Some a ≡ Some b → a ≡ b
 some_is a b is = cc
 
 removed_by : {X : Type 0} (p : (ℕ × ℕ) × X → Bool) (m n : ℕ) (v : X) (e : (ℕ × ℕ) × X) (es : List ((ℕ × ℕ) × X)) (b : Bool) → same_pair e.0 (m, n) ≡ b
-    → (lookup (is_at (pair_cmp (m, n))) es ≡ Some v → how_many p es ≡ (if p ((m, n), v) then how_many p (remove_entry (is_at (pair_cmp (m, n))) es) + 1 else how_many p (remove_entry (is_at (pair_cmp (m, n))) es)))
+    → (lookup (is_at (pair_cmp (m, n))) es ≡ Some v → how_many p es
+    ≡ (if p ((m, n), v) then how_many p (remove_entry (is_at (pair_cmp (m, n))) es) + 1 else how_many p (remove_entry (is_at (pair_cmp (m, n))) es)))
     → (if b then Some e.1 else lookup (is_at (pair_cmp (m, n))) es) ≡ Some v
-    → how_many p (e ∷ es) ≡ (if p ((m, n), v) then how_many p (if b then es else e ∷ remove_entry (is_at (pair_cmp (m, n))) es) + 1 else how_many p (if b then es else e ∷ remove_entry (is_at (pair_cmp (m, n))) es))
+    → how_many p (e ∷ es) ≡ (if p ((m, n), v) then how_many p (if b then es else e ∷ remove_entry (is_at (pair_cmp (m, n))) es) + 1
+    else how_many p (if b then es else e ∷ remove_entry (is_at (pair_cmp (m, n))) es))
 removed_by p m n v e es true is later found =
     let key : e.0 ≡ (m, n) = pair_is e.0 m n is in
     let value : e.1 ≡ v = some_is e.1 v found in

@@ -30,14 +30,16 @@ same_later ev e m n b other since = record {
 some_is : (a b : Buffer) → Some a ≡ Some b → a ≡ b
 some_is a b is = cc
 
-opened_since : (e : List Event) (m n : ℕ) (at b : Buffer) (c : Bool) → is_same m n at.maker at.n ≡ c → (opened e m n ≡ Some b → OpenSince e m n b) → (if c then Some at else opened e m n) ≡ Some b → OpenSince (Opened at ∷ e) m n b
+opened_since : (e : List Event) (m n : ℕ) (at b : Buffer) (c : Bool) → is_same m n at.maker at.n ≡ c → (opened e m n ≡ Some b → OpenSince e m n b) → (if c then Some at else opened e m n) ≡ Some b
+    → OpenSince (Opened at ∷ e) m n b
 opened_since e m n at b true is older now =
     let same : at ≡ b = some_is at b now in
     let P : Buffer → Type 0 = λ x. OpenSince (Opened at ∷ e) m n x in
     subst P same (record { later = []; before = e; made = refl; own = is; kept = refl })
 opened_since e m n at b false is older now = same_later (Opened at) e m n b is (older now)
 
-closed_since : (e : List Event) (m n k i : ℕ) (b : Buffer) (c : Bool) → is_same m n k i ≡ c → (opened e m n ≡ Some b → OpenSince e m n b) → if◌then◌else◌ {A = Option Buffer} c None (opened e m n) ≡ Some b → OpenSince (Closed k i ∷ e) m n b
+closed_since : (e : List Event) (m n k i : ℕ) (b : Buffer) (c : Bool) → is_same m n k i ≡ c → (opened e m n ≡ Some b → OpenSince e m n b)
+    → if◌then◌else◌ {A = Option Buffer} c None (opened e m n) ≡ Some b → OpenSince (Closed k i ∷ e) m n b
 closed_since e m n k i b true is older now = cc
 closed_since e m n k i b false is older now = same_later (Closed k i) e m n b is (older now)
 
@@ -85,7 +87,8 @@ written_means (ev ∷ later) before m n i v kept =
     let parts = none_either (changes m n i ev) (list_any (changes m n i) later) kept in
     content_other ev (later ++ Wrote m n i v ∷ before) m n i parts.0 ∙ written_means later before m n i v parts.1
 
-pub unwritten_means : (later before : List Event) (b : Buffer) (i : ℕ) → list_any (changes b.maker b.n i) later ≡ false → content (later ++ Opened b ∷ before) b.maker b.n i ≡ slice_index_or b.items i (pos 0)
+pub unwritten_means : (later before : List Event) (b : Buffer) (i : ℕ) → list_any (changes b.maker b.n i) later ≡ false
+    → content (later ++ Opened b ∷ before) b.maker b.n i ≡ slice_index_or b.items i (pos 0)
 unwritten_means [] before b i kept = rw (same_self b.maker b.n) refl
 unwritten_means (ev ∷ later) before b i kept =
     let parts = none_either (changes b.maker b.n i ev) (list_any (changes b.maker b.n i) later) kept in

@@ -27,16 +27,19 @@ pub record OpenPin (P : Buffer → Bool) (e : List Event) : Type 0 where
   pub critical : is_critical buffer.family ≡ true
   pub passes : P buffer ≡ true
 
-passing : (P : Buffer → Bool) (all : List Event) (m n : ℕ) (b : Buffer) (rest : Bool) (p : Bool) → P b ≡ p → opened all m n ≡ Some b → is_critical b.family ≡ true → (rest ≡ true → OpenPin P all) → (p || rest) ≡ true → OpenPin P all
+passing : (P : Buffer → Bool) (all : List Event) (m n : ℕ) (b : Buffer) (rest : Bool) (p : Bool) → P b ≡ p → opened all m n ≡ Some b → is_critical b.family ≡ true → (rest ≡ true → OpenPin P all)
+    → (p || rest) ≡ true → OpenPin P all
 passing P all m n b rest true is there critical later some = record { maker = m; n = n; buffer = b; is_open = there; critical = critical; passes = is }
 passing P all m n b rest false is there critical later some = later some
 
-if_critical : (P : Buffer → Bool) (all : List Event) (m n : ℕ) (b : Buffer) (rest : List Buffer) (c : Bool) → is_critical b.family ≡ c → opened all m n ≡ Some b → (list_any P rest ≡ true → OpenPin P all)
+if_critical : (P : Buffer → Bool) (all : List Event) (m n : ℕ) (b : Buffer) (rest : List Buffer) (c : Bool) → is_critical b.family ≡ c → opened all m n ≡ Some b
+    → (list_any P rest ≡ true → OpenPin P all)
     → list_any P (cons_option (if c then Some b else None) rest) ≡ true → OpenPin P all
 if_critical P all m n b rest true is there later some = passing P all m n b (list_any P rest) (P b) refl there is later some
 if_critical P all m n b rest false is there later some = later some
 
-of_found : (P : Buffer → Bool) (all : List Event) (m n : ℕ) (found : Option Buffer) (rest : List Buffer) → opened all m n ≡ found → (list_any P rest ≡ true → OpenPin P all) → list_any P (cons_option (critical_only found) rest) ≡ true → OpenPin P all
+of_found : (P : Buffer → Bool) (all : List Event) (m n : ℕ) (found : Option Buffer) (rest : List Buffer) → opened all m n ≡ found → (list_any P rest ≡ true → OpenPin P all)
+    → list_any P (cons_option (critical_only found) rest) ≡ true → OpenPin P all
 of_found P all m n None rest is later some = later some
 of_found P all m n (Some b) rest is later some = if_critical P all m n b rest (is_critical b.family) refl is later some
 
@@ -63,7 +66,8 @@ pin_here P all e m n at b true is now critical passes older here =
     rw (maker, number, now, critical, passes) refl
 pin_here P all e m n at b false is now critical passes older here = any_more P (critical_only (opened all at.maker at.n)) (filter_map (pin_of all) e) (older here)
 
-was_pin : (P : Buffer → Bool) (all e : List Event) (m n : ℕ) (b : Buffer) → opened all m n ≡ Some b → is_critical b.family ≡ true → P b ≡ true → opened e m n ≡ Some b → list_any P (filter_map (pin_of all) e) ≡ true
+was_pin : (P : Buffer → Bool) (all e : List Event) (m n : ℕ) (b : Buffer) → opened all m n ≡ Some b → is_critical b.family ≡ true → P b ≡ true → opened e m n ≡ Some b
+    → list_any P (filter_map (pin_of all) e) ≡ true
 was_pin P all [] m n b now critical passes here = cc
 was_pin P all (Opened at ∷ e) m n b now critical passes here = pin_here P all e m n at b (is_same m n at.maker at.n) refl now critical passes (was_pin P all e m n b now critical passes) here
 was_pin P all (Wrote k i j v ∷ e) m n b now critical passes here = was_pin P all e m n b now critical passes here
@@ -112,7 +116,8 @@ in_whole : {X : Type 0} (x : X) (xs ys : List X) → Member x ys → Member x (x
 in_whole x [] ys there = there
 in_whole x (y ∷ xs) ys there = inr (in_whole x xs ys there)
 
-of_row : (e : List Event) (m n : ℕ) (x : Buffer) (P : Buffer → Bool) (blind : IsBlind P) (found : Option Buffer) → opened e m n ≡ found → Member x (rows_of e m n found) → is_critical x.family ≡ true → P x ≡ true → OpenPin P e
+of_row : (e : List Event) (m n : ℕ) (x : Buffer) (P : Buffer → Bool) (blind : IsBlind P) (found : Option Buffer) → opened e m n ≡ found → Member x (rows_of e m n found) → is_critical x.family ≡ true
+    → P x ≡ true → OpenPin P e
 of_row e m n x P blind None is there critical passes = absurd there
 of_row e m n x P blind (Some b) is (inr never) critical passes = absurd never
 of_row e m n x P blind (Some b) is (inl same) critical passes = record {
@@ -124,7 +129,8 @@ of_row e m n x P blind (Some b) is (inl same) critical passes = record {
   passes = sym (blind b _) ∙ (ap P (sym same) ∙ passes);
 }
 
-row_pins : {A : Type 0} (P : Buffer → Bool) (blind : IsBlind P) (es : List ((ℕ × ℕ) × Copied A)) (fs : List ((ℕ × ℕ) × Pinned)) (e : List Event) → Stands (record { lent = map copy_seen es ++ map pin_seen fs }) e
+row_pins : {A : Type 0} (P : Buffer → Bool) (blind : IsBlind P) (es : List ((ℕ × ℕ) × Copied A)) (fs : List ((ℕ × ℕ) × Pinned)) (e : List Event)
+    → Stands (record { lent = map copy_seen es ++ map pin_seen fs }) e
     → list_any P (map pin_seen fs) ≡ true → list_any P (pins e) ≡ true
 row_pins P blind es fs e stands some =
     let found = any_member P (map pin_seen fs) some in
@@ -134,21 +140,24 @@ row_pins P blind es fs e stands some =
     let Q : List Buffer → Type 0 = λ l. Member x l in
     pins_have P e (of_row e x.maker x.n x P blind (opened e x.maker x.n) refl (subst Q (stands x.maker x.n) kept) (critical_pin fs x found.1.0) found.1.1)
 
-pinned_row : {A : Type 0} (P : Buffer → Bool) (blind : IsBlind P) (es : List ((ℕ × ℕ) × Copied A)) (fs : List ((ℕ × ℕ) × Pinned)) (e : List Event) → Stands (record { lent = map copy_seen es ++ map pin_seen fs }) e
+pinned_row : {A : Type 0} (P : Buffer → Bool) (blind : IsBlind P) (es : List ((ℕ × ℕ) × Copied A)) (fs : List ((ℕ × ℕ) × Pinned)) (e : List Event)
+    → Stands (record { lent = map copy_seen es ++ map pin_seen fs }) e
     → list_any P (pins e) ≡ true → list_any P (map pin_seen fs) ≡ true
 pinned_row P blind es fs e stands some =
     let pin = pins_law P e some in
     let told = tells (map copy_seen es) (map pin_seen fs) e pin.maker pin.n stands in
     let row : Buffer = record pin.buffer { items = [] } in
     let rows : rows_of e pin.maker pin.n (opened e pin.maker pin.n) ≡ row ∷ [] = rw (pin.is_open, pin.critical) refl in
-    let free = λ (x : Buffer) (is : find (is_buffer pin.maker pin.n) (map copy_seen es) ≡ Some x). free_copy (pin.maker, pin.n) (lookup (is_at (pair_cmp (pin.maker, pin.n))) es) x (sym (found_row copy_seen (λ i j y. refl) pin.maker pin.n es) ∙ is) in
+    let free = λ (x : Buffer) (is : find (is_buffer pin.maker pin.n) (map copy_seen es) ≡ Some x). free_copy (pin.maker, pin.n) (lookup (is_at (pair_cmp (pin.maker, pin.n))) es) x
+    (sym (found_row copy_seen (λ i j y. refl) pin.maker pin.n es) ∙ is) in
     let found = the_pin (find (is_buffer pin.maker pin.n) (map copy_seen es)) (find (is_buffer pin.maker pin.n) (map pin_seen fs)) row (told.agrees ∙ rows) free pin.critical in
     let kept : filter (is_buffer pin.maker pin.n) (map pin_seen fs) ≡ row ∷ [] = told.pin ∙ ap listed found in
     let passes : P row ≡ true = blind pin.buffer [] ∙ pin.passes in
     any_of_filter P (is_buffer pin.maker pin.n) (map pin_seen fs) (rw (kept, passes) refl)
 
 -- a test of the pinned rows and of the open critical buffers
-pub pin_law : {A : Type 0} (P : Buffer → Bool) (blind : IsBlind P) (es : List ((ℕ × ℕ) × Copied A)) (fs : List ((ℕ × ℕ) × Pinned)) (e : List Event) → Stands (record { lent = map copy_seen es ++ map pin_seen fs }) e
+pub pin_law : {A : Type 0} (P : Buffer → Bool) (blind : IsBlind P) (es : List ((ℕ × ℕ) × Copied A)) (fs : List ((ℕ × ℕ) × Pinned)) (e : List Event)
+    → Stands (record { lent = map copy_seen es ++ map pin_seen fs }) e
     → list_any (λ f. P (pin_seen f)) fs ≡ list_any P (pins e)
 pin_law P blind es fs e stands =
     list_any-map pin_seen (λ f. P (pin_seen f)) P (λ f. refl) fs

@@ -42,8 +42,10 @@ pub rows_of_copy : (e : List Event) (m n o : ℕ) (family : Family) (items : Lis
     → copy_with m n o family items ∷ [] ≡ rows_of (Opened (copy_with m n o family items) ∷ e) m n (opened (Opened (copy_with m n o family items) ∷ e) m n)
 rows_of_copy e m n o family items copies =
     let b : Buffer = copy_with m n o family items in
-    let made : items ≡ map (λ i. slice_index_or items i (pos 0)) (range_with_len 0 (length items)) = fill_by_all (λ i. slice_index_or items i (pos 0)) items (length items) (pos 0) refl (λ k below. refl) in
-    let now : map (content (Opened b ∷ e) m n) (range_with_len 0 (length items)) ≡ items = map_same (content (Opened b ∷ e) m n) (λ i. slice_index_or items i (pos 0)) (λ i. rw (same_self m n) refl) (range_with_len 0 (length items)) ∙ sym made in
+    let made : items ≡ map (λ i. slice_index_or items i (pos 0)) (range_with_len 0 (length items)) =
+    fill_by_all (λ i. slice_index_or items i (pos 0)) items (length items) (pos 0) refl (λ k below. refl) in
+    let now : map (content (Opened b ∷ e) m n) (range_with_len 0 (length items)) ≡ items =
+    map_same (content (Opened b ∷ e) m n) (λ i. slice_index_or items i (pos 0)) (λ i. rw (same_self m n) refl) (range_with_len 0 (length items)) ∙ sym made in
     rw (same_self m n, copies) (ap (λ l. record b { items = l } ∷ []) (sym now))
 
 pub rows_of_pin : (e : List Event) (m n o : ℕ) (family : Family) (via : Ref) (count : ℕ) → is_critical family ≡ true
@@ -53,7 +55,8 @@ rows_of_pin e m n o family via count pins = rw (same_self m n, pins) refl
 pub rows_of_closed : (e : List Event) (m n : ℕ) → rows_of (Closed m n ∷ e) m n (opened (Closed m n ∷ e) m n) ≡ []
 rows_of_closed e m n = rw (same_self m n) refl
 
-written_at : (e : List Event) (m n j k : ℕ) (v : ℤ) (xs : List ℤ) (b : Bool) → (j == k) ≡ b → j < length xs → get_or xs k (pos 0) ≡ content e m n k → get_or (slice_set xs j v) k (pos 0) ≡ (if b then v else content e m n k)
+written_at : (e : List Event) (m n j k : ℕ) (v : ℤ) (xs : List ℤ) (b : Bool) → (j == k) ≡ b → j < length xs → get_or xs k (pos 0) ≡ content e m n k
+    → get_or (slice_set xs j v) k (pos 0) ≡ (if b then v else content e m n k)
 written_at e m n j k v xs true is within was =
     let same : j ≡ k = grind (arith, nat_tests) in
     let P : ℕ → Type 0 = λ q. get_or (slice_set xs j v) q (pos 0) ≡ v in
@@ -83,7 +86,8 @@ first_of (Some x) b = Some x
 
 find-append : {X : Type 0} (p : X → Bool) (xs ys : List X) → find p (xs ++ ys) ≡ first_of (find p xs) (find p ys)
 find-append p [] ys = refl
-find-append p (x ∷ xs) ys = rw (find-append p xs ys) (elim (p x) as (λ b. (if b then Some x else first_of (find p xs) (find p ys)) ≡ first_of (if b then Some x else find p xs) (find p ys)) [ true ↦ refl | false ↦ refl ])
+find-append p (x ∷ xs) ys = rw (find-append p xs ys) (elim (p x) as (λ b. (if b then Some x else first_of (find p xs) (find p ys)) ≡ first_of (if b then Some x else find p xs) (find p ys))
+    [ true ↦ refl | false ↦ refl ])
 
 pub find_both : {X : Type 0} (p : X → Bool) (xs ys : List X) → find p (xs ++ ys) ≡ first_of (find p xs) (find p ys)
 find_both p xs ys = find-append p xs ys

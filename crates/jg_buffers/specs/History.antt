@@ -9,7 +9,9 @@ use Rattle.jg_buffers.specs.declared.family.Family.{Family}
 use Rattle.jg_buffers.specs.declared.family.Family.TheVariants.{Elements, Chars, UtfChars, ArrayCritical, StringCritical}
 use Rattle.jg_buffers.specs.declared.info.Info.{Info}
 
--- a buffer as it was opened: number n of the thread that it was lent to, its object and its family, the reference through which a critical one was opened (null for a copy), its length in items, and a copy's items at its making (none for a critical one, whose items are the object's)
+-- a buffer as it was opened: number n of the thread that it was lent to, its object and its family, the reference
+-- through which a critical one was opened (null for a copy), its length in items, and a copy's items at its making
+-- (none for a critical one, whose items are the object's)
 pub record Buffer : Type 0 where
   pub maker : ℕ
   pub n : ℕ
@@ -19,13 +21,15 @@ pub record Buffer : Type 0 where
   pub length : ℕ
   pub items : List ℤ
 
--- what happens to buffers: one is opened; an item of a copy is written; one is released for good, which JNI_COMMIT does not do
+-- what happens to buffers: one is opened; an item of a copy is written; one is released for good, which JNI_COMMIT does
+-- not do
 pub data Event : Type 0 where
   Opened : Buffer → Event
   Wrote : (maker : ℕ) → (n : ℕ) → (index : ℕ) → (value : ℤ) → Event
   Closed : (maker : ℕ) → (n : ℕ) → Event
 
--- the families that pin, and so open a critical region (JNI chapter 4, "GetPrimitiveArrayCritical" and "GetStringCritical")
+-- the families that pin, and so open a critical region (JNI chapter 4, "GetPrimitiveArrayCritical" and
+-- "GetStringCritical")
 abbrev pub is_critical : Family → Bool
 is_critical (Elements p) = false
 is_critical Chars = false
@@ -69,7 +73,8 @@ opened (Wrote k i j v ∷ e) maker n = opened e maker n
 -- an item of a copy: what was written there last, else the item at the making
 abbrev pub content : List Event → ℕ → ℕ → ℕ → ℤ
 content [] maker n index = pos 0
-content (Opened b ∷ e) maker n index = if is_same maker n b.maker b.n then slice_index_or b.items index (pos 0) else content e maker n index
+content (Opened b ∷ e) maker n index =
+    if is_same maker n b.maker b.n then slice_index_or b.items index (pos 0) else content e maker n index
 content (Wrote k i j v ∷ e) maker n index = if is_same maker n k i && (j == index) then v else content e maker n index
 content (Closed k i ∷ e) maker n index = content e maker n index
 
@@ -97,7 +102,8 @@ pin_of e ev = None
 abbrev pub pins : List Event → List Buffer
 pins e = filter_map (pin_of e) e
 
--- the thread is in a critical region: a critical buffer that it was lent is open, so that of nested pairs the last ends the region
+-- the thread is in a critical region: a critical buffer that it was lent is open, so that of nested pairs the last ends
+-- the region
 abbrev pub in_critical : List Event → ℕ → Bool
 in_critical e t = list_any (λ b. b.maker == t) (pins e)
 
@@ -116,4 +122,10 @@ is_null (To kind maker n) = false
 
 -- what a look-up tells of an open buffer
 abbrev pub info_of : Buffer → Info
-info_of b = record { maker = record { 0 = b.maker }; object = record { 0 = b.object }; family = b.family; via = b.via; length = b.length }
+info_of b = record {
+  maker = record { 0 = b.maker };
+  object = record { 0 = b.object };
+  family = b.family;
+  via = b.via;
+  length = b.length;
+}

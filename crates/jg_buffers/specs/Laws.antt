@@ -37,7 +37,8 @@ WrittenMeans = (later before : List Event) (maker n index : ℕ) (v : ℤ) → l
 
 -- an item that wasn't written since is the one at the making
 abbrev pub UnwrittenMeans : Type 0
-UnwrittenMeans = (later before : List Event) (b : Buffer) (index : ℕ) → list_any (changes b.maker b.n index) later ≡ false
+UnwrittenMeans = (later before : List Event) (b : Buffer) (index : ℕ)
+    → list_any (changes b.maker b.n index) later ≡ false
     → content (later ++ Opened b ∷ before) b.maker b.n index ≡ slice_index_or b.items index (pos 0)
 
 -- an open critical buffer of which the fact holds
@@ -83,8 +84,11 @@ opens maker n (Closed k i) = false
 
 -- a buffer that was opened and isn't open never is again
 abbrev pub ClosedStaysClosed : Type 0
-ClosedStaysClosed = (later e : List Event) (maker n : ℕ) → NumbersRise (later ++ e) → list_any (opens maker n) e ≡ true → opened e maker n ≡ None → opened (later ++ e) maker n ≡ None
+ClosedStaysClosed = (later e : List Event) (maker n : ℕ) → NumbersRise (later ++ e) → list_any (opens maker n) e ≡ true
+    → opened e maker n ≡ None → opened (later ++ e) maker n ≡ None
 
--- a number above all that the events gave the maker is above all of its numbers in the rows, as the opening of a buffer asks
+-- a number above all that the events gave the maker is above all of its numbers in the rows, as the opening of a buffer
+-- asks
 abbrev pub NewNumberIsAbove : Type 0
-NewNumberIsAbove = (rows : Rows) (e : List Event) (maker n : ℕ) → Stands rows e → IsOpenedBelow maker n e → IsAbove maker n rows
+NewNumberIsAbove = (rows : Rows) (e : List Event) (maker n : ℕ) → Stands rows e → IsOpenedBelow maker n e
+    → IsAbove maker n rows

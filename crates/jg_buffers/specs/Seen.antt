@@ -24,10 +24,26 @@ pin_family Array = ArrayCritical
 pin_family String = StringCritical
 
 abbrev pub copy_seen : {A : Type 0} → (ℕ × ℕ) × Copied A → Buffer
-copy_seen e = record { maker = e.0.0; n = e.0.1; object = e.1.object; family = copy_family e.1.kind; via = Null; length = length e.1.items.items; items = e.1.items.items }
+copy_seen e = record {
+  maker = e.0.0;
+  n = e.0.1;
+  object = e.1.object;
+  family = copy_family e.1.kind;
+  via = Null;
+  length = length e.1.items.items;
+  items = e.1.items.items;
+}
 
 abbrev pub pin_seen : (ℕ × ℕ) × Pinned → Buffer
-pin_seen e = record { maker = e.0.0; n = e.0.1; object = e.1.object; family = pin_family e.1.kind; via = e.1.via; length = e.1.length; items = [] }
+pin_seen e = record {
+  maker = e.0.0;
+  n = e.0.1;
+  object = e.1.object;
+  family = pin_family e.1.kind;
+  via = e.1.via;
+  length = e.1.length;
+  items = [];
+}
 
 abbrev pub kind_key : Kind → ℕ
 kind_key Local = 1

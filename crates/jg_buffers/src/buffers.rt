@@ -67,7 +67,8 @@ impl<A: Allocator + Clone> Buffers<A> {
     ) -> Result<(), AllocError>
         requires above { IsAbove tid.0 n self.old }
         requires copies { is_critical family ≡ false }
-        ensures ok { OnOk result ((e : List Event) → Stands self.old e → Stands self.new (Opened (copy_with tid.0 n object.0 family items.now) ∷ e)) }
+        ensures ok { OnOk result ((e : List Event) → Stands self.old e
+            → Stands self.new (Opened (copy_with tid.0 n object.0 family items.now) ∷ e)) }
         ensures err { OnErr result (self.new ≡ self.old) }
         ensures numbers { AddsNumber tid.0 n self.old self.new }
     {
@@ -98,7 +99,8 @@ impl<A: Allocator + Clone> Buffers<A> {
         requires above { IsAbove tid.0 n self.old }
         requires pins { is_critical family ≡ true }
         requires through { is_null via ≡ false }
-        ensures ok { OnOk result ((e : List Event) → Stands self.old e → Stands self.new (Opened (pin_through tid.0 n object.0 family via length) ∷ e)) }
+        ensures ok { OnOk result ((e : List Event) → Stands self.old e
+            → Stands self.new (Opened (pin_through tid.0 n object.0 family via length) ∷ e)) }
         ensures err { OnErr result (self.new ≡ self.old) }
         ensures numbers { AddsNumber tid.0 n self.old self.new }
     {
@@ -123,7 +125,8 @@ impl<A: Allocator + Clone> Buffers<A> {
     /// What the buffer is, where it is open.
     pub fn find(&self, buf: BufId) -> Option<Info>
         ensures row { result ≡ option_map info_of (row_of buf.maker.0 buf.n self.now) }
-        ensures stands { (e : List Event) → Stands self.now e → result ≡ option_map info_of (opened e buf.maker.0 buf.n) }
+        ensures stands { (e : List Event) → Stands self.now e
+            → result ≡ option_map info_of (opened e buf.maker.0 buf.n) }
     {
         if let Some(copy) = self.copies.get(&(buf.maker.0, buf.n)) {
             return Some(Info {
@@ -158,7 +161,8 @@ impl<A: Allocator + Clone> Buffers<A> {
     /// Writes the item of an open copy. The object that it was copied from keeps its own.
     pub fn write(&mut self, buf: BufId, index: u64, value: i64)
         requires { index < copy_length (row_of buf.maker.0 buf.n self.old) }
-        ensures stands { (e : List Event) → Stands self.old e → Stands self.new (Wrote buf.maker.0 buf.n index value ∷ e) }
+        ensures stands { (e : List Event) → Stands self.old e
+            → Stands self.new (Wrote buf.maker.0 buf.n index value ∷ e) }
         ensures numbers { KeepsNumbers self.old self.new }
         ensures buffers { KeepsBuffers self.old self.new }
     {

@@ -56,7 +56,9 @@ pub fn set_item<A: Allocator>(
     value: i64,
 )
     ensures ordered { IsOrdered pair_cmp map.new }
-    ensures set { (q : ℕ × ℕ) → copy_at q (get pair_cmp map.new q) ≡ (if same_pair key q then copy_item_set index value (copy_at q (get pair_cmp map.old q)) else copy_at q (get pair_cmp map.old q)) }
+    ensures set { (q : ℕ × ℕ) → copy_at q (get pair_cmp map.new q)
+        ≡ (if same_pair key q then copy_item_set index value (copy_at q (get pair_cmp map.old q))
+        else copy_at q (get pair_cmp map.old q)) }
 {
     if let Some(copy) = map.get_mut(&key) {
         if index < copy.items.len() {

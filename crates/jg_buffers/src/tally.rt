@@ -33,7 +33,9 @@ pub fn make_room<K: Ord + Drop, A: Allocator + Clone>(
 pub fn raise<K: Ord, A: Allocator>(map: &mut BTreeMap<K, u64, A>, key: &K)
     requires room { IsSome (get K.cmp map.old key.now) }
     requires fits { count_at (get K.cmp map.old key.now) < u64.MAX }
-    ensures { (q : K) → count_at (get K.cmp map.new q) ≡ (if is_at (K.cmp key.now) q then count_at (get K.cmp map.old key.now) + 1 else count_at (get K.cmp map.old q)) }
+    ensures { (q : K) → count_at (get K.cmp map.new q)
+        ≡ (if is_at (K.cmp key.now) q then count_at (get K.cmp map.old key.now) + 1
+        else count_at (get K.cmp map.old q)) }
 {
     if let Some(count) = map.get_mut(key) {
         *count += 1;
@@ -42,7 +44,9 @@ pub fn raise<K: Ord, A: Allocator>(map: &mut BTreeMap<K, u64, A>, key: &K)
 
 /// One less of the key, which is forgotten at 0.
 pub fn lower<K: Ord + Drop, A: Allocator>(map: &mut BTreeMap<K, u64, A>, key: &K)
-    ensures { (q : K) → count_at (get K.cmp map.new q) ≡ (if is_at (K.cmp key.now) q then count_at (get K.cmp map.old key.now) - 1 else count_at (get K.cmp map.old q)) }
+    ensures { (q : K) → count_at (get K.cmp map.new q)
+        ≡ (if is_at (K.cmp key.now) q then count_at (get K.cmp map.old key.now) - 1
+        else count_at (get K.cmp map.old q)) }
 {
     if let Some(count) = map.get_mut(key) {
         if *count > 1 {

@@ -7,10 +7,12 @@ use Rattle.jg_script.specs.declared.run_fault.RunFault.{RunFault}
 use Rattle.jg_script.specs.declared.run_fault.RunFault.TheVariants.{Script, Limit, NoMemory, Read, Write}
 use Rattle.jg_script.specs.Checked.{Checks}
 
-pub checks_kept : (input input' bytes mid bytes' : Option (List ℕ)) (limit : ℕ) (h : List Entry) (r : Result ℕ RunFault) → Checks input input' bytes mid limit h r → Keeps mid bytes' → Checks input input' bytes bytes' limit h r
+pub checks_kept : (input input' bytes mid bytes' : Option (List ℕ)) (limit : ℕ) (h : List Entry) (r : Result ℕ RunFault) → Checks input input' bytes mid limit h r → Keeps mid bytes'
+    → Checks input input' bytes bytes' limit h r
 checks_kept input input' bytes mid bytes' limit h (Ok n) (read, done, written, count, within) k = (read, done, Appends-kept _ _ _ _ written k, count, within)
 checks_kept input input' bytes mid bytes' limit h (Err (Script line fault)) (read, one, written, count, within) k = (read, one, Appends-kept _ _ _ _ written k, count, within)
 checks_kept input input' bytes mid bytes' limit h (Err (Limit line)) (read, one, written, count, full) k = (read, one, Appends-kept _ _ _ _ written k, count, full)
 checks_kept input input' bytes mid bytes' limit h (Err (NoMemory line)) (read, (g, more, written, count)) k = (read, (g, more, Appends-kept _ _ _ _ written k, count))
 checks_kept input input' bytes mid bytes' limit h (Err (Read line)) (read, written, count) k = (read, Appends-kept _ _ _ _ written k, count)
-checks_kept input input' bytes mid bytes' limit h (Err (Write line)) (read, (e, g, is, (part, written, (n, short, front))), count) k = (read, (e, g, is, (part, written, (n, short, Appends-kept _ _ _ _ front k))), count)
+checks_kept input input' bytes mid bytes' limit h (Err (Write line)) (read, (e, g, is, (part, written, (n, short, front))), count) k =
+    (read, (e, g, is, (part, written, (n, short, Appends-kept _ _ _ _ front k))), count)

@@ -14,13 +14,15 @@ abbrev pub base_setup : StatedSetup
 base_setup = record { mode = Deny; enabled = []; classes = [] }
 
 -- how the answering of a script ended, and what it did to the bytes of the reader and of the writer
-abbrev pub Ends : Option (List ℕ) → Option (List ℕ) → Option (List ℕ) → Option (List ℕ) → ℕ → Result (Unit {0}) Stop → Type 0
+abbrev pub Ends : Option (List ℕ) → Option (List ℕ) → Option (List ℕ) → Option (List ℕ) → ℕ → Result (Unit {0}) Stop
+    → Type 0
 -- all that the reader held are the calls of a legal history, and the text of that history was written
 Ends input input' bytes bytes' limit (Ok done) =
     (h : List Entry) × Legal base_setup h × Checks input input' bytes bytes' limit h (Ok (length h))
 -- the check of the script ended so; or what it wrote couldn't be handed on
 Ends input input' bytes bytes' limit (Err (Run fault)) =
-    ((h : List Entry) × Legal base_setup h × Checks input input' bytes bytes' limit h (Err fault)) ⊎ ((line : ℕ) × (fault ≡ Write line))
+    ((h : List Entry) × Legal base_setup h × Checks input input' bytes bytes' limit h (Err fault))
+    ⊎ ((line : ℕ) × (fault ≡ Write line))
 -- no guard could be made
 Ends input input' bytes bytes' limit (Err Setup) = Unit {0}
 Ends input input' bytes bytes' limit (Err (Arguments fault)) = ⊥

@@ -19,7 +19,8 @@ fn answer_script<R: BufRead, W: Write>(
     reader: &mut Watched<R>,
     out: &mut Watched<W>,
 ) -> Result<(), Stop>
-    ensures { Ends (R.remaining reader.old.device) (R.remaining reader.new.device) (W.contents out.old.device) (W.contents out.new.device) limit result }
+    ensures { Ends (R.remaining reader.old.device) (R.remaining reader.new.device) (W.contents out.old.device)
+        (W.contents out.new.device) limit result }
 {
     let Ok(mut guard) = Guard::new(alloc, alloc, Setup::closed(alloc), limit) else {
         return Err(Stop::Setup);

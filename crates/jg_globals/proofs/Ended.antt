@@ -36,7 +36,8 @@ strong_ended : (later e : List Event) (m n : ℕ) → NumbersRise (later ++ e) �
 strong_ended [] e m n rise made none = none
 strong_ended (MakeStrong k i o ∷ later) e m n rise made none = rw (given_below (later ++ e) m n k i (was_given later e m n made) rise.0) (strong_ended later e m n rise.1 made none)
 strong_ended (MakeWeak k i o ∷ later) e m n rise made none = strong_ended later e m n rise.1 made none
-strong_ended (DeleteStrong k i ∷ later) e m n rise made none = rw (strong_ended later e m n rise made none) (elim (is_same m n k i) as (λ b. (if◌then◌else◌ {A = Option ℕ} b None None) ≡ None) [ true ↦ refl | false ↦ refl ])
+strong_ended (DeleteStrong k i ∷ later) e m n rise made none =
+    rw (strong_ended later e m n rise made none) (elim (is_same m n k i) as (λ b. (if◌then◌else◌ {A = Option ℕ} b None None) ≡ None) [ true ↦ refl | false ↦ refl ])
 strong_ended (DeleteWeak k i ∷ later) e m n rise made none = strong_ended later e m n rise made none
 strong_ended (Clear o ∷ later) e m n rise made none = strong_ended later e m n rise made none
 
@@ -45,7 +46,8 @@ weak_ended [] e m n rise made none = none
 weak_ended (MakeStrong k i o ∷ later) e m n rise made none = weak_ended later e m n rise.1 made none
 weak_ended (MakeWeak k i o ∷ later) e m n rise made none = rw (given_below (later ++ e) m n k i (was_given later e m n made) rise.0) (weak_ended later e m n rise.1 made none)
 weak_ended (DeleteStrong k i ∷ later) e m n rise made none = weak_ended later e m n rise made none
-weak_ended (DeleteWeak k i ∷ later) e m n rise made none = rw (weak_ended later e m n rise made none) (elim (is_same m n k i) as (λ b. (if◌then◌else◌ {A = Option ℕ} b None None) ≡ None) [ true ↦ refl | false ↦ refl ])
+weak_ended (DeleteWeak k i ∷ later) e m n rise made none = rw (weak_ended later e m n rise made none)
+    (elim (is_same m n k i) as (λ b. (if◌then◌else◌ {A = Option ℕ} b None None) ≡ None) [ true ↦ refl | false ↦ refl ])
 weak_ended (Clear o ∷ later) e m n rise made none = weak_ended later e m n rise made none
 
 not_in_being : (later : List Event) (found : Option ℕ) → unless_cleared later found ≡ None → found ≡ None
@@ -60,7 +62,8 @@ stays_ended later e m n rise made = record {
 
 -- ---- a cleared weak reference
 
-made_weakly : (e : List Event) (m n k i o : ℕ) (b : Bool) → is_same m n k i ≡ b → ((p : ℕ) → weak e m n ≡ Some p → list_any (makes m n) e ≡ true) → (p : ℕ) → (if b then Some o else weak e m n) ≡ Some p → (b || list_any (makes m n) e) ≡ true
+made_weakly : (e : List Event) (m n k i o : ℕ) (b : Bool) → is_same m n k i ≡ b → ((p : ℕ) → weak e m n ≡ Some p → list_any (makes m n) e ≡ true) → (p : ℕ)
+    → (if b then Some o else weak e m n) ≡ Some p → (b || list_any (makes m n) e) ≡ true
 made_weakly e m n k i o true is older p now = refl
 made_weakly e m n k i o false is older p now = older p now
 
@@ -91,7 +94,8 @@ weak_same (DeleteStrong k i ∷ later) e m n o rise made now = weak_same later e
 weak_same (DeleteWeak k i ∷ later) e m n o rise made now = weak_same later e m n o rise made (still_there (weak (later ++ e) m n) (is_same m n k i) o now)
 weak_same (Clear p ∷ later) e m n o rise made now = weak_same later e m n o rise made now
 
-clear_seen : (later e : List Event) (m n o : ℕ) → NumbersRise (later ++ e) → list_any (makes m n) e ≡ true → list_any (clears o) (after_making m n e) ≡ true → list_any (clears o) (after_making m n (later ++ e)) ≡ true
+clear_seen : (later e : List Event) (m n o : ℕ) → NumbersRise (later ++ e) → list_any (makes m n) e ≡ true → list_any (clears o) (after_making m n e) ≡ true
+    → list_any (clears o) (after_making m n (later ++ e)) ≡ true
 clear_seen [] e m n o rise made seen = seen
 clear_seen (MakeStrong k i p ∷ later) e m n o rise made seen = clear_seen later e m n o rise.1 made seen
 clear_seen (MakeWeak k i p ∷ later) e m n o rise made seen = rw (given_below (later ++ e) m n k i (was_given later e m n made) rise.0) (clear_seen later e m n o rise.1 made seen)

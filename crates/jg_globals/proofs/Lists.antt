@@ -12,7 +12,8 @@ filter_swap p q (x ∷ xs) = grind (arith, filter_swap p q xs)
 pub map-filter : {X Y : Type 0} (f : X → Y) (p : X → Bool) (q : Y → Bool) → ((x : X) → p x ≡ q (f x)) → (xs : List X) → map f (filter p xs) ≡ filter q (map f xs)
 map-filter f p q alike [] = refl
 map-filter f p q alike (x ∷ xs) =
-    rw (alike x) (elim (q (f x)) as (λ b. map f (if b then x ∷ filter p xs else filter p xs) ≡ (if b then f x ∷ filter q (map f xs) else filter q (map f xs))) [ true ↦ ap (λ l. f x ∷ l) (map-filter f p q alike xs) | false ↦ map-filter f p q alike xs ])
+    rw (alike x) (elim (q (f x)) as (λ b. map f (if b then x ∷ filter p xs else filter p xs) ≡ (if b then f x ∷ filter q (map f xs) else filter q (map f xs)))
+    [ true ↦ ap (λ l. f x ∷ l) (map-filter f p q alike xs) | false ↦ map-filter f p q alike xs ])
 
 pub list_any-map : {X Y : Type 0} (f : X → Y) (p : X → Bool) (q : Y → Bool) → ((x : X) → p x ≡ q (f x)) → (xs : List X) → list_any p xs ≡ list_any q (map f xs)
 list_any-map f p q alike [] = refl
@@ -26,14 +27,16 @@ first (x ∷ xs) = Some x
 pub find-map : {X Y : Type 0} (f : X → Y) (p : X → Bool) (q : Y → Bool) → ((x : X) → p x ≡ q (f x)) → (xs : List X) → option_map f (find p xs) ≡ first (filter q (map f xs))
 find-map f p q alike [] = refl
 find-map f p q alike (x ∷ xs) =
-    rw (alike x) (elim (q (f x)) as (λ b. option_map f (if b then Some x else find p xs) ≡ first (if b then f x ∷ filter q (map f xs) else filter q (map f xs))) [ true ↦ refl | false ↦ find-map f p q alike xs ])
+    rw (alike x) (elim (q (f x)) as (λ b. option_map f (if b then Some x else find p xs) ≡ first (if b then f x ∷ filter q (map f xs) else filter q (map f xs)))
+    [ true ↦ refl | false ↦ find-map f p q alike xs ])
 
 -- membership, by cases
 abbrev pub Member : {X : Type 0} → X → List X → Type 0
 Member x [] = ⊥
 Member x (y ∷ ys) = (x ≡ y) ⊎ Member x ys
 
-any_member_cons : {X : Type 0} (p : X → Bool) (x : X) (xs : List X) (b : Bool) → p x ≡ b → (list_any p xs ≡ true → (y : X) × (Member y xs × (p y ≡ true))) → list_any p (x ∷ xs) ≡ true → (y : X) × (Member y (x ∷ xs) × (p y ≡ true))
+any_member_cons : {X : Type 0} (p : X → Bool) (x : X) (xs : List X) (b : Bool) → p x ≡ b → (list_any p xs ≡ true → (y : X) × (Member y xs × (p y ≡ true))) → list_any p (x ∷ xs) ≡ true
+    → (y : X) × (Member y (x ∷ xs) × (p y ≡ true))
 any_member_cons p x xs true here tail is = (x, (inl refl, here))
 any_member_cons p x xs false here tail is =
     let rest : list_any p xs ≡ true = grind (arith, nat_tests) in

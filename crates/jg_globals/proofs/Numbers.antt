@@ -27,7 +27,8 @@ strong_kept rows p k i above = record { strong = All-filter p (λ r. r.maker ≡
 pub weak_kept : (rows : Rows) (p : Weak → Bool) (k i : ℕ) → IsAbove k i rows → IsAbove k i (record { strong = rows.strong; weak = filter p rows.weak })
 weak_kept rows p k i above = record { strong = above.strong; weak = All-filter p (λ r. r.maker ≡ k → r.n < i) rows.weak above.weak }
 
-each_cleared : (test : ObjId → Bool → Type 0) (olds news : List WeakRow) (k i : ℕ) → EachCleared test olds news → AllByRecursion (λ row. row.maker ≡ k → row.n < i) (map weak_seen olds) → AllByRecursion (λ row. row.maker ≡ k → row.n < i) (map weak_seen news)
+each_cleared : (test : ObjId → Bool → Type 0) (olds news : List WeakRow) (k i : ℕ) → EachCleared test olds news → AllByRecursion (λ row. row.maker ≡ k → row.n < i) (map weak_seen olds)
+    → AllByRecursion (λ row. row.maker ≡ k → row.n < i) (map weak_seen news)
 each_cleared test [] [] k i cleared above = tt
 each_cleared test [] (new ∷ news) k i cleared above = cc
 each_cleared test (row ∷ olds) [] k i cleared above = absurd cleared
@@ -35,7 +36,8 @@ each_cleared test (row ∷ olds) (new ∷ news) k i cleared above =
     let P : ℕ → Type 0 = λ n. n < i in
     ((λ is. subst P (sym cleared.0.1.0) (above.0 (sym cleared.0.0 ∙ is))), each_cleared test olds news k i cleared.1 above.1)
 
-pub cleared_kept : (test : ObjId → Bool → Type 0) (rows : Rows) (olds news : List WeakRow) (k i : ℕ) → rows.weak ≡ map weak_seen olds → EachCleared test olds news → IsAbove k i rows → IsAbove k i (record { strong = rows.strong; weak = map weak_seen news })
+pub cleared_kept : (test : ObjId → Bool → Type 0) (rows : Rows) (olds news : List WeakRow) (k i : ℕ) → rows.weak ≡ map weak_seen olds → EachCleared test olds news → IsAbove k i rows
+    → IsAbove k i (record { strong = rows.strong; weak = map weak_seen news })
 cleared_kept test rows olds news k i seen cleared above =
     let P : List Weak → Type 0 = λ l. AllByRecursion (λ row. row.maker ≡ k → row.n < i) l in
     record {

@@ -61,7 +61,8 @@ weak_above k i (row ∷ rows) above m n is =
 pub make_strong_law : (rows : Rows) (e : List Event) (k i o : ℕ) → IsAbove k i rows → Stands rows e
     → Stands (record { strong = rows.strong ++ record { maker = k; n = i; object = o } ∷ []; weak = rows.weak }) (MakeStrong k i o ∷ e)
 make_strong_law rows e k i o above stands = record {
-  strong = λ m n. rw filter-append (strong_added m n k i o (is_same m n k i) rows.strong (strong e m n) refl (stands.strong m n) (strong_above k i rows.strong (recursion_from_All _ _ above.strong) m n));
+  strong = λ m n. rw filter-append (strong_added m n k i o (is_same m n k i) rows.strong (strong e m n) refl (stands.strong m n)
+      (strong_above k i rows.strong (recursion_from_All _ _ above.strong) m n));
   weak = λ m n. stands.weak m n ∙ ap (weak_rows m n) (sym (quiet m n (after_making m n e) (MakeStrong k i o) (weak e m n) (λ p. refl)));
 }
 
@@ -75,7 +76,11 @@ pub make_weak_law : (rows : Rows) (e : List Event) (k i o : ℕ) → IsAbove k i
     → Stands (record { strong = rows.strong; weak = rows.weak ++ record { maker = k; n = i; target = Object (record { 0 = o }) } ∷ [] }) (MakeWeak k i o ∷ e)
 make_weak_law rows e k i o above stands = record {
   strong = stands.strong;
-  weak = λ m n. rw (weak_target-make m n k i o e (is_same m n k i), filter-append) (weak_added m n k i o (is_same m n k i) rows.weak (weak_target e m n) (Object (record { 0 = o })) refl (stands.weak m n) (weak_above k i rows.weak (recursion_from_All _ _ above.weak) m n));
+  weak = λ m n. rw (
+    weak_target-make m n k i o e (is_same m n k i),
+    filter-append,
+  ) (weak_added m n k i o (is_same m n k i) rows.weak (weak_target e m n) (Object (record { 0 = o })) refl (stands.weak m n)
+      (weak_above k i rows.weak (recursion_from_All _ _ above.weak) m n));
 }
 
 -- a deletion takes the row of its own reference alone
@@ -199,7 +204,8 @@ rows_cleared test m n objects (row ∷ olds) (new ∷ news) found listed cleared
     (head_cleared test m n objects row new (filter (is_weak m n) (map weak_seen olds)) news_rest found (is_weak m n (weak_seen row)) refl cleared.0.0 cleared.0.1.0 cleared.0.1.1 listed
     (λ was own is. rows_cleared test m n objects olds news was own cleared.1 is) stands)
 
-pub clear_law : (test : ObjId → Bool → Type 0) (rows : Rows) (olds news : List WeakRow) (e : List Event) (objects : List ℕ) → rows.weak ≡ map weak_seen olds → EachCleared test olds news → IsListOf test e objects → Stands rows e
+pub clear_law : (test : ObjId → Bool → Type 0) (rows : Rows) (olds news : List WeakRow) (e : List Event) (objects : List ℕ) → rows.weak ≡ map weak_seen olds → EachCleared test olds news
+    → IsListOf test e objects → Stands rows e
     → Stands (record { strong = rows.strong; weak = map weak_seen news }) (map (λ o. Clear o) objects ++ e)
 clear_law test rows olds news e objects seen cleared listed stands = record {
   strong = λ m n. rw (strong-clear m n objects e) (stands.strong m n);
@@ -207,7 +213,8 @@ clear_law test rows olds news e objects seen cleared listed stands = record {
 }
 
 -- one more row cleared
-EachCleared-append : (test : ObjId → Bool → Type 0) (olds news : List WeakRow) (row new : WeakRow) → EachCleared test olds news → new.maker ≡ row.maker → new.n ≡ row.n → IsCleared test row.target new.target → EachCleared test (olds ++ row ∷ []) (news ++ new ∷ [])
+EachCleared-append : (test : ObjId → Bool → Type 0) (olds news : List WeakRow) (row new : WeakRow) → EachCleared test olds news → new.maker ≡ row.maker → new.n ≡ row.n
+    → IsCleared test row.target new.target → EachCleared test (olds ++ row ∷ []) (news ++ new ∷ [])
 EachCleared-append test [] [] row new done maker number cleared = ((maker, (number, cleared)), refl)
 EachCleared-append test [] (x ∷ news) row new done maker number cleared = cc
 EachCleared-append test (x ∷ olds) [] row new done maker number cleared = absurd done
@@ -220,7 +227,8 @@ same_row olds rows i d rest =
     let after : get_or (drop i olds) 0 d ≡ get_or olds i d = rw get_or-drop (ap (λ k. get_or olds k d) (add-zero i)) in
     sym before ∙ (there ∙ after)
 
-pub cleared_so_far : (test : ObjId → Bool → Type 0) (olds rows : List WeakRow) (i : ℕ) (d new : WeakRow) → i < length olds → length rows ≡ length olds → EachCleared test (take i olds) (take i rows) → drop i rows ≡ drop i olds
+pub cleared_so_far : (test : ObjId → Bool → Type 0) (olds rows : List WeakRow) (i : ℕ) (d new : WeakRow) → i < length olds → length rows ≡ length olds → EachCleared test (take i olds) (take i rows)
+    → drop i rows ≡ drop i olds
     → new.maker ≡ (get_or rows i d).maker → new.n ≡ (get_or rows i d).n → IsCleared test (get_or rows i d).target new.target
     → EachCleared test (take (i + 1) olds) (take (i + 1) (set rows i new))
 cleared_so_far test olds rows i d new within long done rest maker number cleared =

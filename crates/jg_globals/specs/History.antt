@@ -7,7 +7,8 @@ use Rattle.jg_words.specs.declared.reference.Kind.TheVariants.{Local, Global, We
 use Rattle.jg_globals.specs.declared.target.Target.{Target}
 use Rattle.jg_globals.specs.declared.target.Target.TheVariants.{Object, Cleared}
 
--- what happens to global references (strong ones) and to weak global references: one is made, number n of its maker, for an object; one is deleted; an object is collected, which clears the weak references to it
+-- what happens to global references (strong ones) and to weak global references: one is made, number n of its maker,
+-- for an object; one is deleted; an object is collected, which clears the weak references to it
 pub data Event : Type 0 where
   MakeStrong : (maker : ℕ) → (n : ℕ) → (object : ℕ) → Event
   MakeWeak : (maker : ℕ) → (n : ℕ) → (object : ℕ) → Event
@@ -26,7 +27,8 @@ strong (MakeStrong k i o ∷ e) maker n = if is_same maker n k i then Some o els
 strong (DeleteStrong k i ∷ e) maker n = if is_same maker n k i then None else strong e maker n
 strong (ev ∷ e) maker n = strong e maker n
 
--- the object that a weak reference was made for, where it is in being: made and not deleted since (JNI chapter 4, "Weak Global References")
+-- the object that a weak reference was made for, where it is in being: made and not deleted since (JNI chapter 4, "Weak
+-- Global References")
 abbrev pub weak : List Event → ℕ → ℕ → Option ℕ
 weak [] maker n = None
 weak (MakeWeak k i o ∷ e) maker n = if is_same maker n k i then Some o else weak e maker n
@@ -48,7 +50,8 @@ abbrev pub clears : ℕ → Event → Bool
 clears o (Clear p) = p == o
 clears o ev = false
 
--- a weak reference in being is cleared where its object was collected later than its making; else it is live and names its object
+-- a weak reference in being is cleared where its object was collected later than its making; else it is live and names
+-- its object
 abbrev pub unless_cleared : List Event → Option ℕ → Option Target
 unless_cleared later None = None
 unless_cleared later (Some o) = Some (if list_any (clears o) later then Cleared else Object (record { 0 = o }))

@@ -25,7 +25,8 @@ pub record StrongSince (e : List Event) (maker n o : ℕ) : Type 0 where
   pub made : e ≡ later ++ MakeStrong maker n o ∷ before
   pub kept : list_any (about_strong maker n) later ≡ false
 
--- some event made the weak reference for the object, none made or deleted it later, and the object was cleared later or not
+-- some event made the weak reference for the object, none made or deleted it later, and the object was cleared later or
+-- not
 pub record WeakSince (e : List Event) (maker n o : ℕ) (was_cleared : Bool) : Type 0 where
   pub later : List Event
   pub before : List Event
@@ -39,11 +40,13 @@ StrongMeans = (e : List Event) (maker n o : ℕ) → (strong e maker n ≡ Some 
 
 -- a weak reference is live, for an object, where it was made for it and since then neither deleted nor cleared
 abbrev pub WeakMeans : Type 0
-WeakMeans = (e : List Event) (maker n o : ℕ) → (weak_target e maker n ≡ Some (Object (record { 0 = o }))) ↔ WeakSince e maker n o false
+WeakMeans = (e : List Event) (maker n o : ℕ)
+    → (weak_target e maker n ≡ Some (Object (record { 0 = o }))) ↔ WeakSince e maker n o false
 
 -- a weak reference is cleared where it was made for an object that was cleared since, and not deleted since
 abbrev pub ClearedMeans : Type 0
-ClearedMeans = (e : List Event) (maker n : ℕ) → (weak_target e maker n ≡ Some Cleared) ↔ ((o : ℕ) × WeakSince e maker n o true)
+ClearedMeans = (e : List Event) (maker n : ℕ)
+    → (weak_target e maker n ≡ Some Cleared) ↔ ((o : ℕ) × WeakSince e maker n o true)
 
 -- the number is above each that the maker's references were given, of both kinds
 abbrev pub IsMadeBelow : ℕ → ℕ → List Event → Type 0
@@ -71,12 +74,16 @@ pub record StaysEnded (later e : List Event) (maker n : ℕ) : Type 0 where
   pub weak : weak_target e maker n ≡ None → weak_target (later ++ e) maker n ≡ None
 
 abbrev pub DeletedStaysDeleted : Type 0
-DeletedStaysDeleted = (later e : List Event) (maker n : ℕ) → NumbersRise (later ++ e) → list_any (makes maker n) e ≡ true → StaysEnded later e maker n
+DeletedStaysDeleted = (later e : List Event) (maker n : ℕ) → NumbersRise (later ++ e)
+    → list_any (makes maker n) e ≡ true → StaysEnded later e maker n
 
 -- a cleared weak reference never names an object again
 abbrev pub ClearedStaysCleared : Type 0
-ClearedStaysCleared = (later e : List Event) (maker n o : ℕ) → NumbersRise (later ++ e) → weak_target e maker n ≡ Some Cleared → ¬ (weak_target (later ++ e) maker n ≡ Some (Object (record { 0 = o })))
+ClearedStaysCleared = (later e : List Event) (maker n o : ℕ) → NumbersRise (later ++ e)
+    → weak_target e maker n ≡ Some Cleared → ¬ (weak_target (later ++ e) maker n ≡ Some (Object (record { 0 = o })))
 
--- a number above all that the events gave the maker is above all of its numbers in the rows, as the making of a reference asks
+-- a number above all that the events gave the maker is above all of its numbers in the rows, as the making of a
+-- reference asks
 abbrev pub NewNumberIsAbove : Type 0
-NewNumberIsAbove = (rows : Rows) (e : List Event) (maker n : ℕ) → Stands rows e → IsMadeBelow maker n e → IsAbove maker n rows
+NewNumberIsAbove = (rows : Rows) (e : List Event) (maker n : ℕ) → Stands rows e → IsMadeBelow maker n e
+    → IsAbove maker n rows

@@ -46,7 +46,8 @@ impl<A: Allocator + Clone> Globals<A> {
     /// Fails only for want of memory, and then leaves all unchanged.
     pub fn make_strong(&mut self, maker: Tid, n: u64, object: ObjId) -> Result<(), AllocError>
         requires { IsAbove maker.0 n self.old }
-        ensures ok { OnOk result ((e : List Event) → Stands self.old e → Stands self.new (MakeStrong maker.0 n object.0 ∷ e)) }
+        ensures ok { OnOk result ((e : List Event) → Stands self.old e
+            → Stands self.new (MakeStrong maker.0 n object.0 ∷ e)) }
         ensures err { OnErr result (self.new ≡ self.old) }
         ensures numbers { AddsNumber maker.0 n self.old self.new }
     {
@@ -63,7 +64,8 @@ impl<A: Allocator + Clone> Globals<A> {
     /// unchanged.
     pub fn make_weak(&mut self, maker: Tid, n: u64, object: ObjId) -> Result<(), AllocError>
         requires { IsAbove maker.0 n self.old }
-        ensures ok { OnOk result ((e : List Event) → Stands self.old e → Stands self.new (MakeWeak maker.0 n object.0 ∷ e)) }
+        ensures ok { OnOk result ((e : List Event) → Stands self.old e
+            → Stands self.new (MakeWeak maker.0 n object.0 ∷ e)) }
         ensures err { OnErr result (self.new ≡ self.old) }
         ensures numbers { AddsNumber maker.0 n self.old self.new }
     {
@@ -120,7 +122,8 @@ impl<A: Allocator + Clone> Globals<A> {
     /// test, this is the clearing of each of its objects.
     pub fn clear_weak_where<F: Fn(ObjId) -> bool + Drop>(&mut self, test: F)
         requires { F.IsAlwaysCallable test }
-        ensures stands { (e : List Event) (objects : List ℕ) → Stands self.old e → IsListOf (F.post test) e objects → Stands self.new (map (λ o. Clear o) objects ++ e) }
+        ensures stands { (e : List Event) (objects : List ℕ) → Stands self.old e → IsListOf (F.post test) e objects
+            → Stands self.new (map (λ o. Clear o) objects ++ e) }
         ensures numbers { KeepsNumbers self.old self.new }
     {
         clear_rows(&mut self.weak, &test);

@@ -97,7 +97,14 @@ can_start p rows t o stands is =
 -- ---- where the tables still stand
 
 pub due_still : (s : StatedSetup) (old new : TableRows) (t : ℕ) (call : Call) (due : IsDue s old t call) → TablesStand s new due.events → IsDue s new t call
-due_still s old new t call due stand = record { events = due.events; env = due.env; ordinary = due.ordinary; stand = stand; unbroken = due.unbroken; counts = counts due.events new.threads t due.ordinary stand.threads }
+due_still s old new t call due stand = record {
+  events = due.events;
+  env = due.env;
+  ordinary = due.ordinary;
+  stand = stand;
+  unbroken = due.unbroken;
+  counts = counts due.events new.threads t due.ordinary stand.threads;
+}
 
 -- ---- what an answer makes can be made
 
@@ -130,7 +137,8 @@ can_hand_out s p tables t n env call after stand takes is next room =
       counts = counts_few q tables.threads t after.few stand.threads;
       attached = is_on q tables.threads t stand.threads on;
       started = has_frame_law tables.locals.rows q.locals t stand.locals (sym after.agree.session ∙ on);
-      above = subst (λ (k : ℕ). All (λ row. row.tid ≡ t → row.n < k) tables.locals.rows.locals) (next_done s p t call t ∙ sym next) (above_law tables.locals.rows q.locals t (next_ref q t) stand.locals after.below);
+      above = subst (λ (k : ℕ). All (λ row. row.tid ≡ t → row.n < k) tables.locals.rows.locals) (next_done s p t call t ∙ sym next)
+          (above_law tables.locals.rows q.locals t (next_ref q t) stand.locals after.below);
       room = room;
     }
 
@@ -146,14 +154,20 @@ can_make_global s p tables t maker n env call o stand takes is own next =
 
 pub can_settle : {A : Type 0} (s : StatedSetup) (p : Parts) (tables : Tables A) (t : Tid) (env : Option EnvId) (call : Call) (value : Value) (warned : Bool) (o : Option ObjId)
     → IsProper s p t call value warned o → is_effective value ≡ true → makes_global value ≡ false
-    → After (done_by s t.0 call p) t.0 → TablesStand s (rows_of tables) (done_by s t.0 call p) → detached p t.0 env call ≡ false → (makes_local value ≡ true → needs_env (fun_of call) ≡ true → 0 < spare tables.locals t.0)
+    → After (done_by s t.0 call p) t.0 → TablesStand s (rows_of tables) (done_by s t.0 call p) → detached p t.0 env call ≡ false
+    → (makes_local value ≡ true → needs_env (fun_of call) ≡ true → 0 < spare tables.locals t.0)
     → CanSettle tables t.0 value o
 can_settle s p tables t env call (Reference r) warned None own effective not_global after stand is room = absurd own
 can_settle s p tables t env call (Reference Null) warned (Some o) own effective not_global after stand is room = absurd own
-can_settle s p tables t env call (Reference (To Local maker n)) warned (Some o) own effective not_global after stand is room = can_hand_out s p tables t.0 n env call after stand own.0 is own.2 (room refl own.0)
+can_settle s p tables t env call (Reference (To Local maker n)) warned (Some o) own effective not_global after stand is room =
+    can_hand_out s p tables t.0 n env call after stand own.0 is own.2 (room refl own.0)
 can_settle s p tables t env call (Reference (To Global maker n)) warned (Some o) own effective not_global after stand is room = absurd cc
 can_settle s p tables t env call (Reference (To Weak maker n)) warned (Some o) own effective not_global after stand is room = absurd cc
-can_settle s p tables t env call (Lent b) warned o own effective not_global after stand is room = record { counts = counts_few (done_by s t.0 call p) tables.threads t.0 after.few stand.threads; attached = is_on (done_by s t.0 call p) tables.threads t.0 stand.threads (attached_done s p t.0 call own.0 (attached_caller p t.0 env call own.0 is)) }
+can_settle s p tables t env call (Lent b) warned o own effective not_global after stand is room =
+    record {
+      counts = counts_few (done_by s t.0 call p) tables.threads t.0 after.few stand.threads;
+      attached = is_on (done_by s t.0 call p) tables.threads t.0 stand.threads (attached_done s p t.0 call own.0 (attached_caller p t.0 env call own.0 is));
+    }
 can_settle s p tables t env call Busy warned o own effective not_global after stand is room = absurd cc
 can_settle s p tables t env call (Threw kind) warned o own effective not_global after stand is room = absurd cc
 can_settle s p tables t env call value warned o own effective not_global after stand is room = tt
@@ -168,13 +182,15 @@ can_settle_global s p tables t env call (Reference (To Weak maker n)) warned (So
 can_settle_global s p tables t env call value warned o own global before stand is = absurd cc
 
 -- a call that does nothing of its own takes an environment
-pub takes_env : (s : StatedSetup) (p : Parts) (t : Tid) (call : Call) (value : Value) (warned : Bool) (o : Option ObjId) → IsProper s p t call value warned o → is_effective value ≡ false → needs_env (fun_of call) ≡ true
+pub takes_env : (s : StatedSetup) (p : Parts) (t : Tid) (call : Call) (value : Value) (warned : Bool) (o : Option ObjId) → IsProper s p t call value warned o → is_effective value ≡ false
+    → needs_env (fun_of call) ≡ true
 takes_env s p t call (Threw kind) warned None own none = absurd own
 takes_env s p t call (Threw kind) warned (Some o) own none = own.0
 takes_env s p t call Busy warned o own none = own.0
 takes_env s p t call value warned o own none = absurd cc
 
-pub can_throw : (s : StatedSetup) (p : Parts) (t : Tid) (call : Call) (value : Value) (warned : Bool) (o : Option ObjId) → IsProper s p t call value warned o → is_effective value ≡ false → CanThrow value o
+pub can_throw : (s : StatedSetup) (p : Parts) (t : Tid) (call : Call) (value : Value) (warned : Bool) (o : Option ObjId) → IsProper s p t call value warned o → is_effective value ≡ false
+    → CanThrow value o
 can_throw s p t call (Threw kind) warned None own none = own
 can_throw s p t call (Threw kind) warned (Some o) own none = tt
 can_throw s p t call Busy warned o own none = tt
@@ -192,7 +208,8 @@ pub own_proper : (s : StatedSetup) (p : Parts) (t : Tid) (call : Call) (given : 
 own_proper s p t call given is = rw is (proper s p t call)
 
 -- nothing of its own
-settled_none : (s : StatedSetup) (home : Option ℕ) (p : Parts) (t : Tid) (call : Call) (value : Value) (warned : Bool) (o : Option ObjId) → IsProper s p t call value warned o → is_effective value ≡ false
+settled_none : (s : StatedSetup) (home : Option ℕ) (p : Parts) (t : Tid) (call : Call) (value : Value) (warned : Bool) (o : Option ObjId) → IsProper s p t call value warned o
+    → is_effective value ≡ false
     → settled None t.0 (saying_of value) o p ≡ settled home t.0 (record { value = value; warned = warned }) o (done_if (is_effective value) s t.0 call p)
 settled_none s home p t call (Threw kind) warned None own none = absurd own
 settled_none s home p t call (Threw kind) warned (Some o) own none = rw own.2 refl
@@ -205,7 +222,8 @@ stand_none s rows p t call given is none stand =
     let own : ProperAnswer s p t call given = rw is (proper s p t call) in
     subst (λ (q : Parts). TablesStand s rows q) (settled_none s (home_of s (native_class s p t.0 call)) p t call given.reply.value given.reply.warned given.object own none) stand
 
-settled_globals : (s : StatedSetup) (home : Option ℕ) (p : Parts) (t : Tid) (call : Call) (value : Value) (warned : Bool) (o : Option ObjId) → IsProper s p t call value warned o → makes_global value ≡ true
+settled_globals : (s : StatedSetup) (home : Option ℕ) (p : Parts) (t : Tid) (call : Call) (value : Value) (warned : Bool) (o : Option ObjId) → IsProper s p t call value warned o
+    → makes_global value ≡ true
     → settled None t.0 (saying_of value) o p ≡ settled home t.0 (record { value = value; warned = warned }) o (done_if (is_effective value) s t.0 call p)
 settled_globals s home p t call (Reference r) warned None own global = absurd own
 settled_globals s home p t call (Reference Null) warned (Some o) own global = absurd own
@@ -220,6 +238,8 @@ stand_global s rows p t call given is global stand =
     let own : ProperAnswer s p t call given = rw is (proper s p t call) in
     subst (λ (q : Parts). TablesStand s rows q) (settled_globals s (home_of s (native_class s p t.0 call)) p t call given.reply.value given.reply.warned given.object own global) stand
 
-pub stand_done : (s : StatedSetup) (rows : TableRows) (home : Option ℕ) (p : Parts) (t : Tid) (call : Call) (given : Answer) → home ≡ home_of s (native_class s p t.0 call) → is_effective given.reply.value ≡ true
-    → TablesStand s rows (warned_on given.reply.warned home (settled None t.0 (saying_of given.reply.value) given.object (done_by s t.0 call p))) → TablesStand s rows (passed_on s t.0 call given.reply given.object p)
+pub stand_done : (s : StatedSetup) (rows : TableRows) (home : Option ℕ) (p : Parts) (t : Tid) (call : Call) (given : Answer) → home ≡ home_of s (native_class s p t.0 call)
+    → is_effective given.reply.value ≡ true
+    → TablesStand s rows (warned_on given.reply.warned home (settled None t.0 (saying_of given.reply.value) given.object (done_by s t.0 call p)))
+    → TablesStand s rows (passed_on s t.0 call given.reply given.object p)
 stand_done s rows home p t call given is effective stand = rw (effective, sym is) stand

@@ -42,34 +42,52 @@ entry_passed s p t env call none = rw none refl
 
 -- one entry more keeps a guard sound
 pub sound_after : (state : State) (journal : List Entry) (x : Entry) (rows rows' : TableRows)
-    → IsSound state rows → length state.journal < state.limit → journal ≡ x ∷ state.journal → x ≡ entry_at state.setup (parts state.setup state.journal) x.tid x.env x.call → TablesStand state.setup rows' (parts state.setup (x ∷ state.journal))
+    → IsSound state rows → length state.journal < state.limit → journal ≡ x ∷ state.journal → x ≡ entry_at state.setup (parts state.setup state.journal) x.tid x.env x.call
+    → TablesStand state.setup rows' (parts state.setup (x ∷ state.journal))
     → IsSound (record state { journal = journal }) rows'
 sound_after state journal x rows rows' s room is legal stands =
     record { legal = rw is (legal, s.legal); small = s.small; bounded = rw is (omega arith); tables = rw is stands }
 
-abbrev pub due_of : (state : State) (rows : TableRows) (t : Tid) (env : Option EnvId) (call : Call) → IsSound state rows → verdict state.setup (parts state.setup state.journal) t.0 env call ≡ None → IsDue state.setup rows t.0 call
+abbrev pub due_of : (state : State) (rows : TableRows) (t : Tid) (env : Option EnvId) (call : Call) → IsSound state rows → verdict state.setup (parts state.setup state.journal) t.0 env call ≡ None
+    → IsDue state.setup rows t.0 call
 due_of state rows t env call s none =
     let p : Parts = parts state.setup state.journal in
-    record { events = p; env = env; ordinary = ordinary state rows s; stand = s.tables; unbroken = unbroken state.setup p t.0 env call none; counts = counts p rows.threads t.0 (ordinary state rows s) s.tables.threads }
+    record {
+      events = p;
+      env = env;
+      ordinary = ordinary state rows s;
+      stand = s.tables;
+      unbroken = unbroken state.setup p t.0 env call none;
+      counts = counts p rows.threads t.0 (ordinary state rows s) s.tables.threads;
+    }
 
 -- the entry of a denied call
 abbrev pub denied_entry : Tid → Option EnvId → Call → Rule → Entry
 denied_entry t env call rule = record { tid = t; env = env; call = call; outcome = Denied rule; object = None }
 
-pub entry_denied : (s : StatedSetup) (p : Parts) (t : Tid) (env : Option EnvId) (call : Call) (rule : Rule) → verdict s p t.0 env call ≡ Some rule → denied_entry t env call rule ≡ entry_at s p t env call
+pub entry_denied : (s : StatedSetup) (p : Parts) (t : Tid) (env : Option EnvId) (call : Call) (rule : Rule) → verdict s p t.0 env call ≡ Some rule
+    → denied_entry t env call rule ≡ entry_at s p t env call
 entry_denied s p t env call rule is = rw is refl
 
 -- the entry of a passed one
 abbrev pub passed_entry : Tid → Option EnvId → Call → Answer → Entry
 passed_entry t env call given = record { tid = t; env = env; call = call; outcome = Passed given.reply; object = given.object }
 
-pub entry_given : (s : StatedSetup) (p : Parts) (t : Tid) (env : Option EnvId) (call : Call) (given : Answer) → verdict s p t.0 env call ≡ None → given ≡ answer s p t call → passed_entry t env call given ≡ entry_at s p t env call
+pub entry_given : (s : StatedSetup) (p : Parts) (t : Tid) (env : Option EnvId) (call : Call) (given : Answer) → verdict s p t.0 env call ≡ None → given ≡ answer s p t call
+    → passed_entry t env call given ≡ entry_at s p t env call
 entry_given s p t env call given none is = rw (none, is) refl
 
 -- the guard took the entry
-pub takes_entry : (old : State) (rows : TableRows) (x : Entry) (journal : List Entry) → IsSound old rows → journal ≡ x ∷ old.journal → x ≡ entry_at old.setup (parts old.setup old.journal) x.tid x.env x.call
+pub takes_entry : (old : State) (rows : TableRows) (x : Entry) (journal : List Entry) → IsSound old rows → journal ≡ x ∷ old.journal
+    → x ≡ entry_at old.setup (parts old.setup old.journal) x.tid x.env x.call
     → Takes old (record old { journal = journal }) x.tid x.env x.call x.outcome
-takes_entry old rows x journal s is legal = record { setup = refl; limit = refl; journal = is ∙ ap (λ (y : Entry). y ∷ old.journal) legal; answered = ap (λ (y : Entry). y.outcome) legal; legal = rw is (legal, s.legal) }
+takes_entry old rows x journal s is legal = record {
+  setup = refl;
+  limit = refl;
+  journal = is ∙ ap (λ (y : Entry). y ∷ old.journal) legal;
+  answered = ap (λ (y : Entry). y.outcome) legal;
+  legal = rw is (legal, s.legal);
+}
 
 pub denied_sound : (state : State) (journal : List Entry) (rows : TableRows) (t : Tid) (env : Option EnvId) (call : Call) (rule : Rule) → IsSound state rows → length state.journal < state.limit
     → verdict state.setup (parts state.setup state.journal) t.0 env call ≡ Some rule → journal ≡ denied_entry t env call rule ∷ state.journal → IsSound (record state { journal = journal }) rows
@@ -80,9 +98,13 @@ pub answered_at : (s s' : StatedSetup) (p : Parts) (t : Tid) (call : Call) (give
 answered_at s s' p t call given same is = is ∙ ap (λ (r : StatedSetup). answer r p t call) same
 
 same_answer : (a b : Answer) → a.reply.value ≡ b.reply.value → a.reply.warned ≡ b.reply.warned → a.object ≡ b.object → a ≡ b
-same_answer a b value warned object = ap (λ (v : Value). record { reply = record { value = v; warned = a.reply.warned }; object = a.object }) value ∙ (ap (λ (w : Bool). record { reply = record { value = b.reply.value; warned = w }; object = a.object }) warned ∙ ap (λ (o : Option ObjId). record { reply = record { value = b.reply.value; warned = b.reply.warned }; object = o }) object)
+same_answer a b value warned object = ap (λ (v : Value). record { reply = record { value = v; warned = a.reply.warned }; object = a.object }) value
+    ∙ (ap (λ (w : Bool). record { reply = record { value = b.reply.value; warned = w }; object = a.object }) warned
+    ∙ ap (λ (o : Option ObjId). record { reply = record { value = b.reply.value; warned = b.reply.warned }; object = o }) object)
 
-pub answered_due : (state : State) (rows : TableRows) (t : Tid) (env : Option EnvId) (call : Call) (given : Answer) (again : Answer) → IsSound state rows → verdict state.setup (parts state.setup state.journal) t.0 env call ≡ None
-    → given ≡ answer state.setup (parts state.setup state.journal) t call → again.reply.value ≡ given.reply.value → again.reply.warned ≡ given.reply.warned → again.object ≡ given.object → IsAnswered state.setup rows t call again
+pub answered_due : (state : State) (rows : TableRows) (t : Tid) (env : Option EnvId) (call : Call) (given : Answer) (again : Answer) → IsSound state rows
+    → verdict state.setup (parts state.setup state.journal) t.0 env call ≡ None
+    → given ≡ answer state.setup (parts state.setup state.journal) t call → again.reply.value ≡ given.reply.value → again.reply.warned ≡ given.reply.warned → again.object ≡ given.object
+    → IsAnswered state.setup rows t call again
 answered_due state rows t env call given again s none is value warned object =
     record { due = due_of state rows t env call s none; answered = same_answer again given value warned object ∙ is }

@@ -23,8 +23,8 @@ pub record IsSound (state : State) (rows : TableRows) : Type 0 where
   pub bounded : length state.journal ≤ state.limit
   pub tables : TablesStand state.setup rows (parts state.setup state.journal)
 
--- the guard took one call more: the journal has its entry in front, which is denied by the first broken rule or passed with
--- the answer; that outcome was answered, and the journal is legal
+-- the guard took one call more: the journal has its entry in front, which is denied by the first broken rule or passed
+-- with the answer; that outcome was answered, and the journal is legal
 pub record Takes (old new : State) (t : Tid) (env : Option EnvId) (call : Call) (outcome : Outcome) : Type 0 where
   pub setup : new.setup ≡ old.setup
   pub limit : new.limit ≡ old.limit

@@ -16,17 +16,29 @@ use Rattle.jg_words.specs.declared.reference.Ref.{Ref}
 
 -- t was handed out local n for the object
 abbrev pub local_on : ℕ → ℕ → ObjId → Parts → Parts
-local_on t n o p = record p { threads = threads.by t threads.CountRef ∷ p.threads; locals = locals.by t (locals.Make n o.0) ∷ p.locals }
+local_on t n o p = record p {
+  threads = threads.by t threads.CountRef ∷ p.threads;
+  locals = locals.by t (locals.Make n o.0) ∷ p.locals;
+}
 
 abbrev pub strong_on : ℕ → ℕ → ℕ → ObjId → Parts → Parts
-strong_on t maker n o p = record p { threads = threads.by t threads.CountRef ∷ p.threads; globals = globals.MakeStrong maker n o.0 ∷ p.globals }
+strong_on t maker n o p = record p {
+  threads = threads.by t threads.CountRef ∷ p.threads;
+  globals = globals.MakeStrong maker n o.0 ∷ p.globals;
+}
 
 abbrev pub weak_on : ℕ → ℕ → ℕ → ObjId → Parts → Parts
-weak_on t maker n o p = record p { threads = threads.by t threads.CountRef ∷ p.threads; globals = globals.MakeWeak maker n o.0 ∷ p.globals }
+weak_on t maker n o p = record p {
+  threads = threads.by t threads.CountRef ∷ p.threads;
+  globals = globals.MakeWeak maker n o.0 ∷ p.globals;
+}
 
 -- an exception was made, and is pending for t
 abbrev pub thrown_on : ℕ → Thrown → ObjId → Parts → Parts
-thrown_on t kind o p = record p { threads = threads.by t (threads.Raise o.0) ∷ p.threads; heap = heap.Made (Plain (class_thrown kind) []) ∷ p.heap }
+thrown_on t kind o p = record p {
+  threads = threads.by t (threads.Raise o.0) ∷ p.threads;
+  heap = heap.Made (Plain (class_thrown kind) []) ∷ p.heap;
+}
 
 abbrev pub lent_on : ℕ → Parts → Parts
 lent_on t p = record p { threads = threads.by t threads.CountBuffer ∷ p.threads }

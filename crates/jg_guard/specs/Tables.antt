@@ -29,7 +29,15 @@ use Rattle.jg_guard.specs.declared.tables.Tables.{Tables}
 
 -- what the tables keep
 abbrev pub rows_of : {A : Type 0} → Tables A → TableRows
-rows_of tables = record { threads = tables.threads; locals = tables.locals.rows; globals = tables.globals; buffers = tables.buffers; monitors = tables.monitors; heap = tables.heap; links = tables.links.rows }
+rows_of tables = record {
+  threads = tables.threads;
+  locals = tables.locals.rows;
+  globals = tables.globals;
+  buffers = tables.buffers;
+  monitors = tables.monitors;
+  heap = tables.heap;
+  links = tables.links.rows;
+}
 
 -- the tables stand for what they stood for
 abbrev pub StillStand : StatedSetup → TableRows → TableRows → Type 0
@@ -38,7 +46,8 @@ StillStand s old new = (p : Parts) → TablesStand s old p → TablesStand s new
 -- these events are a legal history's, and the counts that they give are small
 pub record IsOrdinary (p : Parts) : Type 0 where
   pub agree : (t : ℕ) → Agree (threads.acts_of t p.threads) (locals.acts_of t p.locals)
-  pub resting : (t : ℕ) → threads.attached (threads.acts_of t p.threads) ≡ false → threads.depth (threads.acts_of t p.threads) ≡ 0
+  pub resting : (t : ℕ) → threads.attached (threads.acts_of t p.threads) ≡ false
+      → threads.depth (threads.acts_of t p.threads) ≡ 0
   pub below : (t : ℕ) → locals.IsMadeBelow (next_ref p t) (locals.acts_of t p.locals)
   pub globals_below : (t : ℕ) → global_laws.IsMadeBelow t (next_ref p t) p.globals
   pub few_threads : length p.threads < 2 ^ 62

@@ -22,7 +22,8 @@ pub(crate) fn answer_to<A: Allocator + Clone>(
     call: &Call,
 ) -> Result<Answer, AllocError>
     requires { IsDue view.now.setup.now (rows_in view.now) tid.0 call.now }
-    ensures { IfOk result (λ given. (p : Parts) → ViewStands view.now p → given ≡ answer view.now.setup.now p tid call.now) }
+    ensures { IfOk result (λ given. (p : Parts) → ViewStands view.now p
+        → given ≡ answer view.now.setup.now p tid call.now) }
 {
     let _lists = lists;
     match call {

@@ -48,7 +48,8 @@ impl<A: Allocator> Model for Guard<A> {
 
     ghost view = { λ g. record { setup = g.setup; limit = g.limit; journal = reverse g.journal.items } };
 
-    ghost invariant = { λ g. IsSound (record { setup = g.setup; limit = g.limit; journal = reverse g.journal.items }) (rows_of g.tables) };
+    ghost invariant = { λ g. IsSound (record { setup = g.setup; limit = g.limit; journal = reverse g.journal.items })
+        (rows_of g.tables) };
 }
 
 impl<A: Allocator + Clone> Guard<A> {

@@ -35,7 +35,10 @@ pub(crate) fn perform<A: Allocator + Clone>(
     given: &Answer,
 ) -> Result<(), AllocError>
     requires { IsAnswered setup.now (rows_of tables.old) tid call.now given.now }
-    ensures stands { OnOk result ((p : Parts) → TablesStand setup.now (rows_of tables.old) p → given.now ≡ answer setup.now p tid call.now → TablesStand setup.now (rows_of tables.new) (passed_on setup.now tid.0 call.now given.now.reply given.now.object p)) }
+    ensures stands { OnOk result ((p : Parts) → TablesStand setup.now (rows_of tables.old) p
+        → given.now ≡ answer setup.now p tid call.now
+        → TablesStand setup.now (rows_of tables.new)
+        (passed_on setup.now tid.0 call.now given.now.reply given.now.object p)) }
     ensures err { OnErr result (StillStand setup.now (rows_of tables.old) (rows_of tables.new)) }
 {
     if !is_effective(&given.reply.value) {
@@ -59,7 +62,10 @@ fn do_and_settle<A: Allocator + Clone>(
     requires answered { IsAnswered setup.now (rows_of tables.old) tid call.now given.now }
     requires effective { effects.is_effective given.now.reply.value ≡ true }
     requires not_global { tables_of.makes_global given.now.reply.value ≡ false }
-    ensures stands { OnOk result ((p : Parts) → TablesStand setup.now (rows_of tables.old) p → given.now ≡ answer setup.now p tid call.now → TablesStand setup.now (rows_of tables.new) (passed_on setup.now tid.0 call.now given.now.reply given.now.object p)) }
+    ensures stands { OnOk result ((p : Parts) → TablesStand setup.now (rows_of tables.old) p
+        → given.now ≡ answer setup.now p tid call.now
+        → TablesStand setup.now (rows_of tables.new)
+        (passed_on setup.now tid.0 call.now given.now.reply given.now.object p)) }
     ensures err { OnErr result (StillStand setup.now (rows_of tables.old) (rows_of tables.new)) }
 {
     make_room(tables, tid, &given.reply)?;
@@ -77,7 +83,8 @@ fn do_call<A: Allocator + Clone>(
     call: &Call,
 ) -> Result<(), AllocError>
     requires { IsEffective setup.now (rows_of tables.old) tid call.now }
-    ensures stands { OnOk result ((p : Parts) → TablesStand setup.now (rows_of tables.old) p → TablesStand setup.now (rows_of tables.new) (done_by setup.now tid.0 call.now p)) }
+    ensures stands { OnOk result ((p : Parts) → TablesStand setup.now (rows_of tables.old) p
+        → TablesStand setup.now (rows_of tables.new) (done_by setup.now tid.0 call.now p)) }
     ensures room { OnOk result (KeepsRoom tables.old tables.new tid.0 call.now) }
     ensures err { OnErr result (rows_of tables.new ≡ rows_of tables.old) }
 {

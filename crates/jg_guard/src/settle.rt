@@ -142,7 +142,8 @@ pub(crate) fn make_room<A: Allocator + Clone>(
 
 fn hand_out<A: Allocator + Clone>(tables: &mut Tables<A>, tid: Tid, n: u64, object: ObjId)
     requires { CanHandOut tables.old tid.0 n }
-    ensures stands { (setup : StatedSetup) (p : Parts) → TablesStand setup (rows_of tables.old) p → TablesStand setup (rows_of tables.new) (local_on tid.0 n object p) }
+    ensures stands { (setup : StatedSetup) (p : Parts) → TablesStand setup (rows_of tables.old) p
+        → TablesStand setup (rows_of tables.new) (local_on tid.0 n object p) }
     ensures warnings { tables.new.links ≡ tables.old.links }
 {
     match tables.locals.make(tid, n, object) {
@@ -159,7 +160,8 @@ fn make_strong<A: Allocator + Clone>(
     object: ObjId,
 ) -> Result<(), AllocError>
     requires { CanMakeGlobal tables.old tid.0 maker.0 n }
-    ensures stands { OnOk result ((setup : StatedSetup) (p : Parts) → TablesStand setup (rows_of tables.old) p → TablesStand setup (rows_of tables.new) (strong_on tid.0 maker.0 n object p)) }
+    ensures stands { OnOk result ((setup : StatedSetup) (p : Parts) → TablesStand setup (rows_of tables.old) p
+        → TablesStand setup (rows_of tables.new) (strong_on tid.0 maker.0 n object p)) }
     ensures err { OnErr result (rows_of tables.new ≡ rows_of tables.old) }
 {
     tables.globals.make_strong(maker, n, object)?;
@@ -175,7 +177,8 @@ fn make_weak<A: Allocator + Clone>(
     object: ObjId,
 ) -> Result<(), AllocError>
     requires { CanMakeGlobal tables.old tid.0 maker.0 n }
-    ensures stands { OnOk result ((setup : StatedSetup) (p : Parts) → TablesStand setup (rows_of tables.old) p → TablesStand setup (rows_of tables.new) (weak_on tid.0 maker.0 n object p)) }
+    ensures stands { OnOk result ((setup : StatedSetup) (p : Parts) → TablesStand setup (rows_of tables.old) p
+        → TablesStand setup (rows_of tables.new) (weak_on tid.0 maker.0 n object p)) }
     ensures err { OnErr result (rows_of tables.new ≡ rows_of tables.old) }
 {
     tables.globals.make_weak(maker, n, object)?;
@@ -202,7 +205,8 @@ fn throw<A: Allocator + Clone>(
     object: ObjId,
 ) -> Result<(), AllocError>
     requires { IsTrue (row_of tables.old.threads tid.0).attached }
-    ensures stands { OnOk result ((setup : StatedSetup) (p : Parts) → TablesStand setup (rows_of tables.old) p → TablesStand setup (rows_of tables.new) (thrown_on tid.0 thrown object p)) }
+    ensures stands { OnOk result ((setup : StatedSetup) (p : Parts) → TablesStand setup (rows_of tables.old) p
+        → TablesStand setup (rows_of tables.new) (thrown_on tid.0 thrown object p)) }
     ensures err { OnErr result (rows_of tables.new ≡ rows_of tables.old) }
 {
     let fields = Vec::new(tables.alloc.clone()?);
@@ -222,7 +226,9 @@ pub(crate) fn throw_if<A: Allocator + Clone>(
 ) -> Result<(), AllocError>
     requires attached { IsTrue (row_of tables.old.threads tid.0).attached }
     requires exception { CanThrow given.now.reply.value given.now.object }
-    ensures stands { OnOk result ((setup : StatedSetup) (p : Parts) → TablesStand setup (rows_of tables.old) p → TablesStand setup (rows_of tables.new) (effects.settled None tid.0 (saying_of given.now.reply.value) given.now.object p)) }
+    ensures stands { OnOk result ((setup : StatedSetup) (p : Parts) → TablesStand setup (rows_of tables.old) p
+        → TablesStand setup (rows_of tables.new)
+        (effects.settled None tid.0 (saying_of given.now.reply.value) given.now.object p)) }
     ensures err { OnErr result (rows_of tables.new ≡ rows_of tables.old) }
 {
     match &given.reply.value {
@@ -245,7 +251,9 @@ pub(crate) fn settle_global<A: Allocator + Clone>(
     given: &Answer,
 ) -> Result<(), AllocError>
     requires { CanSettleGlobal tables.old tid.0 given.now.reply.value given.now.object }
-    ensures stands { OnOk result ((setup : StatedSetup) (p : Parts) → TablesStand setup (rows_of tables.old) p → TablesStand setup (rows_of tables.new) (effects.settled None tid.0 (saying_of given.now.reply.value) given.now.object p)) }
+    ensures stands { OnOk result ((setup : StatedSetup) (p : Parts) → TablesStand setup (rows_of tables.old) p
+        → TablesStand setup (rows_of tables.new)
+        (effects.settled None tid.0 (saying_of given.now.reply.value) given.now.object p)) }
     ensures err { OnErr result (rows_of tables.new ≡ rows_of tables.old) }
 {
     match &given.reply.value {
@@ -270,7 +278,9 @@ pub(crate) fn settle_global<A: Allocator + Clone>(
 /// Makes what an answer makes, where there is room for it.
 pub(crate) fn settle<A: Allocator + Clone>(tables: &mut Tables<A>, tid: Tid, given: &Answer)
     requires { CanSettle tables.old tid.0 given.now.reply.value given.now.object }
-    ensures stands { (setup : StatedSetup) (p : Parts) → TablesStand setup (rows_of tables.old) p → TablesStand setup (rows_of tables.new) (effects.settled None tid.0 (saying_of given.now.reply.value) given.now.object p) }
+    ensures stands { (setup : StatedSetup) (p : Parts) → TablesStand setup (rows_of tables.old) p
+        → TablesStand setup (rows_of tables.new)
+        (effects.settled None tid.0 (saying_of given.now.reply.value) given.now.object p) }
     ensures warnings { tables.new.links ≡ tables.old.links }
 {
     match &given.reply.value {
@@ -299,7 +309,8 @@ pub(crate) fn settle<A: Allocator + Clone>(tables: &mut Tables<A>, tid: Tid, giv
 /// Notes that the module was warned of, if the answer says so.
 pub(crate) fn warn_if<A: Allocator + Clone>(tables: &mut Tables<A>, warned: bool, home: Option<u32>)
     requires { warned ≡ true → 0 < tables.old.links.spare_warnings }
-    ensures { (setup : StatedSetup) (p : Parts) → TablesStand setup (rows_of tables.old) p → TablesStand setup (rows_of tables.new) (warned_on warned home p) }
+    ensures { (setup : StatedSetup) (p : Parts) → TablesStand setup (rows_of tables.old) p
+        → TablesStand setup (rows_of tables.new) (warned_on warned home p) }
 {
     if warned {
         if let Some(home) = home {

@@ -16,13 +16,16 @@ use Rattle.jg_heap.proofs.Told.{kept, row_stands, slots_stand, count_stands}
 use Rattle.jg_heap.proofs.Steps.{standing_made, standing_wrote}
 
 -- with one object more
-pub rows_made : {A : Type 0} (items : List (Object A)) (rows : Rows) (k : ℕ) (e : List Event) (m : Making) (x : Object A) (more : List (Object A)) → map row_of items ≡ rows.objects → k ≡ rows.classes → Stands rows e → more ≡ items ++ x ∷ [] → row_of x ≡ row_of_making m → map row_of more ≡ standing k (Made m ∷ e)
+pub rows_made : {A : Type 0} (items : List (Object A)) (rows : Rows) (k : ℕ) (e : List Event) (m : Making) (x : Object A) (more : List (Object A)) → map row_of items ≡ rows.objects → k ≡ rows.classes
+    → Stands rows e → more ≡ items ++ x ∷ [] → row_of x ≡ row_of_making m → map row_of more ≡ standing k (Made m ∷ e)
 rows_made items rows k e m x more view classes stands is made =
     ap (map row_of) is ∙ map-append row_of items (x ∷ []) ∙ ap (λ (xs : List Row). xs ++ row_of x ∷ []) (view ∙ stands)
     ∙ ap (λ (r : Row). standing rows.classes e ++ r ∷ []) made ∙ sym (standing_made rows.classes m e) ∙ ap (λ n. standing n (Made m ∷ e)) (sym classes)
 
 -- with one slot written
-pub rows_wrote : {A : Type 0} (items : List (Object A)) (rows : Rows) (k : ℕ) (e : List Event) (o j : ℕ) (v : Slot) (x y : Object A) → map row_of items ≡ rows.objects → k ≡ rows.classes → Stands rows e → o < count_in rows → j < length (row_in rows.objects o).slots → x ≡ get_or items o x → row_of y ≡ with_slot (row_of x) j v → map row_of (set items o y) ≡ standing k (Wrote o j v ∷ e)
+pub rows_wrote : {A : Type 0} (items : List (Object A)) (rows : Rows) (k : ℕ) (e : List Event) (o j : ℕ) (v : Slot) (x y : Object A) → map row_of items ≡ rows.objects → k ≡ rows.classes
+    → Stands rows e → o < count_in rows → j < length (row_in rows.objects o).slots → x ≡ get_or items o x → row_of y ≡ with_slot (row_of x) j v
+    → map row_of (set items o y) ≡ standing k (Wrote o j v ∷ e)
 rows_wrote items rows k e o j v x y view classes stands made within is wrote =
     let n : count_in rows ≡ count_of rows.classes e = count_stands rows e stands in
     let m : length (row_in rows.objects o).slots ≡ length (slots_at rows.classes e o) = ap length (slots_stand rows e o stands made) in
@@ -38,7 +41,8 @@ takes_no_text class (ToObject target) h = λ text. omega arith
 -- ---- what stays
 
 -- a body with one slot written, as a row
-pub row_written : {A : Type 0} (x : Object A) (body : Body A) (j : ℕ) (v : Slot) → class_of_body body ≡ class_of_body x.body → units_of_body body ≡ units_of_body x.body → slots_of_body body ≡ set (slots_of_body x.body) j v → row_of (record { body = body; gone = x.gone }) ≡ with_slot (row_of x) j v
+pub row_written : {A : Type 0} (x : Object A) (body : Body A) (j : ℕ) (v : Slot) → class_of_body body ≡ class_of_body x.body → units_of_body body ≡ units_of_body x.body
+    → slots_of_body body ≡ set (slots_of_body x.body) j v → row_of (record { body = body; gone = x.gone }) ≡ with_slot (row_of x) j v
 row_written x body j v class units slots =
     ap (λ n. record { class = n; units = units_of_body body; slots = slots_of_body body; gone = x.gone }) class
     ∙ ap (λ (us : List ℕ). record { class = class_of_body x.body; units = us; slots = slots_of_body body; gone = x.gone }) units
@@ -47,11 +51,13 @@ row_written x body j v class units slots =
 class_kept : (rs : List Row) (o j : ℕ) (v : Slot) (p : ℕ) → o < length rs → (row_in (set rs o (with_slot (row_in rs o) j v)) p).class ≡ (row_in rs p).class
 class_kept rs o j v p h =
     elim (cases_eq p o) [
-      | inl same ↦ ap (λ q. (row_in (set rs o (with_slot (row_in rs o) j v)) q).class) same ∙ ap (λ (r : Row). r.class) (get_or-set_same rs o (with_slot (row_in rs o) j v) no_row h) ∙ ap (λ q. (row_in rs q).class) (sym same)
+      | inl same ↦ ap (λ q. (row_in (set rs o (with_slot (row_in rs o) j v)) q).class) same ∙ ap (λ (r : Row). r.class) (get_or-set_same rs o (with_slot (row_in rs o) j v) no_row h)
+          ∙ ap (λ q. (row_in rs q).class) (sym same)
       | inr other ↦ ap (λ (r : Row). r.class) (get_or-set_other rs o p (with_slot (row_in rs o) j v) no_row other)
     ]
 
-length_kept : (rs : List Row) (o j : ℕ) (v : Slot) (p : ℕ) → o < length rs → length (row_in (set rs o (with_slot (row_in rs o) j v)) p).units + length (row_in (set rs o (with_slot (row_in rs o) j v)) p).slots ≡ length (row_in rs p).units + length (row_in rs p).slots
+length_kept : (rs : List Row) (o j : ℕ) (v : Slot) (p : ℕ) → o < length rs
+    → length (row_in (set rs o (with_slot (row_in rs o) j v)) p).units + length (row_in (set rs o (with_slot (row_in rs o) j v)) p).slots ≡ length (row_in rs p).units + length (row_in rs p).slots
 length_kept rs o j v p h =
     elim (cases_eq p o) [
       | inl same ↦
@@ -62,7 +68,8 @@ length_kept rs o j v p h =
     ]
 
 -- a write keeps the shapes
-pub shapes_wrote : {A : Type 0} (items : List (Object A)) (rows : Rows) (k o j : ℕ) (v : Slot) (x y : Object A) → map row_of items ≡ rows.objects → o < count_in rows → x ≡ get_or items o x → row_of y ≡ with_slot (row_of x) j v → KeepsShapes rows (record { classes = k; objects = map row_of (set items o y) })
+pub shapes_wrote : {A : Type 0} (items : List (Object A)) (rows : Rows) (k o j : ℕ) (v : Slot) (x y : Object A) → map row_of items ≡ rows.objects → o < count_in rows → x ≡ get_or items o x
+    → row_of y ≡ with_slot (row_of x) j v → KeepsShapes rows (record { classes = k; objects = map row_of (set items o y) })
 shapes_wrote items rows k o j v x y view made is wrote =
     let objects : List Row = rows.objects in
     let new : map row_of (set items o y) ≡ set objects o (with_slot (row_in objects o) j v) =
@@ -74,6 +81,7 @@ shapes_wrote items rows k o j v x y view made is wrote =
     }
 
 -- a collection keeps the shapes
-pub shapes_swept : (rows : Rows) (k : ℕ) (new : List Row) (goes : ℕ → Bool) → length new ≡ length rows.objects → ((o : ℕ) → row_in new o ≡ ended_row (goes o) (row_in rows.objects o)) → KeepsShapes rows (record { classes = k; objects = new })
+pub shapes_swept : (rows : Rows) (k : ℕ) (new : List Row) (goes : ℕ → Bool) → length new ≡ length rows.objects → ((o : ℕ) → row_in new o ≡ ended_row (goes o) (row_in rows.objects o))
+    → KeepsShapes rows (record { classes = k; objects = new })
 shapes_swept rows k new goes len ended =
     record { count = len; class = λ p. ap (λ (r : Row). r.class) (ended p); len = λ p. ap (λ (r : Row). length r.units + length r.slots) (ended p) }

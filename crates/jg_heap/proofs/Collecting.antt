@@ -31,7 +31,8 @@ gone_there : (k : ℕ) (e : List Event) (o : ℕ) → o < count_of k e → (row_
 gone_there k e o h = ap (λ (r : Row). r.gone) (row_in-standing k e o h) ∙ gone-row_at k e o
 
 -- some slot of an object that isn't gone holds it
-live_points : (k : ℕ) (e : List Event) (o : ℕ) → list_any (slot_of_row_holds (standing k e) o) (live_in (standing k e)) ≡ list_any (λ p. not (gone_at k e p) && points_at k e p o) (range_with_len 0 (count_of k e))
+live_points : (k : ℕ) (e : List Event) (o : ℕ) → list_any (slot_of_row_holds (standing k e) o) (live_in (standing k e))
+    ≡ list_any (λ p. not (gone_at k e p) && points_at k e p o) (range_with_len 0 (count_of k e))
 live_points k e o =
     let rows : List Row = standing k e in
     any_filter (slot_of_row_holds rows o) (λ p. not (row_in rows p).gone) (range_with_len 0 (length rows))
@@ -51,7 +52,8 @@ marks_held k roots e old new room len was now o h there =
     ∙ or_swapped (list_any (λ r. eqb r o) roots) (ltb o k) _)
 
 -- how many of those in being aren't marked
-pub unmarked_going : (k : ℕ) (roots : List ℕ) (e : List Event) (marks : List Bool) → MarksHeld k roots e marks → length (filter (λ o. not (get_or marks o false)) (live_in (standing k e))) ≡ length (going k roots e)
+pub unmarked_going : (k : ℕ) (roots : List ℕ) (e : List Event) (marks : List Bool) → MarksHeld k roots e marks
+    → length (filter (λ o. not (get_or marks o false)) (live_in (standing k e))) ≡ length (going k roots e)
 unmarked_going k roots e marks held =
     let rows : List Row = standing k e in
     ap length (filter_filter (λ o. not (get_or marks o false)) (λ o. not (row_in rows o).gone) (range_with_len 0 (length rows))
@@ -94,7 +96,8 @@ marks_none k e old new room len unset o h there =
 
 -- ---- the same, from what the store keeps
 
-live_is : {A : Type 0} (items : List (Object A)) (live kept : List ℕ) (rows : Rows) (k : ℕ) (e : List Event) → live ≡ kept → kept ≡ live_in (map row_of items) → record { classes = k; objects = map row_of items } ≡ rows → Stands rows e → live ≡ live_in (standing rows.classes e)
+live_is : {A : Type 0} (items : List (Object A)) (live kept : List ℕ) (rows : Rows) (k : ℕ) (e : List Event) → live ≡ kept → kept ≡ live_in (map row_of items)
+    → record { classes = k; objects = map row_of items } ≡ rows → Stands rows e → live ≡ live_in (standing rows.classes e)
 live_is items live kept rows k e same keeps view stands = same ∙ keeps ∙ ap live_in (ap (λ (r : Rows). r.objects) view ∙ stands)
 
 pub marks_of : {A : Type 0} (items before : List (Object A)) (live kept : List ℕ) (rows : Rows) (k : ℕ) (e : List Event) (roots : List ℕ) (old mid new : List Bool)
@@ -113,13 +116,15 @@ marks_of items before live kept rows k e roots old mid new is same keeps view st
     ∙ ap (λ (rs : List Row). (get_or old o false || ltb o rows.classes) || list_any (slot_of_row_holds rs o) live) base
     ∙ ap (λ (os : List ℕ). (get_or old o false || ltb o rows.classes) || list_any (slot_of_row_holds (standing rows.classes e) o) os) all)
 
-pub count_of_unmarked : {A : Type 0} (items : List (Object A)) (live kept : List ℕ) (rows : Rows) (k : ℕ) (e : List Event) (roots : List ℕ) (marks : List Bool) → live ≡ kept → kept ≡ live_in (map row_of items) → record { classes = k; objects = map row_of items } ≡ rows → Stands rows e
+pub count_of_unmarked : {A : Type 0} (items : List (Object A)) (live kept : List ℕ) (rows : Rows) (k : ℕ) (e : List Event) (roots : List ℕ) (marks : List Bool) → live ≡ kept
+    → kept ≡ live_in (map row_of items) → record { classes = k; objects = map row_of items } ≡ rows → Stands rows e
     → MarksHeld rows.classes roots e marks → length (filter (λ o. not (get_or marks o false)) live) ≡ length (going rows.classes roots e)
 count_of_unmarked items live kept rows k e roots marks same keeps view stands held =
     ap (λ (os : List ℕ). length (filter (λ o. not (get_or marks o false)) os)) (live_is items live kept rows k e same keeps view stands) ∙ unmarked_going rows.classes roots e marks held
 
 -- no more go than there are
-pub unmarked_bound : {A : Type 0} (items : List (Object A)) (live kept : List ℕ) (rows : Rows) (k count : ℕ) (p : ℕ → Bool) → live ≡ kept → kept ≡ live_in (map row_of items) → record { classes = k; objects = map row_of items } ≡ rows → count ≡ length (filter p live) → count ≤ count_in rows
+pub unmarked_bound : {A : Type 0} (items : List (Object A)) (live kept : List ℕ) (rows : Rows) (k count : ℕ) (p : ℕ → Bool) → live ≡ kept → kept ≡ live_in (map row_of items)
+    → record { classes = k; objects = map row_of items } ≡ rows → count ≡ length (filter p live) → count ≤ count_in rows
 unmarked_bound items live kept rows k count p same keeps view is =
     let n : length live ≡ length (live_in rows.objects) = ap length (same ∙ keeps ∙ ap live_in (ap (λ (r : Rows). r.objects) view)) in
     let r : length (range_with_len 0 (count_in rows)) ≡ count_in rows = length-range_with_len 0 (count_in rows) in
@@ -127,7 +132,8 @@ unmarked_bound items live kept rows k count p same keeps view is =
     let b : length (live_in rows.objects) ≤ length (range_with_len 0 (count_in rows)) = length-filter-le (λ o. not (row_in rows.objects o).gone) (range_with_len 0 (count_in rows)) in
     omega arith
 
-pub none_of : {A : Type 0} (items : List (Object A)) (live kept : List ℕ) (rows : Rows) (k : ℕ) (e : List Event) (old new : List Bool) → live ≡ kept → kept ≡ live_in (map row_of items) → record { classes = k; objects = map row_of items } ≡ rows → Stands rows e
+pub none_of : {A : Type 0} (items : List (Object A)) (live kept : List ℕ) (rows : Rows) (k : ℕ) (e : List Event) (old new : List Bool) → live ≡ kept → kept ≡ live_in (map row_of items)
+    → record { classes = k; objects = map row_of items } ≡ rows → Stands rows e
     → count_in rows ≤ length old → length new ≡ length old → ((o : ℕ) → get_or new o false ≡ (get_or old o false && not (list_any (λ p. eqb p o) live))) → MarksNone rows.classes e new
 none_of items live kept rows k e old new same keeps view stands room len unset =
     let many : count_in rows ≡ count_of rows.classes e = count_stands rows e stands in

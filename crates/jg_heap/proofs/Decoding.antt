@@ -121,7 +121,8 @@ one_more u units [] n again h small fit begins =
 one_more u units (x ∷ items) zero again h small fit begins = absurd (omega arith)
 one_more u units (x ∷ items) (suc n) again h small fit begins =
     let len : length (x ∷ items) ≡ length (map pos (spelling u)) + length (map pos (spelt units)) = ap length begins ∙ length-append (map pos (spelling u)) (map pos (spelt units)) in
-    let rest : drop (length (spelling u)) (x ∷ items) ≡ map pos (spelt units) = ap (drop (length (spelling u))) begins ∙ drop_at (map pos (spelling u)) (map pos (spelt units)) (length (spelling u)) (length-map (spelling u) pos) in
+    let rest : drop (length (spelling u)) (x ∷ items) ≡ map pos (spelt units) =
+    ap (drop (length (spelling u))) begins ∙ drop_at (map pos (spelling u)) (map pos (spelt units)) (length (spelling u)) (length-map (spelling u) pos) in
     let left : length (drop (length (spelling u)) (x ∷ items)) ≡ length (map pos (spelt units)) = ap length rest in
     ap (λ o. before o (λ v. decoded_by (drop (length (spelling v)) (x ∷ items)) n)) (first_found (x ∷ items) u (map pos (spelt units)) small begins)
     ∙ ap (option_map (λ us. u ∷ us)) (again (drop (length (spelling u)) (x ∷ items)) n (omega (arith, length-map (spelling u) pos, positive u small)) (fit, rest))
@@ -131,7 +132,8 @@ complete [] items n h s = rw s.1 refl
 complete (u ∷ units) items n h s = one_more u units items n (complete units) h s.0.0 s.0.1 (s.1 ∙ front_of u units)
 
 -- what was read behind a unit
-behind : (u : ℕ) (items : List ℤ) (units : List ℕ) (r : Option (List ℕ)) → ((us : List ℕ) → r ≡ Some us → IsSpeltInItems us (drop (length (spelling u)) items)) → first_unit items ≡ Some u → option_map (λ us. u ∷ us) r ≡ Some units → IsSpeltInItems units items
+behind : (u : ℕ) (items : List ℤ) (units : List ℕ) (r : Option (List ℕ)) → ((us : List ℕ) → r ≡ Some us → IsSpeltInItems us (drop (length (spelling u)) items)) → first_unit items ≡ Some u
+    → option_map (λ us. u ∷ us) r ≡ Some units → IsSpeltInItems units items
 behind u items units None again is g = absurd (cc)
 behind u items units (Some us) again is g =
     let both : u ∷ us ≡ units = cc in
@@ -140,7 +142,8 @@ behind u items units (Some us) again is g =
     let P : List ℕ → Type 0 = λ (vs : List ℕ). IsSpeltInItems vs items in
     subst P both ((w.0, later.0), w.1 ∙ ap (λ (t : List ℤ). map pos (spelling u) ++ t) later.1 ∙ sym (front_of u us))
 
-from_first : (items : List ℤ) (units : List ℕ) (n : ℕ) (o : Option ℕ) → ((u : ℕ) (us : List ℕ) → decoded_by (drop (length (spelling u)) items) n ≡ Some us → IsSpeltInItems us (drop (length (spelling u)) items))
+from_first : (items : List ℤ) (units : List ℕ) (n : ℕ) (o : Option ℕ)
+    → ((u : ℕ) (us : List ℕ) → decoded_by (drop (length (spelling u)) items) n ≡ Some us → IsSpeltInItems us (drop (length (spelling u)) items))
     → first_unit items ≡ o → before o (λ u. decoded_by (drop (length (spelling u)) items) n) ≡ Some units → IsSpeltInItems units items
 from_first items units n None again is g = absurd (cc)
 from_first items units n (Some u) again is g = behind u items units (decoded_by (drop (length (spelling u)) items) n) (again u) is g
@@ -179,13 +182,15 @@ not_read : (items : List ℤ) (o : Option (List ℕ)) → decoded items ≡ o �
 not_read items None e none = refl
 not_read items (Some units) e none = absurd (none units ((decoded_means items units).0 e))
 
-decoded_found : {A E : Type 0} (items : List ℤ) (r : Result (Option (Vec ℕ A)) E) → IfOk r (λ found. IfSome found (λ units. IsSpeltInItems units.items items)) → IfOk r (λ found. IfNone found ((units : List ℕ) → IsSpeltInItems units items → ⊥))
+decoded_found : {A E : Type 0} (items : List ℤ) (r : Result (Option (Vec ℕ A)) E) → IfOk r (λ found. IfSome found (λ units. IsSpeltInItems units.items items))
+    → IfOk r (λ found. IfNone found ((units : List ℕ) → IsSpeltInItems units items → ⊥))
     → IfOk r (λ found. option_map (λ units. units.items) found ≡ decoded items)
 decoded_found items (Err e) h none = tt
 decoded_found items (Ok None) h none = not_read items (decoded items) refl none
 decoded_found items (Ok (Some units)) h none = sym ((decoded_means items units.items).1 h)
 
-pub found_decoded : {A E : Type 0} (items same : List ℤ) (r : Result (Option (Vec ℕ A)) E) → same ≡ items → IfOk r (λ found. IfSome found (λ units. IsSpeltInItems units.items same)) → IfOk r (λ found. IfNone found ((units : List ℕ) → IsSpeltInItems units same → ⊥))
+pub found_decoded : {A E : Type 0} (items same : List ℤ) (r : Result (Option (Vec ℕ A)) E) → same ≡ items → IfOk r (λ found. IfSome found (λ units. IsSpeltInItems units.items same))
+    → IfOk r (λ found. IfNone found ((units : List ℕ) → IsSpeltInItems units same → ⊥))
     → IfOk r (λ found. option_map (λ units. units.items) found ≡ decoded items)
 found_decoded items same r e h none =
     let P : List ℤ → Type 0 = λ (xs : List ℤ). IfOk r (λ found. option_map (λ units. units.items) found ≡ decoded xs) in

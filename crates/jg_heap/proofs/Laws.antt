@@ -31,7 +31,8 @@ was_collected k (Collected roots ∷ e) o h =
       | inr now ↦ let parts = and_parts _ _ now in ([], roots, e, refl, ltb-true o (count_of k e) parts.0, not-true _ parts.1)
     ]
 
-collected_stays : (k : ℕ) (later : List Event) (roots : List ℕ) (before : List Event) (o : ℕ) → o < count_of k before → held_at k roots before o ≡ false → gone_at k (later ++ Collected roots ∷ before) o ≡ true
+collected_stays : (k : ℕ) (later : List Event) (roots : List ℕ) (before : List Event) (o : ℕ) → o < count_of k before → held_at k roots before o ≡ false
+    → gone_at k (later ++ Collected roots ∷ before) o ≡ true
 collected_stays k [] roots before o h u = or_right (gone_at k before o) _ (and_from _ _ (lt-ltb o (count_of k before) h) (not_from_false _ u))
 collected_stays k (Made m ∷ later) roots before o h u = collected_stays k later roots before o h u
 collected_stays k (Wrote p j v ∷ later) roots before o h u = collected_stays k later roots before o h u
@@ -174,7 +175,8 @@ now_goes k roots e o before after =
           let parts = and_parts _ _ now in
           let made : o < count_of k e = ltb-true o (count_of k e) parts.0 in
           let at : get_or (range_with_len 0 (count_of k e)) o 0 ≡ o = get_or-range_with_len 0 (count_of k e) o 0 made ∙ zero-add o in
-          let there : list_any (λ r. eqb r o) (range_with_len 0 (count_of k e)) ≡ true = list_any_at (λ r. eqb r o) (range_with_len 0 (count_of k e)) o 0 (omega (arith, length-range_with_len 0 (count_of k e))) (eq-eqb _ o at) in
+          let there : list_any (λ r. eqb r o) (range_with_len 0 (count_of k e)) ≡ true =
+          list_any_at (λ r. eqb r o) (range_with_len 0 (count_of k e)) o 0 (omega (arith, length-range_with_len 0 (count_of k e))) (eq-eqb _ o at) in
           in_roots (going k roots e) o (going_any k roots e o ∙ and_from _ _ (and_from _ _ (not_from_false _ before) parts.1) there)
     ]
 

@@ -82,7 +82,8 @@ range_more n =
 pub kept_below : (p : ℕ → Bool) (n : ℕ) → All (λ o. o < n) (filter p (range_with_len 0 n))
 kept_below p n =
     All-filter p (λ o. o < n) (range_with_len 0 n)
-    (All-from_get_or (λ o. o < n) (range_with_len 0 n) 0 (λ i h. let below : i < n = omega (arith, length-range_with_len 0 n) in let is : get_or (range_with_len 0 n) i 0 ≡ i = get_or-range_with_len 0 n i 0 below ∙ zero-add i in omega arith))
+    (All-from_get_or (λ o. o < n) (range_with_len 0 n) 0 (λ i h. let below : i < n = omega (arith, length-range_with_len 0 n) in
+    let is : get_or (range_with_len 0 n) i 0 ≡ i = get_or-range_with_len 0 n i 0 below ∙ zero-add i in omega arith))
 
 and_true : (b : Bool) → (b && true) ≡ b
 and_true true = refl
@@ -92,7 +93,8 @@ and_true false = refl
 pub kept_any : (p : ℕ → Bool) (n o : ℕ) → o < n → list_any (λ r. eqb r o) (filter p (range_with_len 0 n)) ≡ p o
 kept_any p n o h =
     any-filter_same (λ r. eqb r o) p (p o) (λ r t. ap p (eqb-true r o t)) (range_with_len 0 n)
-    ∙ ap (λ b. p o && b) (list_any_at (λ r. eqb r o) (range_with_len 0 n) o 0 (omega (arith, length-range_with_len 0 n)) (eq-eqb (get_or (range_with_len 0 n) o 0) o (get_or-range_with_len 0 n o 0 h ∙ zero-add o)))
+    ∙ ap (λ b. p o && b) (list_any_at (λ r. eqb r o) (range_with_len 0 n) o 0 (omega (arith, length-range_with_len 0 n))
+    (eq-eqb (get_or (range_with_len 0 n) o 0) o (get_or-range_with_len 0 n o 0 h ∙ zero-add o)))
     ∙ and_true (p o)
 
 -- ---- gone, marked and held

@@ -102,7 +102,8 @@ slots_wrote_object : (k : ℕ) (e : List Event) (o j p : ℕ) (v : Slot) → p �
 unfolding slots_at
 slots_wrote_object k e o j p v h = map_agree (value_at k (Wrote o j v ∷ e) p) (value_at k e p) (slots_in (making_at k e p)) (Number (pos 0)) (λ i l. value_wrote_object k e o j p i v h)
 
-value_wrote_any : (k : ℕ) (e : List Event) (o j i : ℕ) (v : Slot) → j < length (slots_at k e o) → i < length (slots_at k e o) → get_or (set (slots_at k e o) j v) i (Number (pos 0)) ≡ value_at k (Wrote o j v ∷ e) o i
+value_wrote_any : (k : ℕ) (e : List Event) (o j i : ℕ) (v : Slot) → j < length (slots_at k e o) → i < length (slots_at k e o)
+    → get_or (set (slots_at k e o) j v) i (Number (pos 0)) ≡ value_at k (Wrote o j v ∷ e) o i
 value_wrote_any k e o j i v h l =
     let n : length (slots_at k e o) ≡ slots_in (making_at k e o) = length-slots_at k e o in
     elim (cases_eq i j) [
@@ -125,12 +126,14 @@ row_wrote_here : (k : ℕ) (e : List Event) (o j : ℕ) (v : Slot) → j < lengt
 unfolding row_at
 row_wrote_here k e o j v h = rw (slots_wrote_here k e o j v h) refl
 
-row_wrote_any : (k : ℕ) (e : List Event) (o j p : ℕ) (v : Slot) → o < count_of k e → j < length (slots_at k e o) → p < count_of k e → get_or (set (standing k e) o (with_slot (row_at k e o) j v)) p no_row ≡ row_at k (Wrote o j v ∷ e) p
+row_wrote_any : (k : ℕ) (e : List Event) (o j p : ℕ) (v : Slot) → o < count_of k e → j < length (slots_at k e o) → p < count_of k e
+    → get_or (set (standing k e) o (with_slot (row_at k e o) j v)) p no_row ≡ row_at k (Wrote o j v ∷ e) p
 row_wrote_any k e o j p v in' h l =
     let n : length (standing k e) ≡ count_of k e = length-standing k e in
     let inside : o < length (standing k e) = omega arith in
     elim (cases_eq p o) [
-      | inl same ↦ ap (λ q. get_or (set (standing k e) o (with_slot (row_at k e o) j v)) q no_row) same ∙ rw get_or-set_same (sym (row_wrote_here k e o j v h)) ∙ ap (row_at k (Wrote o j v ∷ e)) (sym same)
+      | inl same ↦ ap (λ q. get_or (set (standing k e) o (with_slot (row_at k e o) j v)) q no_row) same ∙ rw get_or-set_same (sym (row_wrote_here k e o j v h))
+          ∙ ap (row_at k (Wrote o j v ∷ e)) (sym same)
       | inr other ↦ rw get_or-set_other (row_in-standing k e p l ∙ sym (row_wrote_object k e o j p v other))
     ]
 

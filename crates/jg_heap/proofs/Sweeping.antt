@@ -35,7 +35,8 @@ pub ended_none : (row : Row) → row ≡ ended_row false row
 ended_none row = ap (λ g. record row { gone = g }) (or_false row.gone)
 
 -- one object goes
-pub ended_one : {A : Type 0} (cur : List (Object A)) (p o : ℕ) (d y : Object A) → p < length cur → row_of y ≡ record (row_of (get_or cur p d)) { gone = true } → row_in (map row_of (set cur p y)) o ≡ ended_row (eqb p o) (row_in (map row_of cur) o)
+pub ended_one : {A : Type 0} (cur : List (Object A)) (p o : ℕ) (d y : Object A) → p < length cur → row_of y ≡ record (row_of (get_or cur p d)) { gone = true }
+    → row_in (map row_of (set cur p y)) o ≡ ended_row (eqb p o) (row_in (map row_of cur) o)
 ended_one cur p o d y inside ends =
     elim (cases_eq p o) [
       | inl same ↦
@@ -94,20 +95,24 @@ live_more rows r is =
     sym (ap (λ m. filter keeps (range_with_len 0 m)) len
     ∙ ap (filter keeps) (range_more n)
     ∙ filter-append keeps (range_with_len 0 n) (n ∷ [])
-    ∙ ap (λ (os : List ℕ). os ++ filter keeps (n ∷ [])) (keep_agree keeps (λ o. not (row_in rows o).gone) 0 n (λ o l. ap (λ (x : Row). not x.gone) (get_or_append_left rows (r ∷ []) no_row o (omega arith))))
+    ∙ ap (λ (os : List ℕ). os ++ filter keeps (n ∷ [])) (keep_agree keeps (λ o. not (row_in rows o).gone) 0 n
+    (λ o l. ap (λ (x : Row). not x.gone) (get_or_append_left rows (r ∷ []) no_row o (omega arith))))
     ∙ ap (λ (os : List ℕ). live_in rows ++ os) (rw (last) refl))
 
 -- one slot written
-pub live_wrote : {A : Type 0} (cur : List (Object A)) (p : ℕ) (x y : Object A) → p < length cur → x ≡ get_or cur p x → (row_of y).gone ≡ (row_of x).gone → live_in (map row_of (set cur p y)) ≡ live_in (map row_of cur)
+pub live_wrote : {A : Type 0} (cur : List (Object A)) (p : ℕ) (x y : Object A) → p < length cur → x ≡ get_or cur p x → (row_of y).gone ≡ (row_of x).gone
+    → live_in (map row_of (set cur p y)) ≡ live_in (map row_of cur)
 live_wrote cur p x y inside is same =
     live_same (map row_of (set cur p y)) (map row_of cur) (length-map (set cur p y) row_of ∙ length-set cur p y ∙ sym (length-map cur row_of))
     (λ o h. elim (cases_eq o p) [
-      | inl here ↦ ap (λ q. (row_in (map row_of (set cur p y)) q).gone) here ∙ ap (λ (r : Row). r.gone) (row_set cur p y inside) ∙ same ∙ ap (λ (z : Object _). (row_of z).gone) is ∙ ap (λ (r : Row). r.gone) (sym (get_or-map row_of cur p x no_row inside)) ∙ ap (λ q. (row_in (map row_of cur) q).gone) (sym here)
+      | inl here ↦ ap (λ q. (row_in (map row_of (set cur p y)) q).gone) here ∙ ap (λ (r : Row). r.gone) (row_set cur p y inside) ∙ same ∙ ap (λ (z : Object _). (row_of z).gone) is
+          ∙ ap (λ (r : Row). r.gone) (sym (get_or-map row_of cur p x no_row inside)) ∙ ap (λ q. (row_in (map row_of cur) q).gone) (sym here)
       | inr other ↦ ap (λ (r : Row). r.gone) (row_set_other cur p o y other)
     ])
 
 -- with an object made
-pub live_made : {A : Type 0} (items more : List (Object A)) (kept after : List ℕ) (x : Object A) (n : ℕ) → kept ≡ live_in (map row_of items) → more ≡ items ++ x ∷ [] → (row_of x).gone ≡ false → n ≡ length items → after ≡ kept ++ n ∷ [] → after ≡ live_in (map row_of more)
+pub live_made : {A : Type 0} (items more : List (Object A)) (kept after : List ℕ) (x : Object A) (n : ℕ) → kept ≡ live_in (map row_of items) → more ≡ items ++ x ∷ [] → (row_of x).gone ≡ false
+    → n ≡ length items → after ≡ kept ++ n ∷ [] → after ≡ live_in (map row_of more)
 live_made items more kept after x n keeps is fresh len made =
     made ∙ ap (λ (os : List ℕ). os ++ n ∷ []) keeps ∙ ap (λ m. live_in (map row_of items) ++ m ∷ []) (len ∙ sym (length-map items row_of))
     ∙ live_more (map row_of items) (row_of x) fresh ∙ ap live_in (sym (ap (map row_of) is ∙ map-append row_of items (x ∷ [])))

@@ -105,10 +105,12 @@ value_stands rows e o j v stands made read =
     sym (get_or_from_slice_get slots j v v here) ∙ get_or-slots_at rows.classes e o j v (omega (arith, length-slots_at rows.classes e o))
 
 -- all slots of an array, as its length says
-pub slots_by_length : (rows : Rows) (e : List Event) (o : ℕ) → Stands rows e → o < count_in rows → class_at rows o ≢ 2 → (row_in rows.objects o).slots ≡ map (value_at rows.classes e o) (range_with_len 0 (length_in (making_at rows.classes e o)))
+pub slots_by_length : (rows : Rows) (e : List Event) (o : ℕ) → Stands rows e → o < count_in rows → class_at rows o ≢ 2
+    → (row_in rows.objects o).slots ≡ map (value_at rows.classes e o) (range_with_len 0 (length_in (making_at rows.classes e o)))
 unfolding slots_at
 slots_by_length rows e o stands made other =
-    slots_stand rows e o stands made ∙ ap (λ n. map (value_at rows.classes e o) (range_with_len 0 n)) (slots_all (making_at rows.classes e o) (λ same. other (class_stands rows e o stands made ∙ same)))
+    slots_stand rows e o stands made ∙ ap (λ n. map (value_at rows.classes e o) (range_with_len 0 n))
+    (slots_all (making_at rows.classes e o) (λ same. other (class_stands rows e o stands made ∙ same)))
   where
     slots_all : (m : Making) → class_in m ≢ 2 → slots_in m ≡ length_in m
     slots_all (Plain class fields) h = refl

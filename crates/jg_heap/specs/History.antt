@@ -61,17 +61,19 @@ abbrev pub points_at : ℕ → List Event → ℕ → ℕ → Bool
 points_at k e p o = if made_with o (making_at k e p) then some_slot k e p o else list_any (wrote_for k e p o) e
 
 -- what keeps an object: it is a class object, the roots hold it, or it stands in a slot of an object that isn't gone
--- (JNI Specification, chapter 2, "Global and Local References"). One link at a time: a slot of an object that is about to go
--- still holds (a virtual machine may collect a whole chain at once)
+-- (JNI Specification, chapter 2, "Global and Local References"). One link at a time: a slot of an object that is about
+-- to go still holds (a virtual machine may collect a whole chain at once)
 abbrev pub held_by : (ℕ → Bool) → ℕ → List ℕ → List Event → ℕ → Bool
-held_by gone k roots e o = (nat_lt o k || list_any (λ r. r == o) roots) || list_any (λ p. not (gone p) && points_at k e p o) (range_with_len 0 (count_of k e))
+held_by gone k roots e o = (nat_lt o k || list_any (λ r. r == o) roots)
+    || list_any (λ p. not (gone p) && points_at k e p o) (range_with_len 0 (count_of k e))
 
 -- an object is gone where it was made before some collection that found it not held
 abbrev pub gone_at : ℕ → List Event → ℕ → Bool
 gone_at k [] o = false
 gone_at k (Made m ∷ e) o = gone_at k e o
 gone_at k (Wrote p j v ∷ e) o = gone_at k e o
-gone_at k (Collected roots ∷ e) o = gone_at k e o || (nat_lt o (count_of k e) && not (held_by (gone_at k e) k roots e o))
+gone_at k (Collected roots ∷ e) o = gone_at k e o
+    || (nat_lt o (count_of k e) && not (held_by (gone_at k e) k roots e o))
 
 -- an object is held where something keeps it now
 abbrev pub held_at : ℕ → List ℕ → List Event → ℕ → Bool

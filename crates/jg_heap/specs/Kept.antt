@@ -34,7 +34,12 @@ slots_of_body (References items) = map ToObject items.items
 
 -- the row of an object
 abbrev pub row_of : {A : Type 0} → Object A → Row
-row_of x = record { class = class_of_body x.body; units = units_of_body x.body; slots = slots_of_body x.body; gone = x.gone }
+row_of x = record {
+  class = class_of_body x.body;
+  units = units_of_body x.body;
+  slots = slots_of_body x.body;
+  gone = x.gone;
+}
 
 -- the row with a slot written
 abbrev pub with_slot : Row → ℕ → Slot → Row

@@ -13,15 +13,18 @@ use Rattle.jg_heap.specs.History.{Event, Made, Wrote, Collected, count_of, makin
 
 -- some slot of an object that isn't gone holds it
 abbrev pub StandsInASlot : ℕ → List Event → ℕ → Type 0
-StandsInASlot k e o = (p : ℕ) × (j : ℕ) × (target : ObjId) × (p < count_of k e) × (j < slots_in (making_at k e p)) × (gone_at k e p ≡ false) × (value_at k e p j ≡ ToObject (Some target)) × (target.0 ≡ o)
+StandsInASlot k e o = (p : ℕ) × (j : ℕ) × (target : ObjId) × (p < count_of k e) × (j < slots_in (making_at k e p))
+    × (gone_at k e p ≡ false) × (value_at k e p j ≡ ToObject (Some target)) × (target.0 ≡ o)
 
 -- an object is held exactly where it is a class object, a root holds it, or it stands in such a slot
 abbrev pub HeldMeans : Type 0
-HeldMeans = (k : ℕ) (roots : List ℕ) (e : List Event) (o : ℕ) → IsTrue (held_at k roots e o) ↔ ((o < k) ⊎ (Contains roots o ⊎ StandsInASlot k e o))
+HeldMeans = (k : ℕ) (roots : List ℕ) (e : List Event) (o : ℕ)
+    → IsTrue (held_at k roots e o) ↔ ((o < k) ⊎ (Contains roots o ⊎ StandsInASlot k e o))
 
 -- some collection, of which this is the list before, found it made and not held
 abbrev pub WasCollected : ℕ → List Event → ℕ → Type 0
-WasCollected k e o = (later : List Event) × (roots : List ℕ) × (before : List Event) × (e ≡ later ++ Collected roots ∷ before) × (o < count_of k before) × (held_at k roots before o ≡ false)
+WasCollected k e o = (later : List Event) × (roots : List ℕ) × (before : List Event)
+    × (e ≡ later ++ Collected roots ∷ before) × (o < count_of k before) × (held_at k roots before o ≡ false)
 
 -- an object is gone exactly where that was so
 abbrev pub GoneMeans : Type 0
@@ -29,7 +32,8 @@ GoneMeans = (k : ℕ) (e : List Event) (o : ℕ) → IsTrue (gone_at k e o) ↔ 
 
 -- what is gone stays gone, whatever comes later
 abbrev pub StaysGone : Type 0
-StaysGone = (k : ℕ) (later before : List Event) (o : ℕ) → IsTrue (gone_at k before o) → IsTrue (gone_at k (later ++ before) o)
+StaysGone = (k : ℕ) (later before : List Event) (o : ℕ) → IsTrue (gone_at k before o)
+    → IsTrue (gone_at k (later ++ before) o)
 
 -- class objects never go
 abbrev pub ClassesStay : Type 0
@@ -37,7 +41,8 @@ ClassesStay = (k : ℕ) (e : List Event) (o : ℕ) → o < k → gone_at k e o �
 
 -- those that go at a collection are those that are gone after it and weren't before
 abbrev pub GoingMeans : Type 0
-GoingMeans = (k : ℕ) (roots : List ℕ) (e : List Event) (o : ℕ) → Contains (going k roots e) o ↔ ((gone_at k e o ≡ false) × IsTrue (gone_at k (Collected roots ∷ e) o))
+GoingMeans = (k : ℕ) (roots : List ℕ) (e : List Event) (o : ℕ)
+    → Contains (going k roots e) o ↔ ((gone_at k e o ≡ false) × IsTrue (gone_at k (Collected roots ∷ e) o))
 
 -- the event doesn't write this slot
 abbrev pub Spares : ℕ → ℕ → Event → Type 0
@@ -47,18 +52,23 @@ Spares o j (Collected roots) = Unit {0}
 
 -- a slot of an object that was made holds what the latest write wrote into it
 abbrev pub LatestWrite : Type 0
-LatestWrite = (k : ℕ) (later before : List Event) (o j : ℕ) (v : Slot) → o < count_of k before → AllByRecursion (Spares o j) later → value_at k (later ++ Wrote o j v ∷ before) o j ≡ v
+LatestWrite = (k : ℕ) (later before : List Event) (o j : ℕ) (v : Slot) → o < count_of k before
+    → AllByRecursion (Spares o j) later → value_at k (later ++ Wrote o j v ∷ before) o j ≡ v
 
 -- one that wasn't written since the making holds what it was made with
 abbrev pub FirstValue : Type 0
-FirstValue = (k : ℕ) (later before : List Event) (m : Making) (j : ℕ) → AllByRecursion (Spares (count_of k before) j) later → value_at k (later ++ Made m ∷ before) (count_of k before) j ≡ slot_in m j
+FirstValue = (k : ℕ) (later before : List Event) (m : Making) (j : ℕ)
+    → AllByRecursion (Spares (count_of k before) j) later
+    → value_at k (later ++ Made m ∷ before) (count_of k before) j ≡ slot_in m j
 
 -- as what an object was made: what its making says, whatever comes later
 abbrev pub MadeAs : Type 0
-MadeAs = (k : ℕ) (later before : List Event) (m : Making) → making_at k (later ++ Made m ∷ before) (count_of k before) ≡ m
+MadeAs = (k : ℕ) (later before : List Event) (m : Making)
+    → making_at k (later ++ Made m ∷ before) (count_of k before) ≡ m
 
 abbrev pub MadeStays : Type 0
-MadeStays = (k : ℕ) (later before : List Event) (o : ℕ) → o < count_of k before → making_at k (later ++ before) o ≡ making_at k before o
+MadeStays = (k : ℕ) (later before : List Event) (o : ℕ) → o < count_of k before
+    → making_at k (later ++ before) o ≡ making_at k before o
 
 -- class objects are plain objects of class 1
 abbrev pub ClassesAre : Type 0
@@ -87,4 +97,5 @@ DecodedMeans = (items : List ℤ) (units : List ℕ) → (decoded items ≡ Some
 
 -- bytes spell one list of units alone
 abbrev pub SpellingIsUnique : Type 0
-SpellingIsUnique = (units others : List ℕ) → AreUnits units → AreUnits others → spelt units ≡ spelt others → units ≡ others
+SpellingIsUnique = (units others : List ℕ) → AreUnits units → AreUnits others → spelt units ≡ spelt others
+    → units ≡ others

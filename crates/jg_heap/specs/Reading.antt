@@ -1,5 +1,5 @@
--- The units that items spell in modified UTF-8, as a definition that computes. It looks for the unit whose spelling stands at
--- the front, among those that the first three items may spell, and goes on behind it.
+-- The units that items spell in modified UTF-8, as a definition that computes. It looks for the unit whose spelling
+-- stands at the front, among those that the first three items may spell, and goes on behind it.
 use Rattle.std.specs.Prelude.{ℕ, ℤ, pos, negsuc, ◌+◌, ◌-◌, ◌*◌, zero, suc, Bool, ◌&&◌, nat_lt, List, [], ◌∷◌, length, map, take, drop, find, slice_index_or, Option, Some, None}
 use Rattle.std.specs.Option.{option_map}
 use Rattle.std.specs.Ordering.{int_eq}
@@ -40,7 +40,8 @@ before (Some u) rest = option_map (λ units. u ∷ units) (rest u)
 abbrev pub decoded_by : List ℤ → ℕ → Option (List ℕ)
 decoded_by [] n = Some []
 decoded_by (x ∷ items) zero = None
-decoded_by (x ∷ items) (suc n) = before (first_unit (x ∷ items)) (λ u. decoded_by (drop (length (spelling u)) (x ∷ items)) n)
+decoded_by (x ∷ items) (suc n) = before (first_unit (x ∷ items))
+    (λ u. decoded_by (drop (length (spelling u)) (x ∷ items)) n)
 
 -- the units that the items spell, if they spell any
 abbrev pub decoded : List ℤ → Option (List ℕ)

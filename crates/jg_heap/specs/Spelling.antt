@@ -1,11 +1,13 @@
--- Modified UTF-8 (JNI Specification, chapter 3, "Modified UTF-8 Strings"): each UTF-16 unit has one spelling, and a text
--- is the spellings of its units, one after another.
+-- Modified UTF-8 (JNI Specification, chapter 3, "Modified UTF-8 Strings"): each UTF-16 unit has one spelling, and a
+-- text is the spellings of its units, one after another.
 use Rattle.std.specs.Prelude.{ℕ, ◌≡◌, ◌+◌, ◌/◌, ◌%◌, ◌<◌, ◌^◌, ◌&&◌, nat_lt, if◌then◌else◌, List, [], ◌∷◌, Option, Some, ℤ, pos, map, ◌≢◌, slice_get, MatchOption}
 use Rattle.std.specs.List.{flat_map, AllByRecursion}
 
 -- 1 to 127 in one byte, 0 and 128 to 2,047 in two, 2,048 to 65,535 in three
 abbrev pub spelling : ℕ → List ℕ
-spelling u = if nat_lt 0 u && nat_lt u 128 then u ∷ [] else (if nat_lt u 2048 then (192 + u / 64) ∷ (128 + u % 64) ∷ [] else ((224 + u / 4096) ∷ (128 + u / 64 % 64) ∷ (128 + u % 64) ∷ []))
+spelling u = if nat_lt 0 u && nat_lt u 128 then u ∷ []
+    else (if nat_lt u 2048 then (192 + u / 64) ∷ (128 + u % 64) ∷ []
+    else ((224 + u / 4096) ∷ (128 + u / 64 % 64) ∷ (128 + u % 64) ∷ []))
 
 -- the bytes that spell the units
 abbrev pub spelt : List ℕ → List ℕ
@@ -40,4 +42,5 @@ IsByte item byte = MatchOption byte ((n : ℕ) → n < 256 → item ≢ pos n) (
 
 -- the item at an index, where it is a byte
 abbrev pub IsByteAt : List ℤ → ℕ → Option ℕ → Type 0
-IsByteAt items i byte = MatchOption byte ((n : ℕ) → n < 256 → slice_get items i ≢ Some (pos n)) (λ b. slice_get items i ≡ Some (pos b))
+IsByteAt items i byte = MatchOption byte ((n : ℕ) → n < 256
+    → slice_get items i ≢ Some (pos n)) (λ b. slice_get items i ≡ Some (pos b))

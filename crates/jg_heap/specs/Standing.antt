@@ -12,7 +12,12 @@ slots_at k e o = map (value_at k e o) (range_with_len 0 (slots_in (making_at k e
 
 -- the row of an object
 unfoldable pub row_at : ℕ → List Event → ℕ → Row
-row_at k e o = record { class = class_in (making_at k e o); units = units_in (making_at k e o); slots = slots_at k e o; gone = gone_at k e o }
+row_at k e o = record {
+  class = class_in (making_at k e o);
+  units = units_in (making_at k e o);
+  slots = slots_at k e o;
+  gone = gone_at k e o;
+}
 
 -- the rows of all objects
 unfoldable pub standing : ℕ → List Event → List Row
@@ -28,11 +33,13 @@ held_objects is_held n = filter is_held (range_with_len 0 n)
 
 -- the mark of each object that isn't gone says whether it is one of the roots
 abbrev pub MarksRoots : ℕ → List ℕ → List Event → List Bool → Type 0
-MarksRoots k roots e marks = (o : ℕ) → o < count_of k e → gone_at k e o ≡ false → slice_get marks o ≡ Some (list_any (λ r. r == o) roots)
+MarksRoots k roots e marks = (o : ℕ) → o < count_of k e → gone_at k e o ≡ false
+    → slice_get marks o ≡ Some (list_any (λ r. r == o) roots)
 
 -- the mark of each object that isn't gone says whether something keeps it
 abbrev pub MarksHeld : ℕ → List ℕ → List Event → List Bool → Type 0
-MarksHeld k roots e marks = (o : ℕ) → o < count_of k e → gone_at k e o ≡ false → slice_get marks o ≡ Some (held_at k roots e o)
+MarksHeld k roots e marks = (o : ℕ) → o < count_of k e → gone_at k e o ≡ false
+    → slice_get marks o ≡ Some (held_at k roots e o)
 
 -- the mark of each object that isn't gone is unset
 abbrev pub MarksNone : ℕ → List Event → List Bool → Type 0

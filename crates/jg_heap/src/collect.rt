@@ -28,7 +28,8 @@ fn unset(marks: &mut [bool], object: u64)
 
 /// Unsets the marks of these objects.
 pub(crate) fn unmark(marks: &mut [bool], objects: &[u64])
-    ensures { (o : ℕ) → slice_index_or marks.new o false ≡ (slice_index_or marks.old o false && not (list_any (λ p. p == o) objects.now)) }
+    ensures { (o : ℕ) → slice_index_or marks.new o false
+        ≡ (slice_index_or marks.old o false && not (list_any (λ p. p == o) objects.now)) }
 {
     for object in objects {
         unset(marks, *object);
@@ -37,7 +38,8 @@ pub(crate) fn unmark(marks: &mut [bool], objects: &[u64])
 
 /// Marks an object.
 fn mark(marks: &mut [bool], target: Option<ObjId>)
-    ensures { (o : ℕ) → o < length marks.old → slice_index_or marks.new o false ≡ (slice_index_or marks.old o false || holds o (ToObject target)) }
+    ensures { (o : ℕ) → o < length marks.old
+        → slice_index_or marks.new o false ≡ (slice_index_or marks.old o false || holds o (ToObject target)) }
 {
     if let Some(target) = target {
         if target.0 < marks.len() as u64 {
@@ -48,7 +50,8 @@ fn mark(marks: &mut [bool], target: Option<ObjId>)
 
 /// Marks the class objects.
 pub(crate) fn mark_classes(marks: &mut [bool], class_count: u64)
-    ensures { (o : ℕ) → o < length marks.old → slice_index_or marks.new o false ≡ (slice_index_or marks.old o false || nat_lt o class_count) }
+    ensures { (o : ℕ) → o < length marks.old
+        → slice_index_or marks.new o false ≡ (slice_index_or marks.old o false || nat_lt o class_count) }
 {
     for object in 0..class_count {
         mark(marks, Some(ObjId(object)));
@@ -57,7 +60,8 @@ pub(crate) fn mark_classes(marks: &mut [bool], class_count: u64)
 
 /// Marks each object that a field names.
 fn mark_fields(marks: &mut [bool], slots: &[Slot])
-    ensures { (o : ℕ) → o < length marks.old → slice_index_or marks.new o false ≡ (slice_index_or marks.old o false || list_any (holds o) slots.now) }
+    ensures { (o : ℕ) → o < length marks.old
+        → slice_index_or marks.new o false ≡ (slice_index_or marks.old o false || list_any (holds o) slots.now) }
 {
     for slot in slots {
         if let Slot::Object(target) = *slot {
@@ -68,7 +72,9 @@ fn mark_fields(marks: &mut [bool], slots: &[Slot])
 
 /// Marks each object that an array's item names.
 fn mark_items(marks: &mut [bool], items: &[Option<ObjId>])
-    ensures { (o : ℕ) → o < length marks.old → slice_index_or marks.new o false ≡ (slice_index_or marks.old o false || list_any (λ target. holds o (ToObject target)) items.now) }
+    ensures { (o : ℕ) → o < length marks.old
+        → slice_index_or marks.new o false
+        ≡ (slice_index_or marks.old o false || list_any (λ target. holds o (ToObject target)) items.now) }
 {
     for target in items {
         mark(marks, *target);
@@ -78,7 +84,9 @@ fn mark_items(marks: &mut [bool], items: &[Option<ObjId>])
 /// Marks each object that stands in a slot.
 #[tactic(auto, using(crate::proofs::Items::hold))]
 fn mark_slots<A: Allocator>(marks: &mut [bool], body: &Body<A>)
-    ensures { (o : ℕ) → o < length marks.old → slice_index_or marks.new o false ≡ (slice_index_or marks.old o false || list_any (holds o) (slots_of_body body.now)) }
+    ensures { (o : ℕ) → o < length marks.old
+        → slice_index_or marks.new o false
+        ≡ (slice_index_or marks.old o false || list_any (holds o) (slots_of_body body.now)) }
 {
     match body {
         Body::Fields(instance) => mark_fields(marks, &instance.slots),
@@ -91,7 +99,9 @@ fn mark_slots<A: Allocator>(marks: &mut [bool], body: &Body<A>)
 /// Marks each object that stands in a slot of one of those in being.
 pub(crate) fn mark_pointed<A: Allocator>(marks: &mut [bool], objects: &[Object<A>], live: &[u64])
     requires { All (λ p. p < length objects.now) live.now }
-    ensures { (o : ℕ) → o < length marks.old → slice_index_or marks.new o false ≡ (slice_index_or marks.old o false || list_any (slot_of_row_holds (map row_of objects.now) o) live.now) }
+    ensures { (o : ℕ) → o < length marks.old
+        → slice_index_or marks.new o false
+        ≡ (slice_index_or marks.old o false || list_any (slot_of_row_holds (map row_of objects.now) o) live.now) }
 {
     for object in live {
         mark_slots(marks, &objects[*object as usize].body);
@@ -114,7 +124,8 @@ pub(crate) fn count_unmarked(marks: &[bool], live: &[u64]) -> u64
 /// Lets go of an object, unless it is marked.
 fn end<A: Allocator>(objects: &mut [Object<A>], object: u64, marked: bool)
     requires { object < length objects.old }
-    ensures { (o : ℕ) → row_in (map row_of objects.new) o ≡ ended_row (not marked && object == o) (row_in (map row_of objects.old) o) }
+    ensures { (o : ℕ) → row_in (map row_of objects.new) o
+        ≡ ended_row (not marked && object == o) (row_in (map row_of objects.old) o) }
 {
     if !marked {
         objects[object as usize].gone = true;
@@ -124,7 +135,9 @@ fn end<A: Allocator>(objects: &mut [Object<A>], object: u64, marked: bool)
 /// Lets go of those in being that aren't marked.
 pub(crate) fn let_go<A: Allocator>(objects: &mut [Object<A>], live: &[u64], marks: &[bool])
     requires { All (λ p. p < length objects.old) live.now }
-    ensures { (o : ℕ) → row_in (map row_of objects.new) o ≡ ended_row (list_any (λ p. not (slice_index_or marks.now p false) && p == o) live.now) (row_in (map row_of objects.old) o) }
+    ensures { (o : ℕ) → row_in (map row_of objects.new) o
+        ≡ ended_row (list_any (λ p. not (slice_index_or marks.now p false) && p == o) live.now)
+        (row_in (map row_of objects.old) o) }
 {
     for object in live {
         end(objects, *object, is_marked(marks, *object));

@@ -63,7 +63,8 @@ impl<A: Allocator + Clone> Heap<A> {
         requires { CanMake shape }
         ensures number { (e : List Event) → Stands self.old e → IfOk result (λ o. o.0 ≡ count_of self.old.classes e) }
         ensures next { IfOk result (λ o. o.0 ≡ count_in self.old) }
-        ensures stands { (e : List Event) → Stands self.old e → OnOk result (Stands self.new (Made (making_of shape) ∷ e)) }
+        ensures stands { (e : List Event) → Stands self.old e
+            → OnOk result (Stands self.new (Made (making_of shape) ∷ e)) }
         ensures rows { OnOk result (self.new.objects ≡ self.old.objects ++ row_of_making (making_of shape) ∷ []) }
         ensures classes { self.new.classes ≡ self.old.classes }
         ensures err { OnErr result (self.new ≡ self.old) }
@@ -90,7 +91,8 @@ impl<A: Allocator> Heap<A> {
     /// The number of an object's class.
     pub fn class_of(&self, object: ObjId) -> u32
         requires { object.0 < count_in self.now }
-        ensures history { (e : List Event) → Stands self.now e → result ≡ class_in (making_at self.now.classes e object.0) }
+        ensures history { (e : List Event) → Stands self.now e
+            → result ≡ class_in (making_at self.now.classes e object.0) }
         ensures rows { result ≡ class_at self.now object.0 }
     {
         self.objects[object.0 as usize].body.class()
@@ -99,7 +101,8 @@ impl<A: Allocator> Heap<A> {
     /// The UTF-16 units of a string; none of any other object.
     pub fn string(&self, object: ObjId) -> &[u16]
         requires { object.0 < count_in self.now }
-        ensures history { (e : List Event) → Stands self.now e → result.now ≡ units_in (making_at self.now.classes e object.0) }
+        ensures history { (e : List Event) → Stands self.now e
+            → result.now ≡ units_in (making_at self.now.classes e object.0) }
         ensures short { length result.now < 2 ^ 61 }
     {
         self.objects[object.0 as usize].body.units()
@@ -108,7 +111,8 @@ impl<A: Allocator> Heap<A> {
     /// How many items an array has, units a string, fields any other object.
     pub fn array_len(&self, object: ObjId) -> usize
         requires { object.0 < count_in self.now }
-        ensures history { (e : List Event) → Stands self.now e → result ≡ length_in (making_at self.now.classes e object.0) }
+        ensures history { (e : List Event) → Stands self.now e
+            → result ≡ length_in (making_at self.now.classes e object.0) }
         ensures rows { result ≡ length_at self.now object.0 }
         ensures fits { result < 2 ^ 63 }
     {
@@ -164,7 +168,9 @@ impl<A: Allocator> Heap<A> {
     pub fn items(&self, object: ObjId) -> &[i64]
         requires made { object.0 < count_in self.now }
         requires array { IsPrimitiveArray (class_at self.now object.0) }
-        ensures items { (e : List Event) → Stands self.now e → map Number result.now ≡ map (value_at self.now.classes e object.0) (range_with_len 0 (length_in (making_at self.now.classes e object.0))) }
+        ensures items { (e : List Event) → Stands self.now e
+            → map Number result.now ≡ map (value_at self.now.classes e object.0)
+            (range_with_len 0 (length_in (making_at self.now.classes e object.0))) }
         ensures len { length result.now ≡ length_at self.now object.0 }
     {
         self.objects[object.0 as usize].body.numbers()
@@ -190,8 +196,10 @@ impl<A: Allocator> Heap<A> {
     /// `sweep`.
     pub fn count_unheld(&self, marks: &mut [bool]) -> u64
         requires { count_in self.now ≤ length marks.old }
-        ensures count { (e : List Event) (roots : List ℕ) → Stands self.now e → MarksRoots self.now.classes roots e marks.old → result ≡ length (going self.now.classes roots e) }
-        ensures marks { (e : List Event) (roots : List ℕ) → Stands self.now e → MarksRoots self.now.classes roots e marks.old → MarksHeld self.now.classes roots e marks.new }
+        ensures count { (e : List Event) (roots : List ℕ) → Stands self.now e
+            → MarksRoots self.now.classes roots e marks.old → result ≡ length (going self.now.classes roots e) }
+        ensures marks { (e : List Event) (roots : List ℕ) → Stands self.now e
+            → MarksRoots self.now.classes roots e marks.old → MarksHeld self.now.classes roots e marks.new }
         ensures bound { result ≤ count_in self.now }
     {
         mark_classes(marks, self.class_count);
@@ -202,7 +210,8 @@ impl<A: Allocator> Heap<A> {
     /// Lets go of what isn't marked, one link of a chain.
     pub fn sweep(&mut self, marks: &[bool])
         requires { count_in self.old ≤ length marks.now }
-        ensures stands { (e : List Event) (roots : List ℕ) → Stands self.old e → MarksHeld self.old.classes roots e marks.now → Stands self.new (Collected roots ∷ e) }
+        ensures stands { (e : List Event) (roots : List ℕ) → Stands self.old e
+            → MarksHeld self.old.classes roots e marks.now → Stands self.new (Collected roots ∷ e) }
         ensures classes { self.new.classes ≡ self.old.classes }
         ensures shapes { KeepsShapes self.old self.new }
     {

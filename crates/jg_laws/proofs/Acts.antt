@@ -90,5 +90,6 @@ call_stays s p t (Refs call) env = refl
 call_stays s p t (Frames call) env = refl
 call_stays s p t (Strings call) env = refl
 
-pub attached_done : (s : StatedSetup) (p : Parts) (t : ℕ) (call : Call) → needs_env (fun_of call) ≡ true → attached (acts_of t p.threads) ≡ true → attached (acts_of t (done_by s t call p).threads) ≡ true
+pub attached_done : (s : StatedSetup) (p : Parts) (t : ℕ) (call : Call) → needs_env (fun_of call) ≡ true → attached (acts_of t p.threads) ≡ true
+    → attached (acts_of t (done_by s t call p).threads) ≡ true
 attached_done s p t call env on = rw (acts_own t (call_threads s p t call) p.threads) (stays_attached (call_threads s p t call) (acts_of t p.threads) (call_stays s p t call env) on)

@@ -64,7 +64,8 @@ is_next : (p q : Parts) (t maker : Tid) (kind : Kind) (n : ℕ) (r : Ref) (same 
 is_next p q t maker kind n r same own next is =
     ((kind, one_reference (To kind maker n) r is ∙ same_to kind maker t n (next_ref p t.0) own next), omega (arith, next_more q t.0, same))
 
-settled_next : (s : StatedSetup) (home : Option ℕ) (p q : Parts) (t : Tid) (call : Call) (value : Value) (warned : Bool) (o : Option ObjId) (r : Ref) → IsProper s p t call value warned o → next_ref q t.0 ≡ next_ref p t.0
+settled_next : (s : StatedSetup) (home : Option ℕ) (p q : Parts) (t : Tid) (call : Call) (value : Value) (warned : Bool) (o : Option ObjId) (r : Ref) → IsProper s p t call value warned o
+    → next_ref q t.0 ≡ next_ref p t.0
     → reference_in value ≡ Some r → Raises p t (settled home t.0 (record { value = value; warned = warned }) o q) r
 settled_next s home p q t call (Reference v) warned None r own same is = absurd own
 settled_next s home p q t call (Reference Null) warned (Some o) r own same is = absurd own
@@ -76,7 +77,8 @@ settled_next s home p q t call value warned o r own same is = absurd (no_referen
 passed_next : (s : StatedSetup) (p : Parts) (t : Tid) (call : Call) (r : Ref) → reference_in (answer s p t call).reply.value ≡ Some r → Raises p t (answered s p t call (answer s p t call)) r
 passed_next s p t call r is =
     let a : Answer = answer s p t call in
-    settled_next s (home_of s (native_class s p t.0 call)) p (done_if (is_effective a.reply.value) s t.0 call p) t call a.reply.value a.reply.warned a.object r (proper s p t call) (next_done_if (is_effective a.reply.value) s p t.0 call t.0) is
+    settled_next s (home_of s (native_class s p t.0 call)) p (done_if (is_effective a.reply.value) s t.0 call p) t call a.reply.value a.reply.warned a.object r (proper s p t call)
+    (next_done_if (is_effective a.reply.value) s p t.0 call t.0) is
 
 by_next : (s : StatedSetup) (v : Option Rule) (p : Parts) (t : Tid) (env : Option EnvId) (call : Call) (r : Ref) (x : Entry)
     → x ≡ entry_by v (answer s p t call) t env call → reference_of x.outcome ≡ Some r → Raises p t (after s x.tid.0 x.call x.outcome x.object p) r
@@ -85,7 +87,8 @@ by_next s None p t env call r x legal is =
     let here : reference_in (answer s p t call).reply.value ≡ Some r = sym (ap (λ (y : Entry). reference_of y.outcome) legal) ∙ is in
     rw legal (passed_next s p t call r here)
 
-entry_next : (s : StatedSetup) (p : Parts) (x : Entry) (r : Ref) → x ≡ entry_at s p x.tid x.env x.call → reference_of x.outcome ≡ Some r → Raises p x.tid (after s x.tid.0 x.call x.outcome x.object p) r
+entry_next : (s : StatedSetup) (p : Parts) (x : Entry) (r : Ref) → x ≡ entry_at s p x.tid x.env x.call → reference_of x.outcome ≡ Some r
+    → Raises p x.tid (after s x.tid.0 x.call x.outcome x.object p) r
 entry_next s p x r legal is = by_next s (verdict s p x.tid.0 x.env x.call) p x.tid x.env x.call r x legal is
 
 -- ---- numbers of references are below the next
@@ -236,38 +239,46 @@ strong_if : (b : Bool) (maker n : ℕ) (old : Option ℕ) → target_object (glo
 strong_if true maker n old gone = refl
 strong_if false maker n old gone = gone
 
-strong_still : (ev : globals.Event) (e : List globals.Event) (maker n : ℕ) → Passes maker n ev → target_object (globals.strong_target (globals.strong e maker n)) ≡ None → target_object (globals.strong_target (globals.strong (ev ∷ e) maker n)) ≡ None
+strong_still : (ev : globals.Event) (e : List globals.Event) (maker n : ℕ) → Passes maker n ev → target_object (globals.strong_target (globals.strong e maker n)) ≡ None
+    → target_object (globals.strong_target (globals.strong (ev ∷ e) maker n)) ≡ None
 strong_still (globals.MakeStrong k i o) e maker n other gone = rw other gone
 strong_still (globals.MakeWeak k i o) e maker n other gone = gone
 strong_still (globals.DeleteStrong k i) e maker n other gone = strong_if (globals.is_same maker n k i) maker n (globals.strong e maker n) gone
 strong_still (globals.DeleteWeak k i) e maker n other gone = gone
 strong_still (globals.Clear o) e maker n other gone = gone
 
-cleared_if : (b c : Bool) (o : ℕ) → target_object (Some (if c then Cleared else ToObject (record { 0 = o }))) ≡ None → target_object (Some (if b || c then Cleared else ToObject (record { 0 = o }))) ≡ None
+cleared_if : (b c : Bool) (o : ℕ) → target_object (Some (if c then Cleared else ToObject (record { 0 = o }))) ≡ None
+    → target_object (Some (if b || c then Cleared else ToObject (record { 0 = o }))) ≡ None
 cleared_if true c o gone = refl
 cleared_if false c o gone = gone
 
-cleared_still : (later : List globals.Event) (ev : globals.Event) (found : Option ℕ) → target_object (globals.unless_cleared later found) ≡ None → target_object (globals.unless_cleared (ev ∷ later) found) ≡ None
+cleared_still : (later : List globals.Event) (ev : globals.Event) (found : Option ℕ) → target_object (globals.unless_cleared later found) ≡ None
+    → target_object (globals.unless_cleared (ev ∷ later) found) ≡ None
 cleared_still later ev None gone = refl
 cleared_still later ev (Some o) gone = cleared_if (globals.clears o ev) (list_any (globals.clears o) later) o gone
 
-weak_if : (b : Bool) (later : List globals.Event) (old : Option ℕ) → target_object (globals.unless_cleared later old) ≡ None → target_object (globals.unless_cleared later (if b then None else old)) ≡ None
+weak_if : (b : Bool) (later : List globals.Event) (old : Option ℕ) → target_object (globals.unless_cleared later old) ≡ None
+    → target_object (globals.unless_cleared later (if b then None else old)) ≡ None
 weak_if true later old gone = refl
 weak_if false later old gone = gone
 
-weak_still : (ev : globals.Event) (e : List globals.Event) (maker n : ℕ) → Passes maker n ev → target_object (globals.weak_target e maker n) ≡ None → target_object (globals.weak_target (ev ∷ e) maker n) ≡ None
+weak_still : (ev : globals.Event) (e : List globals.Event) (maker n : ℕ) → Passes maker n ev → target_object (globals.weak_target e maker n) ≡ None
+    → target_object (globals.weak_target (ev ∷ e) maker n) ≡ None
 weak_still (globals.MakeStrong k i o) e maker n other gone = cleared_still (globals.after_making maker n e) (globals.MakeStrong k i o) (globals.weak e maker n) gone
 weak_still (globals.MakeWeak k i o) e maker n other gone = rw other (cleared_still (globals.after_making maker n e) (globals.MakeWeak k i o) (globals.weak e maker n) gone)
 weak_still (globals.DeleteStrong k i) e maker n other gone = cleared_still (globals.after_making maker n e) (globals.DeleteStrong k i) (globals.weak e maker n) gone
-weak_still (globals.DeleteWeak k i) e maker n other gone = weak_if (globals.is_same maker n k i) (globals.DeleteWeak k i ∷ globals.after_making maker n e) (globals.weak e maker n) (cleared_still (globals.after_making maker n e) (globals.DeleteWeak k i) (globals.weak e maker n) gone)
+weak_still (globals.DeleteWeak k i) e maker n other gone = weak_if (globals.is_same maker n k i) (globals.DeleteWeak k i ∷ globals.after_making maker n e) (globals.weak e maker n)
+    (cleared_still (globals.after_making maker n e) (globals.DeleteWeak k i) (globals.weak e maker n) gone)
 weak_still (globals.Clear o) e maker n other gone = cleared_still (globals.after_making maker n e) (globals.Clear o) (globals.weak e maker n) gone
 
-kind_still : (kind : Kind) (ev : globals.Event) (e : List globals.Event) (maker n : ℕ) → Passes maker n ev → target_object (kind_target kind e maker n) ≡ None → target_object (kind_target kind (ev ∷ e) maker n) ≡ None
+kind_still : (kind : Kind) (ev : globals.Event) (e : List globals.Event) (maker n : ℕ) → Passes maker n ev → target_object (kind_target kind e maker n) ≡ None
+    → target_object (kind_target kind (ev ∷ e) maker n) ≡ None
 kind_still Local ev e maker n other gone = refl
 kind_still Global ev e maker n other gone = strong_still ev e maker n other gone
 kind_still Weak ev e maker n other gone = weak_still ev e maker n other gone
 
-kind_none : (kind : Kind) (e g : List globals.Event) (maker n : ℕ) → make_no_global e ≡ true → target_object (kind_target kind g maker n) ≡ None → target_object (kind_target kind (e ++ g) maker n) ≡ None
+kind_none : (kind : Kind) (e g : List globals.Event) (maker n : ℕ) → make_no_global e ≡ true → target_object (kind_target kind g maker n) ≡ None
+    → target_object (kind_target kind (e ++ g) maker n) ≡ None
 kind_none kind [] g maker n none gone = gone
 kind_none kind (globals.MakeStrong k i o ∷ e) g maker n none gone = absurd cc
 kind_none kind (globals.MakeWeak k i o ∷ e) g maker n none gone = absurd cc
@@ -311,12 +322,14 @@ ended_steps kind t n =
 same_pair : (t n k i : ℕ) → globals.is_same t n k i ≡ true → (k ≡ t) × (i ≡ n)
 same_pair t n k i is = grind (arith, nat_tests, is)
 
-strong_below_if : (b : Bool) (e : List globals.Event) (m t n k i p o : ℕ) → globals.is_same t n k i ≡ b → (k ≡ t → i < m) → (target_object (globals.strong_target (globals.strong e t n)) ≡ Some o → n < m)
+strong_below_if : (b : Bool) (e : List globals.Event) (m t n k i p o : ℕ) → globals.is_same t n k i ≡ b → (k ≡ t → i < m)
+    → (target_object (globals.strong_target (globals.strong e t n)) ≡ Some o → n < m)
     → target_object (globals.strong_target (if b then Some p else globals.strong e t n)) ≡ Some o → n < m
 strong_below_if true e m t n k i p o same below rest is = let both = same_pair t n k i same in omega (arith, below both.0, both.1)
 strong_below_if false e m t n k i p o same below rest is = rest is
 
-deleted_below : (b : Bool) (old : Option ℕ) (m n o : ℕ) → (target_object (globals.strong_target old) ≡ Some o → n < m) → target_object (globals.strong_target (if b then None else old)) ≡ Some o → n < m
+deleted_below : (b : Bool) (old : Option ℕ) (m n o : ℕ) → (target_object (globals.strong_target old) ≡ Some o → n < m) → target_object (globals.strong_target (if b then None else old)) ≡ Some o
+    → n < m
 deleted_below true old m n o rest is = absurd cc
 deleted_below false old m n o rest is = rest is
 
@@ -345,7 +358,8 @@ weak_made (globals.DeleteWeak k i ∷ e) m t n o below is = weak_deleted (global
 weak_made (globals.DeleteStrong k i ∷ e) m t n o below is = weak_made e m t n o below is
 weak_made (globals.Clear p ∷ e) m t n o below is = weak_made e m t n o below is
 
-weak_below : (e : List globals.Event) (m t n o : ℕ) (found : Option ℕ) → globals.weak e t n ≡ found → global_laws.IsMadeBelow t m e → target_object (globals.unless_cleared (globals.after_making t n e) found) ≡ Some o → n < m
+weak_below : (e : List globals.Event) (m t n o : ℕ) (found : Option ℕ) → globals.weak e t n ≡ found → global_laws.IsMadeBelow t m e
+    → target_object (globals.unless_cleared (globals.after_making t n e) found) ≡ Some o → n < m
 weak_below e m t n o None eq below is = absurd cc
 weak_below e m t n o (Some p) eq below is = weak_made e m t n p below eq
 
@@ -355,7 +369,8 @@ kind_below Global e m t n o below is = strong_below e m t n o below is
 kind_below Weak e m t n o below is = weak_below e m t n o (globals.weak e t n) refl below is
 
 global_gone : (kind : Kind) (s : StatedSetup) (newer later h : List Entry) (t n o : ℕ) → Legal s (newer ++ (later ++ h))
-    → target_object (kind_target kind (parts s h).globals t n) ≡ Some o → target_object (kind_target kind (parts s (later ++ h)).globals t n) ≡ None → target_object (kind_target kind (parts s (newer ++ (later ++ h))).globals t n) ≡ None
+    → target_object (kind_target kind (parts s h).globals t n) ≡ Some o → target_object (kind_target kind (parts s (later ++ h)).globals t n) ≡ None
+    → target_object (kind_target kind (parts s (newer ++ (later ++ h))).globals t n) ≡ None
 global_gone kind s newer later h t n o legal was gone =
     let middle = Legal-before s newer (later ++ h) legal in
     let old = Legal-before s later h middle in

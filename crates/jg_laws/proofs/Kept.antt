@@ -108,7 +108,8 @@ next_same : (p : Parts) (u : ℕ) (a : threads.Act) → threads.is_count_ref a �
 next_same p u a quiet t = ap (λ n. n + 1) (refs_same p.threads u a quiet t)
 
 -- an act that makes no local
-below_same : (p : Parts) (u : ℕ) (a : Act) → ((n : ℕ) (acts : List Act) → IsMadeBelow n acts → IsMadeBelow n (a ∷ acts)) → Below p → (t : ℕ) → IsMadeBelow (next_ref p t) (acts_of t (by u a ∷ p.locals))
+below_same : (p : Parts) (u : ℕ) (a : Act) → ((n : ℕ) (acts : List Act) → IsMadeBelow n acts → IsMadeBelow n (a ∷ acts)) → Below p → (t : ℕ)
+    → IsMadeBelow (next_ref p t) (acts_of t (by u a ∷ p.locals))
 below_same p u a keeps old t =
     each_thread (λ v. IsMadeBelow (next_ref p v) (acts_of v (by u a ∷ p.locals))) u
     (rw (acts_more u u a p.locals refl) (keeps _ _ (old u)))
@@ -129,7 +130,8 @@ below_counted p u old t =
     (λ v differ. rw (did_same v u threads.CountRef p.threads differ) (old v))
     t
 
-below_made : (p : Parts) (u o : ℕ) → Below p → (t : ℕ) → IsMadeBelow (next_ref (record p { threads = threads.by u threads.CountRef ∷ p.threads }) t) (acts_of t (by u (Make (next_ref p u) o) ∷ p.locals))
+below_made : (p : Parts) (u o : ℕ) → Below p → (t : ℕ) → IsMadeBelow (next_ref (record p { threads = threads.by u threads.CountRef ∷ p.threads }) t)
+    (acts_of t (by u (Make (next_ref p u) o) ∷ p.locals))
 below_made p u o old t =
     each_thread (λ v. IsMadeBelow (next_ref (record p { threads = threads.by u threads.CountRef ∷ p.threads }) v) (acts_of v (by u (Make (next_ref p u) o) ∷ p.locals))) u
     (let made : IsMadeBelow (next_ref p u + 1) (Make (next_ref p u) o ∷ acts_of u p.locals) = (omega arith, below_more (next_ref p u) (next_ref p u + 1) (acts_of u p.locals) (omega arith) (old u)) in

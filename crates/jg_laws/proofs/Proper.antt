@@ -29,7 +29,8 @@ pub local_proper : (s : StatedSetup) (p : Parts) (t : Tid) (call : Call) (found 
 local_proper s p t call None env = tt
 local_proper s p t call (Some o) env = (env, refl, refl)
 
-pub global_proper : (s : StatedSetup) (p : Parts) (t : Tid) (call : Call) (found : Option ℕ) → needs_env (fun_of call) ≡ true → done_by s t.0 call p ≡ p → ProperAnswer s p t call (handed p t Global found)
+pub global_proper : (s : StatedSetup) (p : Parts) (t : Tid) (call : Call) (found : Option ℕ) → needs_env (fun_of call) ≡ true → done_by s t.0 call p ≡ p
+    → ProperAnswer s p t call (handed p t Global found)
 global_proper s p t call None env none = tt
 global_proper s p t call (Some o) env none = (env, refl, refl, none, refl)
 

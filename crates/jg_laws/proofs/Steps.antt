@@ -53,7 +53,8 @@ make_no_global (ev ∷ e) = if makes_no_global ev then make_no_global e else fal
 -- each event that a passed call can bring keeps P
 pub record Steps (P : Parts → Type 0) : Type 0 where
   -- of its own, to threads and locals
-  pub begins : (p : Parts) (t : ℕ) → threads.attached (threads.acts_of t p.threads) ≡ false → P p → P (record p { threads = threads.by t threads.Attach ∷ p.threads; locals = locals.by t locals.Start ∷ p.locals })
+  pub begins : (p : Parts) (t : ℕ) → threads.attached (threads.acts_of t p.threads) ≡ false → P p
+      → P (record p { threads = threads.by t threads.Attach ∷ p.threads; locals = locals.by t locals.Start ∷ p.locals })
   pub begun : (p : Parts) (t : ℕ) → threads.attached (threads.acts_of t p.threads) ≡ true → P p → P (record p { threads = threads.by t threads.Attach ∷ p.threads })
   pub ends : (p : Parts) (t : ℕ) → P p → P (record p { threads = threads.by t threads.Detach ∷ p.threads; locals = locals.by t locals.End ∷ p.locals })
   pub deletes : (p : Parts) (t n : ℕ) → P p → P (record p { locals = locals.by t (locals.Delete n) ∷ p.locals })
@@ -96,7 +97,9 @@ others P steps s t call p q old =
     let q2 : Parts = record q1 { buffers = call_buffers s p t call ++ q.buffers } in
     let q3 : Parts = record q2 { monitors = map (monitors.by t) (call_monitors s p t call) ++ q.monitors } in
     let q4 : Parts = record q3 { heap = call_heap s p t call ++ q.heap } in
-    steps.to_links q4 (call_links s p t call) (steps.to_heap q3 (call_heap s p t call) (steps.to_monitors q2 (map (monitors.by t) (call_monitors s p t call)) (steps.to_buffers q1 (call_buffers s p t call) (steps.to_globals q (call_globals s p t call) (makes_none s p t call) old))))
+    steps.to_links q4 (call_links s p t call) (steps.to_heap q3 (call_heap s p t call)
+    (steps.to_monitors q2 (map (monitors.by t) (call_monitors s p t call))
+    (steps.to_buffers q1 (call_buffers s p t call) (steps.to_globals q (call_globals s p t call) (makes_none s p t call) old))))
 
 attaching : (P : Parts → Type 0) → Steps P → (p : Parts) (t : ℕ) (b : Bool) → threads.attached (threads.acts_of t p.threads) ≡ b → P p
     → P (record p { threads = threads.by t threads.Attach ∷ p.threads; locals = map (locals.by t) (started b) ++ p.locals })
@@ -127,25 +130,33 @@ each_if P steps false s p t env call kept old = old
 
 -- ---- events of the answer
 
-settling : (P : Parts → Type 0) → Steps P → (s : StatedSetup) (home : Option ℕ) (p q : Parts) (t : Tid) (call : Call) (value : Value) (warned : Bool) (o : Option ObjId) → IsProper s p t call value warned o → next_ref q t.0 ≡ next_ref p t.0
+settling : (P : Parts → Type 0) → Steps P → (s : StatedSetup) (home : Option ℕ) (p q : Parts) (t : Tid) (call : Call) (value : Value) (warned : Bool) (o : Option ObjId)
+    → IsProper s p t call value warned o → next_ref q t.0 ≡ next_ref p t.0
     → P q → P (settled home t.0 (record { value = value; warned = false }) o q)
 settling P steps s home p q t call (Reference r) warned None is same old = absurd is
 settling P steps s home p q t call (Reference Null) warned (Some o) is same old = absurd is
 settling P steps s home p q t call (Reference (To Local maker n)) warned (Some o) is same old = steps.hands q t.0 n o.0 (is.2 ∙ sym same) old
-settling P steps s home p q t call (Reference (To Global maker n)) warned (Some o) is same old = subst (λ (m : Tid). P (record q { threads = threads.by t.0 threads.CountRef ∷ q.threads; globals = globals.MakeStrong m.0 n o.0 ∷ q.globals })) (sym is.1) (steps.hands_strong q t.0 n o.0 (is.2 ∙ sym same) old)
-settling P steps s home p q t call (Reference (To Weak maker n)) warned (Some o) is same old = subst (λ (m : Tid). P (record q { threads = threads.by t.0 threads.CountRef ∷ q.threads; globals = globals.MakeWeak m.0 n o.0 ∷ q.globals })) (sym is.1) (steps.hands_weak q t.0 n o.0 (is.2 ∙ sym same) old)
+settling P steps s home p q t call (Reference (To Global maker n)) warned (Some o) is same old =
+    subst (λ (m : Tid). P (record q { threads = threads.by t.0 threads.CountRef ∷ q.threads; globals = globals.MakeStrong m.0 n o.0 ∷ q.globals })) (sym is.1)
+    (steps.hands_strong q t.0 n o.0 (is.2 ∙ sym same) old)
+settling P steps s home p q t call (Reference (To Weak maker n)) warned (Some o) is same old =
+    subst (λ (m : Tid). P (record q { threads = threads.by t.0 threads.CountRef ∷ q.threads; globals = globals.MakeWeak m.0 n o.0 ∷ q.globals })) (sym is.1)
+    (steps.hands_weak q t.0 n o.0 (is.2 ∙ sym same) old)
 settling P steps s home p q t call (Lent b) warned o is same old = steps.lends q t.0 old
 settling P steps s home p q t call (Threw kind) warned None is same old = absurd is
-settling P steps s home p q t call (Threw kind) warned (Some o) is same old = steps.raises (record q { heap = value_heap (Threw kind) ++ q.heap }) t.0 o.0 (steps.to_heap q (value_heap (Threw kind)) old)
+settling P steps s home p q t call (Threw kind) warned (Some o) is same old =
+    steps.raises (record q { heap = value_heap (Threw kind) ++ q.heap }) t.0 o.0 (steps.to_heap q (value_heap (Threw kind)) old)
 settling P steps s home p q t call value warned o is same old = old
 
-each_passed : (P : Parts → Type 0) → Steps P → (s : StatedSetup) (p : Parts) (t : Tid) (env : Option EnvId) (call : Call) → Unbroken s p t.0 env call → P p → P (answered s p t call (answer s p t call))
+each_passed : (P : Parts → Type 0) → Steps P → (s : StatedSetup) (p : Parts) (t : Tid) (env : Option EnvId) (call : Call) → Unbroken s p t.0 env call → P p
+    → P (answered s p t call (answer s p t call))
 each_passed P steps s p t env call kept old =
     let a : Answer = answer s p t call in
     let q : Parts = done_if (is_effective a.reply.value) s t.0 call p in
     let home : Option ℕ = home_of s (native_class s p t.0 call) in
     steps.to_links (settled home t.0 (record { value = a.reply.value; warned = false }) a.object q) (warning a.reply.warned home)
-    (settling P steps s home p q t call a.reply.value a.reply.warned a.object (proper s p t call) (next_done_if (is_effective a.reply.value) s p t.0 call t.0) (each_if P steps (is_effective a.reply.value) s p t.0 env call kept old))
+    (settling P steps s home p q t call a.reply.value a.reply.warned a.object (proper s p t call) (next_done_if (is_effective a.reply.value) s p t.0 call t.0)
+    (each_if P steps (is_effective a.reply.value) s p t.0 env call kept old))
 
 each_by : (P : Parts → Type 0) → Steps P → (s : StatedSetup) (v : Option Rule) (p : Parts) (t : Tid) (env : Option EnvId) (call : Call) → verdict s p t.0 env call ≡ v → P p
     → (x : Entry) → x ≡ entry_by v (answer s p t call) t env call → P (after s x.tid.0 x.call x.outcome x.object p)

@@ -14,15 +14,19 @@ use Rattle.jg_rules.specs.Legal.{Legal, Asked, history_of}
 use Rattle.jg_laws.specs.Histories.{passed_only, reference_of, WasHandedOut, IsHistoryOf}
 
 abbrev pub ReferencesCounted : Type 0
-ReferencesCounted = (s : StatedSetup) (h : List Entry) (kind : Kind) (maker : Tid) (n : ℕ) → Legal s h → WasHandedOut (To kind maker n) h → n < next_ref (parts s h) maker.0
+ReferencesCounted = (s : StatedSetup) (h : List Entry) (kind : Kind) (maker : Tid) (n : ℕ) → Legal s h
+    → WasHandedOut (To kind maker n) h → n < next_ref (parts s h) maker.0
 
 abbrev pub NoReferenceTwice : Type 0
-NoReferenceTwice = (s : StatedSetup) (later : List Entry) (x : Entry) (before : List Entry) (r : Ref) → Legal s (later ++ x ∷ before) → reference_of x.outcome ≡ Some r → ¬ WasHandedOut r before
+NoReferenceTwice = (s : StatedSetup) (later : List Entry) (x : Entry) (before : List Entry) (r : Ref)
+    → Legal s (later ++ x ∷ before) → reference_of x.outcome ≡ Some r → ¬ WasHandedOut r before
 
 -- from the oldest part on: named an object, then none, then still none
 abbrev pub NoReferenceRevived : Type 0
-NoReferenceRevived = (s : StatedSetup) (newest later first : List Entry) (t o : ℕ) (r : Ref) → Legal s (newest ++ (later ++ first))
-    → object_named (parts s first) t r ≡ Some o → object_named (parts s (later ++ first)) t r ≡ None → object_named (parts s (newest ++ (later ++ first))) t r ≡ None
+NoReferenceRevived = (s : StatedSetup) (newest later first : List Entry) (t o : ℕ) (r : Ref)
+    → Legal s (newest ++ (later ++ first))
+    → object_named (parts s first) t r ≡ Some o → object_named (parts s (later ++ first)) t r ≡ None
+    → object_named (parts s (newest ++ (later ++ first))) t r ≡ None
 
 abbrev pub DeniedEntriesDoNothing : Type 0
 DeniedEntriesDoNothing = (s : StatedSetup) (h : List Entry) → Legal s h → Legal s (passed_only h)
@@ -36,4 +40,5 @@ pub record Agree (of_threads : List threads.Act) (of_locals : List locals.Act) :
   pub depth : threads.depth of_threads ≡ locals.depth of_locals
 
 abbrev pub DepthsAgree : Type 0
-DepthsAgree = (s : StatedSetup) (h : List Entry) (t : ℕ) → Legal s h → Agree (threads.acts_of t (parts s h).threads) (locals.acts_of t (parts s h).locals)
+DepthsAgree = (s : StatedSetup) (h : List Entry) (t : ℕ) → Legal s h
+    → Agree (threads.acts_of t (parts s h).threads) (locals.acts_of t (parts s h).locals)

@@ -15,17 +15,22 @@ use Rattle.jg_rules.specs.Parts.{Parts}
 use Rattle.jg_rules.specs.Names.{object_count, next_ref, next_buffer}
 use Rattle.jg_rules.specs.Effects.{done_by}
 
--- a call that takes an environment hands out its thread's next local; one that does nothing else hands out the next global or weak one;
--- the exception that a call throws is the next object; where nothing is done of the call's own, nothing is warned of
+-- a call that takes an environment hands out its thread's next local; one that does nothing else hands out the next
+-- global or weak one; the exception that a call throws is the next object; where nothing is done of the call's own,
+-- nothing is warned of
 abbrev pub IsProper : StatedSetup → Parts → Tid → Call → Value → Bool → Option ObjId → Type 0
 IsProper s p t call (Reference r) warned None = ⊥
 IsProper s p t call (Reference Null) warned (Some o) = ⊥
-IsProper s p t call (Reference (To Local maker n)) warned (Some o) = (needs_env (fun_of call) ≡ true) × (maker ≡ t) × (n ≡ next_ref p t.0)
-IsProper s p t call (Reference (To Global maker n)) warned (Some o) = (needs_env (fun_of call) ≡ true) × (maker ≡ t) × (n ≡ next_ref p t.0) × (done_by s t.0 call p ≡ p) × (warned ≡ false)
-IsProper s p t call (Reference (To Weak maker n)) warned (Some o) = (needs_env (fun_of call) ≡ true) × (maker ≡ t) × (n ≡ next_ref p t.0) × (done_by s t.0 call p ≡ p) × (warned ≡ false)
+IsProper s p t call (Reference (To Local maker n)) warned (Some o) = (needs_env (fun_of call) ≡ true) × (maker ≡ t)
+    × (n ≡ next_ref p t.0)
+IsProper s p t call (Reference (To Global maker n)) warned (Some o) = (needs_env (fun_of call) ≡ true) × (maker ≡ t)
+    × (n ≡ next_ref p t.0) × (done_by s t.0 call p ≡ p) × (warned ≡ false)
+IsProper s p t call (Reference (To Weak maker n)) warned (Some o) = (needs_env (fun_of call) ≡ true) × (maker ≡ t)
+    × (n ≡ next_ref p t.0) × (done_by s t.0 call p ≡ p) × (warned ≡ false)
 IsProper s p t call (Buffer b) warned o = (needs_env (fun_of call) ≡ true) × (b.maker ≡ t) × (b.n ≡ next_buffer p t.0)
 IsProper s p t call (Threw kind) warned None = ⊥
-IsProper s p t call (Threw kind) warned (Some o) = (needs_env (fun_of call) ≡ true) × (o.0 ≡ object_count s p) × (warned ≡ false)
+IsProper s p t call (Threw kind) warned (Some o) = (needs_env (fun_of call) ≡ true) × (o.0 ≡ object_count s p)
+    × (warned ≡ false)
 IsProper s p t call Busy warned o = (needs_env (fun_of call) ≡ true) × (warned ≡ false)
 IsProper s p t call value warned o = Unit {0}
 

@@ -60,13 +60,16 @@ marks_more before last all old mid new was now both o =
     now o ∙ ap (option_map (λ m. m || last o)) (was o) ∙ marked_twice (before o) (last o) (slice_get old o) ∙ ap (λ b. option_map (λ m. m || b) (slice_get old o)) (sym (both o))
 
 -- the marks of what one more item of a list names
-pub marks_item : {X : Type 0} (test : X → ℕ → Bool) (xs : List X) (i : ℕ) (d : X) (old mid new : List Bool) → i < length xs → Marks (λ o. list_any (λ x. test x o) (take i xs)) old mid → Marks (test (get_or xs i d)) mid new
+pub marks_item : {X : Type 0} (test : X → ℕ → Bool) (xs : List X) (i : ℕ) (d : X) (old mid new : List Bool) → i < length xs → Marks (λ o. list_any (λ x. test x o) (take i xs)) old mid
+    → Marks (test (get_or xs i d)) mid new
     → Marks (λ o. list_any (λ x. test x o) (take (i + 1) xs)) old new
 marks_item test xs i d old mid new within was now =
-    marks_more (λ o. list_any (λ x. test x o) (take i xs)) (test (get_or xs i d)) (λ o. list_any (λ x. test x o) (take (i + 1) xs)) old mid new was now (λ o. list_any_more (λ x. test x o) xs i d within)
+    marks_more (λ o. list_any (λ x. test x o) (take i xs)) (test (get_or xs i d)) (λ o. list_any (λ x. test x o) (take (i + 1) xs)) old mid new was now
+    (λ o. list_any_more (λ x. test x o) xs i d within)
 
 -- those of all items
-pub marks_all : {X : Type 0} (test : X → ℕ → Bool) (xs : List X) (i : ℕ) (old new : List Bool) → length xs ≤ i → Marks (λ o. list_any (λ x. test x o) (take i xs)) old new → Marks (λ o. list_any (λ x. test x o) xs) old new
+pub marks_all : {X : Type 0} (test : X → ℕ → Bool) (xs : List X) (i : ℕ) (old new : List Bool) → length xs ≤ i → Marks (λ o. list_any (λ x. test x o) (take i xs)) old new
+    → Marks (λ o. list_any (λ x. test x o) xs) old new
 marks_all test xs i old new past was o = was o ∙ ap (λ l. option_map (λ m. m || list_any (λ x. test x o) l) (slice_get old o)) (take_all i xs past)
 
 -- with the marks of one item set, those of the rest are left

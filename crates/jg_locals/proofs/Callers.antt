@@ -86,7 +86,8 @@ below_live rows e t n stands each row m mine =
     each row.n (live_of_row t row.n row (live_local row.n (acts_of t e)) there)
 
 -- a number is above all of a thread's rows where it is above all its live locals
-pub above_live : (rows : Rows) (e : List Event) (t n : ℕ) (b : Bool) → Stands rows e → IsTrue b ↔ All (λ row. row.tid ≡ t → row.n < n) rows.locals → IsTrue b ↔ ((k : ℕ) → IsSome (live k (acts_of t e)) → k < n)
+pub above_live : (rows : Rows) (e : List Event) (t n : ℕ) (b : Bool) → Stands rows e → IsTrue b ↔ All (λ row. row.tid ≡ t → row.n < n) rows.locals
+    → IsTrue b ↔ ((k : ℕ) → IsSome (live k (acts_of t e)) → k < n)
 above_live rows e t n b stands test = (
   (λ is k some. live_below rows e t n k stands (test.0 is) some),
   (λ each. test.1 (All-from_recursion _ _ (all_members _ rows.locals (below_live rows e t n stands each)))),

@@ -34,7 +34,8 @@ pub each-filter : {X : Type 0} (P : X → Type 0) (p : X → Bool) (xs : List X)
 each-filter P p [] all = tt
 each-filter P p (x ∷ xs) all = filtered P x (filter p xs) (p x) all.0 (each-filter P p xs all.1)
 
-passed_at : {X : Type 0} (P : X → Type 0) (p : X → Bool) (x : X) (xs : List X) (b : Bool) → p x ≡ b → ((x : X) → p x ≡ true → P x) → AllByRecursion P (filter p xs) → AllByRecursion P (if b then x ∷ filter p xs else filter p xs)
+passed_at : {X : Type 0} (P : X → Type 0) (p : X → Bool) (x : X) (xs : List X) (b : Bool) → p x ≡ b → ((x : X) → p x ≡ true → P x) → AllByRecursion P (filter p xs)
+    → AllByRecursion P (if b then x ∷ filter p xs else filter p xs)
 passed_at P p x xs true is f rest = (f x is, rest)
 passed_at P p x xs false is f rest = rest
 
@@ -68,7 +69,8 @@ chain-filter r p (x ∷ xs) chain = chain_filtered r x (filter p xs) (p x) (each
 
 -- ---- the last
 
-ending_after : {X : Type 0} (x : X) (xs : List X) → (xs ≡ []) ⊎ ((front : List X) × (y : X) × (xs ≡ front ++ y ∷ []) × (last xs ≡ Some y)) → (x ∷ xs ≡ []) ⊎ ((front : List X) × (y : X) × (x ∷ xs ≡ front ++ y ∷ []) × (last (x ∷ xs) ≡ Some y))
+ending_after : {X : Type 0} (x : X) (xs : List X) → (xs ≡ []) ⊎ ((front : List X) × (y : X) × (xs ≡ front ++ y ∷ []) × (last xs ≡ Some y)) → (x ∷ xs ≡ [])
+    ⊎ ((front : List X) × (y : X) × (x ∷ xs ≡ front ++ y ∷ []) × (last (x ∷ xs) ≡ Some y))
 ending_after x xs (inl is) = inr ([], x, ap (λ l. x ∷ l) is, ap (λ l. option_or (last l) (Some x)) is)
 ending_after x xs (inr found) = inr (x ∷ found.0, found.1, ap (λ l. x ∷ l) found.2, ap (λ o. option_or o (Some x)) found.3)
 

@@ -14,7 +14,8 @@ use Rattle.jg_locals.proofs.FrameSteps.{is_not_frame, is_not_depth, rows_up_to_s
 use Rattle.jg_locals.proofs.Tops.{by_top, by_no_top}
 use Rattle.jg_locals.proofs.StandingSteps.{filter_all, acts_more, acts_same, each_thread, locals_kept, locals_same, frames_kept, frames_added, frames_same, allowed_more}
 
-open_frames-push : (t : ℕ) (acts : List Act) → AllAllowed acts → has_session acts ≡ true → open_frames t acts ++ record { tid = t; depth = depth acts; frame = suc (frames (depth acts) acts) } ∷ [] ≡ open_frames t (Push ∷ acts)
+open_frames-push : (t : ℕ) (acts : List Act) → AllAllowed acts → has_session acts ≡ true
+    → open_frames t acts ++ record { tid = t; depth = depth acts; frame = suc (frames (depth acts) acts) } ∷ [] ≡ open_frames t (Push ∷ acts)
 open_frames-push t acts h is = rw is (sym (rows_up_to-push t (depth acts) acts h refl))
 
 pub push_stands : (rows : Rows) (e : List Event) (u : ℕ) → Stands rows e → has_session (acts_of u e) ≡ true
@@ -25,7 +26,8 @@ push_stands rows e u stands is = record {
   allowed = allowed_more u Push e stands.allowed is;
 }
 
-open_frames-pop : (t : ℕ) (acts : List Act) → has_session acts ≡ true → 0 < frames (depth acts) acts → filter (is_not_frame t (depth acts) (frames (depth acts) acts)) (open_frames t acts) ≡ open_frames t (Pop ∷ acts)
+open_frames-pop : (t : ℕ) (acts : List Act) → has_session acts ≡ true → 0 < frames (depth acts) acts
+    → filter (is_not_frame t (depth acts) (frames (depth acts) acts)) (open_frames t acts) ≡ open_frames t (Pop ∷ acts)
 open_frames-pop t acts is some = rw is (rows_up_to-pop t (depth acts) acts some refl)
 
 pub push_law : (rows : Rows) (e : List Event) (u : ℕ) (r : FrameRow) → Stands rows e → top u rows.frames ≡ Some r
@@ -41,7 +43,8 @@ is_not_in t d f row = not (row.tid == t && (row.depth == d && row.frame == f))
 pub pop_law : (rows : Rows) (e : List Event) (u : ℕ) (r : FrameRow) → Stands rows e → top u rows.frames ≡ Some r → 0 < r.frame
     → Stands (record { locals = filter (is_not_in u r.depth r.frame) rows.locals; frames = filter (is_not_frame u r.depth r.frame) rows.frames }) (by u Pop ∷ e)
 pop_law rows e u r stands is =
-    by_top rows e u r (λ x. 0 < x.frame → Stands (record { locals = filter (is_not_in u x.depth x.frame) rows.locals; frames = filter (is_not_frame u x.depth x.frame) rows.frames }) (by u Pop ∷ e)) stands is
+    by_top rows e u r (λ x. 0 < x.frame → Stands (record { locals = filter (is_not_in u x.depth x.frame) rows.locals; frames = filter (is_not_frame u x.depth x.frame) rows.frames }) (by u Pop ∷ e))
+    stands is
     (λ open_session some. record {
       locals = locals_kept rows.locals u Pop e _ stands.locals (stands.allowed u, some) (λ n. refl) (λ row same. grind (arith, nat_tests)) (λ row differ. grind (arith, nat_tests));
       frames = frames_kept rows.frames u Pop e _ stands.frames (open_frames-pop u (acts_of u e) open_session some) (λ row differ. grind (arith, nat_tests));
@@ -67,7 +70,8 @@ leave_law rows e u r stands is =
       allowed = allowed_more u Leave e stands.allowed some;
     })
 
-open_frames-enter : (t : ℕ) (acts : List Act) → AllAllowed acts → has_session acts ≡ true → open_frames t acts ++ record { tid = t; depth = suc (depth acts); frame = 0 } ∷ [] ≡ open_frames t (Enter ∷ acts)
+open_frames-enter : (t : ℕ) (acts : List Act) → AllAllowed acts → has_session acts ≡ true
+    → open_frames t acts ++ record { tid = t; depth = suc (depth acts); frame = 0 } ∷ [] ≡ open_frames t (Enter ∷ acts)
 open_frames-enter t acts h is =
     let deeper = depth_enter acts h in
     let below = rows_up_to_same t (depth acts) (Enter ∷ acts) acts (λ k le. frames_other_enter k acts le) in
@@ -113,7 +117,8 @@ end_law rows e u stands = record {
 }
 
 -- the act opens and closes no frame
-quiet : (t : ℕ) (a : Act) (acts : List Act) → has_session (a ∷ acts) ≡ has_session acts → depth (a ∷ acts) ≡ depth acts → ((k : ℕ) → frames k (a ∷ acts) ≡ frames k acts) → open_frames t acts ≡ open_frames t (a ∷ acts)
+quiet : (t : ℕ) (a : Act) (acts : List Act) → has_session (a ∷ acts) ≡ has_session acts → depth (a ∷ acts) ≡ depth acts → ((k : ℕ) → frames k (a ∷ acts) ≡ frames k acts)
+    → open_frames t acts ≡ open_frames t (a ∷ acts)
 quiet t a acts session_same depth_same same =
     let all = rows_up_to_same t (depth acts) (a ∷ acts) acts (λ k h. same k) in
     rw (session_same, depth_same, all) refl
@@ -157,5 +162,6 @@ pub make_law : (rows : Rows) (e : List Event) (u n o : ℕ) (r : FrameRow) → S
     → filter (is_local u n) rows.locals ≡ []
     → Stands (record { locals = rows.locals ++ record { tid = u; n = n; object = o; depth = r.depth; frame = r.frame } ∷ []; frames = rows.frames }) (by u (Make n o) ∷ e)
 make_law rows e u n o r stands is fresh =
-    by_top rows e u r (λ x. Stands (record { locals = rows.locals ++ record { tid = u; n = n; object = o; depth = x.depth; frame = x.frame } ∷ []; frames = rows.frames }) (by u (Make n o) ∷ e)) stands is
+    by_top rows e u r (λ x. Stands (record { locals = rows.locals ++ record { tid = u; n = n; object = o; depth = x.depth; frame = x.frame } ∷ []; frames = rows.frames }) (by u (Make n o) ∷ e)) stands
+    is
     (λ open_session. make_stands rows e u n o stands open_session fresh)

@@ -53,7 +53,8 @@ dropped_at p t d zero fails = rw (fails 0) refl
 dropped_at p t d (suc k) fails = rw (filter-append, dropped_at p t d k fails, fails (suc k)) refl
 
 -- a push at the present depth
-pub rows_up_to-push : (t d : ℕ) (acts : List Act) → AllAllowed acts → d ≡ depth acts → rows_up_to t d (Push ∷ acts) ≡ rows_up_to t d acts ++ record { tid = t; depth = d; frame = suc (frames d acts) } ∷ []
+pub rows_up_to-push : (t d : ℕ) (acts : List Act) → AllAllowed acts → d ≡ depth acts
+    → rows_up_to t d (Push ∷ acts) ≡ rows_up_to t d acts ++ record { tid = t; depth = d; frame = suc (frames d acts) } ∷ []
 rows_up_to-push t zero acts h is = ap (rows_at t 0) (frames_push 0 acts h is)
 rows_up_to-push t (suc d) acts h is =
     let below = rows_up_to_same t d (Push ∷ acts) acts (λ k le. frames_other_push k acts (omega arith)) in
@@ -68,7 +69,8 @@ is_not_frame t d f row = not (row.tid == t && (row.depth == d && row.frame == f)
 abbrev pub is_not_depth : ℕ → ℕ → FrameRow → Bool
 is_not_depth t d row = not (row.tid == t && row.depth == d)
 
-last_dropped : (p : FrameRow → Bool) (t d k : ℕ) → ((j : ℕ) → j ≤ k → p (record { tid = t; depth = d; frame = j }) ≡ true) → p (record { tid = t; depth = d; frame = suc k }) ≡ false → filter p (rows_at t d (suc k)) ≡ rows_at t d k
+last_dropped : (p : FrameRow → Bool) (t d k : ℕ) → ((j : ℕ) → j ≤ k → p (record { tid = t; depth = d; frame = j }) ≡ true) → p (record { tid = t; depth = d; frame = suc k }) ≡ false
+    → filter p (rows_at t d (suc k)) ≡ rows_at t d k
 last_dropped p t d k passes fails = rw (filter-append, kept_at p t d k passes, fails) (append-nil _)
 
 -- the newest frame at the depth goes
@@ -81,7 +83,8 @@ rows_up_to-pop t zero acts some is = rw (← frames_pop 0 acts some is) (frame_d
 rows_up_to-pop t (suc d) acts some is =
     let below = kept_up_to (is_not_frame t (suc d) (frames (suc d) acts)) t d acts (λ i j h. grind (arith, nat_tests)) in
     let same = rows_up_to_same t d acts (Pop ∷ acts) (λ k h. sym (frames_other_pop k acts (omega arith))) in
-    let here : filter (is_not_frame t (suc d) (frames (suc d) acts)) (rows_at t (suc d) (frames (suc d) acts)) ≡ rows_at t (suc d) (frames (suc d) (Pop ∷ acts)) = rw (← frames_pop (suc d) acts some is) (frame_dropped t (suc d) (frames (suc d) (Pop ∷ acts))) in
+    let here : filter (is_not_frame t (suc d) (frames (suc d) acts)) (rows_at t (suc d) (frames (suc d) acts)) ≡ rows_at t (suc d) (frames (suc d) (Pop ∷ acts)) =
+    rw (← frames_pop (suc d) acts some is) (frame_dropped t (suc d) (frames (suc d) (Pop ∷ acts))) in
     rw (filter-append, below, same, here) refl
 
 -- the present activation is left

@@ -21,7 +21,8 @@ set_at f test e es v w true is same later =
     ap (λ l. l ++ gather f es) (same e.0 ∙ ap (f e.0) (sym one))
 set_at f test e es v w false is same later = ap (λ l. f e.0 e.1 ++ l) (later is)
 
-pub gather-set : {V X : Type 0} (f : ℕ → V → List X) (test : ℕ → Bool) (es : List (ℕ × V)) (v w : V) → lookup test es ≡ Some v → ((k : ℕ) → f k w ≡ f k v) → gather f (set_value test es w) ≡ gather f es
+pub gather-set : {V X : Type 0} (f : ℕ → V → List X) (test : ℕ → Bool) (es : List (ℕ × V)) (v w : V) → lookup test es ≡ Some v → ((k : ℕ) → f k w ≡ f k v)
+    → gather f (set_value test es w) ≡ gather f es
 gather-set f test [] v w is same = refl
 gather-set f test (e ∷ es) v w is same = set_at f test e es v w (test e.0) is same (λ h. gather-set f test es v w h same)
 
@@ -32,7 +33,8 @@ both : (ls ms : List LocalRow) (fs gs : List FrameRow) → ls ≡ ms → fs ≡ 
 both ls ms fs gs a b = ap (λ l. rows_by l fs) a ∙ ap (rows_by ms) b
 
 -- a stack written back with the rows that it had
-pub rows_written : (old new : List (ℕ × StackRows)) (test : ℕ → Bool) (v w : StackRows) → new ≡ set_value test old w → lookup test old ≡ Some v → w.locals ≡ v.locals → w.frames ≡ v.frames → rows_seen new ≡ rows_seen old
+pub rows_written : (old new : List (ℕ × StackRows)) (test : ℕ → Bool) (v w : StackRows) → new ≡ set_value test old w → lookup test old ≡ Some v → w.locals ≡ v.locals → w.frames ≡ v.frames
+    → rows_seen new ≡ rows_seen old
 rows_written old new test v w written is locals frames =
     let a = gather-set locals_of test old v w is (λ k. ap (map (local_row k)) locals) in
     let b = gather-set frames_of test old v w is (λ k. ap (map (frame_row k)) frames) in
@@ -63,7 +65,8 @@ pub gather-insert : {V X : Type 0} (f : ℕ → V → List X) (u : ℕ) (es : Li
 gather-insert f u [] w none absent = ap (λ l. l ++ []) none
 gather-insert f u (e ∷ es) w none absent = inserted_at f u e es w (nat_cmp u e.0) refl none absent (λ h. gather-insert f u es w none h)
 
-pub rows_added : (old new : List (ℕ × StackRows)) (u : ℕ) (w : StackRows) → new ≡ insert_entry nat_cmp old u w → lookup (is_at (nat_cmp u)) old ≡ None → w.locals ≡ [] → w.frames ≡ [] → rows_seen new ≡ rows_seen old
+pub rows_added : (old new : List (ℕ × StackRows)) (u : ℕ) (w : StackRows) → new ≡ insert_entry nat_cmp old u w → lookup (is_at (nat_cmp u)) old ≡ None → w.locals ≡ [] → w.frames ≡ []
+    → rows_seen new ≡ rows_seen old
 rows_added old new u w added absent locals frames =
     let a = gather-insert locals_of u old w (ap (map (local_row u)) locals) absent in
     let b = gather-insert frames_of u old w (ap (map (frame_row u)) frames) absent in

@@ -18,11 +18,13 @@ filter_end : (xs : List Slot) (t : Slot) → is_live t ≡ true → filter is_li
 filter_end [] t live = rw live refl
 filter_end (x ∷ xs) t live = ended x xs t x.live (filter_end xs t live)
   where
-    ended : (x : Slot) (xs : List Slot) (t : Slot) (b : Bool) → filter is_live (xs ++ t ∷ []) ≡ filter is_live xs ++ t ∷ [] → (if b then x ∷ filter is_live (xs ++ t ∷ []) else filter is_live (xs ++ t ∷ [])) ≡ (if b then x ∷ filter is_live xs else filter is_live xs) ++ t ∷ []
+    ended : (x : Slot) (xs : List Slot) (t : Slot) (b : Bool) → filter is_live (xs ++ t ∷ []) ≡ filter is_live xs ++ t ∷ []
+        → (if b then x ∷ filter is_live (xs ++ t ∷ []) else filter is_live (xs ++ t ∷ [])) ≡ (if b then x ∷ filter is_live xs else filter is_live xs) ++ t ∷ []
     ended x xs t true same = ap (λ l. x ∷ l) same
     ended x xs t false same = same
 
-numbers_by : (slots : List Slot) (n : ℕ) (end : Option Slot) → Chain is_before slots → last slots ≡ end → passes is_live end ≡ true → AllByRecursion (λ s. s.n < n) (filter is_live slots) → AllByRecursion (λ s. s.n < n) slots
+numbers_by : (slots : List Slot) (n : ℕ) (end : Option Slot) → Chain is_before slots → last slots ≡ end → passes is_live end ≡ true → AllByRecursion (λ s. s.n < n) (filter is_live slots)
+    → AllByRecursion (λ s. s.n < n) slots
 numbers_by slots n None chain is live all = rw (last-nil slots is) tt
 numbers_by slots n (Some t) chain is live all =
     let split = last-split slots t is in
@@ -60,7 +62,8 @@ in_frame s f top a b = grind (arith, nat_tests, a, b)
 pub slots_up_to : (slots : List Slot) (frames : List Frame) (top : Frame) → Sound slots frames → Chain is_under frames → last frames ≡ Some top → AllByRecursion (λ s. is_up_to s top ≡ true) slots
 slots_up_to slots frames top sound chain is =
     let all = frames_up_to frames top chain is in
-    each-map (λ s. list_any (is_in s) frames ≡ true) (λ s. is_up_to s top ≡ true) (λ s any. any_gives (is_up_to s top ≡ true) (λ f. (is_under f top || is_same_frame f top) ≡ true) (is_in s) frames (λ f h at. in_frame s f top h at) all any) slots sound.inside
+    each-map (λ s. list_any (is_in s) frames ≡ true) (λ s. is_up_to s top ≡ true)
+    (λ s any. any_gives (is_up_to s top ≡ true) (λ f. (is_under f top || is_same_frame f top) ≡ true) (is_in s) frames (λ f h at. in_frame s f top h at) all any) slots sound.inside
 
 made_after : (s : Slot) (n o : ℕ) (top : Frame) → s.n < n → is_up_to s top ≡ true → is_before s (slot_made n o top) ≡ true
 made_after s n o top lt up = grind (arith, nat_tests, lt, up)
@@ -76,7 +79,8 @@ made_in n o top frames is =
     or_true true = refl
     or_true false = refl
 
-pub make_kept : (slots : List Slot) (frames : List Frame) (top : Frame) (n o : ℕ) → Kept slots frames → last frames ≡ Some top → All (λ s. s.n < n) (filter is_live slots) → Kept (slots ++ slot_made n o top ∷ []) frames
+pub make_kept : (slots : List Slot) (frames : List Frame) (top : Frame) (n o : ℕ) → Kept slots frames → last frames ≡ Some top → All (λ s. s.n < n) (filter is_live slots)
+    → Kept (slots ++ slot_made n o top ∷ []) frames
 make_kept slots frames top n o kept is above =
     let numbers = numbers_below slots n kept.sound.rises kept.ends above in
     let up = slots_up_to slots frames top kept.sound kept.opened is in
@@ -113,7 +117,8 @@ open_kept slots frames f kept next = record {
 below_under : (s : Slot) (f from : Frame) → is_below s from ≡ true → is_in s f ≡ true → is_under f from ≡ true
 below_under s f from below is = grind (arith, nat_tests, below, is)
 
-pub cut_kept : (slots : List Slot) (frames : List Frame) (from : Frame) → Sound slots frames → Chain is_under frames → AllByRecursion (λ s. is_below s from ≡ true) slots → passes is_live (last slots) ≡ true → Kept slots (filter (λ f. is_under f from) frames)
+pub cut_kept : (slots : List Slot) (frames : List Frame) (from : Frame) → Sound slots frames → Chain is_under frames → AllByRecursion (λ s. is_below s from ≡ true) slots
+    → passes is_live (last slots) ≡ true → Kept slots (filter (λ f. is_under f from) frames)
 cut_kept slots frames from sound chain below ends = record {
   sound = record {
     rises = sound.rises;
@@ -146,7 +151,8 @@ popped_slot s top up = grind (arith, nat_tests, up)
 pub popped_slots : (slots : List Slot) (frames : List Frame) (top : Frame) → Sound slots frames → Chain is_under frames → last frames ≡ Some top
     → filter (stays (Some top)) slots ≡ filter (λ s. not (s.depth == top.depth && s.frame == top.frame)) (filter is_live slots)
 popped_slots slots frames top sound chain is = filter-twice (stays (Some top)) (λ s. not (s.depth == top.depth && s.frame == top.frame)) is_live slots
-    (each-map (λ s. is_up_to s top ≡ true) (λ s. stays (Some top) s ≡ (is_live s && not (s.depth == top.depth && s.frame == top.frame))) (λ s up. popped_slot s top up) slots (slots_up_to slots frames top sound chain is))
+    (each-map (λ s. is_up_to s top ≡ true) (λ s. stays (Some top) s ≡ (is_live s && not (s.depth == top.depth && s.frame == top.frame))) (λ s up. popped_slot s top up) slots
+    (slots_up_to slots frames top sound chain is))
 
 popped_frame : (f top : Frame) → (is_under f top || is_same_frame f top) ≡ true → is_under f top ≡ not (f.depth == top.depth && f.frame == top.frame)
 popped_frame f top up = grind (arith, nat_tests, up)
@@ -154,7 +160,8 @@ popped_frame f top up = grind (arith, nat_tests, up)
 pub popped_frames : (frames : List Frame) (top : Frame) → Chain is_under frames → last frames ≡ Some top
     → filter (λ f. is_under f top) frames ≡ filter (λ f. not (f.depth == top.depth && f.frame == top.frame)) frames
 popped_frames frames top chain is = filter-alike (λ f. is_under f top) (λ f. not (f.depth == top.depth && f.frame == top.frame)) frames
-    (each-map (λ f. (is_under f top || is_same_frame f top) ≡ true) (λ f. is_under f top ≡ not (f.depth == top.depth && f.frame == top.frame)) (λ f up. popped_frame f top up) frames (frames_up_to frames top chain is))
+    (each-map (λ f. (is_under f top || is_same_frame f top) ≡ true) (λ f. is_under f top ≡ not (f.depth == top.depth && f.frame == top.frame)) (λ f up. popped_frame f top up) frames
+    (frames_up_to frames top chain is))
 
 abbrev pub base : Frame → Frame
 base top = record { depth = top.depth; frame = 0 }
@@ -165,7 +172,8 @@ left_slot s top up = grind (arith, nat_tests, up)
 pub left_slots : (slots : List Slot) (frames : List Frame) (top : Frame) → Sound slots frames → Chain is_under frames → last frames ≡ Some top
     → filter (stays (Some (base top))) slots ≡ filter (λ s. not (s.depth == top.depth)) (filter is_live slots)
 left_slots slots frames top sound chain is = filter-twice (stays (Some (base top))) (λ s. not (s.depth == top.depth)) is_live slots
-    (each-map (λ s. is_up_to s top ≡ true) (λ s. stays (Some (base top)) s ≡ (is_live s && not (s.depth == top.depth))) (λ s up. left_slot s top up) slots (slots_up_to slots frames top sound chain is))
+    (each-map (λ s. is_up_to s top ≡ true) (λ s. stays (Some (base top)) s ≡ (is_live s && not (s.depth == top.depth))) (λ s up. left_slot s top up) slots
+    (slots_up_to slots frames top sound chain is))
 
 left_frame : (f top : Frame) → (is_under f top || is_same_frame f top) ≡ true → is_under f (base top) ≡ not (f.depth == top.depth)
 left_frame f top up = grind (arith, nat_tests, up)
@@ -184,7 +192,8 @@ above_none slots n none =
     subst P (sym empty) (All-from_recursion (λ s. s.n < n) [] tt)
 
 pub above_newest : (slots : List Slot) (t : Slot) (n : ℕ) → Chain is_before slots → last slots ≡ Some t → t.n < n → All (λ s. s.n < n) (filter is_live slots)
-above_newest slots t n chain is lt = All-from_recursion (λ s. s.n < n) (filter is_live slots) (each-filter (λ s. s.n < n) is_live slots (chain-last is_before (λ s. s.n < n) slots t chain is lt (λ s h. number_before s t n h lt)))
+above_newest slots t n chain is lt = All-from_recursion (λ s. s.n < n) (filter is_live slots)
+    (each-filter (λ s. s.n < n) is_live slots (chain-last is_before (λ s. s.n < n) slots t chain is lt (λ s h. number_before s t n h lt)))
 
 pub newest_below : (slots : List Slot) (t : Slot) (n : ℕ) → Chain is_before slots → passes is_live (last slots) ≡ true → last slots ≡ Some t → All (λ s. s.n < n) (filter is_live slots) → t.n < n
 newest_below slots t n chain live is all =

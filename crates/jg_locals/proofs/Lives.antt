@@ -40,7 +40,8 @@ alive_cases n o m false is_dead is =
     let none : object_of (local_if_live n (Some m)) ≡ None = ap object_of gone in
     cc
 
-was_made : (n o : ℕ) (acts : List Act) (found : Option Making) → making n acts ≡ found → object_of (local_if_live n found) ≡ Some o → (later before : List Act) × (acts ≡ later ++ Make n o ∷ before) × IsNotEnded n later
+was_made : (n o : ℕ) (acts : List Act) (found : Option Making) → making n acts ≡ found → object_of (local_if_live n found) ≡ Some o
+    → (later before : List Act) × (acts ≡ later ++ Make n o ∷ before) × IsNotEnded n later
 was_made n o acts None is alive = cc
 was_made n o acts (Some m) is alive =
     let both = alive_cases n o m (survives n m.later) refl alive in

@@ -20,7 +20,8 @@ abbrev pub row_made : ℕ → ℕ → ℕ → List Act → LocalRow
 row_made t n o before = record { tid = t; n = n; object = o; depth = depth before; frame = frames (depth before) before }
 
 -- one moment more is survived where the act keeps the row
-pub survives_more : (t n o : ℕ) (before later : List Act) (a : Act) → AllAllowed (a ∷ (later ++ Make n o ∷ before)) → survives n later ≡ true → survives n (a ∷ later) ≡ keeps a (depth (later ++ Make n o ∷ before)) (frames (depth (later ++ Make n o ∷ before)) (later ++ Make n o ∷ before)) (row_made t n o before)
+pub survives_more : (t n o : ℕ) (before later : List Act) (a : Act) → AllAllowed (a ∷ (later ++ Make n o ∷ before)) → survives n later ≡ true
+    → survives n (a ∷ later) ≡ keeps a (depth (later ++ Make n o ∷ before)) (frames (depth (later ++ Make n o ∷ before)) (later ++ Make n o ∷ before)) (row_made t n o before)
 survives_more t n o before later Start h s = grind (arith, nat_tests)
 survives_more t n o before later End h s = grind (arith, nat_tests)
 survives_more t n o before later (Make m p) h s = grind (arith, nat_tests, survived_here n later s, survived_frame n later s)
@@ -42,7 +43,8 @@ splits_after n a acts (Some k) m earlier is =
     let P : Making → Type 0 = λ x. a ∷ acts ≡ whole n x in
     subst P same (ap (λ l. a ∷ l) (earlier k refl))
 
-splits_made : (n j o : ℕ) (acts : List Act) (m : Making) (same : Bool) → eqb j n ≡ same → ((k : Making) → making n acts ≡ Some k → acts ≡ whole n k) → (if same then Some (record { later = []; object = o; before = acts }) else seen_after (Make j o) (making n acts)) ≡ Some m → Make j o ∷ acts ≡ whole n m
+splits_made : (n j o : ℕ) (acts : List Act) (m : Making) (same : Bool) → eqb j n ≡ same → ((k : Making) → making n acts ≡ Some k → acts ≡ whole n k)
+    → (if same then Some (record { later = []; object = o; before = acts }) else seen_after (Make j o) (making n acts)) ≡ Some m → Make j o ∷ acts ≡ whole n m
 splits_made n j o acts m true is earlier found =
     let eq : j ≡ n = eqb-true j n is in
     let made : record { later = []; object = o; before = acts } ≡ m = cc in
@@ -62,17 +64,21 @@ making_splits n (Pop ∷ acts) m is = splits_after n Pop acts (making n acts) m 
 making_splits n (Leave ∷ acts) m is = splits_after n Leave acts (making n acts) m (making_splits n acts) is
 
 -- the row of a local that is seen from one act later
-row_step : (t n : ℕ) (a : Act) (m : Making) (alive : Bool) → survives n m.later ≡ alive → AllAllowed (a ∷ whole n m) → rows_of_local t (local_if_live n (Some (record m { later = a ∷ m.later }))) ≡ filter (keeps a (depth (whole n m)) (frames (depth (whole n m)) (whole n m))) (rows_of_local t (local_if_live n (Some m)))
+row_step : (t n : ℕ) (a : Act) (m : Making) (alive : Bool) → survives n m.later ≡ alive → AllAllowed (a ∷ whole n m)
+    → rows_of_local t (local_if_live n (Some (record m { later = a ∷ m.later })))
+    ≡ filter (keeps a (depth (whole n m)) (frames (depth (whole n m)) (whole n m))) (rows_of_local t (local_if_live n (Some m)))
 row_step t n a m true is h =
     let more = survives_more t n m.object m.before m.later a h is in
     grind (arith, nat_tests, more)
 row_step t n a m false is h = rw is refl
 
-pub rows_step : (t n : ℕ) (a : Act) (acts : List Act) (found : Option Making) → making n acts ≡ found → AllAllowed (a ∷ acts) → rows_of_local t (local_if_live n (seen_after a found)) ≡ filter (keeps a (depth acts) (frames (depth acts) acts)) (rows_of_local t (local_if_live n found))
+pub rows_step : (t n : ℕ) (a : Act) (acts : List Act) (found : Option Making) → making n acts ≡ found → AllAllowed (a ∷ acts)
+    → rows_of_local t (local_if_live n (seen_after a found)) ≡ filter (keeps a (depth acts) (frames (depth acts) acts)) (rows_of_local t (local_if_live n found))
 rows_step t n a acts None is h = refl
 rows_step t n a acts (Some m) is h =
     let split = making_splits n acts m is in
-    let P : List Act → Type 0 = λ xs. AllAllowed (a ∷ xs) → rows_of_local t (local_if_live n (seen_after a (Some m))) ≡ filter (keeps a (depth xs) (frames (depth xs) xs)) (rows_of_local t (local_if_live n (Some m))) in
+    let P : List Act → Type 0 = λ xs. AllAllowed (a ∷ xs) → rows_of_local t (local_if_live n (seen_after a (Some m)))
+    ≡ filter (keeps a (depth xs) (frames (depth xs) xs)) (rows_of_local t (local_if_live n (Some m))) in
     subst P (sym split) (λ k. row_step t n a m (survives n m.later) refl k) h
 
 -- a local that survived was made in the session that still stands

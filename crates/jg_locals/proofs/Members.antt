@@ -8,7 +8,8 @@ abbrev pub Member : {X : Type 0} → X → List X → Type 0
 Member x [] = ⊥
 Member x (y ∷ ys) = (x ≡ y) ⊎ Member x ys
 
-any_member_cons : {X : Type 0} (p : X → Bool) (x : X) (xs : List X) (b : Bool) → p x ≡ b → (list_any p xs ≡ true → (y : X) × (Member y xs × (p y ≡ true))) → list_any p (x ∷ xs) ≡ true → (y : X) × (Member y (x ∷ xs) × (p y ≡ true))
+any_member_cons : {X : Type 0} (p : X → Bool) (x : X) (xs : List X) (b : Bool) → p x ≡ b → (list_any p xs ≡ true → (y : X) × (Member y xs × (p y ≡ true))) → list_any p (x ∷ xs) ≡ true
+    → (y : X) × (Member y (x ∷ xs) × (p y ≡ true))
 any_member_cons p x xs true here tail is = (x, (inl refl, here))
 any_member_cons p x xs false here tail is =
     let rest : list_any p xs ≡ true = grind (arith, nat_tests) in
@@ -28,7 +29,8 @@ member_filter q x (y ∷ ys) (inr later) is =
     let kept = member_filter q x ys later is in
     elim (q y) as (λ b. Member x (if b then y ∷ filter q ys else filter q ys)) [ true ↦ inr kept | false ↦ kept ]
 
-filtered_at : {X : Type 0} (q : X → Bool) (x y : X) (ys : List X) (b : Bool) → q y ≡ b → Member x (if b then y ∷ filter q ys else filter q ys) → (Member x (filter q ys) → Member x ys × (q x ≡ true)) → Member x (y ∷ ys) × (q x ≡ true)
+filtered_at : {X : Type 0} (q : X → Bool) (x y : X) (ys : List X) (b : Bool) → q y ≡ b → Member x (if b then y ∷ filter q ys else filter q ys) → (Member x (filter q ys) → Member x ys × (q x ≡ true))
+    → Member x (y ∷ ys) × (q x ≡ true)
 filtered_at q x y ys true is (inl same) later = (inl same, ap q same ∙ is)
 filtered_at q x y ys true is (inr m) later = let kept = later m in (inr kept.0, kept.1)
 filtered_at q x y ys false is m later = let kept = later m in (inr kept.0, kept.1)

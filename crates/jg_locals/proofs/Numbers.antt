@@ -51,8 +51,10 @@ compared n a b le = grind (arith, nat_tests)
 number_later : (s t : Slot) → is_before s t ≡ true → s.n < t.n
 number_later s t is = grind (arith, nat_tests)
 
-rising_by : (slots : List Slot) (n i j : ℕ) (d : Slot) → Chain is_before slots → (i < j) ⊎ (i ≡ j) → j < length slots → ordering_index (nat_cmp (get_or slots i d).n n) ≤ ordering_index (nat_cmp (get_or slots j d).n n)
-rising_by slots n i j d chain (inl lt) within = compared n (get_or slots i d).n (get_or slots j d).n (omega (arith, number_later (get_or slots i d) (get_or slots j d) (chain-at is_before slots i j d chain lt within)))
+rising_by : (slots : List Slot) (n i j : ℕ) (d : Slot) → Chain is_before slots → (i < j) ⊎ (i ≡ j) → j < length slots
+    → ordering_index (nat_cmp (get_or slots i d).n n) ≤ ordering_index (nat_cmp (get_or slots j d).n n)
+rising_by slots n i j d chain (inl lt) within = compared n (get_or slots i d).n (get_or slots j d).n
+    (omega (arith, number_later (get_or slots i d) (get_or slots j d) (chain-at is_before slots i j d chain lt within)))
 rising_by slots n i j d chain (inr same) within = compared n (get_or slots i d).n (get_or slots j d).n (let k = ap (λ m. (get_or slots m d).n) same in omega (arith, k))
 
 less_or_same : (i j : ℕ) → i ≤ j → (i < j) ⊎ (i ≡ j)
@@ -86,12 +88,15 @@ low_or_high (suc i) (suc k) = later (low_or_high i k)
     later (inl lt) = inl (omega (arith, lt))
     later (inr le) = inr (omega (arith, le))
 
-parted : (slots : List Slot) (n k i : ℕ) (d : Slot) → IsPartitionPoint (λ s. nat_cmp s.n n ≡ Less) (λ s. nat_cmp s.n n ≡ Greater) slots k → i < length slots → (i < k) ⊎ (k ≤ i) → ((get_or slots i d).n == n) ≡ false
+parted : (slots : List Slot) (n k i : ℕ) (d : Slot) → IsPartitionPoint (λ s. nat_cmp s.n n ≡ Less) (λ s. nat_cmp s.n n ≡ Greater) slots k → i < length slots → (i < k) ⊎ (k ≤ i)
+    → ((get_or slots i d).n == n) ≡ false
 parted slots n k i d point within (inl low) = less_is (get_or slots i d).n n (point.0 i d (omega arith) low)
 parted slots n k i d point within (inr high) = greater_is (get_or slots i d).n n (point.1 i d high within)
 
 -- a search that finds no place says that no slot has the number
-pub no_place : (slots : List Slot) (n k : ℕ) → Chain is_before slots → (IsNonDecreasingBy (λ s. ordering_index (nat_cmp s.n n)) slots → IsPartitionPoint (λ s. nat_cmp s.n n ≡ Less) (λ s. nat_cmp s.n n ≡ Greater) slots k) → AllByRecursion (λ s. (s.n == n) ≡ false) slots
+pub no_place : (slots : List Slot) (n k : ℕ) → Chain is_before slots
+    → (IsNonDecreasingBy (λ s. ordering_index (nat_cmp s.n n)) slots → IsPartitionPoint (λ s. nat_cmp s.n n ≡ Less) (λ s. nat_cmp s.n n ≡ Greater) slots k)
+    → AllByRecursion (λ s. (s.n == n) ≡ false) slots
 no_place slots n k chain point = each-from (λ s. (s.n == n) ≡ false) slots (λ i d within. parted slots n k i d (point (rising slots n chain)) within (low_or_high i k))
 
 find-none : {X : Type 0} (p : X → Bool) (xs : List X) → AllByRecursion (λ x. p x ≡ false) xs → find p xs ≡ None
@@ -246,13 +251,15 @@ pub any_live : (p : Slot → Bool) (slots : List Slot) → list_any (λ s. s.liv
 any_live p [] = refl
 any_live p (x ∷ xs) = at p x xs x.live (any_live p xs)
   where
-    at : (p : Slot → Bool) (x : Slot) (xs : List Slot) (b : Bool) → list_any (λ s. s.live && p s) xs ≡ list_any p (filter is_live xs) → ((b && p x) || list_any (λ s. s.live && p s) xs) ≡ list_any p (if b then x ∷ filter is_live xs else filter is_live xs)
+    at : (p : Slot → Bool) (x : Slot) (xs : List Slot) (b : Bool) → list_any (λ s. s.live && p s) xs ≡ list_any p (filter is_live xs)
+        → ((b && p x) || list_any (λ s. s.live && p s) xs) ≡ list_any p (if b then x ∷ filter is_live xs else filter is_live xs)
     at p x xs true later = ap (λ b. p x || b) later
     at p x xs false later = later
 
 -- ---- one thread's frames, cut at the end
 
-pub frames_cut_one : (g : Frame) (now old : List Frame) (gone : Option Frame) → old ≡ now ++ option_to_list gone → is_from g (last old) ≡ true → filter (λ f. is_under f g) now ≡ filter (λ f. is_under f g) old
+pub frames_cut_one : (g : Frame) (now old : List Frame) (gone : Option Frame) → old ≡ now ++ option_to_list gone → is_from g (last old) ≡ true
+    → filter (λ f. is_under f g) now ≡ filter (λ f. is_under f g) old
 frames_cut_one g now old None is at = ap (filter (λ f. is_under f g)) (sym (is ∙ append-nil now))
 frames_cut_one g now old (Some x) is at =
     let Q : List Frame → Type 0 = λ l. is_from g (last l) ≡ true in

@@ -60,7 +60,8 @@ locals_kept rows u a e p was allowed seen own others t n =
     (one_kept v p (λ row. true) (live_local n (acts_of v e)) (λ row is. others row (λ same. differ (sym is ∙ same))) ∙ filter_all _))
     t
 
-others_kept : (v u : ℕ) (p : FrameRow → Bool) (rows : List FrameRow) → v ≢ u → ((row : FrameRow) → row.tid ≢ u → p row ≡ true) → filter (λ row. row.tid == v) (filter p rows) ≡ filter (λ row. row.tid == v) rows
+others_kept : (v u : ℕ) (p : FrameRow → Bool) (rows : List FrameRow) → v ≢ u → ((row : FrameRow) → row.tid ≢ u → p row ≡ true)
+    → filter (λ row. row.tid == v) (filter p rows) ≡ filter (λ row. row.tid == v) rows
 others_kept v u p [] differ others = refl
 others_kept v u p (row ∷ rows) differ others =
     let tail = others_kept v u p rows differ others in

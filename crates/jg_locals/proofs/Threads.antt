@@ -37,7 +37,8 @@ filter-map : {X Y : Type 0} (p : Y → Bool) (g : X → Y) (xs : List X) → fil
 filter-map p g [] = refl
 filter-map p g (x ∷ xs) = at p g x xs (p (g x)) (filter-map p g xs)
   where
-    at : {X Y : Type 0} (p : Y → Bool) (g : X → Y) (x : X) (xs : List X) (b : Bool) → filter p (map g xs) ≡ map g (filter (λ x. p (g x)) xs) → (if b then g x ∷ filter p (map g xs) else filter p (map g xs)) ≡ map g (if b then x ∷ filter (λ x. p (g x)) xs else filter (λ x. p (g x)) xs)
+    at : {X Y : Type 0} (p : Y → Bool) (g : X → Y) (x : X) (xs : List X) (b : Bool) → filter p (map g xs) ≡ map g (filter (λ x. p (g x)) xs)
+        → (if b then g x ∷ filter p (map g xs) else filter p (map g xs)) ≡ map g (if b then x ∷ filter (λ x. p (g x)) xs else filter (λ x. p (g x)) xs)
     at p g x xs true same = ap (λ l. g x ∷ l) same
     at p g x xs false same = same
 
@@ -45,7 +46,8 @@ find-map : {X Y : Type 0} (p : Y → Bool) (g : X → Y) (xs : List X) → find 
 find-map p g [] = refl
 find-map p g (x ∷ xs) = at p g x xs (p (g x)) (find-map p g xs)
   where
-    at : {X Y : Type 0} (p : Y → Bool) (g : X → Y) (x : X) (xs : List X) (b : Bool) → find p (map g xs) ≡ option_map g (find (λ x. p (g x)) xs) → (if b then Some (g x) else find p (map g xs)) ≡ option_map g (if b then Some x else find (λ x. p (g x)) xs)
+    at : {X Y : Type 0} (p : Y → Bool) (g : X → Y) (x : X) (xs : List X) (b : Bool) → find p (map g xs) ≡ option_map g (find (λ x. p (g x)) xs)
+        → (if b then Some (g x) else find p (map g xs)) ≡ option_map g (if b then Some x else find (λ x. p (g x)) xs)
     at p g x xs true same = refl
     at p g x xs false same = same
 
@@ -53,7 +55,8 @@ find-both : {X : Type 0} (p q : X → Bool) (xs : List X) → find (λ x. q x &&
 find-both p q [] = refl
 find-both p q (x ∷ xs) = at p q x xs (q x) (find-both p q xs)
   where
-    at : {X : Type 0} (p q : X → Bool) (x : X) (xs : List X) (b : Bool) → find (λ x. q x && p x) xs ≡ find p (filter q xs) → (if (b && p x) then Some x else find (λ x. q x && p x) xs) ≡ find p (if b then x ∷ filter q xs else filter q xs)
+    at : {X : Type 0} (p q : X → Bool) (x : X) (xs : List X) (b : Bool) → find (λ x. q x && p x) xs ≡ find p (filter q xs)
+        → (if (b && p x) then Some x else find (λ x. q x && p x) xs) ≡ find p (if b then x ∷ filter q xs else filter q xs)
     at p q x xs true same = ap (λ o. if p x then Some x else o) same
     at p q x xs false same = same
 
@@ -75,12 +78,14 @@ abbrev in_entry : {V X : Type 0} → (ℕ → V → List X) → ℕ → Option V
 in_entry f t None = []
 in_entry f t (Some v) = f t v
 
-own_at : {V X : Type 0} (f : ℕ → V → List X) (tid : X → ℕ) (own : (k : ℕ) (v : V) → AllByRecursion (λ x. tid x ≡ k) (f k v)) (t : ℕ) (e : ℕ × V) (es : List (ℕ × V)) (b : Bool) → (e.0 == t) ≡ b → IsStrictlySortedBy nat_cmp (keys_of (e ∷ es))
+own_at : {V X : Type 0} (f : ℕ → V → List X) (tid : X → ℕ) (own : (k : ℕ) (v : V) → AllByRecursion (λ x. tid x ≡ k) (f k v)) (t : ℕ) (e : ℕ × V) (es : List (ℕ × V)) (b : Bool) → (e.0 == t) ≡ b
+    → IsStrictlySortedBy nat_cmp (keys_of (e ∷ es))
     → filter (λ x. tid x == t) (gather f es) ≡ in_entry f t (lookup (is_at (nat_cmp t)) es)
     → filter (λ x. tid x == t) (f e.0 e.1 ++ gather f es) ≡ in_entry f t (if b then Some e.1 else lookup (is_at (nat_cmp t)) es)
 own_at f tid own t e es true is sorted later =
     let key : is_at (nat_cmp t) e.0 ≡ true = grind (arith, nat_tests, is) in
-    let none : lookup (is_at (nat_cmp t)) es ≡ None = lookup-none (is_at (nat_cmp t)) es (none_past_head (eq_by_cmp_equiv nat_cmp_total) t e es (IsDistinct-from_sorted nat_cmp (keys_of (e ∷ es)) sorted) key) in
+    let none : lookup (is_at (nat_cmp t)) es ≡ None = lookup-none (is_at (nat_cmp t)) es
+    (none_past_head (eq_by_cmp_equiv nat_cmp_total) t e es (IsDistinct-from_sorted nat_cmp (keys_of (e ∷ es)) sorted) key) in
     let empty = later ∙ ap (in_entry f t) none in
     let same : e.0 ≡ t = eqb-true e.0 t is in
     let all = filter-all (λ x. tid x == t) (f e.0 e.1) (each-map (λ x. tid x ≡ e.0) (λ x. (tid x == t) ≡ true) (λ x h. here (tid x) e.0 t h same) (f e.0 e.1) (own e.0 e.1)) in
@@ -138,7 +143,8 @@ top_seen m t ordered = find-reverse (λ row. row.tid == t) (gather frames_of m.e
 
 -- ---- rows that are alike for each thread
 
-pub alike_stand : (a b : Rows) (e : List Event) → ((t : ℕ) → filter (λ row. row.tid == t) a.locals ≡ filter (λ row. row.tid == t) b.locals) → ((t : ℕ) → filter (λ row. row.tid == t) a.frames ≡ filter (λ row. row.tid == t) b.frames)
+pub alike_stand : (a b : Rows) (e : List Event) → ((t : ℕ) → filter (λ row. row.tid == t) a.locals ≡ filter (λ row. row.tid == t) b.locals)
+    → ((t : ℕ) → filter (λ row. row.tid == t) a.frames ≡ filter (λ row. row.tid == t) b.frames)
     → Stands a e → Stands b e
 alike_stand a b e locals frames stands = record {
   locals = λ t n. local_of t n b.locals ∙ (ap (filter (λ row. row.n == n)) (sym (locals t)) ∙ (sym (local_of t n a.locals) ∙ stands.locals t n));
@@ -208,37 +214,45 @@ local_tid row = row.tid
 abbrev frame_tid : FrameRow → ℕ
 frame_tid row = row.tid
 
-thin_locals : (old new : BTreeMap ℕ StackRows) (u : ℕ) (p : LocalRow → Bool) (q : Slot → Bool) (fs : List Frame) → IsOrdered nat_cmp old → IsOrdered nat_cmp new → Changes u old new (filter q (slots_at old u)) fs
+thin_locals : (old new : BTreeMap ℕ StackRows) (u : ℕ) (p : LocalRow → Bool) (q : Slot → Bool) (fs : List Frame) → IsOrdered nat_cmp old → IsOrdered nat_cmp new
+    → Changes u old new (filter q (slots_at old u)) fs
     → ((s : Slot) → p (local_row u s) ≡ q s) → ((t : ℕ) (s : Slot) → t ≢ u → p (local_row t s) ≡ true)
     → (t : ℕ) → filter (λ row. row.tid == t) (filter p (gather locals_of old.entries)) ≡ filter (λ row. row.tid == t) (gather locals_of new.entries)
 thin_locals old new u p q fs a b c mine rest =
-    thinned local_row local_tid (λ t s. refl) u p q (slots_at old) (slots_at new) (gather locals_of old.entries) (gather locals_of new.entries) (λ t. own_locals old t a) (λ t. own_locals new t b) c.locals (λ t d. ap slots_in (c.others t d)) mine rest
+    thinned local_row local_tid (λ t s. refl) u p q (slots_at old) (slots_at new) (gather locals_of old.entries) (gather locals_of new.entries) (λ t. own_locals old t a) (λ t. own_locals new t b)
+    c.locals (λ t d. ap slots_in (c.others t d)) mine rest
 
-thin_frames : (old new : BTreeMap ℕ StackRows) (u : ℕ) (p : FrameRow → Bool) (q : Frame → Bool) (ls : List Slot) → IsOrdered nat_cmp old → IsOrdered nat_cmp new → Changes u old new ls (filter q (frames_at old u))
+thin_frames : (old new : BTreeMap ℕ StackRows) (u : ℕ) (p : FrameRow → Bool) (q : Frame → Bool) (ls : List Slot) → IsOrdered nat_cmp old → IsOrdered nat_cmp new
+    → Changes u old new ls (filter q (frames_at old u))
     → ((f : Frame) → p (frame_row u f) ≡ q f) → ((t : ℕ) (f : Frame) → t ≢ u → p (frame_row t f) ≡ true)
     → (t : ℕ) → filter (λ row. row.tid == t) (filter p (gather frames_of old.entries)) ≡ filter (λ row. row.tid == t) (gather frames_of new.entries)
 thin_frames old new u p q ls a b c mine rest =
-    thinned frame_row frame_tid (λ t s. refl) u p q (frames_at old) (frames_at new) (gather frames_of old.entries) (gather frames_of new.entries) (λ t. own_frames old t a) (λ t. own_frames new t b) c.frames (λ t d. ap frames_in (c.others t d)) mine rest
+    thinned frame_row frame_tid (λ t s. refl) u p q (frames_at old) (frames_at new) (gather frames_of old.entries) (gather frames_of new.entries) (λ t. own_frames old t a) (λ t. own_frames new t b)
+    c.frames (λ t d. ap frames_in (c.others t d)) mine rest
 
 grow_locals : (old new : BTreeMap ℕ StackRows) (u : ℕ) (s : Slot) (fs : List Frame) → IsOrdered nat_cmp old → IsOrdered nat_cmp new → Changes u old new (slots_at old u ++ s ∷ []) fs
     → (t : ℕ) → filter (λ row. row.tid == t) (gather locals_of old.entries ++ local_row u s ∷ []) ≡ filter (λ row. row.tid == t) (gather locals_of new.entries)
 grow_locals old new u s fs a b c =
-    grown local_row local_tid (λ t s. refl) u s (slots_at old) (slots_at new) (gather locals_of old.entries) (gather locals_of new.entries) (λ t. own_locals old t a) (λ t. own_locals new t b) c.locals (λ t d. ap slots_in (c.others t d))
+    grown local_row local_tid (λ t s. refl) u s (slots_at old) (slots_at new) (gather locals_of old.entries) (gather locals_of new.entries) (λ t. own_locals old t a) (λ t. own_locals new t b) c.locals
+    (λ t d. ap slots_in (c.others t d))
 
 grow_frames : (old new : BTreeMap ℕ StackRows) (u : ℕ) (f : Frame) (ls : List Slot) → IsOrdered nat_cmp old → IsOrdered nat_cmp new → Changes u old new ls (frames_at old u ++ f ∷ [])
     → (t : ℕ) → filter (λ row. row.tid == t) (gather frames_of old.entries ++ frame_row u f ∷ []) ≡ filter (λ row. row.tid == t) (gather frames_of new.entries)
 grow_frames old new u f ls a b c =
-    grown frame_row frame_tid (λ t s. refl) u f (frames_at old) (frames_at new) (gather frames_of old.entries) (gather frames_of new.entries) (λ t. own_frames old t a) (λ t. own_frames new t b) c.frames (λ t d. ap frames_in (c.others t d))
+    grown frame_row frame_tid (λ t s. refl) u f (frames_at old) (frames_at new) (gather frames_of old.entries) (gather frames_of new.entries) (λ t. own_frames old t a) (λ t. own_frames new t b)
+    c.frames (λ t d. ap frames_in (c.others t d))
 
 same_locals : (old new : BTreeMap ℕ StackRows) (u : ℕ) (fs : List Frame) → IsOrdered nat_cmp old → IsOrdered nat_cmp new → Changes u old new (slots_at old u) fs
     → (t : ℕ) → filter (λ row. row.tid == t) (gather locals_of old.entries) ≡ filter (λ row. row.tid == t) (gather locals_of new.entries)
 same_locals old new u fs a b c =
-    unchanged local_row local_tid (λ t s. refl) u (slots_at old) (slots_at new) (gather locals_of old.entries) (gather locals_of new.entries) (λ t. own_locals old t a) (λ t. own_locals new t b) c.locals (λ t d. ap slots_in (c.others t d))
+    unchanged local_row local_tid (λ t s. refl) u (slots_at old) (slots_at new) (gather locals_of old.entries) (gather locals_of new.entries) (λ t. own_locals old t a) (λ t. own_locals new t b)
+    c.locals (λ t d. ap slots_in (c.others t d))
 
 same_frames : (old new : BTreeMap ℕ StackRows) (u : ℕ) (ls : List Slot) → IsOrdered nat_cmp old → IsOrdered nat_cmp new → Changes u old new ls (frames_at old u)
     → (t : ℕ) → filter (λ row. row.tid == t) (gather frames_of old.entries) ≡ filter (λ row. row.tid == t) (gather frames_of new.entries)
 same_frames old new u ls a b c =
-    unchanged frame_row frame_tid (λ t s. refl) u (frames_at old) (frames_at new) (gather frames_of old.entries) (gather frames_of new.entries) (λ t. own_frames old t a) (λ t. own_frames new t b) c.frames (λ t d. ap frames_in (c.others t d))
+    unchanged frame_row frame_tid (λ t s. refl) u (frames_at old) (frames_at new) (gather frames_of old.entries) (gather frames_of new.entries) (λ t. own_frames old t a) (λ t. own_frames new t b)
+    c.frames (λ t d. ap frames_in (c.others t d))
 
 top_row : (m : BTreeMap ℕ StackRows) (t : ℕ) (f : Frame) → IsOrdered nat_cmp m → last (frames_at m t) ≡ Some f → top t (gather frames_of m.entries) ≡ Some (frame_row t f)
 top_row m t f a is = top_seen m t a ∙ ap (option_map (frame_row t)) is
@@ -247,7 +261,8 @@ pub start_step : (old new : BTreeMap ℕ StackRows) (u : ℕ) (e : List Event) �
     → Changes u old new (slots_at old u) (frames_at old u ++ record { depth = 0; frame = 0 } ∷ [])
     → Stands (rows_seen old.entries) e → Stands (rows_seen new.entries) (by u Start ∷ e)
 start_step old new u e a b none c stands =
-    alike_stand _ (rows_seen new.entries) (by u Start ∷ e) (same_locals old new u _ a b c) (grow_frames old new u (record { depth = 0; frame = 0 }) _ a b c) (start_law (rows_seen old.entries) e u stands none)
+    alike_stand _ (rows_seen new.entries) (by u Start ∷ e) (same_locals old new u _ a b c) (grow_frames old new u (record { depth = 0; frame = 0 }) _ a b c)
+    (start_law (rows_seen old.entries) e u stands none)
 
 pub make_step : (old new : BTreeMap ℕ StackRows) (u n o : ℕ) (f : Frame) (e : List Event) → IsOrdered nat_cmp old → IsOrdered nat_cmp new → last (frames_at old u) ≡ Some f
     → All (λ row. row.tid ≡ u → row.n < n) (gather locals_of old.entries)
@@ -341,7 +356,8 @@ each_of_one : (t : ℕ) (P : LocalRow → Type 0) (rows : List LocalRow) → All
 each_of_one t P [] all = tt
 each_of_one t P (row ∷ rows) all = at t P row rows (row.tid == t) refl all (each_of_one t P rows)
   where
-    at : (t : ℕ) (P : LocalRow → Type 0) (row : LocalRow) (rows : List LocalRow) (b : Bool) → (row.tid == t) ≡ b → AllByRecursion P (if b then row ∷ filter (λ row. row.tid == t) rows else filter (λ row. row.tid == t) rows)
+    at : (t : ℕ) (P : LocalRow → Type 0) (row : LocalRow) (rows : List LocalRow) (b : Bool) → (row.tid == t) ≡ b
+        → AllByRecursion P (if b then row ∷ filter (λ row. row.tid == t) rows else filter (λ row. row.tid == t) rows)
         → (AllByRecursion P (filter (λ row. row.tid == t) rows) → AllByRecursion (λ row. row.tid ≡ t → P row) rows) → AllByRecursion (λ row. row.tid ≡ t → P row) (row ∷ rows)
     at t P row rows true is all later = ((λ _. all.0), later all.1)
     at t P row rows false is all later = ((λ mine. absurd (apart row.tid t is mine)), later all)
@@ -368,7 +384,8 @@ any_row o t (s ∷ slots) = ap (λ b. (s.object == o) || b) (any_row o t slots)
 
 pub any_seen : (o : ℕ) (es : List (ℕ × StackRows)) → list_any (λ v. list_any (λ s. s.object == o) v.locals) (values_of es) ≡ list_any (λ row. row.object == o) (gather locals_of es)
 any_seen o [] = refl
-any_seen o (e ∷ es) = sym (list_any-append (λ row. row.object == o) (locals_of e.0 e.1) (gather locals_of es) ∙ (ap (λ b. b || list_any (λ row. row.object == o) (gather locals_of es)) (any_row o e.0 e.1.locals) ∙ ap (λ b. list_any (λ s. s.object == o) e.1.locals || b) (sym (any_seen o es))))
+any_seen o (e ∷ es) = sym (list_any-append (λ row. row.object == o) (locals_of e.0 e.1) (gather locals_of es)
+    ∙ (ap (λ b. b || list_any (λ row. row.object == o) (gather locals_of es)) (any_row o e.0 e.1.locals) ∙ ap (λ b. list_any (λ s. s.object == o) e.1.locals || b) (sym (any_seen o es))))
 
 some_top : (t : ℕ) (found : Option Frame) → IsSome (option_map (frame_row t) found) → IsSome found
 some_top t None is = is
@@ -400,10 +417,12 @@ ok_not_err (Err y) x ok is = cc
 pub top_in : (m : BTreeMap ℕ StackRows) (a : Table) (t : ℕ) → IsOrdered nat_cmp m → table_seen m ≡ a → top t a.rows.frames ≡ option_map (frame_row t) (last (frames_at m t))
 top_in m a t ordered is = ap (λ (v : Table). top t v.rows.frames) (sym is) ∙ top_seen m t ordered
 
-pub pushed_seen : (m : BTreeMap ℕ StackRows) (a : Table) (t x : ℕ) (f : Option Frame) → IsOrdered nat_cmp m → table_seen m ≡ a → f ≡ last (frames_at m t) → x ≡ frame_number (option_map (frame_row t) f) → x ≡ pushed t a.rows
+pub pushed_seen : (m : BTreeMap ℕ StackRows) (a : Table) (t x : ℕ) (f : Option Frame) → IsOrdered nat_cmp m → table_seen m ≡ a → f ≡ last (frames_at m t)
+    → x ≡ frame_number (option_map (frame_row t) f) → x ≡ pushed t a.rows
 pushed_seen m a t x f ordered is at found = found ∙ (ap (λ o. frame_number (option_map (frame_row t) o)) at ∙ ap frame_number (sym (top_in m a t ordered is)))
 
-pub depth_seen : (m : BTreeMap ℕ StackRows) (a : Table) (t x : ℕ) (f : Option Frame) → IsOrdered nat_cmp m → table_seen m ≡ a → f ≡ last (frames_at m t) → x ≡ depth_number (option_map (frame_row t) f) → x ≡ entered t a.rows
+pub depth_seen : (m : BTreeMap ℕ StackRows) (a : Table) (t x : ℕ) (f : Option Frame) → IsOrdered nat_cmp m → table_seen m ≡ a → f ≡ last (frames_at m t) → x ≡ depth_number (option_map (frame_row t) f)
+    → x ≡ entered t a.rows
 depth_seen m a t x f ordered is at found = found ∙ (ap (λ o. depth_number (option_map (frame_row t) o)) at ∙ ap depth_number (sym (top_in m a t ordered is)))
 
 some_same : (t : ℕ) (f : Option Frame) → is_some f ≡ is_some (option_map (frame_row t) f)
@@ -445,12 +464,14 @@ pushed_is m a t f ordered is at = ap frame_number (top_in m a t ordered is) ∙ 
 pub entered_is : (m : BTreeMap ℕ StackRows) (a : Table) (t : ℕ) (f : Frame) → IsOrdered nat_cmp m → table_seen m ≡ a → last (frames_at m t) ≡ Some f → entered t a.rows ≡ f.depth
 entered_is m a t f ordered is at = ap depth_number (top_in m a t ordered is) ∙ ap (λ o. depth_number (option_map (frame_row t) o)) at
 
-pub above_in : (m : BTreeMap ℕ StackRows) (a : Table) (t n : ℕ) → table_seen m ≡ a → All (λ row. row.tid ≡ t → row.n < n) a.rows.locals → All (λ row. row.tid ≡ t → row.n < n) (gather locals_of m.entries)
+pub above_in : (m : BTreeMap ℕ StackRows) (a : Table) (t n : ℕ) → table_seen m ≡ a → All (λ row. row.tid ≡ t → row.n < n) a.rows.locals
+    → All (λ row. row.tid ≡ t → row.n < n) (gather locals_of m.entries)
 above_in m a t n is all =
     let P : Table → Type 0 = λ v. All (λ row. row.tid ≡ t → row.n < n) v.rows.locals in
     subst P (sym is) all
 
-pub above_seen : (m : BTreeMap ℕ StackRows) (a : Table) (t n : ℕ) (b : Bool) → IsOrdered nat_cmp m → table_seen m ≡ a → IsTrue b ↔ All (λ s. s.n < n) (slots_at m t) → IsTrue b ↔ All (λ row. row.tid ≡ t → row.n < n) a.rows.locals
+pub above_seen : (m : BTreeMap ℕ StackRows) (a : Table) (t n : ℕ) (b : Bool) → IsOrdered nat_cmp m → table_seen m ≡ a → IsTrue b ↔ All (λ s. s.n < n) (slots_at m t)
+    → IsTrue b ↔ All (λ row. row.tid ≡ t → row.n < n) a.rows.locals
 above_seen m a t n b ordered is test =
     let P : Table → Type 0 = λ v. All (λ row. row.tid ≡ t → row.n < n) v.rows.locals in
     ((λ yes. subst P is (above_rows m t n ordered (test.0 yes))), (λ all. test.1 (above_slots m t n ordered (above_in m a t n is all))))
@@ -488,16 +509,19 @@ starts_is m a t is = ap (λ (v : Table). spare_starts v t) (sym is) ∙ ap (λ (
 pub room_up : (old new : BTreeMap ℕ StackRows) (a : Table) (t : ℕ) → table_seen old ≡ a → (room_seen old.entries t).locals ≤ (room_seen new.entries t).locals → spare a t ≤ spare (table_seen new) t
 room_up old new a t is up = let x = spare_is old a t is in let y = spare_is new (table_seen new) t refl in omega (arith, x, y, up)
 
-pub starts_up : (old new : BTreeMap ℕ StackRows) (a : Table) (t : ℕ) → table_seen old ≡ a → (room_seen old.entries t).frames ≤ (room_seen new.entries t).frames → spare_starts a t ≤ spare_starts (table_seen new) t
+pub starts_up : (old new : BTreeMap ℕ StackRows) (a : Table) (t : ℕ) → table_seen old ≡ a → (room_seen old.entries t).frames ≤ (room_seen new.entries t).frames
+    → spare_starts a t ≤ spare_starts (table_seen new) t
 starts_up old new a t is up = let x = starts_is old a t is in let y = starts_is new (table_seen new) t refl in omega (arith, x, y, up)
 
-pub room_one : (old new : BTreeMap ℕ StackRows) (a : Table) (t : ℕ) → table_seen old ≡ a → (room_seen old.entries t).locals ≤ (room_seen new.entries t).locals + 1 → spare a t ≤ spare (table_seen new) t + 1
+pub room_one : (old new : BTreeMap ℕ StackRows) (a : Table) (t : ℕ) → table_seen old ≡ a → (room_seen old.entries t).locals ≤ (room_seen new.entries t).locals + 1
+    → spare a t ≤ spare (table_seen new) t + 1
 room_one old new a t is up = let x = spare_is old a t is in let y = spare_is new (table_seen new) t refl in omega (arith, x, y, up)
 
 pub room_from : (old : BTreeMap ℕ StackRows) (a : Table) (t : ℕ) → table_seen old ≡ a → 0 < spare a t → 0 < (room_seen old.entries t).locals
 room_from old a t is some = let x = spare_is old a t is in omega (arith, x, some)
 
-pub starts_from : (old new : BTreeMap ℕ StackRows) (a : Table) (t : ℕ) → table_seen old ≡ a → (room_seen old.entries t).frames ≤ (room_seen new.entries t).frames → 0 < spare_starts a t → 0 < (room_seen new.entries t).frames
+pub starts_from : (old new : BTreeMap ℕ StackRows) (a : Table) (t : ℕ) → table_seen old ≡ a → (room_seen old.entries t).frames ≤ (room_seen new.entries t).frames → 0 < spare_starts a t
+    → 0 < (room_seen new.entries t).frames
 starts_from old new a t is up some = let x = starts_is old a t is in omega (arith, x, up, some)
 
 pub room_to : (new : BTreeMap ℕ StackRows) (t : ℕ) → 0 < (room_seen new.entries t).locals → 0 < spare (table_seen new) t

@@ -24,7 +24,8 @@ pub find-reverse : {X : Type 0} (p : X → Bool) (xs : List X) → find p (rever
 find-reverse p [] = refl
 find-reverse p (x ∷ xs) =
     let back : reverse (x ∷ xs) ≡ reverse xs ++ x ∷ [] = reverse-append (x ∷ []) xs in
-    rw (back, find-append, find-reverse p xs) (elim (p x) as (λ b. option_or (last (filter p xs)) (if b then Some x else None) ≡ last (if b then x ∷ filter p xs else filter p xs)) [ true ↦ refl | false ↦ or_none (last (filter p xs)) ])
+    rw (back, find-append, find-reverse p xs) (elim (p x) as (λ b. option_or (last (filter p xs)) (if b then Some x else None) ≡ last (if b then x ∷ filter p xs else filter p xs))
+    [ true ↦ refl | false ↦ or_none (last (filter p xs)) ])
 
 last-rows_at : (t d k : ℕ) → last (rows_at t d k) ≡ Some (record { tid = t; depth = d; frame = k })
 last-rows_at t d zero = refl
@@ -39,7 +40,8 @@ abbrev pub top_of_acts : ℕ → List Act → Option FrameRow
 top_of_acts t acts = if has_session acts then Some (record { tid = t; depth = depth acts; frame = frames (depth acts) acts }) else None
 
 last-open_frames : (t : ℕ) (acts : List Act) → last (open_frames t acts) ≡ top_of_acts t acts
-last-open_frames t acts = elim (has_session acts) as (λ b. last (if b then rows_up_to t (depth acts) acts else []) ≡ (if b then Some (record { tid = t; depth = depth acts; frame = frames (depth acts) acts }) else None)) [ true ↦ last-rows_up_to t (depth acts) acts | false ↦ refl ]
+last-open_frames t acts = elim (has_session acts) as (λ b. last (if b then rows_up_to t (depth acts) acts else [])
+    ≡ (if b then Some (record { tid = t; depth = depth acts; frame = frames (depth acts) acts }) else None)) [ true ↦ last-rows_up_to t (depth acts) acts | false ↦ refl ]
 
 pub top_is : (rows : Rows) (e : List Event) (t : ℕ) → Stands rows e → top t rows.frames ≡ top_of_acts t (acts_of t e)
 top_is rows e t stands = rw (find-reverse (λ row. row.tid == t) rows.frames, stands.frames t) (last-open_frames t (acts_of t e))

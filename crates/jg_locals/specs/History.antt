@@ -1,12 +1,13 @@
 -- Local references and frames, told by looking back over what threads did. A list has the newest first.
--- JNI Specification, chapter 2, "Local References": valid in the thread that made them, freed when the native method returns;
--- chapter 4, PushLocalFrame and PopLocalFrame.
+-- JNI Specification, chapter 2, "Local References": valid in the thread that made them, freed when the native method
+-- returns; chapter 4, PushLocalFrame and PopLocalFrame.
 use Rattle.jg_lists.specs.Acts as acts
 pub use Rattle.jg_lists.specs.Acts.{by, acts_of, how_many}
 use Rattle.std.specs.Prelude.{ℕ, ◌+◌, ◌-◌, ◌<◌, Bool, true, false, ◌==◌, ◌&&◌, not, nat_le, if◌then◌else◌, List, [], ◌∷◌, Option, Some, None}
 use Rattle.std.specs.List.{list_any}
 
--- what a thread did: began or ended a session, was handed local n for an object, pushed or popped a frame, entered or left a native method, deleted local n
+-- what a thread did: began or ended a session, was handed local n for an object, pushed or popped a frame, entered or
+-- left a native method, deleted local n
 pub data Act : Type 0 where
   Start : Act
   Make : (n : ℕ) → (object : ℕ) → Act
@@ -65,7 +66,8 @@ begins d a acts = false
 abbrev pub done_at : (Act → Bool) → ℕ → List Act → ℕ
 done_at kind d [] = 0
 done_at kind d (a ∷ acts) =
-    if begins d a acts then 0 else (if kind a && (depth acts == d) then done_at kind d acts + 1 else done_at kind d acts)
+    if begins d a acts then 0 else (if kind a && (depth acts == d) then done_at kind d acts + 1
+    else done_at kind d acts)
 
 -- the frames that are pushed and not popped at the depth
 abbrev pub frames : ℕ → List Act → ℕ
@@ -93,7 +95,8 @@ making n (a ∷ acts) = seen_after a (making n acts)
 abbrev pub done_here : (Act → Bool) → List Act → ℕ
 done_here kind [] = 0
 done_here kind (a ∷ later) =
-    if kind a && (how_many is_enter later == how_many is_leave later) then done_here kind later + 1 else done_here kind later
+    if kind a && (how_many is_enter later == how_many is_leave later) then done_here kind later + 1
+    else done_here kind later
 
 -- the act ends local n by name, or ends the session
 abbrev pub ends : ℕ → Act → Bool

@@ -3,7 +3,8 @@ use Rattle.std.specs.Prelude.{◌≡◌, ◌≢◌, ◌⊎◌, ◌↔◌, ◌<�
 use Rattle.jg_locals.specs.History.{Act, Make, Delete, Event, acts_of, is_enter, is_leave, is_push, is_pop, how_many, done_here, ends, live, holds_object}
 
 -- the act ends local n, where `since` was done between the making of n and the act: it deletes n or ends the session;
--- or with it more activations were left than entered; or, in the activation of the making, more frames popped than pushed
+-- or with it more activations were left than entered; or, in the activation of the making, more frames popped than
+-- pushed
 abbrev pub IsEndedBy : ℕ → Act → List Act → Type 0
 IsEndedBy n a since =
     (ends n a ≡ true)
@@ -22,11 +23,13 @@ IsNotMade n (a ∷ acts) = IsNotMade n acts
 
 -- a live local was made, and nothing since has ended it
 abbrev pub LiveWasMade : Type 0
-LiveWasMade = (n o : ℕ) (acts : List Act) → live n acts ≡ Some o → (later before : List Act) × (acts ≡ later ++ Make n o ∷ before) × IsNotEnded n later
+LiveWasMade = (n o : ℕ) (acts : List Act) → live n acts ≡ Some o → (later before : List Act)
+    × (acts ≡ later ++ Make n o ∷ before) × IsNotEnded n later
 
 -- what was made, and not again, and not ended since, is live
 abbrev pub MadeIsLive : Type 0
-MadeIsLive = (n o : ℕ) (later before : List Act) → IsNotMade n later → IsNotEnded n later → live n (later ++ Make n o ∷ before) ≡ Some o
+MadeIsLive = (n o : ℕ) (later before : List Act) → IsNotMade n later → IsNotEnded n later
+    → live n (later ++ Make n o ∷ before) ≡ Some o
 
 -- what was deleted, and not made again, is not live
 abbrev pub DeletedStaysDead : Type 0

@@ -56,7 +56,8 @@ is_local t n row = row.tid == t && row.n == n
 abbrev pub top : ℕ → List FrameRow → Option FrameRow
 top t frames = find (λ row. row.tid == t) (reverse frames)
 
--- whether the thread has a session, how many native methods it has entered and not left, and how many frames are pushed in the newest
+-- whether the thread has a session, how many native methods it has entered and not left, and how many frames are pushed
+-- in the newest
 abbrev pub HasFrame : ℕ → Rows → Type 0
 HasFrame t rows = IsSome (top t rows.frames)
 

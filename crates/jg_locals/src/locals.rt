@@ -52,7 +52,8 @@ impl<A: Allocator + Clone> Locals<A> {
     /// Begins the session of a thread that has none, with an empty base frame at depth 0.
     pub fn start_thread(&mut self, tid: Tid) -> Result<(), AllocError>
         requires { IsNone (top tid.0 self.old.rows.frames) }
-        ensures ok { OnOk result ((e : List Event) → Stands self.old.rows e → Stands self.new.rows (by tid.0 Start ∷ e)) }
+        ensures ok { OnOk result ((e : List Event) → Stands self.old.rows e
+            → Stands self.new.rows (by tid.0 Start ∷ e)) }
         ensures err { OnErr result (self.new.rows ≡ self.old.rows) }
         ensures room { 0 < spare_starts self.old tid.0 → IsOk result }
     {
@@ -65,7 +66,8 @@ impl<A: Allocator + Clone> Locals<A> {
     pub fn make(&mut self, tid: Tid, n: u64, object: ObjId) -> Result<(), AllocError>
         requires started { HasFrame tid.0 self.old.rows }
         requires above { All (λ row. row.tid ≡ tid.0 → row.n < n) self.old.rows.locals }
-        ensures ok { OnOk result ((e : List Event) → Stands self.old.rows e → Stands self.new.rows (by tid.0 (Make n object.0) ∷ e)) }
+        ensures ok { OnOk result ((e : List Event) → Stands self.old.rows e
+            → Stands self.new.rows (by tid.0 (Make n object.0) ∷ e)) }
         ensures err { OnErr result (self.new.rows ≡ self.old.rows) }
         ensures room { 0 < spare self.old tid.0 → IsOk result }
         ensures lowered { spare self.old tid.0 ≤ spare self.new tid.0 + 1 }
@@ -98,7 +100,8 @@ impl<A: Allocator + Clone> Locals<A> {
     pub fn push(&mut self, tid: Tid) -> Result<(), AllocError>
         requires started { HasFrame tid.0 self.old.rows }
         requires fits { pushed tid.0 self.old.rows < u64.MAX }
-        ensures ok { OnOk result ((e : List Event) → Stands self.old.rows e → Stands self.new.rows (by tid.0 Push ∷ e)) }
+        ensures ok { OnOk result ((e : List Event) → Stands self.old.rows e
+            → Stands self.new.rows (by tid.0 Push ∷ e)) }
         ensures err { OnErr result (self.new.rows ≡ self.old.rows) }
         ensures room { spare self.old tid.0 ≤ spare self.new tid.0 }
     {
@@ -117,7 +120,8 @@ impl<A: Allocator + Clone> Locals<A> {
     pub fn enter(&mut self, tid: Tid) -> Result<(), AllocError>
         requires started { HasFrame tid.0 self.old.rows }
         requires fits { entered tid.0 self.old.rows < u64.MAX }
-        ensures ok { OnOk result ((e : List Event) → Stands self.old.rows e → Stands self.new.rows (by tid.0 Enter ∷ e)) }
+        ensures ok { OnOk result ((e : List Event) → Stands self.old.rows e
+            → Stands self.new.rows (by tid.0 Enter ∷ e)) }
         ensures err { OnErr result (self.new.rows ≡ self.old.rows) }
         ensures room { spare self.old tid.0 ≤ spare self.new tid.0 }
     {
@@ -170,8 +174,10 @@ impl<A: Allocator + Clone> Locals<A> {
     /// The object that the thread's local `n` names, where it is live. What other threads did
     /// makes no difference.
     pub fn get(&self, tid: Tid, n: u64) -> Option<ObjId>
-        ensures live { (e : List Event) → Stands self.now.rows e → result ≡ option_map (λ o. record { 0 = o }) (live n (acts_of tid.0 e)) }
-        ensures own_thread { (e f : List Event) → Stands self.now.rows e → acts_of tid.0 e ≡ acts_of tid.0 f → result ≡ option_map (λ o. record { 0 = o }) (live n (acts_of tid.0 f)) }
+        ensures live { (e : List Event) → Stands self.now.rows e
+            → result ≡ option_map (λ o. record { 0 = o }) (live n (acts_of tid.0 e)) }
+        ensures own_thread { (e f : List Event) → Stands self.now.rows e → acts_of tid.0 e ≡ acts_of tid.0 f
+            → result ≡ option_map (λ o. record { 0 = o }) (live n (acts_of tid.0 f)) }
     {
         id_of(object_at(&self.stacks, tid.0, n))
     }
@@ -180,8 +186,10 @@ impl<A: Allocator + Clone> Locals<A> {
     /// threads did makes no difference.
     pub fn can_pop(&self, tid: Tid) -> bool
         ensures rows { IsTrue result ↔ (0 < pushed tid.0 self.now.rows) }
-        ensures frames { (e : List Event) → Stands self.now.rows e → IsTrue result ↔ (0 < frames (depth (acts_of tid.0 e)) (acts_of tid.0 e)) }
-        ensures own_thread { (e f : List Event) → Stands self.now.rows e → acts_of tid.0 e ≡ acts_of tid.0 f → IsTrue result ↔ (0 < frames (depth (acts_of tid.0 f)) (acts_of tid.0 f)) }
+        ensures frames { (e : List Event) → Stands self.now.rows e
+            → IsTrue result ↔ (0 < frames (depth (acts_of tid.0 e)) (acts_of tid.0 e)) }
+        ensures own_thread { (e f : List Event) → Stands self.now.rows e → acts_of tid.0 e ≡ acts_of tid.0 f
+            → IsTrue result ↔ (0 < frames (depth (acts_of tid.0 f)) (acts_of tid.0 f)) }
     {
         frame_in(top_at(&self.stacks, tid.0)) > 0
     }
@@ -190,7 +198,8 @@ impl<A: Allocator + Clone> Locals<A> {
     /// thread has no session.
     pub fn pushed(&self, tid: Tid) -> u64
         ensures rows { result ≡ pushed tid.0 self.now.rows }
-        ensures history { (e : List Event) → Stands self.now.rows e → result ≡ frames (depth (acts_of tid.0 e)) (acts_of tid.0 e) }
+        ensures history { (e : List Event) → Stands self.now.rows e
+            → result ≡ frames (depth (acts_of tid.0 e)) (acts_of tid.0 e) }
     {
         frame_in(top_at(&self.stacks, tid.0))
     }
@@ -215,7 +224,8 @@ impl<A: Allocator + Clone> Locals<A> {
     /// Whether `n` is above the number of each live local of the thread.
     pub fn is_above(&self, tid: Tid, n: u64) -> bool
         ensures rows { IsTrue result ↔ All (λ row. row.tid ≡ tid.0 → row.n < n) self.now.rows.locals }
-        ensures history { (e : List Event) → Stands self.now.rows e → IsTrue result ↔ ((k : ℕ) → IsSome (live k (acts_of tid.0 e)) → k < n) }
+        ensures history { (e : List Event) → Stands self.now.rows e
+            → IsTrue result ↔ ((k : ℕ) → IsSome (live k (acts_of tid.0 e)) → k < n) }
     {
         is_above_at(&self.stacks, tid.0, n)
     }

@@ -14,7 +14,8 @@ use std::alloc::Allocator;
 /// Where the local `n` stands, live or dead.
 pub fn place_of(slots: &[Slot], n: u64) -> Option<usize>
     requires { Chain is_before slots.now }
-    ensures { MatchOption result (AllByRecursion (λ s. (s.n == n) ≡ false) slots.now) (λ i. (i < length slots.now) × ((s : Slot) → (slice_index_or slots.now i s).n ≡ n)) }
+    ensures { MatchOption result (AllByRecursion (λ s. (s.n == n) ≡ false) slots.now) (λ i. (i < length slots.now)
+        × ((s : Slot) → (slice_index_or slots.now i s).n ≡ n)) }
 {
     match slots.binary_search_by_key(&n, |slot| slot.n) {
         Ok(i) => Some(i),
@@ -127,7 +128,8 @@ pub fn end_local<A: Allocator>(slots: &mut Vec<Slot, A>, n: u64) -> bool
 pub fn close_up_if<A: Allocator>(slots: &mut Vec<Slot, A>, dead: usize) -> usize
     ensures live { filter is_live slots.new.items ≡ filter is_live slots.old.items }
     ensures sound { (frames : List Frame) → Sound slots.old.items frames → Sound slots.new.items frames }
-    ensures below { (frame : Frame) → IsBelowAll (Some frame) slots.old.items → IsBelowAll (Some frame) slots.new.items }
+    ensures below { (frame : Frame) → IsBelowAll (Some frame) slots.old.items
+        → IsBelowAll (Some frame) slots.new.items }
     ensures ends { passes is_live (last slots.old.items) ≡ true → passes is_live (last slots.new.items) ≡ true }
     ensures room { vec_capacity slots.old - vec_len slots.old ≤ vec_capacity slots.new - vec_len slots.new }
 {

@@ -28,7 +28,14 @@ impl<A: Allocator> Model for Stack<A> {
 
     ghost Value = { StackRows };
 
-    ghost view = { λ a. record { locals = filter is_live a.slots.items; frames = a.frames.items; room = record { locals = vec_capacity a.slots - vec_len a.slots; frames = vec_capacity a.frames - vec_len a.frames } } };
+    ghost view = { λ a. record {
+      locals = filter is_live a.slots.items;
+      frames = a.frames.items;
+      room = record {
+        locals = vec_capacity a.slots - vec_len a.slots;
+        frames = vec_capacity a.frames - vec_len a.frames;
+      };
+    } };
 
     ghost invariant = { λ a. Kept a.slots.items a.frames.items };
 }
@@ -118,8 +125,10 @@ impl<A: Allocator> Stack<A> {
     /// Closes the newest frame, with its locals.
     pub fn pop(&mut self, top: Frame)
         requires { last self.old.frames ≡ Some top }
-        ensures locals { self.new.locals ≡ filter (λ s. not (s.depth == top.depth && s.frame == top.frame)) self.old.locals }
-        ensures frames { self.new.frames ≡ filter (λ f. not (f.depth == top.depth && f.frame == top.frame)) self.old.frames }
+        ensures locals { self.new.locals ≡ filter (λ s. not (s.depth == top.depth && s.frame == top.frame))
+            self.old.locals }
+        ensures frames { self.new.frames ≡ filter (λ f. not (f.depth == top.depth && f.frame == top.frame))
+            self.old.frames }
         ensures room { self.old.room.locals ≤ self.new.room.locals }
     {
         close_from(&mut self.frames, top);

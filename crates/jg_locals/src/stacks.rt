@@ -53,7 +53,8 @@ pub fn make_at<A: Allocator>(
 ) -> Result<(), AllocError>
     requires top { last (frames_in (stack_at tid stacks.old.entries)) ≡ Some top }
     requires above { All (λ s. s.n < n) (slots_in (stack_at tid stacks.old.entries)) }
-    ensures ok { OnOk result (Changes tid stacks.old stacks.new (slots_in (stack_at tid stacks.old.entries) ++ slot_made n object top ∷ []) (frames_in (stack_at tid stacks.old.entries))) }
+    ensures ok { OnOk result (Changes tid stacks.old stacks.new (slots_in (stack_at tid stacks.old.entries)
+        ++ slot_made n object top ∷ []) (frames_in (stack_at tid stacks.old.entries))) }
     ensures err { OnErr result (rows_seen stacks.new.entries ≡ rows_seen stacks.old.entries) }
     ensures room { 0 < (room_seen stacks.old.entries tid).locals → IsOk result }
     ensures lowered { (room_seen stacks.old.entries tid).locals ≤ (room_seen stacks.new.entries tid).locals + 1 }
@@ -73,7 +74,8 @@ pub fn open_at<A: Allocator>(
 ) -> Result<(), AllocError>
     requires stack { IsSome (stack_at tid stacks.old.entries) }
     requires next { IsNext (last (frames_in (stack_at tid stacks.old.entries))) frame }
-    ensures ok { OnOk result (Changes tid stacks.old stacks.new (slots_in (stack_at tid stacks.old.entries)) (frames_in (stack_at tid stacks.old.entries) ++ frame ∷ [])) }
+    ensures ok { OnOk result (Changes tid stacks.old stacks.new (slots_in (stack_at tid stacks.old.entries))
+        (frames_in (stack_at tid stacks.old.entries) ++ frame ∷ [])) }
     ensures err { OnErr result (rows_seen stacks.new.entries ≡ rows_seen stacks.old.entries) }
     ensures room { (room_seen stacks.old.entries tid).locals ≤ (room_seen stacks.new.entries tid).locals }
     ensures has_room { 0 < (room_seen stacks.old.entries tid).frames → IsOk result }
@@ -144,7 +146,9 @@ pub fn reserve_frame_at<A: Allocator>(
 
 /// Ends the thread's local `n`, if it is live.
 pub fn delete_at<A: Allocator>(stacks: &mut BTreeMap<u16, Stack<A>, A>, tid: u16, n: u64)
-    ensures changes { Changes tid stacks.old stacks.new (filter (λ s. not (s.n == n)) (slots_in (stack_at tid stacks.old.entries))) (frames_in (stack_at tid stacks.old.entries)) }
+    ensures changes { Changes tid stacks.old stacks.new
+        (filter (λ s. not (s.n == n)) (slots_in (stack_at tid stacks.old.entries)))
+        (frames_in (stack_at tid stacks.old.entries)) }
     ensures room { (room_seen stacks.old.entries tid).locals ≤ (room_seen stacks.new.entries tid).locals }
     ensures ordered { IsOrdered nat_cmp stacks.old → IsOrdered nat_cmp stacks.new }
 {
@@ -156,7 +160,10 @@ pub fn delete_at<A: Allocator>(stacks: &mut BTreeMap<u16, Stack<A>, A>, tid: u16
 /// Closes the thread's newest frame, with its locals.
 pub fn pop_at<A: Allocator>(stacks: &mut BTreeMap<u16, Stack<A>, A>, tid: u16, top: Frame)
     requires { last (frames_in (stack_at tid stacks.old.entries)) ≡ Some top }
-    ensures changes { Changes tid stacks.old stacks.new (filter (λ s. not (s.depth == top.depth && s.frame == top.frame)) (slots_in (stack_at tid stacks.old.entries))) (filter (λ f. not (f.depth == top.depth && f.frame == top.frame)) (frames_in (stack_at tid stacks.old.entries))) }
+    ensures changes { Changes tid stacks.old stacks.new
+        (filter (λ s. not (s.depth == top.depth && s.frame == top.frame)) (slots_in (stack_at tid stacks.old.entries)))
+        (filter (λ f. not (f.depth == top.depth && f.frame == top.frame))
+        (frames_in (stack_at tid stacks.old.entries))) }
     ensures room { (room_seen stacks.old.entries tid).locals ≤ (room_seen stacks.new.entries tid).locals }
     ensures ordered { IsOrdered nat_cmp stacks.old → IsOrdered nat_cmp stacks.new }
 {
@@ -168,7 +175,9 @@ pub fn pop_at<A: Allocator>(stacks: &mut BTreeMap<u16, Stack<A>, A>, tid: u16, t
 /// Closes the thread's newest activation, with its frames and locals.
 pub fn leave_at<A: Allocator>(stacks: &mut BTreeMap<u16, Stack<A>, A>, tid: u16, top: Frame)
     requires { last (frames_in (stack_at tid stacks.old.entries)) ≡ Some top }
-    ensures changes { Changes tid stacks.old stacks.new (filter (λ s. not (s.depth == top.depth)) (slots_in (stack_at tid stacks.old.entries))) (filter (λ f. not (f.depth == top.depth)) (frames_in (stack_at tid stacks.old.entries))) }
+    ensures changes { Changes tid stacks.old stacks.new
+        (filter (λ s. not (s.depth == top.depth)) (slots_in (stack_at tid stacks.old.entries)))
+        (filter (λ f. not (f.depth == top.depth)) (frames_in (stack_at tid stacks.old.entries))) }
     ensures room { (room_seen stacks.old.entries tid).locals ≤ (room_seen stacks.new.entries tid).locals }
     ensures ordered { IsOrdered nat_cmp stacks.old → IsOrdered nat_cmp stacks.new }
 {
@@ -194,7 +203,8 @@ pub fn names_object_in<A: Allocator>(stacks: &BTreeMap<u16, Stack<A>, A>, object
 
 /// Marks each object that a live local of some thread names.
 pub fn mark_named_in<A: Allocator>(stacks: &BTreeMap<u16, Stack<A>, A>, marks: &mut [bool])
-    ensures { Marks (λ o. list_any (λ v. list_any (λ s. s.object == o) v.locals) (values stacks.now)) marks.old marks.new }
+    ensures { Marks (λ o. list_any (λ v. list_any (λ s. s.object == o) v.locals) (values stacks.now)) marks.old
+        marks.new }
 {
     for stack in stacks.values() {
         stack.mark_held(marks);

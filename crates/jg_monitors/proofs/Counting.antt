@@ -57,14 +57,16 @@ count_enter e t o all =
     let most = exits_at_most e t o all in
     rw (self t, self o) (omega (arith, most))
 
-other_enter : (e : List Event) (t u o p : ℕ) (b : Bool) → (p == o) ≡ false → how_many (enters o) (since (after b (Enter p) (acts_of t e))) - how_many (exits o) (since (after b (Enter p) (acts_of t e))) ≡ count e t o
+other_enter : (e : List Event) (t u o p : ℕ) (b : Bool) → (p == o) ≡ false
+    → how_many (enters o) (since (after b (Enter p) (acts_of t e))) - how_many (exits o) (since (after b (Enter p) (acts_of t e))) ≡ count e t o
 other_enter e t u o p true differ = rw differ refl
 other_enter e t u o p false differ = refl
 
 pub count_other_enter : (e : List Event) (t u o p : ℕ) → (p == o) ≡ false → count (by u (Enter p) ∷ e) t o ≡ count e t o
 count_other_enter e t u o p differ = other_enter e t u o p (u == t) differ
 
-other_exit : (e : List Event) (t u o p : ℕ) (b : Bool) → (p == o) ≡ false → how_many (enters o) (since (after b (Exit p) (acts_of t e))) - how_many (exits o) (since (after b (Exit p) (acts_of t e))) ≡ count e t o
+other_exit : (e : List Event) (t u o p : ℕ) (b : Bool) → (p == o) ≡ false
+    → how_many (enters o) (since (after b (Exit p) (acts_of t e))) - how_many (exits o) (since (after b (Exit p) (acts_of t e))) ≡ count e t o
 other_exit e t u o p true differ = rw differ refl
 other_exit e t u o p false differ = refl
 
@@ -79,7 +81,8 @@ count_release e t o = rw (self t) refl
 
 -- ---- one owner
 
-entered_by : (u p : ℕ) (e : List Event) (t o : ℕ) (b : Bool) → (p == o) ≡ b → u ≡ t → 0 < (if b then entries_in e t o + 1 else entries_in e t o) - exits_in e t o → (0 < count e t o) ⊎ ((u ≡ t) × (Enter p ≡ Enter o))
+entered_by : (u p : ℕ) (e : List Event) (t o : ℕ) (b : Bool) → (p == o) ≡ b → u ≡ t → 0 < (if b then entries_in e t o + 1 else entries_in e t o) - exits_in e t o → (0 < count e t o)
+    ⊎ ((u ≡ t) × (Enter p ≡ Enter o))
 entered_by u p e t o true is same some = inr (same, ap (λ q. Enter q) (eqb-true p o is))
 entered_by u p e t o false is same some = inl some
 

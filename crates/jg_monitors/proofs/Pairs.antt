@@ -23,7 +23,8 @@ in_range t q = grind (arith, nat_tests)
 of_thread : {X : Type 0} (t : ℕ) (es : List ((ℕ × ℕ) × X)) → entries_between pair_cmp (Included (t, 0)) (Excluded (t + 1, 0)) es ≡ filter (λ e. e.0.0 == t) es
 of_thread t es = filter_agree (λ e. range_contains pair_cmp (Included (t, 0)) (Excluded (t + 1, 0)) e.0) (λ e. e.0.0 == t) (λ e. in_range t e.0) es
 
-there_by : {X : Type 0} (t : ℕ) (e x : (ℕ × ℕ) × X) (es rest : List ((ℕ × ℕ) × X)) (b : Bool) → (x.0.0 == t) ≡ b → (filter (λ e. e.0.0 == t) es ≡ e ∷ rest → is_some (lookup (is_at (pair_cmp (t, e.0.1))) es) ≡ true)
+there_by : {X : Type 0} (t : ℕ) (e x : (ℕ × ℕ) × X) (es rest : List ((ℕ × ℕ) × X)) (b : Bool) → (x.0.0 == t) ≡ b
+    → (filter (λ e. e.0.0 == t) es ≡ e ∷ rest → is_some (lookup (is_at (pair_cmp (t, e.0.1))) es) ≡ true)
     → (if b then x ∷ filter (λ e. e.0.0 == t) es else filter (λ e. e.0.0 == t) es) ≡ e ∷ rest → (if same_pair x.0 (t, e.0.1) then true else is_some (lookup (is_at (pair_cmp (t, e.0.1))) es)) ≡ true
 there_by t e x es rest true mine later is =
     let same : x ≡ e = cc in
@@ -43,7 +44,8 @@ first_there t e (x ∷ es) rest is =
     ∙ some_if (same_pair x.0 (t, e.0.1)) x.1 (lookup (is_at (pair_cmp (t, e.0.1))) es)
     ∙ there_by t e x es rest (x.0.0 == t) refl (first_there t e es rest) is
 
-absent_by : {X : Type 0} (t o : ℕ) (x : (ℕ × ℕ) × X) (es : List ((ℕ × ℕ) × X)) (b : Bool) → (x.0.0 == t) ≡ b → (filter (λ e. e.0.0 == t) es ≡ [] → is_some (lookup (is_at (pair_cmp (t, o))) es) ≡ false)
+absent_by : {X : Type 0} (t o : ℕ) (x : (ℕ × ℕ) × X) (es : List ((ℕ × ℕ) × X)) (b : Bool) → (x.0.0 == t) ≡ b
+    → (filter (λ e. e.0.0 == t) es ≡ [] → is_some (lookup (is_at (pair_cmp (t, o))) es) ≡ false)
     → (if b then x ∷ filter (λ e. e.0.0 == t) es else filter (λ e. e.0.0 == t) es) ≡ [] → (if same_pair x.0 (t, o) then true else is_some (lookup (is_at (pair_cmp (t, o))) es)) ≡ false
 absent_by t o x es true mine later is = cc
 absent_by t o x es false mine later is =
@@ -57,10 +59,12 @@ none_there t o (x ∷ es) is =
     ∙ some_if (same_pair x.0 (t, o)) x.1 (lookup (is_at (pair_cmp (t, o))) es)
     ∙ absent_by t o x es (x.0.0 == t) refl (none_there t o es) is
 
-pub first_has : {X : Type 0} (t : ℕ) (e : (ℕ × ℕ) × X) (map : BTreeMap (ℕ × ℕ) X) (found rest : List ((ℕ × ℕ) × X)) → found ≡ entries_between pair_cmp (Included (t, 0)) (Excluded (t + 1, 0)) map.entries → found ≡ e ∷ rest → has map (t, e.0.1) ≡ true
+pub first_has : {X : Type 0} (t : ℕ) (e : (ℕ × ℕ) × X) (map : BTreeMap (ℕ × ℕ) X) (found rest : List ((ℕ × ℕ) × X))
+    → found ≡ entries_between pair_cmp (Included (t, 0)) (Excluded (t + 1, 0)) map.entries → found ≡ e ∷ rest → has map (t, e.0.1) ≡ true
 first_has t e map found rest between is = first_there t e map.entries rest (sym (of_thread t map.entries) ∙ sym between ∙ is)
 
-pub none_has : {X : Type 0} (t o : ℕ) (map : BTreeMap (ℕ × ℕ) X) (found : List ((ℕ × ℕ) × X)) → found ≡ entries_between pair_cmp (Included (t, 0)) (Excluded (t + 1, 0)) map.entries → found ≡ [] → has map (t, o) ≡ false
+pub none_has : {X : Type 0} (t o : ℕ) (map : BTreeMap (ℕ × ℕ) X) (found : List ((ℕ × ℕ) × X)) → found ≡ entries_between pair_cmp (Included (t, 0)) (Excluded (t + 1, 0)) map.entries → found ≡ []
+    → has map (t, o) ≡ false
 none_has t o map found between is = none_there t o map.entries (sym (of_thread t map.entries) ∙ sym between ∙ is)
 
 -- ---- what a thread's release leaves of the look-ups

@@ -42,10 +42,12 @@ pub found_row : (o : ℕ) (es : List (ℕ × Owned)) → find (is_of o) (map see
 found_row o [] = refl
 found_row o (e ∷ es) = rw (at_key o e.0) (found_by o e es (e.0 == o) refl (found_row o es))
 
-kept_by : (o : ℕ) (e : ℕ × Owned) (es : List (ℕ × Owned)) (b : Bool) → (e.0 == o) ≡ b → IsStrictlySortedBy nat_cmp (keys_of (e ∷ es)) → filter (is_of o) (map seen es) ≡ rows_at o (lookup (is_at (nat_cmp o)) es)
+kept_by : (o : ℕ) (e : ℕ × Owned) (es : List (ℕ × Owned)) (b : Bool) → (e.0 == o) ≡ b → IsStrictlySortedBy nat_cmp (keys_of (e ∷ es))
+    → filter (is_of o) (map seen es) ≡ rows_at o (lookup (is_at (nat_cmp o)) es)
     → (if b then seen e ∷ filter (is_of o) (map seen es) else filter (is_of o) (map seen es)) ≡ rows_at o (if b then Some e.1 else lookup (is_at (nat_cmp o)) es)
 kept_by o e es true is sorted later =
-    let none : lookup (is_at (nat_cmp o)) es ≡ None = lookup-none (is_at (nat_cmp o)) es (none_past_head (eq_by_cmp_equiv nat_cmp_total) o e es (IsDistinct-from_sorted nat_cmp (keys_of (e ∷ es)) sorted) (at_key o e.0 ∙ is)) in
+    let none : lookup (is_at (nat_cmp o)) es ≡ None = lookup-none (is_at (nat_cmp o)) es
+    (none_past_head (eq_by_cmp_equiv nat_cmp_total) o e es (IsDistinct-from_sorted nat_cmp (keys_of (e ∷ es)) sorted) (at_key o e.0 ∙ is)) in
     let empty : filter (is_of o) (map seen es) ≡ [] = later ∙ ap (rows_at o) none in
     rw (empty, eqb-true e.0 o is) refl
 kept_by o e es false is sorted later = later
@@ -95,7 +97,8 @@ rows_told e o (Some w) all told =
     let some : 0 < count e w.tid o = omega (arith, told.0, told.1) in
     rw (owner_is e w.tid o all some, told.0) refl
 
-pub stands_by : (es : List (ℕ × Owned)) (e : List Event) → AllAllowed e → IsStrictlySortedBy nat_cmp (keys_of es) → ((o : ℕ) → Tells e o (lookup (is_at (nat_cmp o)) es)) → Stands (record { owned = map seen es }) e
+pub stands_by : (es : List (ℕ × Owned)) (e : List Event) → AllAllowed e → IsStrictlySortedBy nat_cmp (keys_of es) → ((o : ℕ) → Tells e o (lookup (is_at (nat_cmp o)) es))
+    → Stands (record { owned = map seen es }) e
 stands_by es e all sorted each = record {
   owned = λ o. filter_lookup o es sorted ∙ rows_told e o (lookup (is_at (nat_cmp o)) es) all (each o);
   allowed = all;
@@ -116,7 +119,8 @@ zero_else e t u o all some differ = zero_by e t u o (count e u o) refl all some 
 some_is : (a b : ℕ) → Some a ≡ Some b → a ≡ b
 some_is a b is = cc
 
-own_by : (e : List Event) (t o c : ℕ) (w : Owned) (b : Bool) → (w.tid == t) ≡ b → AllAllowed e → Tells e o (Some w) → (if b then Some w.count else None) ≡ Some c → (count e t o ≡ c) × IsAllowed t (Enter o) e
+own_by : (e : List Event) (t o c : ℕ) (w : Owned) (b : Bool) → (w.tid == t) ≡ b → AllAllowed e → Tells e o (Some w) → (if b then Some w.count else None) ≡ Some c
+    → (count e t o ≡ c) × IsAllowed t (Enter o) e
 own_by e t o c w true mine all told is =
     let same : w.tid ≡ t = eqb-true w.tid t mine in
     let number : w.count ≡ c = some_is w.count c is in
@@ -168,7 +172,8 @@ freed_by e t u o w false is few mine all told =
     let some : 0 < count e w.tid o = omega (arith, told.0, told.1) in
     count_other_thread e u t o (Exit o) differ ∙ zero_else e w.tid u o all some (λ same. differ (sym mine ∙ sym same))
 
-exit_here : (e : List Event) (t o : ℕ) (w : Owned) (b : Bool) → nat_lt 1 w.count ≡ b → w.tid ≡ t → AllAllowed e → Tells e o (Some w) → Tells (by t (Exit o) ∷ e) o (if b then Some (record w { count = w.count - 1 }) else None)
+exit_here : (e : List Event) (t o : ℕ) (w : Owned) (b : Bool) → nat_lt 1 w.count ≡ b → w.tid ≡ t → AllAllowed e → Tells e o (Some w)
+    → Tells (by t (Exit o) ∷ e) o (if b then Some (record w { count = w.count - 1 }) else None)
 exit_here e t o w true is mine all told =
     let P : ℕ → Type 0 = λ u. count (by u (Exit o) ∷ e) w.tid o ≡ w.count - 1 in
     let left : count (by w.tid (Exit o) ∷ e) w.tid o ≡ w.count - 1 = count_exit e w.tid o ∙ ap (λ n. n - 1) told.0 in

@@ -6,7 +6,8 @@ use Rattle.std.specs.List.{find}
 use Rattle.jg_monitors.specs.declared.entering.Entering.{Entering}
 use Rattle.jg_monitors.specs.declared.entering.Entering.TheVariants.{Entered, Busy}
 
--- what a thread did: it entered the monitor of an object, exited it, or released all that it owns, as its detachment does
+-- what a thread did: it entered the monitor of an object, exited it, or released all that it owns, as its detachment
+-- does
 pub data Act : Type 0 where
   Enter : (object : ℕ) → Act
   Exit : (object : ℕ) → Act
@@ -32,7 +33,8 @@ abbrev pub exits : ℕ → Act → Bool
 exits o (Exit p) = p == o
 exits o a = false
 
--- how often the thread entered the monitor and didn't exit it since it last released all (JNI chapter 4, "MonitorEnter" and "MonitorExit")
+-- how often the thread entered the monitor and didn't exit it since it last released all (JNI chapter 4, "MonitorEnter"
+-- and "MonitorExit")
 abbrev pub count : List Event → ℕ → ℕ → ℕ
 count e t o = how_many (enters o) (since (acts_of t e)) - how_many (exits o) (since (acts_of t e))
 

@@ -22,7 +22,8 @@ abbrev pub releases : Act → Bool
 releases ReleaseAll = true
 releases a = false
 
--- the acts fall into those since the thread last released all, among which is no release of all, and the others, which are none or begin with such a release
+-- the acts fall into those since the thread last released all, among which is no release of all, and the others, which
+-- are none or begin with such a release
 pub record SplitsAtRelease (acts : List Act) : Type 0 where
   pub before : List Act
   pub whole : acts ≡ since acts ++ before

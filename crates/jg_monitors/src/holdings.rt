@@ -22,7 +22,8 @@ pub fn put<A: Allocator + Clone>(
 ) -> Result<(), AllocError>
     requires agree { Agree owned.old held.old }
     requires own { is_some (count_by_owner row.tid (get nat_cmp owned.old object)) ≡ true }
-    ensures put { OnOk result ((q : ℕ) → get nat_cmp owned.new q ≡ (if object == q then Some row else get nat_cmp owned.old q)) }
+    ensures put { OnOk result ((q : ℕ) → get nat_cmp owned.new q
+        ≡ (if object == q then Some row else get nat_cmp owned.old q)) }
     ensures ordered { OnOk result (IsOrdered nat_cmp owned.new) }
     ensures err { OnErr result (owned.new.entries ≡ owned.old.entries) }
     ensures absent { OnErr result (get nat_cmp owned.old object ≡ None) }
@@ -47,7 +48,8 @@ pub fn lower<A: Allocator>(
 )
     requires agree { Agree owned.old held.old }
     requires mine { is_owned_by tid (get nat_cmp owned.old object) ≡ true }
-    ensures lowered { (q : ℕ) → get nat_cmp owned.new q ≡ (if object == q then lowered (get nat_cmp owned.old q) else get nat_cmp owned.old q) }
+    ensures lowered { (q : ℕ) → get nat_cmp owned.new q
+        ≡ (if object == q then lowered (get nat_cmp owned.old q) else get nat_cmp owned.old q) }
     ensures ordered { IsOrdered nat_cmp owned.new }
     ensures agree { Agree owned.new held.new }
 {
@@ -65,7 +67,8 @@ pub fn release<A: Allocator>(
 )
     requires agree { Agree owned.old held.old }
     requires ordered { IsOrdered nat_cmp owned.old }
-    ensures released { (q : ℕ) → get nat_cmp owned.new q ≡ option_filter (λ w. not (w.tid == tid)) (get nat_cmp owned.old q) }
+    ensures released { (q : ℕ) → get nat_cmp owned.new q
+        ≡ option_filter (λ w. not (w.tid == tid)) (get nat_cmp owned.old q) }
     ensures ordered { IsOrdered nat_cmp owned.new }
     ensures agree { Agree owned.new held.new }
 {

@@ -52,8 +52,10 @@ impl<A: Allocator + Clone> Monitors<A> {
     pub fn enter(&mut self, tid: Tid, object: ObjId) -> Result<Entering, AllocError>
         requires { count_in (row_of object.0 self.old) < u64.MAX }
         ensures row { IfOk result (λ answer. answer ≡ entering tid.0 (owner_in (row_of object.0 self.old))) }
-        ensures stands { IfOk result (λ answer. (e : List Event) → Stands self.old e → answer ≡ entering tid.0 (owner e object.0)) }
-        ensures entered { IfOk result (λ answer. answer ≡ Entering.Entered → (e : List Event) → Stands self.old e → Stands self.new (by tid.0 (Enter object.0) ∷ e)) }
+        ensures stands { IfOk result (λ answer. (e : List Event) → Stands self.old e
+            → answer ≡ entering tid.0 (owner e object.0)) }
+        ensures entered { IfOk result (λ answer. answer ≡ Entering.Entered → (e : List Event) → Stands self.old e
+            → Stands self.new (by tid.0 (Enter object.0) ∷ e)) }
         ensures busy { IfOk result (λ answer. answer ≡ Entering.Busy → self.new ≡ self.old) }
         ensures err { OnErr result (self.new ≡ self.old) }
         ensures free { OnErr result (owner_in (row_of object.0 self.old) ≡ None) }
@@ -86,7 +88,8 @@ impl<A: Allocator + Clone> Monitors<A> {
     /// The thread that owns the monitor of the object.
     pub fn owner(&self, object: ObjId) -> Option<Tid>
         ensures row { result ≡ option_map (λ t. record { 0 = t }) (owner_in (row_of object.0 self.now)) }
-        ensures stands { (e : List Event) → Stands self.now e → result ≡ option_map (λ t. record { 0 = t }) (owner e object.0) }
+        ensures stands { (e : List Event) → Stands self.now e
+            → result ≡ option_map (λ t. record { 0 = t }) (owner e object.0) }
     {
         match look(&self.owned, object.0) {
             Some(owned) => Some(Tid(owned.tid)),

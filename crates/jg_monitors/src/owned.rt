@@ -43,7 +43,8 @@ pub fn set_owner<A: Allocator + Clone>(
     object: u64,
     owned: Owned,
 ) -> Result<(), AllocError>
-    ensures put { OnOk result ((q : ℕ) → get nat_cmp map.new q ≡ (if object == q then Some owned else get nat_cmp map.old q)) }
+    ensures put { OnOk result ((q : ℕ) → get nat_cmp map.new q
+        ≡ (if object == q then Some owned else get nat_cmp map.old q)) }
     ensures ordered { OnOk result (IsOrdered nat_cmp map.new) }
     ensures err { OnErr result (map.new.entries ≡ map.old.entries) }
     ensures absent { OnErr result (get nat_cmp map.old object ≡ None) }
@@ -54,7 +55,8 @@ pub fn set_owner<A: Allocator + Clone>(
 
 /// Lowers the count of the object's monitor by one, and frees it at 0. Takes no memory.
 pub fn lower_count<A: Allocator>(map: &mut BTreeMap<u64, Owned, A>, object: u64)
-    ensures lowered { (q : ℕ) → get nat_cmp map.new q ≡ (if object == q then lowered (get nat_cmp map.old q) else get nat_cmp map.old q) }
+    ensures lowered { (q : ℕ) → get nat_cmp map.new q
+        ≡ (if object == q then lowered (get nat_cmp map.old q) else get nat_cmp map.old q) }
     ensures ordered { IsOrdered nat_cmp map.new }
 {
     if let Some(owned) = map.get_mut(&object) {

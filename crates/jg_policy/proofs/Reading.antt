@@ -56,7 +56,8 @@ module _ (s : StatedSetup) (name : List ℕ) where
       position-cons (bytes_eq name) (codes "java.base") (map (λ (c : StatedClass). c.module_name) s.classes)
       ∙ rw (other, ← kept) (ap (option_map (λ i. 1 + i)) (sym (twice es ∙ position-map (map class_view es) (λ (c : StatedClass). c.module_name) (bytes_eq name))))
     where
-      twice : (es : Entries) → position (λ (c : Class). bytes_eq name (string_bytes c.module_name)) (map (λ e. e.1) es) ≡ position (λ (c : StatedClass). bytes_eq name c.module_name) (map class_view es)
+      twice : (es : Entries) → position (λ (c : Class). bytes_eq name (string_bytes c.module_name)) (map (λ e. e.1) es)
+          ≡ position (λ (c : StatedClass). bytes_eq name c.module_name) (map class_view es)
       twice es =
           sym (position-map es (λ (e : String Global × Class). e.1) (λ (c : Class). bytes_eq name (string_bytes c.module_name)))
           ∙ position-map es class_view (λ (c : StatedClass). bytes_eq name c.module_name)

@@ -72,7 +72,12 @@ twice_member cs c rest h =
 repeats_name-last : (cs : List StatedClass) (c : StatedClass)
     → repeats_name (names (cs ++ c ∷ [])) ≡ (repeats_name (names cs) || (list_any (bytes_eq c.name) base_names || list_any (bytes_eq c.name) (names cs)))
 repeats_name-last cs c =
-    rw (map-append (λ (d : StatedClass). d.name) cs (c ∷ []), ← append_assoc base_names (names cs) (c.name ∷ []), has_repeat-last bytes_eq (base_names ++ names cs) c.name, list_any-append (bytes_eq c.name) base_names (names cs))
+    rw (
+      map-append (λ (d : StatedClass). d.name) cs (c ∷ []),
+      ← append_assoc base_names (names cs) (c.name ∷ []),
+      has_repeat-last bytes_eq (base_names ++ names cs) c.name,
+      list_any-append (bytes_eq c.name) base_names (names cs),
+    )
 
 -- a class whose name is a base class's
 pub twice_base : (cs : List StatedClass) (c : StatedClass) (rest : List StatedClass) → list_any (bytes_eq c.name) base_names ≡ true → states_twice ((cs ++ c ∷ []) ++ rest) ≡ true

@@ -124,10 +124,13 @@ early_class_table : (ms : Members) → are_early (class_table_faults ms) ≡ tru
 early_class_table ms =
     let unknown : are_early (fault_if (has_unknown_key class_keys ms) UnknownKey) ≡ true = early_if (has_unknown_key class_keys ms) UnknownKey refl in
     let name : are_early (required (text_faults ClassName) (get_member (codes "name") ms)) ≡ true = early_required (text_faults ClassName) (early_text ClassName) (get_member (codes "name") ms) in
-    let module_name : are_early (required (text_faults ModuleName) (get_member (codes "module") ms)) ≡ true = early_required (text_faults ModuleName) (early_text ModuleName) (get_member (codes "module") ms) in
+    let module_name : are_early (required (text_faults ModuleName) (get_member (codes "module") ms)) ≡ true =
+    early_required (text_faults ModuleName) (early_text ModuleName) (get_member (codes "module") ms) in
     let throwable : are_early (optional truth_faults (get_member (codes "throwable") ms)) ≡ true = early_optional truth_faults early_truth (get_member (codes "throwable") ms) in
-    let fields : are_early (optional (array_faults (member_faults FieldType)) (get_member (codes "fields") ms)) ≡ true = early_optional (array_faults (member_faults FieldType)) (early_array (member_faults FieldType) (early_member FieldType)) (get_member (codes "fields") ms) in
-    let natives : are_early (optional (array_faults (member_faults NativeType)) (get_member (codes "natives") ms)) ≡ true = early_optional (array_faults (member_faults NativeType)) (early_array (member_faults NativeType) (early_member NativeType)) (get_member (codes "natives") ms) in
+    let fields : are_early (optional (array_faults (member_faults FieldType)) (get_member (codes "fields") ms)) ≡ true =
+    early_optional (array_faults (member_faults FieldType)) (early_array (member_faults FieldType) (early_member FieldType)) (get_member (codes "fields") ms) in
+    let natives : are_early (optional (array_faults (member_faults NativeType)) (get_member (codes "natives") ms)) ≡ true =
+    early_optional (array_faults (member_faults NativeType)) (early_array (member_faults NativeType) (early_member NativeType)) (get_member (codes "natives") ms) in
     simp (list_all-append) (rw (unknown, name, module_name, throwable, fields, natives))
 
 early_class : (d : Data) → are_early (class_faults d) ≡ true
@@ -138,8 +141,10 @@ early_shape ms =
     let unknown : are_early (fault_if (has_unknown_key setup_keys ms) UnknownKey) ≡ true = early_if (has_unknown_key setup_keys ms) UnknownKey refl in
     let version : are_early (required version_faults (get_member (codes "version") ms)) ≡ true = early_required version_faults early_version (get_member (codes "version") ms) in
     let mode : are_early (required mode_faults (get_member (codes "illegal_native_access") ms)) ≡ true = early_required mode_faults early_mode (get_member (codes "illegal_native_access") ms) in
-    let enabled : are_early (optional (array_faults (text_faults ModuleName)) (get_member (codes "enable_native_access") ms)) ≡ true = early_optional (array_faults (text_faults ModuleName)) (early_array (text_faults ModuleName) (early_text ModuleName)) (get_member (codes "enable_native_access") ms) in
-    let classes : are_early (optional (array_faults class_faults) (get_member (codes "class") ms)) ≡ true = early_optional (array_faults class_faults) (early_array class_faults early_class) (get_member (codes "class") ms) in
+    let enabled : are_early (optional (array_faults (text_faults ModuleName)) (get_member (codes "enable_native_access") ms)) ≡ true =
+    early_optional (array_faults (text_faults ModuleName)) (early_array (text_faults ModuleName) (early_text ModuleName)) (get_member (codes "enable_native_access") ms) in
+    let classes : are_early (optional (array_faults class_faults) (get_member (codes "class") ms)) ≡ true =
+    early_optional (array_faults class_faults) (early_array class_faults early_class) (get_member (codes "class") ms) in
     simp (list_all-append) (rw (unknown, version, mode, enabled, classes))
 
 found_early : (xs : List SetupFault) (f : SetupFault) → are_early xs ≡ true → first_of xs ≡ Some f → is_early f ≡ true

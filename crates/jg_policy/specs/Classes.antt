@@ -36,7 +36,8 @@ module_names setup = codes "java.base" ∷ map (λ c. c.module_name) setup.class
 -- the number of a class's module: the place where its name comes first
 abbrev pub module_of : StatedSetup → ℕ → Option ℕ
 module_of setup class =
-    if nat_lt class (class_count setup) then position (bytes_eq (module_name_of setup class)) (module_names setup) else None
+    if nat_lt class (class_count setup) then position (bytes_eq (module_name_of setup class)) (module_names setup)
+    else None
 
 abbrev pub fields_in : Option StatedClass → List StatedMember
 fields_in None = []

@@ -7,7 +7,8 @@ use Rattle.jg_policy.specs.Links.{Event, Linked, UnlinkedAll, Warned, linked, wa
 -- some event links the method, and no later one unlinks its class
 abbrev pub IsLinked : List Event → ℕ → ℕ → Type 0
 IsLinked e class native =
-    (later : List Event) × (before : List Event) × (e ≡ later ++ Linked class native ∷ before) × All (λ ev. ev ≢ UnlinkedAll class) later
+    (later : List Event) × (before : List Event) × (e ≡ later ++ Linked class native ∷ before)
+    × All (λ ev. ev ≢ UnlinkedAll class) later
 
 abbrev pub LinkedMeans : Type 0
 LinkedMeans = (e : List Event) (class native : ℕ) → IsTrue (linked e class native) ↔ IsLinked e class native

@@ -7,7 +7,8 @@ pub data Event : Type 0 where
   UnlinkedAll : (class : ℕ) → Event
   Warned : (home : ℕ) → Event
 
--- the method was linked, and its class's methods weren't unlinked since (JNI Specification, chapter 4, RegisterNatives and UnregisterNatives)
+-- the method was linked, and its class's methods weren't unlinked since (JNI Specification, chapter 4, RegisterNatives
+-- and UnregisterNatives)
 abbrev pub linked : List Event → ℕ → ℕ → Bool
 linked [] class native = false
 linked (Linked c n ∷ e) class native = (class == c && native == n) || linked e class native

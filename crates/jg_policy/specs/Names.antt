@@ -8,7 +8,8 @@ use Rattle.jg_policy.specs.declared.names.Spelling.TheVariants.{ModuleName, Clas
 -- a letter, a digit, `_` or `$`
 abbrev pub is_segment_byte : ℕ → Bool
 is_segment_byte b =
-    (nat_le 48 b && nat_le b 57) || ((nat_le 65 b && nat_le b 90) || ((nat_le 97 b && nat_le b 122) || (b == 95 || b == 36)))
+    (nat_le 48 b && nat_le b 57) || ((nat_le 65 b && nat_le b 90)
+    || ((nat_le 97 b && nat_le b 122) || (b == 95 || b == 36)))
 
 -- one or more such bytes
 abbrev pub is_segment : List ℕ → Bool

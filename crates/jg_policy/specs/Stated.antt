@@ -44,7 +44,10 @@ abbrev pub members_of : Data → Members
 members_of d = unwrap_or (as_table d) no_members
 
 abbrev pub member_stated_in : Members → StatedMember
-member_stated_in ms = record { name = text_of (get_member (codes "name") ms); signature = text_of (get_member (codes "type") ms) }
+member_stated_in ms = record {
+  name = text_of (get_member (codes "name") ms);
+  signature = text_of (get_member (codes "type") ms);
+}
 
 abbrev pub member_stated : Data → StatedMember
 member_stated d = member_stated_in (members_of d)

@@ -57,7 +57,8 @@ impl Member {
 fn members_from(alloc: Global, values: &[Value]) -> Result<IndexSet<Member>, SetupFault>
     ensures stated { IfOk result (λ s. map member_view s.keys ≡ each_item member_stated (items_view values.now)) }
     ensures distinct { IfOk result (λ s. has_repeat same_member (map member_view s.keys) ≡ false) }
-    ensures repeated { IfErr result (λ f. f ≢ SetupFault.NoMemory → (f ≡ SetupFault.Duplicate) × (has_repeat same_member (each_item member_stated (items_view values.now)) ≡ true)) }
+    ensures repeated { IfErr result (λ f. f ≢ SetupFault.NoMemory → (f ≡ SetupFault.Duplicate)
+        × (has_repeat same_member (each_item member_stated (items_view values.now)) ≡ true)) }
 {
     let mut members = IndexSet::new(alloc);
     for value in values {
@@ -78,7 +79,8 @@ impl Class {
     fn from_table(alloc: Global, table: &Table) -> Result<(String, Class), SetupFault>
         ensures stated { IfOk result (λ e. class_view e ≡ class_stated_in (table_view table.now)) }
         ensures distinct { IfOk result (λ e. repeats_member (class_view e) ≡ false) }
-        ensures repeated { IfErr result (λ f. f ≢ SetupFault.NoMemory → (f ≡ SetupFault.Duplicate) × (repeats_member (class_stated_in (table_view table.now)) ≡ true)) }
+        ensures repeated { IfErr result (λ f. f ≢ SetupFault.NoMemory → (f ≡ SetupFault.Duplicate)
+            × (repeats_member (class_stated_in (table_view table.now)) ≡ true)) }
     {
         let Ok(name) = String::from_str(alloc, text_at(table, "name")) else {
             return Err(SetupFault::NoMemory);
@@ -98,7 +100,8 @@ impl Class {
     fn from_value(alloc: Global, value: &Value) -> Result<(String, Class), SetupFault>
         ensures stated { IfOk result (λ e. class_view e ≡ class_stated (view value.now)) }
         ensures distinct { IfOk result (λ e. repeats_member (class_view e) ≡ false) }
-        ensures repeated { IfErr result (λ f. f ≢ SetupFault.NoMemory → (f ≡ SetupFault.Duplicate) × (repeats_member (class_stated (view value.now)) ≡ true)) }
+        ensures repeated { IfErr result (λ f. f ≢ SetupFault.NoMemory → (f ≡ SetupFault.Duplicate)
+            × (repeats_member (class_stated (view value.now)) ≡ true)) }
     {
         match value.as_table() {
             // As for a member.
@@ -123,7 +126,8 @@ pub(crate) fn classes_from(
 ) -> Result<IndexMap<String, Class>, SetupFault>
     ensures stated { IfOk result (λ m. map class_view m.entries ≡ each_item class_stated (items_view values.now)) }
     ensures distinct { IfOk result (λ m. states_twice (map class_view m.entries) ≡ false) }
-    ensures repeated { IfErr result (λ f. f ≢ SetupFault.NoMemory → (f ≡ SetupFault.Duplicate) × (states_twice (each_item class_stated (items_view values.now)) ≡ true)) }
+    ensures repeated { IfErr result (λ f. f ≢ SetupFault.NoMemory → (f ≡ SetupFault.Duplicate)
+        × (states_twice (each_item class_stated (items_view values.now)) ≡ true)) }
 {
     let mut classes = IndexMap::new(alloc);
     for value in values {

@@ -184,7 +184,8 @@ fn members_fault(spelling: Spelling, values: &[Value]) -> Option<SetupFault>
 }
 
 fn optional_members(table: &Table, key: &str, spelling: Spelling) -> Option<SetupFault>
-    ensures { result ≡ first_of (optional (array_faults (member_faults spelling)) (get_member key.now (table_view table.now))) }
+    ensures { result ≡ first_of (optional (array_faults (member_faults spelling))
+        (get_member key.now (table_view table.now))) }
 {
     let value = value_at(table, key)?;
     match value.as_array() {
@@ -253,7 +254,8 @@ fn classes_fault(values: &[Value]) -> Option<SetupFault>
 }
 
 fn optional_classes(table: &Table) -> Option<SetupFault>
-    ensures { result ≡ first_of (optional (array_faults class_faults) (get_member (codes "class") (table_view table.now))) }
+    ensures { result ≡ first_of (optional (array_faults class_faults)
+        (get_member (codes "class") (table_view table.now))) }
 {
     match value_at(table, "class")?.as_array() {
         None => Some(SetupFault::BadType),
@@ -262,7 +264,8 @@ fn optional_classes(table: &Table) -> Option<SetupFault>
 }
 
 fn optional_modules(table: &Table) -> Option<SetupFault>
-    ensures { result ≡ first_of (optional (array_faults (text_faults ModuleName)) (get_member (codes "enable_native_access") (table_view table.now))) }
+    ensures { result ≡ first_of (optional (array_faults (text_faults ModuleName))
+        (get_member (codes "enable_native_access") (table_view table.now))) }
 {
     match value_at(table, "enable_native_access")?.as_array() {
         None => Some(SetupFault::BadType),
@@ -280,7 +283,8 @@ fn required_version(table: &Table) -> Option<SetupFault>
 }
 
 fn required_mode(table: &Table) -> Option<SetupFault>
-    ensures { result ≡ first_of (required mode_faults (get_member (codes "illegal_native_access") (table_view table.now))) }
+    ensures { result ≡ first_of (required mode_faults
+        (get_member (codes "illegal_native_access") (table_view table.now))) }
 {
     match value_at(table, "illegal_native_access") {
         None => Some(SetupFault::Missing),

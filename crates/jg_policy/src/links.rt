@@ -33,7 +33,11 @@ impl<A: Allocator> Model for Links<A> {
 
     ghost Value = { Table };
 
-    ghost view = { λ a. record { rows = record { linked = map link_view a.linked.keys; warned = a.warned.keys }; spare_links = spare a.linked; spare_warnings = spare a.warned } };
+    ghost view = { λ a. record {
+      rows = record { linked = map link_view a.linked.keys; warned = a.warned.keys };
+      spare_links = spare a.linked;
+      spare_warnings = spare a.warned;
+    } };
 }
 
 impl<A: Allocator + Clone> Links<A> {
@@ -51,7 +55,8 @@ impl<A: Allocator + Clone> Links<A> {
     /// Links a native method, again if it is linked. Fails only for want of memory, and not
     /// where there is room for a link.
     pub fn link(&mut self, class: u32, native: u32) -> Result<(), AllocError>
-        ensures ok { OnOk result ((e : List Event) → Stands self.old.rows e → Stands self.new.rows (Linked class native ∷ e)) }
+        ensures ok { OnOk result ((e : List Event) → Stands self.old.rows e
+            → Stands self.new.rows (Linked class native ∷ e)) }
         ensures err { OnErr result (self.new.rows ≡ self.old.rows) }
         ensures room { 0 < self.old.spare_links → IsOk result }
         ensures lowered { self.old.spare_links ≤ self.new.spare_links + 1 }

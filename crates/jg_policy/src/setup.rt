@@ -47,7 +47,11 @@ impl Model for Setup {
 
     ghost Value = { StatedSetup };
 
-    ghost view = { λ s. record { mode = s.mode; enabled = map string_bytes s.enabled.items; classes = map class_view s.classes.entries } };
+    ghost view = { λ s. record {
+      mode = s.mode;
+      enabled = map string_bytes s.enabled.items;
+      classes = map class_view s.classes.entries;
+    } };
 
     ghost invariant = { λ s. is_large_kept s.enabled.items s.classes.entries ≡ false };
 }
@@ -67,8 +71,10 @@ impl Setup {
     /// Reads a setup text. Of the faults that the text has anywhere the first in the order of
     /// [`SetupFault`] is answered, or `NoMemory` where memory runs out.
     pub fn read(alloc: Global, text: &str) -> Result<Setup, SetupFault>
-        ensures stated { IfOk result (λ setup. (tree : Members) × (parse_document text.now ≡ Some tree) × (tree_faults tree ≡ []) × (setup ≡ setup_stated tree)) }
-        ensures refused { IfErr result (λ fault. fault ≢ SetupFault.NoMemory → IsFirstFault (text_faults_of (parse_document text.now)) fault) }
+        ensures stated { IfOk result (λ setup. (tree : Members) × (parse_document text.now ≡ Some tree)
+            × (tree_faults tree ≡ []) × (setup ≡ setup_stated tree)) }
+        ensures refused { IfErr result (λ fault. fault ≢ SetupFault.NoMemory
+            → IsFirstFault (text_faults_of (parse_document text.now)) fault) }
     {
         let table = match toml::table_from_str(alloc, text) {
             Ok(table) => table,
@@ -83,7 +89,8 @@ impl Setup {
     fn from_tree(alloc: Global, table: &Table) -> Result<Setup, SetupFault>
         ensures stated { IfOk result (λ setup. setup ≡ setup_stated (table_view table.now)) }
         ensures clean { OnOk result (tree_faults (table_view table.now) ≡ []) }
-        ensures refused { IfErr result (λ fault. fault ≢ SetupFault.NoMemory → IsFirstFault (tree_faults (table_view table.now)) fault) }
+        ensures refused { IfErr result (λ fault. fault ≢ SetupFault.NoMemory
+            → IsFirstFault (tree_faults (table_view table.now)) fault) }
     {
         if let Some(fault) = shape_fault(table) {
             return Err(fault);

@@ -51,9 +51,11 @@ abbrev pub present_env : Tid → Option ℕ → Value
 present_env t None = NotAttached
 present_env t (Some n) = Environment (record { tid = t; session = n })
 
--- the environment of the session that the thread has then; JNI_EDETACHED where it has none (JNI Specification, chapter 5)
+-- the environment of the session that the thread has then; JNI_EDETACHED where it has none (JNI Specification, chapter
+-- 5)
 abbrev pub vm_answer : Parts → Tid → VmCall → Answer
-vm_answer p t AttachCurrentThread = plain (Environment (record { tid = t; session = threads.sessions (threads.Attach ∷ threads.acts_of t.0 p.threads) }))
+vm_answer p t AttachCurrentThread = plain
+    (Environment (record { tid = t; session = threads.sessions (threads.Attach ∷ threads.acts_of t.0 p.threads) }))
 vm_answer p t DetachCurrentThread = plain Done
 vm_answer p t GetEnv = plain (present_env t (session p t.0))
 
@@ -63,7 +65,8 @@ same_object None (Some u) = false
 same_object (Some o) None = false
 same_object (Some o) (Some u) = o == u
 
--- JNIInvalidRefType, JNILocalRefType, JNIGlobalRefType, JNIWeakGlobalRefType (JNI Specification, chapter 4, GetObjectRefType)
+-- JNIInvalidRefType, JNILocalRefType, JNIGlobalRefType, JNIWeakGlobalRefType (JNI Specification, chapter 4,
+-- GetObjectRefType)
 abbrev pub ref_type : Named → Ref → ℤ
 ref_type Nothing r = pos 0
 ref_type named Null = pos 0

@@ -156,7 +156,8 @@ done_if b s t call p = record {
   links = if_effective b (call_links s p t call) ++ p.links;
 }
 
--- ---- what an answer brings, whichever call it was: a reference or a buffer is handed out, an exception is made and pending, a module is warned of
+-- ---- what an answer brings, whichever call it was: a reference or a buffer is handed out, an exception is made and
+-- pending, a module is warned of
 
 abbrev pub value_threads : Value → Option ObjId → List threads.Act
 value_threads (Reference r) o = threads.CountRef ∷ []
@@ -206,7 +207,8 @@ settled home t reply o p = record {
 
 -- the parts with a passed entry's events in front: its own ones, and then those of its answer
 abbrev pub passed_on : StatedSetup → ℕ → Call → Reply → Option ObjId → Parts → Parts
-passed_on s t call reply o p = settled (home_of s (native_class s p t call)) t reply o (done_if (is_effective reply.value) s t call p)
+passed_on s t call reply o p = settled (home_of s (native_class s p t call)) t reply o
+    (done_if (is_effective reply.value) s t call p)
 
 -- a denied entry changes nothing
 abbrev pub after : StatedSetup → ℕ → Call → Outcome → Option ObjId → Parts → Parts

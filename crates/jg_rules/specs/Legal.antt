@@ -27,7 +27,8 @@ answered s p t call a = passed_on s t.0 call a.reply a.object p
 abbrev pub entry_at : StatedSetup → Parts → Tid → Option EnvId → Call → Entry
 entry_at s p t env call = entry_by (verdict s p t.0 env call) (answer s p t call) t env call
 
--- each entry is the one that its call has at the entries before it: denied by the first broken rule, else passed with the answer
+-- each entry is the one that its call has at the entries before it: denied by the first broken rule, else passed with
+-- the answer
 abbrev pub Legal : StatedSetup → List Entry → Type 0
 Legal s [] = Unit {0}
 Legal s (x ∷ h) = (x ≡ entry_at s (parts s h) x.tid x.env x.call) × Legal s h

@@ -25,7 +25,8 @@ named_by_target None = Nothing
 named_by_target (Some (ToObject o)) = Object o
 named_by_target (Some Cleared) = NamesNull
 
--- what a reference names for t: a local is valid in its own thread alone (JNI Specification, chapter 2, "Local References")
+-- what a reference names for t: a local is valid in its own thread alone (JNI Specification, chapter 2, "Local
+-- References")
 abbrev pub names : Parts → ℕ → Ref → Named
 names p t Null = NamesNull
 names p t (To Local maker n) = if maker.0 == t then named_by (locals.live n (locals.acts_of t p.locals)) else Nothing

@@ -136,7 +136,8 @@ abbrev pub strings_bad_argument : StringsCall → Bool
 strings_bad_argument (NewString units) = not (list_all is_unit units)
 strings_bad_argument (GetStringLength r) = false
 
--- 12: a capacity below 0 or above 65,535; a unit that isn't one (JNI Specification, chapter 4, PushLocalFrame, NewString)
+-- 12: a capacity below 0 or above 65,535; a unit that isn't one (JNI Specification, chapter 4, PushLocalFrame,
+-- NewString)
 abbrev pub bad_argument : StatedSetup → Call → Bool
 bad_argument s (Vm call) = false
 bad_argument s (Refs call) = false

@@ -33,7 +33,8 @@ fn class_asked<A: Allocator + Clone>(_view: &View<'_, A>, _tid: Tid, call: &Call
 
 /// The number of the module that a warning of the call would name.
 pub fn home_named<A: Allocator + Clone>(view: &View<'_, A>, tid: Tid, call: &Call) -> Option<u32>
-    ensures { (p : Parts) → ViewStands view.now p → result ≡ home_of view.now.setup.now (native_class view.now.setup.now p tid.0 call.now) }
+    ensures { (p : Parts) → ViewStands view.now p
+        → result ≡ home_of view.now.setup.now (native_class view.now.setup.now p tid.0 call.now) }
 {
     match class_asked(view, tid, call) {
         None => None,

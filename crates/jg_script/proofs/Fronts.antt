@@ -13,10 +13,14 @@ pub with_feed : (old mid new : Option (List ℕ)) (line : List ℕ) → Consumes
 with_feed old mid new line taken more clean short =
     (line ++ 10 ∷ [], (line, clean, inr refl, omega (arith, length-append line (10 ∷ []), short)), Consumes-trans old mid new line (10 ∷ []) taken more)
 
-pub with_byte : (old mid new : Option (List ℕ)) (line : List ℕ) (byte : ℕ) → Consumes old mid line → Consumes mid new (byte ∷ []) → byte ≢ 10 → IsOneLine line → length line < 65537 → TakesFront old new
+pub with_byte : (old mid new : Option (List ℕ)) (line : List ℕ) (byte : ℕ) → Consumes old mid line → Consumes mid new (byte ∷ []) → byte ≢ 10 → IsOneLine line → length line < 65537
+    → TakesFront old new
 with_byte old mid new line byte taken more other clean short =
-    let one = All-cons (λ b. (b == 10) ≡ false) byte [] (ne_eqb byte 10 other) (All-nil (λ b. (b == 10) ≡ false)) in
-    (line ++ byte ∷ [], (line ++ byte ∷ [], All-append (λ b. (b == 10) ≡ false) line (byte ∷ []) clean one, inl refl, omega (arith, length-append line (byte ∷ []), short)), Consumes-trans old mid new line (byte ∷ []) taken more)
+    let one = All-cons (λ b. (b == 10) ≡ false) byte [] (ne_eqb byte 10 other) (All-nil (λ b. (b == 10) ≡ false)) in (
+      line ++ byte ∷ [],
+      (line ++ byte ∷ [], All-append (λ b. (b == 10) ≡ false) line (byte ∷ []) clean one, inl refl, omega (arith, length-append line (byte ∷ []), short)),
+      Consumes-trans old mid new line (byte ∷ []) taken more,
+    )
 
 -- a text that ends with a line feed is compared with a line
 pub tells_line : (entry front text : List ℕ) (last : ℕ) (r : Bool) → entry ≡ front ++ last ∷ [] → last ≡ 10 → r ≡ pointwise nat_eq front text → IsTrue r ↔ (entry ≡ text ++ 10 ∷ [])

@@ -43,7 +43,8 @@ no_feed (y ∷ ys) (x ∷ xs) back clean e = no_feed ys xs back clean.1 cc
 
 -- where a line ends with the text, or is longer than a front without a line feed, that front is
 -- the text's
-front_within : (front text tail back : List ℕ) → AllByRecursion (λ b. (b == 10) ≡ false) front → (tail ≡ []) ⊎ (((more : List ℕ) × (tail ≡ 10 ∷ more)) ⊎ (length front ≤ length text)) → text ++ tail ≡ front ++ back
+front_within : (front text tail back : List ℕ) → AllByRecursion (λ b. (b == 10) ≡ false) front → (tail ≡ []) ⊎ (((more : List ℕ) × (tail ≡ 10 ∷ more)) ⊎ (length front ≤ length text))
+    → text ++ tail ≡ front ++ back
     → (rest : List ℕ) × (text ≡ front ++ rest)
 front_within [] text tail back clean cut e = (text, refl)
 front_within (x ∷ xs) [] tail back clean (inl none) e = (let clash : [] ≡ x ∷ (xs ++ back) = sym none ∙ e in absurd (cc))
@@ -85,7 +86,8 @@ begun_in text tail t e c cut h =
     let equals = codes " = " in
     let short = short_call t e c h.tid h.env h.call in
     let printable = All-append (λ b. IsInRange 32 126 b) call equals (printable_line t e c h.tid h.env h.call) seen_equals in
-    let rest = cut_within (call ++ equals) text tail begins.0 (clean_of (call ++ equals) printable) (omega (arith, short, length-append call equals)) cut (begins.1 ∙ sym (append_assoc call equals begins.0)) in
+    let rest = cut_within (call ++ equals) text tail begins.0 (clean_of (call ++ equals) printable) (omega (arith, short, length-append call equals)) cut (begins.1
+    ∙ sym (append_assoc call equals begins.0)) in
     record { tid = h.tid; env = h.env; call = h.call; begins = (rest.0, rest.1 ∙ append_assoc call equals rest.0) }
 
 pub call_in : (text tail : List ℕ) → IsCut text tail → BeginsCall (text ++ tail) → BeginsCall text
@@ -101,7 +103,11 @@ call_goes_on text tail t e c h =
         tid = h.tid;
         env = h.env;
         call = h.call;
-        begins = (begins.0 ++ tail, ap (λ (bs : List ℕ). bs ++ tail) begins.1 ∙ append_assoc (spelling t e c) (codes " = " ++ begins.0) tail ∙ ap (λ (bs : List ℕ). spelling t e c ++ bs) (append_assoc (codes " = ") begins.0 tail));
+        begins = (
+          begins.0 ++ tail,
+          ap (λ (bs : List ℕ). bs ++ tail) begins.1 ∙ append_assoc (spelling t e c) (codes " = " ++ begins.0) tail
+              ∙ ap (λ (bs : List ℕ). spelling t e c ++ bs) (append_assoc (codes " = ") begins.0 tail),
+        );
       },
     )
 
@@ -123,7 +129,11 @@ entry_begins x text more fits e =
       tid = fits.0.0;
       env = fits.0.1;
       call = fits.0.2;
-      begins = (outcome ++ (10 ∷ more), e ∙ append_assoc ((call ++ equals) ++ outcome) (10 ∷ []) more ∙ append_assoc (call ++ equals) outcome (10 ∷ more) ∙ append_assoc call equals (outcome ++ (10 ∷ more)));
+      begins = (
+        outcome ++ (10 ∷ more),
+        e ∙ append_assoc ((call ++ equals) ++ outcome) (10 ∷ []) more ∙ append_assoc (call ++ equals) outcome (10 ∷ more)
+            ∙ append_assoc call equals (outcome ++ (10 ∷ more)),
+      );
     }
 
 -- an entry's text has a line feed
@@ -152,7 +162,8 @@ same_line line text tail more clean short one (inr (inr long)) e =
     let within = cut_within line text tail (10 ∷ more) clean (omega (arith, short)) (inr (inr long)) e in
     absurd (too_far line text within.0 tail more (recursion_from_All _ text one) within.1 (omega (arith, short, long)) e)
 
-pub entry_is_line : (x : Entry) (text tail more : List ℕ) → IsScript (x ∷ []) → FitsOutcome x.outcome → IsOneLine text → IsCut text tail → text ++ tail ≡ entry_text x ++ more → entry_text x ≡ text ++ 10 ∷ []
+pub entry_is_line : (x : Entry) (text tail more : List ℕ) → IsScript (x ∷ []) → FitsOutcome x.outcome → IsOneLine text → IsCut text tail → text ++ tail ≡ entry_text x ++ more
+    → entry_text x ≡ text ++ 10 ∷ []
 entry_is_line x text tail more fits outcome one cut e =
     let plain = line_plain x fits.0.0 fits.0.1 fits.0.2 outcome in
     let line = plain.0 in
@@ -167,7 +178,8 @@ line_within x text fits outcome e =
     omega (arith, short, ap length (sym e ∙ plain.1), length-append text (10 ∷ []), length-append plain.0 (10 ∷ []))
 
 -- a legal history goes on with the one entry of the call with which the text begins
-pub same_entry : (guard : State) (x : Entry) (text tail more : List ℕ) (t : Tid) (env : Option EnvId) (call : Call) → Legal guard.setup (x ∷ guard.journal) → IsScript (x ∷ []) → IsCut text tail → text ++ tail ≡ entry_text x ++ more → BeginsWith text t env call → x ≡ next_entry guard t env call
+pub same_entry : (guard : State) (x : Entry) (text tail more : List ℕ) (t : Tid) (env : Option EnvId) (call : Call) → Legal guard.setup (x ∷ guard.journal) → IsScript (x ∷ []) → IsCut text tail
+    → text ++ tail ≡ entry_text x ++ more → BeginsWith text t env call → x ≡ next_entry guard t env call
 same_entry guard x text tail more t env call legal fits cut e begun =
     let same = same_begun text x.tid t x.env env x.call call (begun_in text tail x.tid x.env x.call cut (entry_begins x (text ++ tail) more fits e)) begun in
     legal.0
@@ -182,7 +194,8 @@ no_call guard text none tail one cut = λ goes.
     none (x.tid, x.env, x.call, begun_in text tail x.tid x.env x.call cut (entry_begins x (text ++ tail) more (fits.0, tt) e))
 
 -- a text that isn't the line of its call's entry is the line of no entry
-pub not_replayed : (guard : State) (text : List ℕ) (t : Tid) (env : Option EnvId) (call : Call) → BeginsWith text t env call → FitsOutcome (next_entry guard t env call).outcome → entry_text (next_entry guard t env call) ≢ text ++ 10 ∷ []
+pub not_replayed : (guard : State) (text : List ℕ) (t : Tid) (env : Option EnvId) (call : Call) → BeginsWith text t env call → FitsOutcome (next_entry guard t env call).outcome
+    → entry_text (next_entry guard t env call) ≢ text ++ 10 ∷ []
     → (tail : List ℕ) → IsOneLine text → IsCut text tail → ¬ GoesOn guard.setup guard.journal (text ++ tail)
 not_replayed guard text t env call begun outcome other tail one cut = λ goes.
     let (x, more, legal, fits, e) = goes in
@@ -190,7 +203,8 @@ not_replayed guard text t env call begun outcome other tail one cut = λ goes.
     let fitting = subst (λ (y : Entry). FitsOutcome y.outcome) (sym same) outcome in
     other (ap entry_text (sym same) ∙ entry_is_line x text tail more (fits.0, tt) fitting one cut e)
 
-pub answered : (old new : State) (text entry : List ℕ) (t : Tid) (env : Option EnvId) (call : Call) (n : ℕ) (r : Bool) → BeginsWith text t env call → FitsOutcome (next_entry old t env call).outcome → Took old new (next_entry old t env call) → entry ≡ entry_text (next_entry old t env call)
+pub answered : (old new : State) (text entry : List ℕ) (t : Tid) (env : Option EnvId) (call : Call) (n : ℕ) (r : Bool) → BeginsWith text t env call → FitsOutcome (next_entry old t env call).outcome
+    → Took old new (next_entry old t env call) → entry ≡ entry_text (next_entry old t env call)
     → IsTrue r ↔ (entry ≡ text ++ 10 ∷ []) → Replays old new text n (Ok r)
 answered old new text entry t env call n true begun outcome took is told =
     let fits = next_fits old t env call begun.tid begun.env begun.call in

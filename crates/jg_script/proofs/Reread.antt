@@ -37,7 +37,8 @@ then (Some text) None g P e p = absurd e
 then (Some text) (Some rest) g P e p = (rest, e, p)
 
 -- what the reader had left before a line is the line and what follows it
-left : (mid input' : Option (List ℕ)) (text : List ℕ) (taken : Taken) (P : List ℕ → Type 0) → TakesBytes mid input' text taken → taken ≢ Nothing → ((tail : List ℕ) → IsCut text tail → 0 < length (text ++ tail) → P (text ++ tail)) → IfSome mid P
+left : (mid input' : Option (List ℕ)) (text : List ℕ) (taken : Taken) (P : List ℕ → Type 0) → TakesBytes mid input' text taken → taken ≢ Nothing
+    → ((tail : List ℕ) → IsCut text tail → 0 < length (text ++ tail) → P (text ++ tail)) → IfSome mid P
 left None input' text taken P bytes some p = tt
 left (Some rest) None text Line P bytes some p = absurd bytes
 left (Some rest) None text LastLine P bytes some p = absurd bytes.0
@@ -68,7 +69,8 @@ one_more : (input mid input' : Option (List ℕ)) (g : List Entry) → Consumes 
 one_more input mid input' g e (bytes, front, taken) = (bytes, front, Consumes-trans input mid input' (journal_text g) bytes e taken)
 
 -- a line of an entry is taken whole
-whole : (mid input' : Option (List ℕ)) (text : List ℕ) (taken : Taken) → TakesBytes mid input' text taken → taken ≢ Nothing → taken ≢ LastLine → length text ≤ 65536 → Consumes mid input' (text ++ 10 ∷ [])
+whole : (mid input' : Option (List ℕ)) (text : List ℕ) (taken : Taken) → TakesBytes mid input' text taken → taken ≢ Nothing → taken ≢ LastLine → length text ≤ 65536
+    → Consumes mid input' (text ++ 10 ∷ [])
 whole mid input' text Line bytes some more short = bytes
 whole mid input' text LastLine bytes some more short = absurd (more refl)
 whole mid input' text Nothing bytes some more short = absurd (some refl)
@@ -91,42 +93,75 @@ module _ (input mid input' : Option (List ℕ)) (setup : StatedSetup) (limit lin
   is_legal taken done = (old.journal, h.history, (all_read input mid input' old.journal h.read taken done, done))
 
   module _ (text : List ℕ) where
-    pub is_cut_short : Consumes mid input' text → IsAtEnd input' → 0 < length text → IsOneLine text → TakesFront mid input' → line ≤ limit → Verifies input input' setup limit (Ok (verdict.Differs line))
+    pub is_cut_short : Consumes mid input' text → IsAtEnd input' → 0 < length text → IsOneLine text → TakesFront mid input' → line ≤ limit
+        → Verifies input input' setup limit (Ok (verdict.Differs line))
     is_cut_short taken done some one front below =
         let counted = h.counted in
         let differs : IsDifferent setup limit old.journal text = record {
           some = some;
           within = λ _ goes. (let (x, more, legal, fits, e) = goes in ends_with_feed x text more one e);
           past = λ full. absurd (omega (arith, counted, below, full));
-        } in
-        (old.journal, h.history, (then input mid old.journal (IsDifferent setup limit old.journal) h.read (ended mid input' text (IsDifferent setup limit old.journal) taken done differs), one_more input mid input' old.journal h.read front, counted))
+        } in (
+          old.journal,
+          h.history,
+          (
+            then input mid old.journal (IsDifferent setup limit old.journal) h.read (ended mid input' text (IsDifferent setup limit old.journal) taken done differs),
+            one_more input mid input' old.journal h.read front,
+            counted,
+          ),
+        )
 
-    pub is_other : (taken : Taken) (new : State) → TakesBytes mid input' text taken → taken ≢ Nothing → IsOneLine text → TakesFront mid input' → line ≤ limit → Replays old new text line (Ok false) → Verifies input input' setup limit (Ok (verdict.Differs line))
+    pub is_other : (taken : Taken) (new : State) → TakesBytes mid input' text taken → taken ≢ Nothing → IsOneLine text → TakesFront mid input' → line ≤ limit → Replays old new text line (Ok false)
+        → Verifies input input' setup limit (Ok (verdict.Differs line))
     is_other taken new bytes some one front below other =
         let counted = h.counted in
         let differs : (tail : List ℕ) → IsCut text tail → 0 < length (text ++ tail) → IsDifferent setup limit old.journal (text ++ tail) = λ tail cut long. record {
           some = long;
           within = λ _. subst (λ (s : StatedSetup). ¬ GoesOn s old.journal (text ++ tail)) h.setup_kept (other tail one cut);
           past = λ full. absurd (omega (arith, counted, below, full));
-        } in
-        (old.journal, h.history, (then input mid old.journal (IsDifferent setup limit old.journal) h.read (left mid input' text taken (IsDifferent setup limit old.journal) bytes some differs), one_more input mid input' old.journal h.read front, counted))
+        } in (
+          old.journal,
+          h.history,
+          (
+            then input mid old.journal (IsDifferent setup limit old.journal) h.read (left mid input' text taken (IsDifferent setup limit old.journal) bytes some differs),
+            one_more input mid input' old.journal h.read front,
+            counted,
+          ),
+        )
 
-    pub is_past : (taken : Taken) (result : Result Verdict RunFault) → TakesBytes mid input' text taken → taken ≢ Nothing → TakesFront mid input' → limit < line → IsPast text line result → Verifies input input' setup limit result
+    pub is_past : (taken : Taken) (result : Result Verdict RunFault) → TakesBytes mid input' text taken → taken ≢ Nothing → TakesFront mid input' → limit < line → IsPast text line result
+        → Verifies input input' setup limit result
     is_past taken (Ok (verdict.Differs l)) bytes some front above (is, none) =
         let counted = h.counted in
         let differs : (tail : List ℕ) → IsCut text tail → 0 < length (text ++ tail) → IsDifferent setup limit old.journal (text ++ tail) = λ tail cut long. record {
           some = long;
           within = λ below. absurd (omega (arith, counted, above, below));
           past = λ _ begins. none (call_in text tail cut begins);
-        } in
-        (old.journal, h.history, (then input mid old.journal (IsDifferent setup limit old.journal) h.read (left mid input' text taken (IsDifferent setup limit old.journal) bytes some differs), one_more input mid input' old.journal h.read front, is ∙ counted))
+        } in (
+          old.journal,
+          h.history,
+          (
+            then input mid old.journal (IsDifferent setup limit old.journal) h.read (left mid input' text taken (IsDifferent setup limit old.journal) bytes some differs),
+            one_more input mid input' old.journal h.read front,
+            is ∙ counted,
+          ),
+        )
     is_past taken (Ok verdict.Legal) bytes some front above none = absurd none
     is_past taken (Err (Limit l)) bytes some front above (is, begins_call) =
         let (t, env, call, begun) = begins_call in
         let counted = h.counted in
         let within = (h.history).within in
-        let begins : (tail : List ℕ) → IsCut text tail → 0 < length (text ++ tail) → BeginsCall (text ++ tail) = λ tail cut long. call_goes_on text tail t env call begun in
-        (old.journal, h.history, (then input mid old.journal BeginsCall h.read (left mid input' text taken BeginsCall bytes some begins), one_more input mid input' old.journal h.read front, is ∙ counted, omega (arith, counted, above, within)))
+        let begins : (tail : List ℕ) → IsCut text tail → 0 < length (text ++ tail) → BeginsCall (text ++ tail) = λ tail cut long. call_goes_on text tail t env call begun in (
+          old.journal,
+          h.history,
+          (
+            then input mid old.journal BeginsCall h.read (left mid input' text taken BeginsCall bytes some begins),
+            one_more input mid input' old.journal h.read front,
+            is
+                ∙ counted,
+            omega (arith, counted, above, within),
+          ),
+        )
     is_past taken (Err (NoMemory l)) bytes some front above is = (old.journal, h.history, (one_more input mid input' old.journal h.read front, is ∙ h.counted))
     is_past taken (Err (Script l fault)) bytes some front above none = absurd none
     is_past taken (Err (Read l)) bytes some front above none = absurd none
@@ -139,7 +174,8 @@ module _ (input mid input' : Option (List ℕ)) (setup : StatedSetup) (limit lin
     replay_failed new (Read l) front is = absurd is
     replay_failed new (Write l) front is = absurd is
 
-    pub goes_on : (taken : Taken) (new : State) → TakesBytes mid input' text taken → taken ≢ Nothing → taken ≢ LastLine → new.setup ≡ old.setup → new.limit ≡ old.limit → (Legal old.setup old.journal → Legal new.setup new.journal) → Replays old new text line (Ok true) → HasReplayed input input' setup limit (line + 1) new
+    pub goes_on : (taken : Taken) (new : State) → TakesBytes mid input' text taken → taken ≢ Nothing → taken ≢ LastLine → new.setup ≡ old.setup → new.limit ≡ old.limit
+        → (Legal old.setup old.journal → Legal new.setup new.journal) → Replays old new text line (Ok true) → HasReplayed input input' setup limit (line + 1) new
     goes_on taken new bytes some more same_setup same_limit legal (e, took, fits, is, short) =
         let counted = h.counted in
         let room = took.room in
@@ -148,7 +184,8 @@ module _ (input mid input' : Option (List ℕ)) (setup : StatedSetup) (limit lin
         let line_read = whole mid input' text taken bytes some more short in
         let before : Legal old.setup old.journal = subst (λ (s : StatedSetup). Legal s old.journal) (sym h.setup_kept) (h.history).legal in
         record {
-          read = subst (Consumes input input') (ap (λ (bs : List ℕ). journal_text old.journal ++ bs) (sym is) ∙ sym (ap journal_text took.journal)) (Consumes-trans input mid input' (journal_text old.journal) (text ++ 10 ∷ []) h.read line_read);
+          read = subst (Consumes input input') (ap (λ (bs : List ℕ). journal_text old.journal ++ bs) (sym is) ∙ sym (ap journal_text took.journal))
+              (Consumes-trans input mid input' (journal_text old.journal) (text ++ 10 ∷ []) h.read line_read);
           history = record {
             legal = subst (λ (s : StatedSetup). Legal s new.journal) (same_setup ∙ h.setup_kept) (legal before);
             spelt = subst IsScript (sym took.journal) (fits.0, (h.history).spelt);
@@ -169,7 +206,8 @@ past_sound old new text line (Err (Script l fault)) same none = absurd none
 past_sound old new text line (Err (Read l)) same none = absurd none
 past_sound old new text line (Err (Write l)) same none = absurd none
 
-pub failed_sound : (N : Type 0) (old new : Bool) (before after : State) (text : List ℕ) (line : ℕ) (fault : RunFault) → new ≡ old → Replays before after text line (Err fault) → ReaderFails {N = N} old new (Err fault)
+pub failed_sound : (N : Type 0) (old new : Bool) (before after : State) (text : List ℕ) (line : ℕ) (fault : RunFault) → new ≡ old → Replays before after text line (Err fault)
+    → ReaderFails {N = N} old new (Err fault)
 failed_sound N old new before after text line (NoMemory l) same is = same
 failed_sound N old new before after text line (Script l fault) same none = absurd none
 failed_sound N old new before after text line (Limit l) same none = absurd none

@@ -15,7 +15,8 @@ use Rattle.jg_script.specs.Lines.{lines_of, LinesTaken, BeginsTooLong, ReadsOneM
 use Rattle.jg_script.specs.Devices.{TakesFront}
 use Rattle.std.proofs.KnownBytes.{Appends-trans, Consumes-trans}
 
-followed : (a c : Option (List ℕ)) (xs : List (List ℕ)) (line : List ℕ) (P : List ℕ → Type 0) → LinesTaken a c (xs ++ line ∷ []) → P line → IfSome a (λ text. (next : List ℕ) × (more : List (List ℕ)) × (lines_of text ≡ xs ++ next ∷ more) × P next)
+followed : (a c : Option (List ℕ)) (xs : List (List ℕ)) (line : List ℕ) (P : List ℕ → Type 0) → LinesTaken a c (xs ++ line ∷ []) → P line
+    → IfSome a (λ text. (next : List ℕ) × (more : List (List ℕ)) × (lines_of text ≡ xs ++ next ∷ more) × P next)
 followed None c xs line P e p = tt
 followed (Some text) None xs line P e p = absurd e
 followed (Some text) (Some rest) xs line P e p = (line, lines_of rest, e ∙ append_assoc xs (line ∷ []) (lines_of rest), p)
@@ -43,7 +44,8 @@ too_long (Some text) (Some rest) h e (bad, more, split, long) =
     (bad, more, e ∙ ap (λ ls. call_lines h ++ ls) split, record { fault = long; first = λ g low. absurd (omega (arith, low)) })
 
 -- the lines of the longer history
-lines_of_calls : (a c : Option (List ℕ)) (old new : State) (text : List ℕ) (e : Entry) → Journals old new text e → LinesTaken a c (call_lines old.journal ++ text ∷ []) → LinesTaken a c (call_lines new.journal)
+lines_of_calls : (a c : Option (List ℕ)) (old new : State) (text : List ℕ) (e : Entry) → Journals old new text e → LinesTaken a c (call_lines old.journal ++ text ∷ [])
+    → LinesTaken a c (call_lines new.journal)
 lines_of_calls a c old new text e j taken =
     subst (LinesTaken a c) (ap (λ t. call_lines old.journal ++ t ∷ []) j.spelt.text ∙ sym (ap call_lines j.journal)) taken
 
@@ -55,7 +57,8 @@ pub record HasChecked (input input' bytes bytes' : Option (List ℕ)) (limit lin
   pub counted : line ≡ length guard.journal + 1
   pub limited : guard.limit ≡ limit
 
-pub long_answered : (input mid input' bytes bytes' : Option (List ℕ)) (limit line : ℕ) (guard : State) → HasChecked input mid bytes bytes' limit line guard → length guard.journal ≤ limit → BeginsTooLong mid → Checks input input' bytes bytes' limit guard.journal (Err (Script line LineTooLong))
+pub long_answered : (input mid input' bytes bytes' : Option (List ℕ)) (limit line : ℕ) (guard : State) → HasChecked input mid bytes bytes' limit line guard → length guard.journal ≤ limit
+    → BeginsTooLong mid → Checks input input' bytes bytes' limit guard.journal (Err (Script line LineTooLong))
 long_answered input mid input' bytes bytes' limit line guard h within long = (too_long input mid guard.journal h.read long, (λ other. absurd (other refl)), h.written, h.counted, within)
 
 module _ (input mid input' bytes part bytes' : Option (List ℕ)) (limit line : ℕ) (old new : State) (text : List ℕ) where
@@ -77,10 +80,12 @@ module _ (input mid input' bytes part bytes' : Option (List ℕ)) (limit line : 
         λ script. subst IsScript (sym j.journal) ((j.spelt.tid, j.spelt.env, j.spelt.call), script),
       )
 
-  pub answered_err : (fault : RunFault) → HasChecked input mid bytes part limit line old → length old.journal ≤ limit → LinesTaken input input' (call_lines old.journal ++ text ∷ []) → Answers part bytes' old new text line (Err fault)
+  pub answered_err : (fault : RunFault) → HasChecked input mid bytes part limit line old → length old.journal ≤ limit → LinesTaken input input' (call_lines old.journal ++ text ∷ [])
+      → Answers part bytes' old new text line (Err fault)
       → Checks input input' bytes bytes' limit new.journal (Err fault)
   answered_err (Script l f) h within taken (device, same, first, is) =
-      let P : State → Type 0 = λ k. IsFollowedBy input k.journal (λ next. IsFirstFault next f) × (f ≢ LineTooLong → TakesOneMore input input' k.journal) × WritesAll bytes bytes' k.journal × (l ≡ length k.journal + 1) × (length k.journal ≤ limit) in
+      let P : State → Type 0 = λ k. IsFollowedBy input k.journal (λ next. IsFirstFault next f) × (f ≢ LineTooLong → TakesOneMore input input' k.journal) × WritesAll bytes bytes' k.journal
+      × (l ≡ length k.journal + 1) × (length k.journal ≤ limit) in
       let Q : Option (List ℕ) → Type 0 = λ d. WritesAll bytes d old.journal in
       subst P (sym same) (followed _ _ _ text (λ next. IsFirstFault next f) taken first, (λ _. (text, taken)), subst Q (sym device) h.written, is ∙ h.counted, within)
   answered_err (Limit l) h within taken (device, same, well, full, is) =
@@ -109,14 +114,18 @@ one_more input mid input' text e (bytes, front, taken) = (bytes, front, Consumes
 pub reads_front : (input mid input' : Option (List ℕ)) (g : List Entry) → Consumes input mid (script_text g) → TakesFront mid input' → ReadsOneMore input input' (script_text g)
 reads_front input mid input' g e front = one_more input mid input' (script_text g) e front
 
-pub no_memory_reads : (input mid input' bytes bytes' : Option (List ℕ)) (limit line : ℕ) (guard : State) → HasChecked input mid bytes bytes' limit line guard → Consumes input mid (script_text guard.journal) → TakesFront mid input' → Reads input input' guard.journal (Err (NoMemory line))
+pub no_memory_reads : (input mid input' bytes bytes' : Option (List ℕ)) (limit line : ℕ) (guard : State) → HasChecked input mid bytes bytes' limit line guard
+    → Consumes input mid (script_text guard.journal) → TakesFront mid input' → Reads input input' guard.journal (Err (NoMemory line))
 no_memory_reads input mid input' bytes bytes' limit line guard h e front = (guard.journal, inl refl, h.counted, one_more input mid input' (script_text guard.journal) e front)
 
-pub line_reads : (input mid input' : Option (List ℕ)) (old new : State) (text : List ℕ) (e : Entry) → Consumes input mid (script_text old.journal) → Consumes mid input' (text ++ 10 ∷ []) → Journals old new text e → Consumes input input' (script_text new.journal)
+pub line_reads : (input mid input' : Option (List ℕ)) (old new : State) (text : List ℕ) (e : Entry) → Consumes input mid (script_text old.journal) → Consumes mid input' (text ++ 10 ∷ [])
+    → Journals old new text e → Consumes input input' (script_text new.journal)
 line_reads input mid input' old new text e before taken j =
-    subst (Consumes input input') (ap (λ (t : List ℕ). script_text old.journal ++ (t ++ 10 ∷ [])) (j.spelt.text) ∙ sym (ap script_text j.journal)) (Consumes-trans input mid input' (script_text old.journal) (text ++ 10 ∷ []) before taken)
+    subst (Consumes input input') (ap (λ (t : List ℕ). script_text old.journal ++ (t ++ 10 ∷ [])) (j.spelt.text) ∙ sym (ap script_text j.journal))
+    (Consumes-trans input mid input' (script_text old.journal) (text ++ 10 ∷ []) before taken)
 
-pub answered_reads : (input mid input' bytes part bytes' : Option (List ℕ)) (limit line : ℕ) (old new : State) (text : List ℕ) (fault : RunFault) → HasChecked input mid bytes part limit line old → Consumes input mid (script_text old.journal) → TakesFront mid input' → Answers part bytes' old new text line (Err fault) → Reads input input' new.journal (Err fault)
+pub answered_reads : (input mid input' bytes part bytes' : Option (List ℕ)) (limit line : ℕ) (old new : State) (text : List ℕ) (fault : RunFault) → HasChecked input mid bytes part limit line old
+    → Consumes input mid (script_text old.journal) → TakesFront mid input' → Answers part bytes' old new text line (Err fault) → Reads input input' new.journal (Err fault)
 answered_reads input mid input' bytes part bytes' limit line old new text (Script l f) h e front (device, same, first, is) =
     subst (λ (k : State). ReadsOneMore input input' (script_text k.journal)) (sym same) (one_more input mid input' (script_text old.journal) e front)
 answered_reads input mid input' bytes part bytes' limit line old new text (Limit l) h e front (device, same, well, full, is) =

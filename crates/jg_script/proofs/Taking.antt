@@ -20,7 +20,8 @@ use Rattle.jg_script.specs.declared.run_fault.RunFault.{RunFault}
 use Rattle.jg_script.specs.declared.run_fault.RunFault.TheVariants.{Script, Limit, NoMemory, Read, Write}
 
 -- the entry is of the call's thread, environment and call, denied or not
-spelt_by : (rule : Option Rule) (a : Answer) (text : List ℕ) (t : Tid) (env : Option EnvId) (call : Call) → Spells text t env call → Spells text (entry_by rule a t env call).tid (entry_by rule a t env call).env (entry_by rule a t env call).call
+spelt_by : (rule : Option Rule) (a : Answer) (text : List ℕ) (t : Tid) (env : Option EnvId) (call : Call) → Spells text t env call
+    → Spells text (entry_by rule a t env call).tid (entry_by rule a t env call).env (entry_by rule a t env call).call
 spelt_by (Some rule) a text t env call h = h
 spelt_by None a text t env call h = h
 
@@ -31,14 +32,16 @@ fits_by None a t env call ht he hc = ((ht, he, hc), tt)
 pub next_fits : (guard : State) (t : Tid) (env : Option EnvId) (call : Call) → FitsTid t → FitsEnv env → FitsCall call → IsScript (next_entry guard t env call ∷ [])
 next_fits guard t env call ht he hc = fits_by (verdict guard.setup (parts guard.setup guard.journal) t.0 env call) (answer guard.setup (parts guard.setup guard.journal) t call) t env call ht he hc
 
-pub journals : (old new : State) (text : List ℕ) (t : Tid) (env : Option EnvId) (call : Call) → Took old new (next_entry old t env call) → Spells text t env call → Journals old new text (next_entry old t env call)
+pub journals : (old new : State) (text : List ℕ) (t : Tid) (env : Option EnvId) (call : Call) → Took old new (next_entry old t env call) → Spells text t env call
+    → Journals old new text (next_entry old t env call)
 journals old new text t env call took spelt = record {
   spelt = spelt_by (verdict old.setup (parts old.setup old.journal) t.0 env call) (answer old.setup (parts old.setup old.journal) t call) text t env call spelt;
   journal = took.journal;
   room = took.room;
 }
 
-pub not_taken : (bytes : Option (List ℕ)) (old new : State) (text : List ℕ) (t : Tid) (env : Option EnvId) (call : Call) (n : ℕ) (fault : RunFault) → FailsCall old new (next_entry old t env call) n fault → Spells text t env call → Answers bytes bytes old new text n (Err fault)
+pub not_taken : (bytes : Option (List ℕ)) (old new : State) (text : List ℕ) (t : Tid) (env : Option EnvId) (call : Call) (n : ℕ) (fault : RunFault)
+    → FailsCall old new (next_entry old t env call) n fault → Spells text t env call → Answers bytes bytes old new text n (Err fault)
 not_taken bytes old new text t env call n (Limit line) (same, full, is) spelt = (refl, same, (t, env, call, spelt), full, is)
 not_taken bytes old new text t env call n (NoMemory line) (inl same, is) spelt = (refl, inl same, is)
 not_taken bytes old new text t env call n (NoMemory line) (inr took, is) spelt = (refl, inr (next_entry old t env call, journals old new text t env call took spelt), is)

@@ -17,7 +17,8 @@ pub record Journals (old new : State) (text : List ℕ) (e : Entry) : Type 0 whe
   pub room : length old.journal < old.limit
 
 -- what answering line n of a script did to the writer's bytes and to the guard
-abbrev pub Answers : Option (List ℕ) → Option (List ℕ) → State → State → List ℕ → ℕ → Result (Unit {0}) RunFault → Type 0
+abbrev pub Answers : Option (List ℕ) → Option (List ℕ) → State → State → List ℕ → ℕ → Result (Unit {0}) RunFault
+    → Type 0
 Answers bytes bytes' old new text n (Ok done) =
     (e : Entry) × Journals old new text e × Appends bytes bytes' (entry_text e)
 Answers bytes bytes' old new text n (Err (Script line fault)) =

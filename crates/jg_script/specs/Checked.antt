@@ -29,7 +29,8 @@ BeginsWith input h = IfSome input (λ text. (more : List (List ℕ)) × (lines_o
 
 -- they begin with those, and the next line is such
 abbrev pub IsFollowedBy : Option (List ℕ) → List Entry → (List ℕ → Type 0) → Type 0
-IsFollowedBy input h P = IfSome input (λ text. (next : List ℕ) × (more : List (List ℕ)) × (lines_of text ≡ call_lines h ++ next ∷ more) × P next)
+IsFollowedBy input h P = IfSome input (λ text. (next : List ℕ) × (more : List (List ℕ))
+    × (lines_of text ≡ call_lines h ++ next ∷ more) × P next)
 
 -- no more lines were taken than those and one
 abbrev pub TakesOneMore : Option (List ℕ) → Option (List ℕ) → List Entry → Type 0
@@ -45,27 +46,32 @@ WritesFront old new e = (k : ℕ) × (k < length (entry_text e)) × Appends old 
 
 -- the history h of a check that ended with this result, and what that check did to the bytes of
 -- the reader and of the writer
-abbrev pub Checks : Option (List ℕ) → Option (List ℕ) → Option (List ℕ) → Option (List ℕ) → ℕ → List Entry → Result ℕ RunFault → Type 0
+abbrev pub Checks : Option (List ℕ) → Option (List ℕ) → Option (List ℕ) → Option (List ℕ) → ℕ → List Entry
+    → Result ℕ RunFault → Type 0
 -- all was read, all of it are the lines of n calls, and the text of their entries was written
 Checks input input' bytes bytes' limit h (Ok n) =
     IsAllOf input h × IsAtEnd input' × WritesAll bytes bytes' h × (n ≡ length h) × (length h ≤ limit)
 -- the first faulty line, after which nothing was read, and its first fault; the text of the lines
 -- before was written
 Checks input input' bytes bytes' limit h (Err (Script line fault)) =
-    IsFollowedBy input h (λ next. IsFirstFault next fault) × (fault ≢ LineTooLong → TakesOneMore input input' h) × WritesAll bytes bytes' h × (line ≡ length h + 1) × (length h ≤ limit)
+    IsFollowedBy input h (λ next. IsFirstFault next fault) × (fault ≢ LineTooLong → TakesOneMore input input' h)
+    × WritesAll bytes bytes' h × (line ≡ length h + 1) × (length h ≤ limit)
 -- the line after the last that the limit allows, which is well formed; nothing was read after it,
 -- and the text of the lines before was written
 Checks input input' bytes bytes' limit h (Err (Limit line)) =
-    IsFollowedBy input h IsWellFormed × TakesOneMore input input' h × WritesAll bytes bytes' h × (line ≡ limit + 1) × (length h ≡ limit)
+    IsFollowedBy input h IsWellFormed × TakesOneMore input input' h × WritesAll bytes bytes' h × (line ≡ limit + 1)
+    × (length h ≡ limit)
 -- the text of the lines before was written, and the guard may have taken this line's call
 Checks input input' bytes bytes' limit h (Err (NoMemory line)) =
-    BeginsWith input h × ((g : List Entry) × ((h ≡ g) ⊎ ((e : Entry) × (h ≡ e ∷ g))) × WritesAll bytes bytes' g × (line ≡ length g + 1))
+    BeginsWith input h × ((g : List Entry) × ((h ≡ g) ⊎ ((e : Entry) × (h ≡ e ∷ g))) × WritesAll bytes bytes' g
+    × (line ≡ length g + 1))
 -- the text of the lines before was written
 Checks input input' bytes bytes' limit h (Err (Read line)) =
     BeginsWith input h × WritesAll bytes bytes' h × (line ≡ length h + 1)
 -- the text of the lines before was written, and a front of this line's
 Checks input input' bytes bytes' limit h (Err (Write line)) =
-    BeginsWith input h × ((e : Entry) × (g : List Entry) × (h ≡ e ∷ g) × ((mid : Option (List ℕ)) × WritesAll bytes mid g × WritesFront mid bytes' e)) × (line ≡ length h)
+    BeginsWith input h × ((e : Entry) × (g : List Entry) × (h ≡ e ∷ g)
+    × ((mid : Option (List ℕ)) × WritesAll bytes mid g × WritesFront mid bytes' e)) × (line ≡ length h)
 
 -- the lines of a history's calls, each with its line feed
 abbrev pub script_text : List Entry → List ℕ
@@ -80,7 +86,8 @@ Reads input input' h (Err (Script line fault)) = ReadsOneMore input input' (scri
 Reads input input' h (Err (Limit line)) = ReadsOneMore input input' (script_text h)
 Reads input input' h (Err (Read line)) = ReadsOneMore input input' (script_text h)
 Reads input input' h (Err (NoMemory line)) =
-    (g : List Entry) × ((h ≡ g) ⊎ ((e : Entry) × (h ≡ e ∷ g))) × (line ≡ length g + 1) × ReadsOneMore input input' (script_text g)
+    (g : List Entry) × ((h ≡ g) ⊎ ((e : Entry) × (h ≡ e ∷ g))) × (line ≡ length g + 1)
+    × ReadsOneMore input input' (script_text g)
 Reads input input' h (Err (Write line)) =
     (e : Entry) × (g : List Entry) × (h ≡ e ∷ g) × ReadsOneMore input input' (script_text g)
 

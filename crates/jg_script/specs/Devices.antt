@@ -19,9 +19,11 @@ IsOneLine line = All (λ b. (b == 10) ≡ false) line
 -- too; some bytes of a line; or nothing
 abbrev pub TakesPiece : Option (List ℕ) → Option (List ℕ) → List ℕ → List ℕ → ℕ → Piece → Type 0
 TakesPiece old new before after room piece.Feed =
-    (bytes : List ℕ) × (after ≡ before ++ bytes) × IsOneLine bytes × Consumes old new (bytes ++ 10 ∷ []) × (length bytes < room)
+    (bytes : List ℕ) × (after ≡ before ++ bytes) × IsOneLine bytes × Consumes old new (bytes ++ 10 ∷ [])
+    × (length bytes < room)
 TakesPiece old new before after room piece.More =
-    (bytes : List ℕ) × (after ≡ before ++ bytes) × IsOneLine bytes × Consumes old new bytes × (0 < length bytes) × (length bytes ≤ room)
+    (bytes : List ℕ) × (after ≡ before ++ bytes) × IsOneLine bytes × Consumes old new bytes × (0 < length bytes)
+    × (length bytes ≤ room)
 TakesPiece old new before after room piece.Nothing = (after ≡ before) × Keeps old new
 
 -- what was taken from the reader: a line and its line feed; a last line, after which nothing

@@ -42,8 +42,10 @@ IsCut text tail = (tail ≡ []) ⊎ (((more : List ℕ) × (tail ≡ 10 ∷ more
 
 -- what replaying line n did: the guard took its entry, or there is no such entry
 abbrev pub Replays : State → State → List ℕ → ℕ → Result Bool RunFault → Type 0
-Replays old new text n (Ok true) = (e : Entry) × Took old new e × IsScript (e ∷ []) × (entry_text e ≡ text ++ 10 ∷ []) × (length text ≤ 65536)
-Replays old new text n (Ok false) = (tail : List ℕ) → IsOneLine text → IsCut text tail → ¬ GoesOn old.setup old.journal (text ++ tail)
+Replays old new text n (Ok true) = (e : Entry) × Took old new e × IsScript (e ∷ []) × (entry_text e ≡ text ++ 10 ∷ [])
+    × (length text ≤ 65536)
+Replays old new text n (Ok false) = (tail : List ℕ) → IsOneLine text → IsCut text tail
+    → ¬ GoesOn old.setup old.journal (text ++ tail)
 Replays old new text n (Err (NoMemory line)) = line ≡ n
 Replays old new text n (Err (Script line fault)) = ⊥
 Replays old new text n (Err (Limit line)) = ⊥

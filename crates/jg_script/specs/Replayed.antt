@@ -21,7 +21,8 @@ pub record IsHistory (setup : StatedSetup) (limit : ℕ) (g : List Entry) : Type
 
 -- the text begins with the line of an entry with which g stays legal
 abbrev pub GoesOn : StatedSetup → List Entry → List ℕ → Type 0
-GoesOn setup g text = (x : Entry) × (more : List ℕ) × Legal setup (x ∷ g) × IsScript (x ∷ g) × (text ≡ entry_text x ++ more)
+GoesOn setup g text = (x : Entry) × (more : List ℕ) × Legal setup (x ∷ g) × IsScript (x ∷ g)
+    × (text ≡ entry_text x ++ more)
 
 -- something is left after g. It doesn't begin with the line of an entry with which g stays legal;
 -- and where g is as long as the limit allows, it doesn't begin with a call and ` = `
@@ -44,7 +45,8 @@ Finds input input' setup limit g (Ok (verdict.Differs line)) =
     IsTextThen input g (IsDifferent setup limit g) × ReadsOneMore input input' (journal_text g) × (line ≡ length g + 1)
 -- the first line past the limit begins with a call and ` = `
 Finds input input' setup limit g (Err (Limit line)) =
-    IsTextThen input g BeginsCall × ReadsOneMore input input' (journal_text g) × (line ≡ length g + 1) × (length g ≡ limit)
+    IsTextThen input g BeginsCall × ReadsOneMore input input' (journal_text g) × (line ≡ length g + 1)
+    × (length g ≡ limit)
 Finds input input' setup limit g (Err (NoMemory line)) =
     ReadsOneMore input input' (journal_text g) × (line ≡ length g + 1)
 Finds input input' setup limit g (Err (Read line)) =
@@ -53,4 +55,5 @@ Finds input input' setup limit g (Err (Script line fault)) = ⊥
 Finds input input' setup limit g (Err (Write line)) = ⊥
 
 abbrev pub Verifies : Option (List ℕ) → Option (List ℕ) → StatedSetup → ℕ → Result Verdict RunFault → Type 0
-Verifies input input' setup limit result = (g : List Entry) × IsHistory setup limit g × Finds input input' setup limit g result
+Verifies input input' setup limit result = (g : List Entry) × IsHistory setup limit g
+    × Finds input input' setup limit g result

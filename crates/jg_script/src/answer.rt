@@ -69,7 +69,8 @@ pub fn answer_line<A: Allocator + Clone, W: Write>(
     line: u64,
 ) -> Result<(), RunFault>
     requires { length guard.old.journal ≤ guard.old.limit }
-    ensures answers { Answers (W.contents writer.old.device) (W.contents writer.new.device) guard.old guard.new text.now line result }
+    ensures answers { Answers (W.contents writer.old.device) (W.contents writer.new.device) guard.old guard.new text.now
+        line result }
     ensures legal { Legal guard.old.setup guard.old.journal → Legal guard.new.setup guard.new.journal }
     ensures setup { guard.new.setup ≡ guard.old.setup }
     ensures limit { guard.new.limit ≡ guard.old.limit }

@@ -19,7 +19,8 @@ enum Ending {
 
 /// Takes the next line into the buffer.
 fn read_line<R: BufRead>(reader: &mut Watched<R>, line: &mut Vec<u8>) -> Result<Ending, LineFault>
-    ensures taken { IfOk result (TakesLine (R.remaining reader.old.device) (R.remaining reader.new.device) line.new.items) }
+    ensures taken { IfOk result (TakesLine (R.remaining reader.old.device) (R.remaining reader.new.device)
+        line.new.items) }
     ensures front { TakesFront (R.remaining reader.old.device) (R.remaining reader.new.device) }
     ensures clean { OnOk result (IsOneLine line.new.items) }
     ensures sound { OnOk result (reader.new.failed ≡ reader.old.failed) }
@@ -61,7 +62,8 @@ pub fn next_line<R: BufRead>(
     reader: &mut Watched<R>,
     line: &mut Vec<u8>,
 ) -> Result<Taken, LineFault>
-    ensures bytes { IfOk result (TakesBytes (R.remaining reader.old.device) (R.remaining reader.new.device) line.new.items) }
+    ensures bytes { IfOk result (TakesBytes (R.remaining reader.old.device) (R.remaining reader.new.device)
+        line.new.items) }
     ensures front { TakesFront (R.remaining reader.old.device) (R.remaining reader.new.device) }
     ensures clean { OnOk result (IsOneLine line.new.items) }
     ensures taken { IfOk result (Takes (R.remaining reader.old.device) (R.remaining reader.new.device) line.new.items) }
@@ -85,7 +87,8 @@ pub fn next_line<R: BufRead>(
 /// Writes all of the bytes, by single writes. Where the device fails, a front of them is written.
 pub fn write_text<W: Write>(writer: &mut Watched<W>, text: &[u8]) -> Result<(), DeviceFailed>
     ensures written { OnOk result (Appends (W.contents writer.old.device) (W.contents writer.new.device) text.now) }
-    ensures front { OnErr result ((k : ℕ) × (k < length text.now) × Appends (W.contents writer.old.device) (W.contents writer.new.device) (take k text.now)) }
+    ensures front { OnErr result ((k : ℕ) × (k < length text.now)
+        × Appends (W.contents writer.old.device) (W.contents writer.new.device) (take k text.now)) }
     ensures sound { OnOk result (writer.new.failed ≡ writer.old.failed) }
     ensures failed { OnErr result (writer.new.failed ≡ true) }
 {

@@ -31,8 +31,10 @@ pub fn take_piece<B: BufRead>(
     line: &mut Vec<u8>,
 ) -> Result<Piece, LineFault>
     requires { 0 < room }
-    ensures taken { IfOk result (TakesPiece (B.remaining device.old) (B.remaining device.new) line.old.items line.new.items room) }
-    ensures kept { OnErr result (Keeps (B.remaining device.old) (B.remaining device.new) × (line.new.items ≡ line.old.items)) }
+    ensures taken { IfOk result (TakesPiece (B.remaining device.old) (B.remaining device.new) line.old.items
+        line.new.items room) }
+    ensures kept { OnErr result (Keeps (B.remaining device.old) (B.remaining device.new)
+        × (line.new.items ≡ line.old.items)) }
 {
     let Ok(shown) = device.fill_buf() else {
         return Err(LineFault::Read);

@@ -81,7 +81,8 @@ fn replay_lines<A: Allocator + Clone, R: BufRead>(
     reader: &mut Watched<R>,
 ) -> Result<Verdict, RunFault>
     requires { guard.old.journal ≡ [] }
-    ensures verifies { Verifies (R.remaining reader.old.device) (R.remaining reader.new.device) guard.old.setup guard.old.limit result }
+    ensures verifies { Verifies (R.remaining reader.old.device) (R.remaining reader.new.device) guard.old.setup
+        guard.old.limit result }
     ensures reader { ReaderFails reader.old.failed reader.new.failed result }
 {
     let limit = u64::from(guard.limit());

@@ -24,7 +24,8 @@ pub fn check<A: Allocator + Clone, R: BufRead, W: Write>(
     writer: &mut Watched<W>,
 ) -> Result<u64, RunFault>
     requires { guard.old.journal ≡ [] }
-    ensures checks { Checks (R.remaining reader.old.device) (R.remaining reader.new.device) (W.contents writer.old.device) (W.contents writer.new.device) guard.old.limit guard.new.journal result }
+    ensures checks { Checks (R.remaining reader.old.device) (R.remaining reader.new.device)
+        (W.contents writer.old.device) (W.contents writer.new.device) guard.old.limit guard.new.journal result }
     ensures reads { Reads (R.remaining reader.old.device) (R.remaining reader.new.device) guard.new.journal result }
     ensures legal { Legal guard.new.setup guard.new.journal }
     ensures script { IsScript guard.new.journal }

@@ -62,8 +62,10 @@ impl<R: BufRead> Watched<R> {
     /// reader is marked as failed.
     pub fn take_piece(&mut self, room: usize, line: &mut Vec<u8>) -> Result<Piece, LineFault>
         requires { 0 < room }
-        ensures taken { IfOk result (TakesPiece (R.remaining self.old.device) (R.remaining self.new.device) line.old.items line.new.items room) }
-        ensures kept { OnErr result (Keeps (R.remaining self.old.device) (R.remaining self.new.device) × (line.new.items ≡ line.old.items)) }
+        ensures taken { IfOk result (TakesPiece (R.remaining self.old.device) (R.remaining self.new.device)
+            line.old.items line.new.items room) }
+        ensures kept { OnErr result (Keeps (R.remaining self.old.device) (R.remaining self.new.device)
+            × (line.new.items ≡ line.old.items)) }
         ensures sound { OnOk result (self.new.failed ≡ self.old.failed) }
         ensures fault { IfErr result (FailsLine self.old.failed self.new.failed) }
     {
@@ -106,7 +108,8 @@ impl<W: Write> Watched<W> {
     pub fn write_some(&mut self, bytes: &[u8]) -> Result<usize, DeviceFailed>
         requires { 0 < length bytes.now }
         ensures some { IfOk result (λ n. (0 < n) × (n ≤ length bytes.now)) }
-        ensures written { IfOk result (λ n. Appends (W.contents self.old.device) (W.contents self.new.device) (take n bytes.now)) }
+        ensures written { IfOk result (λ n. Appends (W.contents self.old.device) (W.contents self.new.device)
+            (take n bytes.now)) }
         ensures kept { OnErr result (Keeps (W.contents self.old.device) (W.contents self.new.device)) }
         ensures sound { OnOk result (self.new.failed ≡ self.old.failed) }
         ensures failed { OnErr result (self.new.failed ≡ true) }

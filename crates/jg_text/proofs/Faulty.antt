@@ -45,7 +45,8 @@ wrong_count line t e f rest h other = record {
   first = no_early line t e f rest h;
 }
 
-no_count : (line : List ℕ) (t : Tid) (e : Option EnvId) (f : Fun) (rest : List (List ℕ)) → HasHead line t e f rest → length rest ≡ length (operand_kinds f) → (g : ScriptFault) → rank g < 6 → ¬ HasFault g line
+no_count : (line : List ℕ) (t : Tid) (e : Option EnvId) (f : Fun) (rest : List (List ℕ)) → HasHead line t e f rest → length rest ≡ length (operand_kinds f) → (g : ScriptFault) → rank g < 6
+    → ¬ HasFault g line
 no_count line t e f rest h count LineTooLong low = no_early line t e f rest h LineTooLong (omega arith)
 no_count line t e f rest h count NotAscii low = no_early line t e f rest h NotAscii (omega arith)
 no_count line t e f rest h count NoThread low = no_early line t e f rest h NoThread (omega arith)
@@ -55,21 +56,25 @@ no_count line t e f rest h count WrongCount low = λ bad. bad f (ap (λ fs. slic
 no_count line t e f rest h count BadOperand low = absurd (omega (arith, low))
 no_count line t e f rest h count NoMemory low = absurd (omega (arith, low))
 
-pub bad_operand : (line : List ℕ) (t : Tid) (e : Option EnvId) (f : Fun) (rest : List (List ℕ)) (g : ScriptFault) → HasHead line t e f rest → length rest ≡ length (operand_kinds f) → g ≡ BadOperand → ¬ SpellOperands (operand_kinds f) rest → IsFirstFault line g
+pub bad_operand : (line : List ℕ) (t : Tid) (e : Option EnvId) (f : Fun) (rest : List (List ℕ)) (g : ScriptFault) → HasHead line t e f rest → length rest ≡ length (operand_kinds f) → g ≡ BadOperand
+    → ¬ SpellOperands (operand_kinds f) rest → IsFirstFault line g
 bad_operand line t e f rest g h count is none =
     let whole : IsFirstFault line BadOperand = record {
-      fault = λ k found spelt. none (subst (λ (x : Fun). SpellOperands (operand_kinds x) rest) (sym (same_fun line t e f k rest h found)) (subst (λ (fs : List (List ℕ)). SpellOperands (operand_kinds k) fs) (operands_are line t e f rest h) spelt));
+      fault = λ k found spelt. none (subst (λ (x : Fun). SpellOperands (operand_kinds x) rest) (sym (same_fun line t e f k rest h found))
+          (subst (λ (fs : List (List ℕ)). SpellOperands (operand_kinds k) fs) (operands_are line t e f rest h) spelt));
       first = no_count line t e f rest h count;
     } in
     subst (λ (k : ScriptFault). IsFirstFault line k) (sym is) whole
 
 -- a spelt line has no fault
-pub no_fault : (line : List ℕ) (t : Tid) (e : Option EnvId) (f : Fun) (rest : List (List ℕ)) → HasHead line t e f rest → length rest ≡ length (operand_kinds f) → SpellOperands (operand_kinds f) rest → (g : ScriptFault) → ¬ HasFault g line
+pub no_fault : (line : List ℕ) (t : Tid) (e : Option EnvId) (f : Fun) (rest : List (List ℕ)) → HasHead line t e f rest → length rest ≡ length (operand_kinds f) → SpellOperands (operand_kinds f) rest
+    → (g : ScriptFault) → ¬ HasFault g line
 no_fault line t e f rest h count spelt LineTooLong = no_early line t e f rest h LineTooLong (omega arith)
 no_fault line t e f rest h count spelt NotAscii = no_early line t e f rest h NotAscii (omega arith)
 no_fault line t e f rest h count spelt NoThread = no_early line t e f rest h NoThread (omega arith)
 no_fault line t e f rest h count spelt NoEnv = no_early line t e f rest h NoEnv (omega arith)
 no_fault line t e f rest h count spelt UnknownFunction = no_early line t e f rest h UnknownFunction (omega arith)
 no_fault line t e f rest h count spelt WrongCount = no_count line t e f rest h count WrongCount (omega arith)
-no_fault line t e f rest h count spelt BadOperand = λ bad. bad f (ap (λ fs. slice_get fs 2) h.split) (subst (λ (fs : List (List ℕ)). SpellOperands (operand_kinds f) fs) (sym (operands_are line t e f rest h)) spelt)
+no_fault line t e f rest h count spelt BadOperand = λ bad. bad f (ap (λ fs. slice_get fs 2) h.split)
+    (subst (λ (fs : List (List ℕ)). SpellOperands (operand_kinds f) fs) (sym (operands_are line t e f rest h)) spelt)
 no_fault line t e f rest h count spelt NoMemory = λ bad. bad

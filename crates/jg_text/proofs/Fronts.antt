@@ -61,14 +61,16 @@ spaces_of_call t e c ht he hc =
     omega (arith, length-slice_split (λ b. b == 32) (spelling t e c), fields_are, same_count c)
 
 -- what stands before the space behind so many fields is the call, where the text begins with one
-pub front_is : (text front back : List ℕ) (t : Tid) (e : Option EnvId) (c : Call) (more : List ℕ) → FitsTid t → FitsEnv e → FitsCall c → text ≡ front ++ 32 ∷ back → spaces front + 1 ≡ length (operand_kinds (fun_of c)) + 3 → text ≡ spelling t e c ++ (codes " = " ++ more)
+pub front_is : (text front back : List ℕ) (t : Tid) (e : Option EnvId) (c : Call) (more : List ℕ) → FitsTid t → FitsEnv e → FitsCall c → text ≡ front ++ 32 ∷ back
+    → spaces front + 1 ≡ length (operand_kinds (fun_of c)) + 3 → text ≡ spelling t e c ++ (codes " = " ++ more)
     → (front ≡ spelling t e c) × (back ≡ 61 ∷ 32 ∷ more)
 front_is text front back t e c more ht he hc cut count begins =
     let call = spaces_of_call t e c ht he hc in
     same_cut front (spelling t e c) back (61 ∷ 32 ∷ more) (sym cut ∙ begins ∙ ap (λ rest. spelling t e c ++ rest) (equals more)) (omega (arith, count, call))
 
 -- such a text has a space there
-pub enough : (text : List ℕ) (t : Tid) (e : Option EnvId) (c : Call) (more : List ℕ) → FitsTid t → FitsEnv e → FitsCall c → spaces text < length (operand_kinds (fun_of c)) + 3 → text ≡ spelling t e c ++ (codes " = " ++ more) → ⊥
+pub enough : (text : List ℕ) (t : Tid) (e : Option EnvId) (c : Call) (more : List ℕ) → FitsTid t → FitsEnv e → FitsCall c → spaces text < length (operand_kinds (fun_of c)) + 3
+    → text ≡ spelling t e c ++ (codes " = " ++ more) → ⊥
 enough text t e c more ht he hc few begins =
     let call = spaces_of_call t e c ht he hc in
     let rest : spaces (codes " = " ++ more) ≡ 1 + spaces (61 ∷ 32 ∷ more) = ap spaces (equals more) ∙ one_more (61 ∷ 32 ∷ more) in
@@ -76,11 +78,13 @@ enough text t e c more ht he hc few begins =
     absurd (omega (arith, few, call, whole, rest))
 
 -- the text names the call's function in its third field
-pub named_function : (text : List ℕ) (t : Tid) (e : Option EnvId) (c : Call) (more : List ℕ) → FitsTid t → FitsEnv e → FitsCall c → text ≡ spelling t e c ++ (codes " = " ++ more) → slice_get (fields text) 2 ≡ Some (name_of (fun_of c))
+pub named_function : (text : List ℕ) (t : Tid) (e : Option EnvId) (c : Call) (more : List ℕ) → FitsTid t → FitsEnv e → FitsCall c → text ≡ spelling t e c ++ (codes " = " ++ more)
+    → slice_get (fields text) 2 ≡ Some (name_of (fun_of c))
 named_function text t e c more ht he hc begins = ap (λ k. slice_get (fields k) 2) (begins ∙ ap (λ rest. spelling t e c ++ rest) (equals more)) ∙ named_third t e c (61 ∷ 32 ∷ more) ht he hc
 
 -- what stands before ` = ` spells no call, so the text doesn't begin with one
-pub begins_with_none : (text : List ℕ) (front : Option (List ℕ)) → ((t : Tid) (e : Option EnvId) (c : Call) (more : List ℕ) → FitsTid t → FitsEnv e → FitsCall c → text ≡ spelling t e c ++ (codes " = " ++ more) → front ≡ Some (spelling t e c))
+pub begins_with_none : (text : List ℕ) (front : Option (List ℕ))
+    → ((t : Tid) (e : Option EnvId) (c : Call) (more : List ℕ) → FitsTid t → FitsEnv e → FitsCall c → text ≡ spelling t e c ++ (codes " = " ++ more) → front ≡ Some (spelling t e c))
     → ((line : List ℕ) → front ≡ Some line → (t : Tid) (e : Option EnvId) (c : Call) → ¬ Spells line t e c) → ¬ BeginsCall text
 begins_with_none text front found none = λ begins.
     let (t, e, c, is) = begins in

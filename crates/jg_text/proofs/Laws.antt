@@ -188,7 +188,8 @@ seen_word (of_ref (To Global maker n)) h = seen_cons 71 (dotted_text maker.0 n) 
 seen_word (of_ref (To Weak maker n)) h = seen_cons 87 (dotted_text maker.0 n) (omega arith) (seen_dotted maker.0 n (omega (arith, h.0)) h.1)
 seen_word (of_number (pos n)) h = seen_number n (omega (arith, h))
 seen_word (of_number (negsuc m)) h = seen_cons 45 (decimal (suc m)) (omega arith) (seen_number (suc m) (omega (arith, h)))
-seen_word (of_items xs) h = seen_cons 91 (join_with_byte 44 (map signed_decimal xs) ++ 93 ∷ []) (omega arith) (seen_append (join_with_byte 44 (map signed_decimal xs)) (93 ∷ []) (seen_joined xs h.1) (seen_cons 93 [] (omega arith) (All-nil (λ b. IsInRange 33 126 b))))
+seen_word (of_items xs) h = seen_cons 91 (join_with_byte 44 (map signed_decimal xs)
+    ++ 93 ∷ []) (omega arith) (seen_append (join_with_byte 44 (map signed_decimal xs)) (93 ∷ []) (seen_joined xs h.1) (seen_cons 93 [] (omega arith) (All-nil (λ b. IsInRange 33 126 b))))
 
 seen_words : (us : List Word) → AllByRecursion FitsWord us → AllByRecursion IsVisible (map text_of us)
 seen_words [] h = tt
@@ -211,7 +212,8 @@ each_passes p q (x ∷ xs) f e h =
     ] e
 
 pub seen_name : (f : Fun) → IsVisible (name_of f)
-seen_name f = All-from_recursion (λ b. IsInRange 33 126 b) (name_of f) (seen_by_test (name_of f) (each_passes (λ g. pointwise nat_eq (name_of g) (name_of f)) (λ g. list_all is_seen (name_of g)) all f (named-name_of f) refl))
+seen_name f = All-from_recursion (λ b. IsInRange 33 126 b) (name_of f)
+    (seen_by_test (name_of f) (each_passes (λ g. pointwise nat_eq (name_of g) (name_of f)) (λ g. list_all is_seen (name_of g)) all f (named-name_of f) refl))
 
 clean_all : (parts : List (List ℕ)) → AllByRecursion IsVisible parts → AllByRecursion (IsClean 32) parts
 clean_all [] h = tt
@@ -298,7 +300,15 @@ unfolding spelling
 short_call t e c ht he hc =
     let rest = words_short (operands c) hc in
     rw (join_operands (name_of (fun_of c)) (operand_texts c))
-    (omega (arith, total (decimal t.0) (env_text e) (name_of (fun_of c)) (after_spaces (operand_texts c)), length-decimal-le 20 t.0 (omega arith) (omega (arith, ht)) (omega (arith, ht)), env_short e he, name_short (fun_of c), rest, few_words c))
+    (omega (
+      arith,
+      total (decimal t.0) (env_text e) (name_of (fun_of c)) (after_spaces (operand_texts c)),
+      length-decimal-le 20 t.0 (omega arith) (omega (arith, ht)) (omega (arith, ht)),
+      env_short e he,
+      name_short (fun_of c),
+      rest,
+      few_words c,
+    ))
 
 pub wide : (bs : List ℕ) → IsVisible bs → All (λ b. IsInRange 32 126 b) bs
 wide bs h = λ k d within. let v = h k d within in omega (arith, v)
@@ -343,7 +353,8 @@ spelt_faultless line t e c f h = λ bad.
     no_fault (spelling t e c) t e (fun_of c) (operand_texts c) (spelt_head t e c h.tid h.env h.call) count spelt f (subst (λ (l : List ℕ). HasFault f l) h.text bad)
 
 -- a line that goes on after its call
-fields_more : (part : List ℕ) (parts : List (List ℕ)) (more : List ℕ) → AllByRecursion (IsClean 32) (part ∷ parts) → fields (join_with_byte 32 (part ∷ parts) ++ 32 ∷ more) ≡ (part ∷ parts) ++ fields more
+fields_more : (part : List ℕ) (parts : List (List ℕ)) (more : List ℕ) → AllByRecursion (IsClean 32) (part ∷ parts)
+    → fields (join_with_byte 32 (part ∷ parts) ++ 32 ∷ more) ≡ (part ∷ parts) ++ fields more
 fields_more part [] more h = split_first 32 part more h.0
 fields_more part (next ∷ parts) more h =
     ap fields (append_assoc part (32 ∷ join_with_byte 32 (next ∷ parts)) (32 ∷ more))
@@ -365,7 +376,8 @@ same_front (x ∷ xs) (u ∷ us) ys vs n e =
     cc (head, more)
 
 -- a line that begins with a call and a space begins with one such call alone
-pub begins_once : (t u : Tid) (e f : Option EnvId) (c d : Call) (x y : List ℕ) → FitsTid t → FitsEnv e → FitsCall c → FitsTid u → FitsEnv f → FitsCall d → spelling t e c ++ 32 ∷ x ≡ spelling u f d ++ 32 ∷ y → (t ≡ u) × (e ≡ f) × (c ≡ d)
+pub begins_once : (t u : Tid) (e f : Option EnvId) (c d : Call) (x y : List ℕ) → FitsTid t → FitsEnv e → FitsCall c → FitsTid u → FitsEnv f → FitsCall d
+    → spelling t e c ++ 32 ∷ x ≡ spelling u f d ++ 32 ∷ y → (t ≡ u) × (e ≡ f) × (c ≡ d)
 begins_once t u e f c d x y ht he hc hu hf hd same =
     let split : line_fields t e c ++ fields x ≡ line_fields u f d ++ fields y =
     sym (fields_longer t e c x ht he hc) ∙ ap fields same ∙ fields_longer u f d y hu hf hd in

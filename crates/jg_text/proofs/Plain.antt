@@ -141,14 +141,21 @@ outcome_plain (Passed r) h = more (21002 + 5) 21040 (outcome_text (Passed r)) (b
 outcome_plain (Denied rule) h =
     let n = number_of rule in
     let small = number_small rule in
-    let few : IsPlainText 2 (decimal n) = record { printable = wide (decimal n) (seen_number n (omega (arith, small))); short = length-decimal-le 2 n (omega arith) (omega arith) (omega (arith, small)) } in
+    let few : IsPlainText 2 (decimal n) = record {
+      printable = wide (decimal n) (seen_number n (omega (arith, small)));
+      short = length-decimal-le 2 n (omega arith) (omega arith) (omega (arith, small));
+    } in
     let name = both 1 20 (32 ∷ []) (name_of rule) (known 1 (32 ∷ []) refl (omega arith)) (rule_plain rule) in
-    more ((5 + 2) + (1 + 20)) 21040 (outcome_text (Denied rule)) (both (5 + 2) (1 + 20) (codes "deny " ++ decimal n) (32 ∷ name_of rule) (both 5 2 (codes "deny ") (decimal n) (known 5 (codes "deny ") refl (omega arith)) few) name) (omega arith)
+    more ((5 + 2) + (1 + 20)) 21040 (outcome_text (Denied rule))
+    (both (5 + 2) (1 + 20) (codes "deny " ++ decimal n) (32 ∷ name_of rule) (both 5 2 (codes "deny ") (decimal n) (known 5 (codes "deny ") refl (omega arith)) few) name) (omega arith)
 
 -- the line of an entry, without its line feed
 pub line_plain : (x : Entry) → FitsTid x.tid → FitsEnv x.env → FitsCall x.call → FitsOutcome x.outcome → (line : List ℕ) × (entry_text x ≡ line ++ 10 ∷ []) × IsPlainText 65536 line
 unfolding entry_text
 line_plain x ht he hc ho =
     let call : IsPlainText 22000 (call_line x) = record { printable = printable_line x.tid x.env x.call ht he hc; short = short_call x.tid x.env x.call ht he hc } in
-    let begun = both 22000 3 (call_line x) (codes " = ") call (known 3 (codes " = ") refl (omega arith)) in
-    ((call_line x ++ codes " = ") ++ outcome_text x.outcome, refl, more ((22000 + 3) + 21040) 65536 _ (both (22000 + 3) 21040 (call_line x ++ codes " = ") (outcome_text x.outcome) begun (outcome_plain x.outcome ho)) (omega arith))
+    let begun = both 22000 3 (call_line x) (codes " = ") call (known 3 (codes " = ") refl (omega arith)) in (
+      (call_line x ++ codes " = ") ++ outcome_text x.outcome,
+      refl,
+      more ((22000 + 3) + 21040) 65536 _ (both (22000 + 3) 21040 (call_line x ++ codes " = ") (outcome_text x.outcome) begun (outcome_plain x.outcome ho)) (omega arith),
+    )

@@ -22,7 +22,9 @@ pub cut_rest : (all : List (List ℕ)) (x : List ℕ) (o : Option (Bor (List ℕ
 cut_rest all x None h = h
 cut_rest all x (Some r) h = h
 
-pub spelt_by_parts : (line : List ℕ) (t : Tid) (e : Option EnvId) (f : Fun) (c : Call) (thread env name behind_thread behind_env : List ℕ) (rest : Option (List ℕ)) → fields line ≡ thread ∷ fields behind_thread → fields behind_thread ≡ env ∷ fields behind_env → fields behind_env ≡ name ∷ rest_fields rest → thread ≡ tid_text t → env ≡ env_text e → name ≡ name_of f → fun_of c ≡ f → operand_texts c ≡ rest_fields rest → line ≡ spelling t e c
+pub spelt_by_parts : (line : List ℕ) (t : Tid) (e : Option EnvId) (f : Fun) (c : Call) (thread env name behind_thread behind_env : List ℕ) (rest : Option (List ℕ))
+    → fields line ≡ thread ∷ fields behind_thread → fields behind_thread ≡ env ∷ fields behind_env → fields behind_env ≡ name ∷ rest_fields rest → thread ≡ tid_text t → env ≡ env_text e
+    → name ≡ name_of f → fun_of c ≡ f → operand_texts c ≡ rest_fields rest → line ≡ spelling t e c
 unfolding spelling
 spelt_by_parts line t e f c thread env name behind_thread behind_env rest first second third is_t is_e is_f fun texts =
     let named : name ≡ name_of (fun_of c) = is_f ∙ ap name_of (sym fun) in

@@ -14,7 +14,8 @@ use Rattle.jg_text.proofs.Numbers.{own}
 pub small_before : (bs : List ℕ) (i : ℕ) → i < length bs → length bs ≤ 19 → AllDigits 10 (take i bs) → digits_value 10 (take i bs) < 10 ^ 18
 small_before bs i within short h = digits_value_short own (take i bs) 18 h (omega (arith, length-take-le i bs (omega (arith, within))))
 
-pub one_more : (bs : List ℕ) (i byte : ℕ) → i < length bs → byte ≡ get_or bs i 0 → IsInRange 48 57 byte → AllDigits 10 (take i bs) → AllDigits 10 (take (i + 1) bs) × (digits_value 10 (take (i + 1) bs) ≡ digits_value 10 (take i bs) * 10 + (byte - 48))
+pub one_more : (bs : List ℕ) (i byte : ℕ) → i < length bs → byte ≡ get_or bs i 0 → IsInRange 48 57 byte → AllDigits 10 (take i bs)
+    → AllDigits 10 (take (i + 1) bs) × (digits_value 10 (take (i + 1) bs) ≡ digits_value 10 (take i bs) * 10 + (byte - 48))
 one_more bs i byte within is digit h =
     let there : IsInRange 48 57 (get_or bs i 0) = subst (λ b. IsInRange 48 57 b) is digit in
     let worth = digit_value_digit (get_or bs i 0) there in

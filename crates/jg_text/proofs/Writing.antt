@@ -24,7 +24,8 @@ line_by_parts : (t : Tid) (e : Option EnvId) (c : Call) → ((((tid_text t ++ 32
 unfolding spelling
 line_by_parts t e c = rw (join_operands (name_of (fun_of c)) (operand_texts c)) (simp append_assoc)
 
-regrouped : (old t e n ops outcome : List ℕ) → (((((((((old ++ t) ++ 32 ∷ []) ++ e) ++ 32 ∷ []) ++ n) ++ ops) ++ 32 ∷ 61 ∷ 32 ∷ []) ++ outcome) ++ 10 ∷ []) ≡ old ++ ((((((((t ++ 32 ∷ []) ++ e) ++ 32 ∷ []) ++ n) ++ ops) ++ 32 ∷ 61 ∷ 32 ∷ []) ++ outcome) ++ 10 ∷ [])
+regrouped : (old t e n ops outcome : List ℕ) → (((((((((old ++ t) ++ 32 ∷ []) ++ e) ++ 32 ∷ []) ++ n) ++ ops) ++ 32 ∷ 61 ∷ 32 ∷ []) ++ outcome) ++ 10 ∷ []) ≡ old
+    ++ ((((((((t ++ 32 ∷ []) ++ e) ++ 32 ∷ []) ++ n) ++ ops) ++ 32 ∷ 61 ∷ 32 ∷ []) ++ outcome) ++ 10 ∷ [])
 regrouped old t e n ops outcome = simp append_assoc
 
 -- what was written after each piece
@@ -46,14 +47,16 @@ join_push c (y ∷ z ∷ zs) x h = ap (λ w. y ++ (c ∷ w)) (join_push c (z ∷
 abbrev items_up_to : List ℤ → ℕ → List (List ℕ)
 items_up_to xs i = map signed_decimal (take i xs)
 
-pub first_item : (old out new : List ℕ) (xs : List ℤ) (i : ℕ) (d : ℤ) → i < length xs → i ≡ 0 → out ≡ old ++ (91 ∷ join_with_byte 44 (items_up_to xs i)) → new ≡ out ++ signed_decimal (get_or xs i d) → new ≡ old ++ (91 ∷ join_with_byte 44 (items_up_to xs (i + 1)))
+pub first_item : (old out new : List ℕ) (xs : List ℤ) (i : ℕ) (d : ℤ) → i < length xs → i ≡ 0 → out ≡ old ++ (91 ∷ join_with_byte 44 (items_up_to xs i)) → new ≡ out ++ signed_decimal (get_or xs i d)
+    → new ≡ old ++ (91 ∷ join_with_byte 44 (items_up_to xs (i + 1)))
 first_item old out new xs i d within is_first e1 e2 =
     let x = signed_decimal (get_or xs i d) in
     let start : items_up_to xs i ≡ [] = ap (λ k. items_up_to xs k) is_first in
     e2 ∙ ap (λ z. z ++ x) (e1 ∙ ap (λ z. old ++ (91 ∷ join_with_byte 44 z)) start) ∙ append_assoc old (91 ∷ []) x
     ∙ sym (ap (λ z. old ++ (91 ∷ join_with_byte 44 z)) (map_more signed_decimal xs i d within ∙ ap (λ z. z ++ x ∷ []) start))
 
-pub next_item : (old out mid new : List ℕ) (xs : List ℤ) (i : ℕ) (d : ℤ) → i < length xs → i ≢ 0 → out ≡ old ++ (91 ∷ join_with_byte 44 (items_up_to xs i)) → mid ≡ out ++ 44 ∷ [] → new ≡ mid ++ signed_decimal (get_or xs i d) → new ≡ old ++ (91 ∷ join_with_byte 44 (items_up_to xs (i + 1)))
+pub next_item : (old out mid new : List ℕ) (xs : List ℤ) (i : ℕ) (d : ℤ) → i < length xs → i ≢ 0 → out ≡ old ++ (91 ∷ join_with_byte 44 (items_up_to xs i)) → mid ≡ out ++ 44 ∷ []
+    → new ≡ mid ++ signed_decimal (get_or xs i d) → new ≡ old ++ (91 ∷ join_with_byte 44 (items_up_to xs (i + 1)))
 next_item old out mid new xs i d within is_later e1 e2 e3 =
     let some : 0 < length (items_up_to xs i) = simp length-map (omega (arith, length-take-le i xs (omega arith))) in
     rw (e3, e2, e1, map_more signed_decimal xs i d within, join_push 44 (items_up_to xs i) (signed_decimal (get_or xs i d)) some) (simp append_assoc)

@@ -27,9 +27,11 @@ HasFault NoEnv line = (e : Option EnvId) → FitsEnv e → slice_get (fields lin
 -- there is no third field, or it is no function's name
 HasFault UnknownFunction line = (f : Fun) → slice_get (fields line) 2 ≢ Some (name_of f)
 -- the fields after it are more or fewer than the function's operands
-HasFault WrongCount line = (f : Fun) → slice_get (fields line) 2 ≡ Some (name_of f) → length (drop 3 (fields line)) ≢ length (operand_kinds f)
+HasFault WrongCount line = (f : Fun) → slice_get (fields line) 2 ≡ Some (name_of f)
+    → length (drop 3 (fields line)) ≢ length (operand_kinds f)
 -- one of them spells no operand of the kind that stands there
-HasFault BadOperand line = (f : Fun) → slice_get (fields line) 2 ≡ Some (name_of f) → ¬ SpellOperands (operand_kinds f) (drop 3 (fields line))
+HasFault BadOperand line = (f : Fun) → slice_get (fields line) 2 ≡ Some (name_of f)
+    → ¬ SpellOperands (operand_kinds f) (drop 3 (fields line))
 HasFault NoMemory line = ⊥
 
 -- the order in which faults are named

@@ -14,15 +14,19 @@ use Rattle.jg_text.specs.Faults.{HasFault}
 
 -- a line spells one thread, environment and call at most
 abbrev pub IsSpeltOnce : Type 0
-IsSpeltOnce = (line : List ℕ) (t u : Tid) (e f : Option EnvId) (c d : Call) → Spells line t e c → Spells line u f d → (t ≡ u) × (e ≡ f) × (c ≡ d)
+IsSpeltOnce = (line : List ℕ) (t u : Tid) (e f : Option EnvId) (c d : Call) → Spells line t e c → Spells line u f d
+    → (t ≡ u) × (e ≡ f) × (c ≡ d)
 
 -- a line that spells a call has no fault; so it has at most 65,536 bytes
 abbrev pub IsFaultless : Type 0
-IsFaultless = (line : List ℕ) (t : Tid) (e : Option EnvId) (c : Call) (f : ScriptFault) → Spells line t e c → ¬ HasFault f line
+IsFaultless = (line : List ℕ) (t : Tid) (e : Option EnvId) (c : Call) (f : ScriptFault) → Spells line t e c
+    → ¬ HasFault f line
 
 -- what begins with a call and a space begins with one such call alone, whatever follows
 abbrev pub IsBegunOnce : Type 0
-IsBegunOnce = (t u : Tid) (e f : Option EnvId) (c d : Call) (x y : List ℕ) → FitsTid t → FitsEnv e → FitsCall c → FitsTid u → FitsEnv f → FitsCall d → spelling t e c ++ 32 ∷ x ≡ spelling u f d ++ 32 ∷ y → (t ≡ u) × (e ≡ f) × (c ≡ d)
+IsBegunOnce = (t u : Tid) (e f : Option EnvId) (c d : Call) (x y : List ℕ) → FitsTid t → FitsEnv e → FitsCall c
+    → FitsTid u → FitsEnv f → FitsCall d → spelling t e c ++ 32 ∷ x ≡ spelling u f d ++ 32 ∷ y
+    → (t ≡ u) × (e ≡ f) × (c ≡ d)
 
 -- a call's line is short, so that a list may stand behind it
 abbrev pub IsShort : Type 0
@@ -30,4 +34,5 @@ IsShort = (t : Tid) (e : Option EnvId) (c : Call) → FitsTid t → FitsEnv e �
 
 -- an entry's text is one line: printable, of at most 65,536 bytes, and its line feed
 abbrev pub IsOneLine : Type 0
-IsOneLine = (x : Entry) → FitsTid x.tid → FitsEnv x.env → FitsCall x.call → FitsOutcome x.outcome → (line : List ℕ) × (entry_text x ≡ line ++ 10 ∷ []) × All (λ b. IsInRange 32 126 b) line × (length line ≤ 65536)
+IsOneLine = (x : Entry) → FitsTid x.tid → FitsEnv x.env → FitsCall x.call → FitsOutcome x.outcome
+    → (line : List ℕ) × (entry_text x ≡ line ++ 10 ∷ []) × All (λ b. IsInRange 32 126 b) line × (length line ≤ 65536)

@@ -46,7 +46,8 @@ IsBracketed text = (inner : List ℕ) × (text ≡ 91 ∷ inner ++ 93 ∷ [])
 
 -- one of the pieces is no number
 abbrev pub IsBadNumber : List (List ℕ) → ScriptFault → Type 0
-IsBadNumber pieces f = f ≢ NoMemory → (f ≡ BadOperand) × ((xs : List ℤ) → All (λ x. FitsSigned w64 x) xs → pieces ≢ map signed_decimal xs)
+IsBadNumber pieces f = f ≢ NoMemory → (f ≡ BadOperand)
+    × ((xs : List ℤ) → All (λ x. FitsSigned w64 x) xs → pieces ≢ map signed_decimal xs)
 
 -- the text of a number is its one spelling: neither a plus stands in front nor a leading zero
 pub record IsPlain (text : List ℕ) : Type 0 where

@@ -23,7 +23,8 @@ use std::alloc::{AllocError, Global};
 /// The place of the space that ends so many fields.
 fn end_of_fields(text: &[u8], count: usize) -> Option<usize>
     requires { 0 < count }
-    ensures some { IfSome result (λ i. (slice_get text.now i ≡ Some 32) × (count_by (λ b. b == 32) (take i text.now) + 1 ≡ count)) }
+    ensures some { IfSome result (λ i. (slice_get text.now i ≡ Some 32)
+        × (count_by (λ b. b == 32) (take i text.now) + 1 ≡ count)) }
     ensures none { IfNone result (count_by (λ b. b == 32) text.now < count) }
 {
     let mut spaces = 0;
@@ -41,7 +42,8 @@ fn end_of_fields(text: &[u8], count: usize) -> Option<usize>
 /// How many fields a call has whose function the text names in its third field.
 fn fields_of_call(text: &[u8]) -> Option<usize>
     ensures some { IfSome result (λ n. 0 < n) }
-    ensures all { (f : FunOf) → slice_get (fields text.now) 2 ≡ Some (name_of f) → result ≡ Some (length (operand_kinds f) + 3) }
+    ensures all { (f : FunOf) → slice_get (fields text.now) 2 ≡ Some (name_of f)
+        → result ≡ Some (length (operand_kinds f) + 3) }
 {
     let (_, rest) = cut(text);
     let (_, rest) = cut(rest?);
@@ -53,7 +55,8 @@ fn fields_of_call(text: &[u8]) -> Option<usize>
 /// So many fields, and what stands behind the space after them.
 fn cut_fields(text: &[u8], count: usize) -> Option<(&[u8], &[u8])>
     requires { 0 < count }
-    ensures some { IfSome result (λ parts. (text.now ≡ parts.0.now ++ 32 ∷ parts.1.now) × (count_by (λ b. b == 32) parts.0.now + 1 ≡ count)) }
+    ensures some { IfSome result (λ parts. (text.now ≡ parts.0.now ++ 32 ∷ parts.1.now)
+        × (count_by (λ b. b == 32) parts.0.now + 1 ≡ count)) }
     ensures none { IfNone result (count_by (λ b. b == 32) text.now < count) }
 {
     let i = end_of_fields(text, count)?;
@@ -69,7 +72,8 @@ fn begins_outcome(text: &[u8]) -> bool
 /// What stands before ` = ` behind as many fields as such a call has.
 fn front_of_call(text: &[u8]) -> Option<&[u8]>
     ensures some { IfSome result (λ front. (more : List ℕ) × (text.now ≡ front.now ++ (codes " = " ++ more))) }
-    ensures all { (t : TidOf) (e : Option EnvOf) (c : CallOf) (more : List ℕ) → FitsTid t → FitsEnv e → FitsCall c → text.now ≡ spelling t e c ++ (codes " = " ++ more) → option_copied result ≡ Some (spelling t e c) }
+    ensures all { (t : TidOf) (e : Option EnvOf) (c : CallOf) (more : List ℕ) → FitsTid t → FitsEnv e → FitsCall c
+        → text.now ≡ spelling t e c ++ (codes " = " ++ more) → option_copied result ≡ Some (spelling t e c) }
 {
     let Some(count) = fields_of_call(text) else {
         return None;

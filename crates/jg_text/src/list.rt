@@ -26,7 +26,8 @@ fn inside(text: &[u8]) -> Option<&[u8]>
 
 /// The numbers between the commas of a text that isn't empty.
 fn read_numbers(alloc: Global, text: &[u8]) -> Result<Vec<i64>, ScriptFault>
-    ensures ok { IfOk result (λ items. (slice_split (λ b. b == 44) text.now ≡ map signed_decimal items.items) × All (λ z. FitsSigned w64 z) items.items) }
+    ensures ok { IfOk result (λ items. (slice_split (λ b. b == 44) text.now ≡ map signed_decimal items.items)
+        × All (λ z. FitsSigned w64 z) items.items) }
     ensures err { IfErr result (IsBadNumber (slice_split (λ b. b == 44) text.now)) }
 {
     let mut items = Vec::new(alloc);

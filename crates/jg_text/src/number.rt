@@ -95,7 +95,8 @@ pub fn small_number(text: &[u8]) -> Option<u16>
 
 /// What stands before the first such byte, and what stands after it.
 pub fn cut_at(byte: u8, text: &[u8]) -> Option<(&[u8], &[u8])>
-    ensures some { IfSome result (λ parts. (text.now ≡ parts.0.now ++ byte ∷ parts.1.now) × All (λ b. (b == byte) ≡ false) parts.0.now) }
+    ensures some { IfSome result (λ parts. (text.now ≡ parts.0.now ++ byte ∷ parts.1.now)
+        × All (λ b. (b == byte) ≡ false) parts.0.now) }
     ensures none { IfNone result (All (λ b. (b == byte) ≡ false) text.now) }
 {
     let i = text.iter().position(|b| *b == byte)?;
@@ -121,7 +122,8 @@ pub fn dotted(text: &[u8]) -> Option<(u16, u64)>
 
 /// What stands behind a minus in front, where there is one.
 fn behind_minus(text: &[u8]) -> Option<&[u8]>
-    ensures { MatchOption result (¬ ((0 < length text.now) × (slice_index text.now 0 ≡ 45))) (λ back. text.now ≡ 45 ∷ back.now) }
+    ensures { MatchOption result (¬ ((0 < length text.now) × (slice_index text.now 0 ≡ 45)))
+        (λ back. text.now ≡ 45 ∷ back.now) }
 {
     match text {
         [b'-', back @ ..] => Some(back),

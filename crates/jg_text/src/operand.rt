@@ -99,7 +99,8 @@ impl Operand for Items {
 
 /// The first field, and what stands behind the space after it.
 pub fn cut(text: &[u8]) -> (&[u8], Option<&[u8]>)
-    ensures { MatchOption result.1 (fields text.now ≡ result.0.now ∷ []) (λ rest. fields text.now ≡ result.0.now ∷ fields rest.now) }
+    ensures { MatchOption result.1 (fields text.now ≡ result.0.now ∷ []) (λ rest. fields text.now ≡ result.0.now
+        ∷ fields rest.now) }
 {
     match cut_at(b' ', text) {
         Some((front, back)) => (front, Some(back)),
@@ -134,7 +135,8 @@ pub fn read_two<A: Operand, B: Operand>(
     rest: Option<&[u8]>,
 ) -> Result<(A, B), ScriptFault>
     requires { length (rest_fields (option_copied rest)) ≡ 2 }
-    ensures ok { IfOk result (λ r. (A.spelt r.0 ∷ B.spelt r.1 ∷ [] ≡ rest_fields (option_copied rest.entry)) × A.fits r.0 × B.fits r.1) }
+    ensures ok { IfOk result (λ r. (A.spelt r.0 ∷ B.spelt r.1 ∷ [] ≡ rest_fields (option_copied rest.entry))
+        × A.fits r.0 × B.fits r.1) }
     ensures err { IfErr result (IsOperandFault (A.kind ∷ B.kind ∷ []) (rest_fields (option_copied rest.entry))) }
 {
     let (first, rest) = next_field(rest);
@@ -153,7 +155,8 @@ pub fn write_one<A: Operand>(out: &mut String, a: &A) -> Result<(), AllocError>
 
 /// Writes the operands, each after a space.
 pub fn write_two<A: Operand, B: Operand>(out: &mut String, a: &A, b: &B) -> Result<(), AllocError>
-    ensures { OnOk result (string_bytes out.new ≡ string_bytes out.old ++ after_spaces (A.spelt a.now ∷ B.spelt b.now ∷ [])) }
+    ensures { OnOk result (string_bytes out.new ≡ string_bytes out.old
+        ++ after_spaces (A.spelt a.now ∷ B.spelt b.now ∷ [])) }
 {
     write_one(out, a)?;
     write_one(out, b)

@@ -51,7 +51,8 @@ is_pending_by e o t is =
 pending_in : (e : List Event) (o t : ℕ) (found : Option Row) → row_or_none found ≡ row_after e t → is_object o (row_or_none found).pending ≡ is_object o (pending (acts_of t e))
 pending_in e o t found is = ap (λ (row : Row). is_object o row.pending) is
 
-row_at : (e : List Event) (o t : ℕ) (b : Bool) (found : Option Row) → row_or_none found ≡ row_after e t → is_object o (pending (acts_of t e)) ≡ b → b ≡ false → IfSome found (λ row. is_object o row.pending ≡ false)
+row_at : (e : List Event) (o t : ℕ) (b : Bool) (found : Option Row) → row_or_none found ≡ row_after e t → is_object o (pending (acts_of t e)) ≡ b → b ≡ false
+    → IfSome found (λ row. is_object o row.pending ≡ false)
 row_at e o t b None is here none = tt
 row_at e o t b (Some row) is here none = pending_in e o t (Some row) is ∙ here ∙ none
 
@@ -80,7 +81,8 @@ some_value rows e o t None looked is here =
     cc
 some_value rows e o t (Some row) looked is here = value_there (λ row. is_object o row.pending) (is_at (nat_cmp t)) rows row looked (pending_in e o t (Some row) is ∙ here)
 
-by_cases : (rows : List (ℕ × Row)) (e : List Event) (o : ℕ) (b : Bool) → IsStrictlySortedBy nat_cmp (keys_of rows) → Stands rows e → is_pending e o ≡ b → list_any (λ row. is_object o row.pending) (values_of rows) ≡ b
+by_cases : (rows : List (ℕ × Row)) (e : List Event) (o : ℕ) (b : Bool) → IsStrictlySortedBy nat_cmp (keys_of rows) → Stands rows e → is_pending e o ≡ b
+    → list_any (λ row. is_object o row.pending) (values_of rows) ≡ b
 by_cases rows e o true sorted stands is =
     let found = some_event (λ ev. is_object o (pending (acts_of ev.tid e))) e is in
     some_value rows e o found.0.tid (lookup (is_at (nat_cmp found.0.tid)) rows) refl (stands.threads found.0.tid) found.1
@@ -90,7 +92,8 @@ by_cases rows e o false sorted stands is =
     (λ t. row_at e o t (is_object o (pending (acts_of t e))) (lookup (is_at (nat_cmp t)) rows) (stands.threads t) refl (no_row_at rows e o t _ stands is refl)))
 
 -- the rows tell which objects are pending
-pub pending_law : (rows : List (ℕ × Row)) (e : List Event) (o : ℕ) → IsStrictlySortedBy nat_cmp (keys_of rows) → Stands rows e → list_any (λ row. is_object o row.pending) (values_of rows) ≡ is_pending e o
+pub pending_law : (rows : List (ℕ × Row)) (e : List Event) (o : ℕ) → IsStrictlySortedBy nat_cmp (keys_of rows) → Stands rows e
+    → list_any (λ row. is_object o row.pending) (values_of rows) ≡ is_pending e o
 pending_law rows e o sorted stands = by_cases rows e o (is_pending e o) sorted stands refl
 
 pub ruleset none = (marks_stay)

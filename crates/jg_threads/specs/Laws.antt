@@ -18,15 +18,19 @@ KeepsPending (a ∷ acts) = KeepsPending acts
 
 -- attached: some attachment has no later detachment
 abbrev pub AttachedMeans : Type 0
-AttachedMeans = (acts : List Act) → IsTrue (attached acts) ↔ ((later : List Act) × (before : List Act) × (acts ≡ later ++ Attach ∷ before) × HasNoDetach later)
+AttachedMeans = (acts : List Act) → IsTrue (attached acts) ↔ ((later : List Act) × (before : List Act)
+    × (acts ≡ later ++ Attach ∷ before) × HasNoDetach later)
 
 -- pending: the object was raised, and nothing was raised, nothing calmed and the thread not detached since
 abbrev pub PendingMeans : Type 0
-PendingMeans = (acts : List Act) (o : ℕ) → (pending acts ≡ Some o) ↔ ((later : List Act) × (before : List Act) × (acts ≡ later ++ Raise o ∷ before) × KeepsPending later)
+PendingMeans = (acts : List Act) (o : ℕ)
+    → (pending acts ≡ Some o) ↔ ((later : List Act) × (before : List Act) × (acts ≡ later ++ Raise o ∷ before)
+    × KeepsPending later)
 
 -- whatever was done later
 abbrev pub SessionsNeverFall : Type 0
 SessionsNeverFall = (later before : List Act) → sessions before ≤ sessions (later ++ before)
 
 abbrev pub HandedOutNeverFall : Type 0
-HandedOutNeverFall = (later before : List Act) → (refs before ≤ refs (later ++ before)) × (buffers before ≤ buffers (later ++ before))
+HandedOutNeverFall = (later before : List Act) → (refs before ≤ refs (later ++ before))
+    × (buffers before ≤ buffers (later ++ before))

@@ -44,8 +44,13 @@ impl<A: Allocator + Clone> Threads<A> {
     pub fn attach(&mut self, tid: Tid) -> Result<EnvId, AllocError>
         requires { CanCount self.old tid.0 }
         ensures ok { OnOk result ((e : List Event) → Stands self.old e → Stands self.new (by tid.0 Attach ∷ e)) }
-        ensures env { IfOk result (λ env. (e : List Event) → Stands self.old e → env ≡ record { tid = tid; session = sessions (Attach ∷ acts_of tid.0 e) }) }
-        ensures row { OnOk result (row_of self.new tid.0 ≡ record (row_of self.old tid.0) { attached = true; sessions = (if (row_of self.old tid.0).attached then (row_of self.old tid.0).sessions else (row_of self.old tid.0).sessions + 1) }) }
+        ensures env { IfOk result (λ env. (e : List Event) → Stands self.old e
+            → env ≡ record { tid = tid; session = sessions (Attach ∷ acts_of tid.0 e) }) }
+        ensures row { OnOk result (row_of self.new tid.0 ≡ record (row_of self.old tid.0) {
+          attached = true;
+          sessions = (if (row_of self.old tid.0).attached then (row_of self.old tid.0).sessions
+              else (row_of self.old tid.0).sessions + 1);
+        }) }
         ensures err { OnErr result (self.new ≡ self.old) }
         ensures first { OnErr result (row_of self.old tid.0 ≡ no_row) }
     {
@@ -65,7 +70,11 @@ impl<A: Allocator + Clone> Threads<A> {
     /// exception (`DetachCurrentThread`). Its numbers go on in the next session.
     pub fn detach(&mut self, tid: Tid)
         ensures stands { (e : List Event) → Stands self.old e → Stands self.new (by tid.0 Detach ∷ e) }
-        ensures row { row_of self.new tid.0 ≡ record (row_of self.old tid.0) { attached = false; depth = 0; pending = None } }
+        ensures row { row_of self.new tid.0 ≡ record (row_of self.old tid.0) {
+          attached = false;
+          depth = 0;
+          pending = None;
+        } }
     {
         if let Some(row) = self.rows.get_mut(&tid.0) {
             *row = Row {
@@ -79,7 +88,8 @@ impl<A: Allocator + Clone> Threads<A> {
 
     /// The environment of the thread's session, if it has one (`GetEnv`).
     pub fn env_of(&self, tid: Tid) -> Option<EnvId>
-        ensures { (e : List Event) → Stands self.now e → result ≡ option_map (λ n. record { tid = tid; session = n }) (session (acts_of tid.0 e)) }
+        ensures { (e : List Event) → Stands self.now e
+            → result ≡ option_map (λ n. record { tid = tid; session = n }) (session (acts_of tid.0 e)) }
     {
         let row = self.row(tid);
         if row.attached {
@@ -95,7 +105,8 @@ impl<A: Allocator + Clone> Threads<A> {
     /// The environment that `attach` would answer.
     pub fn env_once_attached(&self, tid: Tid) -> EnvId
         requires { CanCount self.now tid.0 }
-        ensures { (e : List Event) → Stands self.now e → result ≡ record { tid = tid; session = sessions (Attach ∷ acts_of tid.0 e) } }
+        ensures { (e : List Event) → Stands self.now e
+            → result ≡ record { tid = tid; session = sessions (Attach ∷ acts_of tid.0 e) } }
     {
         let row = self.row(tid);
         let session = if row.attached {
@@ -130,7 +141,8 @@ impl<A: Allocator + Clone> Threads<A> {
         requires seen { IsTrue (row_of self.old tid.0).attached }
         requires room { CanCount self.old tid.0 }
         ensures stands { (e : List Event) → Stands self.old e → Stands self.new (by tid.0 Enter ∷ e) }
-        ensures row { row_of self.new tid.0 ≡ record (row_of self.old tid.0) { depth = (row_of self.old tid.0).depth + 1 } }
+        ensures row { row_of self.new tid.0
+            ≡ record (row_of self.old tid.0) { depth = (row_of self.old tid.0).depth + 1 } }
     {
         if let Some(row) = self.rows.get_mut(&tid.0) {
             row.depth += 1;
@@ -142,7 +154,8 @@ impl<A: Allocator + Clone> Threads<A> {
         requires seen { IsTrue (row_of self.old tid.0).attached }
         requires inside { 0 < (row_of self.old tid.0).depth }
         ensures stands { (e : List Event) → Stands self.old e → Stands self.new (by tid.0 Leave ∷ e) }
-        ensures row { row_of self.new tid.0 ≡ record (row_of self.old tid.0) { depth = (row_of self.old tid.0).depth - 1 } }
+        ensures row { row_of self.new tid.0
+            ≡ record (row_of self.old tid.0) { depth = (row_of self.old tid.0).depth - 1 } }
     {
         if let Some(row) = self.rows.get_mut(&tid.0) {
             row.depth -= 1;
@@ -160,7 +173,8 @@ impl<A: Allocator + Clone> Threads<A> {
     /// The exception that is pending in the thread, if there is one (`ExceptionOccurred`).
     pub fn pending(&self, tid: Tid) -> Option<ObjId>
         ensures rows { result ≡ option_map (λ o. record { 0 = o }) (row_of self.now tid.0).pending }
-        ensures history { (e : List Event) → Stands self.now e → result ≡ option_map (λ o. record { 0 = o }) (pending (acts_of tid.0 e)) }
+        ensures history { (e : List Event) → Stands self.now e
+            → result ≡ option_map (λ o. record { 0 = o }) (pending (acts_of tid.0 e)) }
     {
         match self.row(tid).pending {
             None => None,
@@ -219,7 +233,8 @@ impl<A: Allocator + Clone> Threads<A> {
         requires seen { IsTrue (row_of self.old tid.0).attached }
         requires room { CanCount self.old tid.0 }
         ensures stands { (e : List Event) → Stands self.old e → Stands self.new (by tid.0 CountRef ∷ e) }
-        ensures row { row_of self.new tid.0 ≡ record (row_of self.old tid.0) { refs = (row_of self.old tid.0).refs + 1 } }
+        ensures row { row_of self.new tid.0
+            ≡ record (row_of self.old tid.0) { refs = (row_of self.old tid.0).refs + 1 } }
     {
         if let Some(row) = self.rows.get_mut(&tid.0) {
             row.refs += 1;
@@ -240,7 +255,8 @@ impl<A: Allocator + Clone> Threads<A> {
         requires seen { IsTrue (row_of self.old tid.0).attached }
         requires room { CanCount self.old tid.0 }
         ensures stands { (e : List Event) → Stands self.old e → Stands self.new (by tid.0 CountBuffer ∷ e) }
-        ensures row { row_of self.new tid.0 ≡ record (row_of self.old tid.0) { buffers = (row_of self.old tid.0).buffers + 1 } }
+        ensures row { row_of self.new tid.0
+            ≡ record (row_of self.old tid.0) { buffers = (row_of self.old tid.0).buffers + 1 } }
     {
         if let Some(row) = self.rows.get_mut(&tid.0) {
             row.buffers += 1;

@@ -62,7 +62,8 @@ pub(crate) fn perform_refs<A: Allocator + Clone>(
     call: &RefsCall,
 )
     requires { IsEffective setup.now (rows_of tables.old) tid (Refs call.now) }
-    ensures stands { (p : Parts) → TablesStand setup.now (rows_of tables.old) p → TablesStand setup.now (rows_of tables.new) (done_by setup.now tid.0 (Refs call.now) p) }
+    ensures stands { (p : Parts) → TablesStand setup.now (rows_of tables.old) p
+        → TablesStand setup.now (rows_of tables.new) (done_by setup.now tid.0 (Refs call.now) p) }
     ensures room { KeepsRoom tables.old tables.new tid.0 (Refs call.now) }
 {
     match call {
@@ -74,7 +75,8 @@ pub(crate) fn perform_refs<A: Allocator + Clone>(
 }
 
 fn delete_local<A: Allocator + Clone>(tables: &mut Tables<A>, tid: Tid, reference: Ref)
-    ensures stands { (setup : StatedSetup) (p : Parts) → TablesStand setup (rows_of tables.old) p → TablesStand setup (rows_of tables.new) (deleted_on tid.0 reference p) }
+    ensures stands { (setup : StatedSetup) (p : Parts) → TablesStand setup (rows_of tables.old) p
+        → TablesStand setup (rows_of tables.new) (deleted_on tid.0 reference p) }
     ensures room { spare tables.old.locals tid.0 ≤ spare tables.new.locals tid.0 }
     ensures warnings { tables.new.links ≡ tables.old.links }
 {

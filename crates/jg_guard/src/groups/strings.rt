@@ -22,7 +22,8 @@ use std::alloc::{AllocError, Allocator};
 
 /// The length of a string, in UTF-16 units; 0 of no object.
 fn length_of<A: Allocator + Clone>(view: &View<'_, A>, object: Option<ObjId>) -> i64
-    ensures { (p : Parts) → ViewStands view.now p → result ≡ pos (length (units_named view.now.setup.now p (option_map (λ o. o.0) object))) }
+    ensures { (p : Parts) → ViewStands view.now p
+        → result ≡ pos (length (units_named view.now.setup.now p (option_map (λ o. o.0) object))) }
 {
     match object {
         Some(object) if object.0 < view.heap.len() => view.heap.string(object).len() as i64,
@@ -82,7 +83,8 @@ pub(crate) fn perform_strings<A: Allocator + Clone>(
     call: &StringsCall,
 ) -> Result<(), AllocError>
     requires { IsEffective setup.now (rows_of tables.old) tid (Strings call.now) }
-    ensures stands { OnOk result ((p : Parts) → TablesStand setup.now (rows_of tables.old) p → TablesStand setup.now (rows_of tables.new) (done_by setup.now tid.0 (Strings call.now) p)) }
+    ensures stands { OnOk result ((p : Parts) → TablesStand setup.now (rows_of tables.old) p
+        → TablesStand setup.now (rows_of tables.new) (done_by setup.now tid.0 (Strings call.now) p)) }
     ensures room { OnOk result (KeepsRoom tables.old tables.new tid.0 (Strings call.now)) }
     ensures err { OnErr result (rows_of tables.new ≡ rows_of tables.old) }
 {

@@ -39,7 +39,8 @@ pub(crate) fn perform_vm<A: Allocator + Clone>(
     call: &VmCall,
 ) -> Result<(), AllocError>
     requires { IsEffective setup.now (rows_of tables.old) tid (Vm call.now) }
-    ensures stands { OnOk result ((p : Parts) → TablesStand setup.now (rows_of tables.old) p → TablesStand setup.now (rows_of tables.new) (done_by setup.now tid.0 (Vm call.now) p)) }
+    ensures stands { OnOk result ((p : Parts) → TablesStand setup.now (rows_of tables.old) p
+        → TablesStand setup.now (rows_of tables.new) (done_by setup.now tid.0 (Vm call.now) p)) }
     ensures room { OnOk result (KeepsRoom tables.old tables.new tid.0 (Vm call.now)) }
     ensures err { OnErr result (rows_of tables.new ≡ rows_of tables.old) }
 {

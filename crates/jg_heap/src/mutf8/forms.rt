@@ -4,7 +4,8 @@ ghost use Rattle.jg_heap.specs.Spelling.{spelling, Starts};
 
 /// How far a byte is above `from`, where it is below `to`.
 fn payload(byte: Option<u8>, from: u8, to: u8) -> Option<u16>
-    ensures { MatchOption result ((n : ℕ) → from + n < to → byte ≢ Some (from + n)) (λ n. (byte ≡ Some (from + n)) × (from + n < to)) }
+    ensures { MatchOption result ((n : ℕ) → from + n < to → byte ≢ Some (from + n)) (λ n. (byte ≡ Some (from + n))
+        × (from + n < to)) }
 {
     match byte {
         Some(byte) if from <= byte && byte < to => Some((byte - from) as u16),
@@ -38,7 +39,8 @@ fn two(first: Option<u8>, second: Option<u8>) -> Option<u16>
 
 /// The unit that three bytes spell.
 fn three(first: Option<u8>, second: Option<u8>, third: Option<u8>) -> Option<u16>
-    ensures { MatchOption result ((unit : ℕ) → Three unit first second third → ⊥) (λ unit. Three unit first second third) }
+    ensures { MatchOption result ((unit : ℕ) → Three unit first second third
+        → ⊥) (λ unit. Three unit first second third) }
 {
     let high = payload(first, 224, 240)?;
     let middle = payload(second, 128, 192)?;
@@ -56,7 +58,8 @@ pub(crate) fn unit_at(
     second: Option<u8>,
     third: Option<u8>,
 ) -> Option<(u16, usize)>
-    ensures found { IfSome result (λ unit. (unit.0 < 2 ^ 16) × Starts unit.0 first second third × (unit.1 ≡ length (spelling unit.0))) }
+    ensures found { IfSome result (λ unit. (unit.0 < 2 ^ 16) × Starts unit.0 first second third
+        × (unit.1 ≡ length (spelling unit.0))) }
     ensures none { IfNone result ((unit : ℕ) → unit < 2 ^ 16 → Starts unit first second third → ⊥) }
 {
     if let Some(unit) = one(first) {

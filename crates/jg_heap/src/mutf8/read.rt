@@ -49,10 +49,13 @@ fn byte_at<I: MaybeByte>(items: &[I], index: usize) -> Option<u8>
 fn next_unit<I: MaybeByte>(items: &[I], at: usize) -> Option<(u16, usize)>
     requires inside { at < length items.now }
     requires fits { length items.now < 2 ^ 63 }
-    ensures found { IfSome result (λ unit. (unit.0 < 2 ^ 16) × (drop at (map I.number items.now) ≡ map pos (spelling unit.0) ++ drop (at + unit.1) (map I.number items.now))) }
-    ensures only { IfSome result (λ unit. (v : ℕ) (tail : List ℤ) → v < 2 ^ 16 → drop at (map I.number items.now) ≡ map pos (spelling v) ++ tail → unit.0 ≡ v) }
+    ensures found { IfSome result (λ unit. (unit.0 < 2 ^ 16)
+        × (drop at (map I.number items.now) ≡ map pos (spelling unit.0) ++ drop (at + unit.1) (map I.number items.now))) }
+    ensures only { IfSome result (λ unit. (v : ℕ) (tail : List ℤ) → v < 2 ^ 16
+        → drop at (map I.number items.now) ≡ map pos (spelling v) ++ tail → unit.0 ≡ v) }
     ensures len { IfSome result (λ unit. (0 < unit.1) × (at + unit.1 ≤ length items.now)) }
-    ensures none { IfNone result ((unit : ℕ) (tail : List ℤ) → unit < 2 ^ 16 → drop at (map I.number items.now) ≡ map pos (spelling unit) ++ tail → ⊥) }
+    ensures none { IfNone result ((unit : ℕ) (tail : List ℤ) → unit < 2 ^ 16
+        → drop at (map I.number items.now) ≡ map pos (spelling unit) ++ tail → ⊥) }
 {
     unit_at(
         byte_at(items, at),
@@ -83,7 +86,8 @@ fn units_of<I: MaybeByte, A: Allocator>(
 ) -> Result<Option<Vec<u16, A>>, AllocError>
     requires { length items.now < 2 ^ 63 }
     ensures found { IfOk result (λ found. IfSome found (λ units. IsSpeltInItems units.items (map I.number items.now))) }
-    ensures none { IfOk result (λ found. IfNone found ((units : List ℕ) → IsSpeltInItems units (map I.number items.now) → ⊥)) }
+    ensures none { IfOk result (λ found. IfNone found ((units : List ℕ) → IsSpeltInItems units (map I.number items.now)
+        → ⊥)) }
     ensures short { IfOk result (λ found. IfSome found (λ units. length units.items ≤ length items.now)) }
 {
     let mut units = Vec::new(alloc);

@@ -186,7 +186,8 @@ fn member_named(members: &[Member], name: &str, signature: &str) -> Option<u32>
 }
 
 fn place_of(members: &[Member], name: &str, signature: &str) -> Option<usize>
-    ensures { result ≡ position (λ m. bytes_eq name.now (string_bytes m.name) && bytes_eq signature.now (string_bytes m.signature)) members.now }
+    ensures { result ≡ position (λ m. bytes_eq name.now (string_bytes m.name)
+        && bytes_eq signature.now (string_bytes m.signature)) members.now }
 {
     members.iter().position(|m| name == m.name.as_str() && signature == m.signature.as_str())
 }

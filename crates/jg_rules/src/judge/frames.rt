@@ -18,7 +18,8 @@ pub(crate) fn judge_frames<A: Allocator + Clone>(
     tid: Tid,
     call: &FramesCall,
 ) -> Option<Rule>
-    ensures { (p : Parts) → ViewStands view.now p → result ≡ later_verdict view.now.setup.now p tid.0 (Frames call.now) }
+    ensures { (p : Parts) → ViewStands view.now p
+        → result ≡ later_verdict view.now.setup.now p tid.0 (Frames call.now) }
 {
     match call {
         FramesCall::PushLocalFrame { capacity } => {

@@ -72,7 +72,8 @@ pub(crate) fn judge_one<A: Allocator + Clone>(
     operand: Operand,
     is_wrong_kind: bool,
 ) -> Option<Rule>
-    ensures { (p : Parts) → ViewStands view.now p → result ≡ operands_verdict view.now.setup.now p tid.0 (operand ∷ []) is_wrong_kind }
+    ensures { (p : Parts) → ViewStands view.now p
+        → result ≡ operands_verdict view.now.setup.now p tid.0 (operand ∷ []) is_wrong_kind }
 {
     let named = look_up(view, tid, operand.reference);
     if is_foreign_local(tid, operand.reference) {
@@ -97,7 +98,8 @@ pub(crate) fn judge_two<A: Allocator + Clone>(
     first: Operand,
     second: Operand,
 ) -> Option<Rule>
-    ensures { (p : Parts) → ViewStands view.now p → result ≡ operands_verdict view.now.setup.now p tid.0 (first ∷ second ∷ []) false }
+    ensures { (p : Parts) → ViewStands view.now p
+        → result ≡ operands_verdict view.now.setup.now p tid.0 (first ∷ second ∷ []) false }
 {
     let one = look_up(view, tid, first.reference);
     let two = look_up(view, tid, second.reference);

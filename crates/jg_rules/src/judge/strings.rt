@@ -23,7 +23,8 @@ pub(crate) fn judge_strings<A: Allocator + Clone>(
     tid: Tid,
     call: &StringsCall,
 ) -> Option<Rule>
-    ensures { (p : Parts) → ViewStands view.now p → result ≡ later_verdict view.now.setup.now p tid.0 (Strings call.now) }
+    ensures { (p : Parts) → ViewStands view.now p
+        → result ≡ later_verdict view.now.setup.now p tid.0 (Strings call.now) }
 {
     match call {
         StringsCall::NewString { units } => {

@@ -45,7 +45,8 @@ pub fn read(alloc: Global, fun: FramesFun, rest: Option<&[u8]>) -> Result<Frames
 
 /// Writes the call's operands, each after a space.
 pub fn write(out: &mut String, call: &FramesCall) -> Result<(), AllocError>
-    ensures { OnOk result (string_bytes out.new ≡ string_bytes out.old ++ after_spaces (map text_of (frames_operands call.now))) }
+    ensures { OnOk result (string_bytes out.new ≡ string_bytes out.old
+        ++ after_spaces (map text_of (frames_operands call.now))) }
 {
     match call {
         FramesCall::PushLocalFrame { capacity } => write_one(out, capacity),

@@ -55,7 +55,8 @@ pub fn read(alloc: Global, fun: RefsFun, rest: Option<&[u8]>) -> Result<RefsCall
 
 /// Writes the call's operands, each after a space.
 pub fn write(out: &mut String, call: &RefsCall) -> Result<(), AllocError>
-    ensures { OnOk result (string_bytes out.new ≡ string_bytes out.old ++ after_spaces (map text_of (refs_operands call.now))) }
+    ensures { OnOk result (string_bytes out.new ≡ string_bytes out.old
+        ++ after_spaces (map text_of (refs_operands call.now))) }
 {
     match call {
         RefsCall::NewLocalRef { of } => write_one(out, of),

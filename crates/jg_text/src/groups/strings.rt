@@ -45,7 +45,8 @@ pub fn read(alloc: Global, fun: StringsFun, rest: Option<&[u8]>) -> Result<Strin
 
 /// Writes the call's operands, each after a space.
 pub fn write(out: &mut String, call: &StringsCall) -> Result<(), AllocError>
-    ensures { OnOk result (string_bytes out.new ≡ string_bytes out.old ++ after_spaces (map text_of (strings_operands call.now))) }
+    ensures { OnOk result (string_bytes out.new ≡ string_bytes out.old
+        ++ after_spaces (map text_of (strings_operands call.now))) }
 {
     match call {
         StringsCall::NewString { units } => write_one(out, units),

@@ -40,7 +40,8 @@ pub fn read(alloc: Global, fun: VmFun, rest: Option<&[u8]>) -> Result<VmCall, Sc
 
 /// Writes the call's operands, each after a space.
 pub fn write(out: &mut String, call: &VmCall) -> Result<(), AllocError>
-    ensures { OnOk result (string_bytes out.new ≡ string_bytes out.old ++ after_spaces (map text_of (vm_operands call.now))) }
+    ensures { OnOk result (string_bytes out.new ≡ string_bytes out.old
+        ++ after_spaces (map text_of (vm_operands call.now))) }
 {
     match call {
         VmCall::AttachCurrentThread => Ok(()),

@@ -6,4 +6,5 @@ use Rattle.jg_heap.specs.Rows.{row_in}
 use Rattle.jg_heap.proofs.collect.let_go.Given as goal
 
 abbrev pub invariant-loop-object : goal.invariant-loop-object
-invariant-loop-object g l = (o : ℕ) → row_in (map row_of l.objects) o ≡ ended_row (list_any (λ p. not (slice_index_or l.marks p false) && p == o) (take l.object-index l.live)) (row_in (map row_of l.initial.objects) o)
+invariant-loop-object g l = (o : ℕ) → row_in (map row_of l.objects) o
+    ≡ ended_row (list_any (λ p. not (slice_index_or l.marks p false) && p == o) (take l.object-index l.live)) (row_in (map row_of l.initial.objects) o)

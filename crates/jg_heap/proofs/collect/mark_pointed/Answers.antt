@@ -14,7 +14,8 @@ loop-object-preserved g c o h =
     let points : ℕ → Bool = slot_of_row_holds rows o in
     let i = c.loop-object.object-index in
     let p = get_or c.args.live.now i 0 in
-    let row : row_of (get_or c.args.objects.now p c.index-objects-object.result) ≡ row_in rows p = sym (get_or-map row_of c.args.objects.now p c.index-objects-object.result no_row (c.requires i 0 c.loop-object-test.true)) in
+    let row : row_of (get_or c.args.objects.now p c.index-objects-object.result) ≡ row_in rows p =
+    sym (get_or-map row_of c.args.objects.now p c.index-objects-object.result no_row (c.requires i 0 c.loop-object-test.true)) in
     or_more (get_or c.args.marks.now o false) (list_any points (take i c.args.live.now)) (points p) _ (get_or c.loop-object.marks o false) _
     (c.loop-object.invariant o (omega arith))
     (c.mark_slots.ensures o (omega arith) ∙ ap (λ (r : Row). get_or c.loop-object.marks o false || list_any (holds o) r.slots) row)

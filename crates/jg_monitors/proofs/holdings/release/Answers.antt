@@ -6,4 +6,5 @@ use Rattle.jg_monitors.proofs.holdings.release.Goals as goal
 
 pub returns-clause-released : goal.returns-clause-released
 returns-clause-released g c q =
-    left_all c.args.tid (get nat_cmp c.args.owned.now q) (get nat_cmp c.loop-object.owned q) (sym (c.loop-object.invariant.agree c.args.tid q) ∙ c.in_default.ensures.none q) (c.loop-object.invariant.left q)
+    left_all c.args.tid (get nat_cmp c.args.owned.now q) (get nat_cmp c.loop-object.owned q) (sym (c.loop-object.invariant.agree c.args.tid q)
+    ∙ c.in_default.ensures.none q) (c.loop-object.invariant.left q)

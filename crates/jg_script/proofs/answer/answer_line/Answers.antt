@@ -7,7 +7,8 @@ use Rattle.jg_script.proofs.answer.answer_line.Goals as goal
 
 pub returns-in-Err-take_call-clause-answers : goal.returns-in-Err-take_call-clause-answers
 returns-in-Err-take_call-clause-answers g c =
-    not_taken (g.W.Write.contents c.args.writer.now.device) c.args.guard.now c.take_call.new.guard c.args.text.now c.in-Ok.spelt.0 c.in-Ok.spelt.1 c.in-Ok.spelt.2 c.args.line c.in-Err-take_call.fault c.in-Err-take_call.ensures.err c.in-Ok.ensures.spelt
+    not_taken (g.W.Write.contents c.args.writer.now.device) c.args.guard.now c.take_call.new.guard c.args.text.now c.in-Ok.spelt.0 c.in-Ok.spelt.1 c.in-Ok.spelt.2 c.args.line c.in-Err-take_call.fault
+    c.in-Err-take_call.ensures.err c.in-Ok.ensures.spelt
 
 pub returns-in-Ok-write_text-clause-answers : goal.returns-in-Ok-write_text-clause-answers
 returns-in-Ok-write_text-clause-answers g c =
@@ -25,7 +26,8 @@ returns-in-Err-write_text-clause-answers g c =
       (
         e,
         journals _ _ _ _ _ _ c.in_default.ensures.took c.in-Ok.ensures.spelt,
-        subst (λ (t : List ℕ). (k : ℕ) × (k < length t) × Appends (g.W.Write.contents c.args.writer.now.device) (g.W.Write.contents c.write_text.new.writer.device) (take k t)) text c.in-Err-write_text.ensures.front,
+        subst (λ (t : List ℕ). (k : ℕ) × (k < length t) × Appends (g.W.Write.contents c.args.writer.now.device) (g.W.Write.contents c.write_text.new.writer.device) (take k t)) text
+            c.in-Err-write_text.ensures.front,
       ),
       refl,
     )

@@ -12,4 +12,5 @@ returns-in-Ok-take_call-clause-replays g c =
     let some = c.in-Some in
     let begun = rw some.is at c.in-Ok.ensures.some in
     let took = c.in-Ok-take_call.ensures in
-    answered c.args.guard.now c.take_call.new.guard c.args.text.now c.as_bytes.result.now some.tid some.env some.call c.args.line c.is_line_of.result begun took.fits took.took (c.as_bytes.ensures.value ∙ took.text) c.is_line_of.ensures
+    answered c.args.guard.now c.take_call.new.guard c.args.text.now c.as_bytes.result.now some.tid some.env some.call c.args.line c.is_line_of.result begun took.fits took.took
+    (c.as_bytes.ensures.value ∙ took.text) c.is_line_of.ensures

@@ -18,7 +18,8 @@ returns-in-Err-clause-checks g c =
     let holds = g.W.Write.contents in
     let h = c.loop-line.invariant.checked in
     let line = rw c.in-Line.is at c.in-Ok.ensures.taken in
-    answered_err (reads c.args.reader.now.device) (reads c.loop-line.reader.device) (reads c.next_line.new.reader.device) (holds c.args.writer.now.device) (holds c.loop-line.writer.device) (holds c.answer_line.new.writer.device)
+    answered_err (reads c.args.reader.now.device) (reads c.loop-line.reader.device) (reads c.next_line.new.reader.device) (holds c.args.writer.now.device) (holds c.loop-line.writer.device)
+    (holds c.answer_line.new.writer.device)
     c.args.guard.now.limit c.loop-line.line c.loop-line.guard c.answer_line.new.guard c.deref.result.now c.in-Err.fault
     h c.loop-line.invariant.within (rw c.deref.ensures.value (lines_more _ _ _ _ _ h.read line)) c.in-Err.ensures.answers
 
@@ -32,11 +33,14 @@ returns-in-LastLine-clause-checks g c =
     let d = c.deref-in-LastLine in
     elim c.match-answer_line-2.branch [
       | in-Ok-answer_line w ↦ (
-          let more = goes_on (reads c.args.reader.now.device) (reads c.loop-line.reader.device) (reads c.next_line.new.reader.device) (holds c.args.writer.now.device) (holds c.loop-line.writer.device) (holds a.new.writer.device)
-          c.args.guard.now.limit c.loop-line.line c.loop-line.guard a.new.guard d.result.now h (rw d.ensures.value (lines_more _ _ _ _ _ h.read line.0)) a.ensures.limit w.in-Ok-answer_line.ensures.answers in
+          let more = goes_on (reads c.args.reader.now.device) (reads c.loop-line.reader.device) (reads c.next_line.new.reader.device) (holds c.args.writer.now.device) (holds c.loop-line.writer.device)
+          (holds a.new.writer.device)
+          c.args.guard.now.limit c.loop-line.line c.loop-line.guard a.new.guard d.result.now h (rw d.ensures.value (lines_more _ _ _ _ _ h.read line.0)) a.ensures.limit
+          w.in-Ok-answer_line.ensures.answers in
           let counted = more.0.counted in
           rw w.result-is (ended _ _ _ more.0.read line.1, line.1, more.0.written, omega arith, more.1))
-      | in-Err-answer_line w ↦ rw w.result-is (answered_err (reads c.args.reader.now.device) (reads c.loop-line.reader.device) (reads c.next_line.new.reader.device) (holds c.args.writer.now.device) (holds c.loop-line.writer.device) (holds a.new.writer.device)
+      | in-Err-answer_line w ↦ rw w.result-is (answered_err (reads c.args.reader.now.device) (reads c.loop-line.reader.device) (reads c.next_line.new.reader.device) (holds c.args.writer.now.device)
+          (holds c.loop-line.writer.device) (holds a.new.writer.device)
           c.args.guard.now.limit c.loop-line.line c.loop-line.guard a.new.guard d.result.now w.in-Err-answer_line.fault
           h c.loop-line.invariant.within (rw d.ensures.value (lines_more _ _ _ _ _ h.read line.0)) w.in-Err-answer_line.ensures.answers)
     ]
@@ -46,7 +50,8 @@ returns-in-Err-clause-reads g c =
     let reads = g.R.Read.remaining in
     let holds = g.W.Write.contents in
     let inv = c.loop-line.invariant in
-    answered_reads (reads c.args.reader.now.device) (reads c.loop-line.reader.device) (reads c.next_line.new.reader.device) (holds c.args.writer.now.device) (holds c.loop-line.writer.device) (holds c.answer_line.new.writer.device)
+    answered_reads (reads c.args.reader.now.device) (reads c.loop-line.reader.device) (reads c.next_line.new.reader.device) (holds c.args.writer.now.device) (holds c.loop-line.writer.device)
+    (holds c.answer_line.new.writer.device)
     c.args.guard.now.limit c.loop-line.line c.loop-line.guard c.answer_line.new.guard c.deref.result.now c.in-Err.fault inv.checked inv.taken c.in-Ok.ensures.front c.in-Err.ensures.answers
 
 pub returns-in-LastLine-clause-reads : goal.returns-in-LastLine-clause-reads
@@ -58,8 +63,10 @@ returns-in-LastLine-clause-reads g c =
     let a = c.answer_line-in-LastLine in
     elim c.match-answer_line-2.branch [
       | in-Ok-answer_line w ↦ rw w.result-is last.1
-      | in-Err-answer_line w ↦ rw w.result-is (answered_reads (reads c.args.reader.now.device) (reads c.loop-line.reader.device) (reads c.next_line.new.reader.device) (holds c.args.writer.now.device) (holds c.loop-line.writer.device) (holds a.new.writer.device)
-          c.args.guard.now.limit c.loop-line.line c.loop-line.guard a.new.guard c.deref-in-LastLine.result.now w.in-Err-answer_line.fault inv.checked inv.taken c.in-Ok.ensures.front w.in-Err-answer_line.ensures.answers)
+      | in-Err-answer_line w ↦ rw w.result-is (answered_reads (reads c.args.reader.now.device) (reads c.loop-line.reader.device) (reads c.next_line.new.reader.device) (holds c.args.writer.now.device)
+          (holds c.loop-line.writer.device) (holds a.new.writer.device)
+          c.args.guard.now.limit c.loop-line.line c.loop-line.guard a.new.guard c.deref-in-LastLine.result.now w.in-Err-answer_line.fault inv.checked inv.taken c.in-Ok.ensures.front
+          w.in-Err-answer_line.ensures.answers)
     ]
 
 pub loop-line-preserved : goal.loop-line-preserved
@@ -69,14 +76,17 @@ loop-line-preserved g c =
     let inv = c.loop-line.invariant in
     let h = inv.checked in
     let line = rw c.in-Line.is at c.in-Ok.ensures.taken in
-    let more = goes_on (reads c.args.reader.now.device) (reads c.loop-line.reader.device) (reads c.next_line.new.reader.device) (holds c.args.writer.now.device) (holds c.loop-line.writer.device) (holds c.answer_line.new.writer.device)
-    c.args.guard.now.limit c.loop-line.line c.loop-line.guard c.answer_line.new.guard c.deref.result.now h (rw c.deref.ensures.value (lines_more _ _ _ _ _ h.read line)) c.answer_line.ensures.limit c.in_default.ensures.answers in
+    let more = goes_on (reads c.args.reader.now.device) (reads c.loop-line.reader.device) (reads c.next_line.new.reader.device) (holds c.args.writer.now.device) (holds c.loop-line.writer.device)
+    (holds c.answer_line.new.writer.device)
+    c.args.guard.now.limit c.loop-line.line c.loop-line.guard c.answer_line.new.guard c.deref.result.now h (rw c.deref.ensures.value (lines_more _ _ _ _ _ h.read line)) c.answer_line.ensures.limit
+    c.in_default.ensures.answers in
     let bytes = rw c.in-Line.is at c.in-Ok.ensures.bytes in
     let answered = c.in_default.ensures.answers in
     let journals = rw c.deref.ensures.value at answered.1 in
     record {
       checked = more.0;
-      taken = line_reads (reads c.args.reader.now.device) (reads c.loop-line.reader.device) (reads c.next_line.new.reader.device) c.loop-line.guard c.answer_line.new.guard c.next_line.new.line.items answered.0 inv.taken bytes journals;
+      taken = line_reads (reads c.args.reader.now.device) (reads c.loop-line.reader.device) (reads c.next_line.new.reader.device) c.loop-line.guard c.answer_line.new.guard c.next_line.new.line.items
+          answered.0 inv.taken bytes journals;
       within = more.1;
       legal = c.answer_line.ensures.legal inv.legal;
       script = more.2 inv.script;

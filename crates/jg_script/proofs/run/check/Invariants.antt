@@ -7,7 +7,8 @@ use Rattle.jg_script.proofs.run.check.Given as goal
 
 abbrev pub invariant-loop-line : goal.invariant-loop-line
 invariant-loop-line g l = record {
-  checked : HasChecked (g.R.Read.remaining l.initial.reader.device) (g.R.Read.remaining l.reader.device) (g.W.Write.contents l.initial.writer.device) (g.W.Write.contents l.writer.device) l.initial.guard.limit l.line l.guard;
+  checked : HasChecked (g.R.Read.remaining l.initial.reader.device) (g.R.Read.remaining l.reader.device) (g.W.Write.contents l.initial.writer.device) (g.W.Write.contents l.writer.device)
+      l.initial.guard.limit l.line l.guard;
   taken : Consumes (g.R.Read.remaining l.initial.reader.device) (g.R.Read.remaining l.reader.device) (script_text l.guard.journal);
   within : length l.guard.journal ≤ l.initial.guard.limit;
   legal : Legal l.guard.setup l.guard.journal;

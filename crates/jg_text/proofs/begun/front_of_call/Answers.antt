@@ -18,8 +18,11 @@ returns-in_default-cut_fields-clause-all c = λ t e call more ht he hc begins.
 
 pub returns-then-begins_outcome-clause-some : goal.returns-then-begins_outcome-clause-some
 returns-then-begins_outcome-clause-some c =
-    let more = c.if-begins_outcome.ensures.0 refl in
-    (more.0, c.in-Some-cut_fields.ensures.some.0 ∙ ap (λ (rest : List ℕ). c.in-Some-cut_fields.front.now ++ (32 ∷ rest)) more.1 ∙ ap (λ (rest : List ℕ). c.in-Some-cut_fields.front.now ++ rest) (sym (equals more.0)))
+    let more = c.if-begins_outcome.ensures.0 refl in (
+      more.0,
+      c.in-Some-cut_fields.ensures.some.0 ∙ ap (λ (rest : List ℕ). c.in-Some-cut_fields.front.now ++ (32 ∷ rest)) more.1
+          ∙ ap (λ (rest : List ℕ). c.in-Some-cut_fields.front.now ++ rest) (sym (equals more.0)),
+    )
 
 pub returns-then-begins_outcome-clause-all : goal.returns-then-begins_outcome-clause-all
 returns-then-begins_outcome-clause-all c = λ t e call more ht he hc begins.

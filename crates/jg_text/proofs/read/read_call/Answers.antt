@@ -19,7 +19,9 @@ returns-in-Ok-clause-spelt c =
       tid = c.in-Some.ensures.fits;
       env = c.in-Some-read_env.ensures.fits;
       call = operands.fits;
-      text = spelt_by_parts c.args.line.now c.in-Some.tid c.in-Some-read_env.env c.in-Some-read_fun.fun c.in-Ok.call c.cut.result.0.now c.cut-2.result.0.now c.cut-3.result.0.now c.in-Some-rest.rest.now c.in-Some-rest-2.rest.now (option_copied c.cut-3.result.1) first second third c.in-Some.ensures.some c.in-Some-read_env.ensures.some c.in-Some-read_fun.ensures.some operands.fun operands.texts_are;
+      text = spelt_by_parts c.args.line.now c.in-Some.tid c.in-Some-read_env.env c.in-Some-read_fun.fun c.in-Ok.call c.cut.result.0.now c.cut-2.result.0.now c.cut-3.result.0.now
+          c.in-Some-rest.rest.now c.in-Some-rest-2.rest.now (option_copied c.cut-3.result.1) first second third c.in-Some.ensures.some c.in-Some-read_env.ensures.some c.in-Some-read_fun.ensures.some
+          operands.fun operands.texts_are;
     }
 
 pub returns-then-count_fields-arity-clause-fault : goal.returns-then-count_fields-arity-clause-fault
@@ -28,7 +30,8 @@ returns-then-count_fields-arity-clause-fault c = λ _.
     let second = rw c.in-Some-rest-2.is at c.cut-2.ensures in
     let third = cut_rest (fields c.in-Some-rest-2.rest.now) c.cut-3.result.0.now c.cut-3.result.1 c.cut-3.ensures in
     let rest = rest_fields (option_copied c.cut-3.result.1) in
-    let split : fields c.args.line.now ≡ tid_text c.in-Some.tid ∷ env_text c.in-Some-read_env.env ∷ name_of c.in-Some-read_fun.fun ∷ rest = cc (first, second, third, c.in-Some.ensures.some, c.in-Some-read_env.ensures.some, c.in-Some-read_fun.ensures.some) in
+    let split : fields c.args.line.now ≡ tid_text c.in-Some.tid ∷ env_text c.in-Some-read_env.env ∷ name_of c.in-Some-read_fun.fun ∷ rest =
+    cc (first, second, third, c.in-Some.ensures.some, c.in-Some-read_env.ensures.some, c.in-Some-read_fun.ensures.some) in
     let printable : All (λ b. IsInRange 32 126 b) c.args.line.now = search rules in
     wrong_count c.args.line.now c.in-Some.tid c.in-Some-read_env.env c.in-Some-read_fun.fun rest
     (record { short = omega arith; printable = printable; tid = c.in-Some.ensures.fits; env = c.in-Some-read_env.ensures.fits; split = split })
@@ -40,7 +43,8 @@ returns-in-Err-clause-fault c = λ ne.
     let second = rw c.in-Some-rest-2.is at c.cut-2.ensures in
     let third = cut_rest (fields c.in-Some-rest-2.rest.now) c.cut-3.result.0.now c.cut-3.result.1 c.cut-3.ensures in
     let rest = rest_fields (option_copied c.cut-3.result.1) in
-    let split : fields c.args.line.now ≡ tid_text c.in-Some.tid ∷ env_text c.in-Some-read_env.env ∷ name_of c.in-Some-read_fun.fun ∷ rest = cc (first, second, third, c.in-Some.ensures.some, c.in-Some-read_env.ensures.some, c.in-Some-read_fun.ensures.some) in
+    let split : fields c.args.line.now ≡ tid_text c.in-Some.tid ∷ env_text c.in-Some-read_env.env ∷ name_of c.in-Some-read_fun.fun ∷ rest =
+    cc (first, second, third, c.in-Some.ensures.some, c.in-Some-read_env.ensures.some, c.in-Some-read_fun.ensures.some) in
     let printable : All (λ b. IsInRange 32 126 b) c.args.line.now = search rules in
     let bad = c.in-Err.ensures.fault ne in
     bad_operand c.args.line.now c.in-Some.tid c.in-Some-read_env.env c.in-Some-read_fun.fun rest c.in-Err.fault

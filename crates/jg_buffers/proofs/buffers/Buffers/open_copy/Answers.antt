@@ -14,4 +14,5 @@ returns-clause-ok g c = λ e stands.
 -- no other number is there
 pub returns-clause-numbers : goal.returns-clause-numbers
 returns-clause-numbers g c = λ k i above below.
-    copy_numbers c.self.inside.copies.entries c.insert.new.self.entries c.self.inside.pins.entries c.args.tid.0 c.args.n _ c.in_ok-insert.ensures.updates.0 k i (above_in _ _ k i c.self.view_is above) below
+    copy_numbers c.self.inside.copies.entries c.insert.new.self.entries c.self.inside.pins.entries c.args.tid.0 c.args.n _ c.in_ok-insert.ensures.updates.0 k i (above_in _ _ k i c.self.view_is above)
+    below

@@ -32,7 +32,8 @@ invariant_of-self-2 g c =
     let was : Counted c.self.inside.pins.entries c.make_room.new.map c.make_room-2.new.map = counts_same _ _ _ _ _ c.self.invariant c.make_room.ensures.same c.make_room-2.ensures.same in
     let none = no_pin c.self.inside.copies.entries c.self.inside.pins.entries c.args.tid.0 c.args.n (above_in _ _ c.args.tid.0 c.args.n c.self.view_is c.requires.above) in
     let vias = rw c.via_key-key.ensures at c.raise-2.ensures in
-    rw c.in_ok-insert.ensures.entries (counts_raised c.self.inside.pins.entries c.make_room.new.map c.raise.new.map c.make_room-2.new.map c.raise-2.new.map c.args.tid.0 c.args.n _ was none c.raise.ensures vias)
+    rw c.in_ok-insert.ensures.entries (counts_raised c.self.inside.pins.entries c.make_room.new.map c.raise.new.map c.make_room-2.new.map c.raise-2.new.map c.args.tid.0 c.args.n _ was none
+    c.raise.ensures vias)
 
 -- the pinned buffer is added
 pub returns-clause-ok : goal.returns-clause-ok
@@ -44,4 +45,5 @@ returns-clause-ok g c = λ e stands.
 -- no other number is there
 pub returns-clause-numbers : goal.returns-clause-numbers
 returns-clause-numbers g c = λ k i above below.
-    pin_numbers c.self.inside.copies.entries c.self.inside.pins.entries c.insert.new.self.entries c.args.tid.0 c.args.n _ c.in_ok-insert.ensures.updates.0 k i (above_in _ _ k i c.self.view_is above) below
+    pin_numbers c.self.inside.copies.entries c.self.inside.pins.entries c.insert.new.self.entries c.args.tid.0 c.args.n _ c.in_ok-insert.ensures.updates.0 k i (above_in _ _ k i c.self.view_is above)
+    below

@@ -12,4 +12,5 @@ pub returns : goal.returns
 returns g c = λ e stands.
     let was : Stands (record { lent = map copy_seen c.self.inside.copies.entries ++ map pin_seen c.self.inside.pins.entries }) e = reopened _ _ e c.self.view_is stands in
     rw (c.count_of.ensures, c.via_key.ensures, c.self.invariant.by_via c.args.reference)
-    (some_counted (λ f. same_ref f.1.via c.args.reference) c.self.inside.pins.entries ∙ pin_law (λ b. same_ref b.via c.args.reference) (λ b items. refl) c.self.inside.copies.entries c.self.inside.pins.entries e was)
+    (some_counted (λ f. same_ref f.1.via c.args.reference) c.self.inside.pins.entries
+    ∙ pin_law (λ b. same_ref b.via c.args.reference) (λ b items. refl) c.self.inside.copies.entries c.self.inside.pins.entries e was)

@@ -14,12 +14,14 @@ returns-clause-stands g c = λ e stands.
     let P : Rows → Type 0 = λ r. c.args.index < copy_length (row_of c.args.buf.maker.0 c.args.buf.n r) in
     let within : c.args.index < copy_length (row_of c.args.buf.maker.0 c.args.buf.n (seen c.self.inside.copies.entries c.self.inside.pins.entries)) = subst P (sym c.self.view_is) c.requires in
     let plain : to_z w64 (of_z w64 c.args.value) ≡ c.args.value = search rules in
-    write_law c.self.inside.copies.entries c.set_item.new.map.entries c.self.inside.pins.entries e c.args.buf.maker.0 c.args.buf.n c.args.index c.args.value was within c.set_item.ensures.ordered (λ q. rw plain at (c.set_item.ensures.set q))
+    write_law c.self.inside.copies.entries c.set_item.new.map.entries c.self.inside.pins.entries e c.args.buf.maker.0 c.args.buf.n c.args.index c.args.value was within c.set_item.ensures.ordered
+    (λ q. rw plain at (c.set_item.ensures.set q))
 
 -- the numbers stay
 pub returns-clause-numbers : goal.returns-clause-numbers
 returns-clause-numbers g c = λ k i above.
-    written_numbers c.self.inside.copies.entries c.set_item.new.map.entries c.self.inside.pins.entries c.args.buf.maker.0 c.args.buf.n c.args.index _ c.set_item.ensures.set k i (above_in _ _ k i c.self.view_is above)
+    written_numbers c.self.inside.copies.entries c.set_item.new.map.entries c.self.inside.pins.entries c.args.buf.maker.0 c.args.buf.n c.args.index _ c.set_item.ensures.set k i
+    (above_in _ _ k i c.self.view_is above)
 
 -- and what is known of each buffer
 pub returns-clause-buffers : goal.returns-clause-buffers

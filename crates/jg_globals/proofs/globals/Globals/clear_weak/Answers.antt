@@ -16,7 +16,8 @@ returns-clause-stands g c = λ e stands.
     let was : Stands (record { strong = map strong_seen c.self.inside.strong.items; weak = map weak_seen c.self.inside.weak.items }) e = reopened _ _ e c.self.view_is stands in
     let len : length c.clear_rows.new.rows ≡ c.self.inside.weak.len = omega arith in
     rw (with_items_is c.self.inside.weak c.clear_rows.new.rows len)
-    (clear_law _ _ c.deref_mut.result.now _ e (c.args.object.0 ∷ []) (ap (map weak_seen) (sym c.deref_mut.ensures.value)) c.clear_rows.ensures (λ m n o answer named answered. grind (arith, nat_tests, or_false, answered.1)) was)
+    (clear_law _ _ c.deref_mut.result.now _ e (c.args.object.0 ∷ []) (ap (map weak_seen) (sym c.deref_mut.ensures.value)) c.clear_rows.ensures
+    (λ m n o answer named answered. grind (arith, nat_tests, or_false, answered.1)) was)
 
 -- no other number is there
 pub returns-clause-numbers : goal.returns-clause-numbers

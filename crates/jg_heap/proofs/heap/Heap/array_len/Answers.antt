@@ -6,5 +6,6 @@ use Rattle.jg_heap.proofs.heap.Heap.array_len.Goals as goal
 pub returns-clause-history : goal.returns-clause-history
 returns-clause-history g c e s =
     c.len.ensures.len
-    ∙ ap (λ (r : Row). length r.units + length r.slots) (kept c.self.inside.objects.items c.args.self.now.objects c.args.object.0 c.index.result.now (ap (λ (r : Rows). r.objects) c.self.view_is) c.requires c.index.ensures)
+    ∙ ap (λ (r : Row). length r.units + length r.slots) (kept c.self.inside.objects.items c.args.self.now.objects c.args.object.0 c.index.result.now (ap (λ (r : Rows). r.objects) c.self.view_is)
+    c.requires c.index.ensures)
     ∙ length_stands c.args.self.now e c.args.object.0 s c.requires

@@ -11,7 +11,8 @@ returns-clause-stands g c e s =
     let x = c.index_mut.result.now in
     let row = kept c.self.inside.objects.items c.args.self.now.objects c.args.object.0 x view c.requires.made c.index_mut.ensures.value in
     rows_wrote c.self.inside.objects.items c.args.self.now c.self.inside.class_count e c.args.object.0 c.args.index c.args.value x _
-    view (ap (λ (r : Rows). r.classes) c.self.view_is) s c.requires.made (slots_within c.args.self.now c.args.object.0 c.args.index x row (takes_no_text _ c.args.value c.requires.takes) c.requires.within) c.index_mut.ensures.value
+    view (ap (λ (r : Rows). r.classes) c.self.view_is) s c.requires.made
+    (slots_within c.args.self.now c.args.object.0 c.args.index x row (takes_no_text _ c.args.value c.requires.takes) c.requires.within) c.index_mut.ensures.value
     (row_written x c.set_item.new.self c.args.index c.args.value c.set_item.ensures.class c.set_item.ensures.units c.set_item.ensures.slots)
 
 pub returns-clause-shapes : goal.returns-clause-shapes
@@ -23,4 +24,5 @@ returns-clause-shapes g c =
 pub invariant_of-self : goal.invariant_of-self
 invariant_of-self g c =
     c.self.invariant
-    ∙ sym (live_wrote c.self.inside.objects.items c.args.object.0 c.index_mut.result.now _ (made_inside c.self.inside.objects.items c.args.self.now c.args.object.0 (ap (λ (r : Rows). r.objects) c.self.view_is) c.requires.made) c.index_mut.ensures.value refl)
+    ∙ sym (live_wrote c.self.inside.objects.items c.args.object.0 c.index_mut.result.now _
+    (made_inside c.self.inside.objects.items c.args.self.now c.args.object.0 (ap (λ (r : Rows). r.objects) c.self.view_is) c.requires.made) c.index_mut.ensures.value refl)

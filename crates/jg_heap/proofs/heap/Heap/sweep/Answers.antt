@@ -22,11 +22,14 @@ invariant_of-self g c =
     c.keep_marked.ensures ∙ ap (filter marked) live
     ∙ live_swept old new marked (length-map c.let_go.new.objects row_of ∙ c.let_go.auto.objects ∙ sym (length-map c.deref_mut.result.now row_of))
     (λ o. c.let_go.ensures o ∙ ap (λ (os : List ℕ). ended_row (list_any (λ p. not (marked p) && eqb p o) os) (row_in old o)) (c.deref.ensures.value ∙ live))
-    ∙ ap (λ (xs : List (Object g.row.A.Denot)). live_in (map row_of xs)) (sym (with_items_is c.self.inside.objects c.let_go.new.objects (c.let_go.auto.objects ∙ ap (λ (xs : List (Object g.row.A.Denot)). length xs) c.deref_mut.ensures.value ∙ sym c.self.inside.objects.ok.0)))
+    ∙ ap (λ (xs : List (Object g.row.A.Denot)). live_in (map row_of xs))
+    (sym (with_items_is c.self.inside.objects c.let_go.new.objects (c.let_go.auto.objects ∙ ap (λ (xs : List (Object g.row.A.Denot)). length xs) c.deref_mut.ensures.value
+    ∙ sym c.self.inside.objects.ok.0)))
 
 pub returns-clause-stands : goal.returns-clause-stands
 returns-clause-stands g c e roots stands held =
-    ap (map row_of) (with_items_is c.self.inside.objects c.let_go.new.objects (c.let_go.auto.objects ∙ ap (λ (xs : List (Object g.row.A.Denot)). length xs) c.deref_mut.ensures.value ∙ sym c.self.inside.objects.ok.0))
+    ap (map row_of) (with_items_is c.self.inside.objects c.let_go.new.objects (c.let_go.auto.objects ∙ ap (λ (xs : List (Object g.row.A.Denot)). length xs) c.deref_mut.ensures.value
+    ∙ sym c.self.inside.objects.ok.0))
     ∙ rows_swept c.self.inside.objects.items c.deref_mut.result.now c.let_go.new.objects c.deref.result.now c.self.inside.live.items c.args.self.now c.self.inside.class_count e roots c.args.marks.now
     c.deref_mut.ensures.value c.deref.ensures.value c.self.invariant c.self.view_is stands c.let_go.auto.objects c.let_go.ensures held
 
@@ -35,7 +38,8 @@ returns-clause-shapes g c =
     let base : map row_of c.deref_mut.result.now ≡ c.args.self.now.objects = ap (map row_of) c.deref_mut.ensures.value ∙ ap (λ (r : Rows). r.objects) c.self.view_is in
     let goes : ℕ → Bool = λ o. list_any (λ p. not (get_or c.args.marks.now p false) && eqb p o) c.deref.result.now in
     let P : List (Object g.row.A.Denot) → Type 0 = λ (xs : List (Object g.row.A.Denot)). KeepsShapes c.args.self.now (record { classes = c.self.inside.class_count; objects = map row_of xs }) in
-    subst P (sym (with_items_is c.self.inside.objects c.let_go.new.objects (c.let_go.auto.objects ∙ ap (λ (xs : List (Object g.row.A.Denot)). length xs) c.deref_mut.ensures.value ∙ sym c.self.inside.objects.ok.0)))
+    subst P (sym (with_items_is c.self.inside.objects c.let_go.new.objects (c.let_go.auto.objects ∙ ap (λ (xs : List (Object g.row.A.Denot)). length xs) c.deref_mut.ensures.value
+    ∙ sym c.self.inside.objects.ok.0)))
     (shapes_swept c.args.self.now c.self.inside.class_count (map row_of c.let_go.new.objects) goes
     (length-map c.let_go.new.objects row_of ∙ c.let_go.auto.objects ∙ sym (length-map c.deref_mut.result.now row_of) ∙ ap (λ (rs : List Row). length rs) base)
     (λ o. c.let_go.ensures o ∙ ap (λ (rs : List Row). ended_row (goes o) (row_in rs o)) base))

@@ -13,7 +13,8 @@ same_bytes (x ∷ xs) (y ∷ ys) h =
     let rest : xs ≡ ys = same_bytes xs ys later in
     cc
 
-bytes_found : {A E : Type 0} (bytes : List ℕ) (r : Result (Option (Vec ℕ A)) E) → IfOk r (λ found. IfSome found (λ units. IsSpeltInItems units.items (map pos bytes))) → IfOk r (λ found. IfSome found (λ units. IsSpelt units.items bytes))
+bytes_found : {A E : Type 0} (bytes : List ℕ) (r : Result (Option (Vec ℕ A)) E) → IfOk r (λ found. IfSome found (λ units. IsSpeltInItems units.items (map pos bytes)))
+    → IfOk r (λ found. IfSome found (λ units. IsSpelt units.items bytes))
 bytes_found bytes (Err e) h = tt
 bytes_found bytes (Ok None) h = tt
 bytes_found bytes (Ok (Some units)) h = (h.0, same_bytes bytes _ h.1)

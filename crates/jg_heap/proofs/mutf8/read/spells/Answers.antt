@@ -12,7 +12,11 @@ loop-at-preserved g c =
     let found = c.in-Some.ensures.found in
     record {
       within = c.in-Some.ensures.len.1;
-      front = (before.front.0 ++ c.in-Some.field-0-0 ∷ [], AreUnits-push before.front.0 c.in-Some.field-0-0 before.front.1 found.0, front_more items before.front.0 c.loop-at.at c.in-Some.field-0-0 c.in-Some.len before.front.2 found.1);
+      front = (
+        before.front.0 ++ c.in-Some.field-0-0 ∷ [],
+        AreUnits-push before.front.0 c.in-Some.field-0-0 before.front.1 found.0,
+        front_more items before.front.0 c.loop-at.at c.in-Some.field-0-0 c.in-Some.len before.front.2 found.1,
+      );
       rest = λ units s. let left = before.rest units s in rest_more items c.loop-at.at c.in-Some.field-0-0 c.in-Some.len inside found.1 c.in-Some.ensures.only left.0 left.1;
     }
 

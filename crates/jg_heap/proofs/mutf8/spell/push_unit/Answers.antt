@@ -7,7 +7,8 @@ two : (a b : ℕ) (old mid new s : List ℕ) → mid ≡ old ++ a ∷ [] → new
 two a b old mid new s h g is = g ∙ ap (λ (xs : List ℕ). xs ++ b ∷ []) h ∙ append_assoc old (a ∷ []) (b ∷ []) ∙ ap (λ (xs : List ℕ). old ++ xs) (sym is)
 
 three : (a b c : ℕ) (old mid more new s : List ℕ) → mid ≡ old ++ a ∷ [] → more ≡ mid ++ b ∷ [] → new ≡ more ++ c ∷ [] → s ≡ a ∷ b ∷ c ∷ [] → new ≡ old ++ s
-three a b c old mid more new s h g f is = f ∙ ap (λ (xs : List ℕ). xs ++ c ∷ []) (two a b old mid more (a ∷ b ∷ []) h g refl) ∙ append_assoc old (a ∷ b ∷ []) (c ∷ []) ∙ ap (λ (xs : List ℕ). old ++ xs) (sym is)
+three a b c old mid more new s h g f is = f ∙ ap (λ (xs : List ℕ). xs ++ c ∷ []) (two a b old mid more (a ∷ b ∷ []) h g refl) ∙ append_assoc old (a ∷ b ∷ []) (c ∷ [])
+    ∙ ap (λ (xs : List ℕ). old ++ xs) (sym is)
 
 pub returns-in_ok-push : goal.returns-in_ok-push
 returns-in_ok-push g c = c.in_ok-push.ensures.items ∙ ap (λ (xs : List ℕ). c.args.bytes.now.items ++ xs) (sym (spelling_one c.args.unit c.if-unit-gt0.true c.if-unit-lt128.true))

@@ -6,4 +6,5 @@ pub returns-clause-rows : goal.returns-clause-rows
 returns-clause-rows g c = above_seen c.self.inside.stacks c.args.self.now c.args.tid.0 c.args.n c.is_above_at.result c.self.invariant c.self.view_is c.is_above_at.ensures
 
 pub returns-clause-history : goal.returns-clause-history
-returns-clause-history g c = λ e stands. above_live c.args.self.now.rows e c.args.tid.0 c.args.n c.is_above_at.result stands (above_seen c.self.inside.stacks c.args.self.now c.args.tid.0 c.args.n c.is_above_at.result c.self.invariant c.self.view_is c.is_above_at.ensures)
+returns-clause-history g c = λ e stands. above_live c.args.self.now.rows e c.args.tid.0 c.args.n c.is_above_at.result stands
+    (above_seen c.self.inside.stacks c.args.self.now c.args.tid.0 c.args.n c.is_above_at.result c.self.invariant c.self.view_is c.is_above_at.ensures)

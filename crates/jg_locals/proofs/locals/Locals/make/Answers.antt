@@ -8,12 +8,15 @@ pub unwrap-top-requires : goal.unwrap-top-requires
 unwrap-top-requires g c = started_top c.self.inside.stacks c.args.self.now c.args.tid.0 c.top_at.result c.self.invariant c.self.view_is c.top_at.ensures c.requires.started
 
 pub make_at-requires-clause-above : goal.make_at-requires-clause-above
-make_at-requires-clause-above g c = above_slots c.self.inside.stacks c.args.tid.0 c.args.n c.self.invariant (above_in c.self.inside.stacks c.args.self.now c.args.tid.0 c.args.n c.self.view_is c.requires.above)
+make_at-requires-clause-above g c = above_slots c.self.inside.stacks c.args.tid.0 c.args.n c.self.invariant
+    (above_in c.self.inside.stacks c.args.self.now c.args.tid.0 c.args.n c.self.view_is c.requires.above)
 
 pub returns-clause-ok : goal.returns-clause-ok
 returns-clause-ok g c = on_ok c.make_at.result (λ changes. λ e stands.
     let is : last (frames_in (stack_at c.args.tid.0 c.self.inside.stacks.entries)) ≡ Some c.unwrap-top.result = cc in
-    make_step c.self.inside.stacks c.make_at.new.stacks c.args.tid.0 c.args.n c.args.object.0 c.unwrap-top.result e c.self.invariant (c.make_at.ensures.ordered c.self.invariant) is (above_in c.self.inside.stacks c.args.self.now c.args.tid.0 c.args.n c.self.view_is c.requires.above) changes (reopened (table_seen c.self.inside.stacks) c.args.self.now e c.self.view_is stands)) c.make_at.ensures.ok
+    make_step c.self.inside.stacks c.make_at.new.stacks c.args.tid.0 c.args.n c.args.object.0 c.unwrap-top.result e c.self.invariant (c.make_at.ensures.ordered c.self.invariant) is
+    (above_in c.self.inside.stacks c.args.self.now c.args.tid.0 c.args.n c.self.view_is c.requires.above) changes
+    (reopened (table_seen c.self.inside.stacks) c.args.self.now e c.self.view_is stands)) c.make_at.ensures.ok
 
 pub returns-clause-room : goal.returns-clause-room
 returns-clause-room g c = λ some. c.make_at.ensures.room (room_from c.self.inside.stacks c.args.self.now c.args.tid.0 c.self.view_is some)

@@ -8,14 +8,17 @@ pub invariant_of-self : goal.invariant_of-self
 invariant_of-self g c =
     let frames = c.self.inside.frames.items in
     let sound = c.close_up_if-dead.ensures.sound frames (c.cut.ensures.sound frames c.self.invariant.sound) in
-    rw c.close_from.ensures.kept (cut_kept _ frames (base c.args.top) sound c.self.invariant.opened (c.close_up_if-dead.ensures.below (base c.args.top) c.cut.ensures.below) (c.close_up_if-dead.ensures.ends c.cut.ensures.ends))
+    rw c.close_from.ensures.kept (cut_kept _ frames (base c.args.top) sound c.self.invariant.opened (c.close_up_if-dead.ensures.below (base c.args.top) c.cut.ensures.below)
+    (c.close_up_if-dead.ensures.ends c.cut.ensures.ends))
 
 pub returns-clause-locals : goal.returns-clause-locals
 returns-clause-locals g c =
     let is : last c.self.inside.frames.items ≡ Some c.args.top = ap (λ (r : StackRows). last r.frames) c.self.view_is ∙ c.requires in
-    c.close_up_if-dead.ensures.live ∙ (c.cut.ensures.live ∙ (left_slots c.self.inside.slots.items c.self.inside.frames.items c.args.top c.self.invariant.sound c.self.invariant.opened is ∙ ap (λ (r : StackRows). filter (λ s. not (s.depth == c.args.top.depth)) r.locals) c.self.view_is))
+    c.close_up_if-dead.ensures.live ∙ (c.cut.ensures.live ∙ (left_slots c.self.inside.slots.items c.self.inside.frames.items c.args.top c.self.invariant.sound c.self.invariant.opened is
+    ∙ ap (λ (r : StackRows). filter (λ s. not (s.depth == c.args.top.depth)) r.locals) c.self.view_is))
 
 pub returns-clause-frames : goal.returns-clause-frames
 returns-clause-frames g c =
     let is : last c.self.inside.frames.items ≡ Some c.args.top = ap (λ (r : StackRows). last r.frames) c.self.view_is ∙ c.requires in
-    c.close_from.ensures.kept ∙ (left_frames c.self.inside.frames.items c.args.top c.self.invariant.opened is ∙ ap (λ (r : StackRows). filter (λ s. not (s.depth == c.args.top.depth)) r.frames) c.self.view_is)
+    c.close_from.ensures.kept ∙ (left_frames c.self.inside.frames.items c.args.top c.self.invariant.opened is
+    ∙ ap (λ (r : StackRows). filter (λ s. not (s.depth == c.args.top.depth)) r.frames) c.self.view_is)

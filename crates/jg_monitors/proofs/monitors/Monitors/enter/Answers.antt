@@ -13,7 +13,8 @@ use Rattle.jg_monitors.proofs.monitors.Monitors.enter.Goals as goal
 pub overflow_add-count : goal.overflow_add-count
 overflow_add-count g c =
     let entries = c.self.inside.owned.entries in
-    let own : count_by_owner c.args.tid.0 (lookup (is_at (nat_cmp c.args.object.0)) entries) ≡ Some c.in-Some.count = ap (count_by_owner c.args.tid.0) (sym c.look-found.ensures) ∙ (sym c.own_count.ensures ∙ c.in-Some.is) in
+    let own : count_by_owner c.args.tid.0 (lookup (is_at (nat_cmp c.args.object.0)) entries) ≡ Some c.in-Some.count = ap (count_by_owner c.args.tid.0) (sym c.look-found.ensures)
+    ∙ (sym c.own_count.ensures ∙ c.in-Some.is) in
     let number = own_count_law c.args.tid.0 c.in-Some.count c.args.object.0 (lookup (is_at (nat_cmp c.args.object.0)) entries) own in
     let row = ap count_in (row_law entries _ c.args.object.0 c.self.view_is) in
     omega (arith, number, row, c.requires)
@@ -21,27 +22,31 @@ overflow_add-count g c =
 pub returns-in_default-clause-row : goal.returns-in_default-clause-row
 returns-in_default-clause-row g c =
     let entries = c.self.inside.owned.entries in
-    let own : count_by_owner c.args.tid.0 (lookup (is_at (nat_cmp c.args.object.0)) entries) ≡ None = ap (count_by_owner c.args.tid.0) (sym c.look-found.ensures) ∙ (sym c.own_count.ensures ∙ c.in_default.is) in
+    let own : count_by_owner c.args.tid.0 (lookup (is_at (nat_cmp c.args.object.0)) entries) ≡ None = ap (count_by_owner c.args.tid.0) (sym c.look-found.ensures)
+    ∙ (sym c.own_count.ensures ∙ c.in_default.is) in
     rw (row_law entries _ c.args.object.0 c.self.view_is) (sym (busy_answer c.args.tid.0 c.args.object.0 (lookup (is_at (nat_cmp c.args.object.0)) entries) own))
 
 pub returns-in_default-clause-stands : goal.returns-in_default-clause-stands
 returns-in_default-clause-stands g c = λ e stands.
     let entries = c.self.inside.owned.entries in
     let was : Stands (record { owned = map seen entries }) e = reopened _ _ e c.self.view_is stands in
-    let own : count_by_owner c.args.tid.0 (lookup (is_at (nat_cmp c.args.object.0)) entries) ≡ None = ap (count_by_owner c.args.tid.0) (sym c.look-found.ensures) ∙ (sym c.own_count.ensures ∙ c.in_default.is) in
+    let own : count_by_owner c.args.tid.0 (lookup (is_at (nat_cmp c.args.object.0)) entries) ≡ None = ap (count_by_owner c.args.tid.0) (sym c.look-found.ensures)
+    ∙ (sym c.own_count.ensures ∙ c.in_default.is) in
     rw (owner_law entries e c.args.object.0 was) (sym (busy_answer c.args.tid.0 c.args.object.0 (lookup (is_at (nat_cmp c.args.object.0)) entries) own))
 
 pub returns-clause-row : goal.returns-clause-row
 returns-clause-row g c =
     let entries = c.self.inside.owned.entries in
-    let own : count_by_owner c.args.tid.0 (lookup (is_at (nat_cmp c.args.object.0)) entries) ≡ Some c.in-Some.count = ap (count_by_owner c.args.tid.0) (sym c.look-found.ensures) ∙ (sym c.own_count.ensures ∙ c.in-Some.is) in
+    let own : count_by_owner c.args.tid.0 (lookup (is_at (nat_cmp c.args.object.0)) entries) ≡ Some c.in-Some.count = ap (count_by_owner c.args.tid.0) (sym c.look-found.ensures)
+    ∙ (sym c.own_count.ensures ∙ c.in-Some.is) in
     rw (row_law entries _ c.args.object.0 c.self.view_is) (sym (may_enter_answer c.args.tid.0 c.in-Some.count c.args.object.0 (lookup (is_at (nat_cmp c.args.object.0)) entries) own))
 
 pub returns-clause-stands : goal.returns-clause-stands
 returns-clause-stands g c = λ e stands.
     let entries = c.self.inside.owned.entries in
     let was : Stands (record { owned = map seen entries }) e = reopened _ _ e c.self.view_is stands in
-    let own : count_by_owner c.args.tid.0 (lookup (is_at (nat_cmp c.args.object.0)) entries) ≡ Some c.in-Some.count = ap (count_by_owner c.args.tid.0) (sym c.look-found.ensures) ∙ (sym c.own_count.ensures ∙ c.in-Some.is) in
+    let own : count_by_owner c.args.tid.0 (lookup (is_at (nat_cmp c.args.object.0)) entries) ≡ Some c.in-Some.count = ap (count_by_owner c.args.tid.0) (sym c.look-found.ensures)
+    ∙ (sym c.own_count.ensures ∙ c.in-Some.is) in
     rw (owner_law entries e c.args.object.0 was) (sym (may_enter_answer c.args.tid.0 c.in-Some.count c.args.object.0 (lookup (is_at (nat_cmp c.args.object.0)) entries) own))
 
 -- the owner's count is one more
@@ -49,7 +54,8 @@ pub returns-clause-entered : goal.returns-clause-entered
 returns-clause-entered g c = λ done e stands.
     let entries = c.self.inside.owned.entries in
     let was : Stands (record { owned = map seen entries }) e = reopened _ _ e c.self.view_is stands in
-    let own : count_by_owner c.args.tid.0 (lookup (is_at (nat_cmp c.args.object.0)) entries) ≡ Some c.in-Some.count = ap (count_by_owner c.args.tid.0) (sym c.look-found.ensures) ∙ (sym c.own_count.ensures ∙ c.in-Some.is) in
+    let own : count_by_owner c.args.tid.0 (lookup (is_at (nat_cmp c.args.object.0)) entries) ≡ Some c.in-Some.count = ap (count_by_owner c.args.tid.0) (sym c.look-found.ensures)
+    ∙ (sym c.own_count.ensures ∙ c.in-Some.is) in
     enter_law entries c.put.new.owned.entries e c.args.tid.0 c.args.object.0 c.in-Some.count was own c.in_ok-put.ensures.ordered c.in_ok-put.ensures.put
 
 -- only what nobody owned can fail

@@ -17,7 +17,8 @@ pub returns : goal.returns
 returns g c = λ e stands.
     let was : Stands (record { owned = map seen c.self.inside.owned.entries }) e = reopened _ _ e c.self.view_is stands in
     let entries = c.self.inside.owned.entries in
-    let mine : owner_in (row_at c.args.object.0 (lookup (is_at (nat_cmp c.args.object.0)) entries)) ≡ Some c.args.tid.0 = ap owner_in (sym (row_law entries _ c.args.object.0 c.self.view_is)) ∙ c.requires in
+    let mine : owner_in (row_at c.args.object.0 (lookup (is_at (nat_cmp c.args.object.0)) entries)) ≡ Some c.args.tid.0 =
+    ap owner_in (sym (row_law entries _ c.args.object.0 c.self.view_is)) ∙ c.requires in
     let found = owned_law c.args.tid.0 c.args.object.0 (lookup (is_at (nat_cmp c.args.object.0)) entries) mine in
     exit_law entries c.lower.new.owned.entries e c.args.tid.0 c.args.object.0 found.0 was found.1.0 found.1.1 c.lower.ensures.ordered c.lower.ensures.lowered
 
@@ -25,6 +26,7 @@ returns g c = λ e stands.
 pub lower-requires-clause-mine : goal.lower-requires-clause-mine
 lower-requires-clause-mine g c =
     let entries = c.self.inside.owned.entries in
-    let mine : owner_in (row_at c.args.object.0 (lookup (is_at (nat_cmp c.args.object.0)) entries)) ≡ Some c.args.tid.0 = ap owner_in (sym (row_law entries _ c.args.object.0 c.self.view_is)) ∙ c.requires in
+    let mine : owner_in (row_at c.args.object.0 (lookup (is_at (nat_cmp c.args.object.0)) entries)) ≡ Some c.args.tid.0 =
+    ap owner_in (sym (row_law entries _ c.args.object.0 c.self.view_is)) ∙ c.requires in
     let found = owned_law c.args.tid.0 c.args.object.0 (lookup (is_at (nat_cmp c.args.object.0)) entries) mine in
     ap (is_owned_by c.args.tid.0) found.1.0 ∙ eq-eqb _ _ found.1.1

@@ -18,5 +18,8 @@ returns-in-None c =
 pub returns-in-Some : goal.returns-in-Some
 returns-in-Some c =
     let found : class_at c.args.self.now c.args.class ≡ Some (class_view (c.in-Some.field-0-0.now, c.in-Some.found.now)) =
-    class_found c.args.self.now c.self.inside.classes.entries (ap (λ (s : StatedSetup). s.classes) c.self.view_is) c.args.class c.if-class-lt-BASE_COUNT.false (c.in-Some.field-0-0.now, c.in-Some.found.now) c.in-Some.ensures.entry in
+    class_found c.args.self.now c.self.inside.classes.entries (ap (λ (s : StatedSetup). s.classes) c.self.view_is) c.args.class c.if-class-lt-BASE_COUNT.false (
+      c.in-Some.field-0-0.now,
+      c.in-Some.found.now,
+    ) c.in-Some.ensures.entry in
     c.member_named.ensures ∙ rw (c.as_str.ensures.bytes, c.as_str-in-Some.ensures.bytes, c.as_slice.ensures.keys, found)

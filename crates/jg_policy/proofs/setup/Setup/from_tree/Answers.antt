@@ -23,7 +23,8 @@ returns-then-is_too_large-clause-refused c _ =
     let classes : map class_view c.in-Ok.classes.entries ≡ stated.classes = c.in-Ok.ensures.stated ∙ ap (each_item class_stated) c.items_at.ensures in
     let enabled : map string_bytes c.in-Ok-texts_from.enabled.items ≡ stated.enabled = c.in-Ok-texts_from.ensures ∙ ap (each_item text_item) c.items_at-2.ensures in
     let once : states_twice stated.classes ≡ false = ap states_twice (sym classes) ∙ c.in-Ok.ensures.distinct in
-    first_found (tree_faults (table_view c.args.table.now)) _ (size_answers (table_view c.args.table.now) (sym c.in_default.ensures) once (sym (large_kept stated _ _ enabled classes) ∙ sym c.if-is_too_large.ensures))
+    first_found (tree_faults (table_view c.args.table.now)) _ (size_answers (table_view c.args.table.now) (sym c.in_default.ensures) once (sym (large_kept stated _ _ enabled classes)
+    ∙ sym c.if-is_too_large.ensures))
 
 pub invariant_of-result : goal.invariant_of-result
 invariant_of-result c = sym c.if-is_too_large.ensures
@@ -34,4 +35,5 @@ returns-clause-clean c =
     let classes : map class_view c.in-Ok.classes.entries ≡ stated.classes = c.in-Ok.ensures.stated ∙ ap (each_item class_stated) c.items_at.ensures in
     let enabled : map string_bytes c.in-Ok-texts_from.enabled.items ≡ stated.enabled = c.in-Ok-texts_from.ensures ∙ ap (each_item text_item) c.items_at-2.ensures in
     let once : states_twice stated.classes ≡ false = ap states_twice (sym classes) ∙ c.in-Ok.ensures.distinct in
-    none_found (tree_faults (table_view c.args.table.now)) (clean_answers (table_view c.args.table.now) (sym c.in_default.ensures) once (sym (large_kept stated _ _ enabled classes) ∙ sym c.if-is_too_large.ensures))
+    none_found (tree_faults (table_view c.args.table.now)) (clean_answers (table_view c.args.table.now) (sym c.in_default.ensures) once (sym (large_kept stated _ _ enabled classes)
+    ∙ sym c.if-is_too_large.ensures))
