@@ -4,6 +4,7 @@ use Rattle.jg_words.specs.declared.reference.Ref.{Ref}
 use Rattle.jg_words.specs.declared.call.Call.{Call}
 use Rattle.jg_words.specs.declared.call.Call.TheVariants.{Vm, Refs, Frames, Strings}
 use Rattle.jg_words.specs.declared.call.vm.VmCall.{VmCall}
+use Rattle.jg_words.specs.declared.call.vm.VmCall.TheVariants.{AttachCurrentThread, DetachCurrentThread, GetEnv}
 use Rattle.jg_words.specs.declared.call.refs.RefsCall.{RefsCall}
 use Rattle.jg_words.specs.declared.call.refs.RefsCall.TheVariants.{NewLocalRef, DeleteLocalRef, IsSameObject, GetObjectRefType}
 use Rattle.jg_words.specs.declared.call.frames.FramesCall.{FramesCall}
@@ -14,6 +15,8 @@ use Rattle.jg_policy.specs.Stated.{StatedSetup}
 use Rattle.jg_rules.specs.declared.operand.ObjectType.{ObjectType}
 use Rattle.jg_rules.specs.declared.operand.ObjectType.TheVariants.{AnyObject, StringObject}
 use Rattle.jg_rules.specs.declared.operand.Operand.{Operand}
+use Rattle.jg_rules.specs.declared.operand.Operands.{Operands}
+use Rattle.jg_rules.specs.declared.operand.Operands.TheVariants.{Nil, One, Two}
 use Rattle.jg_rules.specs.Parts.{Parts}
 use Rattle.jg_rules.specs.Names.{class_of}
 
@@ -23,8 +26,16 @@ required r type = record { reference = r; nullable = false; object_type = type }
 abbrev pub optional : Ref → Operand
 optional r = record { reference = r; nullable = true; object_type = AnyObject }
 
+-- as the code has them
+abbrev pub listed : Operands → List Operand
+listed Nil = []
+listed (One first) = first ∷ []
+listed (Two first second) = first ∷ second ∷ []
+
 abbrev pub vm_operands : VmCall → List Operand
-vm_operands call = []
+vm_operands AttachCurrentThread = []
+vm_operands DetachCurrentThread = []
+vm_operands GetEnv = []
 
 -- GetObjectRefType takes any reference, dead or alive
 abbrev pub refs_operands : RefsCall → List Operand

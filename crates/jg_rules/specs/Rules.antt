@@ -114,12 +114,20 @@ is_wrong s p type (Object o) = not (is_of s p type o.0)
 abbrev pub wrong_type : StatedSetup → Parts → ℕ → Call → Bool
 wrong_type s p t call = list_any (λ x. is_wrong s p x.object_type (names p t x.reference)) (operands call)
 
--- 10, 11: a field ID or a buffer that isn't the call's. No function takes one yet
+-- 10: a field ID that isn't the object's (JNI Specification, chapter 4, "Accessing Fields of Objects"). No function takes
+-- one yet
 abbrev pub bad_field : Call → Bool
-bad_field call = false
+bad_field (Vm call) = false
+bad_field (Refs call) = false
+bad_field (Frames call) = false
+bad_field (Strings call) = false
 
+-- 11: a buffer that isn't the call's (JNI Specification, chapter 4, "Array Operations"). No function takes one yet
 abbrev pub bad_buffer : Call → Bool
-bad_buffer call = false
+bad_buffer (Vm call) = false
+bad_buffer (Refs call) = false
+bad_buffer (Frames call) = false
+bad_buffer (Strings call) = false
 
 abbrev pub is_within : ℤ → ℤ → ℤ → Bool
 is_within low high v = int_le low v && int_le v high
@@ -144,12 +152,20 @@ bad_argument s (Refs call) = false
 bad_argument s (Frames call) = frames_bad_argument call
 bad_argument s (Strings call) = strings_bad_argument call
 
--- 13, 14: a pinned reference deleted, a monitor of another thread exited. There are neither yet
+-- 13: a reference deleted through which a critical buffer is open. None can be pinned yet
 abbrev pub pinned : Call → Bool
-pinned call = false
+pinned (Vm call) = false
+pinned (Refs call) = false
+pinned (Frames call) = false
+pinned (Strings call) = false
 
+-- 14: a monitor exited that isn't the caller's (JNI Specification, chapter 4, "Monitor Operations"). No function exits one
+-- yet
 abbrev pub not_owner : Call → Bool
-not_owner call = false
+not_owner (Vm call) = false
+not_owner (Refs call) = false
+not_owner (Frames call) = false
+not_owner (Strings call) = false
 
 abbrev pub vm_bad_frame : Parts → ℕ → VmCall → Bool
 vm_bad_frame p t AttachCurrentThread = false
@@ -172,9 +188,13 @@ bad_frame p t (Strings call) = false
 abbrev pub no_access : StatedSetup → Parts → ℕ → Call → Bool
 no_access s p t call = refuses s (native_class s p t call)
 
--- 17: a native method that isn't linked. No function asks for one yet
+-- 17: a native method that isn't linked (JNI Specification, chapter 4, "Registering Native Methods"). No function enters
+-- one yet
 abbrev pub not_linked : Call → Bool
-not_linked call = false
+not_linked (Vm call) = false
+not_linked (Refs call) = false
+not_linked (Frames call) = false
+not_linked (Strings call) = false
 
 -- the call breaks the rule
 abbrev pub broken : Rule → StatedSetup → Parts → ℕ → Option EnvId → Call → Bool
@@ -196,22 +216,19 @@ broken BadFrame s p t env call = bad_frame p t call
 broken NoNativeAccess s p t env call = no_access s p t call
 broken NotLinked s p t env call = not_linked call
 
--- the rules in their order
-abbrev pub later_rules : List Rule
-later_rules =
-    ForeignLocal ∷ DeadReference ∷ WrongRefKind ∷ NullReference ∷ WrongType ∷ BadField ∷ BadBuffer
-    ∷ BadArgument ∷ Pinned ∷ NotOwner ∷ BadFrame ∷ NoNativeAccess ∷ NotLinked ∷ []
+-- the rules that each group of functions judges for itself
+abbrev pub own_rules : List Rule
+own_rules = BadField ∷ BadBuffer ∷ BadArgument ∷ Pinned ∷ NotOwner ∷ BadFrame ∷ NoNativeAccess ∷ NotLinked ∷ []
 
+-- the rules in their order
 abbrev pub rules_in_order : List Rule
-rules_in_order = WrongThread ∷ Detached ∷ InCritical ∷ Pending ∷ later_rules
+rules_in_order =
+    WrongThread ∷ Detached ∷ InCritical ∷ Pending ∷ ForeignLocal ∷ DeadReference ∷ WrongRefKind ∷ NullReference ∷ WrongType
+    ∷ own_rules
 
 -- the first rule that the call breaks
 abbrev pub verdict : StatedSetup → Parts → ℕ → Option EnvId → Call → Option Rule
 verdict s p t env call = find (λ rule. broken rule s p t env call) rules_in_order
-
--- the first of those after the first four, which are judged by the call's group; the environment plays no part in them
-abbrev pub later_verdict : StatedSetup → Parts → ℕ → Call → Option Rule
-later_verdict s p t call = find (λ rule. broken rule s p t None call) later_rules
 
 -- the first of rules 5 to 9 for a call of these operands
 abbrev pub operands_verdict : StatedSetup → Parts → ℕ → List Operand → Bool → Option Rule
@@ -222,3 +239,7 @@ operands_verdict s p t xs is_wrong_kind =
     else if list_any (λ x. not x.nullable && is_null (names p t x.reference)) xs then Some NullReference
     else if list_any (λ x. is_wrong s p x.object_type (names p t x.reference)) xs then Some WrongType
     else None
+
+-- the first of rules 10 to 17; the environment plays no part in them
+abbrev pub own_verdict : StatedSetup → Parts → ℕ → Call → Option Rule
+own_verdict s p t call = find (λ rule. broken rule s p t None call) own_rules

@@ -1,13 +1,12 @@
-//! Rules 1 to 4, which are judged for all calls alike, and the groups' own rules after them.
+//! Rules 1 to 9, which are judged for all calls alike, and rules 10 to 17 by the call's group.
 
 ghost use Rattle.std.specs.Prelude.{◌≡◌};
 ghost use Rattle.jg_rules.specs.Parts.{Parts};
-ghost use Rattle.jg_rules.specs.Rules.{verdict, wrong_thread, detached, in_critical, while_pending};
+ghost use Rattle.jg_rules.specs.Rules.{verdict, own_verdict, wrong_thread, detached, in_critical, while_pending};
 ghost use Rattle.jg_rules.specs.View.{ViewStands};
 
 mod frames;
 mod references;
-mod refs;
 mod strings;
 mod vm;
 
@@ -15,7 +14,7 @@ use crate::passing::{passes_critical_region, passes_pending_exception};
 use crate::view::View;
 use frames::judge_frames;
 use jg_words::{Call, EnvId, Rule, Tid};
-use refs::judge_refs;
+use references::judge_references;
 use std::alloc::Allocator;
 use strings::judge_strings;
 use vm::judge_vm;
@@ -41,11 +40,22 @@ pub fn first_broken<A: Allocator + Clone>(
     if is_while_pending(view, tid, call) {
         return Some(Rule::Pending);
     }
+    let broken = judge_references(view, tid, call);
+    if broken.is_some() {
+        return broken;
+    }
+    judge_group(view, tid, call)
+}
+
+/// The first of rules 10 to 17 that the call breaks.
+fn judge_group<A: Allocator + Clone>(view: &View<'_, A>, tid: Tid, call: &Call) -> Option<Rule>
+    ensures { (p : Parts) → ViewStands view.now p → result ≡ own_verdict view.now.setup.now p tid.0 call.now }
+{
     match call {
         Call::Vm(call) => judge_vm(view, tid, call),
-        Call::Refs(call) => judge_refs(view, tid, call),
+        Call::Refs(_) => None,
         Call::Frames(call) => judge_frames(view, tid, call),
-        Call::Strings(call) => judge_strings(view, tid, call),
+        Call::Strings(call) => judge_strings(call),
     }
 }
 

@@ -14,5 +14,5 @@ pub use access::home_named;
 pub use answer::Answer;
 pub use judge::first_broken;
 pub use named::{Named, look_up};
-pub use operand::{ObjectType, Operand};
+pub use operand::{ObjectType, Operand, Operands, operands_of};
 pub use view::View;

@@ -1,4 +1,9 @@
-use jg_words::Ref;
+//! The references among a call's operands, each with the type that its object must have.
+
+ghost use Rattle.std.specs.Prelude.{◌≡◌};
+ghost use Rattle.jg_rules.specs.Operands.{listed, operands, vm_operands, refs_operands, frames_operands, strings_operands};
+
+use jg_words::{Call, FramesCall, Ref, RefsCall, StringsCall, VmCall};
 
 /// The type that a function declares for an operand: `jobject` or `jstring`.
 #[derive(Clone, Copy, Debug, PartialEq, Eq)]
@@ -14,6 +19,14 @@ pub struct Operand {
     pub reference: Ref,
     pub nullable: bool,
     pub object_type: ObjectType,
+}
+
+/// The references among a call's operands, from left to right: two at the most.
+#[derive(Clone, Copy, Debug, PartialEq, Eq)]
+pub enum Operands {
+    Nil,
+    One(Operand),
+    Two(Operand, Operand),
 }
 
 impl Operand {
@@ -40,5 +53,60 @@ impl Operand {
             nullable: true,
             object_type: ObjectType::AnyObject,
         }
+    }
+}
+
+fn of_vm(call: &VmCall) -> Operands
+    ensures { listed result ≡ vm_operands call.now }
+{
+    match call {
+        VmCall::AttachCurrentThread => Operands::Nil,
+        VmCall::DetachCurrentThread => Operands::Nil,
+        VmCall::GetEnv => Operands::Nil,
+    }
+}
+
+fn of_refs(call: &RefsCall) -> Operands
+    ensures { listed result ≡ refs_operands call.now }
+{
+    match call {
+        RefsCall::NewLocalRef { of } => Operands::One(Operand::optional(*of)),
+        RefsCall::DeleteLocalRef { of } => Operands::One(Operand::optional(*of)),
+        RefsCall::IsSameObject { first, second } => {
+            Operands::Two(Operand::optional(*first), Operand::optional(*second))
+        }
+        RefsCall::GetObjectRefType { .. } => Operands::Nil,
+    }
+}
+
+fn of_frames(call: &FramesCall) -> Operands
+    ensures { listed result ≡ frames_operands call.now }
+{
+    match call {
+        FramesCall::PushLocalFrame { .. } => Operands::Nil,
+        FramesCall::PopLocalFrame { kept } => Operands::One(Operand::optional(*kept)),
+    }
+}
+
+fn of_strings(call: &StringsCall) -> Operands
+    ensures { listed result ≡ strings_operands call.now }
+{
+    match call {
+        StringsCall::NewString { .. } => Operands::Nil,
+        StringsCall::GetStringLength { string } => {
+            Operands::One(Operand::required(*string, ObjectType::StringObject))
+        }
+    }
+}
+
+/// The references among the call's operands.
+pub fn operands_of(call: &Call) -> Operands
+    ensures { listed result ≡ operands call.now }
+{
+    match call {
+        Call::Vm(call) => of_vm(call),
+        Call::Refs(call) => of_refs(call),
+        Call::Frames(call) => of_frames(call),
+        Call::Strings(call) => of_strings(call),
     }
 }

@@ -37,12 +37,18 @@ name_of (Refs fun) = refs_name fun
 name_of (Frames fun) = frames_name fun
 name_of (Strings fun) = strings_name fun
 
--- AttachCurrentThread, DetachCurrentThread and GetEnv are no functions of a JNIEnv (JNI Specification, chapter 5)
+-- these are no functions of a JNIEnv (JNI Specification, chapter 5, "Invocation API Functions")
+abbrev pub vm_needs_env : VmFun → Bool
+vm_needs_env AttachCurrentThread = false
+vm_needs_env DetachCurrentThread = false
+vm_needs_env GetEnv = false
+
+-- the function takes an environment
 abbrev pub needs_env : Fun → Bool
-needs_env (Vm AttachCurrentThread) = false
-needs_env (Vm DetachCurrentThread) = false
-needs_env (Vm GetEnv) = false
-needs_env fun = true
+needs_env (Vm fun) = vm_needs_env fun
+needs_env (Refs fun) = true
+needs_env (Frames fun) = true
+needs_env (Strings fun) = true
 
 abbrev pub all : List Fun
 all =

@@ -55,12 +55,12 @@ impl Fun {
     pub fn takes_env(self) -> bool
         ensures { result ≡ needs_env self }
     {
-        !matches!(
-            self,
-            Fun::Vm(VmFun::AttachCurrentThread)
-                | Fun::Vm(VmFun::DetachCurrentThread)
-                | Fun::Vm(VmFun::GetEnv)
-        )
+        match self {
+            Fun::Vm(fun) => fun.takes_env(),
+            Fun::Refs(_) => true,
+            Fun::Frames(_) => true,
+            Fun::Strings(_) => true,
+        }
     }
 
     /// The function of that name, if there is one.

@@ -1,25 +1,23 @@
 ghost use Rattle.std.specs.Prelude.{◌≡◌};
 ghost use Rattle.jg_words.specs.declared.call.Call.TheVariants.{Frames};
 ghost use Rattle.jg_rules.specs.Parts.{Parts};
-ghost use Rattle.jg_rules.specs.Rules.{later_verdict, frames_bad_argument};
+ghost use Rattle.jg_rules.specs.Rules.{own_verdict, frames_bad_argument};
 ghost use Rattle.jg_rules.specs.View.{ViewStands};
 
-use super::references::judge_one;
-use crate::operand::Operand;
 use crate::view::View;
 use jg_words::{FramesCall, Rule, Tid};
 use std::alloc::Allocator;
 
 const MAX_CAPACITY: i32 = 65_535;
 
-/// The first of the rules after the first four that a call of the group breaks.
+/// The first of the rules 10 to 17 that a call of the group breaks.
 pub(crate) fn judge_frames<A: Allocator + Clone>(
     view: &View<'_, A>,
     tid: Tid,
     call: &FramesCall,
 ) -> Option<Rule>
     ensures { (p : Parts) → ViewStands view.now p
-        → result ≡ later_verdict view.now.setup.now p tid.0 (Frames call.now) }
+        → result ≡ own_verdict view.now.setup.now p tid.0 (Frames call.now) }
 {
     match call {
         FramesCall::PushLocalFrame { capacity } => {
@@ -29,11 +27,7 @@ pub(crate) fn judge_frames<A: Allocator + Clone>(
                 None
             }
         }
-        FramesCall::PopLocalFrame { kept } => {
-            let broken = judge_one(view, tid, Operand::optional(*kept), false);
-            if broken.is_some() {
-                return broken;
-            }
+        FramesCall::PopLocalFrame { .. } => {
             if view.locals.can_pop(tid) {
                 None
             } else {

@@ -1,16 +1,17 @@
-//! Rules 5 to 9, on the references among a call's operands.
+//! Rules 5 to 9, on the references among a call's operands: each rule over all of them, from left
+//! to right, before the next.
 
-ghost use Rattle.std.specs.Prelude.{◌≡◌, ◌∷◌, [], false};
+ghost use Rattle.std.specs.Prelude.{◌≡◌, ◌∷◌, []};
 ghost use Rattle.jg_rules.specs.Parts.{Parts};
 ghost use Rattle.jg_rules.specs.Names.{class_of};
-ghost use Rattle.jg_rules.specs.Operands.{is_of};
-ghost use Rattle.jg_rules.specs.Rules.{is_foreign, is_wrong, operands_verdict};
+ghost use Rattle.jg_rules.specs.Operands.{is_of, listed, operands};
+ghost use Rattle.jg_rules.specs.Rules.{is_foreign, is_not_local, is_wrong, operands_verdict, refs_wrong_kind, wrong_kind};
 ghost use Rattle.jg_rules.specs.View.{ViewStands};
 
 use crate::named::{Named, look_up};
-use crate::operand::{ObjectType, Operand};
+use crate::operand::{ObjectType, Operand, Operands, operands_of};
 use crate::view::View;
-use jg_words::{Kind, ObjId, Ref, Rule, Tid};
+use jg_words::{Call, Kind, ObjId, Ref, RefsCall, Rule, Tid};
 use std::alloc::Allocator;
 
 const STRING_CLASS: u32 = 2;
@@ -65,8 +66,73 @@ fn is_wrong_object<A: Allocator + Clone>(
     }
 }
 
-/// The first of rules 5 to 9 that a call of one reference breaks.
-pub(crate) fn judge_one<A: Allocator + Clone>(
+fn deletes_another_kind(call: &RefsCall) -> bool
+    ensures { result ≡ refs_wrong_kind call.now }
+{
+    match call {
+        RefsCall::NewLocalRef { .. } => false,
+        RefsCall::DeleteLocalRef { of } => is_of_another_kind(*of),
+        RefsCall::IsSameObject { .. } => false,
+        RefsCall::GetObjectRefType { .. } => false,
+    }
+}
+
+fn is_of_another_kind(reference: Ref) -> bool
+    ensures { result ≡ is_not_local reference }
+{
+    match reference {
+        Ref::Null => false,
+        Ref::To { kind, .. } => kind != Kind::Local,
+    }
+}
+
+/// Whether the call deletes a reference of another kind than its function's.
+fn is_wrong_kind(call: &Call) -> bool
+    ensures { result ≡ wrong_kind call.now }
+{
+    match call {
+        Call::Vm(_) => false,
+        Call::Refs(call) => deletes_another_kind(call),
+        Call::Frames(_) => false,
+        Call::Strings(_) => false,
+    }
+}
+
+/// The first of rules 5 to 9 that the call breaks.
+pub(crate) fn judge_references<A: Allocator + Clone>(
+    view: &View<'_, A>,
+    tid: Tid,
+    call: &Call,
+) -> Option<Rule>
+    ensures { (p : Parts) → ViewStands view.now p
+        → result ≡ operands_verdict view.now.setup.now p tid.0 (operands call.now) (wrong_kind call.now) }
+{
+    judge_operands(view, tid, operands_of(call), is_wrong_kind(call))
+}
+
+fn judge_operands<A: Allocator + Clone>(
+    view: &View<'_, A>,
+    tid: Tid,
+    operands: Operands,
+    is_wrong_kind: bool,
+) -> Option<Rule>
+    ensures { (p : Parts) → ViewStands view.now p
+        → result ≡ operands_verdict view.now.setup.now p tid.0 (listed operands) is_wrong_kind }
+{
+    match operands {
+        Operands::Nil => {
+            if is_wrong_kind {
+                Some(Rule::WrongRefKind)
+            } else {
+                None
+            }
+        }
+        Operands::One(operand) => judge_one(view, tid, operand, is_wrong_kind),
+        Operands::Two(first, second) => judge_two(view, tid, first, second, is_wrong_kind),
+    }
+}
+
+fn judge_one<A: Allocator + Clone>(
     view: &View<'_, A>,
     tid: Tid,
     operand: Operand,
@@ -91,15 +157,15 @@ pub(crate) fn judge_one<A: Allocator + Clone>(
     }
 }
 
-/// The first of rules 5 to 9 that a call of two references breaks.
-pub(crate) fn judge_two<A: Allocator + Clone>(
+fn judge_two<A: Allocator + Clone>(
     view: &View<'_, A>,
     tid: Tid,
     first: Operand,
     second: Operand,
+    is_wrong_kind: bool,
 ) -> Option<Rule>
     ensures { (p : Parts) → ViewStands view.now p
-        → result ≡ operands_verdict view.now.setup.now p tid.0 (first ∷ second ∷ []) false }
+        → result ≡ operands_verdict view.now.setup.now p tid.0 (first ∷ second ∷ []) is_wrong_kind }
 {
     let one = look_up(view, tid, first.reference);
     let two = look_up(view, tid, second.reference);
@@ -107,6 +173,8 @@ pub(crate) fn judge_two<A: Allocator + Clone>(
         Some(Rule::ForeignLocal)
     } else if one == Named::Nothing || two == Named::Nothing {
         Some(Rule::DeadReference)
+    } else if is_wrong_kind {
+        Some(Rule::WrongRefKind)
     } else if !first.nullable && one == Named::Null || !second.nullable && two == Named::Null {
         Some(Rule::NullReference)
     } else if is_wrong_object(view, first.object_type, one)

@@ -1,15 +1,11 @@
-ghost use Rattle.std.specs.Prelude.{◌≡◌};
+ghost use Rattle.std.specs.Prelude.{◌≡◌, ℕ};
 ghost use Rattle.std.specs.List.{list_all};
 ghost use Rattle.jg_words.specs.declared.call.Call.TheVariants.{Strings};
+ghost use Rattle.jg_policy.specs.Stated.{StatedSetup};
 ghost use Rattle.jg_rules.specs.Parts.{Parts};
-ghost use Rattle.jg_rules.specs.Rules.{later_verdict, is_unit};
-ghost use Rattle.jg_rules.specs.View.{ViewStands};
+ghost use Rattle.jg_rules.specs.Rules.{own_verdict, is_unit};
 
-use super::references::judge_one;
-use crate::operand::{ObjectType, Operand};
-use crate::view::View;
-use jg_words::{Rule, StringsCall, Tid};
-use std::alloc::Allocator;
+use jg_words::{Rule, StringsCall};
 
 fn are_units(items: &[i64]) -> bool
     ensures { result ≡ list_all is_unit items.now }
@@ -17,14 +13,9 @@ fn are_units(items: &[i64]) -> bool
     items.iter().all(|item| 0 <= *item && *item <= 0xFFFF)
 }
 
-/// The first of the rules after the first four that a call of the group breaks.
-pub(crate) fn judge_strings<A: Allocator + Clone>(
-    view: &View<'_, A>,
-    tid: Tid,
-    call: &StringsCall,
-) -> Option<Rule>
-    ensures { (p : Parts) → ViewStands view.now p
-        → result ≡ later_verdict view.now.setup.now p tid.0 (Strings call.now) }
+/// The first of rules 10 to 17 that a call of the group breaks.
+pub(crate) fn judge_strings(call: &StringsCall) -> Option<Rule>
+    ensures { (s : StatedSetup) (p : Parts) (t : ℕ) → result ≡ own_verdict s p t (Strings call.now) }
 {
     match call {
         StringsCall::NewString { units } => {
@@ -34,11 +25,6 @@ pub(crate) fn judge_strings<A: Allocator + Clone>(
                 Some(Rule::BadArgument)
             }
         }
-        StringsCall::GetStringLength { string } => judge_one(
-            view,
-            tid,
-            Operand::required(*string, ObjectType::StringObject),
-            false,
-        ),
+        StringsCall::GetStringLength { .. } => None,
     }
 }
