@@ -53,8 +53,8 @@ impl Setup {
         }
     }
 
-    /// The number of the class's module. Two classes have equal numbers here exactly where the
-    /// names of their modules are equal.
+    /// The number of the class's module; none exactly where the number is that of no class. Two
+    /// classes have equal numbers here exactly where the names of their modules are equal.
     pub fn module_of(&self, class: u32) -> Option<u32>
         ensures { result ≡ module_of self.now class }
     {
