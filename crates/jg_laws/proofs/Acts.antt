@@ -10,7 +10,7 @@ use Rattle.jg_words.specs.declared.call.Call.TheVariants.{Vm, Refs, Frames, Stri
 use Rattle.jg_words.specs.declared.call.vm.VmCall.TheVariants.{AttachCurrentThread, DetachCurrentThread, GetEnv}
 use Rattle.jg_policy.specs.Stated.{StatedSetup}
 use Rattle.jg_threads.specs.History.{Act, Attach, Detach, Enter, Leave, Raise, Calm, CountRef, CountBuffer, Event, by, acts_of, attached, refs, is_count_ref, how_many}
-use Rattle.jg_locals.proofs.StandingSteps.{each_thread}
+use Rattle.jg_locals.proofs.Callers.{each_thread}
 use Rattle.jg_rules.specs.Parts.{Parts}
 use Rattle.jg_rules.specs.Names.{next_ref}
 use Rattle.jg_rules.specs.Effects.{call_threads, done_if, done_by, if_effective}
