@@ -1,3 +1,2 @@
 pub mod Unmade
 pub mod Kept
-pub mod Split

@@ -1,0 +1,4 @@
+use Rattle.jg_rules.proofs.judge.judge_group.Goals as goal
+
+pub returns-in-Strings : goal.returns-in-Strings
+returns-in-Strings g c = λ p stands. rw c.in-Strings.is (c.judge_strings.ensures c.args.view.now.setup.now p c.args.tid.0)
