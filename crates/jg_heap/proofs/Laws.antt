@@ -1,7 +1,7 @@
 -- Proofs of what the definitions over a history mean.
-use Rattle.std.proofs.Common.{ℕ, ◌≡◌, ◌+◌, ◌<◌, ◌≤◌, ◌∙◌, sym, ap, subst, refl, inl, inr, List, [], ◌∷◌, ◌++◌, length, get_or, Bool, true, false, not, ◌&&◌, ◌||◌, ltb, eqb, Some, None, arith, zero-add}
+use Rattle.std.proofs.Common.{ℕ, ℤ, zero, suc, ◌≢◌, ◌⊎◌, append_assoc, ◌≡◌, ◌+◌, ◌<◌, ◌≤◌, ◌∙◌, sym, ap, subst, refl, inl, inr, List, [], ◌∷◌, ◌++◌, length, get_or, Bool, true, false, not, ◌&&◌, ◌||◌, ltb, eqb, Some, None, arith, zero-add}
 use Rattle.std.specs.List.{Contains, AllByRecursion, list_any, range_with_len}
-use Rattle.std.proofs.lemmas.Bool.{or_cases, or_left, or_right, and_parts, and_from, and_right, not-true, not_from_false, ltb-true, lt-ltb, eqb-true, eq-eqb, ne_eqb, cond-true, cond-false, false≢true}
+use Rattle.std.proofs.lemmas.Bool.{cases_Bool, and_left, or_cases, or_left, or_right, and_parts, and_from, and_right, not-true, not_from_false, ltb-true, lt-ltb, eqb-true, eq-eqb, ne_eqb, cond-true, cond-false, false≢true}
 use Rattle.std.proofs.lemmas.List.Folds.{Any-from_list_any, list_any_at}
 use Rattle.std.proofs.lemmas.List.FromFn.{length-range_with_len, get_or-range_with_len}
 use Rattle.std.proofs.lemmas.Map.Views.{any-filter_same}
@@ -10,8 +10,8 @@ use Rattle.jg_heap.specs.declared.object.Slot.{Slot}
 use Rattle.jg_heap.specs.declared.object.Slot.TheVariants.{Number, Object as ToObject}
 use Rattle.jg_heap.specs.Making.{Making, slots_in, slot_in}
 use Rattle.jg_heap.specs.Rows.{count_in}
-use Rattle.jg_heap.specs.History.{Event, Made, Wrote, Collected, count_of, making_at, value_at, gone_at, held_at, held_by, holds, points_at, some_slot, going}
-use Rattle.jg_heap.specs.Laws.{StandsInASlot, HeldMeans, WasCollected, GoneMeans, StaysGone, ClassesStay, GoingMeans, Spares, LatestWrite, FirstValue, MadeAs, MadeStays, ClassesAre, RootsMean, GoingIsBounded, RowsMean}
+use Rattle.jg_heap.specs.History.{Event, Made, Wrote, Collected, count_of, making_at, value_at, gone_at, held_at, held_by, holds, points_at, some_slot, going, region_writes}
+use Rattle.jg_heap.specs.Laws.{StandsInASlot, HoldsInASlot, PointsMeans, ValuePasses, RegionWritten, RegionSpares, RegionKeeps, KeepsObjects, HeldMeans, WasCollected, GoneMeans, StaysGone, ClassesStay, GoingMeans, Spares, LatestWrite, FirstValue, MadeAs, MadeStays, ClassesAre, RootsMean, GoingIsBounded, RowsMean}
 use Rattle.jg_heap.proofs.Lists.{kept_any, length-filter-le}
 use Rattle.jg_heap.proofs.Pointing.{points_same, by_slot}
 use Rattle.jg_heap.proofs.Told.{count_stands, class_stands, length_stands}
@@ -75,21 +75,33 @@ in_range n i j h g =
     let is : j ≡ 0 + i = sym g ∙ get_or-range_with_len 0 n i j (omega arith) in
     (omega arith, omega arith)
 
+-- some slot of p holds o
+in_its_slot : (k : ℕ) (e : List Event) (p o : ℕ) → points_at k e p o ≡ true → HoldsInASlot k e p o
+in_its_slot k e p o h =
+    let some : some_slot k e p o ≡ true = sym (points_same k e p o) ∙ h in
+    let slot = Any-from_list_any (λ j. holds o (value_at k e p j)) (range_with_len 0 (slots_in (making_at k e p))) some in
+    let named = names_it o (value_at k e p slot.1) slot.4 in
+    (slot.1, named.0, (in_range (slots_in (making_at k e p)) slot.0 slot.1 slot.2 slot.3).1, named.1, named.2)
+
+by_its_slot : (k : ℕ) (e : List Event) (p o : ℕ) → HoldsInASlot k e p o → points_at k e p o ≡ true
+by_its_slot k e p o w = points_same k e p o ∙ by_slot k e p o w.0 w.2 (ap (holds o) w.3 ∙ eq-eqb w.1.0 o w.4)
+
+pub points_mean : PointsMeans
+points_mean k e p o = (in_its_slot k e p o, by_its_slot k e p o)
+
 in_slot : (k : ℕ) (e : List Event) (o : ℕ) → list_any (λ p. not (gone_at k e p) && points_at k e p o) (range_with_len 0 (count_of k e)) ≡ true → StandsInASlot k e o
 in_slot k e o h =
     let found = Any-from_list_any (λ p. not (gone_at k e p) && points_at k e p o) (range_with_len 0 (count_of k e)) h in
     let p = found.1 in
     let parts = and_parts _ _ found.4 in
-    let some : some_slot k e p o ≡ true = sym (points_same k e p o) ∙ parts.1 in
-    let slot = Any-from_list_any (λ j. holds o (value_at k e p j)) (range_with_len 0 (slots_in (making_at k e p))) some in
-    let named = names_it o (value_at k e p slot.1) slot.4 in
-    (p, slot.1, named.0, (in_range (count_of k e) found.0 p found.2 found.3).1, (in_range (slots_in (making_at k e p)) slot.0 slot.1 slot.2 slot.3).1, not-true _ parts.0, named.1, named.2)
+    let slot : HoldsInASlot k e p o = in_its_slot k e p o parts.1 in
+    (p, slot.0, slot.1, (in_range (count_of k e) found.0 p found.2 found.3).1, slot.2, not-true _ parts.0, slot.3, slot.4)
 
 by_object : (k : ℕ) (e : List Event) (o : ℕ) → StandsInASlot k e o → list_any (λ p. not (gone_at k e p) && points_at k e p o) (range_with_len 0 (count_of k e)) ≡ true
 by_object k e o w =
     let p = w.0 in
     let at : get_or (range_with_len 0 (count_of k e)) p 0 ≡ p = get_or-range_with_len 0 (count_of k e) p 0 w.3 ∙ zero-add p in
-    let points : points_at k e p o ≡ true = points_same k e p o ∙ by_slot k e p o w.1 w.4 (ap (holds o) w.6 ∙ eq-eqb w.2.0 o w.7) in
+    let points : points_at k e p o ≡ true = by_its_slot k e p o (w.1, w.2, w.4, w.6, w.7) in
     let test : ℕ → Bool = λ q. not (gone_at k e q) && points_at k e q o in
     list_any_at test (range_with_len 0 (count_of k e)) p 0 (omega (arith, w.3, length-range_with_len 0 (count_of k e))) (ap test at ∙ and_from _ _ (not_from_false _ w.5) points)
 
@@ -121,15 +133,15 @@ rows_mean rows e stands =
 
 -- ---- values
 
-made_before : (k : ℕ) (later before : List Event) → count_of k before ≤ count_of k (later ++ before)
-made_before k [] before = omega arith
-made_before k (Made m ∷ later) before = omega (arith, made_before k later before)
-made_before k (Wrote p i v ∷ later) before = made_before k later before
-made_before k (Collected roots ∷ later) before = made_before k later before
+count_later : (k : ℕ) (later before : List Event) → count_of k before ≤ count_of k (later ++ before)
+count_later k [] before = omega arith
+count_later k (Made m ∷ later) before = omega (arith, count_later k later before)
+count_later k (Wrote p j v ∷ later) before = count_later k later before
+count_later k (Collected roots ∷ later) before = count_later k later before
 
 kept : (k : ℕ) (later before : List Event) (o j : ℕ) → o < count_of k before → AllByRecursion (Spares o j) later → value_at k (later ++ before) o j ≡ value_at k before o j
 kept k [] before o j h s = refl
-kept k (Made m ∷ later) before o j h s = cond-false _ _ _ (ne_eqb o (count_of k (later ++ before)) (λ same. omega (arith, made_before k later before))) ∙ kept k later before o j h s.1
+kept k (Made m ∷ later) before o j h s = cond-false _ _ _ (ne_eqb o (count_of k (later ++ before)) (λ same. omega (arith, count_later k later before))) ∙ kept k later before o j h s.1
 kept k (Wrote p i v ∷ later) before o j h s = cond-false _ _ _ s.0 ∙ kept k later before o j h s.1
 kept k (Collected roots ∷ later) before o j h s = kept k later before o j h s.1
 
@@ -150,6 +162,64 @@ latest_write k later before o j v h s = kept k later (Wrote o j v ∷ before) o 
 
 pub first_value : FirstValue
 first_value k later before m j s = kept k later (Made m ∷ before) (count_of k before) j (made_count k before m) s ∙ made_value k before m j
+
+pub value_passes : ValuePasses
+value_passes test k [] o j first w = first
+value_passes test k (Made m ∷ e) o j first w =
+    elim (cases_Bool (eqb o (count_of k e))) [
+      | inl new ↦ (let is = rw (new) at first in rw (new) is)
+      | inr old ↦ (let is = rw (old) at first in rw (old) (value_passes test k e o j is w.1))
+    ]
+value_passes test k (Wrote p i v ∷ e) o j first w =
+    elim (cases_Bool (eqb o p && eqb j i)) [
+      | inl here ↦ rw (here) (w.0 here)
+      | inr other ↦ rw (other) (value_passes test k e o j first w.1)
+    ]
+value_passes test k (Collected roots ∷ e) o j first w = value_passes test k e o j first w.1
+
+-- ---- regions
+
+-- the first write of a region is the oldest
+region_from : (o j : ℕ) (v : ℤ) (values : List ℤ) (e : List Event) → region_writes o j (v ∷ values) ++ e ≡ region_writes o (j + 1) values ++ Wrote o j (Number v) ∷ e
+region_from o j v values e = append_assoc (region_writes o (j + 1) values) (Wrote o j (Number v) ∷ []) e
+
+spared : (o j p i n : ℕ) → (p ≢ o) ⊎ ((i < j) ⊎ (j + suc n ≤ i)) → ((p ≢ o) ⊎ ((i < j + 1) ⊎ (j + 1 + n ≤ i))) × ((eqb p o && eqb i j) ≡ false)
+spared o j p i n (inl other) = (inl other, and_left _ _ (ne_eqb p o other))
+spared o j p i n (inr (inl below)) = (inr (inl (omega arith)), and_right (eqb p o) _ (ne_eqb i j (λ same. omega arith)))
+spared o j p i n (inr (inr above)) = (inr (inr (omega arith)), and_right (eqb p o) _ (ne_eqb i j (λ same. omega arith)))
+
+pub region_spares : RegionSpares
+region_spares k e o j [] p i other = refl
+region_spares k e o j (v ∷ values) p i other =
+    let both = spared o j p i (length values) other in
+    ap (λ (l : List Event). value_at k l p i) (region_from o j v values e)
+    ∙ region_spares k (Wrote o j (Number v) ∷ e) o (j + 1) values p i both.0
+    ∙ cond-false _ _ _ both.1
+
+pub region_written : RegionWritten
+region_written k e o j [] i h = absurd (omega arith)
+region_written k e o j (v ∷ values) zero h =
+    let same : j + 0 ≡ j = omega arith in
+    ap (value_at k (region_writes o j (v ∷ values) ++ e) o) same
+    ∙ ap (λ (l : List Event). value_at k l o j) (region_from o j v values e)
+    ∙ region_spares k (Wrote o j (Number v) ∷ e) o (j + 1) values o j (inr (inl (omega arith)))
+    ∙ wrote_value k e o j (Number v)
+region_written k e o j (v ∷ values) (suc i) h =
+    let same : j + suc i ≡ j + 1 + i = omega arith in
+    ap (value_at k (region_writes o j (v ∷ values) ++ e) o) same
+    ∙ ap (λ (l : List Event). value_at k l o (j + 1 + i)) (region_from o j v values e)
+    ∙ region_written k (Wrote o j (Number v) ∷ e) o (j + 1) values i (omega arith)
+
+pub region_keeps : RegionKeeps
+region_keeps k e o j [] = record { count = refl; making = λ p. refl; gone = λ p. refl }
+region_keeps k e o j (v ∷ values) =
+    let later : KeepsObjects k (Wrote o j (Number v) ∷ e) (region_writes o (j + 1) values ++ Wrote o j (Number v) ∷ e) = region_keeps k (Wrote o j (Number v) ∷ e) o (j + 1) values in
+    let is : region_writes o j (v ∷ values) ++ e ≡ region_writes o (j + 1) values ++ Wrote o j (Number v) ∷ e = region_from o j v values e in
+    record {
+      count = ap (count_of k) is ∙ later.count;
+      making = λ p. ap (λ (l : List Event). making_at k l p) is ∙ later.making p;
+      gone = λ p. ap (λ (l : List Event). gone_at k l p) is ∙ later.gone p;
+    }
 
 -- ---- going
 
@@ -184,12 +254,6 @@ pub going_means : GoingMeans
 going_means k roots e o = (goes_now k roots e o, λ w. now_goes k roots e o w.0 w.1)
 
 -- ---- makings
-
-count_later : (k : ℕ) (later before : List Event) → count_of k before ≤ count_of k (later ++ before)
-count_later k [] before = omega arith
-count_later k (Made m ∷ later) before = omega (arith, count_later k later before)
-count_later k (Wrote p j v ∷ later) before = count_later k later before
-count_later k (Collected roots ∷ later) before = count_later k later before
 
 pub made_stays : MadeStays
 made_stays k [] before o h = refl

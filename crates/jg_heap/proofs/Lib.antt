@@ -2,6 +2,7 @@ pub mod Lists
 pub mod Items
 mod Told
 mod Steps
+pub mod Regions
 mod Pointing
 mod Sweeping
 mod Collecting

@@ -122,7 +122,7 @@ row_wrote_object : (k : ℕ) (e : List Event) (o j p : ℕ) (v : Slot) → p ≢
 unfolding row_at
 row_wrote_object k e o j p v h = rw (slots_wrote_object k e o j p v h) refl
 
-row_wrote_here : (k : ℕ) (e : List Event) (o j : ℕ) (v : Slot) → j < length (slots_at k e o) → row_at k (Wrote o j v ∷ e) o ≡ with_slot (row_at k e o) j v
+pub row_wrote_here : (k : ℕ) (e : List Event) (o j : ℕ) (v : Slot) → j < length (slots_at k e o) → row_at k (Wrote o j v ∷ e) o ≡ with_slot (row_at k e o) j v
 unfolding row_at
 row_wrote_here k e o j v h = rw (slots_wrote_here k e o j v h) refl
 

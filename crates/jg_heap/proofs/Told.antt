@@ -1,5 +1,5 @@
 -- The rows against the history.
-use Rattle.std.proofs.Common.{ℕ, ◌≡◌, ◌≢◌, subst, ◌+◌, ◌<◌, ◌∙◌, sym, ap, refl, List, length, map, get_or, arith}
+use Rattle.std.proofs.Common.{ℕ, pos, ◌≡◌, ◌≢◌, subst, ◌+◌, ◌<◌, ◌∙◌, sym, ap, refl, List, length, map, get_or, arith}
 use Rattle.std.specs.List.{range_with_len}
 use Rattle.std.proofs.lemmas.List.FromFn.{length-map-range_with_len, get_or-map-range_with_len}
 use Rattle.std.proofs.lemmas.List.{get_or-map, length-map}
@@ -9,8 +9,11 @@ use Rattle.jg_heap.specs.declared.body.Object.{Object}
 use Rattle.jg_heap.specs.declared.body.Body.{Body}
 use Rattle.jg_heap.specs.declared.body.Body.TheVariants.{Class, Fields, Units, Numbers, References}
 use Rattle.jg_heap.specs.declared.object.Slot.{Slot}
-use Rattle.jg_heap.specs.Making.{Making, Plain, Text, Filled, class_in, units_in, length_in, slots_in}
-use Rattle.jg_heap.specs.Rows.{Row, Rows, row_in, no_row, count_in, class_at, length_at}
+use Rattle.jg_heap.specs.declared.object.Slot.TheVariants.{Number}
+use Rattle.jg_words.specs.declared.object.Primitive.{Primitive}
+use Rattle.jg_words.specs.declared.object.Primitive.TheVariants.{Boolean, Byte, Char, Short, Int, Long}
+use Rattle.jg_heap.specs.Making.{Making, Plain, Text, Filled, array_class, class_in, units_in, length_in, slots_in}
+use Rattle.jg_heap.specs.Rows.{Row, Rows, row_in, no_row, count_in, class_at, length_at, units_at}
 use Rattle.jg_heap.specs.Kept.{row_of, class_of_body, units_of_body, slots_of_body}
 use Rattle.jg_heap.specs.History.{Event, count_of, making_at, value_at, gone_at}
 use Rattle.jg_heap.specs.Standing.{Stands, standing, row_at, slots_at}
@@ -129,3 +132,41 @@ pub slots_within : {A : Type 0} (rows : Rows) (o j : ℕ) (x : Object A) → row
 slots_within rows o j x is =
     let P : Row → Type 0 = λ (r : Row). r.class ≢ 2 → j < length r.units + length r.slots → j < length r.slots in
     subst P is (slots_of_other x.body j)
+
+length_of_other : {A : Type 0} (body : Body A) → class_of_body body ≢ 2 → length (units_of_body body) + length (slots_of_body body) ≡ length (slots_of_body body)
+length_of_other Class h = refl
+length_of_other (Fields instance) h = omega arith
+length_of_other (Units units) h = absurd (h refl)
+length_of_other (Numbers element items) h = omega arith
+length_of_other (References items) h = omega arith
+
+-- what isn't a string has as many slots as its length says
+pub length_of_slots : {A : Type 0} (rows : Rows) (o : ℕ) (x : Object A) → row_of x ≡ row_in rows.objects o → class_at rows o ≢ 2 → length_at rows o ≡ length (row_in rows.objects o).slots
+length_of_slots rows o x is =
+    let P : Row → Type 0 = λ (r : Row). r.class ≢ 2 → length r.units + length r.slots ≡ length r.slots in
+    subst P is (length_of_other x.body)
+
+no_text_class : (element : Primitive) → array_class element ≡ 2 → ⊥
+no_text_class Boolean h = omega arith
+no_text_class Byte h = omega arith
+no_text_class Char h = omega arith
+no_text_class Short h = omega arith
+no_text_class Int h = omega arith
+no_text_class Long h = omega arith
+
+length_of_text : {A : Type 0} (body : Body A) → class_of_body body ≡ 2 → length (units_of_body body) ≡ length (units_of_body body) + length (slots_of_body body)
+length_of_text Class h = absurd (omega arith)
+length_of_text (Fields instance) h = let plain = instance.plain in absurd (omega (arith, plain))
+length_of_text (Units units) h = omega arith
+length_of_text (Numbers element items) h = absurd (no_text_class element h)
+length_of_text (References items) h = absurd (omega arith)
+
+-- a string has as many units as its length says
+pub text_length : {A : Type 0} (rows : Rows) (o : ℕ) (x : Object A) → row_of x ≡ row_in rows.objects o → class_at rows o ≡ 2 → length (units_at rows o) ≡ length_at rows o
+text_length rows o x is =
+    let P : Row → Type 0 = λ (r : Row). r.class ≡ 2 → length r.units ≡ length r.units + length r.slots in
+    subst P is (length_of_text x.body)
+
+-- what was read in a slot is what the row has there
+pub slot_there : (row : Row) (j : ℕ) (v : Slot) → slice_get row.slots j ≡ Some v → v ≡ get_or row.slots j (Number (pos 0))
+slot_there row j v read = sym (get_or_from_slice_get row.slots j v (Number (pos 0)) read)

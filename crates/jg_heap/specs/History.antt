@@ -1,5 +1,5 @@
 -- The object store as its history tells it, by looking back. A history has the newest event first.
-use Rattle.std.specs.Prelude.{ℕ, pos, ◌+◌, ◌==◌, Bool, false, not, ◌&&◌, ◌||◌, List, [], ◌∷◌, nat_lt, if◌then◌else◌, Some, None, filter}
+use Rattle.std.specs.Prelude.{ℕ, ℤ, pos, ◌+◌, ◌==◌, Bool, false, not, ◌&&◌, ◌||◌, List, [], ◌∷◌, ◌++◌, nat_lt, if◌then◌else◌, Some, None, filter}
 use Rattle.std.specs.List.{list_any, range_with_len}
 use Rattle.jg_heap.specs.declared.object.Slot.{Slot}
 use Rattle.jg_heap.specs.declared.object.Slot.TheVariants.{Number, Object}
@@ -33,6 +33,11 @@ value_at k [] o j = Number (pos 0)
 value_at k (Made m ∷ e) o j = if o == count_of k e then slot_in m j else value_at k e o j
 value_at k (Wrote p i v ∷ e) o j = if (o == p) && (j == i) then v else value_at k e o j
 value_at k (Collected roots ∷ e) o j = value_at k e o j
+
+-- the writing of numbers into the slots from one on, one event each, in the order of the slots
+abbrev pub region_writes : ℕ → ℕ → List ℤ → List Event
+region_writes o j [] = []
+region_writes o j (v ∷ vs) = region_writes o (j + 1) vs ++ Wrote o j (Number v) ∷ []
 
 -- the value names o
 abbrev pub holds : ℕ → Slot → Bool

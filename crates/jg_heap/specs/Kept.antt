@@ -1,5 +1,5 @@
 -- The rows of the objects that the store keeps, and what a call does to one row.
-use Rattle.std.specs.Prelude.{ℕ, Bool, not, ◌&&◌, ◌||◌, List, [], length, map, filter, slice_set}
+use Rattle.std.specs.Prelude.{ℕ, Bool, not, ◌&&◌, ◌||◌, List, [], ◌+◌, ◌++◌, length, take, drop, map, filter, slice_set}
 use Rattle.std.specs.List.{list_any, range_with_len}
 use Rattle.jg_heap.specs.declared.object.Slot.{Slot}
 use Rattle.jg_heap.specs.declared.object.Slot.TheVariants.{Number, Object as ToObject}
@@ -44,6 +44,10 @@ row_of x = record {
 -- the row with a slot written
 abbrev pub with_slot : Row → ℕ → Slot → Row
 with_slot row j v = record row { slots = slice_set row.slots j v }
+
+-- the list with these values in place of its own, from an index on
+abbrev pub overwritten : {X : Type 0} → List X → ℕ → List X → List X
+overwritten xs j vs = take j xs ++ vs ++ drop (j + length vs) xs
 
 -- it isn't gone and has a slot that holds o
 abbrev pub row_points_at : ℕ → Row → Bool

@@ -1,20 +1,29 @@
 -- What the definitions over a history mean, in the words of the list.
-use Rattle.std.specs.Prelude.{ℕ, ℤ, Bool, [], length, ◌≤◌, ◌≡◌, ◌<◌, ◌⊎◌, ◌↔◌, false, ◌&&◌, ◌==◌, List, ◌∷◌, ◌++◌, Some, IsTrue}
+use Rattle.std.specs.Prelude.{ℕ, ℤ, pos, Bool, [], length, slice_index_or, ◌+◌, ◌≤◌, ◌≡◌, ◌≢◌, ◌<◌, ◌⊎◌, ◌↔◌, false, ◌&&◌, ◌==◌, List, ◌∷◌, ◌++◌, Some, IsTrue}
 use Rattle.std.specs.List.{Contains, AllByRecursion, list_any}
 use Rattle.jg_words.specs.declared.object.ObjId.{ObjId}
 use Rattle.jg_heap.specs.declared.object.Slot.{Slot}
-use Rattle.jg_heap.specs.declared.object.Slot.TheVariants.{Object as ToObject}
+use Rattle.jg_heap.specs.declared.object.Slot.TheVariants.{Number, Object as ToObject}
 use Rattle.jg_heap.specs.Making.{Making, Plain, class_in, length_in, slots_in, slot_in}
 use Rattle.jg_heap.specs.Rows.{Rows, count_in, class_at, length_at}
 use Rattle.jg_heap.specs.Standing.{Stands, held_objects}
 use Rattle.jg_heap.specs.Spelling.{spelt, AreUnits, IsSpeltInItems}
 use Rattle.jg_heap.specs.Reading.{decoded}
-use Rattle.jg_heap.specs.History.{Event, Made, Wrote, Collected, count_of, making_at, value_at, gone_at, held_at, going}
+use Rattle.jg_heap.specs.History.{Event, Made, Wrote, Collected, count_of, making_at, value_at, gone_at, held_at, going, points_at, region_writes}
 
 -- some slot of an object that isn't gone holds it
 abbrev pub StandsInASlot : ℕ → List Event → ℕ → Type 0
 StandsInASlot k e o = (p : ℕ) × (j : ℕ) × (target : ObjId) × (p < count_of k e) × (j < slots_in (making_at k e p))
     × (gone_at k e p ≡ false) × (value_at k e p j ≡ ToObject (Some target)) × (target.0 ≡ o)
+
+-- some slot of p holds o
+abbrev pub HoldsInASlot : ℕ → List Event → ℕ → ℕ → Type 0
+HoldsInASlot k e p o = (j : ℕ) × (target : ObjId) × (j < slots_in (making_at k e p))
+    × (value_at k e p j ≡ ToObject (Some target)) × (target.0 ≡ o)
+
+-- an object points at another exactly where some slot of it holds that one
+abbrev pub PointsMeans : Type 0
+PointsMeans = (k : ℕ) (e : List Event) (p o : ℕ) → IsTrue (points_at k e p o) ↔ HoldsInASlot k e p o
 
 -- an object is held exactly where it is a class object, a root holds it, or it stands in such a slot
 abbrev pub HeldMeans : Type 0
@@ -60,6 +69,38 @@ abbrev pub FirstValue : Type 0
 FirstValue = (k : ℕ) (later before : List Event) (m : Making) (j : ℕ)
     → AllByRecursion (Spares (count_of k before) j) later
     → value_at k (later ++ Made m ∷ before) (count_of k before) j ≡ slot_in m j
+
+-- what the event writes into this slot, if it does, passes the test
+abbrev pub WritesPassing : (Slot → Bool) → ℕ → ℕ → Event → Type 0
+WritesPassing test o j (Made m) = Unit {0}
+WritesPassing test o j (Wrote p i v) = IsTrue ((o == p) && (j == i)) → IsTrue (test v)
+WritesPassing test o j (Collected roots) = Unit {0}
+
+-- a slot holds what passes a test, as being a number, where its first value and all that was written into it do
+abbrev pub ValuePasses : Type 0
+ValuePasses = (test : Slot → Bool) (k : ℕ) (e : List Event) (o j : ℕ) → IsTrue (test (slot_in (making_at k e o) j))
+    → AllByRecursion (WritesPassing test o j) e → IsTrue (test (value_at k e o j))
+
+-- the writing of numbers into the slots from j on writes the i-th into slot j + i
+abbrev pub RegionWritten : Type 0
+RegionWritten = (k : ℕ) (e : List Event) (o j : ℕ) (values : List ℤ) (i : ℕ) → i < length values
+    → value_at k (region_writes o j values ++ e) o (j + i) ≡ Number (slice_index_or values i (pos 0))
+
+-- and no other slot
+abbrev pub RegionSpares : Type 0
+RegionSpares = (k : ℕ) (e : List Event) (o j : ℕ) (values : List ℤ) (p i : ℕ)
+    → (p ≢ o) ⊎ ((i < j) ⊎ (j + length values ≤ i))
+    → value_at k (region_writes o j values ++ e) p i ≡ value_at k e p i
+
+-- and makes and ends no object
+pub record KeepsObjects (k : ℕ) (before after : List Event) : Type 0 where
+  pub count : count_of k after ≡ count_of k before
+  pub making : (o : ℕ) → making_at k after o ≡ making_at k before o
+  pub gone : (o : ℕ) → gone_at k after o ≡ gone_at k before o
+
+abbrev pub RegionKeeps : Type 0
+RegionKeeps = (k : ℕ) (e : List Event) (o j : ℕ) (values : List ℤ)
+    → KeepsObjects k e (region_writes o j values ++ e)
 
 -- as what an object was made: what its making says, whatever comes later
 abbrev pub MadeAs : Type 0

@@ -1,6 +1,7 @@
 -- The rows that the store keeps.
-use Rattle.std.specs.Prelude.{ℕ, ◌≡◌, ◌+◌, Bool, false, List, [], length, replicate, slice_index_or}
+use Rattle.std.specs.Prelude.{ℕ, pos, ◌≡◌, ◌+◌, Bool, false, List, [], length, replicate, slice_index_or}
 use Rattle.jg_heap.specs.declared.object.Slot.{Slot}
+use Rattle.jg_heap.specs.declared.object.Slot.TheVariants.{Number}
 use Rattle.jg_heap.specs.Making.{Making, Plain, Text, Filled, class_in, units_in}
 
 -- an object: its class, a string's units, what the slots of any other hold, and whether it is gone
@@ -32,6 +33,10 @@ first_slots (Filled class n item) = replicate n item
 abbrev pub row_of_making : Making → Row
 row_of_making m = record { class = class_in m; units = units_in m; slots = first_slots m; gone = false }
 
+-- the rows of so many class objects, which are plain objects of class 1 without fields
+abbrev pub class_rows : ℕ → List Row
+class_rows k = replicate k (row_of_making (Plain 1 []))
+
 -- how many objects there are
 abbrev pub count_in : Rows → ℕ
 count_in rows = length rows.objects
@@ -39,6 +44,14 @@ count_in rows = length rows.objects
 -- the class of an object
 abbrev pub class_at : Rows → ℕ → ℕ
 class_at rows o = (row_in rows.objects o).class
+
+-- a string's units; any other object has none
+abbrev pub units_at : Rows → ℕ → List ℕ
+units_at rows o = (row_in rows.objects o).units
+
+-- what a slot holds
+abbrev pub slot_at : Rows → ℕ → ℕ → Slot
+slot_at rows o j = slice_index_or (row_in rows.objects o).slots j (Number (pos 0))
 
 -- how many units, fields or items it has: a string has units alone, any other slots alone
 abbrev pub length_at : Rows → ℕ → ℕ

@@ -1,6 +1,6 @@
 ghost use Rattle.std.specs.Prelude.{◌≡◌, ℕ, ◌+◌, ◌<◌, ◌≤◌, ◌^◌, length, map, slice_get, slice_set, Some, IfOk, replicate, pos, false};
 ghost use Rattle.jg_heap.specs.Making.{making_of, array_class, CanMake, HasFields, IsArrayClass, IsPrimitiveArray, TakesItem};
-ghost use Rattle.jg_heap.specs.Kept.{class_of_body, units_of_body, slots_of_body, row_of};
+ghost use Rattle.jg_heap.specs.Kept.{class_of_body, units_of_body, slots_of_body, row_of, overwritten};
 ghost use Rattle.jg_heap.specs.Rows.{row_of_making};
 ghost use Rattle.jg_heap.specs.declared.object.Slot.TheVariants.{Number, Object as ToObject};
 
@@ -60,6 +60,14 @@ fn references<A: Allocator>(
     ensures { IfOk result (λ items. items.items ≡ replicate length first) }
 {
     vec![in alloc; first; length as usize]
+}
+
+/// Writes numbers into a list, from an index on.
+fn overwrite<A: Allocator>(items: &mut Vec<i64, A>, start: usize, values: &[i64])
+    requires { start + length values.now ≤ length items.old.items }
+    ensures { items.new.items ≡ overwritten items.old.items start values.now }
+{
+    items[start..start + values.len()].copy_from_slice(values);
 }
 
 /// The object that a shape makes.
@@ -173,6 +181,22 @@ impl<A: Allocator> Body<A> {
             Body::Class | Body::Units(_) | Body::Numbers { .. } | Body::References(_) => {
                 unreachable!()
             }
+        }
+    }
+
+    /// Writes items of an array of a primitive type, from an index on.
+    #[tactic(auto, using(crate::proofs::Regions::regions))]
+    pub(crate) fn set_region(&mut self, start: usize, values: &[i64])
+        requires array { IsPrimitiveArray (class_of_body self.old) }
+        requires within { start + length values.now ≤ length (slots_of_body self.old) }
+        ensures class { class_of_body self.new ≡ class_of_body self.old }
+        ensures units { units_of_body self.new ≡ units_of_body self.old }
+        ensures slots { slots_of_body self.new
+            ≡ overwritten (slots_of_body self.old) start (map Number values.now) }
+    {
+        match self {
+            Body::Numbers { items, .. } => overwrite(items, start, values),
+            Body::Class | Body::Fields(_) | Body::Units(_) | Body::References(_) => unreachable!(),
         }
     }
 

@@ -1,4 +1,4 @@
-ghost use Rattle.std.specs.Prelude.{◌≡◌, ℕ, ◌<◌, ◌≤◌, All, false, not, ◌&&◌, ◌||◌, ◌==◌, length, slice_index_or, nat_lt, map, filter};
+ghost use Rattle.std.specs.Prelude.{◌≡◌, ℕ, ◌<◌, ◌≤◌, ◌^◌, All, false, not, ◌&&◌, ◌||◌, ◌==◌, length, slice_index_or, nat_lt, map, filter};
 ghost use Rattle.std.specs.List.{list_any};
 ghost use Rattle.jg_heap.specs.declared.object.Slot.TheVariants.{Object as ToObject};
 ghost use Rattle.jg_heap.specs.History.{holds};
@@ -110,7 +110,8 @@ pub(crate) fn mark_pointed<A: Allocator>(marks: &mut [bool], objects: &[Object<A
 
 /// How many of those in being aren't marked.
 pub(crate) fn count_unmarked(marks: &[bool], live: &[u64]) -> u64
-    ensures { result ≡ length (filter (λ o. not (slice_index_or marks.now o false)) live.now) }
+    ensures count { result ≡ length (filter (λ o. not (slice_index_or marks.now o false)) live.now) }
+    ensures fits { result < 2 ^ 63 }
 {
     let mut count = 0;
     for object in live {

@@ -1,9 +1,9 @@
-ghost use Rattle.std.specs.Prelude.{◌≡◌, ℕ, ◌<◌, ◌≤◌, ◌^◌, ◌++◌, List, [], ◌∷◌, length, map, IfOk, OnOk, OnErr};
+ghost use Rattle.std.specs.Prelude.{◌≡◌, ℕ, ◌+◌, ◌<◌, ◌≤◌, ◌^◌, ◌++◌, List, [], ◌∷◌, length, map, IfOk, OnOk, OnErr};
 ghost use Rattle.std.specs.List.{range_with_len};
 ghost use Rattle.jg_heap.specs.declared.object.Slot.TheVariants.{Number};
 ghost use Rattle.jg_heap.specs.Making.{making_of, class_in, units_in, length_in, CanMake, HasFields, IsArrayClass, IsPrimitiveArray, TakesItem};
-ghost use Rattle.jg_heap.specs.History.{Event, Event.Made as Made, Event.Wrote as Wrote, Event.Collected as Collected, count_of, making_at, value_at, gone_at, going};
-ghost use Rattle.jg_heap.specs.Rows.{count_in, class_at, length_at, row_of_making, KeepsShapes};
+ghost use Rattle.jg_heap.specs.History.{Event, Event.Made as Made, Event.Wrote as Wrote, Event.Collected as Collected, count_of, making_at, value_at, gone_at, going, region_writes};
+ghost use Rattle.jg_heap.specs.Rows.{count_in, class_at, length_at, units_at, slot_at, class_rows, row_of_making, KeepsShapes};
 ghost use Rattle.jg_heap.specs.Standing.{Stands, MarksNone, MarksRoots, MarksHeld};
 
 use crate::body::{Body, Object, object_of};
@@ -39,6 +39,7 @@ impl<A: Allocator + Clone> Heap<A> {
     /// A store with the class objects alone. Fails only for want of memory.
     pub fn new(alloc: A, class_count: u64) -> Result<Heap<A>, AllocError>
         ensures classes { IfOk result (λ heap. heap.classes ≡ class_count) }
+        ensures rows { IfOk result (λ heap. heap.objects ≡ class_rows class_count) }
         ensures stands { IfOk result (λ heap. Stands heap []) }
     {
         let mut objects = Vec::new(alloc.clone()?);
@@ -103,6 +104,8 @@ impl<A: Allocator> Heap<A> {
         requires { object.0 < count_in self.now }
         ensures history { (e : List Event) → Stands self.now e
             → result.now ≡ units_in (making_at self.now.classes e object.0) }
+        ensures rows { result.now ≡ units_at self.now object.0 }
+        ensures len { class_at self.now object.0 ≡ 2 → length result.now ≡ length_at self.now object.0 }
         ensures short { length result.now < 2 ^ 61 }
     {
         self.objects[object.0 as usize].body.units()
@@ -124,7 +127,8 @@ impl<A: Allocator> Heap<A> {
         requires made { object.0 < count_in self.now }
         requires fields { HasFields (class_at self.now object.0) }
         requires within { index < length_at self.now object.0 }
-        ensures { (e : List Event) → Stands self.now e → result ≡ value_at self.now.classes e object.0 index }
+        ensures history { (e : List Event) → Stands self.now e → result ≡ value_at self.now.classes e object.0 index }
+        ensures rows { result ≡ slot_at self.now object.0 index }
     {
         self.objects[object.0 as usize].body.slot(index)
     }
@@ -148,6 +152,7 @@ impl<A: Allocator> Heap<A> {
         requires within { index < length_at self.now object.0 }
         ensures sort { TakesItem (class_at self.now object.0) result }
         ensures history { (e : List Event) → Stands self.now e → result ≡ value_at self.now.classes e object.0 index }
+        ensures rows { result ≡ slot_at self.now object.0 index }
     {
         self.objects[object.0 as usize].body.slot(index)
     }
@@ -164,6 +169,22 @@ impl<A: Allocator> Heap<A> {
         self.objects[object.0 as usize].body.set_item(index, value);
     }
 
+    /// Writes these items of an array of a primitive type, in one go, from an index on. Items count
+    /// from 0.
+    pub fn set_region(&mut self, object: ObjId, start: usize, values: &[i64])
+        requires made { object.0 < count_in self.old }
+        requires array { IsPrimitiveArray (class_at self.old object.0) }
+        requires within { start + length values.now ≤ length_at self.old object.0 }
+        ensures stands { (e : List Event) → Stands self.old e
+            → Stands self.new (region_writes object.0 start values.now ++ e) }
+        ensures classes { self.new.classes ≡ self.old.classes }
+        ensures shapes { KeepsShapes self.old self.new }
+    {
+        self.objects[object.0 as usize]
+            .body
+            .set_region(start, values);
+    }
+
     /// All items of an array of a primitive type.
     pub fn items(&self, object: ObjId) -> &[i64]
         requires made { object.0 < count_in self.now }
@@ -172,6 +193,7 @@ impl<A: Allocator> Heap<A> {
             → map Number result.now ≡ map (value_at self.now.classes e object.0)
             (range_with_len 0 (length_in (making_at self.now.classes e object.0))) }
         ensures len { length result.now ≡ length_at self.now object.0 }
+        ensures fits { length result.now < 2 ^ 60 }
     {
         self.objects[object.0 as usize].body.numbers()
     }
@@ -201,6 +223,7 @@ impl<A: Allocator> Heap<A> {
         ensures marks { (e : List Event) (roots : List ℕ) → Stands self.now e
             → MarksRoots self.now.classes roots e marks.old → MarksHeld self.now.classes roots e marks.new }
         ensures bound { result ≤ count_in self.now }
+        ensures fits { result < 2 ^ 63 }
     {
         mark_classes(marks, self.class_count);
         mark_pointed(marks, &self.objects, &self.live);

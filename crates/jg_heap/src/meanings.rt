@@ -1,12 +1,17 @@
 //! What the definitions over a history mean. Each of these functions does nothing: its contract
 //! is a law that callers may cite.
 
-ghost use Rattle.jg_heap.specs.Laws.{HeldMeans, GoneMeans, StaysGone, ClassesStay, GoingMeans, LatestWrite, FirstValue, MadeAs, MadeStays, ClassesAre, RootsMean, GoingIsBounded, RowsMean, DecodedMeans, SpellingIsUnique};
+ghost use Rattle.jg_heap.specs.Laws.{HeldMeans, PointsMeans, ValuePasses, RegionWritten, RegionSpares, RegionKeeps, GoneMeans, StaysGone, ClassesStay, GoingMeans, LatestWrite, FirstValue, MadeAs, MadeStays, ClassesAre, RootsMean, GoingIsBounded, RowsMean, DecodedMeans, SpellingIsUnique};
 
 /// An object is held exactly where it is a class object, a root holds it, or it stands in a slot
 /// of an object that isn't gone.
 pub fn held_means()
     ensures { HeldMeans }
+{}
+
+/// An object points at another exactly where some slot of it holds that one.
+pub fn points_means()
+    ensures { PointsMeans }
 {}
 
 /// An object is gone exactly where some collection found it made and not held.
@@ -29,10 +34,20 @@ pub fn going_means()
     ensures { GoingMeans }
 {}
 
-/// A slot holds what the latest write wrote, and what it was made with before any.
+/// A slot holds what the latest write wrote, and what it was made with before any. So it holds
+/// what passes a test where its first value and all that was written into it do.
 pub fn value_means()
     ensures latest { LatestWrite }
     ensures first { FirstValue }
+    ensures passes { ValuePasses }
+{}
+
+/// The writing of a region writes each number into its slot, leaves the other slots, and makes and
+/// ends no object.
+pub fn region_means()
+    ensures written { RegionWritten }
+    ensures spares { RegionSpares }
+    ensures keeps { RegionKeeps }
 {}
 
 /// What an object was made as is what its making says, and stays so over later events.

@@ -15,7 +15,7 @@ returns-clause-marks g c e roots stands was =
 
 pub returns-clause-count : goal.returns-clause-count
 returns-clause-count g c e roots stands was =
-    c.count_unmarked.ensures
+    c.count_unmarked.ensures.count
     ∙ count_of_unmarked c.self.inside.objects.items c.deref-3.result.now c.self.inside.live.items c.args.self.now c.self.inside.class_count e roots c.mark_pointed.new.marks
     c.deref-3.ensures.value c.self.invariant c.self.view_is stands
     (marks_of c.self.inside.objects.items c.deref.result.now c.deref-2.result.now c.self.inside.live.items c.args.self.now c.self.inside.class_count e roots c.args.marks.now c.mark_classes.new.marks
@@ -27,4 +27,4 @@ pub returns-clause-bound : goal.returns-clause-bound
 returns-clause-bound g c =
     unmarked_bound c.self.inside.objects.items c.deref-3.result.now c.self.inside.live.items c.args.self.now c.self.inside.class_count c.count_unmarked.result
     (λ o. not (get_or c.mark_pointed.new.marks o false))
-    c.deref-3.ensures.value c.self.invariant c.self.view_is c.count_unmarked.ensures
+    c.deref-3.ensures.value c.self.invariant c.self.view_is c.count_unmarked.ensures.count

@@ -1,8 +1,8 @@
 use Rattle.std.proofs.Common.{ap, subst, sym, ◌∙◌}
 use Rattle.jg_heap.specs.Making.{IsArrayClass, TakesItem}
 use Rattle.std.specs.Prelude.{slice_get}
-use Rattle.jg_heap.specs.Rows.{Row, Rows}
-use Rattle.jg_heap.proofs.Told.{kept, value_stands}
+use Rattle.jg_heap.specs.Rows.{Row, Rows, row_in}
+use Rattle.jg_heap.proofs.Told.{kept, value_stands, slot_there}
 use Rattle.jg_heap.proofs.heap.Heap.element.Goals as goal
 
 pub returns-clause-history : goal.returns-clause-history
@@ -15,3 +15,8 @@ returns-clause-sort g c =
     let row = kept c.self.inside.objects.items c.args.self.now.objects c.args.object.0 c.index.result.now (ap (λ (r : Rows). r.objects) c.self.view_is) c.requires.made c.index.ensures in
     let P : Row → Type 0 = λ (r : Row). IsArrayClass r.class → TakesItem r.class c.slot.result in
     subst P row c.slot.ensures.sort c.requires.array
+
+pub returns-clause-rows : goal.returns-clause-rows
+returns-clause-rows g c =
+    let row = kept c.self.inside.objects.items c.args.self.now.objects c.args.object.0 c.index.result.now (ap (λ (r : Rows). r.objects) c.self.view_is) c.requires.made c.index.ensures in
+    slot_there (row_in c.args.self.now.objects c.args.object.0) c.args.index c.slot.result (ap (λ (r : Row). slice_get r.slots c.args.index) (sym row) ∙ c.slot.ensures.read)

@@ -1,10 +1,15 @@
 use Rattle.std.proofs.Common.{ap, sym, ◌∙◌}
 use Rattle.std.specs.Prelude.{slice_get}
-use Rattle.jg_heap.specs.Rows.{Row, Rows}
-use Rattle.jg_heap.proofs.Told.{kept, value_stands}
+use Rattle.jg_heap.specs.Rows.{Row, Rows, row_in}
+use Rattle.jg_heap.proofs.Told.{kept, value_stands, slot_there}
 use Rattle.jg_heap.proofs.heap.Heap.field.Goals as goal
 
-pub returns : goal.returns
-returns g c e s =
+pub returns-clause-history : goal.returns-clause-history
+returns-clause-history g c e s =
     let row = kept c.self.inside.objects.items c.args.self.now.objects c.args.object.0 c.index.result.now (ap (λ (r : Rows). r.objects) c.self.view_is) c.requires.made c.index.ensures in
     value_stands c.args.self.now e c.args.object.0 c.args.index c.slot.result s c.requires.made (ap (λ (r : Row). slice_get r.slots c.args.index) (sym row) ∙ c.slot.ensures.read)
+
+pub returns-clause-rows : goal.returns-clause-rows
+returns-clause-rows g c =
+    let row = kept c.self.inside.objects.items c.args.self.now.objects c.args.object.0 c.index.result.now (ap (λ (r : Rows). r.objects) c.self.view_is) c.requires.made c.index.ensures in
+    slot_there (row_in c.args.self.now.objects c.args.object.0) c.args.index c.slot.result (ap (λ (r : Row). slice_get r.slots c.args.index) (sym row) ∙ c.slot.ensures.read)

@@ -12,6 +12,11 @@ returns-clause-stands g c =
     let all : c.loop-class.class ≡ c.args.class_count = omega arith in
     c.loop-class.invariant.rows ∙ ap (λ n. replicate n (row_of_making (Plain 1 []))) all ∙ standing_new c.args.class_count
 
+pub returns-clause-rows : goal.returns-clause-rows
+returns-clause-rows g c =
+    let all : c.loop-class.class ≡ c.args.class_count = omega arith in
+    c.loop-class.invariant.rows ∙ ap (λ n. replicate n (row_of_making (Plain 1 []))) all
+
 pub loop-class-preserved : goal.loop-class-preserved
 loop-class-preserved g c =
     let n : length (replicate c.loop-class.class (row_of_making (Plain 1 []))) ≡ c.loop-class.class = length-replicate c.loop-class.class (row_of_making (Plain 1 [])) in
