@@ -1,5 +1,5 @@
 -- What a setup says of its classes, their fields and native methods, and their modules. Classes go by their numbers.
-use Rattle.std.specs.Prelude.{ℕ, ◌+◌, ◌-◌, Bool, false, ◌==◌, ◌&&◌, ◌||◌, nat_lt, nat_le, if◌then◌else◌, List, [], ◌∷◌, ◌++◌, map, codes, Option, Some, None, slice_get, position}
+use Rattle.std.specs.Prelude.{ℕ, ◌+◌, ◌-◌, Bool, false, ◌==◌, ◌&&◌, ◌||◌, nat_lt, nat_le, if◌then◌else◌, List, [], ◌∷◌, ◌++◌, map, codes, Option, Some, None, slice_get, slice_index_or, position}
 use Rattle.std.specs.Option.{option_map}
 use Rattle.std.specs.Str.{bytes_eq}
 use Rattle.jg_policy.specs.BaseClasses.{base_names}
@@ -38,6 +38,10 @@ abbrev pub module_of : StatedSetup → ℕ → Option ℕ
 module_of setup class =
     if nat_lt class (class_count setup) then position (bytes_eq (module_name_of setup class)) (module_names setup)
     else None
+
+-- a field's type is a class where it begins with `L` (JNI Specification, chapter 3, "Type Signatures")
+abbrev pub is_class_type : List ℕ → Bool
+is_class_type signature = slice_index_or signature 0 0 == 76
 
 abbrev pub fields_in : Option StatedClass → List StatedMember
 fields_in None = []
