@@ -34,6 +34,7 @@ impl<A: Allocator + Clone> Globals<A> {
     /// No reference is in being. Takes no memory; the two lists grow from the two handles.
     pub fn new(strong: A, weak: A) -> Globals<A>
         ensures stands { Stands result [] }
+        ensures rows { result ≡ record { strong = []; weak = [] } }
         ensures numbers { (k i : ℕ) → IsAbove k i result }
     {
         Globals {

@@ -1,6 +1,8 @@
 -- Local references and frames, told by looking back over what threads did. A list has the newest first.
 -- JNI Specification, chapter 2, "Local References": valid in the thread that made them, freed when the native method
 -- returns; chapter 4, PushLocalFrame and PopLocalFrame.
+-- Locals are made, and frames pushed, in a session alone: no table stands for a list in which they are made outside of
+-- one (Standing). For such a list alone a local made before the session is live until the session begins.
 use Rattle.jg_lists.specs.Acts as acts
 pub use Rattle.jg_lists.specs.Acts.{by, acts_of, how_many}
 use Rattle.std.specs.Prelude.{ℕ, ◌+◌, ◌-◌, ◌<◌, Bool, true, false, ◌==◌, ◌&&◌, not, nat_le, if◌then◌else◌, List, [], ◌∷◌, Option, Some, None}

@@ -41,7 +41,8 @@ impl<A: Allocator> Model for Locals<A> {
 impl<A: Allocator + Clone> Locals<A> {
     /// No thread has a session. Each list takes a handle of its own.
     pub fn new(locals: A, frames: A) -> Locals<A>
-        ensures { Stands result.rows [] }
+        ensures stands { Stands result.rows [] }
+        ensures rows { result.rows ≡ record { locals = []; frames = [] } }
     {
         Locals {
             stacks: BTreeMap::new(locals),

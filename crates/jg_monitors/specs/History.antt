@@ -1,4 +1,5 @@
--- Monitors, told by looking back. A list of events has the newest first.
+-- Monitors, told by looking back. A list of events has the newest first. Sessions aren't told of here: a thread's
+-- session ends with a release of all that it owns, and begins with none.
 use Rattle.jg_lists.specs.Acts as acts
 pub use Rattle.jg_lists.specs.Acts.{by, acts_of, how_many}
 use Rattle.std.specs.Prelude.{ℕ, ◌+◌, ◌-◌, Bool, true, false, ◌==◌, nat_lt, if◌then◌else◌, List, [], ◌∷◌, map, Option, Some, None}

@@ -38,7 +38,8 @@ impl<A: Allocator> Model for Monitors<A> {
 impl<A: Allocator + Clone> Monitors<A> {
     /// No monitor is owned. Takes no memory; the two maps grow from the two handles.
     pub fn new(owned: A, held: A) -> Monitors<A>
-        ensures { Stands result [] }
+        ensures stands { Stands result [] }
+        ensures rows { result ≡ record { owned = [] } }
     {
         Monitors {
             owned: BTreeMap::new(owned),

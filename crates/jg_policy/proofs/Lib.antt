@@ -10,3 +10,4 @@ pub mod LinkSteps
 pub mod LinkLaws
 pub mod ModuleLaws
 pub mod Trees
+pub mod NameLaws

@@ -1,7 +1,7 @@
 -- Statements of laws.
-use Rattle.std.specs.Prelude.{◌≡◌, ℕ, ◌<◌, List, ◌∷◌, ◌++◌, ◌≢◌, All, Contains, IsTrue, ◌↔◌}
+use Rattle.std.specs.Prelude.{◌≡◌, ℕ, ◌<◌, List, ◌∷◌, ◌++◌, ◌≢◌, Some, IsSome, All, Contains, IsTrue, ◌↔◌}
 use Rattle.jg_policy.specs.Stated.{StatedSetup, class_count}
-use Rattle.jg_policy.specs.Classes.{module_name_of, module_of}
+use Rattle.jg_policy.specs.Classes.{module_name_of, module_of, class_named, class_name_of, field_named, field_at, native_named, native_at}
 use Rattle.jg_policy.specs.Links.{Event, Linked, UnlinkedAll, Warned, linked, warned}
 
 -- some event links the method, and no later one unlinks its class
@@ -16,8 +16,50 @@ LinkedMeans = (e : List Event) (class native : ℕ) → IsTrue (linked e class n
 abbrev pub WarnedMeans : Type 0
 WarnedMeans = (e : List Event) (home : ℕ) → IsTrue (warned e home) ↔ Contains e (Warned home)
 
--- classes have equal module numbers exactly where the names of their modules are equal
+-- classes, and nothing else, have modules
+abbrev pub OnlyClassesHaveModules : Type 0
+OnlyClassesHaveModules = (setup : StatedSetup) (class : ℕ) → IsSome (module_of setup class) ↔ (class < class_count setup)
+
+-- equal module numbers exactly where the names of the modules are equal
 abbrev pub ModuleNumbersTellNames : Type 0
 ModuleNumbersTellNames =
-    (setup : StatedSetup) (c d : ℕ) → c < class_count setup → d < class_count setup
-    → (module_of setup c ≡ module_of setup d) ↔ (module_name_of setup c ≡ module_name_of setup d)
+    (setup : StatedSetup) (c d : ℕ) → (module_of setup c ≡ module_of setup d)
+    ↔ (module_name_of setup c ≡ module_name_of setup d)
+
+-- a name's number is that of a class with this name
+abbrev pub ClassHasItsName : Type 0
+ClassHasItsName =
+    (setup : StatedSetup) (name : List ℕ) (class : ℕ) → class_named setup name ≡ Some class
+    → class_name_of setup class ≡ Some name
+
+-- and two names with the same number are equal
+abbrev pub ClassNumbersTellNames : Type 0
+ClassNumbersTellNames =
+    (setup : StatedSetup) (name other : List ℕ) (class : ℕ) → class_named setup name ≡ Some class
+    → class_named setup other ≡ Some class → name ≡ other
+
+-- the same of the fields of a class, by name and type
+abbrev pub FieldHasItsName : Type 0
+FieldHasItsName =
+    (setup : StatedSetup) (class field : ℕ) (name signature : List ℕ)
+    → field_named setup class name signature ≡ Some field
+    → field_at setup class field ≡ Some (record { name = name; signature = signature })
+
+abbrev pub FieldNumbersTellNames : Type 0
+FieldNumbersTellNames =
+    (setup : StatedSetup) (class field : ℕ) (name other signature second : List ℕ)
+    → field_named setup class name signature ≡ Some field → field_named setup class other second ≡ Some field
+    → (name ≡ other) × (signature ≡ second)
+
+-- and of its native methods
+abbrev pub NativeHasItsName : Type 0
+NativeHasItsName =
+    (setup : StatedSetup) (class native : ℕ) (name signature : List ℕ)
+    → native_named setup class name signature ≡ Some native
+    → native_at setup class native ≡ Some (record { name = name; signature = signature })
+
+abbrev pub NativeNumbersTellNames : Type 0
+NativeNumbersTellNames =
+    (setup : StatedSetup) (class native : ℕ) (name other signature second : List ℕ)
+    → native_named setup class name signature ≡ Some native → native_named setup class other second ≡ Some native
+    → (name ≡ other) × (signature ≡ second)

@@ -33,7 +33,7 @@ pub enum SetupFault {
     #[error("TooMany")]
     TooMany,
     /// Memory ran out; it may come in the place of any answer.
-    #[error("NoMemory")]
+    #[error("no memory")]
     NoMemory,
 }
 

@@ -17,7 +17,10 @@ mod tree;
 pub use access::{Access, Operation};
 pub use fault::SetupFault;
 pub use links::Links;
-pub use meanings::{linked_means, module_numbers_tell_names, warned_means};
+pub use meanings::{
+    class_numbers_tell_names, field_numbers_tell_names, linked_means, module_numbers_tell_names,
+    native_numbers_tell_names, only_classes_have_modules, warned_means,
+};
 pub use mode::Mode;
 pub use setup::Setup;
 

@@ -97,6 +97,27 @@ fn the_first_fault_is_answered(rt: HostRuntime) -> Result<(), Fail> {
     Ok(())
 }
 
+#[test]
+fn faults_have_their_texts(rt: HostRuntime) -> Result<(), Fail> {
+    let texts = [
+        (SetupFault::NotToml, "NotToml"),
+        (SetupFault::BadVersion, "BadVersion"),
+        (SetupFault::UnknownKey, "UnknownKey"),
+        (SetupFault::Missing, "Missing"),
+        (SetupFault::BadType, "BadType"),
+        (SetupFault::BadMode, "BadMode"),
+        (SetupFault::BadName, "BadName"),
+        (SetupFault::Duplicate, "Duplicate"),
+        (SetupFault::TooMany, "TooMany"),
+        (SetupFault::NoMemory, "no memory"),
+    ];
+    for (fault, want) in texts {
+        let text = format!(in rt.alloc(); "{fault}")?;
+        assert!(rt; text.as_str() == want, "{want}");
+    }
+    Ok(())
+}
+
 // The pieces of a text with every fault at every level that has it. A piece stands in the text
 // of the faults from place `k` on where `from <= k < below`.
 const PIECES: [(usize, usize, &str); 22] = [

@@ -69,8 +69,10 @@ fn begins_outcome(text: &[u8]) -> bool
     matches!(text, [b'=', b' ', ..])
 }
 
-/// What stands before ` = ` behind as many fields as such a call has.
-fn front_of_call(text: &[u8]) -> Option<&[u8]>
+/// The line of the call with which the text begins, where ` = ` stands behind it, whatever follows:
+/// as many fields as the function that the third field names has operands, and the three before. Of a
+/// text that begins with no call it may be anything that stands before a ` = `.
+pub fn front_of_call(text: &[u8]) -> Option<&[u8]>
     ensures some { IfSome result (λ front. (more : List ℕ) × (text.now ≡ front.now ++ (codes " = " ++ more))) }
     ensures all { (t : TidOf) (e : Option EnvOf) (c : CallOf) (more : List ℕ) → FitsTid t → FitsEnv e → FitsCall c
         → text.now ≡ spelling t e c ++ (codes " = " ++ more) → option_copied result ≡ Some (spelling t e c) }

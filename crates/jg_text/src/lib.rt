@@ -14,7 +14,7 @@ mod read;
 mod word;
 mod write;
 
-pub use begun::read_begun;
+pub use begun::{front_of_call, read_begun};
 pub use fault::ScriptFault;
 pub use meanings::{
     begins_with_one_call, call_is_short, entry_is_one_line, spelt_at_most_once, spelt_has_no_fault,

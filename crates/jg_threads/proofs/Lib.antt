@@ -1,3 +1,4 @@
-pub mod Means
-pub mod Pending
-pub mod Worked
+mod Means
+mod Pending
+mod Steps
+mod Worked

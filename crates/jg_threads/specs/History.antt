@@ -1,5 +1,8 @@
 -- Sessions, native methods, exceptions and numbers of threads, told by looking back over what threads did.
 -- A list has the newest first. JNI Specification, chapter 5 (attachment), chapter 2 ("Exceptions and Error Codes").
+-- A thread that has no session enters and leaves nothing, has nothing raised and is handed out nothing: no table stands
+-- for a list in which it does (Standing). For such a list alone `depth` and `pending` count what was done before the
+-- session.
 use Rattle.jg_lists.specs.Acts as acts
 pub use Rattle.jg_lists.specs.Acts.{by, acts_of, how_many}
 use Rattle.std.specs.Prelude.{ℕ, ◌+◌, ◌-◌, Bool, true, false, ◌==◌, if◌then◌else◌, List, [], ◌∷◌, Option, Some, None}
@@ -50,6 +53,10 @@ since (a ∷ acts) = a ∷ since acts
 -- it was attached since
 abbrev pub attached : List Act → Bool
 attached acts = list_any is_attach (since acts)
+
+-- it was ever attached
+abbrev pub was_attached : List Act → Bool
+was_attached acts = list_any is_attach acts
 
 -- how many attachments found it unattached
 abbrev pub sessions : List Act → ℕ

@@ -5,6 +5,7 @@
 
 mod meanings;
 mod row;
+mod rows;
 mod threads;
 
 pub use meanings::{

@@ -9,6 +9,7 @@ ghost use Rattle.jg_lists.specs.Marks.{Marks};
 ghost use Rattle.jg_threads.specs.Standing.{Stands};
 
 use crate::row::{NO_ROW, Row};
+use crate::rows::{is_pending_in, mark_pending_in, put_row, row_at, write_row};
 use jg_words::{EnvId, ObjId, Tid};
 use std::alloc::{AllocError, Allocator, Global};
 use std::collections::BTreeMap;
@@ -32,7 +33,8 @@ impl<A: Allocator> Model for Threads<A> {
 impl<A: Allocator + Clone> Threads<A> {
     /// No thread did anything yet.
     pub fn new(alloc: A) -> Threads<A>
-        ensures { Stands result [] }
+        ensures stands { Stands result [] }
+        ensures rows { result ≡ [] }
     {
         Threads {
             rows: BTreeMap::new(alloc),
@@ -58,7 +60,7 @@ impl<A: Allocator + Clone> Threads<A> {
         if !row.attached {
             row.attached = true;
             row.sessions += 1;
-            self.rows.insert(tid.0, row)?;
+            put_row(&mut self.rows, tid.0, row)?;
         }
         Ok(EnvId {
             tid,
@@ -76,14 +78,17 @@ impl<A: Allocator + Clone> Threads<A> {
           pending = None;
         } }
     {
-        if let Some(row) = self.rows.get_mut(&tid.0) {
-            *row = Row {
+        let row = self.row(tid);
+        write_row(
+            &mut self.rows,
+            tid.0,
+            Row {
                 attached: false,
                 depth: 0,
                 pending: None,
-                ..*row
-            };
-        }
+                ..row
+            },
+        );
     }
 
     /// The environment of the thread's session, if it has one (`GetEnv`).
@@ -144,9 +149,9 @@ impl<A: Allocator + Clone> Threads<A> {
         ensures row { row_of self.new tid.0
             ≡ record (row_of self.old tid.0) { depth = (row_of self.old tid.0).depth + 1 } }
     {
-        if let Some(row) = self.rows.get_mut(&tid.0) {
-            row.depth += 1;
-        }
+        let mut row = self.row(tid);
+        row.depth += 1;
+        write_row(&mut self.rows, tid.0, row);
     }
 
     /// Leaves the native method that the thread entered last. The test is `depth`.
@@ -157,9 +162,9 @@ impl<A: Allocator + Clone> Threads<A> {
         ensures row { row_of self.new tid.0
             ≡ record (row_of self.old tid.0) { depth = (row_of self.old tid.0).depth - 1 } }
     {
-        if let Some(row) = self.rows.get_mut(&tid.0) {
-            row.depth -= 1;
-        }
+        let mut row = self.row(tid);
+        row.depth -= 1;
+        write_row(&mut self.rows, tid.0, row);
     }
 
     /// How many native methods the thread has entered in its session and not left.
@@ -188,9 +193,9 @@ impl<A: Allocator + Clone> Threads<A> {
         ensures stands { (e : List Event) → Stands self.old e → Stands self.new (by tid.0 (Raise object.0) ∷ e) }
         ensures row { row_of self.new tid.0 ≡ record (row_of self.old tid.0) { pending = Some object.0 } }
     {
-        if let Some(row) = self.rows.get_mut(&tid.0) {
-            row.pending = Some(object.0);
-        }
+        let mut row = self.row(tid);
+        row.pending = Some(object.0);
+        write_row(&mut self.rows, tid.0, row);
     }
 
     /// No exception is pending in the thread any more (`ExceptionClear`).
@@ -198,9 +203,9 @@ impl<A: Allocator + Clone> Threads<A> {
         ensures stands { (e : List Event) → Stands self.old e → Stands self.new (by tid.0 Calm ∷ e) }
         ensures row { row_of self.new tid.0 ≡ record (row_of self.old tid.0) { pending = None } }
     {
-        if let Some(row) = self.rows.get_mut(&tid.0) {
-            row.pending = None;
-        }
+        let mut row = self.row(tid);
+        row.pending = None;
+        write_row(&mut self.rows, tid.0, row);
     }
 
     /// Whether the object is pending in some thread.
@@ -215,7 +220,7 @@ impl<A: Allocator + Clone> Threads<A> {
     pub fn mark_held(&self, marks: &mut [bool])
         ensures { (e : List Event) → Stands self.now e → Marks (is_pending e) marks.old marks.new }
     {
-        mark_pending(&self.rows, marks);
+        mark_pending_in(&self.rows, marks);
     }
 
     /// The number of the next reference that the thread is handed out, from 1 over all its
@@ -236,9 +241,9 @@ impl<A: Allocator + Clone> Threads<A> {
         ensures row { row_of self.new tid.0
             ≡ record (row_of self.old tid.0) { refs = (row_of self.old tid.0).refs + 1 } }
     {
-        if let Some(row) = self.rows.get_mut(&tid.0) {
-            row.refs += 1;
-        }
+        let mut row = self.row(tid);
+        row.refs += 1;
+        write_row(&mut self.rows, tid.0, row);
     }
 
     /// The number of the next buffer that the thread is handed out, from 1 over all its sessions.
@@ -258,35 +263,14 @@ impl<A: Allocator + Clone> Threads<A> {
         ensures row { row_of self.new tid.0
             ≡ record (row_of self.old tid.0) { buffers = (row_of self.old tid.0).buffers + 1 } }
     {
-        if let Some(row) = self.rows.get_mut(&tid.0) {
-            row.buffers += 1;
-        }
+        let mut row = self.row(tid);
+        row.buffers += 1;
+        write_row(&mut self.rows, tid.0, row);
     }
 
     fn row(&self, tid: Tid) -> Row
         ensures { result ≡ row_of self.now tid.0 }
     {
-        match self.rows.get(&tid.0) {
-            Some(row) => *row,
-            None => NO_ROW,
-        }
-    }
-}
-
-/// Whether the object is pending by some row.
-fn is_pending_in<A: Allocator>(rows: &BTreeMap<u16, Row, A>, object: u64) -> bool
-    ensures any { result ≡ list_any (λ row. is_object object row.pending) (values rows.now) }
-    ensures ordered { IsOrdered nat_cmp rows.now }
-{
-    rows.values().any(|row| row.has_pending(object))
-}
-
-/// Marks each object that is pending by some row.
-fn mark_pending<A: Allocator>(rows: &BTreeMap<u16, Row, A>, marks: &mut [bool])
-    ensures marks { Marks (λ o. list_any (λ row. is_object o row.pending) (values rows.now)) marks.old marks.new }
-    ensures ordered { IsOrdered nat_cmp rows.now }
-{
-    for row in rows.values() {
-        row.mark_pending(marks);
+        row_at(&self.rows, tid.0)
     }
 }

@@ -1,7 +1,7 @@
 use Rattle.jg_lists.proofs.Marks.{marks_left}
 use Rattle.jg_threads.specs.Rows.{Row}
 use Rattle.jg_threads.specs.History.{is_object}
-use Rattle.jg_threads.proofs.threads.mark_pending.Goals as goal
+use Rattle.jg_threads.proofs.rows.mark_pending_in.Goals as goal
 
 pub loop-row-preserved : goal.loop-row-preserved
 loop-row-preserved g c o =

@@ -4,7 +4,7 @@ use Rattle.std.specs.List.{list_any}
 use Rattle.std.specs.Option.{option_map}
 use Rattle.std.specs.BTreeMap.{values}
 use Rattle.jg_threads.specs.History.{is_object}
-use Rattle.jg_threads.proofs.threads.mark_pending.Given as goal
+use Rattle.jg_threads.proofs.rows.mark_pending_in.Given as goal
 
 -- with the exceptions that are left marked, all are marked
 abbrev pub invariant-loop-row : goal.invariant-loop-row
