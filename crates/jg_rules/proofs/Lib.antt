@@ -1,2 +1,3 @@
 pub mod Unmade
 pub mod Kept
+pub mod Objects

@@ -4,12 +4,12 @@
 ghost use Rattle.std.specs.Prelude.{◌≡◌, ◌∷◌, [], ◌&&◌, nat_le};
 ghost use Rattle.jg_heap.specs.Making as making;
 ghost use Rattle.jg_rules.specs.Parts.{Parts};
-ghost use Rattle.jg_rules.specs.Names.{class_of};
 ghost use Rattle.jg_rules.specs.Operands.{is_of, is_plain, listed, operands};
 ghost use Rattle.jg_rules.specs.Rules.{is_foreign, is_not_local, is_wrong, operands_verdict, refs_wrong_kind, wrong_kind};
 ghost use Rattle.jg_rules.specs.View.{ViewStands};
 
 use crate::named::{Named, look_up};
+use crate::object::class_of;
 use crate::operand::{ObjectType, Operand, Operands, operands_of};
 use crate::view::View;
 use jg_words::{Call, Kind, ObjId, Primitive, Ref, RefsCall, Rule, Tid};
@@ -31,17 +31,6 @@ fn is_foreign_local(tid: Tid, reference: Ref) -> bool
             ..
         } => maker.0 != tid.0,
         _ => false,
-    }
-}
-
-/// The number of an object's class; an object that was never made counts as a class object.
-fn class_number<A: Allocator + Clone>(view: &View<'_, A>, object: ObjId) -> u32
-    ensures { (p : Parts) → ViewStands view.now p → result ≡ class_of view.now.setup.now p object.0 }
-{
-    if object.0 < view.heap.len() {
-        view.heap.class_of(object)
-    } else {
-        1
     }
 }
 
@@ -81,13 +70,13 @@ fn is_object_of<A: Allocator + Clone>(
 {
     match object_type {
         ObjectType::AnyObject => true,
-        ObjectType::ClassObject => class_number(view, object) == CLASS_CLASS,
+        ObjectType::ClassObject => class_of(view, object) == CLASS_CLASS,
         ObjectType::PlainClass => is_plain_class(view, object),
-        ObjectType::ThrowableObject => view.setup.is_throwable(class_number(view, object)),
-        ObjectType::StringObject => class_number(view, object) == STRING_CLASS,
-        ObjectType::AnyArray => is_array_class(class_number(view, object)),
-        ObjectType::ArrayOf(element) => class_number(view, object) == array_class(element),
-        ObjectType::ObjectArray => class_number(view, object) == OBJECT_ARRAY_CLASS,
+        ObjectType::ThrowableObject => view.setup.is_throwable(class_of(view, object)),
+        ObjectType::StringObject => class_of(view, object) == STRING_CLASS,
+        ObjectType::AnyArray => is_array_class(class_of(view, object)),
+        ObjectType::ArrayOf(element) => class_of(view, object) == array_class(element),
+        ObjectType::ObjectArray => class_of(view, object) == OBJECT_ARRAY_CLASS,
     }
 }
 
