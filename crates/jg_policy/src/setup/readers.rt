@@ -92,7 +92,7 @@ impl Setup {
         }
         match self.classes.get_index((class - BASE_COUNT) as usize) {
             None => 0,
-            Some((_, found)) => found.fields.len() as u32,
+            Some((_, found)) => found.fields.as_slice().len() as u32,
         }
     }
 
