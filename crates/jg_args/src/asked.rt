@@ -6,7 +6,7 @@ pub const MAX_NUMBER: u32 = 1_000_000;
 /// Why the words of a command line ask for nothing.
 #[derive(Clone, Copy, Debug, PartialEq, Eq, Error)]
 pub enum ArgsFault {
-    /// The words ask for the text of `--help`.
+    /// The words ask for the text of `--help` or of `--version`, which `help_text` makes.
     #[error("help is asked for")]
     Help,
     /// The words are no command line of this program.

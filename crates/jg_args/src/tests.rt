@@ -43,7 +43,7 @@ fn words_are_read(rt: HostRuntime) -> Result<(), Fail> {
 
 #[test]
 fn words_are_refused(rt: HostRuntime) -> Result<(), Fail> {
-    let refused: [&[&str]; 13] = [
+    let refused: [&[&str]; 15] = [
         &["fly"],
         &["--fly"],
         &["--limit"],
@@ -57,6 +57,8 @@ fn words_are_refused(rt: HostRuntime) -> Result<(), Fail> {
         &["play"],
         &["play", "two", "--turns", "0"],
         &["--turns", "5"],
+        &["verify", "--help"],
+        &["check", "--version"],
     ];
     for words in refused {
         assert_eq!(rt;
@@ -65,11 +67,22 @@ fn words_are_refused(rt: HostRuntime) -> Result<(), Fail> {
             "at {words:?}"
         );
     }
-    assert_eq!(rt; read_words(rt.alloc(), &["--help"]), Err(ArgsFault::Help));
-    assert_eq!(rt;
-        read_words(rt.alloc(), &["check", "--help"]),
-        Err(ArgsFault::Help)
-    );
-    assert!(rt; !help_text(rt.alloc())?.is_empty());
+    Ok(())
+}
+
+#[test]
+fn texts_are_asked_for(rt: HostRuntime) -> Result<(), Fail> {
+    let texts: [(&[&str], &str); 5] = [
+        (&["--help"], "Usage: jg [OPTIONS] [COMMAND]"),
+        (&["check", "--help"], "Usage: jg check [OPTIONS]"),
+        (&["--help"], "Exit status: 0 done, 2 "),
+        (&["check", "-h"], "Exit status: 0 done, 2 "),
+        (&["--version"], "jg 0.1.0\n"),
+    ];
+    for (words, part) in texts {
+        assert_eq!(rt; read_words(rt.alloc(), words), Err(ArgsFault::Help), "at {words:?}");
+        let text = help_text(rt.alloc(), words)?;
+        assert!(rt; text.contains(part), "at {words:?}: {text}");
+    }
     Ok(())
 }

@@ -10,6 +10,10 @@ use std::alloc::{AllocError, Global};
 
 const DEFAULT_TURNS: u32 = 1000;
 
+const VERSION: &str = "0.1.0";
+
+const STATUSES: &str = "Exit status: 0 done, 2 faulty script or arguments, 3 limit met or no memory, 4 reading or writing failed.";
+
 fn setup_arg<'a>(alloc: Global) -> Arg<'a> {
     Arg::new(alloc, "setup")
         .long("setup")
@@ -46,24 +50,30 @@ fn leaks_arg<'a>(alloc: Global) -> Arg<'a> {
 fn command<'a>(alloc: Global) -> Result<Command<'a>, AllocError> {
     let check = Command::new(alloc, "check")
         .about("answers the script on standard input with its journal")
+        .after_help(STATUSES)
         .arg(setup_arg(alloc))?
         .arg(limit_arg(alloc))?
         .arg(leaks_arg(alloc))?;
     let verify = Command::new(alloc, "verify")
         .about("tests the journal on standard input")
         .hide(true)
+        .disable_help_flag(true)
         .arg(setup_arg(alloc))?
         .arg(limit_arg(alloc))?;
     let play = Command::new(alloc, "play")
         .about("plays the scripts of FILE, each thread's lines by a worker")
         .hide(true)
+        .disable_help_flag(true)
         .arg(Arg::new(alloc, "file").value_name("FILE").required(true))?
         .arg(setup_arg(alloc))?
         .arg(limit_arg(alloc))?
         .arg(turns_arg(alloc))?;
     Command::new(alloc, "jg")
         .about("A guard for the Java Native Interface. Without a command it is `check`.")
+        .after_help(STATUSES)
+        .version(VERSION)
         .disable_help_subcommand(true)
+        .bin_name("jg")?
         .arg(setup_arg(alloc))?
         .arg(limit_arg(alloc))?
         .arg(leaks_arg(alloc))?
@@ -72,10 +82,15 @@ fn command<'a>(alloc: Global) -> Result<Command<'a>, AllocError> {
         .subcommand(play)
 }
 
-/// The text of `--help`.
-pub fn help_text(alloc: Global) -> Result<String, AllocError> {
-    let mut command = command(alloc)?;
-    command.render_help()
+/// The text that the words ask for by `--help` or `--version`: the help of the program or of the
+/// command that they name, or the program's name and version. Where they ask for no such text it is
+/// empty, or says what is wrong with them. Fails only for want of memory.
+pub fn help_text<'a>(alloc: Global, words: &'a [&'a str]) -> Result<String, AllocError> {
+    let command = command(alloc)?;
+    match command.no_binary_name(true).try_get_matches_from(words) {
+        Ok(_) => Ok(String::new(alloc)),
+        Err(error) => format!(in alloc; "{error}"),
+    }
 }
 
 /// The number of an option within its range, or what stands for none.
@@ -112,7 +127,7 @@ fn has_options(matches: &ArgMatches<'_>) -> bool {
 
 fn fault_of(kind: ErrorKind) -> ArgsFault {
     match kind {
-        ErrorKind::DisplayHelp => ArgsFault::Help,
+        ErrorKind::DisplayHelp | ErrorKind::DisplayVersion => ArgsFault::Help,
         ErrorKind::OutOfMemory => ArgsFault::NoMemory,
         _ => ArgsFault::Refused,
     }

@@ -42,6 +42,7 @@ impl<A: Allocator + Clone> Buffers<A> {
     /// No buffer is open. Takes no memory; the four maps grow from the first four handles, and the
     /// items of copies from clones of the last.
     pub fn new(copies: A, pins: A, makers: A, vias: A, alloc: A) -> Buffers<A>
+        ensures empty { result.lent ≡ [] }
         ensures stands { Stands result [] }
         ensures numbers { (k i : ℕ) → IsAbove k i result }
     {

@@ -187,8 +187,8 @@ weak_row_below rows e m n stands below row there is =
     let made = in_being e row.maker row.n row.target (weak e row.maker row.n) now in
     weak_below e row.maker row.n made.0 n made.1 (subst Q (sym is) below)
 
-pub above_law : (rows : Rows) (e : List Event) (m n : ℕ) → Stands rows e → IsMadeBelow m n e → IsAbove m n rows
-above_law rows e m n stands below = record {
+pub new_number : (rows : Rows) (e : List Event) (m n : ℕ) → Stands rows e → IsMadeBelow m n e → IsAbove m n rows
+new_number rows e m n stands below = record {
   strong = All-from_recursion _ _ (each_member (λ row. row.maker ≡ m → row.n < n) rows.strong (strong_row_below rows e m n stands below));
   weak = All-from_recursion _ _ (each_member (λ row. row.maker ≡ m → row.n < n) rows.weak (weak_row_below rows e m n stands below));
 }

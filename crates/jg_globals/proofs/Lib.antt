@@ -1,6 +1,7 @@
-pub mod Ended
-pub mod Lists
-pub mod Lookups
-pub mod Means
-pub mod Numbers
-pub mod Steps
+pub mod Callers
+mod Ended
+mod Lists
+mod Lookups
+mod Means
+mod Numbers
+mod Steps

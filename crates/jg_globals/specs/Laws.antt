@@ -1,8 +1,8 @@
 -- What the definitions mean, and what holds of every list in which no number is handed out twice.
-use Rattle.std.specs.Prelude.{◌≡◌, ℕ, ◌<◌, Bool, true, false, ◌↔◌, List, [], ◌∷◌, ◌++◌, Some, None}
+use Rattle.std.specs.Prelude.{◌≡◌, ℕ, ◌<◌, Bool, true, false, ◌↔◌, List, [], ◌∷◌, ◌++◌, Some, None, IsTrue}
 use Rattle.std.specs.List.{list_any}
 use Rattle.jg_globals.specs.declared.target.Target.TheVariants.{Object, Cleared}
-use Rattle.jg_globals.specs.History.{Event, MakeStrong, MakeWeak, DeleteStrong, DeleteWeak, is_same, strong, clears, weak_target}
+use Rattle.jg_globals.specs.History.{Event, MakeStrong, MakeWeak, DeleteStrong, DeleteWeak, is_same, strong, clears, weak_target, holds_object}
 use Rattle.jg_globals.specs.Rows.{Rows, IsAbove}
 use Rattle.jg_globals.specs.Standing.{Stands}
 
@@ -47,6 +47,10 @@ WeakMeans = (e : List Event) (maker n o : ℕ)
 abbrev pub ClearedMeans : Type 0
 ClearedMeans = (e : List Event) (maker n : ℕ)
     → (weak_target e maker n ≡ Some Cleared) ↔ ((o : ℕ) × WeakSince e maker n o true)
+
+-- an object is held by global references where some global reference that names it is in being
+abbrev pub HoldsMeans : Type 0
+HoldsMeans = (e : List Event) (o : ℕ) → IsTrue (holds_object e o) ↔ ((maker : ℕ) × (n : ℕ) × (strong e maker n ≡ Some o))
 
 -- the number is above each that the maker's references were given, of both kinds
 abbrev pub IsMadeBelow : ℕ → ℕ → List Event → Type 0

@@ -10,7 +10,8 @@ mod target;
 
 pub use globals::Globals;
 pub use meanings::{
-    cleared_stays_cleared, deleted_stays_deleted, new_number_is_above, strong_means, weak_means,
+    cleared_stays_cleared, deleted_stays_deleted, holds_means, new_number_is_above, strong_means,
+    weak_means,
 };
 pub use target::Target;
 

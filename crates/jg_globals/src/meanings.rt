@@ -1,4 +1,7 @@
-ghost use Rattle.jg_globals.specs.Laws.{StrongMeans, WeakMeans, ClearedMeans, DeletedStaysDeleted, ClearedStaysCleared, NewNumberIsAbove};
+//! What the definitions on global and weak references mean, each as the contract of a function that
+//! does nothing.
+
+ghost use Rattle.jg_globals.specs.Laws.{StrongMeans, WeakMeans, ClearedMeans, HoldsMeans, DeletedStaysDeleted, ClearedStaysCleared, NewNumberIsAbove};
 
 /// A global reference is live, for an object, exactly where some event made it for that object and
 /// none made or deleted it later.
@@ -12,6 +15,11 @@ pub fn strong_means()
 pub fn weak_means()
     ensures live { WeakMeans }
     ensures cleared { ClearedMeans }
+{}
+
+/// An object is held by global references exactly where some global reference in being names it.
+pub fn holds_means()
+    ensures { HoldsMeans }
 {}
 
 /// Where no number is handed out twice, a reference that was deleted is never in being again.

@@ -1,4 +1,6 @@
+mod bounds;
 mod collections;
 mod objects;
 mod refusals;
+mod regions;
 mod spellings;

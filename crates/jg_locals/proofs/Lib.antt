@@ -1,17 +1,19 @@
-pub mod Members
-pub mod Chains
-pub mod Numbers
-pub mod Invariant
-pub mod Gathered
-pub mod Looking
-pub mod LocalSteps
-pub mod FrameSteps
-pub mod Tops
-pub mod StandingSteps
-pub mod EventLaws
-pub mod Lookups
-pub mod Threads
-pub mod Held
+mod Above
 pub mod Callers
-pub mod Lives
-pub mod Worked
+mod Chains
+mod EventLaws
+mod FrameSteps
+mod Gathered
+mod Held
+mod Invariant
+mod Lives
+mod LocalSteps
+mod Looking
+mod Lookups
+mod Members
+mod Numbers
+mod OpenFrames
+mod StandingSteps
+mod Threads
+mod Tops
+mod Worked

@@ -1,10 +1,11 @@
 -- What live means: made, and not ended since.
-use Rattle.std.proofs.Common.{◌≡◌, ◌<◌, ℕ, Bool, true, false, List, [], ◌∷◌, ◌++◌, Option, Some, None, refl, ◌∙◌, ap, subst, arith, inl, inr}
-use Rattle.std.specs.Prelude.{◌==◌}
+use Rattle.std.proofs.Common.{◌≡◌, ◌<◌, ℕ, Bool, true, false, List, [], ◌∷◌, ◌++◌, Option, Some, None, refl, ◌∙◌, ap, sym, subst, arith, inl, inr}
+use Rattle.std.specs.Prelude.{◌==◌, ◌≢◌, ◌⊎◌, if◌then◌else◌}
 use Rattle.std.proofs.lemmas.Bool.Decides.{nat_tests}
-use Rattle.jg_locals.specs.History.{Act, Start, Make, Push, Enter, Delete, Pop, Leave, End, how_many, is_enter, is_leave, is_push, is_pop, done_here, ends, survives, Making, making, seen_after, local_if_live, object_of}
-use Rattle.jg_locals.specs.Laws.{IsEndedBy, IsNotEnded, IsNotMade, LiveWasMade, MadeIsLive, DeletedStaysDead}
-use Rattle.jg_locals.proofs.Looking.{survived_before}
+use Rattle.jg_locals.specs.History.{Act, Start, Make, Push, Enter, Delete, Pop, Leave, End, how_many, is_enter, is_leave, is_push, is_pop, done_here, ends, survives, Making, making, seen_after, local_if_live, object_of, live, depth, frames}
+use Rattle.jg_locals.specs.Standing.{AllAllowed}
+use Rattle.jg_locals.specs.Laws.{IsEndedBy, IsNotEnded, IsNotMade, IsMadeAndKept, LiveMeans, LeftMeans, PoppedMeans, DeletedStaysDead}
+use Rattle.jg_locals.proofs.Looking.{survived_before, survived_here, survived_frame, depth_since, frames_since}
 use Rattle.jg_locals.proofs.LocalSteps.{making_splits}
 
 not_ended_now : (n : ℕ) (a : Act) (since : List Act) → survives n (a ∷ since) ≡ true → ¬ IsEndedBy n a since
@@ -40,14 +41,43 @@ alive_cases n o m false is_dead is =
     let none : object_of (local_if_live n (Some m)) ≡ None = ap object_of gone in
     cc
 
-was_made : (n o : ℕ) (acts : List Act) (found : Option Making) → making n acts ≡ found → object_of (local_if_live n found) ≡ Some o
-    → (later before : List Act) × (acts ≡ later ++ Make n o ∷ before) × IsNotEnded n later
+-- what came later than the making that is found makes the number not again
+others_after : (n : ℕ) (a : Act) (found : Option Making) (m : Making) → ((later : List Act) → IsNotMade n later → IsNotMade n (a ∷ later)) → ((k : Making) → found ≡ Some k → IsNotMade n k.later)
+    → seen_after a found ≡ Some m → IsNotMade n m.later
+others_after n a None m keeps earlier is = cc
+others_after n a (Some k) m keeps earlier is =
+    let same : record k { later = a ∷ k.later } ≡ m = cc in
+    let P : Making → Type 0 = λ x. IsNotMade n x.later in
+    subst P same (keeps k.later (earlier k refl))
+
+others_made : (n j o : ℕ) (acts : List Act) (m : Making) (same : Bool) → (j == n) ≡ same → ((k : Making) → making n acts ≡ Some k → IsNotMade n k.later)
+    → (if same then Some (record { later = []; object = o; before = acts }) else seen_after (Make j o) (making n acts)) ≡ Some m → IsNotMade n m.later
+others_made n j o acts m true is earlier found =
+    let made : record { later = []; object = o; before = acts } ≡ m = cc in
+    let P : Making → Type 0 = λ x. IsNotMade n x.later in
+    subst P made tt
+others_made n j o acts m false is earlier found =
+    let differ : j ≢ n = grind (arith, nat_tests) in
+    others_after n (Make j o) (making n acts) m (λ later once. (differ, once)) earlier found
+
+not_made_since : (n : ℕ) (acts : List Act) (m : Making) → making n acts ≡ Some m → IsNotMade n m.later
+not_made_since n [] m is = cc
+not_made_since n (Make j o ∷ acts) m is = others_made n j o acts m (j == n) refl (not_made_since n acts) is
+not_made_since n (Start ∷ acts) m is = others_after n Start (making n acts) m (λ later once. once) (not_made_since n acts) is
+not_made_since n (End ∷ acts) m is = others_after n End (making n acts) m (λ later once. once) (not_made_since n acts) is
+not_made_since n (Push ∷ acts) m is = others_after n Push (making n acts) m (λ later once. once) (not_made_since n acts) is
+not_made_since n (Enter ∷ acts) m is = others_after n Enter (making n acts) m (λ later once. once) (not_made_since n acts) is
+not_made_since n (Delete k ∷ acts) m is = others_after n (Delete k) (making n acts) m (λ later once. once) (not_made_since n acts) is
+not_made_since n (Pop ∷ acts) m is = others_after n Pop (making n acts) m (λ later once. once) (not_made_since n acts) is
+not_made_since n (Leave ∷ acts) m is = others_after n Leave (making n acts) m (λ later once. once) (not_made_since n acts) is
+
+was_made : (n o : ℕ) (acts : List Act) (found : Option Making) → making n acts ≡ found → object_of (local_if_live n found) ≡ Some o → IsMadeAndKept n o acts
 was_made n o acts None is alive = cc
 was_made n o acts (Some m) is alive =
     let both = alive_cases n o m (survives n m.later) refl alive in
-    (m.later, m.before, making_splits n acts m is ∙ ap (λ x. m.later ++ Make n x ∷ m.before) both.1, survivor n m.later both.0)
+    (m.later, m.before, making_splits n acts m is ∙ ap (λ x. m.later ++ Make n x ∷ m.before) both.1, not_made_since n acts m is, survivor n m.later both.0)
 
-pub live_was_made : LiveWasMade
+pub live_was_made : (n o : ℕ) (acts : List Act) → live n acts ≡ Some o → IsMadeAndKept n o acts
 live_was_made n o acts alive = was_made n o acts (making n acts) refl alive
 
 -- the same making is found behind acts that don't make the number
@@ -76,8 +106,57 @@ making_is n o before [] once = grind (arith, nat_tests)
 making_is n o before (a ∷ later) once =
     rw (making_behind n a later (Make n o ∷ before) once, making_is n o before later (not_made_before n a later once)) refl
 
-pub made_is_live : MadeIsLive
+made_is_live : (n o : ℕ) (later before : List Act) → IsNotMade n later → IsNotEnded n later → live n (later ++ Make n o ∷ before) ≡ Some o
 made_is_live n o later before once each = rw (making_is n o before later once, not_ended_survives n later each) refl
+
+pub live_means : LiveMeans
+live_means n o acts = (
+  (λ is. live_was_made n o acts is),
+  (λ made. subst (λ (xs : List Act). live n xs ≡ Some o) (sym made.2) (made_is_live n o made.0 made.1 made.3 made.4)),
+)
+
+-- ---- left and popped
+
+not_left : (n : ℕ) (a : Act) (since : List Act) → ends n a ≡ false → survives n since ≡ true → IsEndedBy n a since
+    → (how_many is_enter (a ∷ since) < how_many is_leave (a ∷ since)) ⊎ (done_here is_push (a ∷ since) < done_here is_pop (a ∷ since))
+not_left n a since by_name s (inl is) = cc
+not_left n a since by_name s (inr either) = either
+
+less_deep : (n o : ℕ) (since before : List Act) → AllAllowed (Leave ∷ (since ++ Make n o ∷ before)) → survives n since ≡ true
+    → (how_many is_enter (Leave ∷ since) < how_many is_leave (Leave ∷ since)) ⊎ (done_here is_push (Leave ∷ since) < done_here is_pop (Leave ∷ since))
+    → depth (Leave ∷ (since ++ Make n o ∷ before)) < depth before
+less_deep n o since before h s (inl is) = omega (arith, depth_since n o before since h.0 s, h.1, is)
+less_deep n o since before h s (inr is) = absurd (omega (arith, survived_frame n since s, is))
+
+pub left_means : LeftMeans
+left_means n o since before h kept =
+    let s = not_ended_survives n since kept in
+    (
+      (λ is. less_deep n o since before h s (not_left n Leave since refl s is)),
+      (λ is.
+      let gone : how_many is_enter (Leave ∷ since) < how_many is_leave (Leave ∷ since) = omega (arith, depth_since n o before since h.0 s, h.1, is) in
+      inr (inl gone)),
+    )
+
+fewer_frames : (n o : ℕ) (since before : List Act) → AllAllowed (Pop ∷ (since ++ Make n o ∷ before)) → survives n since ≡ true
+    → (how_many is_enter (Pop ∷ since) < how_many is_leave (Pop ∷ since)) ⊎ (done_here is_push (Pop ∷ since) < done_here is_pop (Pop ∷ since))
+    → frames (depth before) (Pop ∷ (since ++ Make n o ∷ before)) < frames (depth before) before
+fewer_frames n o since before h s (inl is) = absurd (omega (arith, survived_here n since s, is))
+fewer_frames n o since before h s (inr is) =
+    grind (arith, nat_tests, frames_since n o before since h.0 s, depth_since n o before since h.0 s, survived_frame n since s, h.1, is)
+
+more_popped : (n o : ℕ) (since before : List Act) → AllAllowed (Pop ∷ (since ++ Make n o ∷ before)) → survives n since ≡ true
+    → frames (depth before) (Pop ∷ (since ++ Make n o ∷ before)) < frames (depth before) before → done_here is_push (Pop ∷ since) < done_here is_pop (Pop ∷ since)
+more_popped n o since before h s is =
+    grind (arith, nat_tests, frames_since n o before since h.0 s, depth_since n o before since h.0 s, survived_frame n since s, h.1, is)
+
+pub popped_means : PoppedMeans
+popped_means n o since before h kept =
+    let s = not_ended_survives n since kept in
+    (
+      (λ is. fewer_frames n o since before h s (not_left n Pop since refl s is)),
+      (λ is. inr (inr (more_popped n o since before h s is))),
+    )
 
 -- whatever making is found behind a deletion, it didn't survive
 IsDead : ℕ → Option Making → Type 0

@@ -10,7 +10,7 @@ use Rattle.jg_locals.specs.Rows.{LocalRow}
 use Rattle.jg_locals.specs.Rows.{FrameRow}
 use Rattle.jg_locals.specs.Rows.{Rows, Table, is_local, top, pushed, entered, frame_number, depth_number}
 use Rattle.jg_locals.specs.Standing.{AllAllowed, rows_of_local, Stands}
-use Rattle.jg_locals.proofs.Tops.{top_is}
+use Rattle.jg_locals.proofs.Tops.{top_told}
 
 -- a number above all of a thread's is new to it
 above_fresh : (u n : ℕ) (locals : List LocalRow) → AllByRecursion (λ row. row.tid ≡ u → row.n < n) locals → filter (is_local u n) locals ≡ []
@@ -55,8 +55,8 @@ frame_of_top : (t : ℕ) (acts : List Act) (b : Bool) → has_session acts ≡ b
 frame_of_top t acts true is h = refl
 frame_of_top t acts false is h = omega (arith, no_pushes (depth acts) acts h is)
 
-pub pushed_law : (rows : Rows) (e : List Event) (t : ℕ) → Stands rows e → pushed t rows ≡ frames (depth (acts_of t e)) (acts_of t e)
-pushed_law rows e t stands = rw (top_is rows e t stands) (frame_of_top t (acts_of t e) (has_session (acts_of t e)) refl (stands.allowed t))
+pub pushed_told : (rows : Rows) (e : List Event) (t : ℕ) → Stands rows e → pushed t rows ≡ frames (depth (acts_of t e)) (acts_of t e)
+pushed_told rows e t stands = rw (top_told rows e t stands) (frame_of_top t (acts_of t e) (has_session (acts_of t e)) refl (stands.allowed t))
 
 -- and no native method is entered
 no_enters : (acts : List Act) → AllAllowed acts → has_session acts ≡ false → how_many is_enter (session acts) ≡ 0
@@ -76,19 +76,19 @@ depth_of_top t acts true is h = refl
 depth_of_top t acts false is h = omega (arith, no_enters acts h is)
 
 pub depth_law : (rows : Rows) (e : List Event) (t : ℕ) → Stands rows e → entered t rows ≡ depth (acts_of t e)
-depth_law rows e t stands = rw (top_is rows e t stands) (depth_of_top t (acts_of t e) (has_session (acts_of t e)) refl (stands.allowed t))
+depth_law rows e t stands = rw (top_told rows e t stands) (depth_of_top t (acts_of t e) (has_session (acts_of t e)) refl (stands.allowed t))
 
 some_of_top : (row : FrameRow) (b : Bool) → is_some (if◌then◌else◌ {A = Option FrameRow} b (Some row) None) ≡ b
 some_of_top row true = refl
 some_of_top row false = refl
 
 pub has_session_law : (rows : Rows) (e : List Event) (t : ℕ) → Stands rows e → is_some (top t rows.frames) ≡ has_session (acts_of t e)
-has_session_law rows e t stands = rw (top_is rows e t stands) (some_of_top _ (has_session (acts_of t e)))
+has_session_law rows e t stands = rw (top_told rows e t stands) (some_of_top _ (has_session (acts_of t e)))
 
 pub can_pop_law : (rows : Rows) (e : List Event) (t : ℕ) (b : Bool) → Stands rows e → IsTrue b ↔ (0 < pushed t rows) → IsTrue b ↔ (0 < frames (depth (acts_of t e)) (acts_of t e))
 can_pop_law rows e t b stands test =
     let P : ℕ → Type 0 = λ k. IsTrue b ↔ (0 < k) in
-    subst P (pushed_law rows e t stands) test
+    subst P (pushed_told rows e t stands) test
 
 -- a value is seen as its view
 pub reopened : (a b : Table) (e : List Event) → a ≡ b → Stands b.rows e → Stands a.rows e

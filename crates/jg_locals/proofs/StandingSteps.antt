@@ -9,6 +9,7 @@ use Rattle.jg_locals.specs.Rows.{LocalRow}
 use Rattle.jg_locals.specs.Rows.{FrameRow}
 use Rattle.jg_locals.specs.Rows.{is_local}
 use Rattle.jg_locals.specs.Standing.{IsAllowed, AllAllowed, rows_of_local, open_frames}
+use Rattle.jg_lists.proofs.Acts.{acts_more, acts_same, each_thread}
 use Rattle.jg_locals.proofs.LocalSteps.{keeps, rows_step}
 
 pub filter_swap : {X : Type 0} (p q : X → Bool) (xs : List X) → filter p (filter q xs) ≡ filter q (filter p xs)
@@ -19,27 +20,12 @@ pub filter_all : {X : Type 0} (xs : List X) → filter (λ x. true) xs ≡ xs
 filter_all [] = refl
 filter_all (x ∷ xs) = ap (λ l. x ∷ l) (filter_all xs)
 
--- what the thread did, one event later
-pub acts_more : (t u : ℕ) (a : Act) (e : List Event) → t ≡ u → acts_of t (by u a ∷ e) ≡ a ∷ acts_of t e
-acts_more t u a e is = grind (arith, nat_tests)
-
-pub acts_same : (t u : ℕ) (a : Act) (e : List Event) → t ≢ u → acts_of t (by u a ∷ e) ≡ acts_of t e
-acts_same t u a e differ = grind (arith, nat_tests)
-
 -- the rows of one local, filtered
 one_kept : (t : ℕ) (p k : LocalRow → Bool) (found : Option Local) → ((row : LocalRow) → row.tid ≡ t → p row ≡ k row) → filter p (rows_of_local t found) ≡ filter k (rows_of_local t found)
 one_kept t p k None alike = refl
 one_kept t p k (Some l) alike =
     let row : LocalRow = record { tid = t; n = l.n; object = l.object; depth = l.depth; frame = l.frame } in
     rw (alike row refl) refl
-
-at_thread : (P : ℕ → Type 0) (u : ℕ) → P u → ((t : ℕ) → t ≢ u → P t) → (t : ℕ) (same : Bool) → eqb u t ≡ same → P t
-at_thread P u here others t true is = subst P (eqb-true u t is) here
-at_thread P u here others t false is = others t (grind (arith, nat_tests))
-
--- a claim on each thread, from one on the thread that acted and one on the others
-pub each_thread : (P : ℕ → Type 0) (u : ℕ) → P u → ((t : ℕ) → t ≢ u → P t) → (t : ℕ) → P t
-each_thread P u here others t = at_thread P u here others t (eqb u t) refl
 
 -- the locals that an act leaves: p keeps the other threads' and, of the thread's own, those that the act keeps
 pub locals_kept : (rows : List LocalRow) (u : ℕ) (a : Act) (e : List Event) (p : LocalRow → Bool)

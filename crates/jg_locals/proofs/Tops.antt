@@ -9,6 +9,7 @@ use Rattle.jg_locals.proofs.Chains.{last-push}
 use Rattle.jg_locals.specs.History.{Act, Event, acts_of, has_session, depth, frames}
 use Rattle.jg_locals.specs.Rows.{FrameRow}
 use Rattle.jg_locals.specs.Rows.{Rows, top}
+use Rattle.jg_locals.specs.Laws.{top_of_acts}
 use Rattle.jg_locals.specs.Standing.{rows_at, rows_up_to, open_frames, Stands}
 
 pub last-append : {X : Type 0} (xs ys : List X) (y : X) → last ys ≡ Some y → last (xs ++ ys) ≡ Some y
@@ -36,15 +37,12 @@ last-rows_up_to t zero acts = last-rows_at t 0 (frames 0 acts)
 last-rows_up_to t (suc d) acts = last-append (rows_up_to t d acts) (rows_at t (suc d) (frames (suc d) acts)) _ (last-rows_at t (suc d) (frames (suc d) acts))
 
 -- the newest frame is the newest at the present depth
-abbrev pub top_of_acts : ℕ → List Act → Option FrameRow
-top_of_acts t acts = if has_session acts then Some (record { tid = t; depth = depth acts; frame = frames (depth acts) acts }) else None
-
 last-open_frames : (t : ℕ) (acts : List Act) → last (open_frames t acts) ≡ top_of_acts t acts
 last-open_frames t acts = elim (has_session acts) as (λ b. last (if b then rows_up_to t (depth acts) acts else [])
     ≡ (if b then Some (record { tid = t; depth = depth acts; frame = frames (depth acts) acts }) else None)) [ true ↦ last-rows_up_to t (depth acts) acts | false ↦ refl ]
 
-pub top_is : (rows : Rows) (e : List Event) (t : ℕ) → Stands rows e → top t rows.frames ≡ top_of_acts t (acts_of t e)
-top_is rows e t stands = rw (find-reverse (λ row. row.tid == t) rows.frames, stands.frames t) (last-open_frames t (acts_of t e))
+pub top_told : (rows : Rows) (e : List Event) (t : ℕ) → Stands rows e → top t rows.frames ≡ top_of_acts t (acts_of t e)
+top_told rows e t stands = rw (find-reverse (λ row. row.tid == t) rows.frames, stands.frames t) (last-open_frames t (acts_of t e))
 
 tells : (t : ℕ) (acts : List Act) (r : FrameRow) (P : FrameRow → Type 0) (b : Bool) → has_session acts ≡ b
     → (if b then Some (record { tid = t; depth = depth acts; frame = frames (depth acts) acts }) else None) ≡ Some r
@@ -57,7 +55,7 @@ tells t acts r P false is same holds = cc
 -- what holds of the newest frame of the acts holds of the thread's newest row
 pub by_top : (rows : Rows) (e : List Event) (t : ℕ) (r : FrameRow) (P : FrameRow → Type 0) → Stands rows e → top t rows.frames ≡ Some r
     → (has_session (acts_of t e) ≡ true → P (record { tid = t; depth = depth (acts_of t e); frame = frames (depth (acts_of t e)) (acts_of t e) })) → P r
-by_top rows e t r P stands is holds = tells t (acts_of t e) r P (has_session (acts_of t e)) refl (sym (top_is rows e t stands) ∙ is) holds
+by_top rows e t r P stands is holds = tells t (acts_of t e) r P (has_session (acts_of t e)) refl (sym (top_told rows e t stands) ∙ is) holds
 
 no_session : (t : ℕ) (acts : List Act) (b : Bool) → has_session acts ≡ b
     → if◌then◌else◌ {A = Option FrameRow} b (Some (record { tid = t; depth = depth acts; frame = frames (depth acts) acts })) None ≡ None → has_session acts ≡ false
@@ -65,4 +63,4 @@ no_session t acts true is none = cc
 no_session t acts false is none = is
 
 pub by_no_top : (rows : Rows) (e : List Event) (t : ℕ) → Stands rows e → top t rows.frames ≡ None → has_session (acts_of t e) ≡ false
-by_no_top rows e t stands is = no_session t (acts_of t e) (has_session (acts_of t e)) refl (sym (top_is rows e t stands) ∙ is)
+by_no_top rows e t stands is = no_session t (acts_of t e) (has_session (acts_of t e)) refl (sym (top_told rows e t stands) ∙ is)

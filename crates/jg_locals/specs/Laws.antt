@@ -1,6 +1,10 @@
--- What live and held mean, in the words of the list.
-use Rattle.std.specs.Prelude.{◌≡◌, ◌≢◌, ◌⊎◌, ◌↔◌, ◌<◌, ℕ, true, List, [], ◌∷◌, ◌++◌, Some, None, IsTrue}
-use Rattle.jg_locals.specs.History.{Act, Make, Delete, Event, acts_of, is_enter, is_leave, is_push, is_pop, how_many, done_here, ends, live, holds_object}
+-- What the definitions mean, in the words of the list, and what rows that stand tell of it.
+use Rattle.std.specs.Prelude.{◌≡◌, ◌≢◌, ◌⊎◌, ◌↔◌, ◌<◌, ◌+◌, ◌==◌, ◌&&◌, if◌then◌else◌, ℕ, Bool, true, false, List, [], ◌∷◌, ◌++◌, Option, Some, None, IsTrue, All}
+use Rattle.std.specs.List.{list_any}
+use Rattle.jg_lists.specs.Acts.{Moment, moments}
+use Rattle.jg_locals.specs.History.{Act, Make, Delete, Pop, Leave, Event, acts_of, is_enter, is_leave, is_push, is_pop, how_many, has_session, depth, begins, frames, done_here, ends, live, holds_object, IsMadeBelow}
+use Rattle.jg_locals.specs.Rows.{FrameRow, Rows, top, HasFrame, pushed}
+use Rattle.jg_locals.specs.Standing.{AllAllowed, Stands}
 
 -- the act ends local n, where `since` was done between the making of n and the act: it deletes n or ends the session;
 -- or with it more activations were left than entered; or, in the activation of the making, more frames popped than
@@ -21,15 +25,42 @@ IsNotMade n [] = Unit {0}
 IsNotMade n (Make k o ∷ acts) = (k ≢ n) × IsNotMade n acts
 IsNotMade n (a ∷ acts) = IsNotMade n acts
 
--- a live local was made, and nothing since has ended it
-abbrev pub LiveWasMade : Type 0
-LiveWasMade = (n o : ℕ) (acts : List Act) → live n acts ≡ Some o → (later before : List Act)
-    × (acts ≡ later ++ Make n o ∷ before) × IsNotEnded n later
+-- the local was made for the object, not made again later, and no later act ended it
+abbrev pub IsMadeAndKept : ℕ → ℕ → List Act → Type 0
+IsMadeAndKept n o acts = (later : List Act) × (before : List Act) × (acts ≡ later ++ Make n o ∷ before)
+    × IsNotMade n later × IsNotEnded n later
 
--- what was made, and not again, and not ended since, is live
-abbrev pub MadeIsLive : Type 0
-MadeIsLive = (n o : ℕ) (later before : List Act) → IsNotMade n later → IsNotEnded n later
-    → live n (later ++ Make n o ∷ before) ≡ Some o
+-- a local is live exactly where it was made, and nothing since has made it again or ended it
+abbrev pub LiveMeans : Type 0
+LiveMeans = (n o : ℕ) (acts : List Act) → (live n acts ≡ Some o) ↔ IsMadeAndKept n o acts
+
+-- left: a leave ends a local that nothing ended before exactly where the thread is then less deep than at the making
+-- (JNI Specification, chapter 2, "Global and Local References": freed when the native method returns)
+abbrev pub LeftMeans : Type 0
+LeftMeans = (n o : ℕ) (since before : List Act) → AllAllowed (Leave ∷ (since ++ Make n o ∷ before)) → IsNotEnded n since
+    → IsEndedBy n Leave since ↔ (depth (Leave ∷ (since ++ Make n o ∷ before)) < depth before)
+
+-- popped: a pop ends a local that nothing ended before exactly where, at the depth of the making, fewer frames are then
+-- open than at the making (JNI Specification, chapter 4, PopLocalFrame)
+abbrev pub PoppedMeans : Type 0
+PoppedMeans = (n o : ℕ) (since before : List Act) → AllAllowed (Pop ∷ (since ++ Make n o ∷ before)) → IsNotEnded n since
+    → IsEndedBy n Pop since ↔ (frames (depth before) (Pop ∷ (since ++ Make n o ∷ before)) < frames (depth before) before)
+
+-- the moment is of that kind and at that depth
+abbrev pub is_at_depth : (Act → Bool) → ℕ → Moment Act → Bool
+is_at_depth kind d m = kind m.act && (depth m.before == d)
+
+-- the moment begins an activation of that depth, or begins or ends the session
+abbrev pub begins_at : ℕ → Moment Act → Bool
+begins_at d m = begins d m.act m.before
+
+-- open frames: since the latest activation of the depth began, those and the pops at the depth are the pushes at it
+-- (JNI Specification, chapter 4, PushLocalFrame and PopLocalFrame)
+abbrev pub OpenFramesMean : Type 0
+OpenFramesMean = (d : ℕ) (later before : List Act) (a : Act) → AllAllowed (later ++ a ∷ before)
+    → begins d a before ≡ true → list_any (begins_at d) (moments later (a ∷ before)) ≡ false
+    → frames d (later ++ a ∷ before) + how_many (is_at_depth is_pop d) (moments later (a ∷ before))
+    ≡ how_many (is_at_depth is_push d) (moments later (a ∷ before))
 
 -- what was deleted, and not made again, is not live
 abbrev pub DeletedStaysDead : Type 0
@@ -38,3 +69,31 @@ DeletedStaysDead = (n : ℕ) (later before : List Act) → IsNotMade n later →
 -- held by some thread's live local
 abbrev pub HeldMeans : Type 0
 HeldMeans = (e : List Event) (o : ℕ) → IsTrue (holds_object e o) ↔ ((t : ℕ) × (n : ℕ) × (live n (acts_of t e) ≡ Some o))
+
+-- ---- what rows that stand tell
+
+-- a thread with a session has a frame
+abbrev pub SessionHasFrame : Type 0
+SessionHasFrame = (rows : Rows) (e : List Event) (t : ℕ) → Stands rows e → has_session (acts_of t e) ≡ true → HasFrame t rows
+
+-- the newest frame, where the thread has a session: its depth, and the frames pushed there
+abbrev pub top_of_acts : ℕ → List Act → Option FrameRow
+top_of_acts t acts =
+    if has_session acts then Some (record { tid = t; depth = depth acts; frame = frames (depth acts) acts }) else None
+
+abbrev pub TopMeans : Type 0
+TopMeans = (rows : Rows) (e : List Event) (t : ℕ) → Stands rows e → top t rows.frames ≡ top_of_acts t (acts_of t e)
+
+-- the frames pushed in the newest activation
+abbrev pub PushedMeans : Type 0
+PushedMeans = (rows : Rows) (e : List Event) (t : ℕ) → Stands rows e
+    → pushed t rows ≡ frames (depth (acts_of t e)) (acts_of t e)
+
+-- a number above all that the acts gave the thread's locals is above all of its rows, as a making asks
+abbrev pub NewNumberIsAbove : Type 0
+NewNumberIsAbove = (rows : Rows) (e : List Event) (t n : ℕ) → Stands rows e → IsMadeBelow n (acts_of t e)
+    → All (λ row. row.tid ≡ t → row.n < n) rows.locals
+
+-- and above each live local
+abbrev pub LiveIsBelow : Type 0
+LiveIsBelow = (n k o : ℕ) (acts : List Act) → IsMadeBelow n acts → live k acts ≡ Some o → k < n

@@ -10,7 +10,10 @@ mod stack;
 mod stacks;
 
 pub use locals::Locals;
-pub use meanings::{deleted_is_never_live, held_means, live_was_made, made_and_not_ended_is_live};
+pub use meanings::{
+    deleted_is_never_live, held_means, left_means, live_means, new_number_is_above,
+    open_frames_mean, popped_means, pushed_means, session_has_frame, top_means,
+};
 
 #[cfg(test)]
 mod tests;

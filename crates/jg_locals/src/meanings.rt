@@ -1,15 +1,28 @@
-//! What the definitions on locals mean, each as the contract of a function that does nothing.
+//! What the definitions on locals mean, and what rows that stand tell, each as the contract of a
+//! function that does nothing.
 
-ghost use Rattle.jg_locals.specs.Laws.{LiveWasMade, MadeIsLive, DeletedStaysDead, HeldMeans};
+ghost use Rattle.jg_locals.specs.Laws.{LiveMeans, LeftMeans, PoppedMeans, OpenFramesMean, DeletedStaysDead, HeldMeans, SessionHasFrame, TopMeans, PushedMeans, NewNumberIsAbove, LiveIsBelow};
 
-/// A live local was made, and nothing since has ended it.
-pub fn live_was_made()
-    ensures { LiveWasMade }
+/// A local is live exactly where it was made, and nothing since has made it again or ended it.
+pub fn live_means()
+    ensures { LiveMeans }
 {}
 
-/// What was made and not ended since is live.
-pub fn made_and_not_ended_is_live()
-    ensures { MadeIsLive }
+/// The return of a native method ends the locals that were made at a depth above the one returned
+/// to.
+pub fn left_means()
+    ensures { LeftMeans }
+{}
+
+/// The pop of a frame ends the locals that were made in it.
+pub fn popped_means()
+    ensures { PoppedMeans }
+{}
+
+/// The frames open at a depth are those pushed there less those popped there, since the latest
+/// activation of that depth began.
+pub fn open_frames_mean()
+    ensures { OpenFramesMean }
 {}
 
 /// A local that was deleted is not live again, unless its number is made again.
@@ -20,4 +33,26 @@ pub fn deleted_is_never_live()
 /// An object is held by locals where some thread has a live local of it.
 pub fn held_means()
     ensures { HeldMeans }
+{}
+
+/// Who knows the acts knows that a thread with a session has a frame, as a making asks.
+pub fn session_has_frame()
+    ensures { SessionHasFrame }
+{}
+
+/// Who knows the acts knows the thread's newest frame.
+pub fn top_means()
+    ensures { TopMeans }
+{}
+
+/// Who knows the acts knows how many frames are pushed at the thread's depth.
+pub fn pushed_means()
+    ensures { PushedMeans }
+{}
+
+/// Who counts the numbers that a thread's locals were given has what the making of a local asks,
+/// and is above each live local.
+pub fn new_number_is_above()
+    ensures rows { NewNumberIsAbove }
+    ensures live { LiveIsBelow }
 {}

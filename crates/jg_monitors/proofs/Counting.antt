@@ -3,7 +3,7 @@ use Rattle.std.proofs.Common.{◌≡◌, ◌≢◌, ℕ, ◌+◌, ◌-◌, ◌<�
 use Rattle.std.specs.Prelude.{◌==◌, ◌⊎◌, nat_lt, if◌then◌else◌, map}
 use Rattle.std.specs.List.{find}
 use Rattle.std.proofs.lemmas.Bool.Decides.{nat_tests}
-use Rattle.jg_monitors.specs.History.{Act, Enter, Exit, ReleaseAll, Event, by, acts_of, since, enters, exits, how_many, count, owner}
+use Rattle.jg_monitors.specs.History.{Act, Enter, Exit, ReleaseAll, Event, by, acts_of, since, enters, exits, how_many, count, owner, is_some, held}
 use Rattle.jg_monitors.specs.Standing.{IsAllowed, AllAllowed}
 use Rattle.jg_monitors.proofs.Lists.{Member}
 
@@ -169,6 +169,24 @@ pub owner_has : (e : List Event) (t o : ℕ) → owner e o ≡ Some t → 0 < co
 owner_has e t o is =
     let passes = find_passes (λ u. nat_lt 0 (count e u o)) t (map (λ ev. ev.tid) e) is in
     grind (arith, nat_tests, passes)
+
+held_is : (found : Option ℕ) (t : ℕ) → found ≡ Some t → is_some found ≡ true
+held_is None t is = cc
+held_is (Some u) t is = refl
+
+-- who counts some owns it, or another does
+pub held_by : (e : List Event) (t o : ℕ) → 0 < count e t o → held e o ≡ true
+held_by e t o some =
+    let passes : nat_lt 0 (count e t o) ≡ true = grind (arith, nat_tests) in
+    let found = find_some (λ u. nat_lt 0 (count e u o)) t (map (λ ev. ev.tid) e) passes (acted e t o some) in
+    held_is (owner e o) found.0 found.1.0
+
+holder_is : (e : List Event) (o : ℕ) (found : Option ℕ) → owner e o ≡ found → is_some found ≡ true → (t : ℕ) × (0 < count e t o)
+holder_is e o None is held = cc
+holder_is e o (Some t) is held = (t, owner_has e t o is)
+
+pub holder : (e : List Event) (o : ℕ) → held e o ≡ true → (t : ℕ) × (0 < count e t o)
+holder e o is = holder_is e o (owner e o) refl is
 
 pub owner_is : (e : List Event) (t o : ℕ) → AllAllowed e → 0 < count e t o → owner e o ≡ Some t
 owner_is e t o all some =

@@ -1,6 +1,6 @@
-pub mod Counting
-pub mod Lists
-pub mod Lookups
-pub mod Splits
-pub mod Steps
+mod Counting
+mod Lists
+mod Lookups
 mod Pairs
+mod Splits
+mod Steps

@@ -1,7 +1,7 @@
 -- What the definitions mean for every list that some table stands for.
-use Rattle.std.specs.Prelude.{◌≡◌, ℕ, ◌+◌, ◌<◌, ◌≤◌, length, Bool, true, false, ◌↔◌, List, [], ◌∷◌, ◌++◌, Some}
+use Rattle.std.specs.Prelude.{◌≡◌, ℕ, ◌+◌, ◌<◌, ◌≤◌, length, Bool, true, false, ◌↔◌, List, [], ◌∷◌, ◌++◌, Some, IsTrue}
 use Rattle.std.specs.List.{list_any}
-use Rattle.jg_monitors.specs.History.{Act, ReleaseAll, Event, acts_of, since, enters, exits, how_many, count, owner, owner_count}
+use Rattle.jg_monitors.specs.History.{Act, ReleaseAll, Event, acts_of, since, enters, exits, how_many, count, owner, owner_count, held}
 use Rattle.jg_monitors.specs.Rows.{Rows, row_of, owner_in, count_in}
 use Rattle.jg_monitors.specs.Standing.{Stands}
 
@@ -12,6 +12,10 @@ OneOwner = (rows : Rows) (e : List Event) (t u o : ℕ) → Stands rows e → 0 
 -- the owner is the thread whose count is above 0
 abbrev pub OwnerMeans : Type 0
 OwnerMeans = (rows : Rows) (e : List Event) (t o : ℕ) → Stands rows e → (owner e o ≡ Some t) ↔ (0 < count e t o)
+
+-- a monitor is held where some thread's count of it is above 0
+abbrev pub HeldMeans : Type 0
+HeldMeans = (e : List Event) (o : ℕ) → IsTrue (held e o) ↔ ((t : ℕ) × (0 < count e t o))
 
 -- a count and the exits since the thread last released all are the entries since then
 abbrev pub CountMeans : Type 0

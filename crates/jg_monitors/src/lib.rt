@@ -10,7 +10,9 @@ mod monitors;
 mod owned;
 
 pub use entering::Entering;
-pub use meanings::{count_is_bounded, count_means, one_owner, owner_means, rows_tell, since_means};
+pub use meanings::{
+    count_is_bounded, count_means, held_means, one_owner, owner_means, rows_tell, since_means,
+};
 pub use monitors::Monitors;
 
 #[cfg(test)]

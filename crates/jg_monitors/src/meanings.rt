@@ -1,4 +1,6 @@
-ghost use Rattle.jg_monitors.specs.Laws.{OneOwner, OwnerMeans, CountMeans, SinceMeans, RowsTell, CountIsBounded};
+//! What the definitions on monitors mean, each as the contract of a function that does nothing.
+
+ghost use Rattle.jg_monitors.specs.Laws.{OneOwner, OwnerMeans, HeldMeans, CountMeans, SinceMeans, RowsTell, CountIsBounded};
 
 /// In every history of a table an object has at most one owner.
 pub fn one_owner()
@@ -8,6 +10,11 @@ pub fn one_owner()
 /// In every history of a table the owner is the thread whose count is above 0.
 pub fn owner_means()
     ensures { OwnerMeans }
+{}
+
+/// A monitor is held exactly where some thread entered it more often than it exited it.
+pub fn held_means()
+    ensures { HeldMeans }
 {}
 
 /// In every history of a table a count is the entries minus the exits since the thread last

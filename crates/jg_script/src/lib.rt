@@ -2,6 +2,7 @@
 #![tactic(auto)]
 
 mod answer;
+mod handing;
 mod line;
 mod piece;
 mod replay;
@@ -9,6 +10,7 @@ mod run;
 mod run_fault;
 mod watched;
 
+pub use handing::HandsOn;
 pub use jg_text::{ScriptFault, read_call, write_entry};
 pub use replay::{Verdict, verify};
 pub use run::check;

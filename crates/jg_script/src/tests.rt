@@ -4,7 +4,7 @@ use jg_policy::Setup;
 use linked_list_allocator::LocalHeap;
 use std::alloc::Global;
 use std::io;
-use std::io::{BufRead, BufReader, ErrorKind, Read, Write};
+use std::io::{BufRead, BufReader, BufWriter, ErrorKind, Read, Write};
 use std::test::Fail;
 
 /// A writer that takes one byte at a time, and has room for so many.
@@ -136,6 +136,97 @@ fn scripts_are_answered(rt: HostRuntime) -> Result<(), Fail> {
         assert!(rt; done.written.as_slice() == text.as_bytes(), "at `{script}`");
         assert!(rt; !done.reader_failed && !done.writer_failed, "at `{script}`");
     }
+    Ok(())
+}
+
+/// A reader that hands out one byte at a time.
+#[derive(Drop)]
+struct Slow<'a> {
+    bytes: &'a [u8],
+}
+
+impl Read for Slow<'_> {
+    fn read(&mut self, buf: &mut [u8]) -> io::Result<usize> {
+        match (self.bytes, buf) {
+            ([byte, rest @ ..], [place, ..]) => {
+                *place = *byte;
+                self.bytes = rest;
+                Ok(1)
+            }
+            _ => Ok(0),
+        }
+    }
+}
+
+// With no buffer nothing is shown before it is read.
+#[test]
+fn a_slow_reader_does_not_fail(rt: HostRuntime) -> Result<(), Fail> {
+    for capacity in [0, 1, 7] {
+        let bytes = FIRST_PATH.as_bytes();
+        let reader = BufReader::with_capacity(rt.alloc(), capacity, Slow { bytes })?;
+        let done = run(rt.alloc(), reader, 10, 1000)?;
+        assert_eq!(rt; done.result, Ok(6), "at {capacity}");
+        assert!(rt; done.written.as_slice() == FIRST_PATH_ANSWERED.as_bytes(), "at {capacity}");
+        assert!(rt; !done.reader_failed && !done.writer_failed, "at {capacity}");
+        let bytes = FIRST_PATH_ANSWERED.as_bytes();
+        let reader = BufReader::with_capacity(rt.alloc(), capacity, Slow { bytes })?;
+        let answer = read_back(rt.alloc(), reader, 10);
+        assert_eq!(rt; answer, (Ok(Verdict::Legal), false), "at {capacity}");
+    }
+    Ok(())
+}
+
+/// A script that makes a string of so many units and asks for its length.
+fn script_with_list(alloc: Global, count: usize) -> Result<String, Fail> {
+    let mut script = String::from_str(alloc, "T1 - AttachCurrentThread\nT1 E1.1 NewString [65")?;
+    for _ in 1..count {
+        script.push_str(",65")?;
+    }
+    script.push_str("]\nT1 E1.1 GetStringLength L1.1\n")?;
+    Ok(script)
+}
+
+#[test]
+fn lists_have_at_most_a_thousand_items(rt: HostRuntime) -> Result<(), Fail> {
+    let script = script_with_list(rt.alloc(), 1000)?;
+    let done = run(rt.alloc(), script.as_bytes(), 10, 10_000)?;
+    assert_eq!(rt; done.result, Ok(3));
+    assert!(rt; done.written.ends_with(b"GetStringLength L1.1 = 1000\n".as_slice()));
+    let script = script_with_list(rt.alloc(), 1001)?;
+    let done = run(rt.alloc(), script.as_bytes(), 10, 10_000)?;
+    let faulty = Err(RunFault::Script {
+        line: 2,
+        fault: ScriptFault::BadOperand,
+    });
+    assert_eq!(rt; done.result, faulty);
+    Ok(())
+}
+
+#[test]
+fn a_flush_reaches_the_device_or_fails(rt: HostRuntime) -> Result<(), Fail> {
+    let mut bytes = Vec::new(rt.alloc());
+    let mut writer = Watched::new(BufWriter::new(rt.alloc(), &mut bytes)?);
+    let script = FIRST_PATH.as_bytes();
+    let mut guard = Guard::new(rt.alloc(), rt.alloc(), Setup::closed(rt.alloc()), 10)?;
+    assert_eq!(rt; guard.journal_len(), 0);
+    assert_eq!(rt;
+        check(rt.alloc(), &mut guard, &mut Watched::new(script), &mut writer),
+        Ok(6)
+    );
+    assert!(rt; writer.flush().is_ok() && !writer.has_failed());
+    assert!(rt; writer.into_inner().into_parts().1.is_empty());
+    let full = Trickle {
+        bytes: Vec::new(rt.alloc()),
+        room: 0,
+    };
+    let mut writer = Watched::new(BufWriter::new(rt.alloc(), full)?);
+    let mut guard = Guard::new(rt.alloc(), rt.alloc(), Setup::closed(rt.alloc()), 10)?;
+    assert_eq!(rt; guard.journal_len(), 0);
+    assert_eq!(rt;
+        check(rt.alloc(), &mut guard, &mut Watched::new(script), &mut writer),
+        Ok(6)
+    );
+    assert!(rt; writer.flush().is_err() && writer.has_failed());
     Ok(())
 }
 

@@ -4,6 +4,7 @@ ghost use Rattle.std.specs.Prelude.{◌≡◌, ℕ, true, false, length, take, �
 ghost use Rattle.std.specs.Io.KnownBytes.{Keeps, Consumes, Appends, IsAtEnd};
 ghost use Rattle.jg_script.specs.Devices.{TakesPiece, FailsLine};
 
+use crate::handing::HandsOn;
 use crate::piece::{LineFault, Piece, take_piece};
 use std::io::{BufRead, Read, Write};
 use std::marker::Model;
@@ -122,14 +123,18 @@ impl<W: Write> Watched<W> {
             Ok(n) => Ok(n),
         }
     }
+}
 
-    /// Hands on what the device itself still buffers.
+impl<W: HandsOn> Watched<W> {
+    /// Hands on what the device itself holds back: afterwards it holds nothing, or the writer is
+    /// marked as failed.
     pub fn flush(&mut self) -> Result<(), DeviceFailed>
+        ensures reached { OnOk result (W.holds_nothing self.new.device) }
         ensures kept { Keeps (W.contents self.old.device) (W.contents self.new.device) }
         ensures sound { OnOk result (self.new.failed ≡ self.old.failed) }
         ensures failed { OnErr result (self.new.failed ≡ true) }
     {
-        match self.device.flush() {
+        match self.device.hand_on() {
             Ok(()) => Ok(()),
             Err(_) => {
                 self.failed = true;

@@ -1,3 +1,4 @@
+pub mod Callers
 mod Means
 mod Pending
 mod Steps

@@ -1,8 +1,12 @@
 -- What attached and pending mean, and which numbers never fall.
-use Rattle.std.proofs.Common.{◌≡◌, ◌≤◌, ℕ, Bool, true, false, List, [], ◌∷◌, ◌++◌, Some, refl, ap, subst, sym, arith, if◌then◌else◌, ◌+◌}
+use Rattle.std.proofs.Common.{◌≡◌, ◌≤◌, ℕ, Bool, true, false, List, [], ◌∷◌, ◌++◌, Option, Some, None, refl, ◌∙◌, ap, subst, sym, arith, if◌then◌else◌, ◌+◌}
 use Rattle.std.proofs.lemmas.Bool.Decides.{nat_tests}
-use Rattle.jg_threads.specs.History.{Act, Attach, Detach, Enter, Leave, Raise, Calm, CountRef, CountBuffer, how_many, attached, pending}
-use Rattle.jg_threads.specs.Laws.{HasNoDetach, KeepsPending, AttachedMeans, PendingMeans, SessionsNeverFall, HandedOutNeverFall}
+use Rattle.std.specs.Prelude.{◌==◌, not}
+use Rattle.std.proofs.lemmas.List.{append-nil}
+use Rattle.jg_lists.specs.Acts.{moments}
+use Rattle.jg_threads.specs.History.{Act, Attach, Detach, Enter, Leave, Raise, Calm, CountRef, CountBuffer, how_many, acts_of, attached, sessions, pending, is_object}
+use Rattle.jg_threads.specs.Laws.{HasNoDetach, KeepsPending, begins_session, AttachedMeans, PendingMeans, IsPendingMeans, SessionMeans, SessionsNeverFall, HandedOutNeverFall}
+use Rattle.jg_threads.proofs.Pending.{some_event, object_is, is_pending_by}
 
 -- the act that decides, what was done later, which keeps it, and what was done before
 record Found (act : Act) (Keeps : List Act → Type 0) (acts : List Act) : Type 0 where
@@ -71,6 +75,50 @@ pub pending_means : PendingMeans
 pending_means acts o = (
   (λ is. let found = raising acts o is in (found.later, found.before, found.splits, found.kept)),
   (λ some. let P : List Act → Type 0 = λ xs. pending xs ≡ Some o in subst P (sym some.2) (still_pending some.0 some.1 o some.3)),
+)
+
+more_by : (b : Bool) (n m : ℕ) → n ≡ m → (if b then n else n + 1) ≡ (if not b then m + 1 else m)
+more_by true n m is = is
+more_by false n m is = ap (λ k. k + 1) is
+
+-- the sessions are the attachments that found the thread unattached
+sessions_counted : (acts : List Act) → sessions acts ≡ how_many begins_session (moments acts [])
+sessions_counted [] = refl
+sessions_counted (Attach ∷ acts) =
+    rw (append-nil acts) (more_by (attached acts) (sessions acts) (how_many begins_session (moments acts [])) (sessions_counted acts))
+sessions_counted (Detach ∷ acts) = sessions_counted acts
+sessions_counted (Enter ∷ acts) = sessions_counted acts
+sessions_counted (Leave ∷ acts) = sessions_counted acts
+sessions_counted (Raise o ∷ acts) = sessions_counted acts
+sessions_counted (Calm ∷ acts) = sessions_counted acts
+sessions_counted (CountRef ∷ acts) = sessions_counted acts
+sessions_counted (CountBuffer ∷ acts) = sessions_counted acts
+
+numbered : (b : Bool) (n m : ℕ) → if◌then◌else◌ {A = Option ℕ} b (Some n) None ≡ Some m → (b ≡ true) × (n ≡ m)
+numbered true n m is = (refl, cc)
+numbered false n m is = cc
+
+number_of : (b : Bool) (n m : ℕ) → b ≡ true → n ≡ m → if◌then◌else◌ {A = Option ℕ} b (Some n) None ≡ Some m
+number_of true n m on is = ap Some is
+number_of false n m on is = cc
+
+pub session_means : SessionMeans
+session_means acts n = (
+  (λ is.
+  let both = numbered (attached acts) (sessions acts) n is in
+  (both.0, sym (sessions_counted acts) ∙ both.1)),
+  (λ both. number_of (attached acts) (sessions acts) n both.0 (sessions_counted acts ∙ both.1)),
+)
+
+itself : (o : ℕ) → (o == o) ≡ true
+itself o = grind (arith, nat_tests)
+
+pub is_pending_means : IsPendingMeans
+is_pending_means e o = (
+  (λ is.
+  let found = some_event (λ ev. is_object o (pending (acts_of ev.tid e))) e is in
+  (found.0.tid, object_is o (pending (acts_of found.0.tid e)) found.1)),
+  (λ some. is_pending_by e o some.0 (ap (is_object o) some.1 ∙ itself o)),
 )
 
 one_more : (b : Bool) (n m : ℕ) → n ≤ m → n ≤ (if b then m else m + 1)

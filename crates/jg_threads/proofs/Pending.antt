@@ -20,7 +20,7 @@ some_at : (q : Event → Bool) (ev : Event) (e : List Event) (b : Bool) → q ev
 some_at q ev e true here is later = (ev, here)
 some_at q ev e false here is later = later (rw here at is)
 
-some_event : (q : Event → Bool) (e : List Event) → list_any q e ≡ true → (v : Event) × (q v ≡ true)
+pub some_event : (q : Event → Bool) (e : List Event) → list_any q e ≡ true → (v : Event) × (q v ≡ true)
 some_event q [] is = cc
 some_event q (ev ∷ e) is = some_at q ev e (q ev) refl is (λ h. some_event q e h)
 
@@ -38,11 +38,11 @@ event_of : (q : Event → Bool) (t o : ℕ) (e : List Event) → pending (acts_o
 event_of q t o [] is each = cc
 event_of q t o (ev ∷ e) is each = event_at q t ev e (Some o) (ev.tid == t) refl is each (λ h. event_of q t o e h each)
 
-object_is : (o : ℕ) (found : Option ℕ) → is_object o found ≡ true → found ≡ Some o
+pub object_is : (o : ℕ) (found : Option ℕ) → is_object o found ≡ true → found ≡ Some o
 object_is o None is = cc
 object_is o (Some p) is = ap Some (eqb-true p o is)
 
-is_pending_by : (e : List Event) (o t : ℕ) → is_object o (pending (acts_of t e)) ≡ true → is_pending e o ≡ true
+pub is_pending_by : (e : List Event) (o t : ℕ) → is_object o (pending (acts_of t e)) ≡ true → is_pending e o ≡ true
 is_pending_by e o t is =
     let P : ℕ → Type 0 = λ u. is_object o (pending (acts_of u e)) ≡ true in
     event_of (λ ev. is_object o (pending (acts_of ev.tid e))) t o e (object_is o (pending (acts_of t e)) is) (λ v mine. subst P (sym mine) is)

@@ -15,16 +15,16 @@ use Rattle.jg_threads.specs.Standing.{IsAllowed, AllAllowed, row_by, rows_wanted
 -- ---- what threads may do
 
 -- no native method is left that was not entered
-pub leaves_at_most_enters : (acts : List Act) → AllAllowed acts → how_many is_leave (since acts) ≤ how_many is_enter (since acts)
-leaves_at_most_enters [] h = omega arith
-leaves_at_most_enters (Attach ∷ acts) h = leaves_at_most_enters acts h.0
-leaves_at_most_enters (Detach ∷ acts) h = omega arith
-leaves_at_most_enters (Enter ∷ acts) h = omega (arith, leaves_at_most_enters acts h.0)
-leaves_at_most_enters (Leave ∷ acts) h = omega (arith, leaves_at_most_enters acts h.0, h.1)
-leaves_at_most_enters (Raise o ∷ acts) h = leaves_at_most_enters acts h.0
-leaves_at_most_enters (Calm ∷ acts) h = leaves_at_most_enters acts h.0
-leaves_at_most_enters (CountRef ∷ acts) h = leaves_at_most_enters acts h.0
-leaves_at_most_enters (CountBuffer ∷ acts) h = leaves_at_most_enters acts h.0
+pub leaves_at_most : (acts : List Act) → AllAllowed acts → how_many is_leave (since acts) ≤ how_many is_enter (since acts)
+leaves_at_most [] h = omega arith
+leaves_at_most (Attach ∷ acts) h = leaves_at_most acts h.0
+leaves_at_most (Detach ∷ acts) h = omega arith
+leaves_at_most (Enter ∷ acts) h = omega (arith, leaves_at_most acts h.0)
+leaves_at_most (Leave ∷ acts) h = omega (arith, leaves_at_most acts h.0, h.1)
+leaves_at_most (Raise o ∷ acts) h = leaves_at_most acts h.0
+leaves_at_most (Calm ∷ acts) h = leaves_at_most acts h.0
+leaves_at_most (CountRef ∷ acts) h = leaves_at_most acts h.0
+leaves_at_most (CountBuffer ∷ acts) h = leaves_at_most acts h.0
 
 row_same : (s r b : ℕ) → s ≡ 0 → r ≡ 0 → b ≡ 0 → no_row ≡ record no_row { sessions = s; refs = r; buffers = b }
 row_same s r b s_is r_is b_is = rw (s_is, r_is, b_is) refl
@@ -183,7 +183,7 @@ count_buffer_law old new rows e u r seen was_sorted sorted stands is on =
     (ap (λ (r : Row). record r { buffers = r.buffers + 1 }) (is ∙ stands.threads u))
 
 deeper : (acts : List Act) → AllAllowed acts → depth acts + 1 ≡ depth (Enter ∷ acts)
-deeper acts h = omega (arith, leaves_at_most_enters acts h)
+deeper acts h = omega (arith, leaves_at_most acts h)
 
 pub enter_law : (old new rows : List (ℕ × Row)) (e : List Event) (u : ℕ) (r : Row) → old ≡ rows → IsStrictlySortedBy nat_cmp (keys_of old) → IsStrictlySortedBy nat_cmp (keys_of new)
     → Stands rows e → r ≡ row_of rows u → IsTrue (row_of rows u).attached → Written old new u (record r { depth = r.depth + 1 }) → Stands new (by u Enter ∷ e)

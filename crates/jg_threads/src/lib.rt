@@ -9,7 +9,8 @@ mod rows;
 mod threads;
 
 pub use meanings::{
-    attached_means, handed_out_numbers_never_fall, pending_means, sessions_never_fall,
+    attached_means, handed_out_numbers_never_fall, is_pending_means, leaves_at_most_enters,
+    no_row_means, pending_means, session_means, sessions_never_fall,
 };
 pub use row::Row;
 pub use threads::Threads;

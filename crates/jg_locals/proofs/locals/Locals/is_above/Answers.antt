@@ -1,4 +1,4 @@
-use Rattle.jg_locals.proofs.Callers.{above_live}
+use Rattle.jg_locals.proofs.Above.{above_live}
 use Rattle.jg_locals.proofs.Threads.{above_seen}
 use Rattle.jg_locals.proofs.locals.Locals.is_above.Goals as goal
 
