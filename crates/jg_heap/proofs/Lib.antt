@@ -12,3 +12,4 @@ mod Shapes
 mod Next
 mod Whole
 mod Decoding
+pub mod Callers

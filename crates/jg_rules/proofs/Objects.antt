@@ -1,18 +1,23 @@
 -- What the definitions say of an object, wherever the tables stand.
-use Rattle.std.proofs.Common.{◌≡◌, ℕ, ◌<◌, ◌≤◌, ◌∙◌, Bool, true, false, List, [], ◌∷◌, map, length, refl, ap, sym, subst, arith}
+use Rattle.std.proofs.Common.{◌≡◌, ℕ, ℤ, ◌<◌, ◌≤◌, ◌∙◌, Bool, true, false, List, [], ◌∷◌, map, length, refl, ap, sym, subst, arith}
 use Rattle.std.specs.Prelude.{◌||◌, ◌&&◌, nat_lt, not}
+use Rattle.std.specs.List.{range_with_len}
 use Rattle.std.specs.Option.{unwrap_or}
+use Rattle.std.proofs.lemmas.List.{length-map}
+use Rattle.std.proofs.lemmas.List.FromFn.{length-map-range_with_len}
 use Rattle.std.proofs.lemmas.Bool.Decides.{nat_tests}
 use Rattle.jg_policy.specs.Stated.{StatedSetup, class_count}
-use Rattle.jg_heap.specs.Making.{Making, Plain, class_in}
+use Rattle.jg_heap.specs.declared.object.Slot.{Slot}
+use Rattle.jg_heap.specs.declared.object.Slot.TheVariants.{Number}
+use Rattle.jg_heap.specs.Making.{Making, Plain, class_in, length_in}
 use Rattle.jg_heap.specs.Rows.{count_in, class_at}
-use Rattle.jg_heap.specs.History.{making_at}
-use Rattle.jg_heap.proofs.Laws.{rows_mean}
+use Rattle.jg_heap.specs.History.{making_at, value_at}
+use Rattle.jg_heap.proofs.Callers.{rows_law}
 use Rattle.jg_rules.specs.declared.named.Named.{Named}
 use Rattle.jg_rules.specs.declared.named.Named.TheVariants.{Nothing, Null as NamesNull, Object}
 use Rattle.jg_rules.specs.declared.operand.ObjectType.{ObjectType}
 use Rattle.jg_rules.specs.Parts.{Parts, TableRows, TablesStand}
-use Rattle.jg_rules.specs.Names.{class_of, object_in}
+use Rattle.jg_rules.specs.Names.{class_of, object_in, length_of, items_of, slot_of, number_in}
 use Rattle.jg_rules.specs.Operands.{is_of}
 use Rattle.jg_rules.specs.Rules.{is_nothing, is_null, is_wrong}
 use Rattle.jg_rules.proofs.Unmade.{making_at-past}
@@ -22,13 +27,13 @@ use Rattle.jg_rules.proofs.Unmade.{making_at-past}
 -- an object of the store has the class of its row
 pub class_here : (s : StatedSetup) (rows : TableRows) (p : Parts) (o : ℕ) → TablesStand s rows p → o < count_in rows.heap → class_of s p o ≡ class_at rows.heap o
 class_here s rows p o stand made =
-    let told = rows_mean rows.heap p.heap stand.heap in
+    let told = rows_law rows.heap p.heap stand.heap in
     sym (told.class o (subst (λ (k : ℕ). o < k) told.count made) ∙ ap (λ k. class_in (making_at k p.heap o)) stand.classes)
 
 -- any other counts as a class object
 pub class_past : (s : StatedSetup) (rows : TableRows) (p : Parts) (o : ℕ) → TablesStand s rows p → count_in rows.heap ≤ o → class_of s p o ≡ 1
 class_past s rows p o stand past =
-    let told = rows_mean rows.heap p.heap stand.heap in
+    let told = rows_law rows.heap p.heap stand.heap in
     ap class_in (making_at-past s rows p o (count_in rows.heap) stand told.count past)
 
 same_class_if : (b : Bool) (s : StatedSetup) (rows : TableRows) (p q : Parts) (o : ℕ) → nat_lt o (count_in rows.heap) ≡ b → TablesStand s rows p → TablesStand s rows q → class_of s p o ≡ class_of s q o
@@ -62,3 +67,18 @@ pub first_is_of : (s : StatedSetup) (p : Parts) (type : ObjectType) (named : Nam
 first_is_of s p type Nothing a b c alive there right = absurd cc
 first_is_of s p type NamesNull a b c alive there right = absurd cc
 first_is_of s p type (Object x) a b c alive there right = right_if (is_of s p type x.0) c right
+
+-- ---- items
+
+numbers : (xs : List ℤ) → map number_in (map Number xs) ≡ xs
+numbers [] = refl
+numbers (x ∷ xs) = ap (λ ys. x ∷ ys) (numbers xs)
+
+-- the items of an array, as the store lends them
+pub items_are : (s : StatedSetup) (rows : TableRows) (p : Parts) (o : ℕ) (xs : List ℤ) → TablesStand s rows p
+    → map Number xs ≡ map (value_at rows.heap.classes p.heap o) (range_with_len 0 (length_in (making_at rows.heap.classes p.heap o))) → items_of s p o ≡ xs
+items_are s rows p o xs stand is = ap (λ k. map number_in (map (value_at k p.heap o) (range_with_len 0 (length_in (making_at k p.heap o))))) (sym stand.classes)
+    ∙ (ap (λ (ys : List Slot). map number_in ys) (sym is) ∙ numbers xs)
+
+pub items_of-length : (s : StatedSetup) (p : Parts) (o : ℕ) → length (items_of s p o) ≡ length_of s p o
+items_of-length s p o = length-map (map (slot_of s p o) (range_with_len 0 (length_of s p o))) number_in ∙ length-map-range_with_len (slot_of s p o) 0 (length_of s p o)

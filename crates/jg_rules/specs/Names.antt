@@ -79,7 +79,7 @@ target_in (Pointer target) = option_map (λ o. o.0) target
 
 -- the items of an array of a primitive type
 abbrev pub items_of : StatedSetup → Parts → ℕ → List ℤ
-items_of s p o = map (λ j. number_in (slot_of s p o j)) (range_with_len 0 (length_of s p o))
+items_of s p o = map number_in (map (slot_of s p o) (range_with_len 0 (length_of s p o)))
 
 -- the units of the object that a reference names, where it names one
 abbrev pub units_named : StatedSetup → Parts → Option ℕ → List ℕ

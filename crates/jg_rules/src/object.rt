@@ -3,6 +3,7 @@
 
 ghost use Rattle.std.specs.Prelude.{◌≡◌, ◌<◌, ◌^◌, length};
 ghost use Rattle.jg_heap.specs.Making.{IsArrayClass, IsPrimitiveArray};
+ghost use Rattle.jg_heap.specs.Rows.{count_in, class_at, length_at};
 ghost use Rattle.jg_rules.specs.Parts.{Parts};
 ghost use Rattle.jg_rules.specs.Names as names_of;
 ghost use Rattle.jg_rules.specs.View.{ViewStands};
@@ -53,30 +54,23 @@ pub fn units_of<'a, A: Allocator + Clone>(view: &View<'a, A>, object: ObjId) -> 
 
 /// The items of an array of a primitive type.
 pub fn items_of<'a, A: Allocator + Clone>(view: &View<'a, A>, object: ObjId) -> &'a [i64]
-    ensures { (p : Parts) → ViewStands view.now p
-        → IsPrimitiveArray (names_of.class_of view.now.setup.now p object.0)
+    requires made { object.0 < count_in view.now.heap.now }
+    requires array { IsPrimitiveArray (class_at view.now.heap.now object.0) }
+    ensures told { (p : Parts) → ViewStands view.now p
         → result.now ≡ names_of.items_of view.now.setup.now p object.0 }
+    ensures len { (p : Parts) → ViewStands view.now p
+        → length result.now ≡ names_of.length_of view.now.setup.now p object.0 }
 {
-    let class = class_of(view, object);
-    if object.0 < view.heap.len() && 4 <= class && class <= 9 {
-        view.heap.items(object)
-    } else {
-        &[]
-    }
+    view.heap.items(object)
 }
 
 /// What an item of an array holds. Items count from 0.
 pub fn slot_of<A: Allocator + Clone>(view: &View<'_, A>, object: ObjId, index: usize) -> Slot
+    requires made { object.0 < count_in view.now.heap.now }
+    requires array { IsArrayClass (class_at view.now.heap.now object.0) }
+    requires within { index < length_at view.now.heap.now object.0 }
     ensures { (p : Parts) → ViewStands view.now p
-        → IsArrayClass (names_of.class_of view.now.setup.now p object.0)
-        → index < names_of.length_of view.now.setup.now p object.0
         → result ≡ names_of.slot_of view.now.setup.now p object.0 index }
 {
-    let class = class_of(view, object);
-    let is_array = 3 <= class && class <= 9;
-    if object.0 < view.heap.len() && is_array && index < view.heap.array_len(object) {
-        view.heap.element(object, index)
-    } else {
-        Slot::Object(None)
-    }
+    view.heap.element(object, index)
 }
