@@ -80,7 +80,11 @@ fn texts_are_asked_for(rt: HostRuntime) -> Result<(), Fail> {
         (&["--version"], "jg 0.1.0\n"),
     ];
     for (words, part) in texts {
-        assert_eq!(rt; read_words(rt.alloc(), words), Err(ArgsFault::Help), "at {words:?}");
+        assert_eq!(rt;
+            read_words(rt.alloc(), words),
+            Err(ArgsFault::Help),
+            "at {words:?}"
+        );
         let text = help_text(rt.alloc(), words)?;
         assert!(rt; text.contains(part), "at {words:?}: {text}");
     }

@@ -1,5 +1,5 @@
 -- What the look-ups answer where the rows stand.
-use Rattle.std.proofs.Common.{◌≡◌, ℕ, ◌<◌, length, Bool, true, false, List, [], ◌∷◌, ◌++◌, Option, Some, None, refl, ◌∙◌, ap, sym, subst, arith, zero-add}
+use Rattle.std.proofs.Common.{◌≡◌, ℕ, ◌<◌, length, Bool, true, false, List, [], ◌++◌, Option, Some, None, refl, ◌∙◌, ap, sym, subst, arith, zero-add}
 use Rattle.std.specs.Prelude.{◌||◌, ℤ, pos, if◌then◌else◌, map, find, slice_index_or}
 use Rattle.std.specs.List.{range_with_len}
 use Rattle.std.specs.Option.{option_map}
@@ -12,7 +12,7 @@ use Rattle.jg_buffers.specs.declared.copied.Copied.{Copied}
 use Rattle.jg_buffers.specs.declared.pinned.PinKind.{PinKind}
 use Rattle.jg_buffers.specs.declared.pinned.PinKind.TheVariants.{Array, String}
 use Rattle.jg_buffers.specs.declared.pinned.Pinned.{Pinned}
-use Rattle.jg_buffers.specs.History.{Buffer, Event, Opened, Wrote, Closed, is_same, is_critical, opened, content, items_of, contents, info_of}
+use Rattle.jg_buffers.specs.History.{Buffer, Event, is_critical, opened, content, items_of, contents, info_of}
 use Rattle.jg_buffers.specs.Keys.{pair_cmp}
 use Rattle.jg_buffers.specs.Rows.{Rows, is_buffer, row_of, copy_length, items_in, IsAbove}
 use Rattle.jg_buffers.specs.Seen.{copy_seen, pin_seen, copy_family, pin_family}
@@ -99,23 +99,9 @@ either false b is = is
 some_buffer : (a b : Buffer) → Some a ≡ Some b → a ≡ b
 some_buffer a b is = cc
 
-opened_is_by : (e : List Event) (m n : ℕ) (at b : Buffer) (c : Bool) → is_same m n at.maker at.n ≡ c → (opened e m n ≡ Some b → is_same m n b.maker b.n ≡ true)
-    → (if c then Some at else opened e m n) ≡ Some b → is_same m n b.maker b.n ≡ true
-opened_is_by e m n at b true is older now =
-    let P : Buffer → Type 0 = λ x. is_same m n x.maker x.n ≡ true in
-    subst P (some_buffer at b now) is
-opened_is_by e m n at b false is older now = older now
-
 pub still_open : (found : Option Buffer) (c : Bool) (b : Buffer) → if◌then◌else◌ {A = Option Buffer} c None found ≡ Some b → found ≡ Some b
 still_open found true b now = cc
 still_open found false b now = now
-
--- an open buffer has its own number
-pub opened_is : (e : List Event) (m n : ℕ) (b : Buffer) → opened e m n ≡ Some b → is_same m n b.maker b.n ≡ true
-opened_is [] m n b now = cc
-opened_is (Opened at ∷ e) m n b now = opened_is_by e m n at b (is_same m n at.maker at.n) refl (opened_is e m n b) now
-opened_is (Wrote k i j v ∷ e) m n b now = opened_is e m n b now
-opened_is (Closed k i ∷ e) m n b now = opened_is e m n b (still_open (opened e m n) (is_same m n k i) b now)
 
 -- a pinned buffer has no items of its own
 pub pin_items : (q : ℕ × ℕ) (found : Option Pinned) → [] ≡ items_in (option_map (λ w. pin_seen (q, w)) found)

@@ -174,10 +174,6 @@ both_none None (Some p) is = cc
 both_none (Some q) None is = cc
 both_none (Some q) (Some p) is = cc
 
-right_none : (q b : Buffer) (pin : Option Buffer) → listed (Some q) ++ listed pin ≡ b ∷ [] → pin ≡ None
-right_none q b None is = refl
-right_none q b (Some p) is = cc
-
 -- a key that has no row
 pub nothing_there : (e : List Event) (m n : ℕ) (copy pin : Option Buffer) → Agrees e m n copy pin → opened e m n ≡ None → (copy ≡ None) × (pin ≡ None)
 nothing_there e m n copy pin agrees none = both_none copy pin (agrees ∙ ap (rows_of e m n) none)

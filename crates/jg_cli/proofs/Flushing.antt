@@ -1,11 +1,13 @@
 -- What a check did stays so where the writer keeps its bytes.
-use Rattle.std.proofs.Common.{ℕ, List, Option, Result, Ok, Err}
+use Rattle.std.proofs.Common.{◌≡◌, ◌∙◌, ℕ, Bool, List, Option, Result, Ok, Err}
 use Rattle.std.proofs.KnownBytes.{Appends-kept}
 use Rattle.std.specs.Io.KnownBytes.{Keeps}
 use Rattle.jg_words.specs.declared.entry.Entry.{Entry}
 use Rattle.jg_script.specs.declared.run_fault.RunFault.{RunFault}
 use Rattle.jg_script.specs.declared.run_fault.RunFault.TheVariants.{Script, Limit, NoMemory, Read, Write}
-use Rattle.jg_script.specs.Checked.{Checks}
+use Rattle.jg_script.specs.Checked.{Checks, WriterFails}
+use Rattle.jg_cli.specs.declared.stop.Stop.TheVariants.{Run}
+use Rattle.jg_cli.specs.Answered.{IsHandedOn}
 
 pub checks_kept : (input input' bytes mid bytes' : Option (List ℕ)) (limit : ℕ) (h : List Entry) (r : Result ℕ RunFault) → Checks input input' bytes mid limit h r → Keeps mid bytes'
     → Checks input input' bytes bytes' limit h r
@@ -16,3 +18,12 @@ checks_kept input input' bytes mid bytes' limit h (Err (NoMemory line)) (read, (
 checks_kept input input' bytes mid bytes' limit h (Err (Read line)) (read, written, count) k = (read, Appends-kept _ _ _ _ written k, count)
 checks_kept input input' bytes mid bytes' limit h (Err (Write line)) (read, (e, g, is, (part, written, (n, short, front))), count) k =
     (read, (e, g, is, (part, written, (n, short, Appends-kept _ _ _ _ front k))), count)
+
+-- a failed write was told before; else nothing is held back
+pub handed_on : (holds_nothing : Type 0) (before after flushed : Bool) (fault : RunFault) → WriterFails {N = ℕ} before after (Err fault) → flushed ≡ after → holds_nothing
+    → IsHandedOn holds_nothing flushed (Err (Run fault))
+handed_on holds_nothing before after flushed (Write line) told same done = same ∙ told
+handed_on holds_nothing before after flushed (Script line fault) told same done = done
+handed_on holds_nothing before after flushed (Limit line) told same done = done
+handed_on holds_nothing before after flushed (NoMemory line) told same done = done
+handed_on holds_nothing before after flushed (Read line) told same done = done

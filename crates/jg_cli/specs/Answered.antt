@@ -1,10 +1,10 @@
 -- What the program did with a script.
-use Rattle.std.specs.Prelude.{ℕ, List, [], length, Option, Result, Ok, Err, ◌⊎◌, ◌≡◌}
+use Rattle.std.specs.Prelude.{ℕ, Bool, true, List, [], length, Option, Result, Ok, Err, ◌⊎◌, ◌≡◌}
 use Rattle.jg_words.specs.declared.entry.Entry.{Entry}
 use Rattle.jg_policy.specs.declared.mode.Mode.TheVariants.{Deny}
 use Rattle.jg_policy.specs.Stated.{StatedSetup}
 use Rattle.jg_rules.specs.Legal.{Legal}
-use Rattle.jg_script.specs.declared.run_fault.RunFault.TheVariants.{Write}
+use Rattle.jg_script.specs.declared.run_fault.RunFault.TheVariants.{Script, Limit, NoMemory, Read, Write}
 use Rattle.jg_script.specs.Checked.{Checks}
 use Rattle.jg_cli.specs.declared.stop.Stop.{Stop}
 use Rattle.jg_cli.specs.declared.stop.Stop.TheVariants.{Arguments, Setup, Run}
@@ -26,3 +26,15 @@ Ends input input' bytes bytes' limit (Err (Run fault)) =
 -- no guard could be made
 Ends input input' bytes bytes' limit (Err Setup) = Unit {0}
 Ends input input' bytes bytes' limit (Err (Arguments fault)) = ⊥
+
+-- the writer holds nothing back at the end, or it failed and that is told
+abbrev pub IsHandedOn : Type 0 → Bool → Result (Unit {0}) Stop → Type 0
+IsHandedOn holds_nothing failed (Ok done) = holds_nothing
+IsHandedOn holds_nothing failed (Err (Run (Write line))) = failed ≡ true
+IsHandedOn holds_nothing failed (Err (Run (Script line fault))) = holds_nothing
+IsHandedOn holds_nothing failed (Err (Run (Limit line))) = holds_nothing
+IsHandedOn holds_nothing failed (Err (Run (NoMemory line))) = holds_nothing
+IsHandedOn holds_nothing failed (Err (Run (Read line))) = holds_nothing
+-- no guard could be made, so nothing was written
+IsHandedOn holds_nothing failed (Err Setup) = Unit {0}
+IsHandedOn holds_nothing failed (Err (Arguments fault)) = ⊥

@@ -20,10 +20,14 @@ fn start(rt: &HostRuntime) -> Result<Status, Stop> {
         Err(error) if error.kind() == ErrorKind::OutOfMemory => return Err(Stop::NO_MEMORY),
         Err(_) => return Err(Stop::REFUSED),
     };
-    let args = args.skip(1).collect::<Vec<String>>(alloc)?;
+    let Ok(args) = args.skip(1).collect::<Vec<String>>(alloc) else {
+        return Err(Stop::NO_MEMORY);
+    };
     let mut words = Vec::new(alloc);
     for word in &args {
-        words.push(word.as_str())?;
+        let Ok(()) = words.push(word.as_str()) else {
+            return Err(Stop::NO_MEMORY);
+        };
     }
     let Ok(reader) = BufReader::with_capacity(alloc, 4096, rt.stdin()) else {
         return Err(Stop::NO_MEMORY);

@@ -1,52 +1,61 @@
 //! What the program does, over any words, reader and writers.
 
-ghost use Rattle.jg_cli.specs.Answered.{Ends};
+ghost use Rattle.std.specs.Prelude.{OnOk};
+ghost use Rattle.jg_cli.specs.Answered.{Ends, IsHandedOn};
 
 use crate::stop::{Status, Stop, tell};
 use jg_args::{ArgsFault, Asked, Task, help_text, read_words};
 use jg_guard::Guard;
 use jg_policy::Setup;
-use jg_script::{RunFault, Watched, check};
+use jg_script::{HandsOn, RunFault, Watched, check};
 use std::alloc::Global;
 use std::io::{BufRead, Write};
 
 /// Answers the script that the reader holds. What is still buffered is handed on before it ends,
 /// also where it ends by a fault; a failure of that counts as a failed write of the last line that
 /// the guard took.
-fn answer_script<R: BufRead, W: Write>(
+fn answer_script<R: BufRead, W: HandsOn>(
     alloc: Global,
     limit: u32,
     reader: &mut Watched<R>,
     out: &mut Watched<W>,
 ) -> Result<(), Stop>
-    ensures { Ends (R.remaining reader.old.device) (R.remaining reader.new.device) (W.contents out.old.device)
+    ensures ends { Ends (R.remaining reader.old.device) (R.remaining reader.new.device) (W.contents out.old.device)
         (W.contents out.new.device) limit result }
+    ensures handed_on { IsHandedOn (W.holds_nothing out.new.device) out.new.failed result }
 {
     let Ok(mut guard) = Guard::new(alloc, alloc, Setup::closed(alloc), limit) else {
         return Err(Stop::Setup);
     };
     let checked = check(alloc, &mut guard, reader, out);
-    if out.flush().is_err() {
+    let Ok(()) = out.flush() else {
         let line = guard.journal_len().max(1) as u64;
         return Err(Stop::Run(RunFault::Write { line }));
-    }
+    };
     match checked {
         Ok(_) => Ok(()),
         Err(fault) => Err(Stop::Run(fault)),
     }
 }
 
-/// Writes the help.
-fn print_help<W: Write>(alloc: Global, out: &mut W) -> Result<(), Stop> {
-    let text = help_text(alloc)?;
-    match out.write_all(text.as_bytes()) {
-        Ok(()) if out.flush().is_ok() => Ok(()),
-        _ => Err(Stop::Run(RunFault::Write { line: 1 })),
+/// Writes the help or the version, whichever the words ask for.
+fn print_help<W: HandsOn>(alloc: Global, words: &[&str], out: &mut W) -> Result<(), Stop>
+    ensures { OnOk result (W.holds_nothing out.new) }
+{
+    let Ok(text) = help_text(alloc, words) else {
+        return Err(Stop::NO_MEMORY);
+    };
+    let Ok(()) = out.write_all(text.as_bytes()) else {
+        return Err(Stop::Run(RunFault::Write { line: 1 }));
+    };
+    match out.hand_on() {
+        Ok(()) => Ok(()),
+        Err(_) => Err(Stop::Run(RunFault::Write { line: 1 })),
     }
 }
 
 /// Does what is asked for, as far as the program can: it answers scripts under the base setup.
-fn serve<R: BufRead + Drop, W: Write + Drop>(
+fn serve<R: BufRead + Drop, W: HandsOn + Drop>(
     alloc: Global,
     asked: Asked<'_>,
     reader: R,
@@ -70,7 +79,7 @@ fn serve<R: BufRead + Drop, W: Write + Drop>(
 }
 
 /// Runs the program on the words after its name.
-pub fn run<R: BufRead + Drop, W: Write + Drop, E: Write>(
+pub fn run<R: BufRead + Drop, W: HandsOn + Drop, E: Write>(
     alloc: Global,
     words: &[&str],
     reader: R,
@@ -79,7 +88,7 @@ pub fn run<R: BufRead + Drop, W: Write + Drop, E: Write>(
 ) -> Status {
     let done = match read_words(alloc, words) {
         Ok(asked) => serve(alloc, asked, reader, out),
-        Err(ArgsFault::Help) => print_help(alloc, &mut out),
+        Err(ArgsFault::Help) => print_help(alloc, words, &mut out),
         Err(fault) => Err(Stop::Arguments(fault)),
     };
     match done {

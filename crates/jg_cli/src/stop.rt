@@ -2,7 +2,6 @@
 
 use jg_args::ArgsFault;
 use jg_script::RunFault;
-use std::alloc::{AllocError, AllocFailed};
 use std::io::Write;
 use thiserror::Error;
 
@@ -15,7 +14,7 @@ pub enum Status {
     /// The script or the arguments are faulty.
     Faulty = 2,
     /// The limit was met, or memory ran out.
-    Refused = 3,
+    Exhausted = 3,
     /// A device failed.
     Device = 4,
 }
@@ -36,7 +35,7 @@ impl Stop {
     /// The words are no command line, or ask for what the program can't do.
     pub const REFUSED: Stop = Stop::Arguments(ArgsFault::Refused);
 
-    /// Memory ran out while the words were read.
+    /// Memory ran out before the words were read, or for the text that they ask for.
     pub const NO_MEMORY: Stop = Stop::Arguments(ArgsFault::NoMemory);
 
     /// The status that it ends with.
@@ -44,26 +43,14 @@ impl Stop {
         match self {
             Stop::Arguments(ArgsFault::Help) => Status::Done,
             Stop::Arguments(ArgsFault::Refused) => Status::Faulty,
-            Stop::Arguments(ArgsFault::NoMemory) => Status::Refused,
-            Stop::Setup => Status::Refused,
+            Stop::Arguments(ArgsFault::NoMemory) => Status::Exhausted,
+            Stop::Setup => Status::Exhausted,
             Stop::Run(RunFault::Script { .. }) => Status::Faulty,
-            Stop::Run(RunFault::Limit { .. }) => Status::Refused,
-            Stop::Run(RunFault::NoMemory { .. }) => Status::Refused,
+            Stop::Run(RunFault::Limit { .. }) => Status::Exhausted,
+            Stop::Run(RunFault::NoMemory { .. }) => Status::Exhausted,
             Stop::Run(RunFault::Read { .. }) => Status::Device,
             Stop::Run(RunFault::Write { .. }) => Status::Device,
         }
-    }
-}
-
-impl From<AllocError> for Stop {
-    fn from(_error: AllocError) -> Stop {
-        Stop::NO_MEMORY
-    }
-}
-
-impl<T: Drop> From<AllocFailed<T>> for Stop {
-    fn from(_error: AllocFailed<T>) -> Stop {
-        Stop::NO_MEMORY
     }
 }
 

@@ -1,7 +1,8 @@
 use crate::program::run;
 use crate::stop::Status;
+use jg_script::HandsOn;
 use std::io;
-use std::io::{BufReader, ErrorKind, Read, Write};
+use std::io::{BufReader, BufWriter, ErrorKind, Read, Write};
 use std::test::Fail;
 
 /// A reader or a writer that fails at once.
@@ -24,6 +25,14 @@ impl Write for Broken {
     }
 }
 
+impl HandsOn for Broken {
+    ghost holds_nothing = { λ _. Unit {0} };
+
+    fn hand_on(&mut self) -> io::Result<()> {
+        self.flush()
+    }
+}
+
 /// A writer that takes all, and fails when it is to hand it on.
 #[derive(Drop)]
 struct Unflushed;
@@ -35,6 +44,14 @@ impl Write for Unflushed {
 
     fn flush(&mut self) -> io::Result<()> {
         Err(io::Error::from(ErrorKind::BrokenPipe))
+    }
+}
+
+impl HandsOn for Unflushed {
+    ghost holds_nothing = { λ _. Unit {0} };
+
+    fn hand_on(&mut self) -> io::Result<()> {
+        self.flush()
     }
 }
 
@@ -62,7 +79,7 @@ T1 E1.1 Fly
 
 #[test]
 fn each_end_has_its_status_and_its_text(rt: HostRuntime) -> Result<(), Fail> {
-    let runs: [(&[&str], &str, Status, &str, &str); 7] = [
+    let runs: [(&[&str], &str, Status, &str, &str); 8] = [
         (&[], "", Status::Done, "", ""),
         (&[], THREE_LINES, Status::Done, THREE_ANSWERED, ""),
         (&["check"], THREE_LINES, Status::Done, THREE_ANSWERED, ""),
@@ -74,16 +91,23 @@ fn each_end_has_its_status_and_its_text(rt: HostRuntime) -> Result<(), Fail> {
             "",
         ),
         (
+            &["check", "--limit", "1000000"],
+            THREE_LINES,
+            Status::Done,
+            THREE_ANSWERED,
+            "",
+        ),
+        (
             &["--limit", "3"],
             FOUR_LINES,
-            Status::Refused,
+            Status::Exhausted,
             THREE_ANSWERED,
             "line 4: limit\n",
         ),
         (
             &["check", "--limit", "0"],
             FOUR_LINES,
-            Status::Refused,
+            Status::Exhausted,
             "",
             "line 1: limit\n",
         ),
@@ -98,7 +122,8 @@ fn each_end_has_its_status_and_its_text(rt: HostRuntime) -> Result<(), Fail> {
     for (words, script, status, text, said) in runs {
         let mut out = Vec::new(rt.alloc());
         let mut err = Vec::new(rt.alloc());
-        let ended = run(rt.alloc(), words, script.as_bytes(), &mut out, &mut err);
+        let writer = BufWriter::new(rt.alloc(), &mut out)?;
+        let ended = run(rt.alloc(), words, script.as_bytes(), writer, &mut err);
         assert_eq!(rt; ended, status, "at {words:?}");
         assert!(rt; out.as_slice() == text.as_bytes(), "at {words:?}");
         assert!(rt; err.as_slice() == said.as_bytes(), "at {words:?}");
@@ -121,13 +146,8 @@ fn what_the_program_cannot_do_is_refused(rt: HostRuntime) -> Result<(), Fail> {
     for words in refused {
         let mut out = Vec::new(rt.alloc());
         let mut err = Vec::new(rt.alloc());
-        let ended = run(
-            rt.alloc(),
-            words,
-            THREE_LINES.as_bytes(),
-            &mut out,
-            &mut err,
-        );
+        let writer = BufWriter::new(rt.alloc(), &mut out)?;
+        let ended = run(rt.alloc(), words, THREE_LINES.as_bytes(), writer, &mut err);
         assert_eq!(rt; ended, Status::Faulty, "at {words:?}");
         assert!(rt; out.is_empty(), "at {words:?}");
         assert!(rt;
@@ -147,7 +167,7 @@ fn failing_devices_have_their_texts(rt: HostRuntime) -> Result<(), Fail> {
             rt.alloc(),
             &[],
             BufReader::new(rt.alloc(), Broken)?,
-            &mut out,
+            BufWriter::new(rt.alloc(), &mut out)?,
             &mut err
         ),
         Status::Device
@@ -182,7 +202,7 @@ fn failing_devices_have_their_texts(rt: HostRuntime) -> Result<(), Fail> {
             rt.alloc(),
             &["--fly"],
             BufReader::new(rt.alloc(), Broken)?,
-            &mut out,
+            BufWriter::new(rt.alloc(), &mut out)?,
             &mut Broken
         ),
         Status::Faulty
@@ -192,18 +212,23 @@ fn failing_devices_have_their_texts(rt: HostRuntime) -> Result<(), Fail> {
 
 #[test]
 fn the_help_goes_to_the_output(rt: HostRuntime) -> Result<(), Fail> {
-    let mut out = Vec::new(rt.alloc());
-    let mut err = Vec::new(rt.alloc());
-    assert_eq!(rt;
-        run(
-            rt.alloc(),
-            &["--help"],
-            BufReader::new(rt.alloc(), Broken)?,
-            &mut out,
-            &mut err
-        ),
-        Status::Done
-    );
-    assert!(rt; !out.is_empty() && err.is_empty());
+    let texts: [(&[&str], &str); 3] = [
+        (&["--help"], "Usage: jg [OPTIONS] [COMMAND]"),
+        (&["check", "--help"], "Usage: jg check [OPTIONS]"),
+        (&["--version"], "jg 0.1.0"),
+    ];
+    for (words, part) in texts {
+        let mut out = Vec::new(rt.alloc());
+        let mut err = Vec::new(rt.alloc());
+        let reader = BufReader::new(rt.alloc(), Broken)?;
+        let writer = BufWriter::new(rt.alloc(), &mut out)?;
+        assert_eq!(rt;
+            run(rt.alloc(), words, reader, writer, &mut err),
+            Status::Done,
+            "at {words:?}"
+        );
+        let written = String::from_utf8(out)?;
+        assert!(rt; written.contains(part) && err.is_empty(), "at {words:?}");
+    }
     Ok(())
 }

@@ -10,7 +10,7 @@ use Rattle.jg_globals.specs.History.{Event, MakeStrong, MakeWeak, DeleteStrong, 
 use Rattle.jg_globals.specs.Laws.{IsMadeBelow, NumbersRise, makes, StaysEnded}
 use Rattle.jg_globals.specs.Rows.{Rows, Strong, Weak, is_strong, is_weak, IsAbove}
 use Rattle.jg_globals.specs.Standing.{Stands, weak_rows}
-use Rattle.jg_globals.proofs.Lists.{Member, member_filter}
+use Rattle.jg_lists.proofs.Lists.{Member, member_filter}
 use Rattle.jg_globals.proofs.Lookups.{strong_of_member}
 
 -- a number that was given isn't above all that were given

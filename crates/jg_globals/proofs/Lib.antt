@@ -1,6 +1,5 @@
 pub mod Callers
 mod Ended
-mod Lists
 mod Lookups
 mod Means
 mod Numbers

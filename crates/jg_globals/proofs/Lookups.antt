@@ -11,7 +11,7 @@ use Rattle.jg_globals.specs.History.{Event, MakeStrong, MakeWeak, DeleteStrong, 
 use Rattle.jg_globals.specs.Rows.{Rows, Strong, is_strong, is_weak, IsAbove}
 use Rattle.jg_globals.specs.Seen.{strong_seen, weak_seen}
 use Rattle.jg_globals.specs.Standing.{Stands, strong_rows, weak_rows}
-use Rattle.jg_globals.proofs.Lists.{first, find-map, list_any-map, Member, any_member, member_filter, any_of_filter, both_ways}
+use Rattle.jg_lists.proofs.Lists.{first, find-map, list_any-map, Member, any_member, member_filter, any_of_filter, both_ways}
 
 object_seen : (row : Option StrongRow) → option_map (λ row. row.object) row ≡ option_map (λ row. row.object) (option_map strong_seen row)
 object_seen None = refl

@@ -6,6 +6,7 @@ use Rattle.std.proofs.lemmas.Bool.Decides.{nat_tests}
 use Rattle.jg_globals.specs.declared.target.Target.{Target}
 use Rattle.jg_globals.specs.declared.target.Target.TheVariants.{Object, Cleared}
 use Rattle.jg_globals.specs.History.{Event, MakeStrong, MakeWeak, DeleteStrong, DeleteWeak, Clear, is_same, strong, weak, clears, after_making, unless_cleared, weak_target}
+use Rattle.jg_lists.proofs.Lists.{none_either}
 use Rattle.jg_globals.specs.Laws.{StrongSince, WeakSince, about_strong, about_weak}
 
 -- ---- global references
@@ -51,10 +52,6 @@ strong_other (DeleteStrong k i) e m n other = rw other refl
 strong_other (MakeWeak k i p) e m n other = refl
 strong_other (DeleteWeak k i) e m n other = refl
 strong_other (Clear p) e m n other = refl
-
-none_either : (a b : Bool) → (a || b) ≡ false → (a ≡ false) × (b ≡ false)
-none_either true b none = cc
-none_either false b none = (refl, none)
 
 strong_kept : (later before : List Event) (m n o : ℕ) → list_any (about_strong m n) later ≡ false → strong (later ++ MakeStrong m n o ∷ before) m n ≡ Some o
 strong_kept [] before m n o kept = rw (is_same_self m n) refl

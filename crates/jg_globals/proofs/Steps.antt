@@ -16,7 +16,7 @@ use Rattle.jg_globals.specs.Rows.{Rows, Strong, Weak, is_strong, is_weak, IsAbov
 use Rattle.jg_globals.specs.Seen.{weak_seen}
 use Rattle.jg_globals.specs.Standing.{Stands, strong_rows, weak_rows, IsListOf}
 use Rattle.jg_globals.specs.Clearing.{IsCleared, EachCleared}
-use Rattle.jg_globals.proofs.Lists.{filter_swap}
+use Rattle.jg_lists.proofs.Lists.{filter_swap}
 
 -- what an event that isn't about weak references does to what they name: nothing
 quiet : (maker n : ℕ) (later : List Event) (ev : Event) (found : Option ℕ) → ((o : ℕ) → clears o ev ≡ false) → unless_cleared (ev ∷ later) found ≡ unless_cleared later found

@@ -50,7 +50,8 @@ ClearedMeans = (e : List Event) (maker n : ℕ)
 
 -- an object is held by global references where some global reference that names it is in being
 abbrev pub HoldsMeans : Type 0
-HoldsMeans = (e : List Event) (o : ℕ) → IsTrue (holds_object e o) ↔ ((maker : ℕ) × (n : ℕ) × (strong e maker n ≡ Some o))
+HoldsMeans = (e : List Event) (o : ℕ)
+    → IsTrue (holds_object e o) ↔ ((maker : ℕ) × (n : ℕ) × (strong e maker n ≡ Some o))
 
 -- the number is above each that the maker's references were given, of both kinds
 abbrev pub IsMadeBelow : ℕ → ℕ → List Event → Type 0

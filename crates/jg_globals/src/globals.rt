@@ -44,7 +44,9 @@ impl<A: Allocator + Clone> Globals<A> {
     }
 
     /// Makes global reference `n` of `maker`, which names the object (chapter 4, `NewGlobalRef`).
-    /// Fails only for want of memory, and then leaves all unchanged.
+    /// Asks that `n` is above each number of the maker's references in being, of both kinds: who
+    /// counts them knows it (`new_number_is_above`). Fails only for want of memory, and then leaves
+    /// all unchanged.
     pub fn make_strong(&mut self, maker: Tid, n: u64, object: ObjId) -> Result<(), AllocError>
         requires { IsAbove maker.0 n self.old }
         ensures ok { OnOk result ((e : List Event) → Stands self.old e
@@ -61,8 +63,8 @@ impl<A: Allocator + Clone> Globals<A> {
     }
 
     /// Makes weak global reference `n` of `maker`, which names the object until it is cleared
-    /// (chapter 4, `NewWeakGlobalRef`). Fails only for want of memory, and then leaves all
-    /// unchanged.
+    /// (chapter 4, `NewWeakGlobalRef`). Asks for what `make_strong` asks. Fails only for want of
+    /// memory, and then leaves all unchanged.
     pub fn make_weak(&mut self, maker: Tid, n: u64, object: ObjId) -> Result<(), AllocError>
         requires { IsAbove maker.0 n self.old }
         ensures ok { OnOk result ((e : List Event) → Stands self.old e
@@ -80,6 +82,7 @@ impl<A: Allocator + Clone> Globals<A> {
 
     /// Ends a global or weak global reference, if it is in being (chapter 4, `DeleteGlobalRef` and
     /// `DeleteWeakGlobalRef`). Null and local references are none of this table's: nothing changes.
+    /// Takes no memory, and asks for nothing.
     pub fn delete(&mut self, reference: Ref)
         ensures stands { (e : List Event) → Stands self.old e → Stands self.new (deletion reference ++ e) }
         ensures numbers { KeepsNumbers self.old self.new }
@@ -110,7 +113,7 @@ impl<A: Allocator + Clone> Globals<A> {
     }
 
     /// Clears the weak references to one object that was collected (chapter 4, "Weak Global
-    /// References").
+    /// References"). Takes no memory, and asks for nothing.
     pub fn clear_weak(&mut self, object: ObjId)
         ensures stands { (e : List Event) → Stands self.old e → Stands self.new (Clear object.0 ∷ e) }
         ensures numbers { KeepsNumbers self.old self.new }
@@ -120,7 +123,8 @@ impl<A: Allocator + Clone> Globals<A> {
 
     /// Clears the weak references to all objects that meet the test, in one pass: for each list of
     /// objects that has, of those that a live weak reference names, exactly the ones that meet the
-    /// test, this is the clearing of each of its objects.
+    /// test, this is the clearing of each of its objects (chapter 4, "Weak Global References"). Asks
+    /// that the test can be called at every object. Takes no memory.
     pub fn clear_weak_where<F: Fn(ObjId) -> bool + Drop>(&mut self, test: F)
         requires { F.IsAlwaysCallable test }
         ensures stands { (e : List Event) (objects : List ℕ) → Stands self.old e → IsListOf (F.post test) e objects

@@ -1,6 +1,7 @@
 //! Global and weak global references: which are in being, what each names, and which are cleared
 //! (JNI Specification, chapter 2, "Global and Local References", and chapter 4, "Global
-//! References" and "Weak Global References").
+//! References" and "Weak Global References"). Chapters in the documentation of calls are the JNI
+//! Specification's.
 #![tactic(auto)]
 
 mod globals;

@@ -74,6 +74,26 @@ fn collection(rt: HostRuntime) -> Result<(), Fail> {
     Ok(())
 }
 
+/// 65,535 threads make a global reference each, and none is refused.
+#[test]
+fn many_makers(rt: HostRuntime) -> Result<(), Fail> {
+    let mut table = Globals::new(rt.alloc(), rt.alloc());
+    for t in 0..u16::MAX {
+        table.make_strong(Tid(t), 1, ObjId(t as u64))?;
+    }
+    assert_eq!(rt;
+        table.get(global(Tid(0), 1)),
+        Some(Target::Object(ObjId(0)))
+    );
+    assert_eq!(rt;
+        table.get(global(Tid(65_534), 1)),
+        Some(Target::Object(ObjId(65_534)))
+    );
+    assert_eq!(rt; table.get(global(Tid(65_535), 1)), None);
+    assert!(rt; table.holds_object(ObjId(40_000)));
+    Ok(())
+}
+
 /// Takes the largest block that the heap still has, so that no list can grow.
 fn ballast<'a>(heap: &'a LocalHeap) -> Vec<u8, &'a LocalHeap> {
     let mut block = Vec::new(heap);

@@ -22,10 +22,8 @@ use Rattle.jg_threads.specs.Standing as thread_standing
 use Rattle.jg_locals.specs.History.{acts_of, has_session, depth, frames, IsMadeBelow}
 use Rattle.jg_locals.specs.Rows.{Rows, HasFrame, pushed, top, spare}
 use Rattle.jg_locals.specs.Standing as local_standing
-use Rattle.jg_locals.proofs.Callers.{has_frame_law, above_law}
-use Rattle.jg_locals.proofs.Lookups.{pushed_law}
-use Rattle.jg_locals.proofs.Tops.{top_is}
-use Rattle.jg_globals.proofs.Ended.{above_law as global_above_law}
+use Rattle.jg_locals.proofs.Callers.{has_frame_law, above_law, pushed_law, top_is}
+use Rattle.jg_globals.proofs.Callers.{above_law as global_above_law}
 use Rattle.jg_rules.specs.Parts.{Parts, TableRows, TablesStand}
 use Rattle.jg_rules.specs.Names.{next_ref, open_frames}
 use Rattle.jg_rules.specs.Effects.{done_by, done_if, is_effective, settled, passed_on, call_threads}

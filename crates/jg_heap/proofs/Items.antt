@@ -15,6 +15,4 @@ numbers_hold o (n ∷ items) = numbers_hold o items
 pub references_hold : (o : ℕ) (items : List (Option ObjId)) → list_any (holds o) (map ToObject items) ≡ list_any (λ target. holds o (ToObject target)) items
 references_hold o items = list_any_map ToObject (holds o) items
 
-pub ruleset hold = (numbers_hold, references_hold)
-
 pub ruleset written = (map-set)

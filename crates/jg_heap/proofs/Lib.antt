@@ -5,6 +5,7 @@ mod Steps
 pub mod Regions
 mod Pointing
 mod Sweeping
+mod Marking
 mod Collecting
 mod Calls
 mod Laws

@@ -19,10 +19,6 @@ pub list_any_map : {A B : Type 0} (f : A → B) (p : B → Bool) (xs : List A) �
 list_any_map f p [] = refl
 list_any_map f p (x ∷ xs) = ap (λ b. p (f x) || b) (list_any_map f p xs)
 
-pub list_any_agree : {A : Type 0} (p q : A → Bool) → ((x : A) → p x ≡ q x) → (xs : List A) → list_any p xs ≡ list_any q xs
-list_any_agree p q h [] = refl
-list_any_agree p q h (x ∷ xs) = rw (h x, list_any_agree p q h xs) refl
-
 -- what passes one test passes another
 pub list_any_implies : {A : Type 0} (p q : A → Bool) → ((x : A) → p x ≡ true → q x ≡ true) → (xs : List A) → list_any p xs ≡ true → list_any q xs ≡ true
 list_any_implies p q h [] t = t
@@ -37,15 +33,6 @@ both_imply false false f g = refl
 -- two functions that agree below n make one list
 pub map_agree : {X : Type 0} (f g : ℕ → X) (n : ℕ) (d : X) → ((p : ℕ) → p < n → f p ≡ g p) → map f (range_with_len 0 n) ≡ map g (range_with_len 0 n)
 map_agree f g n d h = fill_by_all g (map f (range_with_len 0 n)) n d (length-map-range_with_len f 0 n) (λ p l. get_or-map-range_with_len f 0 n p p d l (omega arith) ∙ h p l)
-
-pub or_none : (a b : Bool) → b ≡ false → a ≡ (a || b)
-or_none true b h = refl
-or_none false b h = sym h
-
--- one more test after those before
-pub or_more : (first before last all now next : Bool) → now ≡ (first || before) → next ≡ (now || last) → all ≡ (before || last) → next ≡ (first || all)
-or_more true before last all now next h g is = g ∙ ap (λ b. b || last) h
-or_more false before last all now next h g is = g ∙ ap (λ b. b || last) h ∙ sym is
 
 -- a test of what another test keeps
 pub any_filter : {X : Type 0} (p q : X → Bool) (xs : List X) → list_any p (filter q xs) ≡ list_any (λ x. q x && p x) xs

@@ -2,7 +2,7 @@
 use Rattle.std.proofs.Common.{ℕ, ◌≡◌, ◌+◌, ◌*◌, ◌/◌, ◌%◌, ◌<◌, ◌≤◌, ◌^◌, ◌⊎◌, ◌∙◌, refl, inl, inr, [], ◌∷◌, length, Option, false, ltb, ◌&&◌, arith}
 use Rattle.std.proofs.lemmas.Bool.{cases_lt, lt-ltb, le-ltb, and_from, and_left, and_right, cond-true, cond-false}
 use Rattle.jg_heap.specs.Forms.{One, Two, Three}
-use Rattle.jg_heap.specs.Spelling.{spelling, Starts, AreFirst}
+use Rattle.jg_heap.specs.Spelling.{spelling, Starts}
 
 pub spelling_one : (u : ℕ) → 0 < u → u < 128 → spelling u ≡ u ∷ []
 spelling_one u a b = cond-true _ _ _ (and_from _ _ (lt-ltb 0 u a) (lt-ltb u 128 b))
@@ -20,10 +20,6 @@ spelling_three u high middle low is small small_middle above =
     let m : u / 64 % 64 ≡ middle = omega arith in
     let l : u % 64 ≡ low = omega arith in
     cond-false _ _ _ (and_right _ _ (le-ltb u 128 (omega arith))) ∙ cond-false _ _ _ (le-ltb u 2048 above) ∙ rw (h, m, l) refl
-
-starts_is : (u : ℕ) (x y z : Option ℕ) → Starts u x y z ≡ AreFirst (spelling u) x y z
-unfolding Starts
-starts_is u x y z = refl
 
 pub spelling_short : (u : ℕ) → ((0 < u) × (128 ≤ u)) ⊎ (u ≤ 0) → u < 2048 → spelling u ≡ (192 + u / 64) ∷ (128 + u % 64) ∷ []
 spelling_short u either below = spelling_two u (u / 64) (u % 64) (omega arith) (omega arith) below (elim either [ inl both ↦ inr both.1 | inr zero ↦ inl (omega arith) ])

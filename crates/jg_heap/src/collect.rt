@@ -1,12 +1,14 @@
-ghost use Rattle.std.specs.Prelude.{◌≡◌, ℕ, ◌<◌, ◌≤◌, ◌^◌, All, false, not, ◌&&◌, ◌||◌, ◌==◌, length, slice_index_or, nat_lt, map, filter};
+ghost use Rattle.std.specs.Prelude.{◌≡◌, ℕ, ◌<◌, ◌≤◌, ◌^◌, All, false, not, ◌&&◌, ◌==◌, length, slice_index_or, nat_lt, map, filter};
 ghost use Rattle.std.specs.List.{list_any};
 ghost use Rattle.jg_heap.specs.declared.object.Slot.TheVariants.{Object as ToObject};
 ghost use Rattle.jg_heap.specs.History.{holds};
 ghost use Rattle.jg_heap.specs.Kept.{slots_of_body, row_of, ended_row, slot_of_row_holds};
 ghost use Rattle.jg_heap.specs.Rows.{row_in};
+ghost use Rattle.jg_lists.specs.Marks.{Marks};
 
 use crate::body::{Body, Object};
 use crate::object::Slot;
+use jg_lists::mark;
 use jg_words::ObjId;
 use std::alloc::Allocator;
 
@@ -36,57 +38,54 @@ pub(crate) fn unmark(marks: &mut [bool], objects: &[u64])
     }
 }
 
-/// Marks an object.
-fn mark(marks: &mut [bool], target: Option<ObjId>)
-    ensures { (o : ℕ) → o < length marks.old
-        → slice_index_or marks.new o false ≡ (slice_index_or marks.old o false || holds o (ToObject target)) }
+/// Marks the object that is named, if one is.
+fn mark_target(marks: &mut [bool], target: Option<ObjId>)
+    ensures { Marks (λ o. holds o (ToObject target)) marks.old marks.new }
 {
     if let Some(target) = target {
-        if target.0 < marks.len() as u64 {
-            marks[target.0 as usize] = true;
-        }
+        mark(marks, target.0);
+    }
+}
+
+/// Marks the object that a slot names, if it names one.
+fn mark_slot(marks: &mut [bool], slot: Slot)
+    ensures { Marks (λ o. holds o slot) marks.old marks.new }
+{
+    if let Slot::Object(target) = slot {
+        mark_target(marks, target);
     }
 }
 
 /// Marks the class objects.
 pub(crate) fn mark_classes(marks: &mut [bool], class_count: u64)
-    ensures { (o : ℕ) → o < length marks.old
-        → slice_index_or marks.new o false ≡ (slice_index_or marks.old o false || nat_lt o class_count) }
+    ensures { Marks (λ o. nat_lt o class_count) marks.old marks.new }
 {
     for object in 0..class_count {
-        mark(marks, Some(ObjId(object)));
+        mark(marks, object);
     }
 }
 
 /// Marks each object that a field names.
 fn mark_fields(marks: &mut [bool], slots: &[Slot])
-    ensures { (o : ℕ) → o < length marks.old
-        → slice_index_or marks.new o false ≡ (slice_index_or marks.old o false || list_any (holds o) slots.now) }
+    ensures { Marks (λ o. list_any (holds o) slots.now) marks.old marks.new }
 {
     for slot in slots {
-        if let Slot::Object(target) = *slot {
-            mark(marks, target);
-        }
+        mark_slot(marks, *slot);
     }
 }
 
 /// Marks each object that an array's item names.
 fn mark_items(marks: &mut [bool], items: &[Option<ObjId>])
-    ensures { (o : ℕ) → o < length marks.old
-        → slice_index_or marks.new o false
-        ≡ (slice_index_or marks.old o false || list_any (λ target. holds o (ToObject target)) items.now) }
+    ensures { Marks (λ o. list_any (λ target. holds o (ToObject target)) items.now) marks.old marks.new }
 {
     for target in items {
-        mark(marks, *target);
+        mark_target(marks, *target);
     }
 }
 
 /// Marks each object that stands in a slot.
-#[tactic(auto, using(crate::proofs::Items::hold))]
 fn mark_slots<A: Allocator>(marks: &mut [bool], body: &Body<A>)
-    ensures { (o : ℕ) → o < length marks.old
-        → slice_index_or marks.new o false
-        ≡ (slice_index_or marks.old o false || list_any (holds o) (slots_of_body body.now)) }
+    ensures { Marks (λ o. list_any (holds o) (slots_of_body body.now)) marks.old marks.new }
 {
     match body {
         Body::Fields(instance) => mark_fields(marks, &instance.slots),
@@ -99,9 +98,7 @@ fn mark_slots<A: Allocator>(marks: &mut [bool], body: &Body<A>)
 /// Marks each object that stands in a slot of one of those in being.
 pub(crate) fn mark_pointed<A: Allocator>(marks: &mut [bool], objects: &[Object<A>], live: &[u64])
     requires { All (λ p. p < length objects.now) live.now }
-    ensures { (o : ℕ) → o < length marks.old
-        → slice_index_or marks.new o false
-        ≡ (slice_index_or marks.old o false || list_any (slot_of_row_holds (map row_of objects.now) o) live.now) }
+    ensures { Marks (λ o. list_any (slot_of_row_holds (map row_of objects.now) o) live.now) marks.old marks.new }
 {
     for object in live {
         mark_slots(marks, &objects[*object as usize].body);

@@ -14,7 +14,9 @@ use std::alloc::{AllocError, Allocator, Global};
 use std::marker::Model;
 
 /// The object machine's store. Objects have numbers in the order of their making, from 0, the
-/// class objects first. Contracts see it as its rows.
+/// class objects first. Contracts see it as its rows. A call on an object asks that it was made
+/// (its number is below [`Heap::len`]), and more where its documentation says so; then it can't
+/// fail.
 #[derive(Drop)]
 pub struct Heap<A: Allocator = Global> {
     class_count: u64,
@@ -36,7 +38,7 @@ impl<A: Allocator> Model for Heap<A> {
 }
 
 impl<A: Allocator + Clone> Heap<A> {
-    /// A store with the class objects alone. Fails only for want of memory.
+    /// A store with `class_count` class objects and no other. Fails only for want of memory.
     pub fn new(alloc: A, class_count: u64) -> Result<Heap<A>, AllocError>
         ensures classes { IfOk result (λ heap. heap.classes ≡ class_count) }
         ensures rows { IfOk result (λ heap. heap.objects ≡ class_rows class_count) }
@@ -58,8 +60,10 @@ impl<A: Allocator + Clone> Heap<A> {
         })
     }
 
-    /// Makes an object, with the next number. A plain object is of a class whose objects have
-    /// fields. Fails only for want of memory, and then changes nothing.
+    /// Makes an object, with the next number (chapter 4, `AllocObject`, `NewString`,
+    /// `NewStringUTF`, `New<PrimitiveType>Array` and `NewObjectArray`). A plain object is of a class
+    /// whose objects have fields (not 2 to 9), and a text has fewer than 2^61 units. Fails only for
+    /// want of memory, and then changes nothing.
     pub fn alloc(&mut self, shape: Shape<A>) -> Result<ObjId, AllocError>
         requires { CanMake shape }
         ensures number { (e : List Event) → Stands self.old e → IfOk result (λ o. o.0 ≡ count_of self.old.classes e) }
@@ -80,7 +84,7 @@ impl<A: Allocator + Clone> Heap<A> {
 }
 
 impl<A: Allocator> Heap<A> {
-    /// How many objects were made, with the class objects.
+    /// How many objects were made, with the class objects; also of those that are gone.
     pub fn len(&self) -> u64
         ensures history { (e : List Event) → Stands self.now e → result ≡ count_of self.now.classes e }
         ensures rows { result ≡ count_in self.now }
@@ -89,7 +93,7 @@ impl<A: Allocator> Heap<A> {
         self.objects.len() as u64
     }
 
-    /// The number of an object's class.
+    /// The number of the class of an object that was made (chapter 4, `GetObjectClass`).
     pub fn class_of(&self, object: ObjId) -> u32
         requires { object.0 < count_in self.now }
         ensures history { (e : List Event) → Stands self.now e
@@ -99,7 +103,9 @@ impl<A: Allocator> Heap<A> {
         self.objects[object.0 as usize].body.class()
     }
 
-    /// The UTF-16 units of a string; none of any other object.
+    /// Lends the UTF-16 units of a string that was made (chapter 4, `GetStringRegion`); none of any
+    /// other object. A string is an object of class 2, as [`Heap::class_of`] tells, and has as many
+    /// units as [`Heap::array_len`] tells.
     pub fn string(&self, object: ObjId) -> &[u16]
         requires { object.0 < count_in self.now }
         ensures history { (e : List Event) → Stands self.now e
@@ -111,7 +117,8 @@ impl<A: Allocator> Heap<A> {
         self.objects[object.0 as usize].body.units()
     }
 
-    /// How many items an array has, units a string, fields any other object.
+    /// How many items an array has, units a string, fields any other object (chapter 4,
+    /// `GetArrayLength` and `GetStringLength`).
     pub fn array_len(&self, object: ObjId) -> usize
         requires { object.0 < count_in self.now }
         ensures history { (e : List Event) → Stands self.now e
@@ -122,7 +129,11 @@ impl<A: Allocator> Heap<A> {
         self.objects[object.0 as usize].body.len()
     }
 
-    /// What a field holds. Fields count from 0.
+    /// What a field holds (chapter 4, `Get<type>Field`). Fields count from 0. The object is of a
+    /// class whose objects have fields (not 2 to 9, as [`Heap::class_of`] tells), and the index is
+    /// below its length ([`Heap::array_len`]). The store keeps no types of fields: a field holds
+    /// numbers alone where it was made with one and only numbers were written, as `value_means`
+    /// says.
     pub fn field(&self, object: ObjId, index: usize) -> Slot
         requires made { object.0 < count_in self.now }
         requires fields { HasFields (class_at self.now object.0) }
@@ -133,7 +144,7 @@ impl<A: Allocator> Heap<A> {
         self.objects[object.0 as usize].body.slot(index)
     }
 
-    /// Writes a field. Fields count from 0.
+    /// Writes a field (chapter 4, `Set<type>Field`), with the conditions of [`Heap::field`].
     pub fn set_field(&mut self, object: ObjId, index: usize, value: Slot)
         requires made { object.0 < count_in self.old }
         requires fields { HasFields (class_at self.old object.0) }
@@ -145,7 +156,10 @@ impl<A: Allocator> Heap<A> {
         self.objects[object.0 as usize].body.set_field(index, value);
     }
 
-    /// What an array's item holds. Items count from 0.
+    /// What an array's item holds: a number in an array of a primitive type, null or an object in
+    /// one of references (chapter 4, `GetObjectArrayElement`). Items count from 0. The object is an
+    /// array (of class 3 to 9, as [`Heap::class_of`] tells), and the index is below its length
+    /// ([`Heap::array_len`]).
     pub fn element(&self, object: ObjId, index: usize) -> Slot
         requires made { object.0 < count_in self.now }
         requires array { IsArrayClass (class_at self.now object.0) }
@@ -157,7 +171,10 @@ impl<A: Allocator> Heap<A> {
         self.objects[object.0 as usize].body.slot(index)
     }
 
-    /// Writes an array's item. Items count from 0.
+    /// Writes an array's item (chapter 4, `SetObjectArrayElement`): a number in an array of a
+    /// primitive type (of class 4 to 9, as [`Heap::class_of`] tells), null or an object in one of
+    /// references (of class 3). Items count from 0; the index is below the array's length
+    /// ([`Heap::array_len`]).
     pub fn set_element(&mut self, object: ObjId, index: usize, value: Slot)
         requires made { object.0 < count_in self.old }
         requires takes { TakesItem (class_at self.old object.0) value }
@@ -169,8 +186,10 @@ impl<A: Allocator> Heap<A> {
         self.objects[object.0 as usize].body.set_item(index, value);
     }
 
-    /// Writes these items of an array of a primitive type, in one go, from an index on. Items count
-    /// from 0.
+    /// Writes items of an array of a primitive type, from an index on, in one go (chapter 4,
+    /// `Set<PrimitiveType>ArrayRegion`; `Release<PrimitiveType>ArrayElements` that copies back).
+    /// The object is such an array (of class 4 to 9, as [`Heap::class_of`] tells), and the region
+    /// ends within its length ([`Heap::array_len`]); it may be empty.
     pub fn set_region(&mut self, object: ObjId, start: usize, values: &[i64])
         requires made { object.0 < count_in self.old }
         requires array { IsPrimitiveArray (class_at self.old object.0) }
@@ -185,7 +204,9 @@ impl<A: Allocator> Heap<A> {
             .set_region(start, values);
     }
 
-    /// All items of an array of a primitive type.
+    /// Lends all items of an array of a primitive type (chapter 4,
+    /// `Get<PrimitiveType>ArrayRegion`), of class 4 to 9, as [`Heap::class_of`] tells. There are as
+    /// many as [`Heap::array_len`] tells.
     pub fn items(&self, object: ObjId) -> &[i64]
         requires made { object.0 < count_in self.now }
         requires array { IsPrimitiveArray (class_at self.now object.0) }
@@ -198,7 +219,7 @@ impl<A: Allocator> Heap<A> {
         self.objects[object.0 as usize].body.numbers()
     }
 
-    /// Whether some collection found that nothing held it.
+    /// Whether some collection found that nothing held the object. What it was can still be asked.
     pub fn is_gone(&self, object: ObjId) -> bool
         requires { object.0 < count_in self.now }
         ensures { (e : List Event) → Stands self.now e → result ≡ gone_at self.now.classes e object.0 }
@@ -206,7 +227,8 @@ impl<A: Allocator> Heap<A> {
         self.objects[object.0 as usize].gone
     }
 
-    /// Unsets the mark of each object that isn't gone, before the roots mark theirs.
+    /// Unsets the mark of each object that isn't gone, before the roots mark theirs. There is a
+    /// mark for each object ([`Heap::len`]).
     pub fn unmark(&self, marks: &mut [bool])
         requires { count_in self.now ≤ length marks.old }
         ensures { (e : List Event) → Stands self.now e → MarksNone self.now.classes e marks.new }
@@ -214,8 +236,9 @@ impl<A: Allocator> Heap<A> {
         unmark(marks, &self.live);
     }
 
-    /// How many objects nothing holds, where the roots marked theirs. Marks all that is held, for
-    /// `sweep`.
+    /// How many objects nothing holds (chapter 2, "Global and Local References"), where the roots
+    /// marked theirs. Marks all that is held, for [`Heap::sweep`]. Changes no row, so a collection
+    /// may stop here. There is a mark for each object ([`Heap::len`]).
     pub fn count_unheld(&self, marks: &mut [bool]) -> u64
         requires { count_in self.now ≤ length marks.old }
         ensures count { (e : List Event) (roots : List ℕ) → Stands self.now e
@@ -230,7 +253,8 @@ impl<A: Allocator> Heap<A> {
         count_unmarked(marks, &self.live)
     }
 
-    /// Lets go of what isn't marked, one link of a chain.
+    /// Lets go of what isn't marked, one link of a chain. There is a mark for each object
+    /// ([`Heap::len`]).
     pub fn sweep(&mut self, marks: &[bool])
         requires { count_in self.old ≤ length marks.now }
         ensures stands { (e : List Event) (roots : List ℕ) → Stands self.old e

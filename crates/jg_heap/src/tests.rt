@@ -1,5 +1,6 @@
 mod bounds;
 mod collections;
+mod large;
 mod objects;
 mod refusals;
 mod regions;

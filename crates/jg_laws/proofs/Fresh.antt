@@ -19,9 +19,7 @@ use Rattle.jg_words.specs.declared.call.Call.{Call}
 use Rattle.jg_policy.specs.Stated.{StatedSetup}
 use Rattle.jg_threads.specs.History as threads
 use Rattle.jg_locals.specs.History.{Act, Start, Make, Push, Delete, Pop, End, Event, by, acts_of, IsMadeBelow, Making, making, seen_after, live, local_if_live, object_of, survives}
-use Rattle.jg_locals.proofs.Callers.{made_before}
-use Rattle.jg_locals.proofs.Lives.{live_was_made}
-use Rattle.jg_locals.proofs.StandingSteps.{acts_more, acts_same, each_thread}
+use Rattle.jg_locals.proofs.Callers.{acts_more, acts_same, each_thread, live_below}
 use Rattle.jg_globals.specs.declared.target.Target.{Target}
 use Rattle.jg_globals.specs.declared.target.Target.TheVariants.{Object as ToObject, Cleared}
 use Rattle.jg_globals.specs.History as globals
@@ -191,11 +189,6 @@ gone_steps t n =
       pushes = λ p u old. (old.0, gone_same p.locals u Push t n (λ acts. gone_after Push n (making n acts)) old.1);
       pops = λ p u some old. (old.0, gone_same p.locals u Pop t n (λ acts. gone_after Pop n (making n acts)) old.1);
     }
-
-live_below : (n k o : ℕ) (acts : List Act) → IsMadeBelow n acts → live k acts ≡ Some o → k < n
-live_below n k o acts made is =
-    let was = live_was_made k o acts is in
-    made_before n k o was.1 was.0 (subst (λ (xs : List Act). IsMadeBelow n xs) was.2 made)
 
 -- for a local of the caller
 local_gone : (s : StatedSetup) (newer later h : List Entry) (t n o : ℕ) → Legal s (newer ++ (later ++ h))

@@ -6,7 +6,7 @@ use Rattle.jg_words.specs.declared.entry.Entry.{Entry}
 use Rattle.jg_policy.specs.Stated.{StatedSetup}
 use Rattle.jg_threads.specs.History as threads
 use Rattle.jg_locals.specs.History.{Act, Start, Make, Push, Enter, Delete, Pop, Leave, End, Event, by, acts_of, has_session, depth, IsMadeBelow}
-use Rattle.jg_locals.proofs.StandingSteps.{acts_more, acts_same, each_thread}
+use Rattle.jg_locals.proofs.Callers.{acts_more, acts_same, each_thread}
 use Rattle.jg_rules.specs.Parts.{Parts}
 use Rattle.jg_rules.specs.Names.{next_ref}
 use Rattle.jg_rules.specs.Effects.{parts}

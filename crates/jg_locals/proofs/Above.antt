@@ -11,7 +11,7 @@ use Rattle.jg_locals.specs.Standing.{AllAllowed, rows_of_local, Stands}
 use Rattle.jg_locals.proofs.LocalSteps.{making_splits}
 use Rattle.jg_locals.proofs.Lives.{live_was_made}
 use Rattle.jg_locals.proofs.Lookups.{no_pushes}
-use Rattle.jg_locals.proofs.Members.{Member, member_filter, member_filtered, at_member}
+use Rattle.jg_lists.proofs.Lists.{Member, member_filter, member_filtered, at_member}
 use Rattle.jg_locals.proofs.Tops.{top_told}
 
 -- a thread with a session has a frame

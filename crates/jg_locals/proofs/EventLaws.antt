@@ -13,7 +13,8 @@ use Rattle.jg_locals.proofs.LocalSteps.{row_made, rows_step, none_live}
 use Rattle.jg_locals.proofs.FrameSteps.{is_not_frame, is_not_depth, rows_up_to_same, rows_up_to-push, rows_up_to-pop, rows_up_to-leave, depth_enter, frames_enter, frames_other_enter, dropped_open}
 use Rattle.jg_locals.proofs.Tops.{by_top, by_no_top}
 use Rattle.jg_lists.proofs.Acts.{acts_more, acts_same, each_thread}
-use Rattle.jg_locals.proofs.StandingSteps.{filter_all, locals_kept, locals_same, frames_kept, frames_added, frames_same, allowed_more}
+use Rattle.jg_lists.proofs.Lists.{filter_all}
+use Rattle.jg_locals.proofs.StandingSteps.{locals_kept, locals_same, frames_kept, frames_added, frames_same, allowed_more}
 
 open_frames-push : (t : ℕ) (acts : List Act) → AllAllowed acts → has_session acts ≡ true
     → open_frames t acts ++ record { tid = t; depth = depth acts; frame = suc (frames (depth acts) acts) } ∷ [] ≡ open_frames t (Push ∷ acts)

@@ -8,7 +8,7 @@ use Rattle.jg_locals.specs.Rows.{LocalRow}
 use Rattle.jg_locals.specs.Rows.{Rows, is_local}
 use Rattle.jg_locals.specs.Standing.{rows_of_local, Stands}
 use Rattle.jg_locals.specs.Laws.{HeldMeans}
-use Rattle.jg_locals.proofs.Members.{Member, member_filter, any_member, any_of_filter}
+use Rattle.jg_lists.proofs.Lists.{Member, member_filter, any_member, any_of_filter}
 use Rattle.jg_locals.proofs.Lives.{live_was_made}
 
 live_of_member : (t n o : ℕ) (row : LocalRow) (found : Option Local) → Member row (rows_of_local t found) → row.object ≡ o → object_of found ≡ Some o

@@ -10,7 +10,6 @@ mod Lives
 mod LocalSteps
 mod Looking
 mod Lookups
-mod Members
 mod Numbers
 mod OpenFrames
 mod StandingSteps

@@ -130,12 +130,11 @@ less_deep n o since before h s (inr is) = absurd (omega (arith, survived_frame n
 
 pub left_means : LeftMeans
 left_means n o since before h kept =
-    let s = not_ended_survives n since kept in
-    (
+    let s = not_ended_survives n since kept in (
       (λ is. less_deep n o since before h s (not_left n Leave since refl s is)),
       (λ is.
-      let gone : how_many is_enter (Leave ∷ since) < how_many is_leave (Leave ∷ since) = omega (arith, depth_since n o before since h.0 s, h.1, is) in
-      inr (inl gone)),
+          let gone : how_many is_enter (Leave ∷ since) < how_many is_leave (Leave ∷ since) = omega (arith, depth_since n o before since h.0 s, h.1, is) in
+          inr (inl gone)),
     )
 
 fewer_frames : (n o : ℕ) (since before : List Act) → AllAllowed (Pop ∷ (since ++ Make n o ∷ before)) → survives n since ≡ true
@@ -152,8 +151,7 @@ more_popped n o since before h s is =
 
 pub popped_means : PoppedMeans
 popped_means n o since before h kept =
-    let s = not_ended_survives n since kept in
-    (
+    let s = not_ended_survives n since kept in (
       (λ is. fewer_frames n o since before h s (not_left n Pop since refl s is)),
       (λ is. inr (inr (more_popped n o since before h s is))),
     )

@@ -4,13 +4,10 @@ use Rattle.std.specs.Prelude.{◌==◌, ◌||◌, ◌&&◌, if◌then◌else◌}
 use Rattle.std.specs.List.{list_any}
 use Rattle.std.proofs.lemmas.Bool.Decides.{nat_tests}
 use Rattle.jg_lists.specs.Acts.{moments}
+use Rattle.jg_lists.proofs.Lists.{none_either}
 use Rattle.jg_locals.specs.History.{Act, how_many, depth, begins, done_at, frames, is_push, is_pop}
 use Rattle.jg_locals.specs.Laws.{is_at_depth, begins_at, OpenFramesMean}
 use Rattle.jg_locals.proofs.Looking.{pops_at_most_pushes}
-
-none_either : (a b : Bool) → (a || b) ≡ false → (a ≡ false) × (b ≡ false)
-none_either true b none = cc
-none_either false b none = (refl, none)
 
 -- since its activation began, the acts of a kind at a depth are counted by their moments
 counted : (kind : Act → Bool) (d : ℕ) (later before : List Act) (a : Act) → begins d a before ≡ true → list_any (begins_at d) (moments later (a ∷ before)) ≡ false

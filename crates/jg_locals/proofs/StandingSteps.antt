@@ -10,15 +10,8 @@ use Rattle.jg_locals.specs.Rows.{FrameRow}
 use Rattle.jg_locals.specs.Rows.{is_local}
 use Rattle.jg_locals.specs.Standing.{IsAllowed, AllAllowed, rows_of_local, open_frames}
 use Rattle.jg_lists.proofs.Acts.{acts_more, acts_same, each_thread}
+use Rattle.jg_lists.proofs.Lists.{filter_swap, filter_all}
 use Rattle.jg_locals.proofs.LocalSteps.{keeps, rows_step}
-
-pub filter_swap : {X : Type 0} (p q : X → Bool) (xs : List X) → filter p (filter q xs) ≡ filter q (filter p xs)
-filter_swap p q [] = refl
-filter_swap p q (x ∷ xs) = grind (arith, filter_swap p q xs)
-
-pub filter_all : {X : Type 0} (xs : List X) → filter (λ x. true) xs ≡ xs
-filter_all [] = refl
-filter_all (x ∷ xs) = ap (λ l. x ∷ l) (filter_all xs)
 
 -- the rows of one local, filtered
 one_kept : (t : ℕ) (p k : LocalRow → Bool) (found : Option Local) → ((row : LocalRow) → row.tid ≡ t → p row ≡ k row) → filter p (rows_of_local t found) ≡ filter k (rows_of_local t found)

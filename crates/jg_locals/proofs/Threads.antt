@@ -24,7 +24,7 @@ use Rattle.jg_locals.specs.Standing.{Stands}
 use Rattle.jg_locals.specs.Seen.{last, StackRows, slots_in, frames_in, stack_at, local_row, frame_row, gather, locals_of, frames_of, rows_seen, rooms_seen, room_seen, room_in, Changes, slot_made, IsNext, is_under}
 use Rattle.jg_locals.proofs.Chains.{each-map, each-filter, filter-all, filter-none, filter-twice, filter-alike}
 use Rattle.jg_lists.proofs.Acts.{each_thread}
-use Rattle.jg_locals.proofs.StandingSteps.{filter_swap}
+use Rattle.jg_lists.proofs.Lists.{filter_swap}
 use Rattle.jg_locals.proofs.FrameSteps.{is_not_frame, is_not_depth}
 use Rattle.jg_locals.proofs.Tops.{find-reverse}
 use Rattle.jg_locals.proofs.Lookups.{fresh}

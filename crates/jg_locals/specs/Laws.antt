@@ -44,7 +44,8 @@ LeftMeans = (n o : ℕ) (since before : List Act) → AllAllowed (Leave ∷ (sin
 -- open than at the making (JNI Specification, chapter 4, PopLocalFrame)
 abbrev pub PoppedMeans : Type 0
 PoppedMeans = (n o : ℕ) (since before : List Act) → AllAllowed (Pop ∷ (since ++ Make n o ∷ before)) → IsNotEnded n since
-    → IsEndedBy n Pop since ↔ (frames (depth before) (Pop ∷ (since ++ Make n o ∷ before)) < frames (depth before) before)
+    → IsEndedBy n Pop since ↔ (frames (depth before) (Pop ∷ (since ++ Make n o ∷ before))
+        < frames (depth before) before)
 
 -- the moment is of that kind and at that depth
 abbrev pub is_at_depth : (Act → Bool) → ℕ → Moment Act → Bool
@@ -74,7 +75,8 @@ HeldMeans = (e : List Event) (o : ℕ) → IsTrue (holds_object e o) ↔ ((t : �
 
 -- a thread with a session has a frame
 abbrev pub SessionHasFrame : Type 0
-SessionHasFrame = (rows : Rows) (e : List Event) (t : ℕ) → Stands rows e → has_session (acts_of t e) ≡ true → HasFrame t rows
+SessionHasFrame = (rows : Rows) (e : List Event) (t : ℕ) → Stands rows e → has_session (acts_of t e) ≡ true
+    → HasFrame t rows
 
 -- the newest frame, where the thread has a session: its depth, and the frames pushed there
 abbrev pub top_of_acts : ℕ → List Act → Option FrameRow

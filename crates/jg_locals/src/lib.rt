@@ -1,5 +1,6 @@
 //! Local references and the frames that they live in (JNI Specification, chapter 2, "Local
-//! References", and chapter 4, `PushLocalFrame` and `PopLocalFrame`).
+//! References", and chapter 4, `PushLocalFrame` and `PopLocalFrame`). Chapters in the documentation
+//! of calls are the JNI Specification's.
 #![tactic(auto)]
 
 mod locals;

@@ -39,7 +39,7 @@ impl<A: Allocator> Model for Locals<A> {
 }
 
 impl<A: Allocator + Clone> Locals<A> {
-    /// No thread has a session. Each list takes a handle of its own.
+    /// No thread has a session. Takes no memory; each thread's lists grow from a clone of a handle.
     pub fn new(locals: A, frames: A) -> Locals<A>
         ensures stands { Stands result.rows [] }
         ensures rows { result.rows ≡ record { locals = []; frames = [] } }
@@ -50,7 +50,9 @@ impl<A: Allocator + Clone> Locals<A> {
         }
     }
 
-    /// Begins the session of a thread that has none, with an empty base frame at depth 0.
+    /// Begins the session of a thread that has none, with an empty base frame at depth 0 (chapter 5,
+    /// `AttachCurrentThread`). Asks that it has none; the test is `has_session`. Fails only for want
+    /// of memory, and then leaves all rows unchanged; after `reserve_start` it can't fail.
     pub fn start_thread(&mut self, tid: Tid) -> Result<(), AllocError>
         requires { IsNone (top tid.0 self.old.rows.frames) }
         ensures ok { OnOk result ((e : List Event) → Stands self.old.rows e
@@ -62,8 +64,10 @@ impl<A: Allocator + Clone> Locals<A> {
         open_at(&mut self.stacks, tid.0, Frame { depth: 0, frame: 0 })
     }
 
-    /// Makes local `n` for the object, in the thread's newest frame. `n` is above the number of
-    /// each local of the thread.
+    /// Makes local `n` for the object, in the thread's newest frame (chapter 2, "Global and Local
+    /// References"). Asks that the thread has a session (`has_session`) and that `n` is above the
+    /// number of each live local of the thread (`is_above`). Fails only for want of memory, and then
+    /// leaves all rows unchanged; after `reserve` it can't fail.
     pub fn make(&mut self, tid: Tid, n: u64, object: ObjId) -> Result<(), AllocError>
         requires started { HasFrame tid.0 self.old.rows }
         requires above { All (λ row. row.tid ≡ tid.0 → row.n < n) self.old.rows.locals }
@@ -77,7 +81,8 @@ impl<A: Allocator + Clone> Locals<A> {
         make_at(&mut self.stacks, tid.0, top, n, object.0)
     }
 
-    /// Makes room for one more local of the thread, so that the next `make` can't fail.
+    /// Makes room for one more local of the thread, so that the next `make` can't fail. Fails only
+    /// for want of memory; no row changes either way.
     pub fn reserve(&mut self, tid: Tid) -> Result<(), AllocError>
         ensures ok { OnOk result (0 < spare self.new tid.0) }
         ensures rows { self.new.rows ≡ self.old.rows }
@@ -87,7 +92,8 @@ impl<A: Allocator + Clone> Locals<A> {
         reserve_at(&mut self.stacks, tid.0)
     }
 
-    /// Makes room for the thread's base frame, so that the next `start_thread` can't fail.
+    /// Makes room for the thread's base frame, so that the next `start_thread` can't fail. Fails only
+    /// for want of memory; no row changes either way.
     pub fn reserve_start(&mut self, tid: Tid) -> Result<(), AllocError>
         ensures ok { OnOk result (0 < spare_starts self.new tid.0) }
         ensures rows { self.new.rows ≡ self.old.rows }
@@ -97,7 +103,9 @@ impl<A: Allocator + Clone> Locals<A> {
         reserve_frame_at(&mut self.stacks, tid.0)
     }
 
-    /// Pushes a frame.
+    /// Pushes a frame (chapter 4, `PushLocalFrame`). Asks that the thread has a session
+    /// (`has_session`) and that its frames can be counted (`pushed` below the greatest `u64`). Fails
+    /// only for want of memory, and then leaves all rows unchanged.
     pub fn push(&mut self, tid: Tid) -> Result<(), AllocError>
         requires started { HasFrame tid.0 self.old.rows }
         requires fits { pushed tid.0 self.old.rows < u64.MAX }
@@ -117,7 +125,10 @@ impl<A: Allocator + Clone> Locals<A> {
         )
     }
 
-    /// Enters a native method: a new activation, with an empty base frame.
+    /// Enters a native method: a new activation, with an empty base frame (chapter 2, "Global and
+    /// Local References"). Asks that the thread has a session (`has_session`) and that its depth can
+    /// be counted (`depth` below the greatest `u64`). Fails only for want of memory, and then leaves
+    /// all rows unchanged.
     pub fn enter(&mut self, tid: Tid) -> Result<(), AllocError>
         requires started { HasFrame tid.0 self.old.rows }
         requires fits { entered tid.0 self.old.rows < u64.MAX }
@@ -137,7 +148,8 @@ impl<A: Allocator + Clone> Locals<A> {
         )
     }
 
-    /// Ends the thread's local `n`, if it is live.
+    /// Ends the thread's local `n`, if it is live (chapter 4, `DeleteLocalRef`). Takes no memory, and
+    /// asks for nothing.
     pub fn delete(&mut self, tid: Tid, n: u64)
         ensures stands { (e : List Event) → Stands self.old.rows e → Stands self.new.rows (by tid.0 (Delete n) ∷ e) }
         ensures room { spare self.old tid.0 ≤ spare self.new tid.0 }
@@ -145,7 +157,8 @@ impl<A: Allocator + Clone> Locals<A> {
         delete_at(&mut self.stacks, tid.0, n);
     }
 
-    /// Pops the thread's newest frame, with the locals made in it. The test is `can_pop`.
+    /// Pops the thread's newest frame, with the locals made in it (chapter 4, `PopLocalFrame`). Asks
+    /// that a frame is pushed at the thread's depth; the test is `can_pop`. Takes no memory.
     pub fn pop(&mut self, tid: Tid)
         requires { 0 < pushed tid.0 self.old.rows }
         ensures stands { (e : List Event) → Stands self.old.rows e → Stands self.new.rows (by tid.0 Pop ∷ e) }
@@ -155,7 +168,9 @@ impl<A: Allocator + Clone> Locals<A> {
         pop_at(&mut self.stacks, tid.0, top);
     }
 
-    /// Leaves the native method, with all frames and locals of its activation.
+    /// Leaves the native method, with all frames and locals of its activation (chapter 2, "Global and
+    /// Local References": freed when the native method returns). Asks that the thread is in a native
+    /// method (`depth` above 0). Takes no memory.
     pub fn leave(&mut self, tid: Tid)
         requires { 0 < entered tid.0 self.old.rows }
         ensures stands { (e : List Event) → Stands self.old.rows e → Stands self.new.rows (by tid.0 Leave ∷ e) }
@@ -165,7 +180,8 @@ impl<A: Allocator + Clone> Locals<A> {
         leave_at(&mut self.stacks, tid.0, top);
     }
 
-    /// Ends the thread's session, with all its frames and locals.
+    /// Ends the thread's session, if it has one, with all its frames and locals (chapter 5,
+    /// `DetachCurrentThread`). Takes no memory, and asks for nothing.
     pub fn drop_thread(&mut self, tid: Tid)
         ensures { (e : List Event) → Stands self.old.rows e → Stands self.new.rows (by tid.0 End ∷ e) }
     {
@@ -238,8 +254,8 @@ impl<A: Allocator + Clone> Locals<A> {
         names_object_in(&self.stacks, object.0)
     }
 
-    /// Sets the mark of each object that a live local of some thread names, and leaves the
-    /// others. `marks` counts objects by their numbers; those past its end are passed over.
+    /// Sets the mark of each object that a live local of some thread names and leaves the other
+    /// marks. An object past the end of `marks` is passed over.
     pub fn mark_held(&self, marks: &mut [bool])
         ensures { (e : List Event) → Stands self.now.rows e → Marks (holds_object e) marks.old marks.new }
     {

@@ -16,14 +16,23 @@ fn start<A: Allocator + Clone>(
     locals.start_thread(tid)
 }
 
+fn make_for<A: Allocator + Clone>(
+    rt: &impl Abort,
+    locals: &mut Locals<A>,
+    tid: Tid,
+    n: u64,
+) -> Result<(), AllocError> {
+    assert!(rt; locals.has_session(tid));
+    assert!(rt; locals.is_above(tid, n));
+    locals.make(tid, n, ObjId(n))
+}
+
 fn make<A: Allocator + Clone>(
     rt: &impl Abort,
     locals: &mut Locals<A>,
     n: u64,
 ) -> Result<(), AllocError> {
-    assert!(rt; locals.has_session(T));
-    assert!(rt; locals.is_above(T, n));
-    locals.make(T, n, ObjId(n))
+    make_for(rt, locals, T, n)
 }
 
 fn push<A: Allocator + Clone>(rt: &impl Abort, locals: &mut Locals<A>) -> Result<(), AllocError> {
@@ -131,6 +140,27 @@ fn threads_apart(rt: HostRuntime) -> Result<(), Fail> {
     assert!(rt; !locals.has_session(other));
     assert_eq!(rt; locals.get(T, 1), Some(ObjId(1)));
     assert!(rt; locals.can_pop(T));
+    Ok(())
+}
+
+/// 65,535 threads have a session and a local each, one of them as many more, and none is refused.
+#[test]
+fn many_threads(rt: HostRuntime) -> Result<(), Fail> {
+    let mut locals = Locals::new(rt.alloc(), rt.alloc());
+    for t in 0..u16::MAX {
+        start(&rt, &mut locals, Tid(t))?;
+        make_for(&rt, &mut locals, Tid(t), 1)?;
+    }
+    for n in 2..65_537u64 {
+        make(&rt, &mut locals, n)?;
+    }
+    for t in 0..u16::MAX {
+        assert_eq!(rt; locals.get(Tid(t), 1), Some(ObjId(1)));
+        assert_eq!(rt; locals.get(Tid(t), 2).is_some(), t == 1);
+        locals.drop_thread(Tid(t));
+        assert!(rt; !locals.has_session(Tid(t)));
+    }
+    assert!(rt; !locals.holds_object(ObjId(1)));
     Ok(())
 }
 

@@ -5,7 +5,7 @@ use Rattle.std.specs.List.{find}
 use Rattle.std.proofs.lemmas.Bool.Decides.{nat_tests}
 use Rattle.jg_monitors.specs.History.{Act, Enter, Exit, ReleaseAll, Event, by, acts_of, since, enters, exits, how_many, count, owner, is_some, held}
 use Rattle.jg_monitors.specs.Standing.{IsAllowed, AllAllowed}
-use Rattle.jg_monitors.proofs.Lists.{Member}
+use Rattle.jg_lists.proofs.Lists.{Member}
 
 -- how often the thread entered and exited since it last released all
 abbrev pub entries_in : List Event → ℕ → ℕ → ℕ

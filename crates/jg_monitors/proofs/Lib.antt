@@ -1,5 +1,4 @@
 mod Counting
-mod Lists
 mod Lookups
 mod Pairs
 mod Splits

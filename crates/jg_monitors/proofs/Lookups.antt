@@ -14,9 +14,10 @@ use Rattle.jg_monitors.specs.Rows.{Rows, is_of, row_of, owner_in, count_in}
 use Rattle.jg_monitors.specs.Seen.{seen, count_by_owner}
 use Rattle.jg_monitors.specs.Standing.{AllAllowed, rows_of, Stands}
 use Rattle.jg_monitors.specs.Laws.{RowTells}
-use Rattle.jg_monitors.proofs.Lists.{first}
+use Rattle.jg_lists.proofs.Acts.{at_key}
+use Rattle.jg_lists.proofs.Lists.{first}
 use Rattle.jg_monitors.proofs.Counting.{owner_is, no_owner}
-use Rattle.jg_monitors.proofs.Steps.{row_at, find_first, found_row, at_key, Tells, tells}
+use Rattle.jg_monitors.proofs.Steps.{row_at, find_first, found_row, Tells, tells}
 
 -- a value is seen as its view
 pub reopened : (a b : Rows) (e : List Event) → a ≡ b → Stands b e → Stands a e

@@ -16,7 +16,8 @@ use Rattle.jg_monitors.specs.History.{Enter, Exit, ReleaseAll, Event, by, count,
 use Rattle.jg_monitors.specs.Rows.{Row, is_of}
 use Rattle.jg_monitors.specs.Seen.{seen, lowered, count_by_owner}
 use Rattle.jg_monitors.specs.Standing.{IsAllowed, AllAllowed, rows_of, Stands}
-use Rattle.jg_monitors.proofs.Lists.{first}
+use Rattle.jg_lists.proofs.Acts.{at_key}
+use Rattle.jg_lists.proofs.Lists.{first}
 use Rattle.jg_monitors.proofs.Counting.{count_enter, count_exit, count_release, count_other_thread, count_other_enter, count_other_exit, one_owner, owner_is, owner_has, no_owner, all_free}
 
 -- ---- rows and look-ups
@@ -29,9 +30,6 @@ row_at o (Some w) = Some (seen (o, w))
 abbrev pub rows_at : ℕ → Option Owned → List Row
 rows_at o None = []
 rows_at o (Some w) = seen (o, w) ∷ []
-
-pub at_key : (o k : ℕ) → is_at (nat_cmp o) k ≡ (k == o)
-at_key o k = grind (arith, nat_tests)
 
 found_by : (o : ℕ) (e : ℕ × Owned) (es : List (ℕ × Owned)) (b : Bool) → (e.0 == o) ≡ b → find (is_of o) (map seen es) ≡ row_at o (lookup (is_at (nat_cmp o)) es)
     → (if b then Some (seen e) else find (is_of o) (map seen es)) ≡ row_at o (if b then Some e.1 else lookup (is_at (nat_cmp o)) es)

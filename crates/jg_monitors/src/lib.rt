@@ -1,5 +1,6 @@
 //! Monitors: which thread owns the monitor of an object, and how often it entered it (JNI
-//! Specification, chapter 4, "Monitor Operations").
+//! Specification, chapter 4, "Monitor Operations"). Chapters in the documentation of calls are the
+//! JNI Specification's.
 #![tactic(auto)]
 
 mod entering;

@@ -48,8 +48,9 @@ impl<A: Allocator + Clone> Monitors<A> {
     }
 
     /// Enters the monitor of the object, once more where the thread owns it already (chapter 4,
-    /// `MonitorEnter`). `Busy` where another thread owns it: nothing changes. Fails only for want
-    /// of memory, and then leaves all unchanged.
+    /// `MonitorEnter`). `Busy` where another thread owns it: nothing changes. Asks that its count can
+    /// rise (`count` below the greatest `u64`). Fails only for want of memory, at a monitor that is
+    /// free, and then leaves all unchanged.
     pub fn enter(&mut self, tid: Tid, object: ObjId) -> Result<Entering, AllocError>
         requires { count_in (row_of object.0 self.old) < u64.MAX }
         ensures row { IfOk result (λ answer. answer ≡ entering tid.0 (owner_in (row_of object.0 self.old))) }
@@ -78,7 +79,7 @@ impl<A: Allocator + Clone> Monitors<A> {
     }
 
     /// Exits the monitor of the object once; the owner's last exit frees it (chapter 4,
-    /// `MonitorExit`).
+    /// `MonitorExit`). Asks that the thread owns it; the test is `owner`. Takes no memory.
     pub fn exit(&mut self, tid: Tid, object: ObjId)
         requires { owner_in (row_of object.0 self.old) ≡ Some tid.0 }
         ensures { (e : List Event) → Stands self.old e → Stands self.new (by tid.0 (Exit object.0) ∷ e) }
@@ -110,7 +111,7 @@ impl<A: Allocator + Clone> Monitors<A> {
     }
 
     /// Releases all monitors that the thread owns, as its detachment does (chapter 5,
-    /// `DetachCurrentThread`).
+    /// `DetachCurrentThread`). Takes no memory, asks for nothing, and visits no other thread's.
     pub fn release_all(&mut self, tid: Tid)
         ensures { (e : List Event) → Stands self.old e → Stands self.new (by tid.0 ReleaseAll ∷ e) }
     {

@@ -54,6 +54,27 @@ fn released_with_the_session(rt: HostRuntime) -> Result<(), Fail> {
     Ok(())
 }
 
+/// 65,535 threads enter a monitor each, again and again, and none is refused.
+#[test]
+fn many_threads(rt: HostRuntime) -> Result<(), Fail> {
+    let mut table = Monitors::new(rt.alloc(), rt.alloc());
+    for t in 0..u16::MAX {
+        let object = ObjId(t as u64);
+        assert!(rt; table.count(object) < u64::MAX);
+        assert_eq!(rt; table.enter(Tid(t), object)?, Entering::Entered);
+        assert!(rt; table.count(object) < u64::MAX);
+        assert_eq!(rt; table.enter(Tid(t), object)?, Entering::Entered);
+    }
+    for t in 0..u16::MAX {
+        let object = ObjId(t as u64);
+        assert_eq!(rt; table.owner(object), Some(Tid(t)));
+        assert_eq!(rt; table.count(object), 2);
+        table.release_all(Tid(t));
+        assert!(rt; !table.held(object));
+    }
+    Ok(())
+}
+
 /// Takes the largest block that the heap still has, so that no list can grow.
 fn ballast<'a>(heap: &'a LocalHeap) -> Vec<u8, &'a LocalHeap> {
     let mut block = Vec::new(heap);

@@ -1,33 +1,52 @@
 -- How worked rows are written: lines, each a call and what becomes of it, in the order in which the calls are made.
-use Rattle.std.specs.Prelude.{◌≡◌, ℕ, false, List, [], map, Option, Some, None}
+use Rattle.std.specs.Prelude.{◌≡◌, ℕ, false, List, [], map, reverse, Option, Some, None}
 use Rattle.jg_words.specs.declared.thread.EnvId.{EnvId}
 use Rattle.jg_words.specs.declared.reference.Ref.{Ref}
 use Rattle.jg_words.specs.declared.reference.Ref.TheVariants.{To}
 use Rattle.jg_words.specs.declared.reference.Kind.TheVariants.{Local, Global, Weak}
+use Rattle.jg_words.specs.declared.object.ObjId.{ObjId}
+use Rattle.jg_words.specs.declared.rule.Rule.{Rule}
 use Rattle.jg_words.specs.declared.value.Value.{Value}
+use Rattle.jg_words.specs.declared.value.Value.TheVariants.{Reference}
+use Rattle.jg_words.specs.declared.entry.Entry.{Entry}
 use Rattle.jg_words.specs.declared.entry.Outcome.{Outcome}
-use Rattle.jg_words.specs.declared.entry.Outcome.TheVariants.{Passed}
+use Rattle.jg_words.specs.declared.entry.Outcome.TheVariants.{Passed, Denied}
 use Rattle.jg_words.specs.declared.call.Call.{Call}
 use Rattle.jg_policy.specs.declared.mode.Mode.TheVariants.{Deny}
 use Rattle.jg_policy.specs.Stated.{StatedSetup}
-use Rattle.jg_rules.specs.Legal.{Asked, replay, outcomes}
+use Rattle.jg_rules.specs.Legal.{Asked, replay}
+use Rattle.jg_text.specs.Journal.{journal_text}
 
 -- the setup that denies native access and states nothing else
 abbrev pub closed : StatedSetup
 closed = record { mode = Deny; enabled = []; classes = [] }
 
+-- what becomes of a call: its outcome, and the object that it hands out a reference for or makes pending
+pub record Became : Type 0 where
+  pub outcome : Outcome
+  pub object : Option ObjId
+
 -- a call, and what becomes of it
 pub record Line : Type 0 where
   pub asked : Asked
-  pub outcome : Outcome
+  pub expected : Became
 
--- `T1 E1.1 call = outcome`: the thread, the environment or `bare`, the call and its outcome
-abbrev pub line : ℕ → Option EnvId → Call → Outcome → Line
-line t e call outcome = record { asked = record { tid = record { 0 = t }; env = e; call = call }; outcome = outcome }
+-- `T1 E1.1 call = ..`: the thread, the environment or `bare`, the call and what becomes of it
+abbrev pub line : ℕ → Option EnvId → Call → Became → Line
+line t e call expected = record { asked = record { tid = record { 0 = t }; env = e; call = call }; expected = expected }
+
+-- what became of an entry's call
+abbrev pub became_of : Entry → Became
+became_of x = record { outcome = x.outcome; object = x.object }
 
 -- the calls of these lines, made one after the other, come out as the lines say
 abbrev pub ComesOut : StatedSetup → List Line → Type 0
-ComesOut setup lines = outcomes (replay setup (map (λ l. l.asked) lines)) ≡ map (λ l. l.outcome) lines
+ComesOut setup lines =
+    reverse (map became_of (replay setup (map (λ l. l.asked) lines))) ≡ map (λ l. l.expected) lines
+
+-- the journal of these calls is this text
+abbrev pub HasText : StatedSetup → List Line → List ℕ → Type 0
+HasText setup lines text = journal_text (replay setup (map (λ l. l.asked) lines)) ≡ text
 
 -- `E1.2`: the environment of the thread's second session
 abbrev pub environment : ℕ → ℕ → EnvId
@@ -51,6 +70,16 @@ global t n = To Global (record { 0 = t }) n
 abbrev pub weak : ℕ → ℕ → Ref
 weak t n = To Weak (record { 0 = t }) n
 
--- passed with this value and no warning
-abbrev pub gives : Value → Outcome
-gives value = Passed (record { value = value; warned = false })
+-- passed with this value and no warning, and no object is handed out
+abbrev pub gives : Value → Became
+gives value = record { outcome = Passed (record { value = value; warned = false }); object = None }
+
+-- passed with this reference and no warning; it names the object of this number, where the first object that is made
+-- is number 15, after the class objects of the base classes
+abbrev pub hands_out : Ref → ℕ → Became
+hands_out r n =
+    record { outcome = Passed (record { value = Reference r; warned = false }); object = Some (record { 0 = n }) }
+
+-- denied by this rule
+abbrev pub denies : Rule → Became
+denies rule = record { outcome = Denied rule; object = None }

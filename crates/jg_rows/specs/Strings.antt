@@ -1,23 +1,22 @@
 -- Rows on strings.
 use Rattle.std.specs.Prelude.{pos, negsuc, List, [], ◌∷◌}
 use Rattle.jg_words.specs.declared.reference.Ref.TheVariants.{Null}
-use Rattle.jg_words.specs.declared.value.Value.TheVariants.{Ok as Done, Number as Amount, Reference, Environment}
-use Rattle.jg_words.specs.declared.entry.Outcome.TheVariants.{Denied}
+use Rattle.jg_words.specs.declared.value.Value.TheVariants.{Ok as Done, Number as Amount, Environment}
 use Rattle.jg_words.specs.declared.rule.Rule.TheVariants.{DeadReference, NullReference, BadArgument}
 use Rattle.jg_words.specs.declared.call.Call.TheVariants.{Vm, Refs, Strings}
 use Rattle.jg_words.specs.declared.call.vm.VmCall.TheVariants.{AttachCurrentThread, DetachCurrentThread}
 use Rattle.jg_words.specs.declared.call.refs.RefsCall.TheVariants.{DeleteLocalRef}
 use Rattle.jg_words.specs.declared.call.strings.StringsCall.TheVariants.{NewString, GetStringLength}
-use Rattle.jg_rows.specs.Lines.{Line, line, bare, env, environment, local, gives}
+use Rattle.jg_rows.specs.Lines.{Line, line, bare, env, environment, local, gives, hands_out, denies}
 
 -- a string is made, measured and let go
 abbrev pub first_path : List Line
 first_path =
     line 1 bare (Vm AttachCurrentThread) (gives (Environment (environment 1 1)))
-    ∷ line 1 (env 1 1) (Strings (NewString (pos 72 ∷ pos 105 ∷ []))) (gives (Reference (local 1 1)))
+    ∷ line 1 (env 1 1) (Strings (NewString (pos 72 ∷ pos 105 ∷ []))) (hands_out (local 1 1) 15)
     ∷ line 1 (env 1 1) (Strings (GetStringLength (local 1 1))) (gives (Amount (pos 2)))
     ∷ line 1 (env 1 1) (Refs (DeleteLocalRef (local 1 1))) (gives Done)
-    ∷ line 1 (env 1 1) (Strings (GetStringLength (local 1 1))) (Denied DeadReference)
+    ∷ line 1 (env 1 1) (Strings (GetStringLength (local 1 1))) (denies DeadReference)
     ∷ line 1 bare (Vm DetachCurrentThread) (gives Done)
     ∷ []
 
@@ -25,10 +24,10 @@ first_path =
 abbrev pub units_of_strings : List Line
 units_of_strings =
     line 1 bare (Vm AttachCurrentThread) (gives (Environment (environment 1 1)))
-    ∷ line 1 (env 1 1) (Strings (NewString (pos 65536 ∷ []))) (Denied BadArgument)
-    ∷ line 1 (env 1 1) (Strings (NewString (negsuc 0 ∷ []))) (Denied BadArgument)
-    ∷ line 1 (env 1 1) (Strings (NewString (pos 65 ∷ pos 65536 ∷ pos 66 ∷ []))) (Denied BadArgument)
-    ∷ line 1 (env 1 1) (Strings (NewString (pos 0 ∷ pos 65535 ∷ pos 55296 ∷ []))) (gives (Reference (local 1 1)))
+    ∷ line 1 (env 1 1) (Strings (NewString (pos 65536 ∷ []))) (denies BadArgument)
+    ∷ line 1 (env 1 1) (Strings (NewString (negsuc 0 ∷ []))) (denies BadArgument)
+    ∷ line 1 (env 1 1) (Strings (NewString (pos 65 ∷ pos 65536 ∷ pos 66 ∷ []))) (denies BadArgument)
+    ∷ line 1 (env 1 1) (Strings (NewString (pos 0 ∷ pos 65535 ∷ pos 55296 ∷ []))) (hands_out (local 1 1) 15)
     ∷ line 1 (env 1 1) (Strings (GetStringLength (local 1 1))) (gives (Amount (pos 3)))
     ∷ []
 
@@ -37,10 +36,10 @@ abbrev pub lengths_of_strings : List Line
 lengths_of_strings =
     line 1 bare (Vm AttachCurrentThread) (gives (Environment (environment 1 1)))
     ∷ line 2 bare (Vm AttachCurrentThread) (gives (Environment (environment 2 1)))
-    ∷ line 1 (env 1 1) (Strings (GetStringLength Null)) (Denied NullReference)
-    ∷ line 1 (env 1 1) (Strings (NewString (pos 65 ∷ []))) (gives (Reference (local 1 1)))
-    ∷ line 2 (env 2 1) (Strings (NewString (pos 66 ∷ pos 67 ∷ []))) (gives (Reference (local 2 1)))
-    ∷ line 1 (env 1 1) (Strings (NewString [])) (gives (Reference (local 1 2)))
+    ∷ line 1 (env 1 1) (Strings (GetStringLength Null)) (denies NullReference)
+    ∷ line 1 (env 1 1) (Strings (NewString (pos 65 ∷ []))) (hands_out (local 1 1) 15)
+    ∷ line 2 (env 2 1) (Strings (NewString (pos 66 ∷ pos 67 ∷ []))) (hands_out (local 2 1) 16)
+    ∷ line 1 (env 1 1) (Strings (NewString [])) (hands_out (local 1 2) 17)
     ∷ line 1 (env 1 1) (Strings (GetStringLength (local 1 1))) (gives (Amount (pos 1)))
     ∷ line 2 (env 2 1) (Strings (GetStringLength (local 2 1))) (gives (Amount (pos 2)))
     ∷ line 1 (env 1 1) (Strings (GetStringLength (local 1 2))) (gives (Amount (pos 0)))

@@ -1,19 +1,52 @@
 //! Rows on strings.
 
-ghost use Rattle.jg_rows.specs.Lines.{ComesOut, closed};
+ghost use Rattle.jg_rows.specs.Lines.{ComesOut, HasText, closed};
 ghost use Rattle.jg_rows.specs.Strings as rows;
 
 /// A string is made, measured and let go.
 pub fn first_path()
-    ensures { ComesOut closed rows.first_path }
+    ensures outcomes { ComesOut closed rows.first_path }
+    ensures journal { HasText closed rows.first_path FIRST_PATH.now }
 {}
+
+/// The journal of `first_path`.
+pub const FIRST_PATH: &str = "T1 - AttachCurrentThread = E1.1
+T1 E1.1 NewString [72,105] = L1.1
+T1 E1.1 GetStringLength L1.1 = 2
+T1 E1.1 DeleteLocalRef L1.1 = ok
+T1 E1.1 GetStringLength L1.1 = deny 6 DeadReference
+T1 - DetachCurrentThread = ok
+";
 
 /// Units are from 0 to 65,535, and a denied call uses no number.
 pub fn units_of_strings()
-    ensures { ComesOut closed rows.units_of_strings }
+    ensures outcomes { ComesOut closed rows.units_of_strings }
+    ensures journal { HasText closed rows.units_of_strings UNITS_OF_STRINGS.now }
 {}
+
+/// The journal of `units_of_strings`.
+pub const UNITS_OF_STRINGS: &str = "T1 - AttachCurrentThread = E1.1
+T1 E1.1 NewString [65536] = deny 12 BadArgument
+T1 E1.1 NewString [-1] = deny 12 BadArgument
+T1 E1.1 NewString [65,65536,66] = deny 12 BadArgument
+T1 E1.1 NewString [0,65535,55296] = L1.1
+T1 E1.1 GetStringLength L1.1 = 3
+";
 
 /// The length of null, and of strings that are told apart by their references.
 pub fn lengths_of_strings()
-    ensures { ComesOut closed rows.lengths_of_strings }
+    ensures outcomes { ComesOut closed rows.lengths_of_strings }
+    ensures journal { HasText closed rows.lengths_of_strings LENGTHS_OF_STRINGS.now }
 {}
+
+/// The journal of `lengths_of_strings`.
+pub const LENGTHS_OF_STRINGS: &str = "T1 - AttachCurrentThread = E1.1
+T2 - AttachCurrentThread = E2.1
+T1 E1.1 GetStringLength null = deny 8 NullReference
+T1 E1.1 NewString [65] = L1.1
+T2 E2.1 NewString [66,67] = L2.1
+T1 E1.1 NewString [] = L1.2
+T1 E1.1 GetStringLength L1.1 = 1
+T2 E2.1 GetStringLength L2.1 = 2
+T1 E1.1 GetStringLength L1.2 = 0
+";

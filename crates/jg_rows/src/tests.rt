@@ -1,4 +1,4 @@
-//! The same rows as texts: scripts, checked, and what is written.
+//! The same rows as texts: the script of each, checked, and what is written.
 
 mod frames;
 mod references;
@@ -9,28 +9,66 @@ mod strings;
 use jg_guard::Guard;
 use jg_policy::Setup;
 use jg_script::{RunFault, Watched, check};
+use jg_text::front_of_call;
 use std::alloc::Global;
 use std::test::Fail;
 
 /// A script, the most entries that the journal may have, the text that is written, and the number
 /// of lines answered or the fault.
-struct Row {
+struct Ended {
     limit: u32,
     script: &'static str,
     text: &'static str,
     result: Result<u64, RunFault>,
 }
 
-/// A new guard answers the row's script as the row says.
-fn comes_out(alloc: Global, row: &Row) -> Result<(), Fail> {
-    let mut guard = Guard::new(alloc, alloc, Setup::closed(alloc), row.limit)?;
-    let mut reader = Watched::new(row.script.as_bytes());
+/// A new guard with this limit answers the script by this text, and ends so.
+fn answers(
+    alloc: Global,
+    limit: u32,
+    script: &[u8],
+    text: &str,
+    ended: Result<u64, RunFault>,
+) -> Result<(), Fail> {
+    let mut guard = Guard::new(alloc, alloc, Setup::closed(alloc), limit)?;
+    let mut reader = Watched::new(script);
     let mut writer = Watched::new(Vec::new(alloc));
-    if check(alloc, &mut guard, &mut reader, &mut writer) != row.result {
+    if check(alloc, &mut guard, &mut reader, &mut writer) != ended {
         return Err(Fail::from("the script ends otherwise"));
     }
-    if writer.into_inner().as_slice() != row.text.as_bytes() {
+    if writer.into_inner().as_slice() != text.as_bytes() {
         return Err(Fail::from("another text is written"));
     }
     Ok(())
+}
+
+/// The script of a journal's text: of each line the call, which is what stands before ` = `.
+fn script_of(alloc: Global, text: &str) -> Result<Vec<u8>, Fail> {
+    let mut script = Vec::new(alloc);
+    for line in text.lines() {
+        let Some(call) = front_of_call(line.as_bytes()) else {
+            return Err(Fail::from("a line has no call"));
+        };
+        script.extend_from_slice(call)?;
+        script.push(b'\n')?;
+    }
+    Ok(script)
+}
+
+/// The calls of the row's text are answered by this very text.
+fn comes_out(alloc: Global, text: &str) -> Result<(), Fail> {
+    let script = script_of(alloc, text)?;
+    let count = text.lines().count() as u64;
+    answers(alloc, 100, &script, text, Ok(count))
+}
+
+/// The script is answered as the row says.
+fn ends(alloc: Global, row: &Ended) -> Result<(), Fail> {
+    answers(
+        alloc,
+        row.limit,
+        row.script.as_bytes(),
+        row.text,
+        row.result,
+    )
 }

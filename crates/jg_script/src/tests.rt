@@ -166,7 +166,10 @@ fn a_slow_reader_does_not_fail(rt: HostRuntime) -> Result<(), Fail> {
         let reader = BufReader::with_capacity(rt.alloc(), capacity, Slow { bytes })?;
         let done = run(rt.alloc(), reader, 10, 1000)?;
         assert_eq!(rt; done.result, Ok(6), "at {capacity}");
-        assert!(rt; done.written.as_slice() == FIRST_PATH_ANSWERED.as_bytes(), "at {capacity}");
+        assert!(rt;
+            done.written.as_slice() == FIRST_PATH_ANSWERED.as_bytes(),
+            "at {capacity}"
+        );
         assert!(rt; !done.reader_failed && !done.writer_failed, "at {capacity}");
         let bytes = FIRST_PATH_ANSWERED.as_bytes();
         let reader = BufReader::with_capacity(rt.alloc(), capacity, Slow { bytes })?;
@@ -191,7 +194,10 @@ fn lists_have_at_most_a_thousand_items(rt: HostRuntime) -> Result<(), Fail> {
     let script = script_with_list(rt.alloc(), 1000)?;
     let done = run(rt.alloc(), script.as_bytes(), 10, 10_000)?;
     assert_eq!(rt; done.result, Ok(3));
-    assert!(rt; done.written.ends_with(b"GetStringLength L1.1 = 1000\n".as_slice()));
+    assert!(rt;
+        done.written
+            .ends_with(b"GetStringLength L1.1 = 1000\n".as_slice())
+    );
     let script = script_with_list(rt.alloc(), 1001)?;
     let done = run(rt.alloc(), script.as_bytes(), 10, 10_000)?;
     let faulty = Err(RunFault::Script {
@@ -210,7 +216,12 @@ fn a_flush_reaches_the_device_or_fails(rt: HostRuntime) -> Result<(), Fail> {
     let mut guard = Guard::new(rt.alloc(), rt.alloc(), Setup::closed(rt.alloc()), 10)?;
     assert_eq!(rt; guard.journal_len(), 0);
     assert_eq!(rt;
-        check(rt.alloc(), &mut guard, &mut Watched::new(script), &mut writer),
+        check(
+            rt.alloc(),
+            &mut guard,
+            &mut Watched::new(script),
+            &mut writer
+        ),
         Ok(6)
     );
     assert!(rt; writer.flush().is_ok() && !writer.has_failed());
@@ -223,7 +234,12 @@ fn a_flush_reaches_the_device_or_fails(rt: HostRuntime) -> Result<(), Fail> {
     let mut guard = Guard::new(rt.alloc(), rt.alloc(), Setup::closed(rt.alloc()), 10)?;
     assert_eq!(rt; guard.journal_len(), 0);
     assert_eq!(rt;
-        check(rt.alloc(), &mut guard, &mut Watched::new(script), &mut writer),
+        check(
+            rt.alloc(),
+            &mut guard,
+            &mut Watched::new(script),
+            &mut writer
+        ),
         Ok(6)
     );
     assert!(rt; writer.flush().is_err() && writer.has_failed());

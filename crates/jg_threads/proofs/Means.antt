@@ -105,8 +105,8 @@ number_of false n m on is = cc
 pub session_means : SessionMeans
 session_means acts n = (
   (λ is.
-  let both = numbered (attached acts) (sessions acts) n is in
-  (both.0, sym (sessions_counted acts) ∙ both.1)),
+      let both = numbered (attached acts) (sessions acts) n is in
+      (both.0, sym (sessions_counted acts) ∙ both.1)),
   (λ both. number_of (attached acts) (sessions acts) n both.0 (sessions_counted acts ∙ both.1)),
 )
 
@@ -116,8 +116,8 @@ itself o = grind (arith, nat_tests)
 pub is_pending_means : IsPendingMeans
 is_pending_means e o = (
   (λ is.
-  let found = some_event (λ ev. is_object o (pending (acts_of ev.tid e))) e is in
-  (found.0.tid, object_is o (pending (acts_of found.0.tid e)) found.1)),
+      let found = some_event (λ ev. is_object o (pending (acts_of ev.tid e))) e is in
+      (found.0.tid, object_is o (pending (acts_of found.0.tid e)) found.1)),
   (λ some. is_pending_by e o some.0 (ap (is_object o) some.1 ∙ itself o)),
 )
 

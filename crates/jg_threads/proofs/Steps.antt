@@ -248,7 +248,8 @@ attach_again_law rows e u r stands is on =
     let here : attached (acts_of u e) ≡ true = sym (ap (λ (r : Row). r.attached) (is ∙ stands.threads u)) ∙ on in
     record {
       threads = each_acted (λ t acts. row_of rows t ≡ row_by acts) u Attach e (λ t differ. stands.threads t) (stands.threads u ∙ same_session (acts_of u e) here);
-      once = each_acted (λ t acts. how_many (λ row. row.0 == t) rows ≡ rows_wanted acts) u Attach e (λ t differ. stands.once t) (stands.once u ∙ wanted_still (acts_of u e) (once_attached (acts_of u e) here));
+      once = each_acted (λ t acts. how_many (λ row. row.0 == t) rows ≡ rows_wanted acts) u Attach e (λ t differ. stands.once t) (stands.once u
+          ∙ wanted_still (acts_of u e) (once_attached (acts_of u e) here));
       allowed = each_acted (λ t acts. AllAllowed acts) u Attach e (λ t differ. stands.allowed t) (stands.allowed u, tt);
     }
 

@@ -1,6 +1,7 @@
 //! Sessions of threads, the native methods that they are in, their pending exceptions, and the
 //! numbers of what they were handed out (JNI Specification, chapter 5, "Attaching to the VM", and
-//! chapter 2, "Java Exceptions").
+//! chapter 2, "Java Exceptions"). Chapters in the documentation of calls are the JNI
+//! Specification's.
 #![tactic(auto)]
 
 mod meanings;

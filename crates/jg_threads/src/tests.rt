@@ -90,6 +90,33 @@ fn exceptions(rt: HostRuntime) -> Result<(), Fail> {
     Ok(())
 }
 
+/// 65,535 threads have each its own session and numbers, and no attachment is refused.
+#[test]
+fn many_threads(rt: HostRuntime) -> Result<(), Fail> {
+    let mut threads = Threads::new(rt.alloc());
+    for t in 0..u16::MAX {
+        let tid = Tid(t);
+        assert!(rt; threads.can_count(tid));
+        assert_eq!(rt; threads.attach(tid)?, env(tid, 1));
+    }
+    for t in 0..u16::MAX {
+        let tid = Tid(t);
+        assert!(rt; threads.is_attached(tid));
+        assert!(rt; threads.can_count(tid));
+        threads.count_ref(tid);
+        threads.detach(tid);
+        assert_eq!(rt; threads.env_of(tid), None);
+    }
+    for t in 0..u16::MAX {
+        let tid = Tid(t);
+        assert!(rt; threads.can_count(tid));
+        assert_eq!(rt; threads.attach(tid)?, env(tid, 2));
+        assert!(rt; threads.can_count(tid));
+        assert_eq!(rt; threads.next_ref(tid), 2);
+    }
+    Ok(())
+}
+
 /// Attaches one thread after another until that is refused; then memory is given back, and the
 /// same call answers.
 fn goes_on<'a>(rt: &impl Abort, heap: &'a LocalHeap, ballast: usize) -> Result<bool, Fail> {

@@ -31,7 +31,7 @@ impl<A: Allocator> Model for Threads<A> {
 }
 
 impl<A: Allocator + Clone> Threads<A> {
-    /// No thread did anything yet.
+    /// No thread did anything yet. Takes no memory.
     pub fn new(alloc: A) -> Threads<A>
         ensures stands { Stands result [] }
         ensures rows { result ≡ [] }
@@ -42,7 +42,9 @@ impl<A: Allocator + Clone> Threads<A> {
     }
 
     /// Attaches the thread: begins its next session, if it has none, and answers the environment
-    /// of its session (`AttachCurrentThread`).
+    /// of its session (chapter 5, `AttachCurrentThread`). Asks that its counts can rise; the test is
+    /// `can_count`. Fails only for want of memory, at a thread that was never attached before, and
+    /// then leaves all unchanged.
     pub fn attach(&mut self, tid: Tid) -> Result<EnvId, AllocError>
         requires { CanCount self.old tid.0 }
         ensures ok { OnOk result ((e : List Event) → Stands self.old e → Stands self.new (by tid.0 Attach ∷ e)) }
@@ -69,7 +71,8 @@ impl<A: Allocator + Clone> Threads<A> {
     }
 
     /// Ends the thread's session, if it has one, with its native methods and its pending
-    /// exception (`DetachCurrentThread`). Its numbers go on in the next session.
+    /// exception (chapter 5, `DetachCurrentThread`). Its numbers go on in the next session. Takes no
+    /// memory, and asks for nothing.
     pub fn detach(&mut self, tid: Tid)
         ensures stands { (e : List Event) → Stands self.old e → Stands self.new (by tid.0 Detach ∷ e) }
         ensures row { row_of self.new tid.0 ≡ record (row_of self.old tid.0) {
@@ -91,7 +94,7 @@ impl<A: Allocator + Clone> Threads<A> {
         );
     }
 
-    /// The environment of the thread's session, if it has one (`GetEnv`).
+    /// The environment of the thread's session, if it has one (chapter 5, `GetEnv`).
     pub fn env_of(&self, tid: Tid) -> Option<EnvId>
         ensures { (e : List Event) → Stands self.now e
             → result ≡ option_map (λ n. record { tid = tid; session = n }) (session (acts_of tid.0 e)) }
@@ -107,7 +110,7 @@ impl<A: Allocator + Clone> Threads<A> {
         }
     }
 
-    /// The environment that `attach` would answer.
+    /// The environment that `attach` would answer. Asks for what `attach` asks (`can_count`).
     pub fn env_once_attached(&self, tid: Tid) -> EnvId
         requires { CanCount self.now tid.0 }
         ensures { (e : List Event) → Stands self.now e
@@ -130,7 +133,8 @@ impl<A: Allocator + Clone> Threads<A> {
         self.row(tid).attached
     }
 
-    /// Whether each of the thread's counts is below the greatest `u64`.
+    /// Whether each of the thread's counts is below the greatest `u64`: the test of what attaching,
+    /// entering and handing out ask.
     pub fn can_count(&self, tid: Tid) -> bool
         ensures { IsTrue result ↔ CanCount self.now tid.0 }
     {
@@ -141,7 +145,9 @@ impl<A: Allocator + Clone> Threads<A> {
             && row.depth < u64::MAX
     }
 
-    /// Enters a native method, called by the virtual machine in the thread's session.
+    /// Enters a native method, called by the virtual machine in the thread's session (chapter 2,
+    /// "Compiling, Loading and Linking Native Methods"). Asks that the thread is attached
+    /// (`is_attached`) and that its counts can rise (`can_count`). Takes no memory.
     pub fn enter_native(&mut self, tid: Tid)
         requires seen { IsTrue (row_of self.old tid.0).attached }
         requires room { CanCount self.old tid.0 }
@@ -154,7 +160,8 @@ impl<A: Allocator + Clone> Threads<A> {
         write_row(&mut self.rows, tid.0, row);
     }
 
-    /// Leaves the native method that the thread entered last. The test is `depth`.
+    /// Leaves the native method that the thread entered last. Asks that the thread is attached
+    /// (`is_attached`) and in a native method (`depth` above 0). Takes no memory.
     pub fn leave_native(&mut self, tid: Tid)
         requires seen { IsTrue (row_of self.old tid.0).attached }
         requires inside { 0 < (row_of self.old tid.0).depth }
@@ -175,7 +182,8 @@ impl<A: Allocator + Clone> Threads<A> {
         self.row(tid).depth
     }
 
-    /// The exception that is pending in the thread, if there is one (`ExceptionOccurred`).
+    /// The exception that is pending in the thread, if there is one (chapter 4,
+    /// `ExceptionOccurred`).
     pub fn pending(&self, tid: Tid) -> Option<ObjId>
         ensures rows { result ≡ option_map (λ o. record { 0 = o }) (row_of self.now tid.0).pending }
         ensures history { (e : List Event) → Stands self.now e
@@ -187,7 +195,8 @@ impl<A: Allocator + Clone> Threads<A> {
         }
     }
 
-    /// Makes the object the thread's pending exception, in place of any other (`Throw`).
+    /// Makes the object the thread's pending exception, in place of any other (chapter 4, `Throw`).
+    /// Asks that the thread is attached (`is_attached`). Takes no memory.
     pub fn set_pending(&mut self, tid: Tid, object: ObjId)
         requires { IsTrue (row_of self.old tid.0).attached }
         ensures stands { (e : List Event) → Stands self.old e → Stands self.new (by tid.0 (Raise object.0) ∷ e) }
@@ -198,7 +207,8 @@ impl<A: Allocator + Clone> Threads<A> {
         write_row(&mut self.rows, tid.0, row);
     }
 
-    /// No exception is pending in the thread any more (`ExceptionClear`).
+    /// No exception is pending in the thread any more (chapter 4, `ExceptionClear`). Takes no memory,
+    /// and asks for nothing.
     pub fn clear_pending(&mut self, tid: Tid)
         ensures stands { (e : List Event) → Stands self.old e → Stands self.new (by tid.0 Calm ∷ e) }
         ensures row { row_of self.new tid.0 ≡ record (row_of self.old tid.0) { pending = None } }
@@ -208,7 +218,7 @@ impl<A: Allocator + Clone> Threads<A> {
         write_row(&mut self.rows, tid.0, row);
     }
 
-    /// Whether the object is pending in some thread.
+    /// Whether the object is some thread's pending exception.
     pub fn is_pending(&self, object: ObjId) -> bool
         ensures { (e : List Event) → Stands self.now e → result ≡ is_pending e object.0 }
     {
@@ -224,7 +234,7 @@ impl<A: Allocator + Clone> Threads<A> {
     }
 
     /// The number of the next reference that the thread is handed out, from 1 over all its
-    /// sessions.
+    /// sessions. Asks that its counts can rise (`can_count`).
     pub fn next_ref(&self, tid: Tid) -> u64
         requires { CanCount self.now tid.0 }
         ensures rows { result ≡ (row_of self.now tid.0).refs + 1 }
@@ -233,7 +243,8 @@ impl<A: Allocator + Clone> Threads<A> {
         self.row(tid).refs + 1
     }
 
-    /// Notes that the thread was handed out a reference.
+    /// Notes that the thread was handed out a reference. Asks that the thread is attached
+    /// (`is_attached`) and that its counts can rise (`can_count`). Takes no memory.
     pub fn count_ref(&mut self, tid: Tid)
         requires seen { IsTrue (row_of self.old tid.0).attached }
         requires room { CanCount self.old tid.0 }
@@ -247,6 +258,7 @@ impl<A: Allocator + Clone> Threads<A> {
     }
 
     /// The number of the next buffer that the thread is handed out, from 1 over all its sessions.
+    /// Asks that its counts can rise (`can_count`).
     pub fn next_buf(&self, tid: Tid) -> u64
         requires { CanCount self.now tid.0 }
         ensures rows { result ≡ (row_of self.now tid.0).buffers + 1 }
@@ -255,7 +267,8 @@ impl<A: Allocator + Clone> Threads<A> {
         self.row(tid).buffers + 1
     }
 
-    /// Notes that the thread was handed out a buffer.
+    /// Notes that the thread was handed out a buffer. Asks that the thread is attached
+    /// (`is_attached`) and that its counts can rise (`can_count`). Takes no memory.
     pub fn count_buf(&mut self, tid: Tid)
         requires seen { IsTrue (row_of self.old tid.0).attached }
         requires room { CanCount self.old tid.0 }

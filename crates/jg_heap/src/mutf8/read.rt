@@ -50,7 +50,8 @@ fn next_unit<I: MaybeByte>(items: &[I], at: usize) -> Option<(u16, usize)>
     requires inside { at < length items.now }
     requires fits { length items.now < 2 ^ 63 }
     ensures found { IfSome result (λ unit. (unit.0 < 2 ^ 16)
-        × (drop at (map I.number items.now) ≡ map pos (spelling unit.0) ++ drop (at + unit.1) (map I.number items.now))) }
+        × (drop at (map I.number items.now)
+        ≡ map pos (spelling unit.0) ++ drop (at + unit.1) (map I.number items.now))) }
     ensures only { IfSome result (λ unit. (v : ℕ) (tail : List ℤ) → v < 2 ^ 16
         → drop at (map I.number items.now) ≡ map pos (spelling v) ++ tail → unit.0 ≡ v) }
     ensures len { IfSome result (λ unit. (0 < unit.1) × (at + unit.1 ≤ length items.now)) }

@@ -1,10 +1,10 @@
-//! Scripts and their limits.
+//! Scripts that end at once or by a fault.
 
-use crate::tests::{Row, comes_out};
+use crate::tests::{Ended, ends};
 use jg_script::{RunFault, ScriptFault};
 use std::test::Fail;
 
-const EMPTY_SCRIPT: Row = Row {
+const EMPTY_SCRIPT: Ended = Ended {
     limit: 100,
     script: "",
     text: "",
@@ -13,10 +13,10 @@ const EMPTY_SCRIPT: Row = Row {
 
 #[test]
 fn empty_script(rt: HostRuntime) -> Result<(), Fail> {
-    comes_out(rt.alloc(), &EMPTY_SCRIPT)
+    ends(rt.alloc(), &EMPTY_SCRIPT)
 }
 
-const LIMIT_THREE: Row = Row {
+const LIMIT_THREE: Ended = Ended {
     limit: 3,
     script: "T1 - AttachCurrentThread
 T1 E1.1 NewString [1]
@@ -32,10 +32,10 @@ T1 E1.1 GetStringLength L1.1 = 1
 
 #[test]
 fn limit_three(rt: HostRuntime) -> Result<(), Fail> {
-    comes_out(rt.alloc(), &LIMIT_THREE)
+    ends(rt.alloc(), &LIMIT_THREE)
 }
 
-const UNKNOWN_FUNCTION: Row = Row {
+const UNKNOWN_FUNCTION: Ended = Ended {
     limit: 100,
     script: "T1 - AttachCurrentThread
 T1 E1.1 NewString []
@@ -52,5 +52,5 @@ T1 E1.1 NewString [] = L1.1
 
 #[test]
 fn unknown_function(rt: HostRuntime) -> Result<(), Fail> {
-    comes_out(rt.alloc(), &UNKNOWN_FUNCTION)
+    ends(rt.alloc(), &UNKNOWN_FUNCTION)
 }

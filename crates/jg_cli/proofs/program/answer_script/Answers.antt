@@ -2,11 +2,11 @@ use Rattle.std.proofs.Common.{ℕ, Ok, Err, refl, subst, ◌∙◌, inl}
 use Rattle.jg_policy.specs.Stated.{StatedSetup}
 use Rattle.jg_rules.specs.Legal.{Legal}
 use Rattle.jg_script.specs.Checked.{Checks}
-use Rattle.jg_cli.proofs.Flushing.{checks_kept}
+use Rattle.jg_cli.proofs.Flushing.{checks_kept, handed_on}
 use Rattle.jg_cli.proofs.program.answer_script.Goals as goal
 
-pub returns : goal.returns
-returns g c =
+pub returns-clause-ends : goal.returns-clause-ends
+returns-clause-ends g c =
     let reads = g.R.Read.remaining in
     let holds = g.W.Write.contents in
     let h = c.check-checked.new.guard.journal in
@@ -16,8 +16,8 @@ returns g c =
     (Err c.in-Err.fault)) c.in-Ok.ensures.limit told in
     inl (h, legal, checks_kept _ _ _ _ (holds c.flush.new.self.device) c.args.limit h (Err c.in-Err.fault) within c.flush.ensures.kept)
 
-pub returns-in-Ok-checked : goal.returns-in-Ok-checked
-returns-in-Ok-checked g c =
+pub returns-in-Ok-checked-clause-ends : goal.returns-in-Ok-checked-clause-ends
+returns-in-Ok-checked-clause-ends g c =
     let reads = g.R.Read.remaining in
     let holds = g.W.Write.contents in
     let h = c.check-checked.new.guard.journal in
@@ -28,3 +28,11 @@ returns-in-Ok-checked g c =
     c.in-Ok.ensures.limit told in
     let kept = checks_kept _ _ _ _ (holds c.flush.new.self.device) c.args.limit h (Ok n) within c.flush.ensures.kept in
     (h, legal, (kept.0, kept.1, kept.2, refl, kept.4))
+
+pub returns-in-Ok-checked-clause-handed_on : goal.returns-in-Ok-checked-clause-handed_on
+returns-in-Ok-checked-clause-handed_on g c = c.in-Ok-flush.ensures.reached
+
+pub returns-clause-handed_on : goal.returns-clause-handed_on
+returns-clause-handed_on g c =
+    handed_on _ c.args.out.now.failed c.check-checked.new.writer.failed c.flush.new.self.failed c.in-Err.fault c.in-Err.ensures.writer c.in-Ok-flush.ensures.sound
+    c.in-Ok-flush.ensures.reached

@@ -3,7 +3,7 @@ use Rattle.std.specs.Prelude.{map, not, ◌==◌, ◌&&◌}
 use Rattle.jg_globals.specs.Rows.{is_strong, is_weak}
 use Rattle.jg_globals.specs.Standing.{Stands}
 use Rattle.jg_globals.specs.Seen.{strong_seen, weak_seen}
-use Rattle.jg_globals.proofs.Lists.{map-filter}
+use Rattle.jg_lists.proofs.Lists.{map-filter}
 use Rattle.jg_globals.proofs.Lookups.{reopened, above_in}
 use Rattle.jg_globals.proofs.Numbers.{strong_kept, weak_kept}
 use Rattle.jg_globals.proofs.Steps.{delete_strong_law, delete_weak_law}

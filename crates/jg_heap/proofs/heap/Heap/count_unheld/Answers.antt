@@ -1,6 +1,7 @@
 use Rattle.std.proofs.Common.{◌∙◌, get_or, false, not}
 use Rattle.jg_heap.proofs.Sweeping.{within}
 use Rattle.jg_heap.proofs.Collecting.{marks_of, count_of_unmarked, unmarked_bound}
+use Rattle.jg_heap.proofs.Marking.{mark_is}
 use Rattle.jg_heap.proofs.heap.Heap.count_unheld.Goals as goal
 
 pub mark_pointed-requires : goal.mark_pointed-requires
@@ -10,7 +11,8 @@ pub returns-clause-marks : goal.returns-clause-marks
 returns-clause-marks g c e roots stands was =
     marks_of c.self.inside.objects.items c.deref.result.now c.deref-2.result.now c.self.inside.live.items c.args.self.now c.self.inside.class_count e roots c.args.marks.now c.mark_classes.new.marks
     c.mark_pointed.new.marks
-    c.deref.ensures.value c.deref-2.ensures.value c.self.invariant c.self.view_is stands c.requires c.mark_classes.auto.marks c.mark_pointed.auto.marks c.mark_classes.ensures c.mark_pointed.ensures
+    c.deref.ensures.value c.deref-2.ensures.value c.self.invariant c.self.view_is stands c.requires c.mark_classes.auto.marks c.mark_pointed.auto.marks (mark_is _ _ _ c.mark_classes.ensures)
+    (mark_is _ _ _ c.mark_pointed.ensures)
     was
 
 pub returns-clause-count : goal.returns-clause-count
@@ -20,7 +22,8 @@ returns-clause-count g c e roots stands was =
     c.deref-3.ensures.value c.self.invariant c.self.view_is stands
     (marks_of c.self.inside.objects.items c.deref.result.now c.deref-2.result.now c.self.inside.live.items c.args.self.now c.self.inside.class_count e roots c.args.marks.now c.mark_classes.new.marks
     c.mark_pointed.new.marks
-    c.deref.ensures.value c.deref-2.ensures.value c.self.invariant c.self.view_is stands c.requires c.mark_classes.auto.marks c.mark_pointed.auto.marks c.mark_classes.ensures c.mark_pointed.ensures
+    c.deref.ensures.value c.deref-2.ensures.value c.self.invariant c.self.view_is stands c.requires c.mark_classes.auto.marks c.mark_pointed.auto.marks (mark_is _ _ _ c.mark_classes.ensures)
+    (mark_is _ _ _ c.mark_pointed.ensures)
     was)
 
 pub returns-clause-bound : goal.returns-clause-bound

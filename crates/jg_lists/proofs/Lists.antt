@@ -1,13 +1,21 @@
 -- Lemmas on lists and tests.
-use Rattle.std.proofs.Common.{◌≡◌, Bool, true, false, List, [], ◌∷◌, Option, Some, None, refl, ◌∙◌, ap, sym, arith, inl, inr}
-use Rattle.std.specs.Prelude.{◌⊎◌, if◌then◌else◌, filter, find, map}
-use Rattle.std.specs.List.{list_any}
+use Rattle.std.proofs.Common.{◌≡◌, Bool, true, false, List, [], ◌∷◌, Option, Some, None, refl, ◌∙◌, ap, sym, subst, arith, inl, inr}
+use Rattle.std.specs.Prelude.{◌⊎◌, ◌||◌, if◌then◌else◌, filter, find, map}
+use Rattle.std.specs.List.{list_any, AllByRecursion}
 use Rattle.std.specs.Option.{option_map}
 use Rattle.std.proofs.lemmas.Bool.Decides.{nat_tests}
+
+pub none_either : (a b : Bool) → (a || b) ≡ false → (a ≡ false) × (b ≡ false)
+none_either true b none = cc
+none_either false b none = (refl, none)
 
 pub filter_swap : {X : Type 0} (p q : X → Bool) (xs : List X) → filter p (filter q xs) ≡ filter q (filter p xs)
 filter_swap p q [] = refl
 filter_swap p q (x ∷ xs) = grind (arith, filter_swap p q xs)
+
+pub filter_all : {X : Type 0} (xs : List X) → filter (λ x. true) xs ≡ xs
+filter_all [] = refl
+filter_all (x ∷ xs) = ap (λ l. x ∷ l) (filter_all xs)
 
 pub map-filter : {X Y : Type 0} (f : X → Y) (p : X → Bool) (q : Y → Bool) → ((x : X) → p x ≡ q (f x)) → (xs : List X) → map f (filter p xs) ≡ filter q (map f xs)
 map-filter f p q alike [] = refl
@@ -56,6 +64,21 @@ member_filter q x (y ∷ ys) (inl same) is =
 member_filter q x (y ∷ ys) (inr later) is =
     let kept = member_filter q x ys later is in
     elim (q y) as (λ b. Member x (if b then y ∷ filter q ys else filter q ys)) [ true ↦ inr kept | false ↦ kept ]
+
+filtered_at : {X : Type 0} (q : X → Bool) (x y : X) (ys : List X) (b : Bool) → q y ≡ b → Member x (if b then y ∷ filter q ys else filter q ys) → (Member x (filter q ys) → Member x ys × (q x ≡ true))
+    → Member x (y ∷ ys) × (q x ≡ true)
+filtered_at q x y ys true is (inl same) later = (inl same, ap q same ∙ is)
+filtered_at q x y ys true is (inr m) later = let kept = later m in (inr kept.0, kept.1)
+filtered_at q x y ys false is m later = let kept = later m in (inr kept.0, kept.1)
+
+pub member_filtered : {X : Type 0} (q : X → Bool) (x : X) (xs : List X) → Member x (filter q xs) → Member x xs × (q x ≡ true)
+member_filtered q x [] m = absurd m
+member_filtered q x (y ∷ ys) m = filtered_at q x y ys (q y) refl m (λ h. member_filtered q x ys h)
+
+pub at_member : {X : Type 0} (P : X → Type 0) (x : X) (xs : List X) → AllByRecursion P xs → Member x xs → P x
+at_member P x [] all m = absurd m
+at_member P x (y ∷ ys) all (inl same) = subst P (sym same) all.0
+at_member P x (y ∷ ys) all (inr later) = at_member P x ys all.1 later
 
 pub any_of_filter : {X : Type 0} (p q : X → Bool) (xs : List X) → list_any p (filter q xs) ≡ true → list_any p xs ≡ true
 any_of_filter p q [] is = is
