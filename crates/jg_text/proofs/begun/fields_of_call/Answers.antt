@@ -1,4 +1,4 @@
-use Rattle.std.proofs.Common.{◌≡◌, ◌∙◌, ap, Some, length, ◌+◌}
+use Rattle.std.proofs.Common.{◌∙◌, ap, Some, length, ◌+◌}
 use Rattle.jg_words.specs.declared.fun.Fun.{Fun}
 use Rattle.std.specs.Option.{option_copied}
 use Rattle.jg_text.specs.Faults.{fields}
