@@ -23,7 +23,7 @@ use Rattle.jg_words.specs.Fun.{needs_env}
 use Rattle.jg_policy.specs.Stated.{StatedSetup}
 use Rattle.jg_rules.specs.declared.answer.Answer.{Answer}
 use Rattle.jg_rules.specs.Parts.{Parts}
-use Rattle.jg_rules.specs.Names.{object_named, the_object, object_count, class_of, length_of, slot_of, target_in, session, next_ref, next_buffer, pending}
+use Rattle.jg_rules.specs.Names.{object_named, the_object, object_count, class_of, length_of, units_of, slot_of, target_in, session, next_ref, next_buffer, pending}
 use Rattle.jg_rules.specs.Effects.{done_by}
 use Rattle.jg_laws.specs.Proper.{ProperAnswer}
 use Rattle.jg_rules.specs.Answers.{answer, handed, thrown, present_env, plain, class_found, or_outside, is_outside}
@@ -77,7 +77,7 @@ proper s p t (Strings (NewStringUTF bytes)) = local_proper s p t (Strings (NewSt
 proper s p t (Strings (GetStringLength r)) = tt
 proper s p t (Strings (GetStringUTFLength r)) = tt
 proper s p t (Strings (GetStringRegion r start n)) =
-    outside_proper s p t (Strings (GetStringRegion r start n)) StringIndexOutOfBounds (is_outside start n (length_of s p (the_object p t.0 r))) _ refl tt
+    outside_proper s p t (Strings (GetStringRegion r start n)) StringIndexOutOfBounds (is_outside start n (length (units_of s p (the_object p t.0 r)))) _ refl tt
 proper s p t (Arrays (NewArray element n)) = local_proper s p t (Arrays (NewArray element n)) (Some (object_count s p)) refl
 proper s p t (Arrays (GetArrayLength r)) = tt
 proper s p t (Arrays (GetArrayRegion element r start n)) =

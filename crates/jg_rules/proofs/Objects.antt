@@ -10,7 +10,7 @@ use Rattle.jg_policy.specs.Stated.{StatedSetup, class_count}
 use Rattle.jg_heap.specs.declared.object.Slot.{Slot}
 use Rattle.jg_heap.specs.declared.object.Slot.TheVariants.{Number}
 use Rattle.jg_heap.specs.Making.{Making, Plain, class_in, length_in}
-use Rattle.jg_heap.specs.Rows.{count_in, class_at}
+use Rattle.jg_heap.specs.Rows.{count_in, class_at, length_at}
 use Rattle.jg_heap.specs.History.{making_at, value_at}
 use Rattle.jg_heap.proofs.Callers.{rows_law}
 use Rattle.jg_rules.specs.declared.named.Named.{Named}
@@ -54,6 +54,22 @@ made_if false s rows p o is stand other =
 -- what is no class object was made
 pub made_there : (s : StatedSetup) (rows : TableRows) (p : Parts) (o : ℕ) → TablesStand s rows p → 2 ≤ class_of s p o → o < count_in rows.heap
 made_there s rows p o stand other = made_if (nat_lt o (count_in rows.heap)) s rows p o refl stand other
+
+-- an object of a class other than java/lang/Class is in the store, with its class and length
+pub record IsThere (s : StatedSetup) (rows : TableRows) (p : Parts) (o kind : ℕ) : Type 0 where
+  pub made : o < count_in rows.heap
+  pub class : class_at rows.heap o ≡ kind
+  pub len : length_at rows.heap o ≡ length_of s p o
+
+pub is_there : (s : StatedSetup) (rows : TableRows) (p : Parts) (o class : ℕ) → TablesStand s rows p → class_of s p o ≡ class → 2 ≤ class → IsThere s rows p o class
+is_there s rows p o class stand is other =
+    let made = made_there s rows p o stand (rw is other) in
+    let told = rows_law rows.heap p.heap stand.heap in
+    record {
+      made = made;
+      class = sym (class_here s rows p o stand made) ∙ is;
+      len = told.len o (subst (λ (k : ℕ). o < k) told.count made) ∙ ap (λ k. length_in (making_at k p.heap o)) stand.classes;
+    }
 
 -- ---- types
 

@@ -150,7 +150,7 @@ strings_answer s p t (NewStringUTF bytes) = made s p t
 strings_answer s p t (GetStringLength r) = amount (length_of s p (the_object p t.0 r))
 strings_answer s p t (GetStringUTFLength r) = amount (length (spelt (units_of s p (the_object p t.0 r))))
 strings_answer s p t (GetStringRegion r start n) =
-    or_outside s p StringIndexOutOfBounds (is_outside start n (length_of s p (the_object p t.0 r)))
+    or_outside s p StringIndexOutOfBounds (is_outside start n (length (units_of s p (the_object p t.0 r))))
     (region (map pos (units_of s p (the_object p t.0 r))) start n)
 
 -- (JNI Specification, chapter 4, "Array Operations")

@@ -34,7 +34,8 @@ fn answer_region<A: Allocator + Clone>(
     if is_outside(start, i64::from(count), items.len()) {
         return Ok(throwing(view, Thrown::ArrayIndexOutOfBounds));
     }
-    let list = items_in(lists, items, start as usize, count as usize)?;
+    let from = natural(start) as usize;
+    let list = items_in(lists, items, from, natural(count) as usize)?;
     Ok(plain(Value::List(list)))
 }
 
@@ -72,8 +73,8 @@ fn answer_element<A: Allocator + Clone>(
     if is_outside(index, 1, length_of(view, object)) {
         return throwing(view, Thrown::ArrayIndexOutOfBounds);
     }
-    match slot_of(view, object, index as usize) {
-        Slot::Number(_) => plain(Value::Null),
+    match slot_of(view, object, natural(index) as usize) {
+        Slot::Number(_) => handing_out(view, tid, Kind::Local, None),
         Slot::Object(target) => handing_out(view, tid, Kind::Local, target),
     }
 }

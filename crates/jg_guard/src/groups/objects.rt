@@ -1,4 +1,4 @@
-ghost use Rattle.std.specs.Prelude.{◌≡◌, Some, map, IfOk, OnOk, OnErr};
+ghost use Rattle.std.specs.Prelude.{◌≡◌, Some, true, map, IfOk, OnOk, OnErr};
 ghost use Rattle.jg_words.specs.declared.call.Call.TheVariants.{Objects};
 ghost use Rattle.jg_rules.specs.Parts.{Parts, TablesStand};
 ghost use Rattle.jg_rules.specs.View.{ViewStands, rows_in};
@@ -8,6 +8,7 @@ ghost use Rattle.jg_guard.specs.Tables.{rows_of, IsDue, IsEffective, KeepsRoom};
 ghost use Rattle.jg_policy.specs.Classes.{class_at, class_named, fields_in};
 ghost use Rattle.jg_rules.specs.Effects.{first_value};
 ghost use Rattle.jg_rules.specs.Answers as answers;
+ghost use Rattle.jg_rules.specs.Operands.{is_plain};
 ghost use Rattle.jg_rules.specs.Names.{object_named, the_object};
 ghost use Rattle.jg_threads.specs.Rows.{CanCount};
 ghost use Rattle.jg_policy.specs.Stated.{StatedMember};
@@ -68,6 +69,17 @@ pub(crate) fn answer_objects<A: Allocator + Clone>(
     }
 }
 
+/// The number of the class that the class object is of, where it has plain instances.
+fn class_number(setup: &Setup, object: ObjId) -> u32
+    ensures { is_plain setup.now object.0 ≡ true → result ≡ object.0 }
+{
+    if object.0 < u64::from(setup.class_count()) {
+        object.0 as u32
+    } else {
+        0
+    }
+}
+
 /// What a field of the type holds at first: 0, or null where it is a class.
 fn first_slot(signature: Option<&str>) -> Slot
     ensures { (field : StatedMember) → option_map (λ t. t.now) signature.entry ≡ Some field.signature
@@ -123,7 +135,7 @@ pub(crate) fn perform_objects<A: Allocator + Clone>(
         ObjectsCall::GetObjectClass { .. } => Ok(()),
         ObjectsCall::IsInstanceOf { .. } => Ok(()),
         ObjectsCall::AllocObject { class } => {
-            let class = the_object(&tables.view(setup), tid, *class).0 as u32;
+            let class = class_number(setup, the_object(&tables.view(setup), tid, *class));
             let fields = first_slots(tables.alloc.clone()?, setup, class)?;
             tables.heap.alloc(Shape::Plain { class, fields })?;
             Ok(())
