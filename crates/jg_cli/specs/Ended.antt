@@ -1,4 +1,4 @@
--- What the program did with a script.
+-- How the program ended with a script, and what it did with the bytes.
 use Rattle.std.specs.Prelude.{ℕ, Bool, true, List, [], length, Option, Result, Ok, Err, ◌⊎◌, ◌≡◌}
 use Rattle.jg_words.specs.declared.entry.Entry.{Entry}
 use Rattle.jg_policy.specs.declared.mode.Mode.TheVariants.{Deny}
