@@ -56,7 +56,7 @@ pub record IsPlain (text : List ℕ) : Type 0 where
   pub no_plus : slice_index text 0 ≢ 43
   pub no_zero : slice_index text 0 ≡ 48 → length text ≡ 1
 
--- in such a table of rows each function stands in the row of its name's length
+-- a table in which each function stands in the row of its name's length
 pub record IsByLength (rows : List (Bor (List Fun))) : Type 0 where
   pub within : (f : Fun) → length (name_of f) < length rows
   pub stands : (f : Fun) (d : Bor (List Fun)) → Contains (slice_index_or rows (length (name_of f)) d).now f

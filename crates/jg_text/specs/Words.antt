@@ -60,7 +60,7 @@ abbrev pub name_text : List ℕ → List ℕ
 name_text name = name
 
 -- which of them the program's types can hold: 16 bits for a thread, 64 for a session, a reference's
--- number and an item, and at most 1,000 items; which bytes are a name stands with the words
+-- number and an item, and at most 1,000 items; a name's bytes are what `IsName` says
 abbrev pub FitsTid : Tid → Type 0
 FitsTid t = t.0 < 2 ^ 16
 
