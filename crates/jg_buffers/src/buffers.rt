@@ -56,8 +56,10 @@ impl<A: Allocator + Clone> Buffers<A> {
     }
 
     /// Opens buffer `n` of the thread, a copy with these items (chapter 4,
-    /// `Get<PrimitiveType>ArrayElements`, `GetStringChars` and `GetStringUTFChars`). Fails only for
-    /// want of memory, and then leaves all unchanged.
+    /// `Get<PrimitiveType>ArrayElements`, `GetStringChars` and `GetStringUTFChars`), of a family
+    /// that copies. The number is above those of all open buffers of the thread, which
+    /// `new_number_is_above` gives to who counts them. Fails only for want of memory, and then
+    /// leaves all unchanged.
     pub fn open_copy(
         &mut self,
         tid: Tid,
@@ -87,7 +89,8 @@ impl<A: Allocator + Clone> Buffers<A> {
 
     /// Opens buffer `n` of the thread, a pinned one of `length` items through the reference, and
     /// with it a critical region (chapter 4, `GetPrimitiveArrayCritical` and `GetStringCritical`).
-    /// Fails only for want of memory, and then leaves all unchanged.
+    /// The family is one that pins, the reference isn't null, and the number is as for
+    /// [`Buffers::open_copy`]. Fails only for want of memory, and then leaves all unchanged.
     pub fn open_pin(
         &mut self,
         tid: Tid,
@@ -123,7 +126,8 @@ impl<A: Allocator + Clone> Buffers<A> {
         Ok(())
     }
 
-    /// What the buffer is, where it is open.
+    /// What the buffer is, where it is open (chapter 4, `Release<PrimitiveType>ArrayElements` and
+    /// its sisters, which ask for it).
     pub fn find(&self, buf: BufId) -> Option<Info>
         ensures row { result ≡ option_map info_of (row_of buf.maker.0 buf.n self.now) }
         ensures stands { (e : List Event) → Stands self.now e
@@ -150,7 +154,8 @@ impl<A: Allocator + Clone> Buffers<A> {
         }
     }
 
-    /// The item of an open copy.
+    /// The item of an open copy. The index is below the copy's length, which [`Buffers::commit`]
+    /// and [`Buffers::find`] tell.
     pub fn read(&self, buf: BufId, index: u64) -> i64
         requires { index < copy_length (row_of buf.maker.0 buf.n self.now) }
         ensures row { result ≡ slice_index_or (items_in (row_of buf.maker.0 buf.n self.now)) index (pos 0) }
@@ -159,7 +164,9 @@ impl<A: Allocator + Clone> Buffers<A> {
         item_at(self.commit(buf), index as usize)
     }
 
-    /// Writes the item of an open copy. The object that it was copied from keeps its own.
+    /// Writes the item of an open copy. The index is below the copy's length, which
+    /// [`Buffers::commit`] and [`Buffers::find`] tell. The object that it was copied from keeps its
+    /// own.
     pub fn write(&mut self, buf: BufId, index: u64, value: i64)
         requires { index < copy_length (row_of buf.maker.0 buf.n self.old) }
         ensures stands { (e : List Event) → Stands self.old e
@@ -188,8 +195,8 @@ impl<A: Allocator + Clone> Buffers<A> {
         }
     }
 
-    /// Closes the buffer, if it is open. With the last pinned buffer of its thread that thread's
-    /// critical region ends.
+    /// Closes the buffer, if it is open (chapter 4, a release in mode 0 or `JNI_ABORT`). With the
+    /// last pinned buffer of its thread that thread's critical region ends.
     pub fn close(&mut self, buf: BufId)
         ensures stands { (e : List Event) → Stands self.old e → Stands self.new (Closed buf.maker.0 buf.n ∷ e) }
         ensures numbers { KeepsNumbers self.old self.new }

@@ -132,3 +132,29 @@ fn refused_growth(rt: HostRuntime) -> Result<(), Fail> {
     assert_eq!(rt; table.commit(buffer(T1, 3)), [1, 2].as_slice());
     Ok(())
 }
+
+/// The greatest length that the machine gives an array. A function, so that no proof computes a
+/// list of so many items.
+fn largest() -> usize {
+    1_000_000
+}
+
+/// Whether an item that is written into a large copy is read back, and the last item stays.
+fn keeps_all(table: &mut Buffers, copy: BufId, size: usize) -> bool {
+    if size < 2 || table.commit(copy).len() != size {
+        return false;
+    }
+    table.write(copy, 0, -7);
+    let items = table.commit(copy);
+    items.len() == size && items[0] == -7 && items[size - 1] == 5
+}
+
+#[test]
+fn a_copy_of_a_million_items(rt: HostRuntime) -> Result<(), Fail> {
+    let size = largest();
+    let items = vec![in rt.alloc(); 5i64; size]?;
+    let mut table = Buffers::new(rt.alloc(), rt.alloc(), rt.alloc(), rt.alloc(), rt.alloc());
+    table.open_copy(T1, 1, ARRAY, INTS, &items)?;
+    assert!(rt; keeps_all(&mut table, buffer(T1, 1), size));
+    Ok(())
+}

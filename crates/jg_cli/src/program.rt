@@ -1,7 +1,7 @@
 //! What the program does, over any words, reader and writers.
 
 ghost use Rattle.std.specs.Prelude.{OnOk};
-ghost use Rattle.jg_cli.specs.Answered.{Ends, IsHandedOn};
+ghost use Rattle.jg_cli.specs.Ended.{Ends, IsHandedOn};
 
 use crate::stop::{Status, Stop, tell};
 use jg_args::{ArgsFault, Asked, Task, help_text, read_words};

@@ -1,2 +1,4 @@
 pub mod Due
 pub mod Passing
+pub mod Arrays
+pub mod Fields

@@ -6,7 +6,10 @@ ghost use Rattle.jg_rules.specs.View.{ViewStands, rows_in};
 ghost use Rattle.jg_rules.specs.Answers.{answer};
 ghost use Rattle.jg_guard.specs.Tables.{IsDue};
 
+use crate::groups::arrays::answer_arrays;
+use crate::groups::exceptions::answer_exceptions;
 use crate::groups::frames::answer_frames;
+use crate::groups::objects::answer_objects;
 use crate::groups::refs::answer_refs;
 use crate::groups::strings::answer_strings;
 use crate::groups::vm::answer_vm;
@@ -25,11 +28,13 @@ pub(crate) fn answer_to<A: Allocator + Clone>(
     ensures { IfOk result (λ given. (p : Parts) → ViewStands view.now p
         → given ≡ answer view.now.setup.now p tid call.now) }
 {
-    let _lists = lists;
     match call {
         Call::Vm(call) => Ok(answer_vm(view, tid, call)),
         Call::Refs(call) => Ok(answer_refs(view, tid, call)),
         Call::Frames(call) => Ok(answer_frames(view, tid, call)),
-        Call::Strings(call) => Ok(answer_strings(view, tid, call)),
+        Call::Exceptions(call) => Ok(answer_exceptions(view, tid, call)),
+        Call::Objects(call) => Ok(answer_objects(view, tid, call)),
+        Call::Strings(call) => answer_strings(view, lists, tid, call),
+        Call::Arrays(call) => answer_arrays(view, lists, tid, call),
     }
 }

@@ -6,6 +6,7 @@ mod answer;
 mod groups;
 mod guard;
 mod perform;
+mod region;
 mod settle;
 mod tables;
 

@@ -12,7 +12,10 @@ ghost use Rattle.jg_rules.specs.View.{ViewStands};
 ghost use Rattle.jg_guard.specs.Tables as tables_of;
 ghost use Rattle.jg_guard.specs.Tables.{rows_of, StillStand, IsAnswered, IsEffective, KeepsRoom};
 
+use crate::groups::arrays::perform_arrays;
+use crate::groups::exceptions::perform_exceptions;
 use crate::groups::frames::perform_frames;
+use crate::groups::objects::perform_objects;
 use crate::groups::refs::perform_refs;
 use crate::groups::strings::perform_strings;
 use crate::groups::vm::perform_vm;
@@ -101,8 +104,20 @@ fn do_call<A: Allocator + Clone>(
             perform_frames(tables, setup, tid, call)?;
             Ok(())
         }
+        Call::Exceptions(call) => {
+            perform_exceptions(tables, setup, tid, call);
+            Ok(())
+        }
+        Call::Objects(call) => {
+            perform_objects(tables, setup, tid, call)?;
+            Ok(())
+        }
         Call::Strings(call) => {
             perform_strings(tables, setup, tid, call)?;
+            Ok(())
+        }
+        Call::Arrays(call) => {
+            perform_arrays(tables, setup, tid, call)?;
             Ok(())
         }
     }

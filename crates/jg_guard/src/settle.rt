@@ -7,9 +7,9 @@ ghost use Rattle.jg_words.specs.declared.call.Call.{Call};
 ghost use Rattle.jg_policy.specs.Stated.{StatedSetup};
 ghost use Rattle.jg_threads.specs.Rows.{row_of, CanCount};
 ghost use Rattle.jg_rules.specs.Parts.{Parts, TablesStand};
-ghost use Rattle.jg_rules.specs.Names.{object_in, object_count};
+ghost use Rattle.jg_rules.specs.Names.{object_count};
 ghost use Rattle.jg_rules.specs.View.{ViewStands};
-ghost use Rattle.jg_rules.specs.Answers.{handed};
+ghost use Rattle.jg_rules.specs.Answers.{handed, thrown};
 ghost use Rattle.jg_rules.specs.Effects as effects;
 ghost use Rattle.jg_guard.specs.Tables as tables_of;
 ghost use Rattle.jg_guard.specs.Tables.{rows_of, StillStand, CanHandOut, CanMakeGlobal, CanLend, CanSettle, CanSettleGlobal, CanThrow, HasRoom};
@@ -17,7 +17,7 @@ ghost use Rattle.jg_guard.specs.Settled.{local_on, strong_on, weak_on, thrown_on
 
 use crate::tables::Tables;
 use jg_heap::Shape;
-use jg_rules::{Answer, Named, View};
+use jg_rules::{Answer, View};
 use jg_words::{Kind, ObjId, Ref, Reply, Thrown, Tid, Value};
 use std::alloc::{AllocError, Allocator};
 
@@ -34,14 +34,24 @@ pub(crate) fn plain(value: Value) -> Answer
     }
 }
 
-/// The object that is named, if one is.
-pub(crate) fn object_of(named: Named) -> Option<ObjId>
-    ensures { option_map (λ o. o.0) result ≡ object_in named }
+/// An answer with an object, which no reference is handed out for.
+pub(crate) fn saying(value: Value, object: Option<ObjId>) -> Answer
+    ensures { result ≡ record { reply = record { value = value; warned = false }; object = object } }
 {
-    match named {
-        Named::Nothing | Named::Null => None,
-        Named::Object(object) => Some(object),
+    Answer {
+        reply: Reply {
+            value,
+            warned: false,
+        },
+        object,
     }
+}
+
+/// The answer of a call that throws: the exception is the next object.
+pub(crate) fn throwing<A: Allocator + Clone>(view: &View<'_, A>, exception: Thrown) -> Answer
+    ensures { (p : Parts) → ViewStands view.now p → result ≡ thrown view.now.setup.now p exception }
+{
+    saying(Value::Throw(exception), Some(ObjId(view.heap.len())))
 }
 
 /// The answer of a new reference of the kind for the object, or of null for none.

@@ -13,3 +13,4 @@ mod Shapes
 mod Next
 mod Whole
 mod Decoding
+pub mod Callers

@@ -6,8 +6,9 @@ use Rattle.std.proofs.lemmas.Bool.Decides.{nat_tests}
 use Rattle.jg_words.specs.Call.{fun_of}
 use Rattle.jg_words.specs.Fun.{needs_env}
 use Rattle.jg_words.specs.declared.call.Call.{Call}
-use Rattle.jg_words.specs.declared.call.Call.TheVariants.{Vm, Refs, Frames, Strings}
+use Rattle.jg_words.specs.declared.call.Call.TheVariants.{Vm, Refs, Frames, Exceptions, Objects, Strings, Arrays}
 use Rattle.jg_words.specs.declared.call.vm.VmCall.TheVariants.{AttachCurrentThread, DetachCurrentThread, GetEnv}
+use Rattle.jg_words.specs.declared.call.exceptions.ExceptionsCall.TheVariants.{Throw, ExceptionOccurred, ExceptionDescribe, ExceptionClear, ExceptionCheck}
 use Rattle.jg_policy.specs.Stated.{StatedSetup}
 use Rattle.jg_threads.specs.History.{Act, Attach, Detach, Enter, Leave, Raise, Calm, CountRef, CountBuffer, Event, by, acts_of, attached, refs, is_count_ref, how_many}
 use Rattle.jg_locals.proofs.Callers.{each_thread}
@@ -50,7 +51,14 @@ call_quiet s p t (Vm DetachCurrentThread) = refl
 call_quiet s p t (Vm GetEnv) = refl
 call_quiet s p t (Refs call) = refl
 call_quiet s p t (Frames call) = refl
+call_quiet s p t (Exceptions (Throw r)) = refl
+call_quiet s p t (Exceptions ExceptionOccurred) = refl
+call_quiet s p t (Exceptions ExceptionDescribe) = refl
+call_quiet s p t (Exceptions ExceptionClear) = refl
+call_quiet s p t (Exceptions ExceptionCheck) = refl
+call_quiet s p t (Objects call) = refl
 call_quiet s p t (Strings call) = refl
+call_quiet s p t (Arrays call) = refl
 
 pub next_done : (s : StatedSetup) (p : Parts) (t : ℕ) (call : Call) (u : ℕ) → next_ref (done_by s t call p) u ≡ next_ref p u
 next_done s p t call u = ap (λ n. n + 1) (refs_quiet p.threads t (call_threads s p t call) (call_quiet s p t call) u)
@@ -88,7 +96,14 @@ call_stays s p t (Vm DetachCurrentThread) env = absurd cc
 call_stays s p t (Vm GetEnv) env = refl
 call_stays s p t (Refs call) env = refl
 call_stays s p t (Frames call) env = refl
+call_stays s p t (Exceptions (Throw r)) env = refl
+call_stays s p t (Exceptions ExceptionOccurred) env = refl
+call_stays s p t (Exceptions ExceptionDescribe) env = refl
+call_stays s p t (Exceptions ExceptionClear) env = refl
+call_stays s p t (Exceptions ExceptionCheck) env = refl
+call_stays s p t (Objects call) env = refl
 call_stays s p t (Strings call) env = refl
+call_stays s p t (Arrays call) env = refl
 
 pub attached_done : (s : StatedSetup) (p : Parts) (t : ℕ) (call : Call) → needs_env (fun_of call) ≡ true → attached (acts_of t p.threads) ≡ true
     → attached (acts_of t (done_by s t call p).threads) ≡ true

@@ -184,6 +184,7 @@ gone_steps t n =
       hands_weak = λ p u k o is old. (counts.hands_weak p u k o is old.0, old.1);
       lends = λ p u old. (counts.lends p u old.0, old.1);
       raises = λ p u o old. (counts.raises p u o old.0, old.1);
+      calms = λ p u old. (counts.calms p u old.0, old.1);
       deletes = λ p u k old. (old.0, gone_same p.locals u (Delete k) t n (λ acts. gone_after (Delete k) n (making n acts)) old.1);
       pushes = λ p u old. (old.0, gone_same p.locals u Push t n (λ acts. gone_after Push n (making n acts)) old.1);
       pops = λ p u some old. (old.0, gone_same p.locals u Pop t n (λ acts. gone_after Pop n (making n acts)) old.1);
@@ -310,6 +311,7 @@ ended_steps kind t n =
       hands_weak = λ p u k o is old. (counts.hands_weak p u k o is old.0, kind_still kind (globals.MakeWeak u k o) p.globals t n (not_same p u k t n is old.0) old.1);
       lends = λ p u old. (counts.lends p u old.0, old.1);
       raises = λ p u o old. (counts.raises p u o old.0, old.1);
+      calms = λ p u old. (counts.calms p u old.0, old.1);
     }
 
 same_pair : (t n k i : ℕ) → globals.is_same t n k i ≡ true → (k ≡ t) × (i ≡ n)

@@ -75,6 +75,7 @@ agree_steps = record {
   hands_weak = λ p u n o is old. agreed_threads p.threads p.locals u threads.CountRef old (agreed_still _ _ _ _ refl refl refl refl (old u));
   lends = λ p u old. agreed_threads p.threads p.locals u threads.CountBuffer old (agreed_still _ _ _ _ refl refl refl refl (old u));
   raises = λ p u o old. agreed_threads p.threads p.locals u (threads.Raise o) old (agreed_still _ _ _ _ refl refl refl refl (old u));
+  calms = λ p u old. agreed_threads p.threads p.locals u threads.Calm old (agreed_still _ _ _ _ refl refl refl refl (old u));
   deletes = λ p u n old. agreed_locals p.threads p.locals u (Delete n) old (agreed_still _ _ _ _ refl refl refl refl (old u));
   pushes = λ p u old. agreed_locals p.threads p.locals u Push old (agreed_still _ _ _ _ refl refl refl refl (old u));
   pops = λ p u some old. agreed_locals p.threads p.locals u Pop old (agreed_still _ _ _ _ refl refl refl refl (old u));
@@ -154,6 +155,7 @@ below_steps = record {
   hands_weak = λ p u n o is old. below_counted p u old;
   lends = λ p u old. below_quiet p u threads.CountBuffer p.locals refl old;
   raises = λ p u o old. below_quiet p u (threads.Raise o) p.locals refl old;
+  calms = λ p u old. below_quiet p u threads.Calm p.locals refl old;
   deletes = λ p u n old. below_same p u (Delete n) (λ k acts b. b) old;
   pushes = λ p u old. below_same p u Push (λ n acts b. b) old;
   pops = λ p u some old. below_same p u Pop (λ n acts b. b) old;
@@ -191,6 +193,7 @@ at_least_steps t n = record {
   hands_weak = λ p u k o is old. counted_at_least t n p u old;
   lends = λ p u old. rw (next_same p u threads.CountBuffer refl t) old;
   raises = λ p u o old. rw (next_same p u (threads.Raise o) refl t) old;
+  calms = λ p u old. rw (next_same p u threads.Calm refl t) old;
 }
 
 -- ---- each global reference's number was handed out
@@ -242,6 +245,7 @@ global_steps = record {
   hands_weak = λ p u n o is old t. (global_first p u n t is, global_counted p u old t);
   lends = λ p u old. global_quiet p u threads.CountBuffer refl old;
   raises = λ p u o old. global_quiet p u (threads.Raise o) refl old;
+  calms = λ p u old. global_quiet p u threads.Calm refl old;
 }
 
 pub globals_below : (s : StatedSetup) (h : List Entry) → Legal s h → GlobalsBelow (parts s h)

@@ -1,5 +1,5 @@
 -- Each call's answer is a proper one.
-use Rattle.std.proofs.Common.{ℕ, ◌≡◌, ◌+◌, Bool, true, false, List, [], ◌∷◌, Option, Some, None, refl}
+use Rattle.std.proofs.Common.{ℕ, pos, ◌≡◌, ◌+◌, Bool, true, false, List, [], ◌∷◌, length, Option, Some, None, refl}
 use Rattle.jg_words.specs.declared.thread.Tid.{Tid}
 use Rattle.jg_words.specs.declared.object.ObjId.{ObjId}
 use Rattle.jg_words.specs.declared.reference.Kind.{Kind}
@@ -10,20 +10,26 @@ use Rattle.jg_words.specs.declared.value.Value.{Value}
 use Rattle.jg_words.specs.declared.value.Value.TheVariants.{Reference, Buffer, Throw as Threw}
 use Rattle.jg_words.specs.declared.value.Thrown.{Thrown}
 use Rattle.jg_words.specs.declared.call.Call.{Call}
-use Rattle.jg_words.specs.declared.call.Call.TheVariants.{Vm, Refs, Frames, Strings}
+use Rattle.jg_words.specs.declared.call.Call.TheVariants.{Vm, Refs, Frames, Exceptions, Objects, Strings, Arrays}
 use Rattle.jg_words.specs.declared.call.vm.VmCall.TheVariants.{AttachCurrentThread, DetachCurrentThread, GetEnv}
 use Rattle.jg_words.specs.declared.call.refs.RefsCall.TheVariants.{NewLocalRef, DeleteLocalRef, IsSameObject, GetObjectRefType}
 use Rattle.jg_words.specs.declared.call.frames.FramesCall.TheVariants.{PushLocalFrame, PopLocalFrame}
-use Rattle.jg_words.specs.declared.call.strings.StringsCall.TheVariants.{NewString, GetStringLength}
+use Rattle.jg_words.specs.declared.call.exceptions.ExceptionsCall.TheVariants.{Throw, ExceptionOccurred, ExceptionDescribe, ExceptionClear, ExceptionCheck}
+use Rattle.jg_words.specs.declared.call.objects.ObjectsCall.TheVariants.{FindClass, GetObjectClass, IsInstanceOf, AllocObject}
+use Rattle.jg_words.specs.declared.call.strings.StringsCall.TheVariants.{NewString, NewStringUTF, GetStringLength, GetStringUTFLength, GetStringRegion}
+use Rattle.jg_words.specs.declared.call.arrays.ArraysCall.TheVariants.{NewArray, GetArrayLength, GetArrayRegion, SetArrayRegion, NewObjectArray, GetObjectArrayElement, SetObjectArrayElement}
 use Rattle.jg_words.specs.Call.{fun_of}
 use Rattle.jg_words.specs.Fun.{needs_env}
 use Rattle.jg_policy.specs.Stated.{StatedSetup}
 use Rattle.jg_rules.specs.declared.answer.Answer.{Answer}
 use Rattle.jg_rules.specs.Parts.{Parts}
-use Rattle.jg_rules.specs.Names.{object_named, object_count, session, next_ref, next_buffer}
+use Rattle.jg_rules.specs.Names.{object_named, the_object, object_count, class_of, length_of, units_of, slot_of, target_in, session, next_ref, next_buffer, pending}
 use Rattle.jg_rules.specs.Effects.{done_by}
 use Rattle.jg_laws.specs.Proper.{ProperAnswer}
-use Rattle.jg_rules.specs.Answers.{answer, handed, thrown, present_env, plain}
+use Rattle.jg_rules.specs.Answers.{answer, handed, thrown, present_env, plain, class_found, or_outside, is_outside}
+use Rattle.jg_policy.specs.Classes.{class_named}
+use Rattle.jg_heap.specs.Reading.{natural}
+use Rattle.jg_words.specs.declared.value.Thrown.TheVariants.{ArrayIndexOutOfBounds, StringIndexOutOfBounds}
 
 pub local_proper : (s : StatedSetup) (p : Parts) (t : Tid) (call : Call) (found : Option ℕ) → needs_env (fun_of call) ≡ true → ProperAnswer s p t call (handed p t Local found)
 local_proper s p t call None env = tt
@@ -38,6 +44,15 @@ env_proper : (s : StatedSetup) (p : Parts) (t : Tid) (call : Call) (n : Option �
 env_proper s p t call None = tt
 env_proper s p t call (Some n) = tt
 
+found_proper : (s : StatedSetup) (p : Parts) (t : Tid) (call : Call) (found : Option ℕ) → needs_env (fun_of call) ≡ true → ProperAnswer s p t call (class_found s p t found)
+found_proper s p t call None env = (env, refl, refl)
+found_proper s p t call (Some class) env = local_proper s p t call (Some class) env
+
+outside_proper : (s : StatedSetup) (p : Parts) (t : Tid) (call : Call) (kind : Thrown) (b : Bool) (a : Answer) → needs_env (fun_of call) ≡ true → ProperAnswer s p t call a
+    → ProperAnswer s p t call (or_outside s p kind b a)
+outside_proper s p t call kind true a env own = (env, refl, refl)
+outside_proper s p t call kind false a env own = own
+
 pub proper : (s : StatedSetup) (p : Parts) (t : Tid) (call : Call) → ProperAnswer s p t call (answer s p t call)
 proper s p t (Vm AttachCurrentThread) = tt
 proper s p t (Vm DetachCurrentThread) = tt
@@ -48,5 +63,30 @@ proper s p t (Refs (IsSameObject r u)) = tt
 proper s p t (Refs (GetObjectRefType r)) = tt
 proper s p t (Frames (PushLocalFrame capacity)) = tt
 proper s p t (Frames (PopLocalFrame r)) = local_proper s p t (Frames (PopLocalFrame r)) (object_named p t.0 r) refl
+proper s p t (Exceptions (Throw r)) = tt
+proper s p t (Exceptions ExceptionOccurred) = local_proper s p t (Exceptions ExceptionOccurred) (pending p t.0) refl
+proper s p t (Exceptions ExceptionDescribe) = tt
+proper s p t (Exceptions ExceptionClear) = tt
+proper s p t (Exceptions ExceptionCheck) = tt
+proper s p t (Objects (FindClass name)) = found_proper s p t (Objects (FindClass name)) (class_named s name) refl
+proper s p t (Objects (GetObjectClass r)) = local_proper s p t (Objects (GetObjectClass r)) (Some (class_of s p (the_object p t.0 r))) refl
+proper s p t (Objects (IsInstanceOf r class)) = tt
+proper s p t (Objects (AllocObject class)) = local_proper s p t (Objects (AllocObject class)) (Some (object_count s p)) refl
 proper s p t (Strings (NewString units)) = local_proper s p t (Strings (NewString units)) (Some (object_count s p)) refl
+proper s p t (Strings (NewStringUTF bytes)) = local_proper s p t (Strings (NewStringUTF bytes)) (Some (object_count s p)) refl
 proper s p t (Strings (GetStringLength r)) = tt
+proper s p t (Strings (GetStringUTFLength r)) = tt
+proper s p t (Strings (GetStringRegion r start n)) =
+    outside_proper s p t (Strings (GetStringRegion r start n)) StringIndexOutOfBounds (is_outside start n (length (units_of s p (the_object p t.0 r)))) _ refl tt
+proper s p t (Arrays (NewArray element n)) = local_proper s p t (Arrays (NewArray element n)) (Some (object_count s p)) refl
+proper s p t (Arrays (GetArrayLength r)) = tt
+proper s p t (Arrays (GetArrayRegion element r start n)) =
+    outside_proper s p t (Arrays (GetArrayRegion element r start n)) ArrayIndexOutOfBounds (is_outside start n (length_of s p (the_object p t.0 r))) _ refl tt
+proper s p t (Arrays (SetArrayRegion element r start values)) =
+    outside_proper s p t (Arrays (SetArrayRegion element r start values)) ArrayIndexOutOfBounds (is_outside start (pos (length values)) (length_of s p (the_object p t.0 r))) _ refl tt
+proper s p t (Arrays (NewObjectArray n class fill)) = local_proper s p t (Arrays (NewObjectArray n class fill)) (Some (object_count s p)) refl
+proper s p t (Arrays (GetObjectArrayElement r index)) =
+    outside_proper s p t (Arrays (GetObjectArrayElement r index)) ArrayIndexOutOfBounds (is_outside index (pos 1) (length_of s p (the_object p t.0 r))) _ refl
+    (local_proper s p t (Arrays (GetObjectArrayElement r index)) (target_in (slot_of s p (the_object p t.0 r) (natural index))) refl)
+proper s p t (Arrays (SetObjectArrayElement r index value)) =
+    outside_proper s p t (Arrays (SetObjectArrayElement r index value)) ArrayIndexOutOfBounds (is_outside index (pos 1) (length_of s p (the_object p t.0 r))) _ refl tt

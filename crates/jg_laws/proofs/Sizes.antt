@@ -13,12 +13,12 @@ use Rattle.jg_words.specs.declared.entry.Outcome.{Outcome}
 use Rattle.jg_words.specs.declared.entry.Outcome.TheVariants.{Passed, Denied}
 use Rattle.jg_words.specs.declared.entry.Entry.{Entry}
 use Rattle.jg_words.specs.declared.call.Call.{Call}
-use Rattle.jg_words.specs.declared.call.Call.TheVariants.{Vm, Refs, Frames, Strings}
+use Rattle.jg_words.specs.declared.call.Call.TheVariants.{Vm, Refs, Frames, Exceptions, Objects, Strings, Arrays}
 use Rattle.jg_words.specs.declared.call.vm.VmCall.TheVariants.{AttachCurrentThread, DetachCurrentThread, GetEnv}
 use Rattle.jg_words.specs.declared.call.refs.RefsCall.{RefsCall}
 use Rattle.jg_words.specs.declared.call.refs.RefsCall.TheVariants.{NewLocalRef, DeleteLocalRef, IsSameObject, GetObjectRefType}
 use Rattle.jg_words.specs.declared.call.frames.FramesCall.TheVariants.{PushLocalFrame, PopLocalFrame}
-use Rattle.jg_words.specs.declared.call.strings.StringsCall.TheVariants.{NewString, GetStringLength}
+use Rattle.jg_words.specs.declared.call.exceptions.ExceptionsCall.TheVariants.{Throw, ExceptionOccurred, ExceptionDescribe, ExceptionClear, ExceptionCheck}
 use Rattle.jg_threads.specs.History as threads
 use Rattle.jg_locals.specs.History as locals
 use Rattle.jg_locals.specs.History.{Act, acts_of, is_push, is_pop, done_at, frames}
@@ -38,7 +38,14 @@ call_threads-le s p t (Vm DetachCurrentThread) = omega arith
 call_threads-le s p t (Vm GetEnv) = omega arith
 call_threads-le s p t (Refs call) = omega arith
 call_threads-le s p t (Frames call) = omega arith
+call_threads-le s p t (Exceptions (Throw r)) = omega arith
+call_threads-le s p t (Exceptions ExceptionOccurred) = omega arith
+call_threads-le s p t (Exceptions ExceptionDescribe) = omega arith
+call_threads-le s p t (Exceptions ExceptionClear) = omega arith
+call_threads-le s p t (Exceptions ExceptionCheck) = omega arith
+call_threads-le s p t (Objects call) = omega arith
 call_threads-le s p t (Strings call) = omega arith
+call_threads-le s p t (Arrays call) = omega arith
 
 value_threads-le : (value : Value) (o : Option ObjId) → length (value_threads value o) ≤ 1
 value_threads-le (Reference r) o = omega arith
@@ -66,7 +73,10 @@ call_locals-le s p t (Refs (IsSameObject r u)) = omega arith
 call_locals-le s p t (Refs (GetObjectRefType r)) = omega arith
 call_locals-le s p t (Frames (PushLocalFrame capacity)) = omega arith
 call_locals-le s p t (Frames (PopLocalFrame r)) = omega arith
+call_locals-le s p t (Exceptions call) = omega arith
+call_locals-le s p t (Objects call) = omega arith
 call_locals-le s p t (Strings call) = omega arith
+call_locals-le s p t (Arrays call) = omega arith
 
 value_locals-le : (value : Value) (o : Option ObjId) → length (value_locals value o) ≤ 1
 value_locals-le (Reference (To Local maker n)) (Some o) = omega arith
@@ -78,7 +88,10 @@ call_monitors-le s p t (Vm DetachCurrentThread) = omega arith
 call_monitors-le s p t (Vm GetEnv) = omega arith
 call_monitors-le s p t (Refs call) = omega arith
 call_monitors-le s p t (Frames call) = omega arith
+call_monitors-le s p t (Exceptions call) = omega arith
+call_monitors-le s p t (Objects call) = omega arith
 call_monitors-le s p t (Strings call) = omega arith
+call_monitors-le s p t (Arrays call) = omega arith
 
 -- two short lists in front of a third
 in_front : {X Y : Type 0} (f : X → Y) (xs ys : List X) (zs : List Y) → length xs ≤ 1 → length ys ≤ 1 → length (map f xs ++ (map f ys ++ zs)) ≤ length zs + 2

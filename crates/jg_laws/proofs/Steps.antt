@@ -12,10 +12,11 @@ use Rattle.jg_words.specs.declared.value.Value.{Value}
 use Rattle.jg_words.specs.declared.value.Value.TheVariants.{Reference, Buffer as Lent, Throw as Threw}
 use Rattle.jg_words.specs.declared.entry.Entry.{Entry}
 use Rattle.jg_words.specs.declared.call.Call.{Call}
-use Rattle.jg_words.specs.declared.call.Call.TheVariants.{Vm, Refs, Frames, Strings}
+use Rattle.jg_words.specs.declared.call.Call.TheVariants.{Vm, Refs, Frames, Exceptions, Objects, Strings, Arrays}
 use Rattle.jg_words.specs.declared.call.vm.VmCall.TheVariants.{AttachCurrentThread, DetachCurrentThread, GetEnv}
 use Rattle.jg_words.specs.declared.call.refs.RefsCall.TheVariants.{NewLocalRef, DeleteLocalRef, IsSameObject, GetObjectRefType}
 use Rattle.jg_words.specs.declared.call.frames.FramesCall.TheVariants.{PushLocalFrame, PopLocalFrame}
+use Rattle.jg_words.specs.declared.call.exceptions.ExceptionsCall.TheVariants.{Throw, ExceptionOccurred, ExceptionDescribe, ExceptionClear, ExceptionCheck}
 use Rattle.jg_policy.specs.Stated.{StatedSetup}
 use Rattle.jg_policy.specs.Links as links
 use Rattle.jg_threads.specs.History as threads
@@ -25,7 +26,7 @@ use Rattle.jg_buffers.specs.History as buffers
 use Rattle.jg_monitors.specs.History as monitors
 use Rattle.jg_heap.specs.History as heap
 use Rattle.jg_rules.specs.Parts.{Parts, nothing_yet}
-use Rattle.jg_rules.specs.Names.{next_ref, next_buffer, open_frames}
+use Rattle.jg_rules.specs.Names.{next_ref, next_buffer, open_frames, the_object}
 use Rattle.jg_rules.specs.Access.{native_class, home_of}
 use Rattle.jg_rules.specs.Effects.{parts, after, started, deletes_local, call_globals, call_buffers, call_monitors, call_heap, call_links, done_by, done_if, is_effective, warning, value_heap, settled}
 use Rattle.jg_rules.specs.Rules.{verdict}
@@ -60,6 +61,7 @@ pub record Steps (P : Parts → Type 0) : Type 0 where
   pub deletes : (p : Parts) (t n : ℕ) → P p → P (record p { locals = locals.by t (locals.Delete n) ∷ p.locals })
   pub pushes : (p : Parts) (t : ℕ) → P p → P (record p { locals = locals.by t locals.Push ∷ p.locals })
   pub pops : (p : Parts) (t : ℕ) → (open_frames p t == 0) ≡ false → P p → P (record p { locals = locals.by t locals.Pop ∷ p.locals })
+  pub calms : (p : Parts) (t : ℕ) → P p → P (record p { threads = threads.by t threads.Calm ∷ p.threads })
   -- to the other tables, any number
   pub to_globals : (p : Parts) (e : List globals.Event) → make_no_global e ≡ true → P p → P (record p { globals = e ++ p.globals })
   pub to_buffers : (p : Parts) (e : List buffers.Event) → P p → P (record p { buffers = e ++ p.buffers })
@@ -89,7 +91,10 @@ makes_none : (s : StatedSetup) (p : Parts) (t : ℕ) (call : Call) → make_no_g
 makes_none s p t (Vm call) = refl
 makes_none s p t (Refs call) = refl
 makes_none s p t (Frames call) = refl
+makes_none s p t (Exceptions call) = refl
+makes_none s p t (Objects call) = refl
 makes_none s p t (Strings call) = refl
+makes_none s p t (Arrays call) = refl
 
 others : (P : Parts → Type 0) → Steps P → (s : StatedSetup) (t : ℕ) (call : Call) (p q : Parts) → P q → P (elsewhere s t call p q)
 others P steps s t call p q old =
@@ -122,7 +127,14 @@ each_done P steps s p t env (Refs (IsSameObject r u)) kept old = old
 each_done P steps s p t env (Refs (GetObjectRefType r)) kept old = old
 each_done P steps s p t env (Frames (PushLocalFrame capacity)) kept old = steps.pushes p t old
 each_done P steps s p t env (Frames (PopLocalFrame r)) kept old = steps.pops p t kept.right_frame old
+each_done P steps s p t env (Exceptions (Throw r)) kept old = steps.raises p t (the_object p t r) old
+each_done P steps s p t env (Exceptions ExceptionOccurred) kept old = old
+each_done P steps s p t env (Exceptions ExceptionDescribe) kept old = steps.calms p t old
+each_done P steps s p t env (Exceptions ExceptionClear) kept old = steps.calms p t old
+each_done P steps s p t env (Exceptions ExceptionCheck) kept old = old
+each_done P steps s p t env (Objects call) kept old = others P steps s t (Objects call) p p old
 each_done P steps s p t env (Strings call) kept old = others P steps s t (Strings call) p p old
+each_done P steps s p t env (Arrays call) kept old = others P steps s t (Arrays call) p p old
 
 each_if : (P : Parts → Type 0) → Steps P → (b : Bool) (s : StatedSetup) (p : Parts) (t : ℕ) (env : Option EnvId) (call : Call) → Unbroken s p t env call → P p → P (done_if b s t call p)
 each_if P steps true s p t env call kept old = each_done P steps s p t env call kept old

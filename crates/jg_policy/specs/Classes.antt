@@ -1,5 +1,5 @@
 -- What a setup says of its classes, their fields and native methods, and their modules. Classes go by their numbers.
-use Rattle.std.specs.Prelude.{ℕ, ◌+◌, ◌-◌, Bool, false, ◌==◌, ◌&&◌, ◌||◌, nat_lt, nat_le, if◌then◌else◌, List, [], ◌∷◌, ◌++◌, map, codes, Option, Some, None, slice_get, position, option_and_then}
+use Rattle.std.specs.Prelude.{ℕ, ◌+◌, ◌-◌, Bool, false, ◌==◌, ◌&&◌, ◌||◌, nat_lt, nat_le, if◌then◌else◌, List, [], ◌∷◌, ◌++◌, map, codes, Option, Some, None, slice_get, slice_index_or, position, option_and_then}
 use Rattle.std.specs.Option.{option_map}
 use Rattle.std.specs.Str.{bytes_eq}
 use Rattle.jg_policy.specs.BaseClasses.{base_names}
@@ -39,6 +39,10 @@ module_names setup = codes "java.base" ∷ map (λ c. c.module_name) setup.class
 abbrev pub module_of : StatedSetup → ℕ → Option ℕ
 module_of setup class =
     option_and_then (λ name. position (bytes_eq name) (module_names setup)) (module_name_of setup class)
+
+-- a field's type is a class where it begins with `L` (JNI Specification, chapter 3, "Type Signatures")
+abbrev pub is_class_type : List ℕ → Bool
+is_class_type signature = slice_index_or signature 0 0 == 76
 
 abbrev pub fields_in : Option StatedClass → List StatedMember
 fields_in None = []

@@ -7,7 +7,8 @@ use Rattle.jg_words.specs.declared.reference.Kind.TheVariants.{Local, Global, We
 use Rattle.jg_words.specs.declared.object.ObjId.{ObjId}
 use Rattle.jg_words.specs.declared.rule.Rule.{Rule}
 use Rattle.jg_words.specs.declared.value.Value.{Value}
-use Rattle.jg_words.specs.declared.value.Value.TheVariants.{Reference}
+use Rattle.jg_words.specs.declared.value.Value.TheVariants.{Ok as Done, Reference, Throw as Threw}
+use Rattle.jg_words.specs.declared.value.Thrown.{Thrown}
 use Rattle.jg_words.specs.declared.entry.Entry.{Entry}
 use Rattle.jg_words.specs.declared.entry.Outcome.{Outcome}
 use Rattle.jg_words.specs.declared.entry.Outcome.TheVariants.{Passed, Denied}
@@ -79,6 +80,15 @@ gives value = record { outcome = Passed (record { value = value; warned = false 
 abbrev pub hands_out : Ref → ℕ → Became
 hands_out r n =
     record { outcome = Passed (record { value = Reference r; warned = false }); object = Some (record { 0 = n }) }
+
+-- passed; the object of this number is pending
+abbrev pub raises : ℕ → Became
+raises n = record { outcome = Passed (record { value = Done; warned = false }); object = Some (record { 0 = n }) }
+
+-- an exception of this class was thrown; it is the object of this number
+abbrev pub throws : Thrown → ℕ → Became
+throws kind n =
+    record { outcome = Passed (record { value = Threw kind; warned = false }); object = Some (record { 0 = n }) }
 
 -- denied by this rule
 abbrev pub denies : Rule → Became

@@ -3,11 +3,12 @@ use Rattle.std.specs.Prelude.{pos, List, [], ◌∷◌}
 use Rattle.jg_words.specs.declared.reference.Ref.TheVariants.{Null}
 use Rattle.jg_words.specs.declared.value.Value.TheVariants.{Ok as Done, Number as Amount, Environment, Detached as NotAttached}
 use Rattle.jg_words.specs.declared.rule.Rule.TheVariants.{WrongThread, Detached, DeadReference, BadFrame}
-use Rattle.jg_words.specs.declared.call.Call.TheVariants.{Vm, Refs, Frames, Strings}
+use Rattle.jg_words.specs.declared.call.Call.TheVariants.{Vm, Refs, Frames, Strings, Exceptions}
 use Rattle.jg_words.specs.declared.call.vm.VmCall.TheVariants.{AttachCurrentThread, DetachCurrentThread, GetEnv}
 use Rattle.jg_words.specs.declared.call.refs.RefsCall.TheVariants.{NewLocalRef, GetObjectRefType}
 use Rattle.jg_words.specs.declared.call.frames.FramesCall.TheVariants.{PushLocalFrame, PopLocalFrame}
 use Rattle.jg_words.specs.declared.call.strings.StringsCall.TheVariants.{NewString}
+use Rattle.jg_words.specs.declared.call.exceptions.ExceptionsCall.TheVariants.{ExceptionCheck}
 use Rattle.jg_rows.specs.Lines.{Line, line, bare, env, environment, local, gives, hands_out, denies}
 
 -- attaching an attached thread and detaching a detached one do nothing
@@ -80,4 +81,16 @@ nothing_outlives_a_session =
     ∷ line 1 (env 1 2) (Frames (PopLocalFrame Null)) (denies BadFrame)
     ∷ line 1 (env 1 2) (Strings (NewString [])) (hands_out (local 1 3) 17)
     ∷ line 1 (env 1 2) (Refs (GetObjectRefType (local 1 3))) (gives (Amount (pos 1)))
+    ∷ []
+
+-- the first two rules: the environment of another thread, and one whose session ended
+abbrev pub first_two_rules : List Line
+first_two_rules =
+    line 1 bare (Vm AttachCurrentThread) (gives (Environment (environment 1 1)))
+    ∷ line 2 bare (Vm AttachCurrentThread) (gives (Environment (environment 2 1)))
+    ∷ line 2 (env 1 1) (Exceptions ExceptionCheck) (denies WrongThread)
+    ∷ line 1 bare (Vm DetachCurrentThread) (gives Done)
+    ∷ line 1 (env 1 1) (Exceptions ExceptionCheck) (denies Detached)
+    ∷ line 2 (env 1 1) (Exceptions ExceptionCheck) (denies WrongThread)
+    ∷ line 2 bare (Exceptions ExceptionCheck) (denies Detached)
     ∷ []

@@ -5,28 +5,43 @@
 //! is the text that stands beside it, which the tests run.
 #![tactic(auto)]
 
+mod arrays;
+mod exceptions;
 mod frames;
+mod objects;
 mod references;
 mod sessions;
 mod strings;
 
+pub use arrays::{
+    A_THROW_CHANGES_NOTHING_ELSE, OBJECT_ARRAYS, REGIONS_OF_ARRAYS, VALUES_OF_TYPES,
+    WRITES_OF_REGIONS, a_throw_changes_nothing_else, object_arrays, regions_of_arrays,
+    values_of_types, writes_of_regions,
+};
+pub use exceptions::{
+    PASSING_WITH_AN_EXCEPTION_PENDING, PENDING, passing_with_an_exception_pending, pending,
+};
 pub use frames::{
     FRAME_CAPACITIES, FRAMES_WITHIN_FRAMES, POP_OF_DEAD_RESULT, POP_WITHOUT_FRAME,
     RESULT_OF_FRAME_BELOW, RESULT_OUT_OF_FRAME, frame_capacities, frames_within_frames,
     pop_of_dead_result, pop_without_frame, result_of_frame_below, result_out_of_frame,
+};
+pub use objects::{
+    CLASSES_AND_INSTANCES, THROWN_CLASSES, WRONG_TYPES, classes_and_instances, thrown_classes,
+    wrong_types,
 };
 pub use references::{
     DELETED_TWICE, FOREIGN_BEFORE_DEAD, KINDS_OF_REFERENCES, NEVER_MADE, SAME_OBJECT,
     deleted_twice, foreign_before_dead, kinds_of_references, never_made, same_object,
 };
 pub use sessions::{
-    ATTACH_NO_OPS, GETENV_WITH_ENVIRONMENT, NOTHING_OUTLIVES_A_SESSION, OTHER_ENVIRONMENTS,
-    THREAD_ZERO, attach_no_ops, getenv_with_environment, nothing_outlives_a_session,
-    other_environments, thread_zero,
+    ATTACH_NO_OPS, FIRST_TWO_RULES, GETENV_WITH_ENVIRONMENT, NOTHING_OUTLIVES_A_SESSION,
+    OTHER_ENVIRONMENTS, THREAD_ZERO, attach_no_ops, first_two_rules, getenv_with_environment,
+    nothing_outlives_a_session, other_environments, thread_zero,
 };
 pub use strings::{
-    FIRST_PATH, LENGTHS_OF_STRINGS, UNITS_OF_STRINGS, first_path, lengths_of_strings,
-    units_of_strings,
+    FIRST_PATH, LENGTHS_OF_STRINGS, MODIFIED_UTF8, REGIONS_OF_STRINGS, UNITS_OF_STRINGS,
+    first_path, lengths_of_strings, modified_utf8, regions_of_strings, units_of_strings,
 };
 
 #[cfg(test)]

@@ -96,3 +96,19 @@ T1 E1.2 PopLocalFrame null = deny 15 BadFrame
 T1 E1.2 NewString [] = L1.3
 T1 E1.2 GetObjectRefType L1.3 = 1
 ";
+
+/// The first two rules: the environment of another thread, and one whose session ended.
+pub fn first_two_rules()
+    ensures outcomes { ComesOut closed rows.first_two_rules }
+    ensures journal { HasText closed rows.first_two_rules FIRST_TWO_RULES.now }
+{}
+
+/// The journal of `first_two_rules`.
+pub const FIRST_TWO_RULES: &str = "T1 - AttachCurrentThread = E1.1
+T2 - AttachCurrentThread = E2.1
+T2 E1.1 ExceptionCheck = deny 1 WrongThread
+T1 - DetachCurrentThread = ok
+T1 E1.1 ExceptionCheck = deny 2 Detached
+T2 E1.1 ExceptionCheck = deny 1 WrongThread
+T2 - ExceptionCheck = deny 2 Detached
+";

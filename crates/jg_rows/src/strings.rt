@@ -50,3 +50,71 @@ T1 E1.1 GetStringLength L1.1 = 1
 T2 E2.1 GetStringLength L2.1 = 2
 T1 E1.1 GetStringLength L1.2 = 0
 ";
+
+/// Strings from modified UTF-8.
+pub fn modified_utf8()
+    ensures outcomes { ComesOut closed rows.modified_utf8 }
+    ensures journal { HasText closed rows.modified_utf8 MODIFIED_UTF8.now }
+{}
+
+/// The journal of `modified_utf8`.
+pub const MODIFIED_UTF8: &str = "T1 - AttachCurrentThread = E1.1
+T1 E1.1 NewStringUTF [192,128] = L1.1
+T1 E1.1 GetStringLength L1.1 = 1
+T1 E1.1 GetStringUTFLength L1.1 = 2
+T1 E1.1 NewStringUTF [0] = deny 12 BadArgument
+T1 E1.1 NewStringUTF [192] = deny 12 BadArgument
+T1 E1.1 NewStringUTF [193,129] = deny 12 BadArgument
+T1 E1.1 NewStringUTF [237,160,128] = L1.2
+T1 E1.1 GetStringRegion L1.2 0 1 = [55296]
+T1 E1.1 GetStringRegion L1.2 0 2 = throw java/lang/StringIndexOutOfBoundsException
+";
+
+/// Regions of a string at their edges.
+pub fn regions_of_strings()
+    ensures outcomes { ComesOut closed rows.regions_of_strings }
+    ensures journal { HasText closed rows.regions_of_strings REGIONS_OF_STRINGS.now }
+{}
+
+/// The journal of `regions_of_strings`.
+pub const REGIONS_OF_STRINGS: &str = "T1 - AttachCurrentThread = E1.1
+T1 E1.1 NewString [72,0,65535] = L1.1
+T1 E1.1 GetStringRegion L1.1 0 0 = []
+T1 E1.1 ExceptionClear = ok
+T1 E1.1 GetStringRegion L1.1 0 3 = [72,0,65535]
+T1 E1.1 ExceptionClear = ok
+T1 E1.1 GetStringRegion L1.1 3 0 = []
+T1 E1.1 ExceptionClear = ok
+T1 E1.1 GetStringRegion L1.1 2 1 = [65535]
+T1 E1.1 ExceptionClear = ok
+T1 E1.1 GetStringRegion L1.1 1 2 = [0,65535]
+T1 E1.1 ExceptionClear = ok
+T1 E1.1 GetStringRegion L1.1 2 2 = throw java/lang/StringIndexOutOfBoundsException
+T1 E1.1 ExceptionClear = ok
+T1 E1.1 GetStringRegion L1.1 4 0 = throw java/lang/StringIndexOutOfBoundsException
+T1 E1.1 ExceptionClear = ok
+T1 E1.1 GetStringRegion L1.1 3 1 = throw java/lang/StringIndexOutOfBoundsException
+T1 E1.1 ExceptionClear = ok
+T1 E1.1 GetStringRegion L1.1 -1 1 = throw java/lang/StringIndexOutOfBoundsException
+T1 E1.1 ExceptionClear = ok
+T1 E1.1 GetStringRegion L1.1 0 -1 = throw java/lang/StringIndexOutOfBoundsException
+T1 E1.1 ExceptionClear = ok
+T1 E1.1 GetStringRegion L1.1 -1 -1 = throw java/lang/StringIndexOutOfBoundsException
+T1 E1.1 ExceptionClear = ok
+T1 E1.1 GetStringRegion L1.1 0 1000 = throw java/lang/StringIndexOutOfBoundsException
+T1 E1.1 ExceptionClear = ok
+T1 E1.1 GetStringRegion L1.1 0 1001 = deny 12 BadArgument
+T1 E1.1 ExceptionClear = ok
+T1 E1.1 GetStringRegion L1.1 2147483647 0 = throw java/lang/StringIndexOutOfBoundsException
+T1 E1.1 ExceptionClear = ok
+T1 E1.1 GetStringRegion L1.1 2147483647 1 = throw java/lang/StringIndexOutOfBoundsException
+T1 E1.1 ExceptionClear = ok
+T1 E1.1 GetStringRegion L1.1 2147483647 1000 = throw java/lang/StringIndexOutOfBoundsException
+T1 E1.1 ExceptionClear = ok
+T1 E1.1 GetStringRegion L1.1 2147483647 2147483647 = deny 12 BadArgument
+T1 E1.1 ExceptionClear = ok
+T1 E1.1 GetStringRegion L1.1 0 2147483647 = deny 12 BadArgument
+T1 E1.1 ExceptionClear = ok
+T1 E1.1 GetStringRegion L1.1 -2147483648 -2147483648 = throw java/lang/StringIndexOutOfBoundsException
+T1 E1.1 ExceptionClear = ok
+";

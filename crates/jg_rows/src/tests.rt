@@ -1,6 +1,9 @@
 //! The same rows as texts: the script of each, checked, and what is written.
 
+mod arrays;
+mod exceptions;
 mod frames;
+mod objects;
 mod references;
 mod scripts;
 mod sessions;

@@ -1,2 +1,4 @@
 pub mod Unmade
 pub mod Kept
+pub mod Objects
+pub mod Split

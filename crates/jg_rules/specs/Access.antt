@@ -1,7 +1,7 @@
 -- Native access (JEP 472): the class that a call asks for it with, and what the setup says of its module.
 use Rattle.std.specs.Prelude.{ℕ, ◌&&◌, Bool, true, false, not, Option, Some, None, option_and_then}
 use Rattle.jg_words.specs.declared.call.Call.{Call}
-use Rattle.jg_words.specs.declared.call.Call.TheVariants.{Vm, Refs, Frames, Strings}
+use Rattle.jg_words.specs.declared.call.Call.TheVariants.{Vm, Refs, Frames, Exceptions, Objects, Strings, Arrays}
 use Rattle.jg_words.specs.declared.call.vm.VmCall.{VmCall}
 use Rattle.jg_words.specs.declared.call.vm.VmCall.TheVariants.{AttachCurrentThread, DetachCurrentThread, GetEnv}
 use Rattle.jg_policy.specs.declared.access.Access.{Access}
@@ -23,7 +23,10 @@ abbrev pub native_class : StatedSetup → Parts → ℕ → Call → Option ℕ
 native_class s p t (Vm call) = vm_class s p t call
 native_class s p t (Refs call) = None
 native_class s p t (Frames call) = None
+native_class s p t (Exceptions call) = None
+native_class s p t (Objects call) = None
 native_class s p t (Strings call) = None
+native_class s p t (Arrays call) = None
 
 -- the number of the class's module
 abbrev pub home_of : StatedSetup → Option ℕ → Option ℕ

@@ -1,5 +1,6 @@
 -- What a call that breaks no rule answers, and the object that it hands out a reference for.
-use Rattle.std.specs.Prelude.{ℕ, ℤ, pos, ◌==◌, Bool, true, false, ◌∷◌, length, Option, Some, None}
+use Rattle.std.specs.Prelude.{ℕ, ℤ, pos, ◌+◌, ◌==◌, ◌||◌, Bool, true, false, nat_lt, int_lt, List, ◌∷◌, length, map, take, drop, Option, Some, None}
+use Rattle.std.specs.Option.{option_map, is_some}
 use Rattle.jg_words.specs.declared.thread.Tid.{Tid}
 use Rattle.jg_words.specs.declared.object.ObjId.{ObjId}
 use Rattle.jg_words.specs.declared.reference.Kind.{Kind}
@@ -7,26 +8,36 @@ use Rattle.jg_words.specs.declared.reference.Kind.TheVariants.{Local, Global, We
 use Rattle.jg_words.specs.declared.reference.Ref.{Ref}
 use Rattle.jg_words.specs.declared.reference.Ref.TheVariants.{Null, To}
 use Rattle.jg_words.specs.declared.value.Value.{Value}
-use Rattle.jg_words.specs.declared.value.Value.TheVariants.{Ok as Done, Number as Amount, Truth, Null as NullAnswer, Reference, Environment, Detached as NotAttached, Throw as Threw}
+use Rattle.jg_words.specs.declared.value.Value.TheVariants.{Ok as Done, Number as Amount, Truth, Null as NullAnswer, Reference, Environment, List as Listed, Detached as NotAttached, Throw as Threw}
 use Rattle.jg_words.specs.declared.value.Thrown.{Thrown}
+use Rattle.jg_words.specs.declared.value.Thrown.TheVariants.{ArrayIndexOutOfBounds, StringIndexOutOfBounds, NoClassDefFound}
 use Rattle.jg_words.specs.declared.call.Call.{Call}
-use Rattle.jg_words.specs.declared.call.Call.TheVariants.{Vm, Refs, Frames, Strings}
+use Rattle.jg_words.specs.declared.call.Call.TheVariants.{Vm, Refs, Frames, Exceptions, Objects, Strings, Arrays}
 use Rattle.jg_words.specs.declared.call.vm.VmCall.{VmCall}
 use Rattle.jg_words.specs.declared.call.vm.VmCall.TheVariants.{AttachCurrentThread, DetachCurrentThread, GetEnv}
 use Rattle.jg_words.specs.declared.call.refs.RefsCall.{RefsCall}
 use Rattle.jg_words.specs.declared.call.refs.RefsCall.TheVariants.{NewLocalRef, DeleteLocalRef, IsSameObject, GetObjectRefType}
 use Rattle.jg_words.specs.declared.call.frames.FramesCall.{FramesCall}
 use Rattle.jg_words.specs.declared.call.frames.FramesCall.TheVariants.{PushLocalFrame, PopLocalFrame}
+use Rattle.jg_words.specs.declared.call.exceptions.ExceptionsCall.{ExceptionsCall}
+use Rattle.jg_words.specs.declared.call.exceptions.ExceptionsCall.TheVariants.{Throw, ExceptionOccurred, ExceptionDescribe, ExceptionClear, ExceptionCheck}
+use Rattle.jg_words.specs.declared.call.objects.ObjectsCall.{ObjectsCall}
+use Rattle.jg_words.specs.declared.call.objects.ObjectsCall.TheVariants.{FindClass, GetObjectClass, IsInstanceOf, AllocObject}
 use Rattle.jg_words.specs.declared.call.strings.StringsCall.{StringsCall}
-use Rattle.jg_words.specs.declared.call.strings.StringsCall.TheVariants.{NewString, GetStringLength}
+use Rattle.jg_words.specs.declared.call.strings.StringsCall.TheVariants.{NewString, NewStringUTF, GetStringLength, GetStringUTFLength, GetStringRegion}
+use Rattle.jg_words.specs.declared.call.arrays.ArraysCall.{ArraysCall}
+use Rattle.jg_words.specs.declared.call.arrays.ArraysCall.TheVariants.{NewArray, GetArrayLength, GetArrayRegion, SetArrayRegion, NewObjectArray, GetObjectArrayElement, SetObjectArrayElement}
 use Rattle.jg_policy.specs.Stated.{StatedSetup}
+use Rattle.jg_policy.specs.Classes.{class_named}
+use Rattle.jg_heap.specs.Reading.{natural}
+use Rattle.jg_heap.specs.Spelling.{spelt}
 use Rattle.jg_threads.specs.History as threads
 use Rattle.jg_rules.specs.declared.answer.Answer.{Answer}
 use Rattle.jg_rules.specs.declared.named.Named.{Named}
 use Rattle.jg_rules.specs.declared.named.Named.TheVariants.{Nothing}
 use Rattle.jg_rules.specs.Parts.{Parts}
 use Rattle.jg_rules.specs.Access.{warns}
-use Rattle.jg_rules.specs.Names.{names, object_named, object_count, units_named, session, next_ref}
+use Rattle.jg_rules.specs.Names.{names, object_named, the_object, object_count, class_of, length_of, units_of, slot_of, target_in, items_of, session, next_ref, pending}
 
 abbrev pub saying : Value → Option ObjId → Answer
 saying value object = record { reply = record { value = value; warned = false }; object = object }
@@ -85,12 +96,85 @@ abbrev pub frames_answer : Parts → Tid → FramesCall → Answer
 frames_answer p t (PushLocalFrame capacity) = plain Done
 frames_answer p t (PopLocalFrame kept) = handed p t Local (object_named p t.0 kept)
 
+-- a local reference for a new object
+abbrev pub made : StatedSetup → Parts → Tid → Answer
+made s p t = handed p t Local (Some (object_count s p))
+
+-- so much
+abbrev pub amount : ℕ → Answer
+amount n = plain (Amount (pos n))
+
+-- the exception that Throw makes pending is its operand's object; a local reference for the pending one, or null (JNI
+-- Specification, chapter 4, "Exceptions")
+abbrev pub exceptions_answer : Parts → Tid → ExceptionsCall → Answer
+exceptions_answer p t (Throw r) = saying Done (option_map (λ o. record { 0 = o }) (object_named p t.0 r))
+exceptions_answer p t ExceptionOccurred = handed p t Local (pending p t.0)
+exceptions_answer p t ExceptionDescribe = plain Done
+exceptions_answer p t ExceptionClear = plain Done
+exceptions_answer p t ExceptionCheck = plain (Truth (is_some (pending p t.0)))
+
+-- null is an instance of every class, and every object one of java/lang/Object and of its own class
+abbrev pub is_instance : StatedSetup → Parts → ℕ → Option ℕ → Bool
+is_instance s p class None = true
+is_instance s p class (Some o) = (class == 0) || (class_of s p o == class)
+
+-- a local reference for the class object, which has its class's number; or the exception
+abbrev pub class_found : StatedSetup → Parts → Tid → Option ℕ → Answer
+class_found s p t None = thrown s p NoClassDefFound
+class_found s p t (Some class) = handed p t Local (Some class)
+
+-- (JNI Specification, chapter 4, "Class Operations", "Object Operations")
+abbrev pub objects_answer : StatedSetup → Parts → Tid → ObjectsCall → Answer
+objects_answer s p t (FindClass name) = class_found s p t (class_named s name)
+objects_answer s p t (GetObjectClass r) = handed p t Local (Some (class_of s p (the_object p t.0 r)))
+objects_answer s p t (IsInstanceOf r class) =
+    plain (Truth (is_instance s p (the_object p t.0 class) (object_named p t.0 r)))
+objects_answer s p t (AllocObject class) = made s p t
+
+-- start or length negative, or their sum over the whole length
+abbrev pub is_outside : ℤ → ℤ → ℕ → Bool
+is_outside start n whole = int_lt start (pos 0) || (int_lt n (pos 0) || nat_lt whole (natural start + natural n))
+
+abbrev pub or_outside : StatedSetup → Parts → Thrown → Bool → Answer → Answer
+or_outside s p kind true a = thrown s p kind
+or_outside s p kind false a = a
+
+-- items from start on, so many
+abbrev pub region : List ℤ → ℤ → ℤ → Answer
+region items start n = plain (Listed (take (natural n) (drop (natural start) items)))
+
+-- (JNI Specification, chapter 4, "String Operations")
 abbrev pub strings_answer : StatedSetup → Parts → Tid → StringsCall → Answer
-strings_answer s p t (NewString units) = handed p t Local (Some (object_count s p))
-strings_answer s p t (GetStringLength r) = plain (Amount (pos (length (units_named s p (object_named p t.0 r)))))
+strings_answer s p t (NewString units) = made s p t
+strings_answer s p t (NewStringUTF bytes) = made s p t
+strings_answer s p t (GetStringLength r) = amount (length_of s p (the_object p t.0 r))
+strings_answer s p t (GetStringUTFLength r) = amount (length (spelt (units_of s p (the_object p t.0 r))))
+strings_answer s p t (GetStringRegion r start n) =
+    or_outside s p StringIndexOutOfBounds (is_outside start n (length (units_of s p (the_object p t.0 r))))
+    (region (map pos (units_of s p (the_object p t.0 r))) start n)
+
+-- (JNI Specification, chapter 4, "Array Operations")
+abbrev pub arrays_answer : StatedSetup → Parts → Tid → ArraysCall → Answer
+arrays_answer s p t (NewArray element n) = made s p t
+arrays_answer s p t (GetArrayLength r) = amount (length_of s p (the_object p t.0 r))
+arrays_answer s p t (GetArrayRegion element r start n) =
+    or_outside s p ArrayIndexOutOfBounds (is_outside start n (length_of s p (the_object p t.0 r)))
+    (region (items_of s p (the_object p t.0 r)) start n)
+arrays_answer s p t (SetArrayRegion element r start values) =
+    or_outside s p ArrayIndexOutOfBounds (is_outside start (pos (length values)) (length_of s p (the_object p t.0 r)))
+    (plain Done)
+arrays_answer s p t (NewObjectArray n class fill) = made s p t
+arrays_answer s p t (GetObjectArrayElement r index) =
+    or_outside s p ArrayIndexOutOfBounds (is_outside index (pos 1) (length_of s p (the_object p t.0 r)))
+    (handed p t Local (target_in (slot_of s p (the_object p t.0 r) (natural index))))
+arrays_answer s p t (SetObjectArrayElement r index value) =
+    or_outside s p ArrayIndexOutOfBounds (is_outside index (pos 1) (length_of s p (the_object p t.0 r))) (plain Done)
 
 abbrev pub answer : StatedSetup → Parts → Tid → Call → Answer
 answer s p t (Vm call) = vm_answer p t call
 answer s p t (Refs call) = refs_answer p t call
 answer s p t (Frames call) = frames_answer p t call
+answer s p t (Exceptions call) = exceptions_answer p t call
+answer s p t (Objects call) = objects_answer s p t call
 answer s p t (Strings call) = strings_answer s p t call
+answer s p t (Arrays call) = arrays_answer s p t call

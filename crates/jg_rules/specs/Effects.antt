@@ -1,5 +1,6 @@
 -- What the entries of a history are to each table, the newest event first. Every effect is read off the state before.
-use Rattle.std.specs.Prelude.{ℕ, ℤ, pos, negsuc, Bool, true, false, List, [], ◌∷◌, ◌++◌, map, Option, Some, None}
+use Rattle.std.specs.Prelude.{ℕ, pos, Bool, true, false, if◌then◌else◌, List, [], ◌∷◌, ◌++◌, map, Option, Some, None}
+use Rattle.std.specs.Option.{option_map, unwrap_or}
 use Rattle.jg_words.specs.declared.object.ObjId.{ObjId}
 use Rattle.jg_words.specs.declared.reference.Ref.{Ref}
 use Rattle.jg_words.specs.declared.reference.Ref.TheVariants.{Null, To}
@@ -13,16 +14,23 @@ use Rattle.jg_words.specs.declared.entry.Outcome.{Outcome}
 use Rattle.jg_words.specs.declared.entry.Outcome.TheVariants.{Passed, Denied}
 use Rattle.jg_words.specs.declared.entry.Entry.{Entry}
 use Rattle.jg_words.specs.declared.call.Call.{Call}
-use Rattle.jg_words.specs.declared.call.Call.TheVariants.{Vm, Refs, Frames, Strings}
+use Rattle.jg_words.specs.declared.call.Call.TheVariants.{Vm, Refs, Frames, Exceptions, Objects, Strings, Arrays}
 use Rattle.jg_words.specs.declared.call.vm.VmCall.{VmCall}
 use Rattle.jg_words.specs.declared.call.vm.VmCall.TheVariants.{AttachCurrentThread, DetachCurrentThread, GetEnv}
 use Rattle.jg_words.specs.declared.call.refs.RefsCall.{RefsCall}
 use Rattle.jg_words.specs.declared.call.refs.RefsCall.TheVariants.{NewLocalRef, DeleteLocalRef, IsSameObject, GetObjectRefType}
 use Rattle.jg_words.specs.declared.call.frames.FramesCall.{FramesCall}
 use Rattle.jg_words.specs.declared.call.frames.FramesCall.TheVariants.{PushLocalFrame, PopLocalFrame}
+use Rattle.jg_words.specs.declared.call.exceptions.ExceptionsCall.{ExceptionsCall}
+use Rattle.jg_words.specs.declared.call.exceptions.ExceptionsCall.TheVariants.{Throw, ExceptionOccurred, ExceptionDescribe, ExceptionClear, ExceptionCheck}
+use Rattle.jg_words.specs.declared.call.objects.ObjectsCall.{ObjectsCall}
+use Rattle.jg_words.specs.declared.call.objects.ObjectsCall.TheVariants.{FindClass, GetObjectClass, IsInstanceOf, AllocObject}
 use Rattle.jg_words.specs.declared.call.strings.StringsCall.{StringsCall}
-use Rattle.jg_words.specs.declared.call.strings.StringsCall.TheVariants.{NewString, GetStringLength}
-use Rattle.jg_policy.specs.Stated.{StatedSetup}
+use Rattle.jg_words.specs.declared.call.strings.StringsCall.TheVariants.{NewString, NewStringUTF, GetStringLength, GetStringUTFLength, GetStringRegion}
+use Rattle.jg_words.specs.declared.call.arrays.ArraysCall.{ArraysCall}
+use Rattle.jg_words.specs.declared.call.arrays.ArraysCall.TheVariants.{NewArray, GetArrayLength, GetArrayRegion, SetArrayRegion, NewObjectArray, GetObjectArrayElement, SetObjectArrayElement}
+use Rattle.jg_policy.specs.Stated.{StatedSetup, StatedMember}
+use Rattle.jg_policy.specs.Classes.{class_at, fields_in, is_class_type}
 use Rattle.jg_policy.specs.Links as links
 use Rattle.jg_threads.specs.History as threads
 use Rattle.jg_locals.specs.History as locals
@@ -30,7 +38,11 @@ use Rattle.jg_globals.specs.History as globals
 use Rattle.jg_buffers.specs.History as buffers
 use Rattle.jg_monitors.specs.History as monitors
 use Rattle.jg_heap.specs.History as heap
-use Rattle.jg_heap.specs.Making.{Text, Plain}
+use Rattle.jg_heap.specs.Making.{Text, Plain, Filled, array_class}
+use Rattle.jg_heap.specs.Reading.{natural, decoded}
+use Rattle.jg_heap.specs.declared.object.Slot.{Slot}
+use Rattle.jg_heap.specs.declared.object.Slot.TheVariants.{Number, Object as Pointer}
+use Rattle.jg_rules.specs.Names.{the_object, object_named}
 use Rattle.jg_rules.specs.Parts.{Parts, nothing_yet}
 use Rattle.jg_rules.specs.Access.{native_class, home_of}
 
@@ -41,11 +53,21 @@ vm_threads AttachCurrentThread = threads.Attach ∷ []
 vm_threads DetachCurrentThread = threads.Detach ∷ []
 vm_threads GetEnv = []
 
+abbrev pub exceptions_threads : Parts → ℕ → ExceptionsCall → List threads.Act
+exceptions_threads p t (Throw r) = threads.Raise (the_object p t r) ∷ []
+exceptions_threads p t ExceptionOccurred = []
+exceptions_threads p t ExceptionDescribe = threads.Calm ∷ []
+exceptions_threads p t ExceptionClear = threads.Calm ∷ []
+exceptions_threads p t ExceptionCheck = []
+
 abbrev pub call_threads : StatedSetup → Parts → ℕ → Call → List threads.Act
 call_threads s p t (Vm call) = vm_threads call
 call_threads s p t (Refs call) = []
 call_threads s p t (Frames call) = []
+call_threads s p t (Exceptions call) = exceptions_threads p t call
+call_threads s p t (Objects call) = []
 call_threads s p t (Strings call) = []
+call_threads s p t (Arrays call) = []
 
 -- a session begins only where the thread has none
 abbrev pub started : Bool → List locals.Act
@@ -77,19 +99,28 @@ abbrev pub call_locals : StatedSetup → Parts → ℕ → Call → List locals.
 call_locals s p t (Vm call) = vm_locals p t call
 call_locals s p t (Refs call) = refs_locals call
 call_locals s p t (Frames call) = frames_locals call
+call_locals s p t (Exceptions call) = []
+call_locals s p t (Objects call) = []
 call_locals s p t (Strings call) = []
+call_locals s p t (Arrays call) = []
 
 abbrev pub call_globals : StatedSetup → Parts → ℕ → Call → List globals.Event
 call_globals s p t (Vm call) = []
 call_globals s p t (Refs call) = []
 call_globals s p t (Frames call) = []
+call_globals s p t (Exceptions call) = []
+call_globals s p t (Objects call) = []
 call_globals s p t (Strings call) = []
+call_globals s p t (Arrays call) = []
 
 abbrev pub call_buffers : StatedSetup → Parts → ℕ → Call → List buffers.Event
 call_buffers s p t (Vm call) = []
 call_buffers s p t (Refs call) = []
 call_buffers s p t (Frames call) = []
+call_buffers s p t (Exceptions call) = []
+call_buffers s p t (Objects call) = []
 call_buffers s p t (Strings call) = []
+call_buffers s p t (Arrays call) = []
 
 abbrev pub vm_monitors : VmCall → List monitors.Act
 vm_monitors AttachCurrentThread = []
@@ -100,28 +131,60 @@ abbrev pub call_monitors : StatedSetup → Parts → ℕ → Call → List monit
 call_monitors s p t (Vm call) = vm_monitors call
 call_monitors s p t (Refs call) = []
 call_monitors s p t (Frames call) = []
+call_monitors s p t (Exceptions call) = []
+call_monitors s p t (Objects call) = []
 call_monitors s p t (Strings call) = []
+call_monitors s p t (Arrays call) = []
 
--- a unit that the rules have found to be one
-abbrev pub unit_of : ℤ → ℕ
-unit_of (pos n) = n
-unit_of (negsuc n) = 0
+-- a field holds 0, or null where its type is a class
+abbrev pub first_value : StatedMember → Slot
+first_value field = if is_class_type field.signature then Pointer None else Number (pos 0)
+
+abbrev pub objects_heap : StatedSetup → Parts → ℕ → ObjectsCall → List heap.Event
+objects_heap s p t (FindClass name) = []
+objects_heap s p t (GetObjectClass r) = []
+objects_heap s p t (IsInstanceOf r class) = []
+objects_heap s p t (AllocObject class) =
+    heap.Made (Plain (the_object p t class) (map first_value (fields_in (class_at s (the_object p t class))))) ∷ []
 
 abbrev pub strings_heap : StringsCall → List heap.Event
-strings_heap (NewString units) = heap.Made (Text (map unit_of units)) ∷ []
+strings_heap (NewString units) = heap.Made (Text (map natural units)) ∷ []
+strings_heap (NewStringUTF bytes) = heap.Made (Text (unwrap_or (decoded bytes) [])) ∷ []
 strings_heap (GetStringLength r) = []
+strings_heap (GetStringUTFLength r) = []
+strings_heap (GetStringRegion r start n) = []
+
+-- what a place that holds references is made to hold
+abbrev pub pointer : Option ℕ → Slot
+pointer target = Pointer (option_map (λ o. record { 0 = o }) target)
+
+abbrev pub arrays_heap : Parts → ℕ → ArraysCall → List heap.Event
+arrays_heap p t (NewArray element n) = heap.Made (Filled (array_class element) (natural n) (Number (pos 0))) ∷ []
+arrays_heap p t (GetArrayLength r) = []
+arrays_heap p t (GetArrayRegion element r start n) = []
+arrays_heap p t (SetArrayRegion element r start values) = heap.region_writes (the_object p t r) (natural start) values
+arrays_heap p t (NewObjectArray n class fill) = heap.Made (Filled 3 (natural n) (pointer (object_named p t fill))) ∷ []
+arrays_heap p t (GetObjectArrayElement r index) = []
+arrays_heap p t (SetObjectArrayElement r index value) =
+    heap.Wrote (the_object p t r) (natural index) (pointer (object_named p t value)) ∷ []
 
 abbrev pub call_heap : StatedSetup → Parts → ℕ → Call → List heap.Event
 call_heap s p t (Vm call) = []
 call_heap s p t (Refs call) = []
 call_heap s p t (Frames call) = []
+call_heap s p t (Exceptions call) = []
+call_heap s p t (Objects call) = objects_heap s p t call
 call_heap s p t (Strings call) = strings_heap call
+call_heap s p t (Arrays call) = arrays_heap p t call
 
 abbrev pub call_links : StatedSetup → Parts → ℕ → Call → List links.Event
 call_links s p t (Vm call) = []
 call_links s p t (Refs call) = []
 call_links s p t (Frames call) = []
+call_links s p t (Exceptions call) = []
+call_links s p t (Objects call) = []
 call_links s p t (Strings call) = []
+call_links s p t (Arrays call) = []
 
 -- the parts with them in front
 abbrev pub done_by : StatedSetup → ℕ → Call → Parts → Parts

@@ -1,5 +1,7 @@
 -- What references name, and what is known of threads and objects.
-use Rattle.std.specs.Prelude.{ℕ, ◌+◌, ◌==◌, if◌then◌else◌, List, [], Option, Some, None}
+use Rattle.std.specs.Prelude.{ℕ, ℤ, pos, ◌+◌, ◌==◌, if◌then◌else◌, List, [], map, Option, Some, None}
+use Rattle.std.specs.List.{range_with_len}
+use Rattle.std.specs.Option.{option_map, unwrap_or}
 use Rattle.jg_words.specs.declared.reference.Ref.{Ref}
 use Rattle.jg_words.specs.declared.reference.Ref.TheVariants.{Null, To}
 use Rattle.jg_words.specs.declared.reference.Kind.TheVariants.{Local, Global, Weak}
@@ -10,7 +12,9 @@ use Rattle.jg_globals.specs.History as globals
 use Rattle.jg_globals.specs.declared.target.Target.{Target}
 use Rattle.jg_globals.specs.declared.target.Target.TheVariants.{Object as ToObject, Cleared}
 use Rattle.jg_heap.specs.History as heap
-use Rattle.jg_heap.specs.Making.{class_in, units_in}
+use Rattle.jg_heap.specs.Making.{class_in, units_in, length_in}
+use Rattle.jg_heap.specs.declared.object.Slot.{Slot}
+use Rattle.jg_heap.specs.declared.object.Slot.TheVariants.{Number, Object as Pointer}
 use Rattle.jg_rules.specs.declared.named.Named.{Named}
 use Rattle.jg_rules.specs.declared.named.Named.TheVariants.{Nothing, Null as NamesNull, Object}
 use Rattle.jg_rules.specs.Parts.{Parts}
@@ -42,6 +46,10 @@ object_in (Object o) = Some o.0
 abbrev pub object_named : Parts → ℕ → Ref → Option ℕ
 object_named p t r = object_in (names p t r)
 
+-- the same for an operand that the rules have found to name one
+abbrev pub the_object : Parts → ℕ → Ref → ℕ
+the_object p t r = unwrap_or (object_named p t r) 0
+
 -- how many objects there are, class objects among them
 abbrev pub object_count : StatedSetup → Parts → ℕ
 object_count s p = heap.count_of (class_count s) p.heap
@@ -53,7 +61,27 @@ class_of s p o = class_in (heap.making_at (class_count s) p.heap o)
 abbrev pub units_of : StatedSetup → Parts → ℕ → List ℕ
 units_of s p o = units_in (heap.making_at (class_count s) p.heap o)
 
--- those of the object that a reference names, where it names one
+-- how many units a string has, items an array, fields any other object
+abbrev pub length_of : StatedSetup → Parts → ℕ → ℕ
+length_of s p o = length_in (heap.making_at (class_count s) p.heap o)
+
+-- what a slot of an object holds
+abbrev pub slot_of : StatedSetup → Parts → ℕ → ℕ → Slot
+slot_of s p o j = heap.value_at (class_count s) p.heap o j
+
+abbrev pub number_in : Slot → ℤ
+number_in (Number v) = v
+number_in (Pointer target) = pos 0
+
+abbrev pub target_in : Slot → Option ℕ
+target_in (Number v) = None
+target_in (Pointer target) = option_map (λ o. o.0) target
+
+-- the items of an array of a primitive type
+abbrev pub items_of : StatedSetup → Parts → ℕ → List ℤ
+items_of s p o = map number_in (map (slot_of s p o) (range_with_len 0 (length_of s p o)))
+
+-- the units of the object that a reference names, where it names one
 abbrev pub units_named : StatedSetup → Parts → Option ℕ → List ℕ
 units_named s p None = []
 units_named s p (Some o) = units_of s p o

@@ -1,19 +1,27 @@
 -- The references among a call's operands, from left to right, with the type that the object of each must have.
-use Rattle.std.specs.Prelude.{ℕ, ◌==◌, Bool, true, false, List, [], ◌∷◌}
+use Rattle.std.specs.Prelude.{ℕ, ◌==◌, ◌&&◌, ◌||◌, Bool, true, false, nat_le, nat_lt, List, [], ◌∷◌}
 use Rattle.jg_words.specs.declared.reference.Ref.{Ref}
 use Rattle.jg_words.specs.declared.call.Call.{Call}
-use Rattle.jg_words.specs.declared.call.Call.TheVariants.{Vm, Refs, Frames, Strings}
+use Rattle.jg_words.specs.declared.call.Call.TheVariants.{Vm, Refs, Frames, Exceptions, Objects, Strings, Arrays}
 use Rattle.jg_words.specs.declared.call.vm.VmCall.{VmCall}
 use Rattle.jg_words.specs.declared.call.vm.VmCall.TheVariants.{AttachCurrentThread, DetachCurrentThread, GetEnv}
 use Rattle.jg_words.specs.declared.call.refs.RefsCall.{RefsCall}
 use Rattle.jg_words.specs.declared.call.refs.RefsCall.TheVariants.{NewLocalRef, DeleteLocalRef, IsSameObject, GetObjectRefType}
 use Rattle.jg_words.specs.declared.call.frames.FramesCall.{FramesCall}
 use Rattle.jg_words.specs.declared.call.frames.FramesCall.TheVariants.{PushLocalFrame, PopLocalFrame}
+use Rattle.jg_words.specs.declared.call.exceptions.ExceptionsCall.{ExceptionsCall}
+use Rattle.jg_words.specs.declared.call.exceptions.ExceptionsCall.TheVariants.{Throw, ExceptionOccurred, ExceptionDescribe, ExceptionClear, ExceptionCheck}
+use Rattle.jg_words.specs.declared.call.objects.ObjectsCall.{ObjectsCall}
+use Rattle.jg_words.specs.declared.call.objects.ObjectsCall.TheVariants.{FindClass, GetObjectClass, IsInstanceOf, AllocObject}
 use Rattle.jg_words.specs.declared.call.strings.StringsCall.{StringsCall}
-use Rattle.jg_words.specs.declared.call.strings.StringsCall.TheVariants.{NewString, GetStringLength}
-use Rattle.jg_policy.specs.Stated.{StatedSetup}
+use Rattle.jg_words.specs.declared.call.strings.StringsCall.TheVariants.{NewString, NewStringUTF, GetStringLength, GetStringUTFLength, GetStringRegion}
+use Rattle.jg_words.specs.declared.call.arrays.ArraysCall.{ArraysCall}
+use Rattle.jg_words.specs.declared.call.arrays.ArraysCall.TheVariants.{NewArray, GetArrayLength, GetArrayRegion, SetArrayRegion, NewObjectArray, GetObjectArrayElement, SetObjectArrayElement}
+use Rattle.jg_policy.specs.Stated.{StatedSetup, class_count}
+use Rattle.jg_policy.specs.Classes.{is_throwable}
+use Rattle.jg_heap.specs.Making.{array_class}
 use Rattle.jg_rules.specs.declared.operand.ObjectType.{ObjectType}
-use Rattle.jg_rules.specs.declared.operand.ObjectType.TheVariants.{AnyObject, StringObject}
+use Rattle.jg_rules.specs.declared.operand.ObjectType.TheVariants.{AnyObject, ClassObject, PlainClass, ThrowableObject, StringObject, AnyArray, ArrayOf, ObjectArray}
 use Rattle.jg_rules.specs.declared.operand.Operand.{Operand}
 use Rattle.jg_rules.specs.declared.operand.Operands.{Operands}
 use Rattle.jg_rules.specs.declared.operand.Operands.TheVariants.{Nil, One, Two}
@@ -48,17 +56,57 @@ abbrev pub frames_operands : FramesCall → List Operand
 frames_operands (PushLocalFrame capacity) = []
 frames_operands (PopLocalFrame r) = optional r ∷ []
 
+abbrev pub exceptions_operands : ExceptionsCall → List Operand
+exceptions_operands (Throw r) = required r ThrowableObject ∷ []
+exceptions_operands ExceptionOccurred = []
+exceptions_operands ExceptionDescribe = []
+exceptions_operands ExceptionClear = []
+exceptions_operands ExceptionCheck = []
+
+abbrev pub objects_operands : ObjectsCall → List Operand
+objects_operands (FindClass name) = []
+objects_operands (GetObjectClass r) = required r AnyObject ∷ []
+objects_operands (IsInstanceOf r class) = optional r ∷ required class ClassObject ∷ []
+objects_operands (AllocObject class) = required class PlainClass ∷ []
+
 abbrev pub strings_operands : StringsCall → List Operand
 strings_operands (NewString units) = []
+strings_operands (NewStringUTF bytes) = []
 strings_operands (GetStringLength r) = required r StringObject ∷ []
+strings_operands (GetStringUTFLength r) = required r StringObject ∷ []
+strings_operands (GetStringRegion r start n) = required r StringObject ∷ []
+
+abbrev pub arrays_operands : ArraysCall → List Operand
+arrays_operands (NewArray element n) = []
+arrays_operands (GetArrayLength r) = required r AnyArray ∷ []
+arrays_operands (GetArrayRegion element r start n) = required r (ArrayOf element) ∷ []
+arrays_operands (SetArrayRegion element r start values) = required r (ArrayOf element) ∷ []
+arrays_operands (NewObjectArray n class fill) = required class ClassObject ∷ optional fill ∷ []
+arrays_operands (GetObjectArrayElement r index) = required r ObjectArray ∷ []
+arrays_operands (SetObjectArrayElement r index value) = required r ObjectArray ∷ optional value ∷ []
 
 abbrev pub operands : Call → List Operand
 operands (Vm call) = vm_operands call
 operands (Refs call) = refs_operands call
 operands (Frames call) = frames_operands call
+operands (Exceptions call) = exceptions_operands call
+operands (Objects call) = objects_operands call
 operands (Strings call) = strings_operands call
+operands (Arrays call) = arrays_operands call
 
--- the object is of the type; 2 is java/lang/String
+-- the object is a class object whose class has instances that can be made without a constructor's arguments: neither
+-- java/lang/Class, nor java/lang/String, nor a class of arrays. A class object has the number of its class
+abbrev pub is_plain : StatedSetup → ℕ → Bool
+is_plain s o = (o == 0) || (nat_le 10 o && nat_lt o (class_count s))
+
+-- the object is of the type: 1 is java/lang/Class, 2 java/lang/String, 3 the class of all arrays of references, and 4 to 9
+-- are those of arrays of the primitive types
 abbrev pub is_of : StatedSetup → Parts → ObjectType → ℕ → Bool
 is_of s p AnyObject o = true
+is_of s p ClassObject o = class_of s p o == 1
+is_of s p PlainClass o = is_plain s o
+is_of s p ThrowableObject o = is_throwable s (class_of s p o)
 is_of s p StringObject o = class_of s p o == 2
+is_of s p AnyArray o = nat_le 3 (class_of s p o) && nat_le (class_of s p o) 9
+is_of s p (ArrayOf element) o = class_of s p o == array_class element
+is_of s p ObjectArray o = class_of s p o == 3

@@ -1,5 +1,5 @@
 -- The rules, each as its own definition, and the first that a call breaks.
-use Rattle.std.specs.Prelude.{ℕ, ℤ, pos, ◌==◌, ◌&&◌, ◌||◌, Bool, true, false, not, if◌then◌else◌, nat_lt, int_le, List, [], ◌∷◌, Option, Some, None}
+use Rattle.std.specs.Prelude.{ℕ, ℤ, pos, ◌==◌, ◌&&◌, ◌||◌, Bool, true, false, not, if◌then◌else◌, nat_lt, int_lt, List, [], ◌∷◌, Option, Some, None}
 use Rattle.std.specs.List.{list_any, list_all, find}
 use Rattle.jg_words.specs.Call.{fun_of}
 use Rattle.jg_words.specs.Fun.{needs_env}
@@ -11,22 +11,31 @@ use Rattle.jg_words.specs.declared.reference.Ref.TheVariants.{Null, To}
 use Rattle.jg_words.specs.declared.rule.Rule.{Rule}
 use Rattle.jg_words.specs.declared.rule.Rule.TheVariants.{WrongThread, Detached, InCritical, Pending, ForeignLocal, DeadReference, WrongRefKind, NullReference, WrongType, BadField, BadBuffer, BadArgument, Pinned, NotOwner, BadFrame, NoNativeAccess, NotLinked}
 use Rattle.jg_words.specs.declared.call.Call.{Call}
-use Rattle.jg_words.specs.declared.call.Call.TheVariants.{Vm, Refs, Frames, Strings}
+use Rattle.jg_words.specs.declared.call.Call.TheVariants.{Vm, Refs, Frames, Exceptions, Objects, Strings, Arrays}
 use Rattle.jg_words.specs.declared.call.vm.VmCall.{VmCall}
 use Rattle.jg_words.specs.declared.call.vm.VmCall.TheVariants.{AttachCurrentThread, DetachCurrentThread, GetEnv}
 use Rattle.jg_words.specs.declared.call.refs.RefsCall.{RefsCall}
 use Rattle.jg_words.specs.declared.call.refs.RefsCall.TheVariants.{NewLocalRef, DeleteLocalRef, IsSameObject, GetObjectRefType}
 use Rattle.jg_words.specs.declared.call.frames.FramesCall.{FramesCall}
 use Rattle.jg_words.specs.declared.call.frames.FramesCall.TheVariants.{PushLocalFrame, PopLocalFrame}
+use Rattle.jg_words.specs.declared.call.exceptions.ExceptionsCall.{ExceptionsCall}
+use Rattle.jg_words.specs.declared.call.exceptions.ExceptionsCall.TheVariants.{Throw, ExceptionOccurred, ExceptionDescribe, ExceptionClear, ExceptionCheck}
+use Rattle.jg_words.specs.declared.call.objects.ObjectsCall.{ObjectsCall}
+use Rattle.jg_words.specs.declared.call.objects.ObjectsCall.TheVariants.{FindClass, GetObjectClass, IsInstanceOf, AllocObject}
 use Rattle.jg_words.specs.declared.call.strings.StringsCall.{StringsCall}
-use Rattle.jg_words.specs.declared.call.strings.StringsCall.TheVariants.{NewString, GetStringLength}
+use Rattle.jg_words.specs.declared.call.strings.StringsCall.TheVariants.{NewString, NewStringUTF, GetStringLength, GetStringUTFLength, GetStringRegion}
+use Rattle.jg_words.specs.declared.call.arrays.ArraysCall.{ArraysCall}
+use Rattle.jg_words.specs.declared.call.arrays.ArraysCall.TheVariants.{NewArray, GetArrayLength, GetArrayRegion, SetArrayRegion, NewObjectArray, GetObjectArrayElement, SetObjectArrayElement}
 use Rattle.jg_policy.specs.Stated.{StatedSetup}
 use Rattle.jg_rules.specs.declared.named.Named.{Named}
 use Rattle.jg_rules.specs.declared.named.Named.TheVariants.{Nothing, Null as NamesNull, Object}
 use Rattle.jg_rules.specs.declared.operand.ObjectType.{ObjectType}
 use Rattle.jg_rules.specs.declared.operand.Operand.{Operand}
 use Rattle.jg_rules.specs.Parts.{Parts}
-use Rattle.std.specs.Option.{is_some}
+use Rattle.jg_rules.specs.Numbers.{is_within, is_value_of}
+use Rattle.jg_heap.specs.Reading.{decoded}
+use Rattle.jg_words.specs.declared.object.Primitive.TheVariants.{Char}
+use Rattle.std.specs.Option.{is_some, is_none}
 use Rattle.jg_buffers.specs.History as buffers
 use Rattle.jg_rules.specs.Access.{native_class, refuses}
 use Rattle.jg_rules.specs.Passing.{passes_critical, passes_pending}
@@ -93,7 +102,10 @@ abbrev pub wrong_kind : Call → Bool
 wrong_kind (Vm call) = false
 wrong_kind (Refs call) = refs_wrong_kind call
 wrong_kind (Frames call) = false
+wrong_kind (Exceptions call) = false
+wrong_kind (Objects call) = false
 wrong_kind (Strings call) = false
+wrong_kind (Arrays call) = false
 
 abbrev pub is_null : Named → Bool
 is_null Nothing = false
@@ -120,44 +132,70 @@ abbrev pub bad_field : Call → Bool
 bad_field (Vm call) = false
 bad_field (Refs call) = false
 bad_field (Frames call) = false
+bad_field (Exceptions call) = false
+bad_field (Objects call) = false
 bad_field (Strings call) = false
+bad_field (Arrays call) = false
 
 -- 11: a buffer that isn't the call's (JNI Specification, chapter 4, "Array Operations"). No function takes one yet
 abbrev pub bad_buffer : Call → Bool
 bad_buffer (Vm call) = false
 bad_buffer (Refs call) = false
 bad_buffer (Frames call) = false
+bad_buffer (Exceptions call) = false
+bad_buffer (Objects call) = false
 bad_buffer (Strings call) = false
-
-abbrev pub is_within : ℤ → ℤ → ℤ → Bool
-is_within low high v = int_le low v && int_le v high
+bad_buffer (Arrays call) = false
 
 abbrev pub frames_bad_argument : FramesCall → Bool
 frames_bad_argument (PushLocalFrame capacity) = not (is_within (pos 0) (pos 65535) capacity)
 frames_bad_argument (PopLocalFrame r) = false
 
--- a UTF-16 unit
-abbrev pub is_unit : ℤ → Bool
-is_unit v = is_within (pos 0) (pos 65535) v
+-- a region of more items than a list may have
+abbrev pub is_long : ℤ → Bool
+is_long n = int_lt (pos 1000) n
 
 abbrev pub strings_bad_argument : StringsCall → Bool
-strings_bad_argument (NewString units) = not (list_all is_unit units)
+strings_bad_argument (NewString units) = not (list_all (is_value_of Char) units)
+strings_bad_argument (NewStringUTF bytes) = is_none (decoded bytes)
 strings_bad_argument (GetStringLength r) = false
+strings_bad_argument (GetStringUTFLength r) = false
+strings_bad_argument (GetStringRegion r start n) = is_long n
 
--- 12: a capacity below 0 or above 65,535; a unit that isn't one (JNI Specification, chapter 4, PushLocalFrame,
--- NewString)
+-- how many items an array may have
+abbrev pub is_size : ℤ → Bool
+is_size n = is_within (pos 0) (pos 1000000) n
+
+abbrev pub arrays_bad_argument : ArraysCall → Bool
+arrays_bad_argument (NewArray element n) = not (is_size n)
+arrays_bad_argument (GetArrayLength r) = false
+arrays_bad_argument (GetArrayRegion element r start n) = is_long n
+arrays_bad_argument (SetArrayRegion element r start values) = not (list_all (is_value_of element) values)
+arrays_bad_argument (NewObjectArray n class fill) = not (is_size n)
+arrays_bad_argument (GetObjectArrayElement r index) = false
+arrays_bad_argument (SetObjectArrayElement r index value) = false
+
+-- 12: a capacity below 0 or above 65,535; an array's length below 0 or above 1,000,000; a region of more than 1,000 items;
+-- a unit or an item that isn't of its type; bytes that are no modified UTF-8 (JNI Specification, chapter 4, PushLocalFrame,
+-- "String Operations", "Array Operations"; chapter 3, "Modified UTF-8 Strings")
 abbrev pub bad_argument : StatedSetup → Call → Bool
 bad_argument s (Vm call) = false
 bad_argument s (Refs call) = false
 bad_argument s (Frames call) = frames_bad_argument call
+bad_argument s (Exceptions call) = false
+bad_argument s (Objects call) = false
 bad_argument s (Strings call) = strings_bad_argument call
+bad_argument s (Arrays call) = arrays_bad_argument call
 
 -- 13: a reference deleted through which a critical buffer is open. None can be pinned yet
 abbrev pub pinned : Call → Bool
 pinned (Vm call) = false
 pinned (Refs call) = false
 pinned (Frames call) = false
+pinned (Exceptions call) = false
+pinned (Objects call) = false
 pinned (Strings call) = false
+pinned (Arrays call) = false
 
 -- 14: a monitor exited that isn't the caller's (JNI Specification, chapter 4, "Monitor Operations"). No function exits one
 -- yet
@@ -165,7 +203,10 @@ abbrev pub not_owner : Call → Bool
 not_owner (Vm call) = false
 not_owner (Refs call) = false
 not_owner (Frames call) = false
+not_owner (Exceptions call) = false
+not_owner (Objects call) = false
 not_owner (Strings call) = false
+not_owner (Arrays call) = false
 
 abbrev pub vm_bad_frame : Parts → ℕ → VmCall → Bool
 vm_bad_frame p t AttachCurrentThread = false
@@ -182,7 +223,10 @@ abbrev pub bad_frame : Parts → ℕ → Call → Bool
 bad_frame p t (Vm call) = vm_bad_frame p t call
 bad_frame p t (Refs call) = false
 bad_frame p t (Frames call) = frames_bad_frame p t call
+bad_frame p t (Exceptions call) = false
+bad_frame p t (Objects call) = false
 bad_frame p t (Strings call) = false
+bad_frame p t (Arrays call) = false
 
 -- 16: refused native access (JEP 472)
 abbrev pub no_access : StatedSetup → Parts → ℕ → Call → Bool
@@ -194,7 +238,10 @@ abbrev pub not_linked : Call → Bool
 not_linked (Vm call) = false
 not_linked (Refs call) = false
 not_linked (Frames call) = false
+not_linked (Exceptions call) = false
+not_linked (Objects call) = false
 not_linked (Strings call) = false
+not_linked (Arrays call) = false
 
 -- the call breaks the rule
 abbrev pub broken : Rule → StatedSetup → Parts → ℕ → Option EnvId → Call → Bool

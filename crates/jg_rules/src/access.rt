@@ -27,7 +27,10 @@ fn class_asked<A: Allocator + Clone>(_view: &View<'_, A>, _tid: Tid, call: &Call
         Call::Vm(call) => class_asked_by_vm(call),
         Call::Refs(_) => None,
         Call::Frames(_) => None,
+        Call::Exceptions(_) => None,
+        Call::Objects(_) => None,
         Call::Strings(_) => None,
+        Call::Arrays(_) => None,
     }
 }
 

@@ -5,13 +5,16 @@ ghost use Rattle.jg_rules.specs.Parts.{Parts};
 ghost use Rattle.jg_rules.specs.Rules.{verdict, own_verdict, wrong_thread, detached, in_critical, while_pending};
 ghost use Rattle.jg_rules.specs.View.{ViewStands};
 
+mod arrays;
 mod frames;
+mod numbers;
 mod references;
 mod strings;
 mod vm;
 
 use crate::passing::{passes_critical_region, passes_pending_exception};
 use crate::view::View;
+use arrays::judge_arrays;
 use frames::judge_frames;
 use jg_words::{Call, EnvId, Rule, Tid};
 use references::judge_references;
@@ -55,7 +58,10 @@ fn judge_group<A: Allocator + Clone>(view: &View<'_, A>, tid: Tid, call: &Call) 
         Call::Vm(call) => judge_vm(view, tid, call),
         Call::Refs(_) => None,
         Call::Frames(call) => judge_frames(view, tid, call),
+        Call::Exceptions(_) => None,
+        Call::Objects(_) => None,
         Call::Strings(call) => judge_strings(call),
+        Call::Arrays(call) => judge_arrays(call),
     }
 }
 

@@ -1,5 +1,7 @@
 ghost use Rattle.std.specs.Prelude.{◌≡◌};
 ghost use Rattle.jg_rules.specs.Parts.{Parts};
+ghost use Rattle.std.specs.Option.{option_map};
+ghost use Rattle.jg_rules.specs.Names as names_of;
 ghost use Rattle.jg_rules.specs.Names.{names, named_by_target};
 ghost use Rattle.jg_rules.specs.View.{ViewStands};
 
@@ -53,5 +55,31 @@ fn named_by(target: Option<Target>) -> Named
         None => Named::Nothing,
         Some(Target::Object(object)) => Named::Object(object),
         Some(Target::Cleared) => Named::Null,
+    }
+}
+
+/// The object that a reference names for the thread, if it names one.
+pub fn object_named<A: Allocator + Clone>(
+    view: &View<'_, A>,
+    tid: Tid,
+    reference: Ref,
+) -> Option<ObjId>
+    ensures { (p : Parts) → ViewStands view.now p
+        → option_map (λ o. o.0) result ≡ names_of.object_named p tid.0 reference }
+{
+    match look_up(view, tid, reference) {
+        Named::Nothing => None,
+        Named::Null => None,
+        Named::Object(object) => Some(object),
+    }
+}
+
+/// The same for an operand that the rules have found to name one. Object 0 stands for none.
+pub fn the_object<A: Allocator + Clone>(view: &View<'_, A>, tid: Tid, reference: Ref) -> ObjId
+    ensures { (p : Parts) → ViewStands view.now p → result.0 ≡ names_of.the_object p tid.0 reference }
+{
+    match object_named(view, tid, reference) {
+        None => ObjId(0),
+        Some(object) => object,
     }
 }

@@ -1,15 +1,26 @@
 //! The references among a call's operands, each with the type that its object must have.
 
-ghost use Rattle.std.specs.Prelude.{◌≡◌};
-ghost use Rattle.jg_rules.specs.Operands.{listed, operands, vm_operands, refs_operands, frames_operands, strings_operands};
+ghost use Rattle.std.specs.Prelude.{◌≡◌, ◌∷◌, []};
+ghost use Rattle.jg_rules.specs.Operands.{required as required_operand, listed, operands, vm_operands, refs_operands, frames_operands, exceptions_operands, objects_operands, strings_operands, arrays_operands};
 
-use jg_words::{Call, FramesCall, Ref, RefsCall, StringsCall, VmCall};
+use jg_words::{
+    ArraysCall, Call, ExceptionsCall, FramesCall, ObjectsCall, Primitive, Ref, RefsCall,
+    StringsCall, VmCall,
+};
 
-/// The type that a function declares for an operand: `jobject` or `jstring`.
+/// The type that a function declares for an operand (JNI Specification, chapter 3, "Reference
+/// Types"): `jobject`, `jclass`, `jthrowable`, `jstring`, `jarray` and its kin.
 #[derive(Clone, Copy, Debug, PartialEq, Eq)]
 pub enum ObjectType {
     AnyObject,
+    ClassObject,
+    /// The class object of a class whose instances AllocObject makes.
+    PlainClass,
+    ThrowableObject,
     StringObject,
+    AnyArray,
+    ArrayOf(Primitive),
+    ObjectArray,
 }
 
 /// A reference among a call's operands: one that must name an object of the type, or one that
@@ -88,15 +99,75 @@ fn of_frames(call: &FramesCall) -> Operands
     }
 }
 
+fn of_exceptions(call: &ExceptionsCall) -> Operands
+    ensures { listed result ≡ exceptions_operands call.now }
+{
+    match call {
+        ExceptionsCall::Throw { exception } => required(*exception, ObjectType::ThrowableObject),
+        ExceptionsCall::ExceptionOccurred => Operands::Nil,
+        ExceptionsCall::ExceptionDescribe => Operands::Nil,
+        ExceptionsCall::ExceptionClear => Operands::Nil,
+        ExceptionsCall::ExceptionCheck => Operands::Nil,
+    }
+}
+
+fn of_objects(call: &ObjectsCall) -> Operands
+    ensures { listed result ≡ objects_operands call.now }
+{
+    match call {
+        ObjectsCall::FindClass { .. } => Operands::Nil,
+        ObjectsCall::GetObjectClass { object } => required(*object, ObjectType::AnyObject),
+        ObjectsCall::IsInstanceOf { object, class } => Operands::Two(
+            Operand::optional(*object),
+            Operand::required(*class, ObjectType::ClassObject),
+        ),
+        ObjectsCall::AllocObject { class } => required(*class, ObjectType::PlainClass),
+    }
+}
+
 fn of_strings(call: &StringsCall) -> Operands
     ensures { listed result ≡ strings_operands call.now }
 {
     match call {
         StringsCall::NewString { .. } => Operands::Nil,
-        StringsCall::GetStringLength { string } => {
-            Operands::One(Operand::required(*string, ObjectType::StringObject))
-        }
+        StringsCall::NewStringUTF { .. } => Operands::Nil,
+        StringsCall::GetStringLength { string } => required(*string, ObjectType::StringObject),
+        StringsCall::GetStringUTFLength { string } => required(*string, ObjectType::StringObject),
+        StringsCall::GetStringRegion { string, .. } => required(*string, ObjectType::StringObject),
     }
+}
+
+fn of_arrays(call: &ArraysCall) -> Operands
+    ensures { listed result ≡ arrays_operands call.now }
+{
+    match call {
+        ArraysCall::NewArray { .. } => Operands::Nil,
+        ArraysCall::GetArrayLength { array } => required(*array, ObjectType::AnyArray),
+        ArraysCall::GetArrayRegion { element, array, .. } => {
+            required(*array, ObjectType::ArrayOf(*element))
+        }
+        ArraysCall::SetArrayRegion { element, array, .. } => {
+            required(*array, ObjectType::ArrayOf(*element))
+        }
+        ArraysCall::NewObjectArray { class, fill, .. } => Operands::Two(
+            Operand::required(*class, ObjectType::ClassObject),
+            Operand::optional(*fill),
+        ),
+        ArraysCall::GetObjectArrayElement { array, .. } => {
+            required(*array, ObjectType::ObjectArray)
+        }
+        ArraysCall::SetObjectArrayElement { array, value, .. } => Operands::Two(
+            Operand::required(*array, ObjectType::ObjectArray),
+            Operand::optional(*value),
+        ),
+    }
+}
+
+/// One operand that must name an object of the type.
+fn required(reference: Ref, object_type: ObjectType) -> Operands
+    ensures { listed result ≡ required_operand reference object_type ∷ [] }
+{
+    Operands::One(Operand::required(reference, object_type))
 }
 
 /// The references among the call's operands.
@@ -107,6 +178,9 @@ pub fn operands_of(call: &Call) -> Operands
         Call::Vm(call) => of_vm(call),
         Call::Refs(call) => of_refs(call),
         Call::Frames(call) => of_frames(call),
+        Call::Exceptions(call) => of_exceptions(call),
+        Call::Objects(call) => of_objects(call),
         Call::Strings(call) => of_strings(call),
+        Call::Arrays(call) => of_arrays(call),
     }
 }

@@ -1,7 +1,7 @@
 ghost use Rattle.std.specs.Prelude.{◌≡◌};
-ghost use Rattle.jg_rules.specs.Passing.{passes_critical, vm_passes_pending, refs_passes_pending, passes_pending};
+ghost use Rattle.jg_rules.specs.Passing.{passes_critical, vm_passes_pending, refs_passes_pending, exceptions_passes_pending, passes_pending};
 
-use jg_words::{Fun, RefsFun, VmFun};
+use jg_words::{ExceptionsFun, Fun, RefsFun, VmFun};
 
 /// Whether the function may be called inside a critical region.
 pub(crate) fn passes_critical_region(fun: Fun) -> bool
@@ -11,7 +11,10 @@ pub(crate) fn passes_critical_region(fun: Fun) -> bool
         Fun::Vm(_) => false,
         Fun::Refs(_) => false,
         Fun::Frames(_) => false,
+        Fun::Exceptions(_) => false,
+        Fun::Objects(_) => false,
         Fun::Strings(_) => false,
+        Fun::Arrays(_) => false,
     }
 }
 
@@ -36,6 +39,18 @@ fn refs_passes(fun: RefsFun) -> bool
     }
 }
 
+fn exceptions_passes(fun: ExceptionsFun) -> bool
+    ensures { result ≡ exceptions_passes_pending fun }
+{
+    match fun {
+        ExceptionsFun::Throw => false,
+        ExceptionsFun::ExceptionOccurred => true,
+        ExceptionsFun::ExceptionDescribe => true,
+        ExceptionsFun::ExceptionClear => true,
+        ExceptionsFun::ExceptionCheck => true,
+    }
+}
+
 /// Whether the function may be called with an exception pending.
 pub(crate) fn passes_pending_exception(fun: Fun) -> bool
     ensures { result ≡ passes_pending fun }
@@ -44,6 +59,9 @@ pub(crate) fn passes_pending_exception(fun: Fun) -> bool
         Fun::Vm(fun) => vm_passes(fun),
         Fun::Refs(fun) => refs_passes(fun),
         Fun::Frames(_) => true,
+        Fun::Exceptions(fun) => exceptions_passes(fun),
+        Fun::Objects(_) => false,
         Fun::Strings(_) => false,
+        Fun::Arrays(_) => false,
     }
 }

@@ -14,9 +14,11 @@ use jg_text::ScriptFault;
 use std::alloc::{Allocator, Global};
 use std::io::{BufRead, Write};
 
-/// Answers the lines of a script, each before the next is read, and gives their number. What was
-/// written before a fault stays written, and what the guard took stays in its journal. Nothing is
-/// read after the first faulty line, so at most the limit and one line more are read.
+/// Answers the lines of a script, each before the next is read, and gives their number. The guard's
+/// journal is empty before (`Guard::journal_len`). What was written before a fault stays written, and
+/// what the guard took stays in its journal. Nothing is read after the first faulty line, so at most
+/// the limit and one line more are read. `Read` and `Write` come only where the device failed, which
+/// is then marked so; `NoMemory` may come at any line.
 pub fn check<A: Allocator + Clone, R: BufRead, W: Write>(
     alloc: Global,
     guard: &mut Guard<A>,

@@ -350,17 +350,21 @@ fn read_back<R: BufRead + Drop>(
     (result, reader.has_failed())
 }
 
+const DOUBLED: &str = "T1 - AttachCurrentThread = E1.1
+T1 - AttachCurrentThread = E1.1
+T1 E1.1 NewString [] = L1.1
+T1 E1.1 NewString [] = L1.1
+";
+
 #[test]
 fn journals_are_read_back(rt: HostRuntime) -> Result<(), Fail> {
     let altered = "T1 - AttachCurrentThread = E1.1\nT1 E1.1 NewString [72,105] = L1.2\n";
-    let doubled =
-        "T1 - AttachCurrentThread = E1.1\nT1 - AttachCurrentThread = E1.1\nT1 E1.1 NewString [] = L1.1\nT1 E1.1 NewString [] = L1.1\n";
     let (cut, _) = FIRST_PATH_ANSWERED.split_at(FIRST_PATH_ANSWERED.len() - 1);
     let readings = [
         ("", 0, Ok(Verdict::Legal)),
         (FIRST_PATH_ANSWERED, 6, Ok(Verdict::Legal)),
         (altered, 10, Ok(Verdict::Differs(2))),
-        (doubled, 10, Ok(Verdict::Differs(4))),
+        (DOUBLED, 10, Ok(Verdict::Differs(4))),
         (cut, 10, Ok(Verdict::Differs(6))),
         (FIRST_PATH_ANSWERED, 5, Err(RunFault::Limit { line: 6 })),
         (cut, 5, Err(RunFault::Limit { line: 6 })),

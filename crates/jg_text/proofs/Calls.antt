@@ -9,27 +9,41 @@ use Rattle.jg_words.specs.declared.fun.refs.RefsFun.{RefsFun}
 use Rattle.jg_words.specs.declared.fun.refs.RefsFun.TheVariants as refs
 use Rattle.jg_words.specs.declared.fun.frames.FramesFun.{FramesFun}
 use Rattle.jg_words.specs.declared.fun.frames.FramesFun.TheVariants as frames
+use Rattle.jg_words.specs.declared.fun.exceptions.ExceptionsFun.{ExceptionsFun}
+use Rattle.jg_words.specs.declared.fun.exceptions.ExceptionsFun.TheVariants as exceptions
+use Rattle.jg_words.specs.declared.fun.objects.ObjectsFun.{ObjectsFun}
+use Rattle.jg_words.specs.declared.fun.objects.ObjectsFun.TheVariants as objects
 use Rattle.jg_words.specs.declared.fun.strings.StringsFun.{StringsFun}
 use Rattle.jg_words.specs.declared.fun.strings.StringsFun.TheVariants as strings
+use Rattle.jg_words.specs.declared.fun.arrays.ArraysFun.{ArraysFun}
+use Rattle.jg_words.specs.declared.fun.arrays.ArraysFun.TheVariants as arrays
 use Rattle.jg_words.specs.declared.call.Call.{Call}
-use Rattle.jg_words.specs.declared.call.Call.TheVariants.{Vm, Refs, Frames, Strings}
+use Rattle.jg_words.specs.declared.call.Call.TheVariants.{Vm, Refs, Frames, Exceptions, Objects, Strings, Arrays}
 use Rattle.jg_words.specs.declared.call.vm.VmCall.{VmCall}
 use Rattle.jg_words.specs.declared.call.vm.VmCall.TheVariants.{AttachCurrentThread, DetachCurrentThread, GetEnv}
 use Rattle.jg_words.specs.declared.call.refs.RefsCall.{RefsCall}
 use Rattle.jg_words.specs.declared.call.refs.RefsCall.TheVariants.{NewLocalRef, DeleteLocalRef, IsSameObject, GetObjectRefType}
 use Rattle.jg_words.specs.declared.call.frames.FramesCall.{FramesCall}
 use Rattle.jg_words.specs.declared.call.frames.FramesCall.TheVariants.{PushLocalFrame, PopLocalFrame}
+use Rattle.jg_words.specs.declared.call.exceptions.ExceptionsCall.{ExceptionsCall}
+use Rattle.jg_words.specs.declared.call.exceptions.ExceptionsCall.TheVariants.{Throw, ExceptionOccurred, ExceptionDescribe, ExceptionClear, ExceptionCheck}
+use Rattle.jg_words.specs.declared.call.objects.ObjectsCall.{ObjectsCall}
+use Rattle.jg_words.specs.declared.call.objects.ObjectsCall.TheVariants.{FindClass, GetObjectClass, IsInstanceOf, AllocObject}
 use Rattle.jg_words.specs.declared.call.strings.StringsCall.{StringsCall}
-use Rattle.jg_words.specs.declared.call.strings.StringsCall.TheVariants.{NewString, GetStringLength}
-use Rattle.jg_words.specs.Call.{fun_of, vm_fun, refs_fun, frames_fun, strings_fun}
-use Rattle.jg_text.specs.Kinds.{OperandKind, Numbers}
+use Rattle.jg_words.specs.declared.call.strings.StringsCall.TheVariants.{NewString, NewStringUTF, GetStringLength, GetStringUTFLength, GetStringRegion}
+use Rattle.jg_words.specs.declared.call.arrays.ArraysCall.{ArraysCall}
+use Rattle.jg_words.specs.declared.call.arrays.ArraysCall.TheVariants.{NewArray, GetArrayLength, GetArrayRegion, SetArrayRegion, NewObjectArray, GetObjectArrayElement, SetObjectArrayElement}
+use Rattle.jg_words.specs.Call.{fun_of, vm_fun, refs_fun, frames_fun, exceptions_fun, objects_fun, strings_fun, arrays_fun}
+use Rattle.jg_text.specs.Kinds.{OperandKind, Reference, Number, Numbers, Name}
 use Rattle.jg_text.specs.Words.{kind_of}
-use Rattle.jg_text.specs.Operands.{operands, operand_kinds, vm_operands, vm_kinds, refs_operands, refs_kinds, frames_operands, frames_kinds, strings_operands, strings_kinds}
+use Rattle.jg_text.specs.Operands.{operands, operand_kinds, vm_operands, vm_kinds, refs_operands, refs_kinds, frames_operands, frames_kinds, exceptions_operands, exceptions_kinds, objects_operands, objects_kinds, strings_operands, strings_kinds, arrays_operands, arrays_kinds}
 
 -- how long an operand of the kind is at most
 abbrev pub longest : OperandKind → ℕ
+longest Reference = 42
+longest Number = 42
 longest Numbers = 21002
-longest _ = 42
+longest Name = 255
 
 -- how long operands of these kinds are at most, with a space before each
 abbrev pub room : List OperandKind → ℕ
@@ -84,34 +98,121 @@ frames_same_kinds : (c : FramesCall) → map kind_of (frames_operands c) ≡ fra
 frames_same_kinds (PushLocalFrame capacity) = refl
 frames_same_kinds (PopLocalFrame kept) = refl
 
+exceptions_same : (c d : ExceptionsCall) → exceptions_fun c ≡ exceptions_fun d → exceptions_operands c ≡ exceptions_operands d → c ≡ d
+exceptions_same (Throw a0) (Throw b0) e1 e2 = cc
+exceptions_same ExceptionOccurred ExceptionOccurred e1 e2 = refl
+exceptions_same ExceptionDescribe ExceptionDescribe e1 e2 = refl
+exceptions_same ExceptionClear ExceptionClear e1 e2 = refl
+exceptions_same ExceptionCheck ExceptionCheck e1 e2 = refl
+exceptions_same _ _ e1 e2 = absurd (cc)
+
+exceptions_few : (f : ExceptionsFun) → room (exceptions_kinds f) ≤ 21600
+exceptions_few exceptions.Throw = omega arith
+exceptions_few exceptions.ExceptionOccurred = omega arith
+exceptions_few exceptions.ExceptionDescribe = omega arith
+exceptions_few exceptions.ExceptionClear = omega arith
+exceptions_few exceptions.ExceptionCheck = omega arith
+
+exceptions_same_kinds : (c : ExceptionsCall) → map kind_of (exceptions_operands c) ≡ exceptions_kinds (exceptions_fun c)
+exceptions_same_kinds (Throw exception) = refl
+exceptions_same_kinds ExceptionOccurred = refl
+exceptions_same_kinds ExceptionDescribe = refl
+exceptions_same_kinds ExceptionClear = refl
+exceptions_same_kinds ExceptionCheck = refl
+
+objects_same : (c d : ObjectsCall) → objects_fun c ≡ objects_fun d → objects_operands c ≡ objects_operands d → c ≡ d
+objects_same (FindClass a0) (FindClass b0) e1 e2 = cc
+objects_same (GetObjectClass a0) (GetObjectClass b0) e1 e2 = cc
+objects_same (IsInstanceOf a0 a1) (IsInstanceOf b0 b1) e1 e2 = cc
+objects_same (AllocObject a0) (AllocObject b0) e1 e2 = cc
+objects_same _ _ e1 e2 = absurd (cc)
+
+objects_few : (f : ObjectsFun) → room (objects_kinds f) ≤ 21600
+objects_few objects.FindClass = omega arith
+objects_few objects.GetObjectClass = omega arith
+objects_few objects.IsInstanceOf = omega arith
+objects_few objects.AllocObject = omega arith
+
+objects_same_kinds : (c : ObjectsCall) → map kind_of (objects_operands c) ≡ objects_kinds (objects_fun c)
+objects_same_kinds (FindClass name) = refl
+objects_same_kinds (GetObjectClass object) = refl
+objects_same_kinds (IsInstanceOf object class) = refl
+objects_same_kinds (AllocObject class) = refl
+
 strings_same : (c d : StringsCall) → strings_fun c ≡ strings_fun d → strings_operands c ≡ strings_operands d → c ≡ d
 strings_same (NewString a0) (NewString b0) e1 e2 = cc
+strings_same (NewStringUTF a0) (NewStringUTF b0) e1 e2 = cc
 strings_same (GetStringLength a0) (GetStringLength b0) e1 e2 = cc
+strings_same (GetStringUTFLength a0) (GetStringUTFLength b0) e1 e2 = cc
+strings_same (GetStringRegion a0 a1 a2) (GetStringRegion b0 b1 b2) e1 e2 = cc
 strings_same _ _ e1 e2 = absurd (cc)
 
 strings_few : (f : StringsFun) → room (strings_kinds f) ≤ 21600
 strings_few strings.NewString = omega arith
+strings_few strings.NewStringUTF = omega arith
 strings_few strings.GetStringLength = omega arith
+strings_few strings.GetStringUTFLength = omega arith
+strings_few strings.GetStringRegion = omega arith
 
 strings_same_kinds : (c : StringsCall) → map kind_of (strings_operands c) ≡ strings_kinds (strings_fun c)
 strings_same_kinds (NewString units) = refl
+strings_same_kinds (NewStringUTF bytes) = refl
 strings_same_kinds (GetStringLength string) = refl
+strings_same_kinds (GetStringUTFLength string) = refl
+strings_same_kinds (GetStringRegion string start length) = refl
+
+arrays_same : (c d : ArraysCall) → arrays_fun c ≡ arrays_fun d → arrays_operands c ≡ arrays_operands d → c ≡ d
+arrays_same (NewArray a0 a1) (NewArray b0 b1) e1 e2 = cc
+arrays_same (GetArrayLength a0) (GetArrayLength b0) e1 e2 = cc
+arrays_same (GetArrayRegion a0 a1 a2 a3) (GetArrayRegion b0 b1 b2 b3) e1 e2 = cc
+arrays_same (SetArrayRegion a0 a1 a2 a3) (SetArrayRegion b0 b1 b2 b3) e1 e2 = cc
+arrays_same (NewObjectArray a0 a1 a2) (NewObjectArray b0 b1 b2) e1 e2 = cc
+arrays_same (GetObjectArrayElement a0 a1) (GetObjectArrayElement b0 b1) e1 e2 = cc
+arrays_same (SetObjectArrayElement a0 a1 a2) (SetObjectArrayElement b0 b1 b2) e1 e2 = cc
+arrays_same _ _ e1 e2 = absurd (cc)
+
+arrays_few : (f : ArraysFun) → room (arrays_kinds f) ≤ 21600
+arrays_few (arrays.NewArray element) = omega arith
+arrays_few arrays.GetArrayLength = omega arith
+arrays_few (arrays.GetArrayRegion element) = omega arith
+arrays_few (arrays.SetArrayRegion element) = omega arith
+arrays_few arrays.NewObjectArray = omega arith
+arrays_few arrays.GetObjectArrayElement = omega arith
+arrays_few arrays.SetObjectArrayElement = omega arith
+
+arrays_same_kinds : (c : ArraysCall) → map kind_of (arrays_operands c) ≡ arrays_kinds (arrays_fun c)
+arrays_same_kinds (NewArray element length) = refl
+arrays_same_kinds (GetArrayLength array) = refl
+arrays_same_kinds (GetArrayRegion element array start length) = refl
+arrays_same_kinds (SetArrayRegion element array start values) = refl
+arrays_same_kinds (NewObjectArray length class fill) = refl
+arrays_same_kinds (GetObjectArrayElement array index) = refl
+arrays_same_kinds (SetObjectArrayElement array index value) = refl
 
 pub same_call : (c d : Call) → fun_of c ≡ fun_of d → operands c ≡ operands d → c ≡ d
 same_call (Vm c) (Vm d) e1 e2 = ap Vm (vm_same c d (cc) e2)
 same_call (Refs c) (Refs d) e1 e2 = ap Refs (refs_same c d (cc) e2)
 same_call (Frames c) (Frames d) e1 e2 = ap Frames (frames_same c d (cc) e2)
+same_call (Exceptions c) (Exceptions d) e1 e2 = ap Exceptions (exceptions_same c d (cc) e2)
+same_call (Objects c) (Objects d) e1 e2 = ap Objects (objects_same c d (cc) e2)
 same_call (Strings c) (Strings d) e1 e2 = ap Strings (strings_same c d (cc) e2)
+same_call (Arrays c) (Arrays d) e1 e2 = ap Arrays (arrays_same c d (cc) e2)
 same_call _ _ e1 e2 = absurd (cc)
 
 pub same_kinds : (c : Call) → map kind_of (operands c) ≡ operand_kinds (fun_of c)
 same_kinds (Vm c) = vm_same_kinds c
 same_kinds (Refs c) = refs_same_kinds c
 same_kinds (Frames c) = frames_same_kinds c
+same_kinds (Exceptions c) = exceptions_same_kinds c
+same_kinds (Objects c) = objects_same_kinds c
 same_kinds (Strings c) = strings_same_kinds c
+same_kinds (Arrays c) = arrays_same_kinds c
 
 pub few_operands : (f : Fun) → room (operand_kinds f) ≤ 21600
 few_operands (fun.Vm f) = vm_few f
 few_operands (fun.Refs f) = refs_few f
 few_operands (fun.Frames f) = frames_few f
+few_operands (fun.Exceptions f) = exceptions_few f
+few_operands (fun.Objects f) = objects_few f
 few_operands (fun.Strings f) = strings_few f
+few_operands (fun.Arrays f) = arrays_few f

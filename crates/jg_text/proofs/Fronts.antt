@@ -13,7 +13,9 @@ use Rattle.jg_text.specs.Operands.{operand_kinds, FitsCall}
 use Rattle.jg_text.specs.Spelling.{spelling, Spells}
 use Rattle.jg_text.specs.Begun.{BeginsCall}
 use Rattle.jg_text.specs.Faults.{fields}
+use Rattle.jg_words.specs.declared.fun.Fun.{Fun}
 use Rattle.jg_text.proofs.Laws.{fields_longer, fields_spelling, same_count}
+use Rattle.jg_text.proofs.Named.{names_injective}
 
 abbrev pub spaces : List ℕ → ℕ
 spaces text = count_by (λ b. b == 32) text
@@ -81,6 +83,15 @@ enough text t e c more ht he hc few begins =
 pub named_function : (text : List ℕ) (t : Tid) (e : Option EnvId) (c : Call) (more : List ℕ) → FitsTid t → FitsEnv e → FitsCall c → text ≡ spelling t e c ++ (codes " = " ++ more)
     → slice_get (fields text) 2 ≡ Some (name_of (fun_of c))
 named_function text t e c more ht he hc begins = ap (λ k. slice_get (fields k) 2) (begins ∙ ap (λ rest. spelling t e c ++ rest) (equals more)) ∙ named_third t e c (61 ∷ 32 ∷ more) ht he hc
+
+-- the function that is read from the third field is the one that it names
+pub third_names : (text behind later a b name : List ℕ) (rest : List (List ℕ)) (f g : Fun) → fields text ≡ a ∷ fields behind → fields behind ≡ b ∷ fields later
+    → fields later ≡ name ∷ rest → name ≡ name_of g → slice_get (fields text) 2 ≡ Some (name_of f) → g ≡ f
+third_names text behind later a b name rest f g first second third is found =
+    let split : fields text ≡ a ∷ b ∷ name ∷ rest = cc in
+    let both : Some name ≡ Some (name_of f) = sym (ap (λ fs. slice_get fs 2) split) ∙ found in
+    let same : name_of g ≡ name_of f = cc in
+    names_injective g f same
 
 -- what stands before ` = ` spells no call, so the text doesn't begin with one
 pub begins_with_none : (text : List ℕ) (front : Option (List ℕ))

@@ -1,11 +1,11 @@
 -- Each line spells one thread, one environment and one call, and has no fault.
-use Rattle.std.proofs.Common.{◌≡◌, ◌≢◌, ℕ, ℤ, pos, negsuc, suc, ◌+◌, ◌*◌, length-append, ◌<◌, ◌≤◌, ◌^◌, List, [], ◌∷◌, ◌++◌, length, get_or, map, All, FitsSigned, w64, ◌==◌, true, false, Option, Some, None, refl, sym, ◌∙◌, ap, arith, subst, append_assoc}
+use Rattle.std.proofs.Common.{◌≡◌, ◌≢◌, ℕ, ℤ, pos, negsuc, suc, ◌+◌, ◌*◌, length-append, ◌<◌, ◌≤◌, ◌^◌, List, [], ◌∷◌, ◌++◌, length, get_or, map, All, FitsSigned, w64, ◌==◌, true, Option, Some, None, refl, sym, ◌∙◌, ap, arith, subst, append_assoc}
 use Rattle.std.specs.Int.{IsInRange}
 use Rattle.std.specs.List.{join_with_byte, AllByRecursion}
 use Rattle.std.specs.Fmt.{decimal, signed_decimal}
 use Rattle.std.proofs.lemmas.Bool.{ne_eqb}
 use Rattle.std.proofs.lemmas.Bool.Decides.{nat_tests}
-use Rattle.std.specs.Prelude.{find, cond, nat_eq, nat_lt, Bool, ◌&&◌}
+use Rattle.std.specs.Prelude.{nat_eq, nat_lt, Bool, ◌&&◌}
 use Rattle.std.specs.List.{list_all}
 use Rattle.std.specs.Cmp.Lexicographic.{pointwise}
 use Rattle.std.specs.Str.Parse.{AllDigits}
@@ -25,7 +25,7 @@ use Rattle.jg_words.proofs.Names.{named-name_of}
 use Rattle.jg_words.specs.declared.call.Call.{Call}
 use Rattle.jg_words.specs.Call.{fun_of}
 use Rattle.jg_text.specs.Kinds.{OperandKind}
-use Rattle.jg_text.specs.Words.{SpellsOperand, SpellOperands, tid_text, env_text, ref_text, dotted_text, kind_letter, FitsTid, FitsEnv, FitsRef, Word, of_ref, of_number, of_items, kind_of, text_of, FitsWord}
+use Rattle.jg_text.specs.Words.{SpellsOperand, SpellOperands, tid_text, env_text, ref_text, dotted_text, kind_letter, FitsTid, FitsEnv, FitsRef, Word, of_ref, of_number, of_items, of_name, kind_of, text_of, FitsWord}
 use Rattle.jg_text.specs.Operands.{operands, operand_texts, operand_kinds, FitsCall}
 use Rattle.jg_text.specs.Spelling.{spelling, line_fields, Spells}
 use Rattle.jg_text.specs.Faults.{fields, HasFault}
@@ -33,7 +33,7 @@ use Rattle.jg_text.specs.Pieces.{after_spaces}
 use Rattle.jg_text.proofs.Numbers.{clean_decimal, own, mag_fits, mag_fits_small}
 use Rattle.jg_text.proofs.Cuts.{IsClean, split_first, same_cut}
 use Rattle.jg_text.proofs.Lists.{Fit, pieces, commas_split, same_inner}
-use Rattle.jg_text.proofs.Named.{names_injective}
+use Rattle.jg_text.proofs.Named.{names_injective, both_true, below, each_passes}
 use Rattle.jg_text.proofs.Calls.{same_call, same_kinds, few_operands, longest, room}
 use Rattle.jg_text.proofs.Faulty.{HasHead, no_fault}
 use Rattle.jg_text.proofs.Writing.{join_operands}
@@ -143,6 +143,7 @@ pub word_same : (a b : Word) → kind_of a ≡ kind_of b → FitsWord a → Fits
 word_same (of_ref r) (of_ref q) e h k t = ap of_ref (refs_same r q h k t)
 word_same (of_number i) (of_number j) e h k t = ap of_number (signed_decimal_injective i j (mag_fits_small i h) (mag_fits_small j k) t)
 word_same (of_items xs) (of_items ys) e h k t = ap of_items (joined_same xs ys h.1 k.1 (same_inner _ _ t))
+word_same (of_name a) (of_name b) e h k t = ap of_name t
 word_same _ _ e h k t = absurd (cc)
 
 words_same : (us vs : List Word) → map kind_of us ≡ map kind_of vs → AllByRecursion FitsWord us → AllByRecursion FitsWord vs → map text_of us ≡ map text_of vs → us ≡ vs
@@ -158,20 +159,11 @@ words_same (a ∷ us) (b ∷ vs) e h k t =
     let more = words_same us vs kinds h.1 k.1 texts in
     cc (one, more)
 
-pub both_true : (a b : Bool) → (a && b) ≡ true → (a ≡ true) × (b ≡ true)
-both_true true true e = (refl, refl)
-both_true true false e = absurd (cc)
-both_true false true e = absurd (cc)
-both_true false false e = absurd (cc)
-
 abbrev is_seen : ℕ → Bool
 is_seen b = nat_lt 32 b && nat_lt b 127
 
 in_range : (b : ℕ) → nat_lt 32 b ≡ true → nat_lt b 127 ≡ true → IsInRange 33 126 b
 in_range b h k = grind (arith, nat_tests)
-
-pub below : (a b : ℕ) → nat_lt a b ≡ true → a < b
-below a b h = grind (arith, nat_tests)
 
 seen_by_test : (bs : List ℕ) → list_all is_seen bs ≡ true → AllByRecursion (λ b. IsInRange 33 126 b) bs
 seen_by_test [] h = tt
@@ -190,6 +182,7 @@ seen_word (of_number (pos n)) h = seen_number n (omega (arith, h))
 seen_word (of_number (negsuc m)) h = seen_cons 45 (decimal (suc m)) (omega arith) (seen_number (suc m) (omega (arith, h)))
 seen_word (of_items xs) h = seen_cons 91 (join_with_byte 44 (map signed_decimal xs)
     ++ 93 ∷ []) (omega arith) (seen_append (join_with_byte 44 (map signed_decimal xs)) (93 ∷ []) (seen_joined xs h.1) (seen_cons 93 [] (omega arith) (All-nil (λ b. IsInRange 33 126 b))))
+seen_word (of_name name) h = λ k d within. let v = h.2 k d within in omega (arith, v)
 
 seen_words : (us : List Word) → AllByRecursion FitsWord us → AllByRecursion IsVisible (map text_of us)
 seen_words [] h = tt
@@ -201,15 +194,6 @@ seen_tid t h = seen_cons 84 (decimal t.0) (omega arith) (seen_number t.0 (omega 
 seen_env : (e : Option EnvId) → FitsEnv e → IsVisible (env_text e)
 seen_env None h = seen_cons 45 [] (omega arith) (All-nil (λ b. IsInRange 33 126 b))
 seen_env (Some e) h = seen_cons 69 (dotted_text e.tid.0 e.session) (omega arith) (seen_dotted e.tid.0 e.session (omega (arith, h.0)) h.1)
-
--- what all functions pass, each passes
-each_passes : (p q : Fun → Bool) (xs : List Fun) (f : Fun) → find p xs ≡ Some f → list_all q xs ≡ true → q f ≡ true
-each_passes p q [] f e h = absurd (cc)
-each_passes p q (x ∷ xs) f e h =
-    elim (p x) as (λ b. cond b (Some x) (find p xs) ≡ Some f → q f ≡ true) [
-      | true ↦ λ k. (let same : x ≡ f = cc in subst (λ (y : Fun). q y ≡ true) same (both_true (q x) (list_all q xs) h).0)
-      | false ↦ λ k. each_passes p q xs f k (both_true (q x) (list_all q xs) h).1
-    ] e
 
 pub seen_name : (f : Fun) → IsVisible (name_of f)
 seen_name f = All-from_recursion (λ b. IsInRange 33 126 b) (name_of f)
@@ -277,6 +261,7 @@ word_short (of_ref Null) h = omega arith
 word_short (of_ref (To kind maker n)) h = omega (arith, dotted_short maker.0 n (omega (arith, h.0)) h.1)
 word_short (of_number i) h = let short = length_signed_le 19 i (omega (arith, mag_fits_small i h)) (mag_fits_small i h) in omega (arith, short)
 word_short (of_items xs) h = simp length-append (omega (arith, joined_short xs h.1, h.0))
+word_short (of_name name) h = omega (arith, h.1)
 
 words_short : (us : List Word) → AllByRecursion FitsWord us → length (after_spaces (map text_of us)) ≤ room (map kind_of us)
 words_short [] h = omega arith
@@ -328,6 +313,7 @@ word_spelt : (a : Word) → FitsWord a → SpellsOperand (kind_of a) (text_of a)
 word_spelt (of_ref r) h = (r, h, refl)
 word_spelt (of_number i) h = (i, h, refl)
 word_spelt (of_items xs) h = (xs, h, refl)
+word_spelt (of_name name) h = (name, h, refl)
 
 words_spelt : (us : List Word) → AllByRecursion FitsWord us → SpellOperands (map kind_of us) (map text_of us)
 words_spelt [] h = tt

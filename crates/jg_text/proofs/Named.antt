@@ -1,10 +1,14 @@
 -- A function is found by its name alone.
-use Rattle.std.proofs.Common.{◌≡◌, ◌≢◌, ℕ, List, [], ◌∷◌, Bool, true, false, Some, None, refl, sym, ◌∙◌, ap, subst}
-use Rattle.std.specs.Prelude.{find, cond, nat_eq}
+use Rattle.std.proofs.Common.{◌≡◌, ◌≢◌, ℕ, List, [], ◌∷◌, Bool, true, false, Some, None, refl, sym, ◌∙◌, ap, subst, length, Contains, Bor, ◌<◌, arith}
+use Rattle.std.specs.Prelude.{find, cond, nat_eq, nat_lt, ◌&&◌, slice_index_or}
+use Rattle.std.specs.List.{list_all, list_any}
+use Rattle.std.proofs.lemmas.Bool.Decides.{nat_tests}
+use Rattle.std.proofs.lemmas.List.Folds.{Any-from_list_any}
 use Rattle.std.specs.Cmp.Lexicographic.{pointwise, same_text}
 use Rattle.jg_words.specs.declared.fun.Fun.{Fun}
 use Rattle.jg_words.specs.Fun.{name_of, named, all}
 use Rattle.jg_words.proofs.Names.{named-name_of}
+use Rattle.jg_text.specs.Pieces.{IsByLength}
 
 find_passes : (p : Fun → Bool) (xs : List Fun) (f : Fun) → find p xs ≡ Some f → p f ≡ true
 find_passes p [] f e = absurd (cc)
@@ -22,3 +26,42 @@ named_some text f e = let passes : pointwise nat_eq (name_of f) text ≡ true = 
 
 pub named_none : (text : List ℕ) → named text ≡ None → (f : Fun) → text ≢ name_of f
 named_none text e f same = let clash : Some f ≡ None = sym (named-name_of f) ∙ ap named (sym same) ∙ e in absurd (cc)
+
+pub both_true : (a b : Bool) → (a && b) ≡ true → (a ≡ true) × (b ≡ true)
+both_true true true e = (refl, refl)
+both_true true false e = absurd (cc)
+both_true false true e = absurd (cc)
+both_true false false e = absurd (cc)
+
+pub below : (a b : ℕ) → nat_lt a b ≡ true → a < b
+below a b h = grind (arith, nat_tests)
+
+-- what all functions pass, each passes
+pub each_passes : (p q : Fun → Bool) (xs : List Fun) (f : Fun) → find p xs ≡ Some f → list_all q xs ≡ true → q f ≡ true
+each_passes p q [] f e h = absurd (cc)
+each_passes p q (x ∷ xs) f e h =
+    elim (p x) as (λ b. cond b (Some x) (find p xs) ≡ Some f → q f ≡ true) [
+      | true ↦ λ k. (let same : x ≡ f = cc in subst (λ (y : Fun). q y ≡ true) same (both_true (q x) (list_all q xs) h).0)
+      | false ↦ λ k. each_passes p q xs f k (both_true (q x) (list_all q xs) h).1
+    ] e
+
+-- a function stands in a row one of whose names is its own
+abbrev pub has : List Fun → Fun → Bool
+has row f = list_any (λ g. pointwise nat_eq (name_of g) (name_of f)) row
+
+stands_in : (row : List Fun) (f : Fun) → has row f ≡ true → Contains row f
+stands_in row f e =
+    let found = Any-from_list_any (λ g. pointwise nat_eq (name_of g) (name_of f)) row e in
+    let (k, g, within, here, passes) = found in
+    let same : g ≡ f = names_injective g f (same_text (name_of g) (name_of f) (sym passes)) in
+    subst (λ (h : Fun). Contains row h) same (k, within, here)
+
+-- a table that passes the test for each function is one by length
+pub by_length : (rows : List (Bor (List Fun))) → list_all (λ f. nat_lt (length (name_of f)) (length rows)) all ≡ true
+    → ((d : Bor (List Fun)) → list_all (λ f. has (slice_index_or rows (length (name_of f)) d).now f) all ≡ true) → IsByLength rows
+by_length rows within h = record {
+  within = λ f. below (length (name_of f)) (length rows)
+      (each_passes (λ g. pointwise nat_eq (name_of g) (name_of f)) (λ g. nat_lt (length (name_of g)) (length rows)) all f (named-name_of f) within);
+  stands = λ f d. stands_in (slice_index_or rows (length (name_of f)) d).now f
+      (each_passes (λ g. pointwise nat_eq (name_of g) (name_of f)) (λ g. has (slice_index_or rows (length (name_of g)) d).now g) all f (named-name_of f) (h d));
+}

@@ -21,7 +21,8 @@ use Rattle.jg_words.specs.declared.value.Value.TheVariants as value
 use Rattle.jg_text.specs.Words.{FitsTid, FitsEnv, ref_text, items_text, FitsRef, of_ref, of_items, dotted_text}
 use Rattle.jg_text.specs.Operands.{FitsCall}
 use Rattle.jg_text.specs.Journal.{value_text, warning_text, outcome_text, thrown_name, entry_text, call_line, FitsValue, FitsOutcome}
-use Rattle.jg_text.proofs.Laws.{dotted_short, signed_short, joined_short, short_call, printable_line, seen_word, seen_number, seen_signed, seen_dotted, wide, both_true, below}
+use Rattle.jg_text.proofs.Laws.{dotted_short, signed_short, joined_short, short_call, printable_line, seen_word, seen_number, seen_signed, seen_dotted, wide}
+use Rattle.jg_text.proofs.Named.{both_true, below}
 
 pub always : {T E P : Type 0} (r : Result T E) → P → OnOk r P
 always (Ok x) p = p

@@ -6,3 +6,5 @@ pub data OperandKind : Type 0 where
   Number : OperandKind
   -- a list of numbers of 64 bits with a sign
   Numbers : OperandKind
+  -- a name, as of a class
+  Name : OperandKind

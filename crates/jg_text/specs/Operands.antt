@@ -9,22 +9,35 @@ use Rattle.jg_words.specs.declared.fun.refs.RefsFun.{RefsFun}
 use Rattle.jg_words.specs.declared.fun.refs.RefsFun.TheVariants as refs
 use Rattle.jg_words.specs.declared.fun.frames.FramesFun.{FramesFun}
 use Rattle.jg_words.specs.declared.fun.frames.FramesFun.TheVariants as frames
+use Rattle.jg_words.specs.declared.fun.exceptions.ExceptionsFun.{ExceptionsFun}
+use Rattle.jg_words.specs.declared.fun.exceptions.ExceptionsFun.TheVariants as exceptions
+use Rattle.jg_words.specs.declared.fun.objects.ObjectsFun.{ObjectsFun}
+use Rattle.jg_words.specs.declared.fun.objects.ObjectsFun.TheVariants as objects
 use Rattle.jg_words.specs.declared.fun.strings.StringsFun.{StringsFun}
 use Rattle.jg_words.specs.declared.fun.strings.StringsFun.TheVariants as strings
+use Rattle.jg_words.specs.declared.fun.arrays.ArraysFun.{ArraysFun}
+use Rattle.jg_words.specs.declared.fun.arrays.ArraysFun.TheVariants as arrays
 use Rattle.jg_words.specs.declared.call.Call.{Call}
-use Rattle.jg_words.specs.declared.call.Call.TheVariants.{Vm, Refs, Frames, Strings}
+use Rattle.jg_words.specs.declared.call.Call.TheVariants.{Vm, Refs, Frames, Exceptions, Objects, Strings, Arrays}
 use Rattle.jg_words.specs.declared.call.vm.VmCall.{VmCall}
 use Rattle.jg_words.specs.declared.call.vm.VmCall.TheVariants.{AttachCurrentThread, DetachCurrentThread, GetEnv}
 use Rattle.jg_words.specs.declared.call.refs.RefsCall.{RefsCall}
 use Rattle.jg_words.specs.declared.call.refs.RefsCall.TheVariants.{NewLocalRef, DeleteLocalRef, IsSameObject, GetObjectRefType}
 use Rattle.jg_words.specs.declared.call.frames.FramesCall.{FramesCall}
 use Rattle.jg_words.specs.declared.call.frames.FramesCall.TheVariants.{PushLocalFrame, PopLocalFrame}
+use Rattle.jg_words.specs.declared.call.exceptions.ExceptionsCall.{ExceptionsCall}
+use Rattle.jg_words.specs.declared.call.exceptions.ExceptionsCall.TheVariants.{Throw, ExceptionOccurred, ExceptionDescribe, ExceptionClear, ExceptionCheck}
+use Rattle.jg_words.specs.declared.call.objects.ObjectsCall.{ObjectsCall}
+use Rattle.jg_words.specs.declared.call.objects.ObjectsCall.TheVariants.{FindClass, GetObjectClass, IsInstanceOf, AllocObject}
 use Rattle.jg_words.specs.declared.call.strings.StringsCall.{StringsCall}
-use Rattle.jg_words.specs.declared.call.strings.StringsCall.TheVariants.{NewString, GetStringLength}
-use Rattle.jg_text.specs.Words.{Word, of_ref, of_number, of_items, text_of, FitsWord}
-use Rattle.jg_text.specs.Kinds.{OperandKind, Reference, Number, Numbers}
+use Rattle.jg_words.specs.declared.call.strings.StringsCall.TheVariants.{NewString, NewStringUTF, GetStringLength, GetStringUTFLength, GetStringRegion}
+use Rattle.jg_words.specs.declared.call.arrays.ArraysCall.{ArraysCall}
+use Rattle.jg_words.specs.declared.call.arrays.ArraysCall.TheVariants.{NewArray, GetArrayLength, GetArrayRegion, SetArrayRegion, NewObjectArray, GetObjectArrayElement, SetObjectArrayElement}
+use Rattle.jg_text.specs.Words.{Word, of_ref, of_number, of_items, of_name, text_of, FitsWord}
+use Rattle.jg_text.specs.Kinds.{OperandKind, Reference, Number, Numbers, Name}
 
--- the operands of each function, from left to right
+-- the operands of each function, from left to right; the element type of a family over the primitive types is part
+-- of the function's name, and no operand
 abbrev pub vm_kinds : VmFun → List OperandKind
 vm_kinds vm.AttachCurrentThread = []
 vm_kinds vm.DetachCurrentThread = []
@@ -40,15 +53,43 @@ abbrev pub frames_kinds : FramesFun → List OperandKind
 frames_kinds frames.PushLocalFrame = Number ∷ []
 frames_kinds frames.PopLocalFrame = Reference ∷ []
 
+abbrev pub exceptions_kinds : ExceptionsFun → List OperandKind
+exceptions_kinds exceptions.Throw = Reference ∷ []
+exceptions_kinds exceptions.ExceptionOccurred = []
+exceptions_kinds exceptions.ExceptionDescribe = []
+exceptions_kinds exceptions.ExceptionClear = []
+exceptions_kinds exceptions.ExceptionCheck = []
+
+abbrev pub objects_kinds : ObjectsFun → List OperandKind
+objects_kinds objects.FindClass = Name ∷ []
+objects_kinds objects.GetObjectClass = Reference ∷ []
+objects_kinds objects.IsInstanceOf = Reference ∷ Reference ∷ []
+objects_kinds objects.AllocObject = Reference ∷ []
+
 abbrev pub strings_kinds : StringsFun → List OperandKind
 strings_kinds strings.NewString = Numbers ∷ []
+strings_kinds strings.NewStringUTF = Numbers ∷ []
 strings_kinds strings.GetStringLength = Reference ∷ []
+strings_kinds strings.GetStringUTFLength = Reference ∷ []
+strings_kinds strings.GetStringRegion = Reference ∷ Number ∷ Number ∷ []
+
+abbrev pub arrays_kinds : ArraysFun → List OperandKind
+arrays_kinds (arrays.NewArray element) = Number ∷ []
+arrays_kinds arrays.GetArrayLength = Reference ∷ []
+arrays_kinds (arrays.GetArrayRegion element) = Reference ∷ Number ∷ Number ∷ []
+arrays_kinds (arrays.SetArrayRegion element) = Reference ∷ Number ∷ Numbers ∷ []
+arrays_kinds arrays.NewObjectArray = Number ∷ Reference ∷ Reference ∷ []
+arrays_kinds arrays.GetObjectArrayElement = Reference ∷ Number ∷ []
+arrays_kinds arrays.SetObjectArrayElement = Reference ∷ Number ∷ Reference ∷ []
 
 abbrev pub operand_kinds : Fun → List OperandKind
 operand_kinds (fun.Vm f) = vm_kinds f
 operand_kinds (fun.Refs f) = refs_kinds f
 operand_kinds (fun.Frames f) = frames_kinds f
+operand_kinds (fun.Exceptions f) = exceptions_kinds f
+operand_kinds (fun.Objects f) = objects_kinds f
 operand_kinds (fun.Strings f) = strings_kinds f
+operand_kinds (fun.Arrays f) = arrays_kinds f
 
 -- the operands of a call, from left to right
 abbrev pub vm_operands : VmCall → List Word
@@ -66,15 +107,43 @@ abbrev pub frames_operands : FramesCall → List Word
 frames_operands (PushLocalFrame capacity) = of_number capacity ∷ []
 frames_operands (PopLocalFrame kept) = of_ref kept ∷ []
 
+abbrev pub exceptions_operands : ExceptionsCall → List Word
+exceptions_operands (Throw exception) = of_ref exception ∷ []
+exceptions_operands ExceptionOccurred = []
+exceptions_operands ExceptionDescribe = []
+exceptions_operands ExceptionClear = []
+exceptions_operands ExceptionCheck = []
+
+abbrev pub objects_operands : ObjectsCall → List Word
+objects_operands (FindClass name) = of_name name ∷ []
+objects_operands (GetObjectClass object) = of_ref object ∷ []
+objects_operands (IsInstanceOf object class) = of_ref object ∷ of_ref class ∷ []
+objects_operands (AllocObject class) = of_ref class ∷ []
+
 abbrev pub strings_operands : StringsCall → List Word
 strings_operands (NewString units) = of_items units ∷ []
+strings_operands (NewStringUTF bytes) = of_items bytes ∷ []
 strings_operands (GetStringLength string) = of_ref string ∷ []
+strings_operands (GetStringUTFLength string) = of_ref string ∷ []
+strings_operands (GetStringRegion string start length) = of_ref string ∷ of_number start ∷ of_number length ∷ []
+
+abbrev pub arrays_operands : ArraysCall → List Word
+arrays_operands (NewArray element length) = of_number length ∷ []
+arrays_operands (GetArrayLength array) = of_ref array ∷ []
+arrays_operands (GetArrayRegion element array start length) = of_ref array ∷ of_number start ∷ of_number length ∷ []
+arrays_operands (SetArrayRegion element array start values) = of_ref array ∷ of_number start ∷ of_items values ∷ []
+arrays_operands (NewObjectArray length class fill) = of_number length ∷ of_ref class ∷ of_ref fill ∷ []
+arrays_operands (GetObjectArrayElement array index) = of_ref array ∷ of_number index ∷ []
+arrays_operands (SetObjectArrayElement array index value) = of_ref array ∷ of_number index ∷ of_ref value ∷ []
 
 abbrev pub operands : Call → List Word
 operands (Vm c) = vm_operands c
 operands (Refs c) = refs_operands c
 operands (Frames c) = frames_operands c
+operands (Exceptions c) = exceptions_operands c
+operands (Objects c) = objects_operands c
 operands (Strings c) = strings_operands c
+operands (Arrays c) = arrays_operands c
 
 -- how a call's operands are spelt
 abbrev pub operand_texts : Call → List (List ℕ)

@@ -1,6 +1,7 @@
 -- What the readers and writers of a line's parts say to one another. No public contract stands on
 -- these.
-use Rattle.std.specs.Prelude.{◌≡◌, ◌≢◌, ℕ, ℤ, List, [], ◌∷◌, ◌++◌, length, map, slice_index, Option, Some, None, All, FitsSigned}
+use Rattle.std.specs.Prelude.{◌≡◌, ◌≢◌, ℕ, ℤ, List, [], ◌∷◌, ◌++◌, length, map, slice_index, slice_index_or, Contains, ◌<◌, Option, Some, None, All, FitsSigned}
+use Rattle.std.specs.Borrow.{Bor}
 use Rattle.std.specs.List.{flat_map}
 use Rattle.std.specs.Fmt.{signed_decimal}
 use Rattle.std.specs.Int.{w64}
@@ -8,6 +9,7 @@ use Rattle.jg_words.specs.declared.thread.Tid.{Tid}
 use Rattle.jg_words.specs.declared.thread.EnvId.{EnvId}
 use Rattle.jg_words.specs.declared.fun.Fun.{Fun}
 use Rattle.jg_words.specs.declared.call.Call.{Call}
+use Rattle.jg_words.specs.Fun.{name_of}
 use Rattle.jg_words.specs.Call.{fun_of}
 use Rattle.jg_text.specs.declared.fault.ScriptFault.{ScriptFault}
 use Rattle.jg_text.specs.declared.fault.ScriptFault.TheVariants.{BadOperand, NoMemory}
@@ -53,6 +55,11 @@ IsBadNumber pieces f = f ≢ NoMemory → (f ≡ BadOperand)
 pub record IsPlain (text : List ℕ) : Type 0 where
   pub no_plus : slice_index text 0 ≢ 43
   pub no_zero : slice_index text 0 ≡ 48 → length text ≡ 1
+
+-- a table in which each function stands in the row of its name's length
+pub record IsByLength (rows : List (Bor (List Fun))) : Type 0 where
+  pub within : (f : Fun) → length (name_of f) < length rows
+  pub stands : (f : Fun) (d : Bor (List Fun)) → Contains (slice_index_or rows (length (name_of f)) d).now f
 
 -- the texts are the operands of this call of the function
 pub record SpellCall (f : Fun) (texts : List (List ℕ)) (c : Call) : Type 0 where

@@ -1,8 +1,10 @@
--- How threads, environments, references, buffers, fields and lists are spelt, byte by byte. Each has one spelling.
+-- How threads, environments, references, buffers, fields, lists and names are spelt, byte by byte. Each has one
+-- spelling.
 use Rattle.std.specs.Prelude.{◌≡◌, ℕ, ℤ, ◌<◌, ◌≤◌, ◌^◌, List, [], ◌∷◌, ◌++◌, length, map, codes, Option, Some, None, All, FitsSigned}
 use Rattle.std.specs.List.{join_with_byte}
 use Rattle.std.specs.Fmt.{decimal, signed_decimal}
 use Rattle.std.specs.Int.{w32, w64}
+use Rattle.jg_words.specs.Name.{IsName}
 use Rattle.jg_words.specs.declared.thread.Tid.{Tid}
 use Rattle.jg_words.specs.declared.thread.EnvId.{EnvId}
 use Rattle.jg_words.specs.declared.buffer.BufId.{BufId}
@@ -11,7 +13,7 @@ use Rattle.jg_words.specs.declared.reference.Kind.{Kind}
 use Rattle.jg_words.specs.declared.reference.Kind.TheVariants.{Local, Global, Weak}
 use Rattle.jg_words.specs.declared.reference.Ref.{Ref}
 use Rattle.jg_words.specs.declared.reference.Ref.TheVariants.{Null, To}
-use Rattle.jg_text.specs.Kinds.{OperandKind, Reference, Number, Numbers}
+use Rattle.jg_text.specs.Kinds.{OperandKind, Reference, Number, Numbers, Name}
 
 -- `T` and its number
 abbrev pub tid_text : Tid → List ℕ
@@ -53,8 +55,12 @@ field_text f = 70 ∷ dotted_text f.class f.field
 abbrev pub items_text : List ℤ → List ℕ
 items_text xs = 91 ∷ join_with_byte 44 (map signed_decimal xs) ++ 93 ∷ []
 
+-- a name is its own text
+abbrev pub name_text : List ℕ → List ℕ
+name_text name = name
+
 -- which of them the program's types can hold: 16 bits for a thread, 64 for a session, a reference's
--- number and an item, and at most 1,000 items
+-- number and an item, and at most 1,000 items; a name's bytes are what `IsName` says
 abbrev pub FitsTid : Tid → Type 0
 FitsTid t = t.0 < 2 ^ 16
 
@@ -83,27 +89,32 @@ pub data Word : Type 0 where
   of_ref : Ref → Word
   of_number : ℤ → Word
   of_items : List ℤ → Word
+  of_name : List ℕ → Word
 
 abbrev pub kind_of : Word → OperandKind
 kind_of (of_ref r) = Reference
 kind_of (of_number i) = Number
 kind_of (of_items xs) = Numbers
+kind_of (of_name name) = Name
 
 abbrev pub text_of : Word → List ℕ
 text_of (of_ref r) = ref_text r
 text_of (of_number i) = signed_decimal i
 text_of (of_items xs) = items_text xs
+text_of (of_name name) = name_text name
 
 abbrev pub FitsWord : Word → Type 0
 FitsWord (of_ref r) = FitsRef r
 FitsWord (of_number i) = FitsSigned w32 i
 FitsWord (of_items xs) = FitsItems xs
+FitsWord (of_name name) = IsName name
 
 -- the text spells an operand of the kind
 abbrev pub SpellsOperand : OperandKind → List ℕ → Type 0
 SpellsOperand Reference text = (r : Ref) × FitsRef r × (text ≡ ref_text r)
 SpellsOperand Number text = (i : ℤ) × FitsSigned w32 i × (text ≡ signed_decimal i)
 SpellsOperand Numbers text = (xs : List ℤ) × FitsItems xs × (text ≡ items_text xs)
+SpellsOperand Name text = (name : List ℕ) × IsName name × (text ≡ name_text name)
 
 -- each text spells an operand of the kind at its place, and there are as many texts as kinds
 abbrev pub SpellOperands : List OperandKind → List (List ℕ) → Type 0

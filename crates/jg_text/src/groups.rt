@@ -6,7 +6,10 @@ ghost use Rattle.jg_text.specs.Operands.{operand_kinds, operand_texts};
 ghost use Rattle.jg_text.specs.Pieces.{SpellCall};
 ghost use Rattle.jg_text.specs.Pieces.{rest_fields, after_spaces, IsOperandFault};
 
+mod arrays;
+mod exceptions;
 mod frames;
+mod objects;
 mod refs;
 mod strings;
 mod vm;
@@ -23,7 +26,10 @@ pub fn arity(fun: Fun) -> usize
         Fun::Vm(fun) => vm::arity(fun),
         Fun::Refs(fun) => refs::arity(fun),
         Fun::Frames(fun) => frames::arity(fun),
+        Fun::Exceptions(fun) => exceptions::arity(fun),
+        Fun::Objects(fun) => objects::arity(fun),
         Fun::Strings(fun) => strings::arity(fun),
+        Fun::Arrays(fun) => arrays::arity(fun),
     }
 }
 
@@ -37,7 +43,10 @@ pub fn read(alloc: Global, fun: Fun, rest: Option<&[u8]>) -> Result<Call, Script
         Fun::Vm(fun) => vm::read(alloc, fun, rest).map(Call::Vm),
         Fun::Refs(fun) => refs::read(alloc, fun, rest).map(Call::Refs),
         Fun::Frames(fun) => frames::read(alloc, fun, rest).map(Call::Frames),
+        Fun::Exceptions(fun) => exceptions::read(alloc, fun, rest).map(Call::Exceptions),
+        Fun::Objects(fun) => objects::read(alloc, fun, rest).map(Call::Objects),
         Fun::Strings(fun) => strings::read(alloc, fun, rest).map(Call::Strings),
+        Fun::Arrays(fun) => arrays::read(alloc, fun, rest).map(Call::Arrays),
     }
 }
 
@@ -49,6 +58,9 @@ pub fn write(out: &mut String, call: &Call) -> Result<(), AllocError>
         Call::Vm(call) => vm::write(out, call),
         Call::Refs(call) => refs::write(out, call),
         Call::Frames(call) => frames::write(out, call),
+        Call::Exceptions(call) => exceptions::write(out, call),
+        Call::Objects(call) => objects::write(out, call),
         Call::Strings(call) => strings::write(out, call),
+        Call::Arrays(call) => arrays::write(out, call),
     }
 }

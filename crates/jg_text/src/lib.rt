@@ -8,6 +8,7 @@ mod fault;
 mod groups;
 mod list;
 mod meanings;
+mod name;
 mod number;
 mod operand;
 mod read;

@@ -1,4 +1,4 @@
-//! Operands, one or two of them.
+//! Operands, one to three of them.
 
 ghost use Rattle.std.specs.Prelude.{◌≡◌, ◌++◌, ◌∷◌, [], ◌<◌, length, IfOk, IfErr, OnOk, MatchOption, string_bytes};
 ghost use Rattle.std.specs.Option.{option_copied};
@@ -10,9 +10,10 @@ ghost use Rattle.jg_text.specs.Pieces.{rest_fields, after_spaces, IsKindFault, I
 use crate::digits::push_signed;
 use crate::fault::ScriptFault;
 use crate::list::{push_items, read_items};
+use crate::name::read_name;
 use crate::number::{cut_at, small_signed_number};
 use crate::word::{push_ref, read_ref};
-use jg_words::{Items, Ref};
+use jg_words::{Items, Name, Ref};
 use std::alloc::{AllocError, Global};
 
 /// A value that stands as an operand in a line, with one spelling.
@@ -97,6 +98,26 @@ impl Operand for Items {
     }
 }
 
+impl Operand for Name {
+    ghost use Rattle.jg_words.specs.Name.{IsName};
+    ghost use Rattle.jg_text.specs.Kinds.{Name as name_kind};
+    ghost use Rattle.jg_text.specs.Words.{name_text};
+
+    ghost kind = { name_kind };
+
+    ghost spelt = { name_text };
+
+    ghost fits = { IsName };
+
+    fn read(alloc: Global, text: &[u8]) -> Result<Self, ScriptFault> {
+        read_name(alloc, text)
+    }
+
+    fn write(&self, out: &mut String) -> Result<(), AllocError> {
+        out.push_str(self.as_str())
+    }
+}
+
 /// The first field, and what stands behind the space after it.
 pub fn cut(text: &[u8]) -> (&[u8], Option<&[u8]>)
     ensures { MatchOption result.1 (fields text.now ≡ result.0.now ∷ []) (λ rest. fields text.now ≡ result.0.now
@@ -145,6 +166,23 @@ pub fn read_two<A: Operand, B: Operand>(
     Ok((a, b))
 }
 
+/// The operands that the three fields left spell.
+pub fn read_three<A: Operand, B: Operand, C: Operand>(
+    alloc: Global,
+    rest: Option<&[u8]>,
+) -> Result<(A, B, C), ScriptFault>
+    requires { length (rest_fields (option_copied rest)) ≡ 3 }
+    ensures ok { IfOk result (λ r. (A.spelt r.0 ∷ B.spelt r.1 ∷ C.spelt r.2 ∷ []
+        ≡ rest_fields (option_copied rest.entry)) × A.fits r.0 × B.fits r.1 × C.fits r.2) }
+    ensures err { IfErr result (IsOperandFault (A.kind ∷ B.kind ∷ C.kind ∷ [])
+        (rest_fields (option_copied rest.entry))) }
+{
+    let (first, rest) = next_field(rest);
+    let a = A::read(alloc, first)?;
+    let (b, c) = read_two(alloc, rest)?;
+    Ok((a, b, c))
+}
+
 /// Writes the operand after a space.
 pub fn write_one<A: Operand>(out: &mut String, a: &A) -> Result<(), AllocError>
     ensures { OnOk result (string_bytes out.new ≡ string_bytes out.old ++ after_spaces (A.spelt a.now ∷ [])) }
@@ -160,4 +198,18 @@ pub fn write_two<A: Operand, B: Operand>(out: &mut String, a: &A, b: &B) -> Resu
 {
     write_one(out, a)?;
     write_one(out, b)
+}
+
+/// Writes the operands, each after a space.
+pub fn write_three<A: Operand, B: Operand, C: Operand>(
+    out: &mut String,
+    a: &A,
+    b: &B,
+    c: &C,
+) -> Result<(), AllocError>
+    ensures { OnOk result (string_bytes out.new ≡ string_bytes out.old
+        ++ after_spaces (A.spelt a.now ∷ B.spelt b.now ∷ C.spelt c.now ∷ [])) }
+{
+    write_two(out, a, b)?;
+    write_one(out, c)
 }

@@ -9,13 +9,16 @@ ghost use Rattle.jg_text.specs.Spelling.{Spells};
 ghost use Rattle.jg_text.specs.Pieces.{SpellCall};
 ghost use Rattle.jg_text.specs.Operands.{operand_kinds};
 ghost use Rattle.jg_text.specs.Faults.{fields, NamesFirstFault};
-ghost use Rattle.jg_text.specs.Pieces.{rest_fields, IsOperandFault};
+ghost use Rattle.jg_text.specs.Pieces.{rest_fields, IsOperandFault, IsByLength};
 
 use crate::fault::ScriptFault;
 use crate::groups;
 use crate::operand::cut;
 use crate::word::{read_env, read_tid};
-use jg_words::{Call, EnvId, FramesFun, Fun, RefsFun, StringsFun, Tid, VmFun};
+use jg_words::{
+    ArraysFun, Call, EnvId, ExceptionsFun, FramesFun, Fun, ObjectsFun, Primitive, RefsFun,
+    StringsFun, Tid, VmFun,
+};
 use std::alloc::Global;
 
 /// The most bytes that a line has, without its line feed.
@@ -53,44 +56,89 @@ fn count_fields(rest: Option<&[u8]>) -> usize
 }
 
 /// The functions whose names have so many bytes, at each length up to the longest.
-const BY_LENGTH: [&[Fun]; 20] = [
+const BY_LENGTH: [&[Fun]; 22] = [
     &[],
     &[],
     &[],
     &[],
     &[],
-    &[],
+    &[Fun::Exceptions(ExceptionsFun::Throw)],
     &[Fun::Vm(VmFun::GetEnv)],
     &[],
     &[],
-    &[Fun::Strings(StringsFun::NewString)],
+    &[
+        Fun::Objects(ObjectsFun::FindClass),
+        Fun::Strings(StringsFun::NewString),
+    ],
     &[],
-    &[Fun::Refs(RefsFun::NewLocalRef)],
-    &[Fun::Refs(RefsFun::IsSameObject)],
-    &[Fun::Frames(FramesFun::PopLocalFrame)],
+    &[
+        Fun::Refs(RefsFun::NewLocalRef),
+        Fun::Objects(ObjectsFun::AllocObject),
+        Fun::Arrays(ArraysFun::NewArray(Primitive::Int)),
+    ],
+    &[
+        Fun::Refs(RefsFun::IsSameObject),
+        Fun::Objects(ObjectsFun::IsInstanceOf),
+        Fun::Strings(StringsFun::NewStringUTF),
+        Fun::Arrays(ArraysFun::NewArray(Primitive::Byte)),
+        Fun::Arrays(ArraysFun::NewArray(Primitive::Char)),
+        Fun::Arrays(ArraysFun::NewArray(Primitive::Long)),
+    ],
+    &[
+        Fun::Frames(FramesFun::PopLocalFrame),
+        Fun::Arrays(ArraysFun::NewArray(Primitive::Short)),
+    ],
     &[
         Fun::Refs(RefsFun::DeleteLocalRef),
         Fun::Frames(FramesFun::PushLocalFrame),
+        Fun::Exceptions(ExceptionsFun::ExceptionClear),
+        Fun::Exceptions(ExceptionsFun::ExceptionCheck),
+        Fun::Objects(ObjectsFun::GetObjectClass),
+        Fun::Arrays(ArraysFun::GetArrayLength),
+        Fun::Arrays(ArraysFun::NewObjectArray),
     ],
-    &[Fun::Strings(StringsFun::GetStringLength)],
+    &[
+        Fun::Strings(StringsFun::GetStringLength),
+        Fun::Strings(StringsFun::GetStringRegion),
+        Fun::Arrays(ArraysFun::NewArray(Primitive::Boolean)),
+    ],
     &[Fun::Refs(RefsFun::GetObjectRefType)],
-    &[],
-    &[],
+    &[
+        Fun::Exceptions(ExceptionsFun::ExceptionOccurred),
+        Fun::Exceptions(ExceptionsFun::ExceptionDescribe),
+        Fun::Arrays(ArraysFun::GetArrayRegion(Primitive::Int)),
+        Fun::Arrays(ArraysFun::SetArrayRegion(Primitive::Int)),
+    ],
+    &[
+        Fun::Strings(StringsFun::GetStringUTFLength),
+        Fun::Arrays(ArraysFun::GetArrayRegion(Primitive::Byte)),
+        Fun::Arrays(ArraysFun::GetArrayRegion(Primitive::Char)),
+        Fun::Arrays(ArraysFun::GetArrayRegion(Primitive::Long)),
+        Fun::Arrays(ArraysFun::SetArrayRegion(Primitive::Byte)),
+        Fun::Arrays(ArraysFun::SetArrayRegion(Primitive::Char)),
+        Fun::Arrays(ArraysFun::SetArrayRegion(Primitive::Long)),
+    ],
     &[
         Fun::Vm(VmFun::AttachCurrentThread),
         Fun::Vm(VmFun::DetachCurrentThread),
+        Fun::Arrays(ArraysFun::GetArrayRegion(Primitive::Short)),
+        Fun::Arrays(ArraysFun::SetArrayRegion(Primitive::Short)),
+    ],
+    &[],
+    &[
+        Fun::Arrays(ArraysFun::GetArrayRegion(Primitive::Boolean)),
+        Fun::Arrays(ArraysFun::SetArrayRegion(Primitive::Boolean)),
+        Fun::Arrays(ArraysFun::GetObjectArrayElement),
+        Fun::Arrays(ArraysFun::SetObjectArrayElement),
     ],
 ];
 
-/// Functions among which those are whose names have so many bytes.
-fn of_length(size: usize) -> &'static [Fun]
+/// The functions of the table among which those are whose names have so many bytes.
+fn of_length(rows: &[&'static [Fun]], size: usize) -> &'static [Fun]
+    requires { IsByLength rows.now }
     ensures { (f : FunOf) → length (name_of f) ≡ size → Contains result.now f }
 {
-    if size < BY_LENGTH.len() {
-        BY_LENGTH[size]
-    } else {
-        &[]
-    }
+    if size < rows.len() { rows[size] } else { &[] }
 }
 
 /// The function of that name.
@@ -98,7 +146,7 @@ pub fn read_fun(text: &[u8]) -> Option<Fun>
     ensures some { IfSome result (λ f. text.now ≡ name_of f) }
     ensures none { IfNone result ((f : FunOf) → text.now ≢ name_of f) }
 {
-    of_length(text.len())
+    of_length(&BY_LENGTH, text.len())
         .iter()
         .copied()
         .find(|f| f.name().as_bytes() == text)

@@ -1,7 +1,8 @@
 use crate::{MAX_LINE, ScriptFault, read_call, write_entry};
 use jg_words::{
-    BufId, Call, Entry, EnvId, FieldId, FramesCall, Items, Kind, Outcome, Ref, RefsCall, Reply,
-    Rule, StringsCall, Thrown, Tid, Value, VmCall,
+    ArraysCall, BufId, Call, Entry, EnvId, ExceptionsCall, FieldId, FramesCall, Items, Kind, Name,
+    ObjectsCall, Outcome, Primitive, Ref, RefsCall, Reply, Rule, StringsCall, Thrown, Tid, Value,
+    VmCall,
 };
 use std::alloc::Global;
 use std::test::Fail;
@@ -36,6 +37,23 @@ fn the_first_fault_of_a_line_is_named(rt: HostRuntime) -> Result<(), Fail> {
         ("T1 E1.1 PushLocalFrame -0", ScriptFault::BadOperand),
         ("T1 E1.1 NewString [1,]", ScriptFault::BadOperand),
         ("T1 E1.1 NewString [01]", ScriptFault::BadOperand),
+        ("T1 E1.1 FindClass", ScriptFault::WrongCount),
+        ("T1 E1.1 FindClass ", ScriptFault::BadOperand),
+        (
+            "T1 E1.1 FindClass app/Main app/Main",
+            ScriptFault::WrongCount,
+        ),
+        (
+            "T1 E1.1 SetObjectArrayElement L1.1 null 0",
+            ScriptFault::BadOperand,
+        ),
+        ("T1 E1.1 GetArray L1.1", ScriptFault::UnknownFunction),
+        ("T1 E1.1 NewStringUT [72]", ScriptFault::UnknownFunction),
+        ("T1 E1.1 NewStringUTFs [72]", ScriptFault::UnknownFunction),
+        (
+            "T1 E1.1 GetFloatArrayRegion L1.1 0 1",
+            ScriptFault::UnknownFunction,
+        ),
         ("T1\t- GetEnv", ScriptFault::NotAscii),
         ("T1 - GetEnv\r", ScriptFault::NotAscii),
     ];
@@ -69,6 +87,10 @@ fn a_call_of_each_group_is_read(rt: HostRuntime) -> Result<(), Fail> {
     let units = Items::new(vec![in rt.alloc(); 72, -105]?)
         .ok()
         .ok_or("items")?;
+    let values = Items::new(vec![in rt.alloc(); 7]?).ok().ok_or("items")?;
+    let name = Name::new(String::from_str(rt.alloc(), "app/Main")?)
+        .ok()
+        .ok_or("name")?;
     let lines = vec![in rt.alloc();
         ("T1 - GetEnv", None, Call::Vm(VmCall::GetEnv)),
         (
@@ -89,6 +111,26 @@ fn a_call_of_each_group_is_read(rt: HostRuntime) -> Result<(), Fail> {
             Some(ENV),
             Call::Strings(StringsCall::NewString { units })
         ),
+        (
+            "T1 E1.1 Throw L1.1",
+            Some(ENV),
+            Call::Exceptions(ExceptionsCall::Throw { exception: LOCAL })
+        ),
+        (
+            "T1 E1.1 FindClass app/Main",
+            Some(ENV),
+            Call::Objects(ObjectsCall::FindClass { name })
+        ),
+        (
+            "T1 E1.1 SetShortArrayRegion L1.1 2 [7]",
+            Some(ENV),
+            Call::Arrays(ArraysCall::SetArrayRegion {
+                element: Primitive::Short,
+                array: LOCAL,
+                start: 2,
+                values
+            })
+        ),
     ]?;
     for (line, env, call) in lines {
         match read_call(rt.alloc(), line.as_bytes()) {
@@ -96,6 +138,108 @@ fn a_call_of_each_group_is_read(rt: HostRuntime) -> Result<(), Fail> {
             Err(fault) => assert!(rt; false, "`{line}`: {fault}"),
         }
     }
+    Ok(())
+}
+
+/// The line is what is written of the call that is read from it.
+fn comes_back(alloc: Global, line: &str) -> Result<bool, Fail> {
+    match read_call(alloc, line.as_bytes()) {
+        Ok((tid, env, call)) => {
+            let entry = Entry {
+                tid,
+                env,
+                call,
+                outcome: Outcome::Denied(Rule::Pending),
+                object: None,
+            };
+            let written = write_entry(alloc, &entry)?;
+            let wanted = format!(in alloc; "{line} = deny 4 Pending\n")?;
+            Ok(written == wanted)
+        }
+        Err(_) => Ok(false),
+    }
+}
+
+#[test]
+fn each_function_is_read_and_written_back(rt: HostRuntime) -> Result<(), Fail> {
+    let lines = [
+        "T1 - AttachCurrentThread",
+        "T1 - DetachCurrentThread",
+        "T1 - GetEnv",
+        "T1 E1.1 NewLocalRef L1.1",
+        "T1 E1.1 DeleteLocalRef G2.3",
+        "T1 E1.1 IsSameObject L1.1 W1.2",
+        "T1 E1.1 GetObjectRefType null",
+        "T1 E1.1 PushLocalFrame 16",
+        "T1 E1.1 PopLocalFrame null",
+        "T1 E1.1 Throw L1.1",
+        "T1 E1.1 ExceptionOccurred",
+        "T1 E1.1 ExceptionDescribe",
+        "T1 E1.1 ExceptionClear",
+        "T1 E1.1 ExceptionCheck",
+        "T1 E1.1 FindClass java/lang/String",
+        "T1 E1.1 GetObjectClass L1.1",
+        "T1 E1.1 IsInstanceOf L1.1 L1.2",
+        "T1 E1.1 AllocObject L1.2",
+        "T1 E1.1 NewString [72,105]",
+        "T1 E1.1 NewStringUTF [193,129]",
+        "T1 E1.1 GetStringLength L1.1",
+        "T1 E1.1 GetStringUTFLength L1.1",
+        "T1 E1.1 GetStringRegion L1.1 0 2",
+    ];
+    for line in lines {
+        assert!(rt; comes_back(rt.alloc(), line)?, "at `{line}`");
+    }
+    Ok(())
+}
+
+#[test]
+fn each_function_on_arrays_is_read_and_written_back(rt: HostRuntime) -> Result<(), Fail> {
+    let lines = [
+        "T1 E1.1 GetArrayLength L1.1",
+        "T1 E1.1 NewObjectArray 2 L1.2 null",
+        "T1 E1.1 GetObjectArrayElement L1.1 1",
+        "T1 E1.1 SetObjectArrayElement L1.1 1 L1.3",
+    ];
+    for line in lines {
+        assert!(rt; comes_back(rt.alloc(), line)?, "at `{line}`");
+    }
+    for element in ["Boolean", "Byte", "Char", "Short", "Int", "Long"] {
+        let made = format!(in rt.alloc(); "T1 E1.1 New{element}Array 3")?;
+        assert!(rt; comes_back(rt.alloc(), &made)?, "at `{made}`");
+        let got = format!(in rt.alloc(); "T1 E1.1 Get{element}ArrayRegion L1.1 0 3")?;
+        assert!(rt; comes_back(rt.alloc(), &got)?, "at `{got}`");
+        let set = format!(in rt.alloc(); "T1 E1.1 Set{element}ArrayRegion L1.1 -1 [0,-9]")?;
+        assert!(rt; comes_back(rt.alloc(), &set)?, "at `{set}`");
+    }
+    Ok(())
+}
+
+#[test]
+fn a_name_has_1_to_255_visible_bytes(rt: HostRuntime) -> Result<(), Fail> {
+    for name in ["=", "-", "null", "[]", "T1", "~"] {
+        let line = format!(in rt.alloc(); "T1 E1.1 FindClass {name}")?;
+        let wanted = Name::new(String::from_str(rt.alloc(), name)?)
+            .ok()
+            .ok_or("name")?;
+        match read_call(rt.alloc(), line.as_bytes()) {
+            Ok((_, _, call)) => assert!(rt;
+                call == Call::Objects(ObjectsCall::FindClass { name: wanted }),
+                "at `{line}`"
+            ),
+            Err(fault) => assert!(rt; false, "`{line}`: {fault}"),
+        }
+    }
+    let mut line = String::from_str(rt.alloc(), "T1 E1.1 FindClass ")?;
+    for _ in 0..255 {
+        line.push_str("a")?;
+    }
+    assert!(rt; read_call(rt.alloc(), line.as_bytes()).is_ok());
+    line.push_str("a")?;
+    assert_eq!(rt;
+        read_call(rt.alloc(), line.as_bytes()).err(),
+        Some(ScriptFault::BadOperand)
+    );
     Ok(())
 }
 

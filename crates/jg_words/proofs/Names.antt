@@ -1,11 +1,22 @@
 -- The name of each function finds it.
 use Rattle.std.proofs.Common.{◌≡◌, Some, refl}
+use Rattle.jg_words.specs.declared.object.Primitive.TheVariants.{Boolean, Byte, Char, Short, Int, Long}
 use Rattle.jg_words.specs.declared.fun.Fun.{Fun}
-use Rattle.jg_words.specs.declared.fun.Fun.TheVariants.{Vm, Refs, Frames, Strings}
+use Rattle.jg_words.specs.declared.fun.Fun.TheVariants.{Vm, Refs, Frames, Exceptions, Objects, Strings, Arrays}
+use Rattle.jg_words.specs.declared.fun.vm.VmFun.{VmFun}
 use Rattle.jg_words.specs.declared.fun.vm.VmFun.TheVariants.{AttachCurrentThread, DetachCurrentThread, GetEnv}
+use Rattle.jg_words.specs.declared.fun.refs.RefsFun.{RefsFun}
 use Rattle.jg_words.specs.declared.fun.refs.RefsFun.TheVariants.{NewLocalRef, DeleteLocalRef, IsSameObject, GetObjectRefType}
+use Rattle.jg_words.specs.declared.fun.frames.FramesFun.{FramesFun}
 use Rattle.jg_words.specs.declared.fun.frames.FramesFun.TheVariants.{PushLocalFrame, PopLocalFrame}
-use Rattle.jg_words.specs.declared.fun.strings.StringsFun.TheVariants.{NewString, GetStringLength}
+use Rattle.jg_words.specs.declared.fun.exceptions.ExceptionsFun.{ExceptionsFun}
+use Rattle.jg_words.specs.declared.fun.exceptions.ExceptionsFun.TheVariants.{Throw, ExceptionOccurred, ExceptionDescribe, ExceptionClear, ExceptionCheck}
+use Rattle.jg_words.specs.declared.fun.objects.ObjectsFun.{ObjectsFun}
+use Rattle.jg_words.specs.declared.fun.objects.ObjectsFun.TheVariants.{FindClass, GetObjectClass, IsInstanceOf, AllocObject}
+use Rattle.jg_words.specs.declared.fun.strings.StringsFun.{StringsFun}
+use Rattle.jg_words.specs.declared.fun.strings.StringsFun.TheVariants.{NewString, NewStringUTF, GetStringLength, GetStringUTFLength, GetStringRegion}
+use Rattle.jg_words.specs.declared.fun.arrays.ArraysFun.{ArraysFun}
+use Rattle.jg_words.specs.declared.fun.arrays.ArraysFun.TheVariants.{NewArray, GetArrayLength, GetArrayRegion, SetArrayRegion, NewObjectArray, GetObjectArrayElement, SetObjectArrayElement}
 use Rattle.jg_words.specs.Fun.{name_of, named}
 
 pub named-name_of : (fun : Fun) → named (name_of fun) ≡ Some fun
@@ -18,5 +29,39 @@ named-name_of (Refs IsSameObject) = refl
 named-name_of (Refs GetObjectRefType) = refl
 named-name_of (Frames PushLocalFrame) = refl
 named-name_of (Frames PopLocalFrame) = refl
+named-name_of (Exceptions Throw) = refl
+named-name_of (Exceptions ExceptionOccurred) = refl
+named-name_of (Exceptions ExceptionDescribe) = refl
+named-name_of (Exceptions ExceptionClear) = refl
+named-name_of (Exceptions ExceptionCheck) = refl
+named-name_of (Objects FindClass) = refl
+named-name_of (Objects GetObjectClass) = refl
+named-name_of (Objects IsInstanceOf) = refl
+named-name_of (Objects AllocObject) = refl
 named-name_of (Strings NewString) = refl
+named-name_of (Strings NewStringUTF) = refl
 named-name_of (Strings GetStringLength) = refl
+named-name_of (Strings GetStringUTFLength) = refl
+named-name_of (Strings GetStringRegion) = refl
+named-name_of (Arrays (NewArray Boolean)) = refl
+named-name_of (Arrays (NewArray Byte)) = refl
+named-name_of (Arrays (NewArray Char)) = refl
+named-name_of (Arrays (NewArray Short)) = refl
+named-name_of (Arrays (NewArray Int)) = refl
+named-name_of (Arrays (NewArray Long)) = refl
+named-name_of (Arrays GetArrayLength) = refl
+named-name_of (Arrays (GetArrayRegion Boolean)) = refl
+named-name_of (Arrays (GetArrayRegion Byte)) = refl
+named-name_of (Arrays (GetArrayRegion Char)) = refl
+named-name_of (Arrays (GetArrayRegion Short)) = refl
+named-name_of (Arrays (GetArrayRegion Int)) = refl
+named-name_of (Arrays (GetArrayRegion Long)) = refl
+named-name_of (Arrays (SetArrayRegion Boolean)) = refl
+named-name_of (Arrays (SetArrayRegion Byte)) = refl
+named-name_of (Arrays (SetArrayRegion Char)) = refl
+named-name_of (Arrays (SetArrayRegion Short)) = refl
+named-name_of (Arrays (SetArrayRegion Int)) = refl
+named-name_of (Arrays (SetArrayRegion Long)) = refl
+named-name_of (Arrays NewObjectArray) = refl
+named-name_of (Arrays GetObjectArrayElement) = refl
+named-name_of (Arrays SetObjectArrayElement) = refl

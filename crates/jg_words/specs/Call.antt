@@ -7,18 +7,30 @@ use Rattle.jg_words.specs.declared.fun.refs.RefsFun.{RefsFun}
 use Rattle.jg_words.specs.declared.fun.refs.RefsFun.TheVariants as refs
 use Rattle.jg_words.specs.declared.fun.frames.FramesFun.{FramesFun}
 use Rattle.jg_words.specs.declared.fun.frames.FramesFun.TheVariants as frames
+use Rattle.jg_words.specs.declared.fun.exceptions.ExceptionsFun.{ExceptionsFun}
+use Rattle.jg_words.specs.declared.fun.exceptions.ExceptionsFun.TheVariants as exceptions
+use Rattle.jg_words.specs.declared.fun.objects.ObjectsFun.{ObjectsFun}
+use Rattle.jg_words.specs.declared.fun.objects.ObjectsFun.TheVariants as objects
 use Rattle.jg_words.specs.declared.fun.strings.StringsFun.{StringsFun}
 use Rattle.jg_words.specs.declared.fun.strings.StringsFun.TheVariants as strings
+use Rattle.jg_words.specs.declared.fun.arrays.ArraysFun.{ArraysFun}
+use Rattle.jg_words.specs.declared.fun.arrays.ArraysFun.TheVariants as arrays
 use Rattle.jg_words.specs.declared.call.Call.{Call}
-use Rattle.jg_words.specs.declared.call.Call.TheVariants.{Vm, Refs, Frames, Strings}
+use Rattle.jg_words.specs.declared.call.Call.TheVariants.{Vm, Refs, Frames, Exceptions, Objects, Strings, Arrays}
 use Rattle.jg_words.specs.declared.call.vm.VmCall.{VmCall}
 use Rattle.jg_words.specs.declared.call.vm.VmCall.TheVariants.{AttachCurrentThread, DetachCurrentThread, GetEnv}
 use Rattle.jg_words.specs.declared.call.refs.RefsCall.{RefsCall}
 use Rattle.jg_words.specs.declared.call.refs.RefsCall.TheVariants.{NewLocalRef, DeleteLocalRef, IsSameObject, GetObjectRefType}
 use Rattle.jg_words.specs.declared.call.frames.FramesCall.{FramesCall}
 use Rattle.jg_words.specs.declared.call.frames.FramesCall.TheVariants.{PushLocalFrame, PopLocalFrame}
+use Rattle.jg_words.specs.declared.call.exceptions.ExceptionsCall.{ExceptionsCall}
+use Rattle.jg_words.specs.declared.call.exceptions.ExceptionsCall.TheVariants.{Throw, ExceptionOccurred, ExceptionDescribe, ExceptionClear, ExceptionCheck}
+use Rattle.jg_words.specs.declared.call.objects.ObjectsCall.{ObjectsCall}
+use Rattle.jg_words.specs.declared.call.objects.ObjectsCall.TheVariants.{FindClass, GetObjectClass, IsInstanceOf, AllocObject}
 use Rattle.jg_words.specs.declared.call.strings.StringsCall.{StringsCall}
-use Rattle.jg_words.specs.declared.call.strings.StringsCall.TheVariants.{NewString, GetStringLength}
+use Rattle.jg_words.specs.declared.call.strings.StringsCall.TheVariants.{NewString, NewStringUTF, GetStringLength, GetStringUTFLength, GetStringRegion}
+use Rattle.jg_words.specs.declared.call.arrays.ArraysCall.{ArraysCall}
+use Rattle.jg_words.specs.declared.call.arrays.ArraysCall.TheVariants.{NewArray, GetArrayLength, GetArrayRegion, SetArrayRegion, NewObjectArray, GetObjectArrayElement, SetObjectArrayElement}
 
 abbrev pub vm_fun : VmCall → VmFun
 vm_fun AttachCurrentThread = vm.AttachCurrentThread
@@ -35,12 +47,40 @@ abbrev pub frames_fun : FramesCall → FramesFun
 frames_fun (PushLocalFrame capacity) = frames.PushLocalFrame
 frames_fun (PopLocalFrame kept) = frames.PopLocalFrame
 
+abbrev pub exceptions_fun : ExceptionsCall → ExceptionsFun
+exceptions_fun (Throw exception) = exceptions.Throw
+exceptions_fun ExceptionOccurred = exceptions.ExceptionOccurred
+exceptions_fun ExceptionDescribe = exceptions.ExceptionDescribe
+exceptions_fun ExceptionClear = exceptions.ExceptionClear
+exceptions_fun ExceptionCheck = exceptions.ExceptionCheck
+
+abbrev pub objects_fun : ObjectsCall → ObjectsFun
+objects_fun (FindClass name) = objects.FindClass
+objects_fun (GetObjectClass object) = objects.GetObjectClass
+objects_fun (IsInstanceOf object class) = objects.IsInstanceOf
+objects_fun (AllocObject class) = objects.AllocObject
+
 abbrev pub strings_fun : StringsCall → StringsFun
 strings_fun (NewString units) = strings.NewString
+strings_fun (NewStringUTF bytes) = strings.NewStringUTF
 strings_fun (GetStringLength string) = strings.GetStringLength
+strings_fun (GetStringUTFLength string) = strings.GetStringUTFLength
+strings_fun (GetStringRegion string start length) = strings.GetStringRegion
+
+abbrev pub arrays_fun : ArraysCall → ArraysFun
+arrays_fun (NewArray element length) = arrays.NewArray element
+arrays_fun (GetArrayLength array) = arrays.GetArrayLength
+arrays_fun (GetArrayRegion element array start length) = arrays.GetArrayRegion element
+arrays_fun (SetArrayRegion element array start values) = arrays.SetArrayRegion element
+arrays_fun (NewObjectArray length class fill) = arrays.NewObjectArray
+arrays_fun (GetObjectArrayElement array index) = arrays.GetObjectArrayElement
+arrays_fun (SetObjectArrayElement array index value) = arrays.SetObjectArrayElement
 
 abbrev pub fun_of : Call → Fun
 fun_of (Vm call) = fun.Vm (vm_fun call)
 fun_of (Refs call) = fun.Refs (refs_fun call)
 fun_of (Frames call) = fun.Frames (frames_fun call)
+fun_of (Exceptions call) = fun.Exceptions (exceptions_fun call)
+fun_of (Objects call) = fun.Objects (objects_fun call)
 fun_of (Strings call) = fun.Strings (strings_fun call)
+fun_of (Arrays call) = fun.Arrays (arrays_fun call)

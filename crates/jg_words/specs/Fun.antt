@@ -1,16 +1,23 @@
--- The functions' names.
+-- The functions' names, and which take an environment.
 use Rattle.std.specs.Prelude.{ℕ, List, [], ◌∷◌, Option, codes, find, nat_eq, Bool, true, false}
 use Rattle.std.specs.Cmp.Lexicographic.{pointwise}
+use Rattle.jg_words.specs.declared.object.Primitive.TheVariants.{Boolean, Byte, Char, Short, Int, Long}
 use Rattle.jg_words.specs.declared.fun.Fun.{Fun}
-use Rattle.jg_words.specs.declared.fun.Fun.TheVariants.{Vm, Refs, Frames, Strings}
+use Rattle.jg_words.specs.declared.fun.Fun.TheVariants.{Vm, Refs, Frames, Exceptions, Objects, Strings, Arrays}
 use Rattle.jg_words.specs.declared.fun.vm.VmFun.{VmFun}
 use Rattle.jg_words.specs.declared.fun.vm.VmFun.TheVariants.{AttachCurrentThread, DetachCurrentThread, GetEnv}
 use Rattle.jg_words.specs.declared.fun.refs.RefsFun.{RefsFun}
 use Rattle.jg_words.specs.declared.fun.refs.RefsFun.TheVariants.{NewLocalRef, DeleteLocalRef, IsSameObject, GetObjectRefType}
 use Rattle.jg_words.specs.declared.fun.frames.FramesFun.{FramesFun}
 use Rattle.jg_words.specs.declared.fun.frames.FramesFun.TheVariants.{PushLocalFrame, PopLocalFrame}
+use Rattle.jg_words.specs.declared.fun.exceptions.ExceptionsFun.{ExceptionsFun}
+use Rattle.jg_words.specs.declared.fun.exceptions.ExceptionsFun.TheVariants.{Throw, ExceptionOccurred, ExceptionDescribe, ExceptionClear, ExceptionCheck}
+use Rattle.jg_words.specs.declared.fun.objects.ObjectsFun.{ObjectsFun}
+use Rattle.jg_words.specs.declared.fun.objects.ObjectsFun.TheVariants.{FindClass, GetObjectClass, IsInstanceOf, AllocObject}
 use Rattle.jg_words.specs.declared.fun.strings.StringsFun.{StringsFun}
-use Rattle.jg_words.specs.declared.fun.strings.StringsFun.TheVariants.{NewString, GetStringLength}
+use Rattle.jg_words.specs.declared.fun.strings.StringsFun.TheVariants.{NewString, NewStringUTF, GetStringLength, GetStringUTFLength, GetStringRegion}
+use Rattle.jg_words.specs.declared.fun.arrays.ArraysFun.{ArraysFun}
+use Rattle.jg_words.specs.declared.fun.arrays.ArraysFun.TheVariants.{NewArray, GetArrayLength, GetArrayRegion, SetArrayRegion, NewObjectArray, GetObjectArrayElement, SetObjectArrayElement}
 
 abbrev pub vm_name : VmFun → List ℕ
 vm_name AttachCurrentThread = codes "AttachCurrentThread"
@@ -27,15 +34,58 @@ abbrev pub frames_name : FramesFun → List ℕ
 frames_name PushLocalFrame = codes "PushLocalFrame"
 frames_name PopLocalFrame = codes "PopLocalFrame"
 
+abbrev pub exceptions_name : ExceptionsFun → List ℕ
+exceptions_name Throw = codes "Throw"
+exceptions_name ExceptionOccurred = codes "ExceptionOccurred"
+exceptions_name ExceptionDescribe = codes "ExceptionDescribe"
+exceptions_name ExceptionClear = codes "ExceptionClear"
+exceptions_name ExceptionCheck = codes "ExceptionCheck"
+
+abbrev pub objects_name : ObjectsFun → List ℕ
+objects_name FindClass = codes "FindClass"
+objects_name GetObjectClass = codes "GetObjectClass"
+objects_name IsInstanceOf = codes "IsInstanceOf"
+objects_name AllocObject = codes "AllocObject"
+
 abbrev pub strings_name : StringsFun → List ℕ
 strings_name NewString = codes "NewString"
+strings_name NewStringUTF = codes "NewStringUTF"
 strings_name GetStringLength = codes "GetStringLength"
+strings_name GetStringUTFLength = codes "GetStringUTFLength"
+strings_name GetStringRegion = codes "GetStringRegion"
+
+abbrev pub arrays_name : ArraysFun → List ℕ
+arrays_name (NewArray Boolean) = codes "NewBooleanArray"
+arrays_name (NewArray Byte) = codes "NewByteArray"
+arrays_name (NewArray Char) = codes "NewCharArray"
+arrays_name (NewArray Short) = codes "NewShortArray"
+arrays_name (NewArray Int) = codes "NewIntArray"
+arrays_name (NewArray Long) = codes "NewLongArray"
+arrays_name GetArrayLength = codes "GetArrayLength"
+arrays_name (GetArrayRegion Boolean) = codes "GetBooleanArrayRegion"
+arrays_name (GetArrayRegion Byte) = codes "GetByteArrayRegion"
+arrays_name (GetArrayRegion Char) = codes "GetCharArrayRegion"
+arrays_name (GetArrayRegion Short) = codes "GetShortArrayRegion"
+arrays_name (GetArrayRegion Int) = codes "GetIntArrayRegion"
+arrays_name (GetArrayRegion Long) = codes "GetLongArrayRegion"
+arrays_name (SetArrayRegion Boolean) = codes "SetBooleanArrayRegion"
+arrays_name (SetArrayRegion Byte) = codes "SetByteArrayRegion"
+arrays_name (SetArrayRegion Char) = codes "SetCharArrayRegion"
+arrays_name (SetArrayRegion Short) = codes "SetShortArrayRegion"
+arrays_name (SetArrayRegion Int) = codes "SetIntArrayRegion"
+arrays_name (SetArrayRegion Long) = codes "SetLongArrayRegion"
+arrays_name NewObjectArray = codes "NewObjectArray"
+arrays_name GetObjectArrayElement = codes "GetObjectArrayElement"
+arrays_name SetObjectArrayElement = codes "SetObjectArrayElement"
 
 abbrev pub name_of : Fun → List ℕ
 name_of (Vm fun) = vm_name fun
 name_of (Refs fun) = refs_name fun
 name_of (Frames fun) = frames_name fun
+name_of (Exceptions fun) = exceptions_name fun
+name_of (Objects fun) = objects_name fun
 name_of (Strings fun) = strings_name fun
+name_of (Arrays fun) = arrays_name fun
 
 -- these are no functions of a JNIEnv (JNI Specification, chapter 5, "Invocation API Functions")
 abbrev pub vm_needs_env : VmFun → Bool
@@ -48,14 +98,28 @@ abbrev pub needs_env : Fun → Bool
 needs_env (Vm fun) = vm_needs_env fun
 needs_env (Refs fun) = true
 needs_env (Frames fun) = true
+needs_env (Exceptions fun) = true
+needs_env (Objects fun) = true
 needs_env (Strings fun) = true
+needs_env (Arrays fun) = true
 
 abbrev pub all : List Fun
 all =
     Vm AttachCurrentThread ∷ Vm DetachCurrentThread ∷ Vm GetEnv
     ∷ Refs NewLocalRef ∷ Refs DeleteLocalRef ∷ Refs IsSameObject ∷ Refs GetObjectRefType
     ∷ Frames PushLocalFrame ∷ Frames PopLocalFrame
-    ∷ Strings NewString ∷ Strings GetStringLength
+    ∷ Exceptions Throw ∷ Exceptions ExceptionOccurred ∷ Exceptions ExceptionDescribe
+    ∷ Exceptions ExceptionClear ∷ Exceptions ExceptionCheck
+    ∷ Objects FindClass ∷ Objects GetObjectClass ∷ Objects IsInstanceOf ∷ Objects AllocObject
+    ∷ Strings NewString ∷ Strings NewStringUTF ∷ Strings GetStringLength ∷ Strings GetStringUTFLength
+    ∷ Strings GetStringRegion
+    ∷ Arrays (NewArray Boolean) ∷ Arrays (NewArray Byte) ∷ Arrays (NewArray Char) ∷ Arrays (NewArray Short)
+    ∷ Arrays (NewArray Int) ∷ Arrays (NewArray Long) ∷ Arrays GetArrayLength ∷ Arrays (GetArrayRegion Boolean)
+    ∷ Arrays (GetArrayRegion Byte) ∷ Arrays (GetArrayRegion Char) ∷ Arrays (GetArrayRegion Short)
+    ∷ Arrays (GetArrayRegion Int) ∷ Arrays (GetArrayRegion Long) ∷ Arrays (SetArrayRegion Boolean)
+    ∷ Arrays (SetArrayRegion Byte) ∷ Arrays (SetArrayRegion Char) ∷ Arrays (SetArrayRegion Short)
+    ∷ Arrays (SetArrayRegion Int) ∷ Arrays (SetArrayRegion Long) ∷ Arrays NewObjectArray
+    ∷ Arrays GetObjectArrayElement ∷ Arrays SetObjectArrayElement
     ∷ []
 
 -- the function of that name

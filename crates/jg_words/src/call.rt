@@ -3,13 +3,19 @@
 ghost use Rattle.std.specs.Prelude.{◌≡◌, IfOk};
 ghost use Rattle.jg_words.specs.Call.{fun_of};
 
+pub mod arrays;
+pub mod exceptions;
 pub mod frames;
+pub mod objects;
 pub mod refs;
 pub mod strings;
 pub mod vm;
 
 use crate::fun::Fun;
+use arrays::ArraysCall;
+use exceptions::ExceptionsCall;
 use frames::FramesCall;
+use objects::ObjectsCall;
 use refs::RefsCall;
 use std::alloc::AllocError;
 use strings::StringsCall;
@@ -22,7 +28,10 @@ pub enum Call {
     Vm(VmCall),
     Refs(RefsCall),
     Frames(FramesCall),
+    Exceptions(ExceptionsCall),
+    Objects(ObjectsCall),
     Strings(StringsCall),
+    Arrays(ArraysCall),
 }
 
 impl Call {
@@ -34,7 +43,10 @@ impl Call {
             Call::Vm(call) => Fun::Vm(call.fun()),
             Call::Refs(call) => Fun::Refs(call.fun()),
             Call::Frames(call) => Fun::Frames(call.fun()),
+            Call::Exceptions(call) => Fun::Exceptions(call.fun()),
+            Call::Objects(call) => Fun::Objects(call.fun()),
             Call::Strings(call) => Fun::Strings(call.fun()),
+            Call::Arrays(call) => Fun::Arrays(call.fun()),
         }
     }
 
@@ -46,7 +58,10 @@ impl Call {
             Call::Vm(call) => Ok(Call::Vm(call.copy())),
             Call::Refs(call) => Ok(Call::Refs(call.copy())),
             Call::Frames(call) => Ok(Call::Frames(call.copy())),
+            Call::Exceptions(call) => Ok(Call::Exceptions(call.copy())),
+            Call::Objects(call) => Ok(Call::Objects(call.try_copy()?)),
             Call::Strings(call) => Ok(Call::Strings(call.try_copy()?)),
+            Call::Arrays(call) => Ok(Call::Arrays(call.try_copy()?)),
         }
     }
 }

@@ -4,12 +4,19 @@ ghost use Rattle.std.specs.Prelude.{◌≡◌, Some};
 ghost use Rattle.jg_words.specs.Fun.{name_of, needs_env, named};
 ghost use Rattle.jg_words.specs.declared.fun.Fun.{Fun as FunOf};
 
+pub mod arrays;
+pub mod exceptions;
 pub mod frames;
+pub mod objects;
 pub mod refs;
 pub mod strings;
 pub mod vm;
 
+use crate::object::Primitive;
+use arrays::ArraysFun;
+use exceptions::ExceptionsFun;
 use frames::FramesFun;
+use objects::ObjectsFun;
 use refs::RefsFun;
 use strings::StringsFun;
 use vm::VmFun;
@@ -20,12 +27,15 @@ pub enum Fun {
     Vm(VmFun),
     Refs(RefsFun),
     Frames(FramesFun),
+    Exceptions(ExceptionsFun),
+    Objects(ObjectsFun),
     Strings(StringsFun),
+    Arrays(ArraysFun),
 }
 
 impl Fun {
     /// All functions, by group.
-    pub const ALL: [Fun; 11] = [
+    pub const ALL: [Fun; 45] = [
         Fun::Vm(VmFun::AttachCurrentThread),
         Fun::Vm(VmFun::DetachCurrentThread),
         Fun::Vm(VmFun::GetEnv),
@@ -35,8 +45,42 @@ impl Fun {
         Fun::Refs(RefsFun::GetObjectRefType),
         Fun::Frames(FramesFun::PushLocalFrame),
         Fun::Frames(FramesFun::PopLocalFrame),
+        Fun::Exceptions(ExceptionsFun::Throw),
+        Fun::Exceptions(ExceptionsFun::ExceptionOccurred),
+        Fun::Exceptions(ExceptionsFun::ExceptionDescribe),
+        Fun::Exceptions(ExceptionsFun::ExceptionClear),
+        Fun::Exceptions(ExceptionsFun::ExceptionCheck),
+        Fun::Objects(ObjectsFun::FindClass),
+        Fun::Objects(ObjectsFun::GetObjectClass),
+        Fun::Objects(ObjectsFun::IsInstanceOf),
+        Fun::Objects(ObjectsFun::AllocObject),
         Fun::Strings(StringsFun::NewString),
+        Fun::Strings(StringsFun::NewStringUTF),
         Fun::Strings(StringsFun::GetStringLength),
+        Fun::Strings(StringsFun::GetStringUTFLength),
+        Fun::Strings(StringsFun::GetStringRegion),
+        Fun::Arrays(ArraysFun::NewArray(Primitive::Boolean)),
+        Fun::Arrays(ArraysFun::NewArray(Primitive::Byte)),
+        Fun::Arrays(ArraysFun::NewArray(Primitive::Char)),
+        Fun::Arrays(ArraysFun::NewArray(Primitive::Short)),
+        Fun::Arrays(ArraysFun::NewArray(Primitive::Int)),
+        Fun::Arrays(ArraysFun::NewArray(Primitive::Long)),
+        Fun::Arrays(ArraysFun::GetArrayLength),
+        Fun::Arrays(ArraysFun::GetArrayRegion(Primitive::Boolean)),
+        Fun::Arrays(ArraysFun::GetArrayRegion(Primitive::Byte)),
+        Fun::Arrays(ArraysFun::GetArrayRegion(Primitive::Char)),
+        Fun::Arrays(ArraysFun::GetArrayRegion(Primitive::Short)),
+        Fun::Arrays(ArraysFun::GetArrayRegion(Primitive::Int)),
+        Fun::Arrays(ArraysFun::GetArrayRegion(Primitive::Long)),
+        Fun::Arrays(ArraysFun::SetArrayRegion(Primitive::Boolean)),
+        Fun::Arrays(ArraysFun::SetArrayRegion(Primitive::Byte)),
+        Fun::Arrays(ArraysFun::SetArrayRegion(Primitive::Char)),
+        Fun::Arrays(ArraysFun::SetArrayRegion(Primitive::Short)),
+        Fun::Arrays(ArraysFun::SetArrayRegion(Primitive::Int)),
+        Fun::Arrays(ArraysFun::SetArrayRegion(Primitive::Long)),
+        Fun::Arrays(ArraysFun::NewObjectArray),
+        Fun::Arrays(ArraysFun::GetObjectArrayElement),
+        Fun::Arrays(ArraysFun::SetObjectArrayElement),
     ];
 
     /// Its name, as scripts and journals spell it.
@@ -47,7 +91,10 @@ impl Fun {
             Fun::Vm(fun) => fun.name(),
             Fun::Refs(fun) => fun.name(),
             Fun::Frames(fun) => fun.name(),
+            Fun::Exceptions(fun) => fun.name(),
+            Fun::Objects(fun) => fun.name(),
             Fun::Strings(fun) => fun.name(),
+            Fun::Arrays(fun) => fun.name(),
         }
     }
 
@@ -59,7 +106,10 @@ impl Fun {
             Fun::Vm(fun) => fun.takes_env(),
             Fun::Refs(_) => true,
             Fun::Frames(_) => true,
+            Fun::Exceptions(_) => true,
+            Fun::Objects(_) => true,
             Fun::Strings(_) => true,
+            Fun::Arrays(_) => true,
         }
     }
 

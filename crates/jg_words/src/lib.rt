@@ -16,12 +16,18 @@ mod value;
 
 pub use buffer::BufId;
 pub use call::Call;
+pub use call::arrays::ArraysCall;
+pub use call::exceptions::ExceptionsCall;
 pub use call::frames::FramesCall;
+pub use call::objects::ObjectsCall;
 pub use call::refs::RefsCall;
 pub use call::strings::StringsCall;
 pub use call::vm::VmCall;
 pub use entry::{Entry, Outcome, Reply};
+pub use fun::arrays::ArraysFun;
+pub use fun::exceptions::ExceptionsFun;
 pub use fun::frames::FramesFun;
+pub use fun::objects::ObjectsFun;
 pub use fun::refs::RefsFun;
 pub use fun::strings::StringsFun;
 pub use fun::vm::VmFun;

@@ -7,10 +7,10 @@ ghost use Rattle.jg_rules.specs.Answers.{frames_answer};
 ghost use Rattle.jg_guard.specs.Tables.{rows_of, IsDue, IsEffective, KeepsRoom};
 ghost use Rattle.jg_rules.specs.Effects.{done_by};
 
-use crate::settle::{handing_out, object_of, plain};
+use crate::settle::{handing_out, plain};
 use crate::tables::Tables;
 use jg_policy::Setup;
-use jg_rules::{Answer, View, look_up};
+use jg_rules::{Answer, View, object_named};
 use jg_words::{FramesCall, Kind, Tid, Value};
 use std::alloc::{AllocError, Allocator};
 
@@ -26,7 +26,7 @@ pub(crate) fn answer_frames<A: Allocator + Clone>(
     match call {
         FramesCall::PushLocalFrame { .. } => plain(Value::Ok),
         FramesCall::PopLocalFrame { kept } => {
-            handing_out(view, tid, Kind::Local, object_of(look_up(view, tid, *kept)))
+            handing_out(view, tid, Kind::Local, object_named(view, tid, *kept))
         }
     }
 }

@@ -9,10 +9,10 @@ ghost use Rattle.jg_guard.specs.Settled.{deleted_on};
 ghost use Rattle.jg_rules.specs.Effects.{done_by};
 ghost use Rattle.jg_locals.specs.Rows.{spare};
 
-use crate::settle::{handing_out, object_of, plain};
+use crate::settle::{handing_out, plain};
 use crate::tables::Tables;
 use jg_policy::Setup;
-use jg_rules::{Answer, Named, View, look_up};
+use jg_rules::{Answer, Named, View, look_up, object_named};
 use jg_words::{Kind, Ref, RefsCall, Tid, Value};
 use std::alloc::Allocator;
 
@@ -42,11 +42,11 @@ pub(crate) fn answer_refs<A: Allocator + Clone>(
 {
     match call {
         RefsCall::NewLocalRef { of } => {
-            handing_out(view, tid, Kind::Local, object_of(look_up(view, tid, *of)))
+            handing_out(view, tid, Kind::Local, object_named(view, tid, *of))
         }
         RefsCall::DeleteLocalRef { .. } => plain(Value::Ok),
         RefsCall::IsSameObject { first, second } => plain(Value::Truth(
-            object_of(look_up(view, tid, *first)) == object_of(look_up(view, tid, *second)),
+            object_named(view, tid, *first) == object_named(view, tid, *second),
         )),
         RefsCall::GetObjectRefType { of } => {
             plain(Value::Number(type_number(look_up(view, tid, *of), *of)))

@@ -1,59 +1,92 @@
-ghost use Rattle.std.specs.Prelude.{◌≡◌, ◌≤◌, map, length, pos, true, IfOk, OnOk, OnErr};
-ghost use Rattle.std.specs.Option.{option_map};
-ghost use Rattle.std.specs.List.{list_all};
+ghost use Rattle.std.specs.Prelude.{◌≡◌, ◌≤◌, ℤ, map, length, pos, true, IfOk, OnOk, OnErr};
 ghost use Rattle.jg_words.specs.declared.call.Call.TheVariants.{Strings};
-ghost use Rattle.jg_policy.specs.Stated.{StatedSetup};
 ghost use Rattle.jg_rules.specs.Parts.{Parts, TablesStand};
 ghost use Rattle.jg_rules.specs.View.{ViewStands, rows_in};
-ghost use Rattle.jg_rules.specs.Names.{units_named};
-ghost use Rattle.jg_rules.specs.Effects.{unit_of};
-ghost use Rattle.jg_rules.specs.Rules.{is_unit};
 ghost use Rattle.jg_rules.specs.Answers.{strings_answer};
-ghost use Rattle.jg_guard.specs.Tables.{rows_of, IsDue, IsEffective, KeepsRoom};
 ghost use Rattle.jg_rules.specs.Effects.{done_by};
+ghost use Rattle.jg_guard.specs.Tables.{rows_of, IsDue, IsEffective, KeepsRoom};
+ghost use Rattle.std.specs.List.{list_all};
+ghost use Rattle.jg_words.specs.declared.object.Primitive.TheVariants.{Char};
+ghost use Rattle.jg_words.specs.declared.call.strings.StringsCall.TheVariants.{GetStringRegion};
+ghost use Rattle.jg_heap.specs.Reading.{natural};
+ghost use Rattle.jg_rules.specs.Numbers.{is_value_of};
 
-use crate::settle::{handing_out, object_of, plain};
+use crate::region::{is_outside, units_in};
+use crate::settle::{handing_out, plain, throwing};
 use crate::tables::Tables;
-use jg_heap::Shape;
+use jg_heap::{Shape, from_mutf8_items, mutf8_len};
 use jg_policy::Setup;
-use jg_rules::{Answer, View, look_up};
-use jg_words::{Kind, ObjId, StringsCall, Tid, Value};
-use std::alloc::{AllocError, Allocator};
+use jg_rules::{Answer, View, length_of, the_object, units_of};
+use jg_words::{Kind, ObjId, Ref, StringsCall, Thrown, Tid, Value};
+use std::alloc::{AllocError, Allocator, Global};
 
-/// The length of a string, in UTF-16 units; 0 of no object.
-fn length_of<A: Allocator + Clone>(view: &View<'_, A>, object: Option<ObjId>) -> i64
-    ensures { (p : Parts) → ViewStands view.now p
-        → result ≡ pos (length (units_named view.now.setup.now p (option_map (λ o. o.0) object))) }
+fn answer_region<A: Allocator + Clone>(
+    view: &View<'_, A>,
+    lists: Global,
+    tid: Tid,
+    string: Ref,
+    start: i32,
+    count: i32,
+) -> Result<Answer, AllocError>
+    requires { IsDue view.now.setup.now (rows_in view.now) tid.0 (Strings (GetStringRegion string start count)) }
+    ensures { IfOk result (λ given. (p : Parts) → ViewStands view.now p
+        → given ≡ strings_answer view.now.setup.now p tid (GetStringRegion string start count)) }
 {
-    match object {
-        Some(object) if object.0 < view.heap.len() => view.heap.string(object).len() as i64,
-        _ => 0,
+    let object = the_object(view, tid, string);
+    let units = units_of(view, object);
+    if is_outside(start, i64::from(count), units.len()) {
+        return Ok(throwing(view, Thrown::StringIndexOutOfBounds));
     }
+    let list = units_in(lists, units, start as usize, count as usize)?;
+    Ok(plain(Value::List(list)))
 }
 
 /// What a call of the group answers, where it breaks no rule.
 pub(crate) fn answer_strings<A: Allocator + Clone>(
     view: &View<'_, A>,
+    lists: Global,
     tid: Tid,
     call: &StringsCall,
-) -> Answer
+) -> Result<Answer, AllocError>
     requires { IsDue view.now.setup.now (rows_in view.now) tid.0 (Strings call.now) }
-    ensures { (p : Parts) → ViewStands view.now p → result ≡ strings_answer view.now.setup.now p tid call.now }
+    ensures { IfOk result (λ given. (p : Parts) → ViewStands view.now p
+        → given ≡ strings_answer view.now.setup.now p tid call.now) }
 {
     match call {
-        StringsCall::NewString { .. } => {
-            handing_out(view, tid, Kind::Local, Some(ObjId(view.heap.len())))
-        }
+        StringsCall::NewString { .. } => Ok(handing_out(
+            view,
+            tid,
+            Kind::Local,
+            Some(ObjId(view.heap.len())),
+        )),
+        StringsCall::NewStringUTF { .. } => Ok(handing_out(
+            view,
+            tid,
+            Kind::Local,
+            Some(ObjId(view.heap.len())),
+        )),
         StringsCall::GetStringLength { string } => {
-            let length = length_of(view, object_of(look_up(view, tid, *string)));
-            plain(Value::Number(length))
+            let length = length_of(view, the_object(view, tid, *string));
+            Ok(plain(Value::Number(length as i64)))
+        }
+        StringsCall::GetStringUTFLength { string } => {
+            let length = mutf8_len(units_of(view, the_object(view, tid, *string)));
+            Ok(plain(Value::Number(length as i64)))
+        }
+        StringsCall::GetStringRegion {
+            string,
+            start,
+            length,
+        } => {
+            let given = answer_region(view, lists, tid, *string, *start, *length)?;
+            Ok(given)
         }
     }
 }
 
 /// The unit that an item is, where it is one.
 fn unit_of_item(item: i64) -> u16
-    ensures { is_unit item ≡ true → result ≡ unit_of item }
+    ensures { is_value_of Char item ≡ true → result ≡ natural item }
 {
     if 0 <= item && item <= 0xFFFF {
         item as u16
@@ -63,9 +96,9 @@ fn unit_of_item(item: i64) -> u16
 }
 
 /// The items, which the rules have found to be units, as units.
-fn units_of<A: Allocator>(alloc: A, items: &[i64]) -> Result<Vec<u16, A>, AllocError>
-    requires { list_all is_unit items.now ≡ true }
-    ensures { IfOk result (λ units. units.items ≡ map unit_of items.now) }
+fn units_from<A: Allocator>(alloc: A, items: &[i64]) -> Result<Vec<u16, A>, AllocError>
+    requires { list_all (is_value_of Char) items.now ≡ true }
+    ensures { IfOk result (λ units. units.items ≡ map natural items.now) }
 {
     let mut units = Vec::new(alloc);
     for item in items {
@@ -90,10 +123,21 @@ pub(crate) fn perform_strings<A: Allocator + Clone>(
 {
     match call {
         StringsCall::NewString { units } => {
-            let units = units_of(tables.alloc.clone()?, units.as_slice())?;
+            let units = units_from(tables.alloc.clone()?, units.as_slice())?;
             tables.heap.alloc(Shape::Text(units))?;
             Ok(())
         }
+        StringsCall::NewStringUTF { bytes } => {
+            match from_mutf8_items(tables.alloc.clone()?, bytes.as_slice())? {
+                None => unreachable!(),
+                Some(units) => {
+                    tables.heap.alloc(Shape::Text(units))?;
+                    Ok(())
+                }
+            }
+        }
         StringsCall::GetStringLength { .. } => Ok(()),
+        StringsCall::GetStringUTFLength { .. } => Ok(()),
+        StringsCall::GetStringRegion { .. } => Ok(()),
     }
 }

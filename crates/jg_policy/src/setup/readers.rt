@@ -7,7 +7,7 @@ ghost use Rattle.std.specs.Str.{bytes_eq};
 ghost use Rattle.indexmap.specs.IndexMap.{values};
 ghost use Rattle.jg_policy.specs.Stated.{class_count};
 ghost use Rattle.jg_policy.specs.Access.{is_enabled, access_of};
-ghost use Rattle.jg_policy.specs.Classes.{class_named, is_throwable, module_names, module_of, member_named, field_named, native_named, member_type, field_type};
+ghost use Rattle.jg_policy.specs.Classes.{class_named, is_throwable, module_names, module_of, member_named, field_named, native_named, member_type, field_type, class_at, fields_in};
 ghost use Rattle.jg_policy.specs.Kept.{member_view};
 
 use crate::access::{Access, Operation};
@@ -79,6 +79,20 @@ impl Setup {
             Some((_, found)) => {
                 member_named(found.fields.as_slice(), name.as_str(), signature.as_str())
             }
+        }
+    }
+
+    /// How many fields the setup states for the class. They have the numbers from 1 on.
+    pub fn field_count(&self, class: u32) -> u32
+        ensures count { result ≡ length (fields_in (class_at self.now class)) }
+        ensures within { result ≤ 100 }
+    {
+        if class < BASE_COUNT {
+            return 0;
+        }
+        match self.classes.get_index((class - BASE_COUNT) as usize) {
+            None => 0,
+            Some((_, found)) => found.fields.as_slice().len() as u32,
         }
     }
 

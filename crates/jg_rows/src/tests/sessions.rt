@@ -1,8 +1,8 @@
 //! Attachment and the first two rules.
 
 use crate::sessions::{
-    ATTACH_NO_OPS, GETENV_WITH_ENVIRONMENT, NOTHING_OUTLIVES_A_SESSION, OTHER_ENVIRONMENTS,
-    THREAD_ZERO,
+    ATTACH_NO_OPS, FIRST_TWO_RULES, GETENV_WITH_ENVIRONMENT, NOTHING_OUTLIVES_A_SESSION,
+    OTHER_ENVIRONMENTS, THREAD_ZERO,
 };
 use crate::tests::comes_out;
 use std::test::Fail;
@@ -30,4 +30,9 @@ fn thread_zero(rt: HostRuntime) -> Result<(), Fail> {
 #[test]
 fn nothing_outlives_a_session(rt: HostRuntime) -> Result<(), Fail> {
     comes_out(rt.alloc(), NOTHING_OUTLIVES_A_SESSION)
+}
+
+#[test]
+fn first_two_rules(rt: HostRuntime) -> Result<(), Fail> {
+    comes_out(rt.alloc(), FIRST_TWO_RULES)
 }

@@ -1,20 +1,25 @@
 //! Rules 5 to 9, on the references among a call's operands: each rule over all of them, from left
 //! to right, before the next.
 
-ghost use Rattle.std.specs.Prelude.{◌≡◌, ◌∷◌, []};
+ghost use Rattle.std.specs.Prelude.{◌≡◌, ◌∷◌, [], ◌&&◌, nat_le};
+ghost use Rattle.jg_heap.specs.Making as making;
 ghost use Rattle.jg_rules.specs.Parts.{Parts};
-ghost use Rattle.jg_rules.specs.Names.{class_of};
-ghost use Rattle.jg_rules.specs.Operands.{is_of, listed, operands};
+ghost use Rattle.jg_rules.specs.Operands.{is_of, is_plain, listed, operands};
 ghost use Rattle.jg_rules.specs.Rules.{is_foreign, is_not_local, is_wrong, operands_verdict, refs_wrong_kind, wrong_kind};
 ghost use Rattle.jg_rules.specs.View.{ViewStands};
 
 use crate::named::{Named, look_up};
+use crate::object::class_of;
 use crate::operand::{ObjectType, Operand, Operands, operands_of};
 use crate::view::View;
-use jg_words::{Call, Kind, ObjId, Ref, RefsCall, Rule, Tid};
+use jg_words::{Call, Kind, ObjId, Primitive, Ref, RefsCall, Rule, Tid};
 use std::alloc::Allocator;
 
+const CLASS_CLASS: u32 = 1;
+
 const STRING_CLASS: u32 = 2;
+
+const OBJECT_ARRAY_CLASS: u32 = 3;
 
 fn is_foreign_local(tid: Tid, reference: Ref) -> bool
     ensures { result ≡ is_foreign tid.0 reference }
@@ -29,14 +34,30 @@ fn is_foreign_local(tid: Tid, reference: Ref) -> bool
     }
 }
 
-/// The number of an object's class; an object that was never made counts as a class object.
-fn class_number<A: Allocator + Clone>(view: &View<'_, A>, object: ObjId) -> u32
-    ensures { (p : Parts) → ViewStands view.now p → result ≡ class_of view.now.setup.now p object.0 }
+/// Whether it is the class object of a class with plain instances. It has its class's number.
+fn is_plain_class<A: Allocator + Clone>(view: &View<'_, A>, object: ObjId) -> bool
+    ensures { result ≡ is_plain view.now.setup.now object.0 }
 {
-    if object.0 < view.heap.len() {
-        view.heap.class_of(object)
-    } else {
-        1
+    object.0 == 0 || 10 <= object.0 && object.0 < u64::from(view.setup.class_count())
+}
+
+fn is_array_class(class: u32) -> bool
+    ensures { result ≡ (nat_le 3 class && nat_le class 9) }
+{
+    3 <= class && class <= 9
+}
+
+/// The number of the class of arrays of these items.
+fn array_class(element: Primitive) -> u32
+    ensures { result ≡ making.array_class element }
+{
+    match element {
+        Primitive::Boolean => 4,
+        Primitive::Byte => 5,
+        Primitive::Char => 6,
+        Primitive::Short => 7,
+        Primitive::Int => 8,
+        Primitive::Long => 9,
     }
 }
 
@@ -49,7 +70,13 @@ fn is_object_of<A: Allocator + Clone>(
 {
     match object_type {
         ObjectType::AnyObject => true,
-        ObjectType::StringObject => class_number(view, object) == STRING_CLASS,
+        ObjectType::ClassObject => class_of(view, object) == CLASS_CLASS,
+        ObjectType::PlainClass => is_plain_class(view, object),
+        ObjectType::ThrowableObject => view.setup.is_throwable(class_of(view, object)),
+        ObjectType::StringObject => class_of(view, object) == STRING_CLASS,
+        ObjectType::AnyArray => is_array_class(class_of(view, object)),
+        ObjectType::ArrayOf(element) => class_of(view, object) == array_class(element),
+        ObjectType::ObjectArray => class_of(view, object) == OBJECT_ARRAY_CLASS,
     }
 }
 
@@ -94,7 +121,10 @@ fn is_wrong_kind(call: &Call) -> bool
         Call::Vm(_) => false,
         Call::Refs(call) => deletes_another_kind(call),
         Call::Frames(_) => false,
+        Call::Exceptions(_) => false,
+        Call::Objects(_) => false,
         Call::Strings(_) => false,
+        Call::Arrays(_) => false,
     }
 }
 

@@ -9,7 +9,7 @@ ghost use Rattle.jg_text.specs.Operands.{strings_kinds, strings_operands};
 ghost use Rattle.jg_text.specs.Pieces.{rest_fields, after_spaces, IsOperandFault};
 
 use crate::fault::ScriptFault;
-use crate::operand::{read_one, write_one};
+use crate::operand::{read_one, read_three, write_one, write_three};
 use jg_words::{StringsCall, StringsFun};
 use std::alloc::{AllocError, Global};
 
@@ -19,7 +19,10 @@ pub fn arity(fun: StringsFun) -> usize
 {
     match fun {
         StringsFun::NewString => 1,
+        StringsFun::NewStringUTF => 1,
         StringsFun::GetStringLength => 1,
+        StringsFun::GetStringUTFLength => 1,
+        StringsFun::GetStringRegion => 3,
     }
 }
 
@@ -36,9 +39,25 @@ pub fn read(alloc: Global, fun: StringsFun, rest: Option<&[u8]>) -> Result<Strin
             let units = read_one(alloc, rest)?;
             Ok(StringsCall::NewString { units })
         }
+        StringsFun::NewStringUTF => {
+            let bytes = read_one(alloc, rest)?;
+            Ok(StringsCall::NewStringUTF { bytes })
+        }
         StringsFun::GetStringLength => {
             let string = read_one(alloc, rest)?;
             Ok(StringsCall::GetStringLength { string })
+        }
+        StringsFun::GetStringUTFLength => {
+            let string = read_one(alloc, rest)?;
+            Ok(StringsCall::GetStringUTFLength { string })
+        }
+        StringsFun::GetStringRegion => {
+            let (string, start, length) = read_three(alloc, rest)?;
+            Ok(StringsCall::GetStringRegion {
+                string,
+                start,
+                length,
+            })
         }
     }
 }
@@ -50,6 +69,13 @@ pub fn write(out: &mut String, call: &StringsCall) -> Result<(), AllocError>
 {
     match call {
         StringsCall::NewString { units } => write_one(out, units),
+        StringsCall::NewStringUTF { bytes } => write_one(out, bytes),
         StringsCall::GetStringLength { string } => write_one(out, string),
+        StringsCall::GetStringUTFLength { string } => write_one(out, string),
+        StringsCall::GetStringRegion {
+            string,
+            start,
+            length,
+        } => write_three(out, string, start, length),
     }
 }

@@ -6,11 +6,27 @@ use crate::items::Items;
 use crate::reference::Ref;
 use std::alloc::AllocError;
 
-/// Strings (JNI Specification, chapter 4, "String Operations"). `units` are UTF-16 units.
+/// Strings (JNI Specification, chapter 4, "String Operations"). `units` are UTF-16 units, `bytes` those
+/// of modified UTF-8; `start` and `length` count units, from 0.
 #[derive(Debug, PartialEq, Eq, Drop)]
 pub enum StringsCall {
-    NewString { units: Items },
-    GetStringLength { string: Ref },
+    NewString {
+        units: Items,
+    },
+    NewStringUTF {
+        bytes: Items,
+    },
+    GetStringLength {
+        string: Ref,
+    },
+    GetStringUTFLength {
+        string: Ref,
+    },
+    GetStringRegion {
+        string: Ref,
+        start: i32,
+        length: i32,
+    },
 }
 
 impl StringsCall {
@@ -20,7 +36,10 @@ impl StringsCall {
     {
         match self {
             StringsCall::NewString { .. } => StringsFun::NewString,
+            StringsCall::NewStringUTF { .. } => StringsFun::NewStringUTF,
             StringsCall::GetStringLength { .. } => StringsFun::GetStringLength,
+            StringsCall::GetStringUTFLength { .. } => StringsFun::GetStringUTFLength,
+            StringsCall::GetStringRegion { .. } => StringsFun::GetStringRegion,
         }
     }
 
@@ -32,9 +51,24 @@ impl StringsCall {
             StringsCall::NewString { units } => Ok(StringsCall::NewString {
                 units: units.try_copy()?,
             }),
-            StringsCall::GetStringLength { string } => {
-                Ok(StringsCall::GetStringLength { string: *string })
-            }
+            StringsCall::NewStringUTF { bytes } => Ok(StringsCall::NewStringUTF {
+                bytes: bytes.try_copy()?,
+            }),
+            StringsCall::GetStringLength { string } => Ok(StringsCall::GetStringLength {
+                string: *string,
+            }),
+            StringsCall::GetStringUTFLength { string } => Ok(StringsCall::GetStringUTFLength {
+                string: *string,
+            }),
+            StringsCall::GetStringRegion {
+                string,
+                start,
+                length,
+            } => Ok(StringsCall::GetStringRegion {
+                string: *string,
+                start: *start,
+                length: *length,
+            }),
         }
     }
 }

@@ -5,7 +5,10 @@ ghost use Rattle.jg_words.specs.Fun.{strings_name};
 #[derive(Clone, Copy, Debug, PartialEq, Eq)]
 pub enum StringsFun {
     NewString,
+    NewStringUTF,
     GetStringLength,
+    GetStringUTFLength,
+    GetStringRegion,
 }
 
 impl StringsFun {
@@ -15,7 +18,10 @@ impl StringsFun {
     {
         match self {
             StringsFun::NewString => "NewString",
+            StringsFun::NewStringUTF => "NewStringUTF",
             StringsFun::GetStringLength => "GetStringLength",
+            StringsFun::GetStringUTFLength => "GetStringUTFLength",
+            StringsFun::GetStringRegion => "GetStringRegion",
         }
     }
 }

@@ -1,8 +1,26 @@
-use Rattle.std.proofs.Common.{arith}
+use Rattle.std.proofs.Common.{arith, ap, sym, ◌∙◌}
 use Rattle.jg_rules.specs.Parts.{Parts}
+use Rattle.jg_rules.specs.declared.answer.Answer.{Answer}
+use Rattle.jg_rules.specs.Effects.{is_effective}
 use Rattle.jg_policy.specs.Stated.{StatedSetup}
-use Rattle.jg_guard.proofs.Due.{can_settle, after_done, own_proper, stand_done, stand_at}
+use Rattle.jg_guard.proofs.Due.{counts, can_settle, after_done, own_proper, stand_done, stand_at}
 use Rattle.jg_guard.proofs.perform.do_and_settle.Goals as goal
+
+pub do_call-requires : goal.do_call-requires
+do_call-requires g c =
+    let due = c.requires.answered.due in
+    let stand = c.in_ok-make_room.ensures.still c.args.setup.now due.events due.stand in
+    record {
+      due = record {
+        events = due.events;
+        env = due.env;
+        ordinary = due.ordinary;
+        stand = stand;
+        unbroken = due.unbroken;
+        counts = counts due.events _ c.args.tid.0 due.ordinary stand.threads;
+      };
+      effective = ap (λ (a : Answer). is_effective a.reply.value) (sym c.requires.answered.answered) ∙ c.requires.effective;
+    }
 
 pub settle-requires : goal.settle-requires
 settle-requires g c =

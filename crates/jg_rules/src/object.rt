@@ -1,0 +1,76 @@
+//! What the store holds of an object, by the definitions: an object that was never made counts as a
+//! class object.
+
+ghost use Rattle.std.specs.Prelude.{◌≡◌, ◌<◌, ◌^◌, length};
+ghost use Rattle.jg_heap.specs.Making.{IsArrayClass, IsPrimitiveArray};
+ghost use Rattle.jg_heap.specs.Rows.{count_in, class_at, length_at};
+ghost use Rattle.jg_rules.specs.Parts.{Parts};
+ghost use Rattle.jg_rules.specs.Names as names_of;
+ghost use Rattle.jg_rules.specs.View.{ViewStands};
+
+use crate::view::View;
+use jg_heap::Slot;
+use jg_words::ObjId;
+use std::alloc::Allocator;
+
+const CLASS_CLASS: u32 = 1;
+
+/// The number of its class.
+pub fn class_of<A: Allocator + Clone>(view: &View<'_, A>, object: ObjId) -> u32
+    ensures { (p : Parts) → ViewStands view.now p → result ≡ names_of.class_of view.now.setup.now p object.0 }
+{
+    if object.0 < view.heap.len() {
+        view.heap.class_of(object)
+    } else {
+        CLASS_CLASS
+    }
+}
+
+/// How many UTF-16 units a string has, items an array, fields any other object.
+pub fn length_of<A: Allocator + Clone>(view: &View<'_, A>, object: ObjId) -> usize
+    ensures told { (p : Parts) → ViewStands view.now p
+        → result ≡ names_of.length_of view.now.setup.now p object.0 }
+    ensures fits { result < 2 ^ 63 }
+{
+    if object.0 < view.heap.len() {
+        view.heap.array_len(object)
+    } else {
+        0
+    }
+}
+
+/// The UTF-16 units of a string; none of any other object.
+pub fn units_of<'a, A: Allocator + Clone>(view: &View<'a, A>, object: ObjId) -> &'a [u16]
+    ensures told { (p : Parts) → ViewStands view.now p
+        → result.now ≡ names_of.units_of view.now.setup.now p object.0 }
+    ensures fits { length result.now < 2 ^ 61 }
+{
+    if object.0 < view.heap.len() {
+        view.heap.string(object)
+    } else {
+        &[]
+    }
+}
+
+/// The items of an array of a primitive type.
+pub fn items_of<'a, A: Allocator + Clone>(view: &View<'a, A>, object: ObjId) -> &'a [i64]
+    requires made { object.0 < count_in view.now.heap.now }
+    requires array { IsPrimitiveArray (class_at view.now.heap.now object.0) }
+    ensures told { (p : Parts) → ViewStands view.now p
+        → result.now ≡ names_of.items_of view.now.setup.now p object.0 }
+    ensures len { (p : Parts) → ViewStands view.now p
+        → length result.now ≡ names_of.length_of view.now.setup.now p object.0 }
+{
+    view.heap.items(object)
+}
+
+/// What an item of an array holds. Items count from 0.
+pub fn slot_of<A: Allocator + Clone>(view: &View<'_, A>, object: ObjId, index: usize) -> Slot
+    requires made { object.0 < count_in view.now.heap.now }
+    requires array { IsArrayClass (class_at view.now.heap.now object.0) }
+    requires within { index < length_at view.now.heap.now object.0 }
+    ensures { (p : Parts) → ViewStands view.now p
+        → result ≡ names_of.slot_of view.now.setup.now p object.0 index }
+{
+    view.heap.element(object, index)
+}

@@ -1,0 +1,67 @@
+//! The operands of calls of this group: classes and objects.
+
+ghost use Rattle.std.specs.Prelude.{◌≡◌, ◌++◌, length, map, IfOk, IfErr, OnOk, string_bytes};
+ghost use Rattle.std.specs.List.{AllByRecursion};
+ghost use Rattle.std.specs.Option.{option_copied};
+ghost use Rattle.jg_words.specs.Call.{objects_fun};
+ghost use Rattle.jg_text.specs.Words.{text_of, FitsWord};
+ghost use Rattle.jg_text.specs.Operands.{objects_kinds, objects_operands};
+ghost use Rattle.jg_text.specs.Pieces.{rest_fields, after_spaces, IsOperandFault};
+
+use crate::fault::ScriptFault;
+use crate::operand::{read_one, read_two, write_one, write_two};
+use jg_words::{ObjectsCall, ObjectsFun};
+use std::alloc::{AllocError, Global};
+
+/// How many operands the function takes.
+pub fn arity(fun: ObjectsFun) -> usize
+    ensures { result ≡ length (objects_kinds fun) }
+{
+    match fun {
+        ObjectsFun::FindClass => 1,
+        ObjectsFun::GetObjectClass => 1,
+        ObjectsFun::IsInstanceOf => 2,
+        ObjectsFun::AllocObject => 1,
+    }
+}
+
+/// The call of the function whose operands the fields left spell.
+pub fn read(alloc: Global, fun: ObjectsFun, rest: Option<&[u8]>) -> Result<ObjectsCall, ScriptFault>
+    requires { length (rest_fields (option_copied rest)) ≡ length (objects_kinds fun) }
+    ensures fits { IfOk result (λ c. AllByRecursion FitsWord (objects_operands c)) }
+    ensures fun { IfOk result (λ c. objects_fun c ≡ fun) }
+    ensures texts { IfOk result (λ c. map text_of (objects_operands c) ≡ rest_fields (option_copied rest.entry)) }
+    ensures fault { IfErr result (IsOperandFault (objects_kinds fun) (rest_fields (option_copied rest.entry))) }
+{
+    match fun {
+        ObjectsFun::FindClass => {
+            let name = read_one(alloc, rest)?;
+            Ok(ObjectsCall::FindClass { name })
+        }
+        ObjectsFun::GetObjectClass => {
+            let object = read_one(alloc, rest)?;
+            Ok(ObjectsCall::GetObjectClass { object })
+        }
+        ObjectsFun::IsInstanceOf => {
+            let (object, class) = read_two(alloc, rest)?;
+            Ok(ObjectsCall::IsInstanceOf { object, class })
+        }
+        ObjectsFun::AllocObject => {
+            let class = read_one(alloc, rest)?;
+            Ok(ObjectsCall::AllocObject { class })
+        }
+    }
+}
+
+/// Writes the call's operands, each after a space.
+pub fn write(out: &mut String, call: &ObjectsCall) -> Result<(), AllocError>
+    ensures { OnOk result (string_bytes out.new ≡ string_bytes out.old
+        ++ after_spaces (map text_of (objects_operands call.now))) }
+{
+    match call {
+        ObjectsCall::FindClass { name } => write_one(out, name),
+        ObjectsCall::GetObjectClass { object } => write_one(out, object),
+        ObjectsCall::IsInstanceOf { object, class } => write_two(out, object, class),
+        ObjectsCall::AllocObject { class } => write_one(out, class),
+    }
+}
