@@ -45,7 +45,7 @@ LeftMeans = (n o : ℕ) (since before : List Act) → AllAllowed (Leave ∷ (sin
 abbrev pub PoppedMeans : Type 0
 PoppedMeans = (n o : ℕ) (since before : List Act) → AllAllowed (Pop ∷ (since ++ Make n o ∷ before)) → IsNotEnded n since
     → IsEndedBy n Pop since ↔ (frames (depth before) (Pop ∷ (since ++ Make n o ∷ before))
-        < frames (depth before) before)
+    < frames (depth before) before)
 
 -- the moment is of that kind and at that depth
 abbrev pub is_at_depth : (Act → Bool) → ℕ → Moment Act → Bool
