@@ -1,6 +1,6 @@
 -- What the look-ups answer where the rows stand.
 use Rattle.std.proofs.Common.{◌≡◌, ℕ, ◌<◌, Bool, true, false, List, [], ◌∷◌, Option, Some, None, refl, sym, subst, arith}
-use Rattle.std.specs.Prelude.{if◌then◌else◌, filter, find, All, IsNone, IsTrue, ◌↔◌}
+use Rattle.std.specs.Prelude.{if◌then◌else◌, filter, find, All, IsTrue, ◌↔◌}
 use Rattle.std.specs.List.{AllByRecursion}
 use Rattle.std.specs.Option.{is_some, option_map}
 use Rattle.std.proofs.lemmas.Bool.Decides.{nat_tests}

@@ -1,11 +1,9 @@
 -- What the frames open at a depth are.
-use Rattle.std.proofs.Common.{◌≡◌, ℕ, ◌+◌, Bool, true, false, List, [], ◌∷◌, ◌++◌, refl, ap, arith}
-use Rattle.std.specs.Prelude.{◌==◌, ◌||◌, ◌&&◌, if◌then◌else◌}
+use Rattle.std.proofs.Common.{◌≡◌, ℕ, Bool, true, false, List, [], ◌∷◌, ◌++◌, refl, arith}
 use Rattle.std.specs.List.{list_any}
-use Rattle.std.proofs.lemmas.Bool.Decides.{nat_tests}
 use Rattle.jg_lists.specs.Acts.{moments}
 use Rattle.jg_lists.proofs.Lists.{none_either}
-use Rattle.jg_locals.specs.History.{Act, how_many, depth, begins, done_at, frames, is_push, is_pop}
+use Rattle.jg_locals.specs.History.{Act, how_many, begins, done_at, is_push, is_pop}
 use Rattle.jg_locals.specs.Laws.{is_at_depth, begins_at, OpenFramesMean}
 use Rattle.jg_locals.proofs.Looking.{pops_at_most_pushes}
 

@@ -2,7 +2,7 @@
 -- session ends with a release of all that it owns, and begins with none.
 use Rattle.jg_lists.specs.Acts as acts
 pub use Rattle.jg_lists.specs.Acts.{by, acts_of, how_many}
-use Rattle.std.specs.Prelude.{ℕ, ◌+◌, ◌-◌, Bool, true, false, ◌==◌, nat_lt, if◌then◌else◌, List, [], ◌∷◌, map, Option, Some, None}
+use Rattle.std.specs.Prelude.{ℕ, ◌-◌, Bool, true, false, ◌==◌, nat_lt, if◌then◌else◌, List, [], ◌∷◌, map, Option, Some, None}
 use Rattle.std.specs.List.{find}
 use Rattle.jg_monitors.specs.declared.entering.Entering.{Entering}
 use Rattle.jg_monitors.specs.declared.entering.Entering.TheVariants.{Entered, Busy}

@@ -8,7 +8,7 @@ use Rattle.std.specs.Ordering.{nat_cmp}
 use Rattle.std.specs.List.Sorted.{IsStrictlySortedBy}
 use Rattle.std.proofs.lemmas.Bool.Decides.{nat_tests}
 use Rattle.jg_lists.proofs.Acts.{each_acted, one_if, counted_law}
-use Rattle.jg_threads.specs.History.{Act, Attach, Detach, Enter, Leave, Raise, Calm, CountRef, CountBuffer, Event, by, acts_of, how_many, is_enter, is_leave, since, attached, was_attached, sessions, depth, refs, buffers}
+use Rattle.jg_threads.specs.History.{Act, Attach, Detach, Enter, Leave, Raise, Calm, CountRef, CountBuffer, Event, by, acts_of, how_many, is_enter, is_leave, since, attached, was_attached, sessions, depth}
 use Rattle.jg_threads.specs.Rows.{Row, no_row, row_or_none, row_of}
 use Rattle.jg_threads.specs.Standing.{IsAllowed, AllAllowed, row_by, rows_wanted, Stands}
 
