@@ -18,7 +18,8 @@ WarnedMeans = (e : List Event) (home : ℕ) → IsTrue (warned e home) ↔ Conta
 
 -- classes, and nothing else, have modules
 abbrev pub OnlyClassesHaveModules : Type 0
-OnlyClassesHaveModules = (setup : StatedSetup) (class : ℕ) → IsSome (module_of setup class) ↔ (class < class_count setup)
+OnlyClassesHaveModules =
+    (setup : StatedSetup) (class : ℕ) → IsSome (module_of setup class) ↔ (class < class_count setup)
 
 -- equal module numbers exactly where the names of the modules are equal
 abbrev pub ModuleNumbersTellNames : Type 0

@@ -6,8 +6,21 @@ use std::test::Fail;
 
 const DENY: &str = "version = 1\nillegal_native_access = \"deny\"\n";
 
-const CLASSES: &str =
-    "enable_native_access = [\"app\"]\n[[class]]\nname = \"app/Main\"\nmodule = \"app\"\nfields = [{ name = \"count\", type = \"I\" }, { name = \"next\", type = \"Lapp/Main;\" }]\nnatives = [{ name = \"run\", type = \"()V\" }]\n[[class]]\nname = \"lib/Tool\"\nmodule = \"lib\"\nnatives = [{ name = \"go\", type = \"()V\" }]\n[[class]]\nname = \"app/Fault\"\nmodule = \"app\"\nthrowable = true\n";
+const CLASSES: &str = "enable_native_access = [\"app\"]
+[[class]]
+name = \"app/Main\"
+module = \"app\"
+fields = [{ name = \"count\", type = \"I\" }, { name = \"next\", type = \"Lapp/Main;\" }]
+natives = [{ name = \"run\", type = \"()V\" }]
+[[class]]
+name = \"lib/Tool\"
+module = \"lib\"
+natives = [{ name = \"go\", type = \"()V\" }]
+[[class]]
+name = \"app/Fault\"
+module = \"app\"
+throwable = true
+";
 
 fn fault(alloc: Global, text: &str) -> Option<SetupFault> {
     Setup::read(alloc, text).err()

@@ -124,7 +124,8 @@ impl Setup {
         }
     }
 
-    /// What is done with a use of native code by the class: it goes by the class's module alone.
+    /// What is done with a use of native code by the class (JEP 472): it goes by the class's module
+    /// alone. The class is one of the setup's, so below [`Setup::class_count`].
     pub fn access(&self, class: u32, operation: Operation) -> Access
         requires { class < class_count self.now }
         ensures { result ≡ access_of self.now class operation }
