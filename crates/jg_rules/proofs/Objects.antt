@@ -36,7 +36,8 @@ class_past s rows p o stand past =
     let told = rows_law rows.heap p.heap stand.heap in
     ap class_in (making_at-past s rows p o (count_in rows.heap) stand told.count past)
 
-same_class_if : (b : Bool) (s : StatedSetup) (rows : TableRows) (p q : Parts) (o : ℕ) → nat_lt o (count_in rows.heap) ≡ b → TablesStand s rows p → TablesStand s rows q → class_of s p o ≡ class_of s q o
+same_class_if : (b : Bool) (s : StatedSetup) (rows : TableRows) (p q : Parts) (o : ℕ) → nat_lt o (count_in rows.heap) ≡ b → TablesStand s rows p → TablesStand s rows q
+    → class_of s p o ≡ class_of s q o
 same_class_if true s rows p q o is one other = let made : o < count_in rows.heap = grind (arith, nat_tests, is) in class_here s rows p o one made ∙ sym (class_here s rows q o other made)
 same_class_if false s rows p q o is one other = let past : count_in rows.heap ≤ o = grind (arith, nat_tests, is) in class_past s rows p o one past ∙ sym (class_past s rows q o other past)
 

@@ -99,8 +99,8 @@ operands (Arrays call) = arrays_operands call
 abbrev pub is_plain : StatedSetup → ℕ → Bool
 is_plain s o = (o == 0) || (nat_le 10 o && nat_lt o (class_count s))
 
--- the object is of the type: 1 is java/lang/Class, 2 java/lang/String, 3 the class of all arrays of references, and 4 to 9
--- are those of arrays of the primitive types
+-- the object is of the type: 1 is java/lang/Class, 2 java/lang/String, 3 the class of all arrays of references, and 4
+-- to 9 are those of arrays of the primitive types
 abbrev pub is_of : StatedSetup → Parts → ObjectType → ℕ → Bool
 is_of s p AnyObject o = true
 is_of s p ClassObject o = class_of s p o == 1

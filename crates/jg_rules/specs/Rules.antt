@@ -126,8 +126,8 @@ is_wrong s p type (Object o) = not (is_of s p type o.0)
 abbrev pub wrong_type : StatedSetup → Parts → ℕ → Call → Bool
 wrong_type s p t call = list_any (λ x. is_wrong s p x.object_type (names p t x.reference)) (operands call)
 
--- 10: a field ID that isn't the object's (JNI Specification, chapter 4, "Accessing Fields of Objects"). No function takes
--- one yet
+-- 10: a field ID that isn't the object's (JNI Specification, chapter 4, "Accessing Fields of Objects"). No function
+-- takes one yet
 abbrev pub bad_field : Call → Bool
 bad_field (Vm call) = false
 bad_field (Refs call) = false
@@ -175,9 +175,9 @@ arrays_bad_argument (NewObjectArray n class fill) = not (is_size n)
 arrays_bad_argument (GetObjectArrayElement r index) = false
 arrays_bad_argument (SetObjectArrayElement r index value) = false
 
--- 12: a capacity below 0 or above 65,535; an array's length below 0 or above 1,000,000; a region of more than 1,000 items;
--- a unit or an item that isn't of its type; bytes that are no modified UTF-8 (JNI Specification, chapter 4, PushLocalFrame,
--- "String Operations", "Array Operations"; chapter 3, "Modified UTF-8 Strings")
+-- 12: a capacity below 0 or above 65,535; an array's length below 0 or above 1,000,000; a region of more than 1,000
+-- items; a unit or an item that isn't of its type; bytes that are no modified UTF-8 (JNI Specification, chapter 4,
+-- PushLocalFrame, "String Operations", "Array Operations"; chapter 3, "Modified UTF-8 Strings")
 abbrev pub bad_argument : StatedSetup → Call → Bool
 bad_argument s (Vm call) = false
 bad_argument s (Refs call) = false
@@ -197,8 +197,8 @@ pinned (Objects call) = false
 pinned (Strings call) = false
 pinned (Arrays call) = false
 
--- 14: a monitor exited that isn't the caller's (JNI Specification, chapter 4, "Monitor Operations"). No function exits one
--- yet
+-- 14: a monitor exited that isn't the caller's (JNI Specification, chapter 4, "Monitor Operations"). No function exits
+-- one yet
 abbrev pub not_owner : Call → Bool
 not_owner (Vm call) = false
 not_owner (Refs call) = false
@@ -232,8 +232,8 @@ bad_frame p t (Arrays call) = false
 abbrev pub no_access : StatedSetup → Parts → ℕ → Call → Bool
 no_access s p t call = refuses s (native_class s p t call)
 
--- 17: a native method that isn't linked (JNI Specification, chapter 4, "Registering Native Methods"). No function enters
--- one yet
+-- 17: a native method that isn't linked (JNI Specification, chapter 4, "Registering Native Methods"). No function
+-- enters one yet
 abbrev pub not_linked : Call → Bool
 not_linked (Vm call) = false
 not_linked (Refs call) = false
@@ -270,7 +270,8 @@ own_rules = BadField ∷ BadBuffer ∷ BadArgument ∷ Pinned ∷ NotOwner ∷ B
 -- the rules in their order
 abbrev pub rules_in_order : List Rule
 rules_in_order =
-    WrongThread ∷ Detached ∷ InCritical ∷ Pending ∷ ForeignLocal ∷ DeadReference ∷ WrongRefKind ∷ NullReference ∷ WrongType
+    WrongThread ∷ Detached ∷ InCritical ∷ Pending ∷ ForeignLocal ∷ DeadReference ∷ WrongRefKind ∷ NullReference
+        ∷ WrongType
     ∷ own_rules
 
 -- the first rule that the call breaks
