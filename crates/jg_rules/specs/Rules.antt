@@ -271,7 +271,7 @@ own_rules = BadField ∷ BadBuffer ∷ BadArgument ∷ Pinned ∷ NotOwner ∷ B
 abbrev pub rules_in_order : List Rule
 rules_in_order =
     WrongThread ∷ Detached ∷ InCritical ∷ Pending ∷ ForeignLocal ∷ DeadReference ∷ WrongRefKind ∷ NullReference
-        ∷ WrongType
+    ∷ WrongType
     ∷ own_rules
 
 -- the first rule that the call breaks
