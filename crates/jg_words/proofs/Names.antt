@@ -4,7 +4,7 @@ use Rattle.jg_words.specs.declared.object.Primitive.TheVariants.{Boolean, Byte, 
 use Rattle.jg_words.specs.declared.fun.Fun.{Fun}
 use Rattle.jg_words.specs.declared.fun.Fun.TheVariants.{Vm, Refs, Frames, Exceptions, Objects, Strings, Arrays}
 use Rattle.jg_words.specs.declared.fun.vm.VmFun.{VmFun}
-use Rattle.jg_words.specs.declared.fun.vm.VmFun.TheVariants.{AttachCurrentThread, DetachCurrentThread, GetEnv}
+use Rattle.jg_words.specs.declared.fun.vm.VmFun.TheVariants.{AttachCurrentThread, DetachCurrentThread, GetEnv, NativeEnter, NativeLeave, LoadLibrary, RegisterNatives, UnregisterNatives}
 use Rattle.jg_words.specs.declared.fun.refs.RefsFun.{RefsFun}
 use Rattle.jg_words.specs.declared.fun.refs.RefsFun.TheVariants.{NewLocalRef, DeleteLocalRef, IsSameObject, GetObjectRefType}
 use Rattle.jg_words.specs.declared.fun.frames.FramesFun.{FramesFun}
@@ -12,7 +12,7 @@ use Rattle.jg_words.specs.declared.fun.frames.FramesFun.TheVariants.{PushLocalFr
 use Rattle.jg_words.specs.declared.fun.exceptions.ExceptionsFun.{ExceptionsFun}
 use Rattle.jg_words.specs.declared.fun.exceptions.ExceptionsFun.TheVariants.{Throw, ExceptionOccurred, ExceptionDescribe, ExceptionClear, ExceptionCheck}
 use Rattle.jg_words.specs.declared.fun.objects.ObjectsFun.{ObjectsFun}
-use Rattle.jg_words.specs.declared.fun.objects.ObjectsFun.TheVariants.{FindClass, GetObjectClass, IsInstanceOf, AllocObject}
+use Rattle.jg_words.specs.declared.fun.objects.ObjectsFun.TheVariants.{FindClass, GetObjectClass, IsInstanceOf, AllocObject, GetFieldID, GetField, GetObjectField, SetField, SetObjectField}
 use Rattle.jg_words.specs.declared.fun.strings.StringsFun.{StringsFun}
 use Rattle.jg_words.specs.declared.fun.strings.StringsFun.TheVariants.{NewString, NewStringUTF, GetStringLength, GetStringUTFLength, GetStringRegion}
 use Rattle.jg_words.specs.declared.fun.arrays.ArraysFun.{ArraysFun}
@@ -23,6 +23,11 @@ pub named-name_of : (fun : Fun) → named (name_of fun) ≡ Some fun
 named-name_of (Vm AttachCurrentThread) = refl
 named-name_of (Vm DetachCurrentThread) = refl
 named-name_of (Vm GetEnv) = refl
+named-name_of (Vm NativeEnter) = refl
+named-name_of (Vm NativeLeave) = refl
+named-name_of (Vm LoadLibrary) = refl
+named-name_of (Vm RegisterNatives) = refl
+named-name_of (Vm UnregisterNatives) = refl
 named-name_of (Refs NewLocalRef) = refl
 named-name_of (Refs DeleteLocalRef) = refl
 named-name_of (Refs IsSameObject) = refl
@@ -38,6 +43,21 @@ named-name_of (Objects FindClass) = refl
 named-name_of (Objects GetObjectClass) = refl
 named-name_of (Objects IsInstanceOf) = refl
 named-name_of (Objects AllocObject) = refl
+named-name_of (Objects GetFieldID) = refl
+named-name_of (Objects (GetField Boolean)) = refl
+named-name_of (Objects (GetField Byte)) = refl
+named-name_of (Objects (GetField Char)) = refl
+named-name_of (Objects (GetField Short)) = refl
+named-name_of (Objects (GetField Int)) = refl
+named-name_of (Objects (GetField Long)) = refl
+named-name_of (Objects GetObjectField) = refl
+named-name_of (Objects (SetField Boolean)) = refl
+named-name_of (Objects (SetField Byte)) = refl
+named-name_of (Objects (SetField Char)) = refl
+named-name_of (Objects (SetField Short)) = refl
+named-name_of (Objects (SetField Int)) = refl
+named-name_of (Objects (SetField Long)) = refl
+named-name_of (Objects SetObjectField) = refl
 named-name_of (Strings NewString) = refl
 named-name_of (Strings NewStringUTF) = refl
 named-name_of (Strings GetStringLength) = refl

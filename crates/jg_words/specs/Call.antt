@@ -18,7 +18,7 @@ use Rattle.jg_words.specs.declared.fun.arrays.ArraysFun.TheVariants as arrays
 use Rattle.jg_words.specs.declared.call.Call.{Call}
 use Rattle.jg_words.specs.declared.call.Call.TheVariants.{Vm, Refs, Frames, Exceptions, Objects, Strings, Arrays}
 use Rattle.jg_words.specs.declared.call.vm.VmCall.{VmCall}
-use Rattle.jg_words.specs.declared.call.vm.VmCall.TheVariants.{AttachCurrentThread, DetachCurrentThread, GetEnv}
+use Rattle.jg_words.specs.declared.call.vm.VmCall.TheVariants.{AttachCurrentThread, DetachCurrentThread, GetEnv, NativeEnter, NativeLeave, LoadLibrary, RegisterNatives, UnregisterNatives}
 use Rattle.jg_words.specs.declared.call.refs.RefsCall.{RefsCall}
 use Rattle.jg_words.specs.declared.call.refs.RefsCall.TheVariants.{NewLocalRef, DeleteLocalRef, IsSameObject, GetObjectRefType}
 use Rattle.jg_words.specs.declared.call.frames.FramesCall.{FramesCall}
@@ -26,7 +26,7 @@ use Rattle.jg_words.specs.declared.call.frames.FramesCall.TheVariants.{PushLocal
 use Rattle.jg_words.specs.declared.call.exceptions.ExceptionsCall.{ExceptionsCall}
 use Rattle.jg_words.specs.declared.call.exceptions.ExceptionsCall.TheVariants.{Throw, ExceptionOccurred, ExceptionDescribe, ExceptionClear, ExceptionCheck}
 use Rattle.jg_words.specs.declared.call.objects.ObjectsCall.{ObjectsCall}
-use Rattle.jg_words.specs.declared.call.objects.ObjectsCall.TheVariants.{FindClass, GetObjectClass, IsInstanceOf, AllocObject}
+use Rattle.jg_words.specs.declared.call.objects.ObjectsCall.TheVariants.{FindClass, GetObjectClass, IsInstanceOf, AllocObject, GetFieldID, GetField, GetObjectField, SetField, SetObjectField}
 use Rattle.jg_words.specs.declared.call.strings.StringsCall.{StringsCall}
 use Rattle.jg_words.specs.declared.call.strings.StringsCall.TheVariants.{NewString, NewStringUTF, GetStringLength, GetStringUTFLength, GetStringRegion}
 use Rattle.jg_words.specs.declared.call.arrays.ArraysCall.{ArraysCall}
@@ -36,6 +36,11 @@ abbrev pub vm_fun : VmCall → VmFun
 vm_fun AttachCurrentThread = vm.AttachCurrentThread
 vm_fun DetachCurrentThread = vm.DetachCurrentThread
 vm_fun GetEnv = vm.GetEnv
+vm_fun (NativeEnter class method signature) = vm.NativeEnter
+vm_fun (NativeLeave kept) = vm.NativeLeave
+vm_fun (LoadLibrary class library) = vm.LoadLibrary
+vm_fun (RegisterNatives class method signature) = vm.RegisterNatives
+vm_fun (UnregisterNatives class) = vm.UnregisterNatives
 
 abbrev pub refs_fun : RefsCall → RefsFun
 refs_fun (NewLocalRef of) = refs.NewLocalRef
@@ -59,6 +64,11 @@ objects_fun (FindClass name) = objects.FindClass
 objects_fun (GetObjectClass object) = objects.GetObjectClass
 objects_fun (IsInstanceOf object class) = objects.IsInstanceOf
 objects_fun (AllocObject class) = objects.AllocObject
+objects_fun (GetFieldID class field signature) = objects.GetFieldID
+objects_fun (GetField primitive object field) = objects.GetField primitive
+objects_fun (GetObjectField object field) = objects.GetObjectField
+objects_fun (SetField primitive object field value) = objects.SetField primitive
+objects_fun (SetObjectField object field value) = objects.SetObjectField
 
 abbrev pub strings_fun : StringsCall → StringsFun
 strings_fun (NewString units) = strings.NewString

@@ -5,7 +5,7 @@ use Rattle.jg_words.specs.declared.object.Primitive.TheVariants.{Boolean, Byte, 
 use Rattle.jg_words.specs.declared.fun.Fun.{Fun}
 use Rattle.jg_words.specs.declared.fun.Fun.TheVariants.{Vm, Refs, Frames, Exceptions, Objects, Strings, Arrays}
 use Rattle.jg_words.specs.declared.fun.vm.VmFun.{VmFun}
-use Rattle.jg_words.specs.declared.fun.vm.VmFun.TheVariants.{AttachCurrentThread, DetachCurrentThread, GetEnv}
+use Rattle.jg_words.specs.declared.fun.vm.VmFun.TheVariants.{AttachCurrentThread, DetachCurrentThread, GetEnv, NativeEnter, NativeLeave, LoadLibrary, RegisterNatives, UnregisterNatives}
 use Rattle.jg_words.specs.declared.fun.refs.RefsFun.{RefsFun}
 use Rattle.jg_words.specs.declared.fun.refs.RefsFun.TheVariants.{NewLocalRef, DeleteLocalRef, IsSameObject, GetObjectRefType}
 use Rattle.jg_words.specs.declared.fun.frames.FramesFun.{FramesFun}
@@ -13,7 +13,7 @@ use Rattle.jg_words.specs.declared.fun.frames.FramesFun.TheVariants.{PushLocalFr
 use Rattle.jg_words.specs.declared.fun.exceptions.ExceptionsFun.{ExceptionsFun}
 use Rattle.jg_words.specs.declared.fun.exceptions.ExceptionsFun.TheVariants.{Throw, ExceptionOccurred, ExceptionDescribe, ExceptionClear, ExceptionCheck}
 use Rattle.jg_words.specs.declared.fun.objects.ObjectsFun.{ObjectsFun}
-use Rattle.jg_words.specs.declared.fun.objects.ObjectsFun.TheVariants.{FindClass, GetObjectClass, IsInstanceOf, AllocObject}
+use Rattle.jg_words.specs.declared.fun.objects.ObjectsFun.TheVariants.{FindClass, GetObjectClass, IsInstanceOf, AllocObject, GetFieldID, GetField, GetObjectField, SetField, SetObjectField}
 use Rattle.jg_words.specs.declared.fun.strings.StringsFun.{StringsFun}
 use Rattle.jg_words.specs.declared.fun.strings.StringsFun.TheVariants.{NewString, NewStringUTF, GetStringLength, GetStringUTFLength, GetStringRegion}
 use Rattle.jg_words.specs.declared.fun.arrays.ArraysFun.{ArraysFun}
@@ -23,6 +23,11 @@ abbrev pub vm_name : VmFun → List ℕ
 vm_name AttachCurrentThread = codes "AttachCurrentThread"
 vm_name DetachCurrentThread = codes "DetachCurrentThread"
 vm_name GetEnv = codes "GetEnv"
+vm_name NativeEnter = codes "NativeEnter"
+vm_name NativeLeave = codes "NativeLeave"
+vm_name LoadLibrary = codes "LoadLibrary"
+vm_name RegisterNatives = codes "RegisterNatives"
+vm_name UnregisterNatives = codes "UnregisterNatives"
 
 abbrev pub refs_name : RefsFun → List ℕ
 refs_name NewLocalRef = codes "NewLocalRef"
@@ -46,6 +51,21 @@ objects_name FindClass = codes "FindClass"
 objects_name GetObjectClass = codes "GetObjectClass"
 objects_name IsInstanceOf = codes "IsInstanceOf"
 objects_name AllocObject = codes "AllocObject"
+objects_name GetFieldID = codes "GetFieldID"
+objects_name (GetField Boolean) = codes "GetBooleanField"
+objects_name (GetField Byte) = codes "GetByteField"
+objects_name (GetField Char) = codes "GetCharField"
+objects_name (GetField Short) = codes "GetShortField"
+objects_name (GetField Int) = codes "GetIntField"
+objects_name (GetField Long) = codes "GetLongField"
+objects_name GetObjectField = codes "GetObjectField"
+objects_name (SetField Boolean) = codes "SetBooleanField"
+objects_name (SetField Byte) = codes "SetByteField"
+objects_name (SetField Char) = codes "SetCharField"
+objects_name (SetField Short) = codes "SetShortField"
+objects_name (SetField Int) = codes "SetIntField"
+objects_name (SetField Long) = codes "SetLongField"
+objects_name SetObjectField = codes "SetObjectField"
 
 abbrev pub strings_name : StringsFun → List ℕ
 strings_name NewString = codes "NewString"
@@ -87,11 +107,16 @@ name_of (Objects fun) = objects_name fun
 name_of (Strings fun) = strings_name fun
 name_of (Arrays fun) = arrays_name fun
 
--- these are no functions of a JNIEnv (JNI Specification, chapter 5, "Invocation API Functions")
+-- the first three are no functions of a JNIEnv (JNI Specification, chapter 5, "Invocation API Functions")
 abbrev pub vm_needs_env : VmFun → Bool
 vm_needs_env AttachCurrentThread = false
 vm_needs_env DetachCurrentThread = false
 vm_needs_env GetEnv = false
+vm_needs_env NativeEnter = true
+vm_needs_env NativeLeave = true
+vm_needs_env LoadLibrary = true
+vm_needs_env RegisterNatives = true
+vm_needs_env UnregisterNatives = true
 
 -- the function takes an environment
 abbrev pub needs_env : Fun → Bool
@@ -105,12 +130,17 @@ needs_env (Arrays fun) = true
 
 abbrev pub all : List Fun
 all =
-    Vm AttachCurrentThread ∷ Vm DetachCurrentThread ∷ Vm GetEnv
+    Vm AttachCurrentThread ∷ Vm DetachCurrentThread ∷ Vm GetEnv ∷ Vm NativeEnter ∷ Vm NativeLeave
+    ∷ Vm LoadLibrary ∷ Vm RegisterNatives ∷ Vm UnregisterNatives
     ∷ Refs NewLocalRef ∷ Refs DeleteLocalRef ∷ Refs IsSameObject ∷ Refs GetObjectRefType
     ∷ Frames PushLocalFrame ∷ Frames PopLocalFrame
     ∷ Exceptions Throw ∷ Exceptions ExceptionOccurred ∷ Exceptions ExceptionDescribe
     ∷ Exceptions ExceptionClear ∷ Exceptions ExceptionCheck
     ∷ Objects FindClass ∷ Objects GetObjectClass ∷ Objects IsInstanceOf ∷ Objects AllocObject
+    ∷ Objects GetFieldID ∷ Objects (GetField Boolean) ∷ Objects (GetField Byte) ∷ Objects (GetField Char)
+    ∷ Objects (GetField Short) ∷ Objects (GetField Int) ∷ Objects (GetField Long) ∷ Objects GetObjectField
+    ∷ Objects (SetField Boolean) ∷ Objects (SetField Byte) ∷ Objects (SetField Char) ∷ Objects (SetField Short)
+    ∷ Objects (SetField Int) ∷ Objects (SetField Long) ∷ Objects SetObjectField
     ∷ Strings NewString ∷ Strings NewStringUTF ∷ Strings GetStringLength ∷ Strings GetStringUTFLength
     ∷ Strings GetStringRegion
     ∷ Arrays (NewArray Boolean) ∷ Arrays (NewArray Byte) ∷ Arrays (NewArray Char) ∷ Arrays (NewArray Short)

@@ -55,7 +55,7 @@ impl Call {
         ensures { IfOk result (λ copy. copy ≡ self.now) }
     {
         match self {
-            Call::Vm(call) => Ok(Call::Vm(call.copy())),
+            Call::Vm(call) => Ok(Call::Vm(call.try_copy()?)),
             Call::Refs(call) => Ok(Call::Refs(call.copy())),
             Call::Frames(call) => Ok(Call::Frames(call.copy())),
             Call::Exceptions(call) => Ok(Call::Exceptions(call.copy())),

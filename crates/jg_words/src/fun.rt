@@ -35,10 +35,15 @@ pub enum Fun {
 
 impl Fun {
     /// All functions, by group.
-    pub const ALL: [Fun; 45] = [
+    pub const ALL: [Fun; 65] = [
         Fun::Vm(VmFun::AttachCurrentThread),
         Fun::Vm(VmFun::DetachCurrentThread),
         Fun::Vm(VmFun::GetEnv),
+        Fun::Vm(VmFun::NativeEnter),
+        Fun::Vm(VmFun::NativeLeave),
+        Fun::Vm(VmFun::LoadLibrary),
+        Fun::Vm(VmFun::RegisterNatives),
+        Fun::Vm(VmFun::UnregisterNatives),
         Fun::Refs(RefsFun::NewLocalRef),
         Fun::Refs(RefsFun::DeleteLocalRef),
         Fun::Refs(RefsFun::IsSameObject),
@@ -54,6 +59,21 @@ impl Fun {
         Fun::Objects(ObjectsFun::GetObjectClass),
         Fun::Objects(ObjectsFun::IsInstanceOf),
         Fun::Objects(ObjectsFun::AllocObject),
+        Fun::Objects(ObjectsFun::GetFieldID),
+        Fun::Objects(ObjectsFun::GetField(Primitive::Boolean)),
+        Fun::Objects(ObjectsFun::GetField(Primitive::Byte)),
+        Fun::Objects(ObjectsFun::GetField(Primitive::Char)),
+        Fun::Objects(ObjectsFun::GetField(Primitive::Short)),
+        Fun::Objects(ObjectsFun::GetField(Primitive::Int)),
+        Fun::Objects(ObjectsFun::GetField(Primitive::Long)),
+        Fun::Objects(ObjectsFun::GetObjectField),
+        Fun::Objects(ObjectsFun::SetField(Primitive::Boolean)),
+        Fun::Objects(ObjectsFun::SetField(Primitive::Byte)),
+        Fun::Objects(ObjectsFun::SetField(Primitive::Char)),
+        Fun::Objects(ObjectsFun::SetField(Primitive::Short)),
+        Fun::Objects(ObjectsFun::SetField(Primitive::Int)),
+        Fun::Objects(ObjectsFun::SetField(Primitive::Long)),
+        Fun::Objects(ObjectsFun::SetObjectField),
         Fun::Strings(StringsFun::NewString),
         Fun::Strings(StringsFun::NewStringUTF),
         Fun::Strings(StringsFun::GetStringLength),

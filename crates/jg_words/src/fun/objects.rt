@@ -1,13 +1,21 @@
 ghost use Rattle.std.specs.Prelude.{◌≡◌};
 ghost use Rattle.jg_words.specs.Fun.{objects_name};
 
-/// Classes and objects (JNI Specification, chapter 4, "Class Operations" and "Object Operations").
+use crate::object::Primitive;
+
+/// Classes and objects (JNI Specification, chapter 4, "Class Operations", "Object Operations",
+/// "Accessing Fields of Objects"). A family over the primitive types is one variant.
 #[derive(Clone, Copy, Debug, PartialEq, Eq)]
 pub enum ObjectsFun {
     FindClass,
     GetObjectClass,
     IsInstanceOf,
     AllocObject,
+    GetFieldID,
+    GetField(Primitive),
+    GetObjectField,
+    SetField(Primitive),
+    SetObjectField,
 }
 
 impl ObjectsFun {
@@ -20,6 +28,21 @@ impl ObjectsFun {
             ObjectsFun::GetObjectClass => "GetObjectClass",
             ObjectsFun::IsInstanceOf => "IsInstanceOf",
             ObjectsFun::AllocObject => "AllocObject",
+            ObjectsFun::GetFieldID => "GetFieldID",
+            ObjectsFun::GetField(Primitive::Boolean) => "GetBooleanField",
+            ObjectsFun::GetField(Primitive::Byte) => "GetByteField",
+            ObjectsFun::GetField(Primitive::Char) => "GetCharField",
+            ObjectsFun::GetField(Primitive::Short) => "GetShortField",
+            ObjectsFun::GetField(Primitive::Int) => "GetIntField",
+            ObjectsFun::GetField(Primitive::Long) => "GetLongField",
+            ObjectsFun::GetObjectField => "GetObjectField",
+            ObjectsFun::SetField(Primitive::Boolean) => "SetBooleanField",
+            ObjectsFun::SetField(Primitive::Byte) => "SetByteField",
+            ObjectsFun::SetField(Primitive::Char) => "SetCharField",
+            ObjectsFun::SetField(Primitive::Short) => "SetShortField",
+            ObjectsFun::SetField(Primitive::Int) => "SetIntField",
+            ObjectsFun::SetField(Primitive::Long) => "SetLongField",
+            ObjectsFun::SetObjectField => "SetObjectField",
         }
     }
 }

@@ -1,12 +1,18 @@
 ghost use Rattle.std.specs.Prelude.{◌≡◌};
 ghost use Rattle.jg_words.specs.Fun.{vm_name, vm_needs_env};
 
-/// Attachment and environments (JNI Specification, chapter 5).
+/// Attachment and environments (JNI Specification, chapter 5); native methods, and the libraries
+/// that have them (chapter 4, "Registering Native Methods"; JEP 472).
 #[derive(Clone, Copy, Debug, PartialEq, Eq)]
 pub enum VmFun {
     AttachCurrentThread,
     DetachCurrentThread,
     GetEnv,
+    NativeEnter,
+    NativeLeave,
+    LoadLibrary,
+    RegisterNatives,
+    UnregisterNatives,
 }
 
 impl VmFun {
@@ -18,6 +24,11 @@ impl VmFun {
             VmFun::AttachCurrentThread => "AttachCurrentThread",
             VmFun::DetachCurrentThread => "DetachCurrentThread",
             VmFun::GetEnv => "GetEnv",
+            VmFun::NativeEnter => "NativeEnter",
+            VmFun::NativeLeave => "NativeLeave",
+            VmFun::LoadLibrary => "LoadLibrary",
+            VmFun::RegisterNatives => "RegisterNatives",
+            VmFun::UnregisterNatives => "UnregisterNatives",
         }
     }
 
@@ -29,6 +40,11 @@ impl VmFun {
             VmFun::AttachCurrentThread => false,
             VmFun::DetachCurrentThread => false,
             VmFun::GetEnv => false,
+            VmFun::NativeEnter => true,
+            VmFun::NativeLeave => true,
+            VmFun::LoadLibrary => true,
+            VmFun::RegisterNatives => true,
+            VmFun::UnregisterNatives => true,
         }
     }
 }
