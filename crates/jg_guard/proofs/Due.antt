@@ -20,24 +20,24 @@ use Rattle.jg_threads.specs.declared.row.Row.{Row}
 use Rattle.jg_threads.specs.Rows.{row_of, CanCount}
 use Rattle.jg_threads.specs.Standing as thread_standing
 use Rattle.jg_locals.specs.History.{acts_of, has_session, depth, frames, IsMadeBelow}
-use Rattle.jg_locals.specs.Rows.{Rows, HasFrame, pushed, top, spare}
+use Rattle.jg_locals.specs.Rows.{Rows, HasFrame, pushed, entered, top, spare}
 use Rattle.jg_locals.specs.Standing as local_standing
-use Rattle.jg_locals.proofs.Callers.{has_frame_law, above_law, pushed_law, top_is}
+use Rattle.jg_locals.proofs.Callers.{has_frame_law, above_law, pushed_law, entered_law, top_is}
 use Rattle.jg_globals.proofs.Callers.{above_law as global_above_law}
 use Rattle.jg_rules.specs.Parts.{Parts, TableRows, TablesStand}
-use Rattle.jg_rules.specs.Names.{next_ref, open_frames}
+use Rattle.jg_rules.specs.Names.{next_ref, open_frames, depth as depth_of}
 use Rattle.jg_rules.specs.Effects.{done_by, done_if, is_effective, settled, passed_on, call_threads}
 use Rattle.jg_rules.specs.Access.{native_class, home_of}
 use Rattle.jg_rules.specs.Rules.{detached, is_session}
 use Rattle.jg_rules.specs.Unbroken.{Unbroken}
 use Rattle.jg_rules.specs.Answers.{answer}
 use Rattle.jg_rules.specs.declared.answer.Answer.{Answer}
-use Rattle.jg_laws.specs.Laws.{Agree}
+use Rattle.jg_laws.specs.Laws.{AgreeInNatives}
 use Rattle.jg_laws.specs.Proper.{IsProper, ProperAnswer}
 use Rattle.jg_laws.proofs.Proper.{proper}
-use Rattle.jg_laws.proofs.Acts.{attached_done, next_done}
+use Rattle.jg_laws.proofs.Acts.{attached_caller, attached_done, next_done}
 use Rattle.jg_laws.proofs.Steps.{each_done}
-use Rattle.jg_laws.proofs.Kept.{Agreed, agree_steps, below_steps, Below}
+use Rattle.jg_laws.proofs.Kept.{Agreed, agree_of, agree_steps, below_steps, Below}
 use Rattle.jg_laws.proofs.Sizes.{sessions-le, refs-le, buffers-le, depth-le, frames-le, call_threads-le}
 use Rattle.jg_guard.specs.declared.tables.Tables.{Tables}
 use Rattle.jg_guard.specs.Tables.{rows_of, IsOrdinary, IsDue, CanHandOut, CanMakeGlobal, CanLend, CanSettle, CanSettleGlobal, CanThrow, makes_local, makes_global}
@@ -59,16 +59,6 @@ counts_few p rows t few stands =
 
 pub counts : (p : Parts) (rows : List (ℕ × Row)) (t : ℕ) → IsOrdinary p → thread_standing.Stands rows p.threads → CanCount rows t
 counts p rows t o stands = counts_few p rows t (omega (arith, o.few_threads)) stands
-
-attached_if : (a b : Bool) (n m : ℕ) → not (b && is_session (cond a (Some n) None) m) ≡ false → a ≡ true
-attached_if true b n m h = refl
-attached_if false true n m h = absurd cc
-attached_if false false n m h = absurd cc
-
--- a call that takes an environment, and isn't detached, comes from an attached thread
-pub attached_caller : (p : Parts) (t : ℕ) (env : Option EnvId) (call : Call) → needs_env (fun_of call) ≡ true → detached p t env call ≡ false → threads.attached (threads.acts_of t p.threads) ≡ true
-attached_caller p t None call takes is = absurd (cc (takes, is))
-attached_caller p t (Some env) call takes is = attached_if (threads.attached (threads.acts_of t p.threads)) (env.tid.0 == t) _ env.session is
 
 -- an attached thread has a frame
 pub has_frame : (p : Parts) (rows : Rows) (t : ℕ) → IsOrdinary p → local_standing.Stands rows p.locals → threads.attached (threads.acts_of t p.threads) ≡ true → HasFrame t rows
@@ -92,6 +82,25 @@ can_start p rows t o stands is =
     let none : has_session (acts_of t p.locals) ≡ false = sym (o.agree t).session ∙ is in
     rw (top_is rows p.locals t stands, none) refl
 
+-- a native method may be entered
+pub can_enter : (p : Parts) (rows : Rows) (t : ℕ) → IsOrdinary p → local_standing.Stands rows p.locals → entered t rows < 18446744073709551615
+can_enter p rows t o stands =
+    let same = agree_of _ _ (o.agree t) in
+    omega (arith, entered_law rows p.locals t stands, same.depth, depth-le p.threads t, o.few_threads)
+
+-- a native method may be left, as both tables see it
+pub can_leave : (p : Parts) (rows : Rows) (t : ℕ) → IsOrdinary p → local_standing.Stands rows p.locals → (depth_of p t == 0) ≡ false → 0 < entered t rows
+can_leave p rows t o stands is =
+    let same = agree_of _ _ (o.agree t) in
+    let deep = some_frame (depth_of p t) is in
+    omega (arith, entered_law rows p.locals t stands, same.depth, deep)
+
+pub can_leave_native : (p : Parts) (rows : List (ℕ × Row)) (t : ℕ) → thread_standing.Stands rows p.threads → (depth_of p t == 0) ≡ false → 0 < (row_of rows t).depth
+can_leave_native p rows t stands is =
+    let row = ap (λ (r : Row). r.depth) (stands.threads t) in
+    let deep = some_frame (depth_of p t) is in
+    omega (arith, row, deep)
+
 -- ---- where the tables still stand
 
 pub due_still : (s : StatedSetup) (old new : TableRows) (t : ℕ) (call : Call) (due : IsDue s old t call) → TablesStand s new due.events → IsDue s new t call
@@ -99,6 +108,7 @@ due_still s old new t call due stand = record {
   events = due.events;
   env = due.env;
   ordinary = due.ordinary;
+  stated = due.stated;
   stand = stand;
   unbroken = due.unbroken;
   counts = counts due.events new.threads t due.ordinary stand.threads;
@@ -112,17 +122,16 @@ is_on p rows t stands is = ap (λ (r : Row). r.attached) (stands.threads t) ∙ 
 -- what is known after a call's own events
 pub record After (q : Parts) (t : ℕ) : Type 0 where
   pub few : length q.threads < 2 ^ 63
-  pub agree : Agree (threads.acts_of t q.threads) (acts_of t q.locals)
+  pub agree : AgreeInNatives (threads.acts_of t q.threads) (acts_of t q.locals)
   pub below : IsMadeBelow (next_ref q t) (acts_of t q.locals)
 
 pub after_done : (s : StatedSetup) (p : Parts) (t : ℕ) (env : Option EnvId) (call : Call) → Unbroken s p t env call → IsOrdinary p → After (done_by s t call p) t
 after_done s p t env call kept o =
-    let old : (u : ℕ) → Agreed (threads.acts_of u p.threads) (acts_of u p.locals) = λ u. (o.agree u, o.resting u) in
     let few : length (map (threads.by t) (call_threads s p t call) ++ p.threads) ≤ length p.threads + 1 = simp (length-append, length-map) (omega (arith, call_threads-le s p t call)) in
     record {
       few = omega (arith, few, o.few_threads);
-      agree = (each_done (λ q. (u : ℕ) → Agreed (threads.acts_of u q.threads) (acts_of u q.locals)) agree_steps s p t env call kept old t).0;
-      below = each_done Below below_steps s p t env call kept o.below t;
+      agree = each_done (λ q. (u : ℕ) → Agreed (threads.acts_of u q.threads) (acts_of u q.locals)) s (agree_steps s) p t env call kept o.agree t;
+      below = each_done Below s (below_steps s) p t env call kept o.below t;
     }
 
 -- an attached thread whose tables stand for a call's own events may be handed out its next local

@@ -2,3 +2,4 @@ pub mod Due
 pub mod Passing
 pub mod Arrays
 pub mod Fields
+pub mod Slots

@@ -10,7 +10,8 @@ use Rattle.jg_rules.specs.Effects.{parts}
 use Rattle.jg_rules.specs.Rules.{verdict}
 use Rattle.jg_rules.specs.Answers.{answer}
 use Rattle.jg_rules.specs.Legal.{Legal, entry_at, entry_by}
-use Rattle.jg_laws.proofs.Kept.{agree, agreed, below, globals_below}
+use Rattle.jg_laws.proofs.Kept.{agreed, below, globals_below}
+use Rattle.jg_laws.proofs.Natives.{all_stated}
 use Rattle.jg_laws.proofs.Sizes.{small}
 use Rattle.jg_words.specs.declared.rule.Rule.{Rule}
 use Rattle.jg_words.specs.declared.entry.Outcome.TheVariants.{Passed, Denied}
@@ -28,8 +29,7 @@ pub ordinary : (state : State) (rows : TableRows) → IsSound state rows → IsO
 ordinary state rows s =
     let sizes = small state.setup state.journal in
     record {
-      agree = λ t. agree state.setup state.journal t s.legal;
-      resting = λ t. (agreed state.setup state.journal s.legal t).1;
+      agree = agreed state.setup state.journal s.legal;
       below = below state.setup state.journal s.legal;
       globals_below = globals_below state.setup state.journal s.legal;
       few_threads = omega (arith, sizes.threads, s.bounded, s.small);
@@ -56,6 +56,7 @@ due_of state rows t env call s none =
       events = p;
       env = env;
       ordinary = ordinary state rows s;
+      stated = all_stated state.setup state.journal s.legal;
       stand = s.tables;
       unbroken = unbroken state.setup p t.0 env call none;
       counts = counts p rows.threads t.0 (ordinary state rows s) s.tables.threads;

@@ -10,7 +10,7 @@ use Rattle.jg_globals.specs.History as globals
 use Rattle.jg_heap.specs.History as heap
 use Rattle.jg_heap.specs.Making.{Plain}
 use Rattle.jg_rules.specs.Parts.{Parts}
-use Rattle.jg_rules.specs.Effects.{class_thrown, warning, deletes_local}
+use Rattle.jg_rules.specs.Effects.{class_thrown, warning, deletes_local, linking, unlinking}
 use Rattle.std.specs.Prelude.{map}
 use Rattle.jg_words.specs.declared.reference.Ref.{Ref}
 
@@ -53,3 +53,10 @@ saying_of value = record { value = value; warned = false }
 -- t's local was deleted, if it is one
 abbrev pub deleted_on : ℕ → Ref → Parts → Parts
 deleted_on t r p = record p { locals = map (locals.by t) (deletes_local r) ++ p.locals }
+
+-- the class's native method was linked; all of the class were unlinked
+abbrev pub linked_on : Option ℕ → Option ℕ → Parts → Parts
+linked_on class native p = record p { links = linking class native ++ p.links }
+
+abbrev pub unlinked_on : Option ℕ → Parts → Parts
+unlinked_on class p = record p { links = unlinking class ++ p.links }

@@ -1,5 +1,6 @@
 -- What the guard's helpers say of its tables.
 use Rattle.std.specs.Prelude.{ℕ, ◌+◌, ◌<◌, ◌≤◌, ◌^◌, ◌≡◌, Bool, true, false, List, ◌∷◌, Option, Some, None, IsTrue, All, length}
+use Rattle.std.specs.List.{AllByRecursion}
 use Rattle.jg_words.specs.Call.{fun_of}
 use Rattle.jg_words.specs.Fun.{needs_env}
 use Rattle.jg_words.specs.declared.thread.Tid.{Tid}
@@ -24,7 +25,7 @@ use Rattle.jg_rules.specs.Effects.{is_effective}
 use Rattle.jg_rules.specs.Unbroken.{Unbroken}
 use Rattle.jg_rules.specs.Answers.{answer}
 use Rattle.jg_rules.specs.declared.answer.Answer.{Answer}
-use Rattle.jg_laws.specs.Laws.{Agree}
+use Rattle.jg_laws.specs.Laws.{AgreeInNatives, MakesStated}
 use Rattle.jg_guard.specs.declared.tables.Tables.{Tables}
 
 -- what the tables keep
@@ -45,20 +46,20 @@ StillStand s old new = (p : Parts) → TablesStand s old p → TablesStand s new
 
 -- these events are a legal history's, and the counts that they give are small
 pub record IsOrdinary (p : Parts) : Type 0 where
-  pub agree : (t : ℕ) → Agree (threads.acts_of t p.threads) (locals.acts_of t p.locals)
-  pub resting : (t : ℕ) → threads.attached (threads.acts_of t p.threads) ≡ false
-      → threads.depth (threads.acts_of t p.threads) ≡ 0
+  pub agree : (t : ℕ) → AgreeInNatives (threads.acts_of t p.threads) (locals.acts_of t p.locals)
   pub below : (t : ℕ) → locals.IsMadeBelow (next_ref p t) (locals.acts_of t p.locals)
   pub globals_below : (t : ℕ) → global_laws.IsMadeBelow t (next_ref p t) p.globals
   pub few_threads : length p.threads < 2 ^ 62
   pub few_locals : length p.locals < 2 ^ 62
   pub few_monitors : length p.monitors < 2 ^ 62
 
--- the tables stand for such events, and a call of t that breaks no rule finds there what it needs
+-- the tables stand for such events, which make objects with the fields that the setup states, and a call of t that
+-- breaks no rule finds there what it needs
 pub record IsDue (setup : StatedSetup) (rows : TableRows) (t : ℕ) (call : Call) : Type 0 where
   pub events : Parts
   pub env : Option EnvId
   pub ordinary : IsOrdinary events
+  pub stated : AllByRecursion (MakesStated setup) events.heap
   pub stand : TablesStand setup rows events
   pub unbroken : Unbroken setup events t env call
   pub counts : CanCount rows.threads t

@@ -47,6 +47,19 @@ pub(crate) fn saying(value: Value, object: Option<ObjId>) -> Answer
     }
 }
 
+/// The same answer, with a warning or without.
+pub(crate) fn admitted(given: Answer, warned: bool) -> Answer
+    ensures { result ≡ record { reply = record { value = given.reply.value; warned = warned }; object = given.object } }
+{
+    Answer {
+        reply: Reply {
+            value: given.reply.value,
+            warned,
+        },
+        object: given.object,
+    }
+}
+
 /// The answer of a call that throws: the exception is the next object.
 pub(crate) fn throwing<A: Allocator + Clone>(view: &View<'_, A>, exception: Thrown) -> Answer
     ensures { (p : Parts) → ViewStands view.now p → result ≡ thrown view.now.setup.now p exception }

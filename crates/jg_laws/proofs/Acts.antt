@@ -1,10 +1,11 @@
 -- What a thread did, one act or a few acts later.
-use Rattle.std.proofs.Common.{ℕ, ◌≡◌, ◌≢◌, ◌+◌, Bool, true, false, List, [], ◌∷◌, ◌++◌, map, refl, ap, sym, ◌∙◌, arith}
-use Rattle.std.specs.Prelude.{◌==◌, ◌&&◌, not}
+use Rattle.std.proofs.Common.{ℕ, ◌≡◌, ◌≢◌, ◌+◌, Bool, true, false, List, [], ◌∷◌, ◌++◌, map, Option, Some, None, refl, ap, sym, ◌∙◌, arith}
+use Rattle.std.specs.Prelude.{◌==◌, ◌&&◌, not, cond}
 use Rattle.std.specs.List.{list_all}
 use Rattle.std.proofs.lemmas.Bool.Decides.{nat_tests}
 use Rattle.jg_words.specs.Call.{fun_of}
 use Rattle.jg_words.specs.Fun.{needs_env}
+use Rattle.jg_words.specs.declared.thread.EnvId.{EnvId}
 use Rattle.jg_words.specs.declared.call.Call.{Call}
 use Rattle.jg_words.specs.declared.call.Call.TheVariants.{Vm, Refs, Frames, Exceptions, Objects, Strings, Arrays}
 use Rattle.jg_words.specs.declared.call.vm.VmCall.TheVariants.{AttachCurrentThread, DetachCurrentThread, GetEnv, NativeEnter, NativeLeave, LoadLibrary, RegisterNatives, UnregisterNatives}
@@ -15,6 +16,7 @@ use Rattle.jg_locals.proofs.Callers.{each_thread}
 use Rattle.jg_rules.specs.Parts.{Parts}
 use Rattle.jg_rules.specs.Names.{next_ref}
 use Rattle.jg_rules.specs.Effects.{call_threads, done_if, done_by, if_effective}
+use Rattle.jg_rules.specs.Rules.{detached, is_session}
 
 pub did_more : (u : ℕ) (a : Act) (te : List Event) → acts_of u (by u a ∷ te) ≡ a ∷ acts_of u te
 did_more u a te = grind (arith, nat_tests)
@@ -49,6 +51,11 @@ call_quiet : (s : StatedSetup) (p : Parts) (t : ℕ) (call : Call) → are_quiet
 call_quiet s p t (Vm AttachCurrentThread) = refl
 call_quiet s p t (Vm DetachCurrentThread) = refl
 call_quiet s p t (Vm GetEnv) = refl
+call_quiet s p t (Vm (NativeEnter class method signature)) = refl
+call_quiet s p t (Vm (NativeLeave kept)) = refl
+call_quiet s p t (Vm (LoadLibrary class library)) = refl
+call_quiet s p t (Vm (RegisterNatives class method signature)) = refl
+call_quiet s p t (Vm (UnregisterNatives class)) = refl
 call_quiet s p t (Refs call) = refl
 call_quiet s p t (Frames call) = refl
 call_quiet s p t (Exceptions (Throw r)) = refl
@@ -94,6 +101,11 @@ call_stays : (s : StatedSetup) (p : Parts) (t : ℕ) (call : Call) → needs_env
 call_stays s p t (Vm AttachCurrentThread) env = refl
 call_stays s p t (Vm DetachCurrentThread) env = absurd cc
 call_stays s p t (Vm GetEnv) env = refl
+call_stays s p t (Vm (NativeEnter class method signature)) env = refl
+call_stays s p t (Vm (NativeLeave kept)) env = refl
+call_stays s p t (Vm (LoadLibrary class library)) env = refl
+call_stays s p t (Vm (RegisterNatives class method signature)) env = refl
+call_stays s p t (Vm (UnregisterNatives class)) env = refl
 call_stays s p t (Refs call) env = refl
 call_stays s p t (Frames call) env = refl
 call_stays s p t (Exceptions (Throw r)) env = refl
@@ -108,3 +120,13 @@ call_stays s p t (Arrays call) env = refl
 pub attached_done : (s : StatedSetup) (p : Parts) (t : ℕ) (call : Call) → needs_env (fun_of call) ≡ true → attached (acts_of t p.threads) ≡ true
     → attached (acts_of t (done_by s t call p).threads) ≡ true
 attached_done s p t call env on = rw (acts_own t (call_threads s p t call) p.threads) (stays_attached (call_threads s p t call) (acts_of t p.threads) (call_stays s p t call env) on)
+
+attached_if : (a b : Bool) (n m : ℕ) → not (b && is_session (cond a (Some n) None) m) ≡ false → a ≡ true
+attached_if true b n m h = refl
+attached_if false true n m h = absurd cc
+attached_if false false n m h = absurd cc
+
+-- a call that takes an environment, and isn't detached, comes from an attached thread
+pub attached_caller : (p : Parts) (t : ℕ) (env : Option EnvId) (call : Call) → needs_env (fun_of call) ≡ true → detached p t env call ≡ false → attached (acts_of t p.threads) ≡ true
+attached_caller p t None call takes is = absurd (cc (takes, is))
+attached_caller p t (Some env) call takes is = attached_if (attached (acts_of t p.threads)) (env.tid.0 == t) _ env.session is

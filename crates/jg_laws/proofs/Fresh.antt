@@ -18,7 +18,7 @@ use Rattle.jg_words.specs.declared.entry.Entry.{Entry}
 use Rattle.jg_words.specs.declared.call.Call.{Call}
 use Rattle.jg_policy.specs.Stated.{StatedSetup}
 use Rattle.jg_threads.specs.History as threads
-use Rattle.jg_locals.specs.History.{Act, Start, Make, Push, Delete, Pop, End, Event, by, acts_of, IsMadeBelow, Making, making, seen_after, live, local_if_live, object_of, survives}
+use Rattle.jg_locals.specs.History.{Act, Start, Make, Push, Delete, Pop, End, Event, by, acts_of, IsMadeBelow, Making, making, seen_after, live, local_if_live, object_of, survives, Enter, Leave}
 use Rattle.jg_locals.proofs.Callers.{acts_more, acts_same, each_thread, live_below}
 use Rattle.jg_globals.specs.declared.target.Target.{Target}
 use Rattle.jg_globals.specs.declared.target.Target.TheVariants.{Object as ToObject, Cleared}
@@ -99,7 +99,7 @@ Counted (To kind maker n) p = n < next_ref p maker.0
 counted_more : (s : StatedSetup) (r : Ref) (h : List Entry) (x : Entry) → x ≡ entry_at s (parts s h) x.tid x.env x.call → Counted r (parts s h) → Counted r (parts s (x ∷ h))
 counted_more s Null h x legal old = old
 counted_more s (To kind maker n) h x legal old =
-    let still = each_entry (AtLeast maker.0 (n + 1)) (at_least_steps maker.0 (n + 1)) s (parts s h) x legal (omega (arith, old)) in
+    let still = each_entry (AtLeast maker.0 (n + 1)) s (at_least_steps s maker.0 (n + 1)) (parts s h) x legal (omega (arith, old)) in
     omega (arith, still)
 
 counted : (s : StatedSetup) (h : List Entry) → Legal s h → (r : Ref) → WasHandedOut r h → Counted r (parts s h)
@@ -114,7 +114,7 @@ references_counted s h kind maker n legal was = counted s h legal (To kind maker
 
 -- ---- none is handed out twice
 
-Legal-before : (s : StatedSetup) (later h : List Entry) → Legal s (later ++ h) → Legal s h
+pub Legal-before : (s : StatedSetup) (later h : List Entry) → Legal s (later ++ h) → Legal s h
 Legal-before s [] h legal = legal
 Legal-before s (x ∷ later) h legal = Legal-before s later h legal.1
 
@@ -167,17 +167,19 @@ gone_made p u k o t n is =
     (λ v differ old. rw (acts_same v u (Make k o) p.locals differ) old.1)
     t
 
-gone_steps : (t n : ℕ) → Steps (Gone t n)
-gone_steps t n =
-    let counts = at_least_steps t (n + 1) in
+gone_steps : (s : StatedSetup) (t n : ℕ) → Steps s (Gone t n)
+gone_steps s t n =
+    let counts = at_least_steps s t (n + 1) in
     record {
       begins = λ p u is old. (counts.begins p u is old.0, gone_same p.locals u Start t n (λ acts. gone_after Start n (making n acts)) old.1);
       begun = λ p u is old. (counts.begun p u is old.0, old.1);
       ends = λ p u old. (counts.ends p u old.0, gone_same p.locals u End t n (λ acts. gone_after End n (making n acts)) old.1);
+      enters = λ p u on old. (counts.enters p u on old.0, gone_same p.locals u Enter t n (λ acts. gone_after Enter n (making n acts)) old.1);
+      leaves = λ p u on deep old. (counts.leaves p u on deep old.0, gone_same p.locals u Leave t n (λ acts. gone_after Leave n (making n acts)) old.1);
       to_globals = λ p e none old. old;
       to_buffers = λ p e old. old;
       to_monitors = λ p e old. old;
-      to_heap = λ p e old. old;
+      to_heap = λ p e all old. old;
       to_links = λ p e old. old;
       hands = λ p u k o is old. (counts.hands p u k o is old.0, gone_made p u k o t n is old);
       hands_strong = λ p u k o is old. (counts.hands_strong p u k o is old.0, old.1);
@@ -197,8 +199,8 @@ local_gone s newer later h t n o legal was gone =
     let middle = Legal-before s newer (later ++ h) legal in
     let old = Legal-before s later h middle in
     let first = live_below (next_ref (parts s h) t) n o (acts_of t (parts s h).locals) (below s h old t) was in
-    let counted = each_since (AtLeast t (n + 1)) (at_least_steps t (n + 1)) s later h middle (omega (arith, first)) in
-    (each_since (Gone t n) (gone_steps t n) s newer (later ++ h) legal (counted, gone)).1
+    let counted = each_since (AtLeast t (n + 1)) s (at_least_steps s t (n + 1)) later h middle (omega (arith, first)) in
+    (each_since (Gone t n) s (gone_steps s t n) newer (later ++ h) legal (counted, gone)).1
 
 object_in-named_by : (found : Option ℕ) → object_in (named_by found) ≡ found
 object_in-named_by None = refl
@@ -291,20 +293,22 @@ not_same p u k t n is old =
     (λ v differ below. grind (arith, nat_tests, differ))
     t old
 
-ended_steps : (kind : Kind) (t n : ℕ) → Steps (Ended kind t n)
-ended_steps kind t n =
-    let counts = at_least_steps t (n + 1) in
+ended_steps : (s : StatedSetup) (kind : Kind) (t n : ℕ) → Steps s (Ended kind t n)
+ended_steps s kind t n =
+    let counts = at_least_steps s t (n + 1) in
     record {
       begins = λ p u is old. (counts.begins p u is old.0, old.1);
       begun = λ p u is old. (counts.begun p u is old.0, old.1);
       ends = λ p u old. (counts.ends p u old.0, old.1);
+      enters = λ p u on old. (counts.enters p u on old.0, old.1);
+      leaves = λ p u on deep old. (counts.leaves p u on deep old.0, old.1);
       deletes = λ p u k old. old;
       pushes = λ p u old. old;
       pops = λ p u some old. old;
       to_globals = λ p e none old. (old.0, kind_none kind e p.globals t n none old.1);
       to_buffers = λ p e old. old;
       to_monitors = λ p e old. old;
-      to_heap = λ p e old. old;
+      to_heap = λ p e all old. old;
       to_links = λ p e old. old;
       hands = λ p u k o is old. (counts.hands p u k o is old.0, old.1);
       hands_strong = λ p u k o is old. (counts.hands_strong p u k o is old.0, kind_still kind (globals.MakeStrong u k o) p.globals t n (not_same p u k t n is old.0) old.1);
@@ -370,8 +374,8 @@ global_gone kind s newer later h t n o legal was gone =
     let middle = Legal-before s newer (later ++ h) legal in
     let old = Legal-before s later h middle in
     let first = kind_below kind (parts s h).globals (next_ref (parts s h) t) t n o (globals_below s h old t) was in
-    let counted = each_since (AtLeast t (n + 1)) (at_least_steps t (n + 1)) s later h middle (omega (arith, first)) in
-    (each_since (Ended kind t n) (ended_steps kind t n) s newer (later ++ h) legal (counted, gone)).1
+    let counted = each_since (AtLeast t (n + 1)) s (at_least_steps s t (n + 1)) later h middle (omega (arith, first)) in
+    (each_since (Ended kind t n) s (ended_steps s kind t n) newer (later ++ h) legal (counted, gone)).1
 
 pub no_reference_revived : NoReferenceRevived
 no_reference_revived s newest later first t o Null legal was is = refl

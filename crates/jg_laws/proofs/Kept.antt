@@ -5,21 +5,21 @@ use Rattle.std.proofs.lemmas.Bool.Decides.{nat_tests}
 use Rattle.jg_words.specs.declared.entry.Entry.{Entry}
 use Rattle.jg_policy.specs.Stated.{StatedSetup}
 use Rattle.jg_threads.specs.History as threads
-use Rattle.jg_locals.specs.History.{Act, Start, Make, Push, Enter, Delete, Pop, Leave, End, Event, by, acts_of, has_session, depth, IsMadeBelow}
+use Rattle.jg_locals.specs.History.{Act, Start, Make, Push, Enter, Delete, Pop, Leave, End, Event, by, acts_of, session, has_session, is_enter, is_leave, IsMadeBelow}
 use Rattle.jg_locals.proofs.Callers.{acts_more, acts_same, each_thread}
 use Rattle.jg_rules.specs.Parts.{Parts}
 use Rattle.jg_rules.specs.Names.{next_ref}
 use Rattle.jg_rules.specs.Effects.{parts}
 use Rattle.jg_rules.specs.Legal.{Legal}
-use Rattle.jg_laws.specs.Laws.{Agree}
+use Rattle.jg_laws.specs.Laws.{Agree, AgreeInNatives}
 use Rattle.jg_globals.specs.History as globals
 use Rattle.jg_globals.specs.Laws as global_laws
 use Rattle.jg_laws.proofs.Acts.{did_more, did_same, refs_same}
 use Rattle.jg_laws.proofs.Steps.{Steps, each_legal, makes_no_global, make_no_global}
 
--- the two tables agree on a thread, which is in no native method outside a session
+-- the two tables agree on a thread
 abbrev pub Agreed : List threads.Act → List Act → Type 0
-Agreed ta la = Agree ta la × (threads.attached ta ≡ false → threads.depth ta ≡ 0)
+Agreed ta la = AgreeInNatives ta la
 
 -- so they do after one act in each, if they did on all threads before
 agreed_both : (te : List threads.Event) (le : List Event) (u : ℕ) (a : threads.Act) (b : Act) → ((t : ℕ) → Agreed (threads.acts_of t te) (acts_of t le))
@@ -47,47 +47,95 @@ agreed_locals te le u b old here t =
     t
 
 begun_here : (ta : List threads.Act) (la : List Act) → threads.attached ta ≡ false → Agreed ta la → Agreed (threads.Attach ∷ ta) (Start ∷ la)
-begun_here ta la none old =
-    let still : threads.depth ta ≡ 0 = old.1 none in
-    (record { session = refl; depth = still }, λ is. cc)
+begun_here ta la none old = record {
+  session = refl;
+  enters = old.none_entered none;
+  leaves = old.none_left none;
+  none_entered = λ is. absurd cc;
+  none_left = λ is. absurd cc;
+}
+
+off_and_on : (ta : List threads.Act) → threads.attached ta ≡ true → threads.attached ta ≡ false → ⊥
+off_and_on ta is off = cc
 
 attached_again : (ta : List threads.Act) (la : List Act) → threads.attached ta ≡ true → Agreed ta la → Agreed (threads.Attach ∷ ta) la
-attached_again ta la is old = (record { session = sym is ∙ old.0.session; depth = old.0.depth }, λ no. cc)
+attached_again ta la is old = record {
+  session = sym is ∙ old.session;
+  enters = old.enters;
+  leaves = old.leaves;
+  none_entered = λ off. absurd cc;
+  none_left = λ off. absurd cc;
+}
 
--- acts that change neither session nor depth
-agreed_still : (ta ta' : List threads.Act) (la la' : List Act) → threads.attached ta' ≡ threads.attached ta → threads.depth ta' ≡ threads.depth ta
-    → has_session la' ≡ has_session la → depth la' ≡ depth la → Agreed ta la → Agreed ta' la'
-agreed_still ta ta' la la' attached_same depth_same session_same deep_same old =
-    (record { session = attached_same ∙ (old.0.session ∙ sym session_same); depth = depth_same ∙ (old.0.depth ∙ sym deep_same) }, λ none. depth_same ∙ old.1 (sym attached_same ∙ none))
+entered_here : (ta : List threads.Act) (la : List Act) → threads.attached ta ≡ true → Agreed ta la → Agreed (threads.Enter ∷ ta) (Enter ∷ la)
+entered_here ta la on old = record {
+  session = old.session;
+  enters = ap (λ n. n + 1) old.enters;
+  leaves = old.leaves;
+  none_entered = λ off. absurd (off_and_on ta on off);
+  none_left = λ off. absurd (off_and_on ta on off);
+}
 
-pub agree_steps : Steps (λ p. (t : ℕ) → Agreed (threads.acts_of t p.threads) (acts_of t p.locals))
-agree_steps = record {
+left_here : (ta : List threads.Act) (la : List Act) → threads.attached ta ≡ true → Agreed ta la → Agreed (threads.Leave ∷ ta) (Leave ∷ la)
+left_here ta la on old = record {
+  session = old.session;
+  enters = old.enters;
+  leaves = ap (λ n. n + 1) old.leaves;
+  none_entered = λ off. absurd (off_and_on ta on off);
+  none_left = λ off. absurd (off_and_on ta on off);
+}
+
+-- what one of the tables is told of sessions and native methods
+abbrev told_threads : List threads.Act → Bool × ℕ × ℕ
+told_threads ta = (threads.attached ta, threads.how_many threads.is_enter (threads.since ta), threads.how_many threads.is_leave (threads.since ta))
+
+abbrev told_locals : List Act → Bool × ℕ × ℕ
+told_locals la = (has_session la, threads.how_many is_enter (session la), threads.how_many is_leave (session la))
+
+-- acts that change neither sessions nor native methods
+agreed_still : (ta ta' : List threads.Act) (la la' : List Act) → told_threads ta' ≡ told_threads ta → told_locals la' ≡ told_locals la → Agreed ta la → Agreed ta' la'
+agreed_still ta ta' la la' same_threads same_locals old = record {
+  session = ap (λ x. x.0) same_threads ∙ (old.session ∙ sym (ap (λ x. x.0) same_locals));
+  enters = ap (λ x. x.1) same_threads ∙ (old.enters ∙ sym (ap (λ x. x.1) same_locals));
+  leaves = ap (λ x. x.2) same_threads ∙ (old.leaves ∙ sym (ap (λ x. x.2) same_locals));
+  none_entered = λ off. ap (λ x. x.1) same_threads ∙ old.none_entered (sym (ap (λ x. x.0) same_threads) ∙ off);
+  none_left = λ off. ap (λ x. x.2) same_threads ∙ old.none_left (sym (ap (λ x. x.0) same_threads) ∙ off);
+}
+
+pub agree_steps : (s : StatedSetup) → Steps s (λ p. (t : ℕ) → Agreed (threads.acts_of t p.threads) (acts_of t p.locals))
+agree_steps s = record {
   begins = λ p u is old. agreed_both p.threads p.locals u threads.Attach Start old (begun_here _ _ is (old u));
   begun = λ p u is old. agreed_threads p.threads p.locals u threads.Attach old (attached_again _ _ is (old u));
-  ends = λ p u old. agreed_both p.threads p.locals u threads.Detach End old (record { session = refl; depth = refl }, λ no. refl);
+  ends = λ p u old. agreed_both p.threads p.locals u threads.Detach End old (record { session = refl; enters = refl; leaves = refl; none_entered = λ off. refl; none_left = λ off. refl });
+  enters = λ p u on old. agreed_both p.threads p.locals u threads.Enter Enter old (entered_here _ _ on (old u));
+  leaves = λ p u on deep old. agreed_both p.threads p.locals u threads.Leave Leave old (left_here _ _ on (old u));
   to_globals = λ p e none old. old;
   to_buffers = λ p e old. old;
   to_monitors = λ p e old. old;
-  to_heap = λ p e old. old;
+  to_heap = λ p e all old. old;
   to_links = λ p e old. old;
-  hands = λ p u n o is old. agreed_both p.threads p.locals u threads.CountRef (Make n o) old (agreed_still _ _ _ _ refl refl refl refl (old u));
-  hands_strong = λ p u n o is old. agreed_threads p.threads p.locals u threads.CountRef old (agreed_still _ _ _ _ refl refl refl refl (old u));
-  hands_weak = λ p u n o is old. agreed_threads p.threads p.locals u threads.CountRef old (agreed_still _ _ _ _ refl refl refl refl (old u));
-  lends = λ p u old. agreed_threads p.threads p.locals u threads.CountBuffer old (agreed_still _ _ _ _ refl refl refl refl (old u));
-  raises = λ p u o old. agreed_threads p.threads p.locals u (threads.Raise o) old (agreed_still _ _ _ _ refl refl refl refl (old u));
-  calms = λ p u old. agreed_threads p.threads p.locals u threads.Calm old (agreed_still _ _ _ _ refl refl refl refl (old u));
-  deletes = λ p u n old. agreed_locals p.threads p.locals u (Delete n) old (agreed_still _ _ _ _ refl refl refl refl (old u));
-  pushes = λ p u old. agreed_locals p.threads p.locals u Push old (agreed_still _ _ _ _ refl refl refl refl (old u));
-  pops = λ p u some old. agreed_locals p.threads p.locals u Pop old (agreed_still _ _ _ _ refl refl refl refl (old u));
+  hands = λ p u n o is old. agreed_both p.threads p.locals u threads.CountRef (Make n o) old (agreed_still _ _ _ _ refl refl (old u));
+  hands_strong = λ p u n o is old. agreed_threads p.threads p.locals u threads.CountRef old (agreed_still _ _ _ _ refl refl (old u));
+  hands_weak = λ p u n o is old. agreed_threads p.threads p.locals u threads.CountRef old (agreed_still _ _ _ _ refl refl (old u));
+  lends = λ p u old. agreed_threads p.threads p.locals u threads.CountBuffer old (agreed_still _ _ _ _ refl refl (old u));
+  raises = λ p u o old. agreed_threads p.threads p.locals u (threads.Raise o) old (agreed_still _ _ _ _ refl refl (old u));
+  calms = λ p u old. agreed_threads p.threads p.locals u threads.Calm old (agreed_still _ _ _ _ refl refl (old u));
+  deletes = λ p u n old. agreed_locals p.threads p.locals u (Delete n) old (agreed_still _ _ _ _ refl refl (old u));
+  pushes = λ p u old. agreed_locals p.threads p.locals u Push old (agreed_still _ _ _ _ refl refl (old u));
+  pops = λ p u some old. agreed_locals p.threads p.locals u Pop old (agreed_still _ _ _ _ refl refl (old u));
 }
 
 pub agreed : (s : StatedSetup) (h : List Entry) → Legal s h → (t : ℕ) → Agreed (threads.acts_of t (parts s h).threads) (acts_of t (parts s h).locals)
 agreed s h legal t =
-    let start : (t : ℕ) → Agreed (threads.acts_of t []) (acts_of t []) = λ t. (record { session = refl; depth = refl }, λ no. refl) in
-    each_legal (λ p. (t : ℕ) → Agreed (threads.acts_of t p.threads) (acts_of t p.locals)) agree_steps start s h legal t
+    let start : (t : ℕ) → Agreed (threads.acts_of t []) (acts_of t []) = λ t. record { session = refl; enters = refl; leaves = refl; none_entered = λ off. refl; none_left = λ off. refl } in
+    each_legal (λ p. (t : ℕ) → Agreed (threads.acts_of t p.threads) (acts_of t p.locals)) s (agree_steps s) start h legal t
+
+-- so they agree on the depth
+pub agree_of : (ta : List threads.Act) (la : List Act) → Agreed ta la → Agree ta la
+agree_of ta la a = record { session = a.session; depth = rw (a.enters, a.leaves) refl }
 
 pub agree : (s : StatedSetup) (h : List Entry) (t : ℕ) → Legal s h → Agree (threads.acts_of t (parts s h).threads) (acts_of t (parts s h).locals)
-agree s h t legal = (agreed s h legal t).0
+agree s h t legal = agree_of _ _ (agreed s h legal t)
 
 -- each local's number was handed out
 abbrev pub Below : Parts → Type 0
@@ -140,15 +188,17 @@ below_made p u o old t =
     (λ v differ. rw (acts_same v u (Make (next_ref p u) o) p.locals differ, did_same v u threads.CountRef p.threads differ) (old v))
     t
 
-pub below_steps : Steps Below
-below_steps = record {
+pub below_steps : (s : StatedSetup) → Steps s Below
+below_steps s = record {
   begins = λ p u is old. below_quiet p u threads.Attach (by u Start ∷ p.locals) refl (below_same p u Start (λ n acts b. b) old);
   begun = λ p u is old. below_quiet p u threads.Attach p.locals refl old;
   ends = λ p u old. below_quiet p u threads.Detach (by u End ∷ p.locals) refl (below_same p u End (λ n acts b. b) old);
+  enters = λ p u on old. below_quiet p u threads.Enter (by u Enter ∷ p.locals) refl (below_same p u Enter (λ n acts b. b) old);
+  leaves = λ p u on deep old. below_quiet p u threads.Leave (by u Leave ∷ p.locals) refl (below_same p u Leave (λ n acts b. b) old);
   to_globals = λ p e none old. old;
   to_buffers = λ p e old. old;
   to_monitors = λ p e old. old;
-  to_heap = λ p e old. old;
+  to_heap = λ p e all old. old;
   to_links = λ p e old. old;
   hands = λ p u n o is old. rw is (below_made p u o old);
   hands_strong = λ p u n o is old. below_counted p u old;
@@ -162,7 +212,7 @@ below_steps = record {
 }
 
 pub below : (s : StatedSetup) (h : List Entry) → Legal s h → Below (parts s h)
-below s h legal = each_legal Below below_steps (λ t. tt) s h legal
+below s h legal = each_legal Below s (below_steps s) (λ t. tt) h legal
 
 -- a thread's next number never falls
 abbrev pub AtLeast : ℕ → ℕ → Parts → Type 0
@@ -175,18 +225,20 @@ counted_at_least t n p u old =
     (λ v differ le. rw (did_same v u threads.CountRef p.threads differ) le)
     t old
 
-pub at_least_steps : (t n : ℕ) → Steps (AtLeast t n)
-at_least_steps t n = record {
+pub at_least_steps : (s : StatedSetup) (t n : ℕ) → Steps s (AtLeast t n)
+at_least_steps s t n = record {
   begins = λ p u is old. rw (next_same p u threads.Attach refl t) old;
   begun = λ p u is old. rw (next_same p u threads.Attach refl t) old;
   ends = λ p u old. rw (next_same p u threads.Detach refl t) old;
+  enters = λ p u on old. rw (next_same p u threads.Enter refl t) old;
+  leaves = λ p u on deep old. rw (next_same p u threads.Leave refl t) old;
   deletes = λ p u k old. old;
   pushes = λ p u old. old;
   pops = λ p u some old. old;
   to_globals = λ p e none old. old;
   to_buffers = λ p e old. old;
   to_monitors = λ p e old. old;
-  to_heap = λ p e old. old;
+  to_heap = λ p e all old. old;
   to_links = λ p e old. old;
   hands = λ p u k o is old. counted_at_least t n p u old;
   hands_strong = λ p u k o is old. counted_at_least t n p u old;
@@ -227,18 +279,20 @@ global_counted p u old t = global_more t (next_ref p t) _ p.globals (counted_at_
 global_first : (p : Parts) (u n t : ℕ) → n ≡ next_ref p u → u ≡ t → n < next_ref (record p { threads = threads.by u threads.CountRef ∷ p.threads }) t
 global_first p u n t is same = subst (λ (v : ℕ). n < next_ref (record p { threads = threads.by u threads.CountRef ∷ p.threads }) v) same (omega (arith, is, next_more p u))
 
-pub global_steps : Steps GlobalsBelow
-global_steps = record {
+pub global_steps : (s : StatedSetup) → Steps s GlobalsBelow
+global_steps s = record {
   begins = λ p u is old. global_quiet p u threads.Attach refl old;
   begun = λ p u is old. global_quiet p u threads.Attach refl old;
   ends = λ p u old. global_quiet p u threads.Detach refl old;
+  enters = λ p u on old. global_quiet p u threads.Enter refl old;
+  leaves = λ p u on deep old. global_quiet p u threads.Leave refl old;
   deletes = λ p u k old. old;
   pushes = λ p u old. old;
   pops = λ p u some old. old;
   to_globals = λ p e none old t. global_none t (next_ref p t) e p.globals none (old t);
   to_buffers = λ p e old. old;
   to_monitors = λ p e old. old;
-  to_heap = λ p e old. old;
+  to_heap = λ p e all old. old;
   to_links = λ p e old. old;
   hands = λ p u n o is old. global_counted p u old;
   hands_strong = λ p u n o is old t. (global_first p u n t is, global_counted p u old t);
@@ -249,4 +303,4 @@ global_steps = record {
 }
 
 pub globals_below : (s : StatedSetup) (h : List Entry) → Legal s h → GlobalsBelow (parts s h)
-globals_below s h legal = each_legal GlobalsBelow global_steps (λ t. tt) s h legal
+globals_below s h legal = each_legal GlobalsBelow s (global_steps s) (λ t. tt) h legal

@@ -1,8 +1,10 @@
 pub mod Acts
 pub mod Proper
+pub mod Makings
 pub mod Steps
 pub mod Kept
 pub mod Sizes
 pub mod WithoutDenied
 pub mod Replays
 pub mod Fresh
+pub mod Natives

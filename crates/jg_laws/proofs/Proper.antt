@@ -2,6 +2,7 @@
 use Rattle.std.proofs.Common.{ℕ, pos, ◌≡◌, ◌+◌, Bool, true, false, List, [], ◌∷◌, length, Option, Some, None, refl}
 use Rattle.jg_words.specs.declared.thread.Tid.{Tid}
 use Rattle.jg_words.specs.declared.object.ObjId.{ObjId}
+use Rattle.jg_words.specs.declared.object.FieldId.{FieldId}
 use Rattle.jg_words.specs.declared.reference.Kind.{Kind}
 use Rattle.jg_words.specs.declared.reference.Kind.TheVariants.{Local, Global, Weak}
 use Rattle.jg_words.specs.declared.reference.Ref.{Ref}
@@ -23,10 +24,10 @@ use Rattle.jg_words.specs.Fun.{needs_env}
 use Rattle.jg_policy.specs.Stated.{StatedSetup}
 use Rattle.jg_rules.specs.declared.answer.Answer.{Answer}
 use Rattle.jg_rules.specs.Parts.{Parts}
-use Rattle.jg_rules.specs.Names.{object_named, the_object, object_count, class_of, length_of, units_of, slot_of, target_in, session, next_ref, next_buffer, pending}
+use Rattle.jg_rules.specs.Names.{object_named, the_object, object_count, class_of, length_of, units_of, slot_of, target_in, session, next_ref, next_buffer, pending, class_meant, native_meant, field_meant}
 use Rattle.jg_rules.specs.Effects.{done_by}
 use Rattle.jg_laws.specs.Proper.{ProperAnswer}
-use Rattle.jg_rules.specs.Answers.{answer, handed, thrown, present_env, plain, class_found, or_outside, is_outside}
+use Rattle.jg_rules.specs.Answers.{answer, handed, thrown, present_env, plain, admitted, unless_pending, registered, class_found, field_found, field_value, or_outside, is_outside}
 use Rattle.jg_policy.specs.Classes.{class_named}
 use Rattle.jg_heap.specs.Reading.{natural}
 use Rattle.jg_words.specs.declared.value.Thrown.TheVariants.{ArrayIndexOutOfBounds, StringIndexOutOfBounds}
@@ -53,10 +54,32 @@ outside_proper : (s : StatedSetup) (p : Parts) (t : Tid) (call : Call) (kind : T
 outside_proper s p t call kind true a env own = (env, refl, refl)
 outside_proper s p t call kind false a env own = own
 
+entered_proper : (s : StatedSetup) (p : Parts) (t : Tid) (call : Call) (class found : Option ℕ) → needs_env (fun_of call) ≡ true → ProperAnswer s p t call (admitted s p class (handed p t Local found))
+entered_proper s p t call class None env = tt
+entered_proper s p t call class (Some o) env = (env, refl, refl)
+
+left_proper : (s : StatedSetup) (p : Parts) (t : Tid) (call : Call) (exception found : Option ℕ) → needs_env (fun_of call) ≡ true → ProperAnswer s p t call (unless_pending exception (handed p t Local found))
+left_proper s p t call None found env = local_proper s p t call found env
+left_proper s p t call (Some exception) found env = tt
+
+registered_proper : (s : StatedSetup) (p : Parts) (t : Tid) (call : Call) (class native : Option ℕ) → needs_env (fun_of call) ≡ true → ProperAnswer s p t call (registered s p class native)
+registered_proper s p t call class None env = (env, refl, refl)
+registered_proper s p t call class (Some native) env = tt
+
+field_proper : (s : StatedSetup) (p : Parts) (t : Tid) (call : Call) (found : Option FieldId) → needs_env (fun_of call) ≡ true → ProperAnswer s p t call (field_found s p found)
+field_proper s p t call None env = (env, refl, refl)
+field_proper s p t call (Some field) env = tt
+
 pub proper : (s : StatedSetup) (p : Parts) (t : Tid) (call : Call) → ProperAnswer s p t call (answer s p t call)
 proper s p t (Vm AttachCurrentThread) = tt
 proper s p t (Vm DetachCurrentThread) = tt
 proper s p t (Vm GetEnv) = env_proper s p t (Vm GetEnv) (session p t.0)
+proper s p t (Vm (NativeEnter class method signature)) = entered_proper s p t (Vm (NativeEnter class method signature)) (class_named s class) (class_named s class) refl
+proper s p t (Vm (NativeLeave kept)) = left_proper s p t (Vm (NativeLeave kept)) (pending p t.0) (object_named p t.0 kept) refl
+proper s p t (Vm (LoadLibrary class library)) = tt
+proper s p t (Vm (RegisterNatives class method signature)) =
+    registered_proper s p t (Vm (RegisterNatives class method signature)) (class_meant s p t.0 class) (native_meant s (class_meant s p t.0 class) method signature) refl
+proper s p t (Vm (UnregisterNatives class)) = tt
 proper s p t (Refs (NewLocalRef r)) = local_proper s p t (Refs (NewLocalRef r)) (object_named p t.0 r) refl
 proper s p t (Refs (DeleteLocalRef r)) = tt
 proper s p t (Refs (IsSameObject r u)) = tt
@@ -72,6 +95,12 @@ proper s p t (Objects (FindClass name)) = found_proper s p t (Objects (FindClass
 proper s p t (Objects (GetObjectClass r)) = local_proper s p t (Objects (GetObjectClass r)) (Some (class_of s p (the_object p t.0 r))) refl
 proper s p t (Objects (IsInstanceOf r class)) = tt
 proper s p t (Objects (AllocObject class)) = local_proper s p t (Objects (AllocObject class)) (Some (object_count s p)) refl
+proper s p t (Objects (GetFieldID class field signature)) =
+    field_proper s p t (Objects (GetFieldID class field signature)) (field_meant s (class_meant s p t.0 class) field signature) refl
+proper s p t (Objects (GetField primitive r field)) = tt
+proper s p t (Objects (GetObjectField r field)) = local_proper s p t (Objects (GetObjectField r field)) (target_in (field_value s p (the_object p t.0 r) field)) refl
+proper s p t (Objects (SetField primitive r field value)) = tt
+proper s p t (Objects (SetObjectField r field value)) = tt
 proper s p t (Strings (NewString units)) = local_proper s p t (Strings (NewString units)) (Some (object_count s p)) refl
 proper s p t (Strings (NewStringUTF bytes)) = local_proper s p t (Strings (NewStringUTF bytes)) (Some (object_count s p)) refl
 proper s p t (Strings (GetStringLength r)) = tt

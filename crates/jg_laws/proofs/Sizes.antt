@@ -36,6 +36,11 @@ pub call_threads-le : (s : StatedSetup) (p : Parts) (t : ℕ) (call : Call) → 
 call_threads-le s p t (Vm AttachCurrentThread) = omega arith
 call_threads-le s p t (Vm DetachCurrentThread) = omega arith
 call_threads-le s p t (Vm GetEnv) = omega arith
+call_threads-le s p t (Vm (NativeEnter class method signature)) = omega arith
+call_threads-le s p t (Vm (NativeLeave kept)) = omega arith
+call_threads-le s p t (Vm (LoadLibrary class library)) = omega arith
+call_threads-le s p t (Vm (RegisterNatives class method signature)) = omega arith
+call_threads-le s p t (Vm (UnregisterNatives class)) = omega arith
 call_threads-le s p t (Refs call) = omega arith
 call_threads-le s p t (Frames call) = omega arith
 call_threads-le s p t (Exceptions (Throw r)) = omega arith
@@ -67,6 +72,11 @@ call_locals-le : (s : StatedSetup) (p : Parts) (t : ℕ) (call : Call) → lengt
 call_locals-le s p t (Vm AttachCurrentThread) = started-le (threads.attached (threads.acts_of t p.threads))
 call_locals-le s p t (Vm DetachCurrentThread) = omega arith
 call_locals-le s p t (Vm GetEnv) = omega arith
+call_locals-le s p t (Vm (NativeEnter class method signature)) = omega arith
+call_locals-le s p t (Vm (NativeLeave kept)) = omega arith
+call_locals-le s p t (Vm (LoadLibrary class library)) = omega arith
+call_locals-le s p t (Vm (RegisterNatives class method signature)) = omega arith
+call_locals-le s p t (Vm (UnregisterNatives class)) = omega arith
 call_locals-le s p t (Refs (NewLocalRef r)) = omega arith
 call_locals-le s p t (Refs (DeleteLocalRef r)) = deletes_local-le r
 call_locals-le s p t (Refs (IsSameObject r u)) = omega arith
@@ -86,6 +96,11 @@ call_monitors-le : (s : StatedSetup) (p : Parts) (t : ℕ) (call : Call) → len
 call_monitors-le s p t (Vm AttachCurrentThread) = omega arith
 call_monitors-le s p t (Vm DetachCurrentThread) = omega arith
 call_monitors-le s p t (Vm GetEnv) = omega arith
+call_monitors-le s p t (Vm (NativeEnter class method signature)) = omega arith
+call_monitors-le s p t (Vm (NativeLeave kept)) = omega arith
+call_monitors-le s p t (Vm (LoadLibrary class library)) = omega arith
+call_monitors-le s p t (Vm (RegisterNatives class method signature)) = omega arith
+call_monitors-le s p t (Vm (UnregisterNatives class)) = omega arith
 call_monitors-le s p t (Refs call) = omega arith
 call_monitors-le s p t (Frames call) = omega arith
 call_monitors-le s p t (Exceptions call) = omega arith

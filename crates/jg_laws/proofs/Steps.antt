@@ -1,6 +1,7 @@
 -- What each event of a passed call keeps, each legal history has: one induction over events for all laws.
 use Rattle.std.proofs.Common.{ℕ, ◌≡◌, Bool, true, false, List, [], ◌∷◌, ◌++◌, map, Option, Some, None, refl, sym, ap, ◌∙◌, subst}
 use Rattle.std.specs.Prelude.{◌==◌, if◌then◌else◌}
+use Rattle.std.specs.List.{AllByRecursion}
 use Rattle.jg_words.specs.declared.thread.Tid.{Tid}
 use Rattle.jg_words.specs.declared.thread.EnvId.{EnvId}
 use Rattle.jg_words.specs.declared.object.ObjId.{ObjId}
@@ -26,7 +27,7 @@ use Rattle.jg_buffers.specs.History as buffers
 use Rattle.jg_monitors.specs.History as monitors
 use Rattle.jg_heap.specs.History as heap
 use Rattle.jg_rules.specs.Parts.{Parts, nothing_yet}
-use Rattle.jg_rules.specs.Names.{next_ref, next_buffer, open_frames, the_object}
+use Rattle.jg_rules.specs.Names.{next_ref, next_buffer, open_frames, depth, the_object}
 use Rattle.jg_rules.specs.Access.{native_class, home_of}
 use Rattle.jg_rules.specs.Effects.{parts, after, started, deletes_local, call_globals, call_buffers, call_monitors, call_heap, call_links, done_by, done_if, is_effective, warning, value_heap, settled}
 use Rattle.jg_rules.specs.Rules.{verdict}
@@ -35,7 +36,9 @@ use Rattle.jg_rules.specs.declared.answer.Answer.{Answer}
 use Rattle.jg_rules.specs.Legal.{Legal, answered, entry_at, entry_by}
 use Rattle.jg_rules.specs.Unbroken.{Unbroken}
 use Rattle.jg_rules.proofs.Kept.{unbroken}
-use Rattle.jg_laws.proofs.Acts.{next_done_if}
+use Rattle.jg_laws.specs.Laws.{MakesStated}
+use Rattle.jg_laws.proofs.Acts.{next_done_if, attached_caller}
+use Rattle.jg_laws.proofs.Makings.{call_stated, thrown_stated}
 use Rattle.jg_laws.specs.Proper.{IsProper}
 use Rattle.jg_laws.proofs.Proper.{proper}
 
@@ -51,8 +54,8 @@ abbrev pub make_no_global : List globals.Event → Bool
 make_no_global [] = true
 make_no_global (ev ∷ e) = if makes_no_global ev then make_no_global e else false
 
--- each event that a passed call can bring keeps P
-pub record Steps (P : Parts → Type 0) : Type 0 where
+-- each event that a passed call can bring keeps P, under the setup
+pub record Steps (s : StatedSetup) (P : Parts → Type 0) : Type 0 where
   -- of its own, to threads and locals
   pub begins : (p : Parts) (t : ℕ) → threads.attached (threads.acts_of t p.threads) ≡ false → P p
       → P (record p { threads = threads.by t threads.Attach ∷ p.threads; locals = locals.by t locals.Start ∷ p.locals })
@@ -61,12 +64,16 @@ pub record Steps (P : Parts → Type 0) : Type 0 where
   pub deletes : (p : Parts) (t n : ℕ) → P p → P (record p { locals = locals.by t (locals.Delete n) ∷ p.locals })
   pub pushes : (p : Parts) (t : ℕ) → P p → P (record p { locals = locals.by t locals.Push ∷ p.locals })
   pub pops : (p : Parts) (t : ℕ) → (open_frames p t == 0) ≡ false → P p → P (record p { locals = locals.by t locals.Pop ∷ p.locals })
+  pub enters : (p : Parts) (t : ℕ) → threads.attached (threads.acts_of t p.threads) ≡ true → P p
+      → P (record p { threads = threads.by t threads.Enter ∷ p.threads; locals = locals.by t locals.Enter ∷ p.locals })
+  pub leaves : (p : Parts) (t : ℕ) → threads.attached (threads.acts_of t p.threads) ≡ true → (depth p t == 0) ≡ false → P p
+      → P (record p { threads = threads.by t threads.Leave ∷ p.threads; locals = locals.by t locals.Leave ∷ p.locals })
   pub calms : (p : Parts) (t : ℕ) → P p → P (record p { threads = threads.by t threads.Calm ∷ p.threads })
   -- to the other tables, any number
   pub to_globals : (p : Parts) (e : List globals.Event) → make_no_global e ≡ true → P p → P (record p { globals = e ++ p.globals })
   pub to_buffers : (p : Parts) (e : List buffers.Event) → P p → P (record p { buffers = e ++ p.buffers })
   pub to_monitors : (p : Parts) (e : List monitors.Event) → P p → P (record p { monitors = e ++ p.monitors })
-  pub to_heap : (p : Parts) (e : List heap.Event) → P p → P (record p { heap = e ++ p.heap })
+  pub to_heap : (p : Parts) (e : List heap.Event) → AllByRecursion (MakesStated s) e → P p → P (record p { heap = e ++ p.heap })
   pub to_links : (p : Parts) (e : List links.Event) → P p → P (record p { links = e ++ p.links })
   -- of its answer
   pub hands : (p : Parts) (t n o : ℕ) → n ≡ next_ref p t → P p → P (record p { threads = threads.by t threads.CountRef ∷ p.threads; locals = locals.by t (locals.Make n o) ∷ p.locals })
@@ -96,95 +103,102 @@ makes_none s p t (Objects call) = refl
 makes_none s p t (Strings call) = refl
 makes_none s p t (Arrays call) = refl
 
-others : (P : Parts → Type 0) → Steps P → (s : StatedSetup) (t : ℕ) (call : Call) (p q : Parts) → P q → P (elsewhere s t call p q)
-others P steps s t call p q old =
+others : (P : Parts → Type 0) (s : StatedSetup) → Steps s P → (t : ℕ) (call : Call) (p q : Parts) → P q → P (elsewhere s t call p q)
+others P s steps t call p q old =
     let q1 : Parts = record q { globals = call_globals s p t call ++ q.globals } in
     let q2 : Parts = record q1 { buffers = call_buffers s p t call ++ q.buffers } in
     let q3 : Parts = record q2 { monitors = map (monitors.by t) (call_monitors s p t call) ++ q.monitors } in
     let q4 : Parts = record q3 { heap = call_heap s p t call ++ q.heap } in
-    steps.to_links q4 (call_links s p t call) (steps.to_heap q3 (call_heap s p t call)
+    steps.to_links q4 (call_links s p t call) (steps.to_heap q3 (call_heap s p t call) (call_stated s p t call)
     (steps.to_monitors q2 (map (monitors.by t) (call_monitors s p t call))
     (steps.to_buffers q1 (call_buffers s p t call) (steps.to_globals q (call_globals s p t call) (makes_none s p t call) old))))
 
-attaching : (P : Parts → Type 0) → Steps P → (p : Parts) (t : ℕ) (b : Bool) → threads.attached (threads.acts_of t p.threads) ≡ b → P p
+attaching : (P : Parts → Type 0) (s : StatedSetup) → Steps s P → (p : Parts) (t : ℕ) (b : Bool) → threads.attached (threads.acts_of t p.threads) ≡ b → P p
     → P (record p { threads = threads.by t threads.Attach ∷ p.threads; locals = map (locals.by t) (started b) ++ p.locals })
-attaching P s p t true is old = s.begun p t is old
-attaching P s p t false is old = s.begins p t is old
+attaching P s steps p t true is old = steps.begun p t is old
+attaching P s steps p t false is old = steps.begins p t is old
 
-deleting : (P : Parts → Type 0) → Steps P → (p : Parts) (t : ℕ) (r : Ref) → P p → P (record p { locals = map (locals.by t) (deletes_local r) ++ p.locals })
-deleting P s p t Null old = old
-deleting P s p t (To Local maker n) old = s.deletes p t n old
-deleting P s p t (To Global maker n) old = old
-deleting P s p t (To Weak maker n) old = old
+deleting : (P : Parts → Type 0) (s : StatedSetup) → Steps s P → (p : Parts) (t : ℕ) (r : Ref) → P p → P (record p { locals = map (locals.by t) (deletes_local r) ++ p.locals })
+deleting P s steps p t Null old = old
+deleting P s steps p t (To Local maker n) old = steps.deletes p t n old
+deleting P s steps p t (To Global maker n) old = old
+deleting P s steps p t (To Weak maker n) old = old
 
-pub each_done : (P : Parts → Type 0) → Steps P → (s : StatedSetup) (p : Parts) (t : ℕ) (env : Option EnvId) (call : Call) → Unbroken s p t env call → P p → P (done_by s t call p)
-each_done P steps s p t env (Vm AttachCurrentThread) kept old = others P steps s t (Vm AttachCurrentThread) p _ (attaching P steps p t (threads.attached (threads.acts_of t p.threads)) refl old)
-each_done P steps s p t env (Vm DetachCurrentThread) kept old = others P steps s t (Vm DetachCurrentThread) p _ (steps.ends p t old)
-each_done P steps s p t env (Vm GetEnv) kept old = old
-each_done P steps s p t env (Refs (NewLocalRef r)) kept old = old
-each_done P steps s p t env (Refs (DeleteLocalRef r)) kept old = deleting P steps p t r old
-each_done P steps s p t env (Refs (IsSameObject r u)) kept old = old
-each_done P steps s p t env (Refs (GetObjectRefType r)) kept old = old
-each_done P steps s p t env (Frames (PushLocalFrame capacity)) kept old = steps.pushes p t old
-each_done P steps s p t env (Frames (PopLocalFrame r)) kept old = steps.pops p t kept.right_frame old
-each_done P steps s p t env (Exceptions (Throw r)) kept old = steps.raises p t (the_object p t r) old
-each_done P steps s p t env (Exceptions ExceptionOccurred) kept old = old
-each_done P steps s p t env (Exceptions ExceptionDescribe) kept old = steps.calms p t old
-each_done P steps s p t env (Exceptions ExceptionClear) kept old = steps.calms p t old
-each_done P steps s p t env (Exceptions ExceptionCheck) kept old = old
-each_done P steps s p t env (Objects call) kept old = others P steps s t (Objects call) p p old
-each_done P steps s p t env (Strings call) kept old = others P steps s t (Strings call) p p old
-each_done P steps s p t env (Arrays call) kept old = others P steps s t (Arrays call) p p old
+pub each_done : (P : Parts → Type 0) (s : StatedSetup) → Steps s P → (p : Parts) (t : ℕ) (env : Option EnvId) (call : Call) → Unbroken s p t env call → P p → P (done_by s t call p)
+each_done P s steps p t env (Vm AttachCurrentThread) kept old = others P s steps t (Vm AttachCurrentThread) p _ (attaching P s steps p t (threads.attached (threads.acts_of t p.threads)) refl old)
+each_done P s steps p t env (Vm DetachCurrentThread) kept old = others P s steps t (Vm DetachCurrentThread) p _ (steps.ends p t old)
+each_done P s steps p t env (Vm GetEnv) kept old = old
+each_done P s steps p t env (Vm (NativeEnter class method signature)) kept old =
+    steps.enters p t (attached_caller p t env (Vm (NativeEnter class method signature)) refl kept.is_attached) old
+each_done P s steps p t env (Vm (NativeLeave kept_ref)) kept old =
+    steps.leaves p t (attached_caller p t env (Vm (NativeLeave kept_ref)) refl kept.is_attached) kept.right_frame old
+each_done P s steps p t env (Vm (LoadLibrary class library)) kept old = old
+each_done P s steps p t env (Vm (RegisterNatives class method signature)) kept old = others P s steps t (Vm (RegisterNatives class method signature)) p p old
+each_done P s steps p t env (Vm (UnregisterNatives class)) kept old = others P s steps t (Vm (UnregisterNatives class)) p p old
+each_done P s steps p t env (Refs (NewLocalRef r)) kept old = old
+each_done P s steps p t env (Refs (DeleteLocalRef r)) kept old = deleting P s steps p t r old
+each_done P s steps p t env (Refs (IsSameObject r u)) kept old = old
+each_done P s steps p t env (Refs (GetObjectRefType r)) kept old = old
+each_done P s steps p t env (Frames (PushLocalFrame capacity)) kept old = steps.pushes p t old
+each_done P s steps p t env (Frames (PopLocalFrame r)) kept old = steps.pops p t kept.right_frame old
+each_done P s steps p t env (Exceptions (Throw r)) kept old = steps.raises p t (the_object p t r) old
+each_done P s steps p t env (Exceptions ExceptionOccurred) kept old = old
+each_done P s steps p t env (Exceptions ExceptionDescribe) kept old = steps.calms p t old
+each_done P s steps p t env (Exceptions ExceptionClear) kept old = steps.calms p t old
+each_done P s steps p t env (Exceptions ExceptionCheck) kept old = old
+each_done P s steps p t env (Objects call) kept old = others P s steps t (Objects call) p p old
+each_done P s steps p t env (Strings call) kept old = others P s steps t (Strings call) p p old
+each_done P s steps p t env (Arrays call) kept old = others P s steps t (Arrays call) p p old
 
-each_if : (P : Parts → Type 0) → Steps P → (b : Bool) (s : StatedSetup) (p : Parts) (t : ℕ) (env : Option EnvId) (call : Call) → Unbroken s p t env call → P p → P (done_if b s t call p)
-each_if P steps true s p t env call kept old = each_done P steps s p t env call kept old
-each_if P steps false s p t env call kept old = old
+each_if : (P : Parts → Type 0) (s : StatedSetup) → Steps s P → (b : Bool) (p : Parts) (t : ℕ) (env : Option EnvId) (call : Call) → Unbroken s p t env call → P p → P (done_if b s t call p)
+each_if P s steps true p t env call kept old = each_done P s steps p t env call kept old
+each_if P s steps false p t env call kept old = old
 
 -- ---- events of the answer
 
-settling : (P : Parts → Type 0) → Steps P → (s : StatedSetup) (home : Option ℕ) (p q : Parts) (t : Tid) (call : Call) (value : Value) (warned : Bool) (o : Option ObjId)
+settling : (P : Parts → Type 0) (s : StatedSetup) → Steps s P → (home : Option ℕ) (p q : Parts) (t : Tid) (call : Call) (value : Value) (warned : Bool) (o : Option ObjId)
     → IsProper s p t call value warned o → next_ref q t.0 ≡ next_ref p t.0
     → P q → P (settled home t.0 (record { value = value; warned = false }) o q)
-settling P steps s home p q t call (Reference r) warned None is same old = absurd is
-settling P steps s home p q t call (Reference Null) warned (Some o) is same old = absurd is
-settling P steps s home p q t call (Reference (To Local maker n)) warned (Some o) is same old = steps.hands q t.0 n o.0 (is.2 ∙ sym same) old
-settling P steps s home p q t call (Reference (To Global maker n)) warned (Some o) is same old =
+settling P s steps home p q t call (Reference r) warned None is same old = absurd is
+settling P s steps home p q t call (Reference Null) warned (Some o) is same old = absurd is
+settling P s steps home p q t call (Reference (To Local maker n)) warned (Some o) is same old = steps.hands q t.0 n o.0 (is.2 ∙ sym same) old
+settling P s steps home p q t call (Reference (To Global maker n)) warned (Some o) is same old =
     subst (λ (m : Tid). P (record q { threads = threads.by t.0 threads.CountRef ∷ q.threads; globals = globals.MakeStrong m.0 n o.0 ∷ q.globals })) (sym is.1)
     (steps.hands_strong q t.0 n o.0 (is.2 ∙ sym same) old)
-settling P steps s home p q t call (Reference (To Weak maker n)) warned (Some o) is same old =
+settling P s steps home p q t call (Reference (To Weak maker n)) warned (Some o) is same old =
     subst (λ (m : Tid). P (record q { threads = threads.by t.0 threads.CountRef ∷ q.threads; globals = globals.MakeWeak m.0 n o.0 ∷ q.globals })) (sym is.1)
     (steps.hands_weak q t.0 n o.0 (is.2 ∙ sym same) old)
-settling P steps s home p q t call (Lent b) warned o is same old = steps.lends q t.0 old
-settling P steps s home p q t call (Threw kind) warned None is same old = absurd is
-settling P steps s home p q t call (Threw kind) warned (Some o) is same old =
-    steps.raises (record q { heap = value_heap (Threw kind) ++ q.heap }) t.0 o.0 (steps.to_heap q (value_heap (Threw kind)) old)
-settling P steps s home p q t call value warned o is same old = old
+settling P s steps home p q t call (Lent b) warned o is same old = steps.lends q t.0 old
+settling P s steps home p q t call (Threw kind) warned None is same old = absurd is
+settling P s steps home p q t call (Threw kind) warned (Some o) is same old =
+    steps.raises (record q { heap = value_heap (Threw kind) ++ q.heap }) t.0 o.0 (steps.to_heap q (value_heap (Threw kind)) (thrown_stated s kind) old)
+settling P s steps home p q t call value warned o is same old = old
 
-each_passed : (P : Parts → Type 0) → Steps P → (s : StatedSetup) (p : Parts) (t : Tid) (env : Option EnvId) (call : Call) → Unbroken s p t.0 env call → P p
+each_passed : (P : Parts → Type 0) (s : StatedSetup) → Steps s P → (p : Parts) (t : Tid) (env : Option EnvId) (call : Call) → Unbroken s p t.0 env call → P p
     → P (answered s p t call (answer s p t call))
-each_passed P steps s p t env call kept old =
+each_passed P s steps p t env call kept old =
     let a : Answer = answer s p t call in
     let q : Parts = done_if (is_effective a.reply.value) s t.0 call p in
     let home : Option ℕ = home_of s (native_class s p t.0 call) in
     steps.to_links (settled home t.0 (record { value = a.reply.value; warned = false }) a.object q) (warning a.reply.warned home)
-    (settling P steps s home p q t call a.reply.value a.reply.warned a.object (proper s p t call) (next_done_if (is_effective a.reply.value) s p t.0 call t.0)
-    (each_if P steps (is_effective a.reply.value) s p t.0 env call kept old))
+    (settling P s steps home p q t call a.reply.value a.reply.warned a.object (proper s p t call) (next_done_if (is_effective a.reply.value) s p t.0 call t.0)
+    (each_if P s steps (is_effective a.reply.value) p t.0 env call kept old))
 
-each_by : (P : Parts → Type 0) → Steps P → (s : StatedSetup) (v : Option Rule) (p : Parts) (t : Tid) (env : Option EnvId) (call : Call) → verdict s p t.0 env call ≡ v → P p
+each_by : (P : Parts → Type 0) (s : StatedSetup) → Steps s P → (v : Option Rule) (p : Parts) (t : Tid) (env : Option EnvId) (call : Call) → verdict s p t.0 env call ≡ v → P p
     → (x : Entry) → x ≡ entry_by v (answer s p t call) t env call → P (after s x.tid.0 x.call x.outcome x.object p)
-each_by P steps s (Some rule) p t env call denied old x is = rw is old
-each_by P steps s None p t env call none old x is = rw is (each_passed P steps s p t env call (unbroken s p t.0 env call none) old)
+each_by P s steps (Some rule) p t env call denied old x is = rw is old
+each_by P s steps None p t env call none old x is = rw is (each_passed P s steps p t env call (unbroken s p t.0 env call none) old)
 
 -- an entry that its call has at p keeps what the events keep
-pub each_entry : (P : Parts → Type 0) → Steps P → (s : StatedSetup) (p : Parts) (x : Entry) → x ≡ entry_at s p x.tid x.env x.call → P p → P (after s x.tid.0 x.call x.outcome x.object p)
-each_entry P steps s p x is old = each_by P steps s (verdict s p x.tid.0 x.env x.call) p x.tid x.env x.call refl old x is
+pub each_entry : (P : Parts → Type 0) (s : StatedSetup) → Steps s P → (p : Parts) (x : Entry) → x ≡ entry_at s p x.tid x.env x.call → P p → P (after s x.tid.0 x.call x.outcome x.object p)
+each_entry P s steps p x is old = each_by P s steps (verdict s p x.tid.0 x.env x.call) p x.tid x.env x.call refl old x is
 
 -- what the events keep, each legal history has
-pub each_legal : (P : Parts → Type 0) → Steps P → P nothing_yet → (s : StatedSetup) (h : List Entry) → Legal s h → P (parts s h)
-each_legal P steps none s [] legal = none
-each_legal P steps none s (x ∷ h) legal = each_entry P steps s (parts s h) x legal.0 (each_legal P steps none s h legal.1)
+pub each_legal : (P : Parts → Type 0) (s : StatedSetup) → Steps s P → P nothing_yet → (h : List Entry) → Legal s h → P (parts s h)
+each_legal P s steps none [] legal = none
+each_legal P s steps none (x ∷ h) legal = each_entry P s steps (parts s h) x legal.0 (each_legal P s steps none h legal.1)
 
 -- and what a legal history had, it has later
-pub each_since : (P : Parts → Type 0) → Steps P → (s : StatedSetup) (newer h : List Entry) → Legal s (newer ++ h) → P (parts s h) → P (parts s (newer ++ h))
-each_since P steps s [] h legal old = old
-each_since P steps s (x ∷ newer) h legal old = each_entry P steps s (parts s (newer ++ h)) x legal.0 (each_since P steps s newer h legal.1 old)
+pub each_since : (P : Parts → Type 0) (s : StatedSetup) → Steps s P → (newer h : List Entry) → Legal s (newer ++ h) → P (parts s h) → P (parts s (newer ++ h))
+each_since P s steps [] h legal old = old
+each_since P s steps (x ∷ newer) h legal old = each_entry P s steps (parts s (newer ++ h)) x legal.0 (each_since P s steps newer h legal.1 old)

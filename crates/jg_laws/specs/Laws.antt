@@ -1,14 +1,23 @@
 -- The laws of legal histories.
-use Rattle.std.specs.Prelude.{ℕ, ◌≡◌, ◌<◌, List, ◌∷◌, ◌++◌, Some, None}
+use Rattle.std.specs.Prelude.{ℕ, ◌≡◌, ◌<◌, ◌≤◌, true, false, List, ◌∷◌, ◌++◌, length, Some, None}
 use Rattle.jg_words.specs.declared.thread.Tid.{Tid}
 use Rattle.jg_words.specs.declared.reference.Kind.{Kind}
 use Rattle.jg_words.specs.declared.reference.Ref.{Ref}
 use Rattle.jg_words.specs.declared.reference.Ref.TheVariants.{To}
+use Rattle.jg_words.specs.declared.entry.Reply.{Reply}
+use Rattle.jg_words.specs.declared.entry.Outcome.TheVariants.{Passed}
 use Rattle.jg_words.specs.declared.entry.Entry.{Entry}
+use Rattle.jg_words.specs.declared.call.Call.TheVariants.{Vm}
+use Rattle.jg_words.specs.declared.call.vm.VmCall.TheVariants.{NativeEnter}
 use Rattle.jg_policy.specs.Stated.{StatedSetup}
+use Rattle.jg_policy.specs.Classes.{class_at, class_named, fields_in}
 use Rattle.jg_threads.specs.History as threads
 use Rattle.jg_locals.specs.History as locals
-use Rattle.jg_rules.specs.Names.{object_named, next_ref}
+use Rattle.jg_heap.specs.History as heap
+use Rattle.jg_heap.specs.Making.{Making, Plain, Text, Filled}
+use Rattle.jg_rules.specs.Names.{object_named, next_ref, class_of, length_of, native_meant}
+use Rattle.jg_rules.specs.Access.{refuses}
+use Rattle.jg_rules.specs.Rules.{is_linked}
 use Rattle.jg_rules.specs.Effects.{parts}
 use Rattle.jg_rules.specs.Legal.{Legal, Asked, history_of}
 use Rattle.jg_laws.specs.Histories.{passed_only, reference_of, WasHandedOut, IsHistoryOf}
@@ -39,6 +48,42 @@ pub record Agree (of_threads : List threads.Act) (of_locals : List locals.Act) :
   pub session : threads.attached of_threads ≡ locals.has_session of_locals
   pub depth : threads.depth of_threads ≡ locals.depth of_locals
 
+-- and in how many native methods it entered and left in its session, and outside of one in none
+pub record AgreeInNatives (of_threads : List threads.Act) (of_locals : List locals.Act) : Type 0 where
+  pub session : threads.attached of_threads ≡ locals.has_session of_locals
+  pub enters : threads.how_many threads.is_enter (threads.since of_threads)
+      ≡ threads.how_many locals.is_enter (locals.session of_locals)
+  pub leaves : threads.how_many threads.is_leave (threads.since of_threads)
+      ≡ threads.how_many locals.is_leave (locals.session of_locals)
+  pub none_entered : threads.attached of_threads ≡ false
+      → threads.how_many threads.is_enter (threads.since of_threads) ≡ 0
+  pub none_left : threads.attached of_threads ≡ false
+      → threads.how_many threads.is_leave (threads.since of_threads) ≡ 0
+
 abbrev pub DepthsAgree : Type 0
 DepthsAgree = (s : StatedSetup) (h : List Entry) (t : ℕ) → Legal s h
     → Agree (threads.acts_of t (parts s h).threads) (locals.acts_of t (parts s h).locals)
+
+-- a plain object is made with as many fields as the setup states for its class, and no array is of such a class
+abbrev pub IsStatedMaking : StatedSetup → Making → Type 0
+IsStatedMaking s (Plain class fields) = length fields ≡ length (fields_in (class_at s class))
+IsStatedMaking s (Text units) = Unit {0}
+IsStatedMaking s (Filled class n item) = class ≤ 9
+
+abbrev pub MakesStated : StatedSetup → heap.Event → Type 0
+MakesStated s (heap.Made m) = IsStatedMaking s m
+MakesStated s (heap.Wrote o j v) = Unit {0}
+MakesStated s (heap.Collected roots) = Unit {0}
+
+-- an object of a class of the setup has the fields that the setup states for the class
+abbrev pub FieldsAreStated : Type 0
+FieldsAreStated = (s : StatedSetup) (h : List Entry) (o : ℕ) → Legal s h → 10 ≤ class_of s (parts s h) o
+    → length_of s (parts s h) o ≡ length (fields_in (class_at s (class_of s (parts s h) o)))
+
+-- a native method that was entered was linked then, and its class was not refused native access
+abbrev pub EnteredWasLinked : Type 0
+EnteredWasLinked = (s : StatedSetup) (later : List Entry) (x : Entry) (before : List Entry)
+    (class method signature : List ℕ) (reply : Reply) → Legal s (later ++ x ∷ before)
+    → x.call ≡ Vm (NativeEnter class method signature) → x.outcome ≡ Passed reply
+    → (is_linked (parts s before) (class_named s class) (native_meant s (class_named s class) method signature) ≡ true)
+    × (refuses s (class_named s class) ≡ false)

@@ -2,7 +2,7 @@
 //! journal can be any legal history within its limit, so each is a law of the guard.
 #![tactic(auto)]
 
-ghost use Rattle.jg_laws.specs.Laws.{ReferencesCounted, NoReferenceTwice, NoReferenceRevived, DeniedEntriesDoNothing, OneHistoryForTheCalls, DepthsAgree};
+ghost use Rattle.jg_laws.specs.Laws.{ReferencesCounted, NoReferenceTwice, NoReferenceRevived, DeniedEntriesDoNothing, OneHistoryForTheCalls, DepthsAgree, FieldsAreStated, EnteredWasLinked};
 
 /// The number of a reference that was handed out is below the number of its maker's next one.
 pub fn references_are_counted()
@@ -32,4 +32,14 @@ pub fn one_history_for_the_calls()
 /// The tables of threads and of locals agree on who has a session, and on each thread's depth.
 pub fn depths_agree()
     ensures { DepthsAgree }
+{}
+
+/// An object of a class of the setup has the fields that the setup states for the class.
+pub fn fields_are_stated()
+    ensures { FieldsAreStated }
+{}
+
+/// A native method that was entered was linked then, and its class was not refused native access.
+pub fn entered_was_linked()
+    ensures { EnteredWasLinked }
 {}

@@ -1,8 +1,8 @@
 -- What other crates rest on: facts of lists of acts, and laws of specs/Laws.
 pub use Rattle.jg_lists.proofs.Acts.{acts_more, acts_same, each_thread}
-use Rattle.jg_locals.specs.Laws.{SessionHasFrame, TopMeans, PushedMeans, NewNumberIsAbove, LiveIsBelow}
+use Rattle.jg_locals.specs.Laws.{SessionHasFrame, TopMeans, PushedMeans, EnteredMeans, NewNumberIsAbove, LiveIsBelow}
 use Rattle.jg_locals.proofs.Above.{has_frame, above_rows, live_is_made_below}
-use Rattle.jg_locals.proofs.Lookups.{pushed_told}
+use Rattle.jg_locals.proofs.Lookups.{pushed_told, depth_law}
 use Rattle.jg_locals.proofs.Tops.{top_told}
 
 pub has_frame_law : SessionHasFrame
@@ -13,6 +13,9 @@ top_is rows e t stands = top_told rows e t stands
 
 pub pushed_law : PushedMeans
 pushed_law rows e t stands = pushed_told rows e t stands
+
+pub entered_law : EnteredMeans
+entered_law rows e t stands = depth_law rows e t stands
 
 pub above_law : NewNumberIsAbove
 above_law rows e t n stands below = above_rows rows e t n stands below

@@ -3,7 +3,7 @@ use Rattle.std.specs.Prelude.{◌≡◌, ◌≢◌, ◌⊎◌, ◌↔◌, ◌<�
 use Rattle.std.specs.List.{list_any}
 use Rattle.jg_lists.specs.Acts.{Moment, moments}
 use Rattle.jg_locals.specs.History.{Act, Make, Delete, Pop, Leave, Event, acts_of, is_enter, is_leave, is_push, is_pop, how_many, has_session, depth, begins, frames, done_here, ends, live, holds_object, IsMadeBelow}
-use Rattle.jg_locals.specs.Rows.{FrameRow, Rows, top, HasFrame, pushed}
+use Rattle.jg_locals.specs.Rows.{FrameRow, Rows, top, HasFrame, pushed, entered}
 use Rattle.jg_locals.specs.Standing.{AllAllowed, Stands}
 
 -- the act ends local n, where `since` was done between the making of n and the act: it deletes n or ends the session;
@@ -90,6 +90,10 @@ TopMeans = (rows : Rows) (e : List Event) (t : ℕ) → Stands rows e → top t 
 abbrev pub PushedMeans : Type 0
 PushedMeans = (rows : Rows) (e : List Event) (t : ℕ) → Stands rows e
     → pushed t rows ≡ frames (depth (acts_of t e)) (acts_of t e)
+
+-- and in how many native methods the thread is
+abbrev pub EnteredMeans : Type 0
+EnteredMeans = (rows : Rows) (e : List Event) (t : ℕ) → Stands rows e → entered t rows ≡ depth (acts_of t e)
 
 -- a number above all that the acts gave the thread's locals is above all of its rows, as a making asks
 abbrev pub NewNumberIsAbove : Type 0

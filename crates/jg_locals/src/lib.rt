@@ -12,7 +12,7 @@ mod stacks;
 
 pub use locals::Locals;
 pub use meanings::{
-    deleted_is_never_live, held_means, left_means, live_means, new_number_is_above,
+    deleted_is_never_live, entered_means, held_means, left_means, live_means, new_number_is_above,
     open_frames_mean, popped_means, pushed_means, session_has_frame, top_means,
 };
 

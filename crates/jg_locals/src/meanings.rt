@@ -1,7 +1,7 @@
 //! What the definitions on locals mean, and what rows that stand tell, each as the contract of a
 //! function that does nothing.
 
-ghost use Rattle.jg_locals.specs.Laws.{LiveMeans, LeftMeans, PoppedMeans, OpenFramesMean, DeletedStaysDead, HeldMeans, SessionHasFrame, TopMeans, PushedMeans, NewNumberIsAbove, LiveIsBelow};
+ghost use Rattle.jg_locals.specs.Laws.{LiveMeans, LeftMeans, PoppedMeans, OpenFramesMean, DeletedStaysDead, HeldMeans, SessionHasFrame, TopMeans, PushedMeans, EnteredMeans, NewNumberIsAbove, LiveIsBelow};
 
 /// A local is live exactly where it was made, and nothing since has made it again or ended it.
 pub fn live_means()
@@ -48,6 +48,11 @@ pub fn top_means()
 /// Who knows the acts knows how many frames are pushed at the thread's depth.
 pub fn pushed_means()
     ensures { PushedMeans }
+{}
+
+/// Who knows the acts knows in how many native methods the thread is.
+pub fn entered_means()
+    ensures { EnteredMeans }
 {}
 
 /// Who counts the numbers that a thread's locals were given has what the making of a local asks,

@@ -6,3 +6,7 @@ pub mod Strings
 pub mod Exceptions
 pub mod Objects
 pub mod Arrays
+pub mod Setups
+pub mod ObjectFields
+pub mod Natives
+pub mod Access

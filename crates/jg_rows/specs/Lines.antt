@@ -1,10 +1,11 @@
 -- How worked rows are written: lines, each a call and what becomes of it, in the order in which the calls are made.
-use Rattle.std.specs.Prelude.{◌≡◌, ℕ, false, List, [], map, reverse, Option, Some, None}
+use Rattle.std.specs.Prelude.{◌≡◌, ℕ, true, false, List, [], map, reverse, Option, Some, None}
 use Rattle.jg_words.specs.declared.thread.EnvId.{EnvId}
 use Rattle.jg_words.specs.declared.reference.Ref.{Ref}
 use Rattle.jg_words.specs.declared.reference.Ref.TheVariants.{To}
 use Rattle.jg_words.specs.declared.reference.Kind.TheVariants.{Local, Global, Weak}
 use Rattle.jg_words.specs.declared.object.ObjId.{ObjId}
+use Rattle.jg_words.specs.declared.object.FieldId.{FieldId}
 use Rattle.jg_words.specs.declared.rule.Rule.{Rule}
 use Rattle.jg_words.specs.declared.value.Value.{Value}
 use Rattle.jg_words.specs.declared.value.Value.TheVariants.{Ok as Done, Reference, Throw as Threw}
@@ -71,12 +72,20 @@ global t n = To Global (record { 0 = t }) n
 abbrev pub weak : ℕ → ℕ → Ref
 weak t n = To Weak (record { 0 = t }) n
 
+-- `F15.1`: the first field of class 15
+abbrev pub field : ℕ → ℕ → FieldId
+field class n = record { class = class; field = n }
+
 -- passed with this value and no warning, and no object is handed out
 abbrev pub gives : Value → Became
 gives value = record { outcome = Passed (record { value = value; warned = false }); object = None }
 
+-- passed with this value and a warning, and no object is handed out
+abbrev pub warns : Value → Became
+warns value = record { outcome = Passed (record { value = value; warned = true }); object = None }
+
 -- passed with this reference and no warning; it names the object of this number, where the first object that is made
--- is number 15, after the class objects of the base classes
+-- comes after the class objects: with no class but the base classes it is number 15
 abbrev pub hands_out : Ref → ℕ → Became
 hands_out r n =
     record { outcome = Passed (record { value = Reference r; warned = false }); object = Some (record { 0 = n }) }

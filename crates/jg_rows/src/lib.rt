@@ -5,14 +5,21 @@
 //! is the text that stands beside it, which the tests run.
 #![tactic(auto)]
 
+mod access;
 mod arrays;
 mod exceptions;
 mod frames;
+mod natives;
+mod object_fields;
 mod objects;
 mod references;
 mod sessions;
 mod strings;
 
+pub use access::{
+    A_THROW_WARNS_OF_NOTHING, ACCESS_ALLOWED, ACCESS_DENIED, ACCESS_WARNED,
+    a_throw_warns_of_nothing, access_allowed, access_denied, access_warned,
+};
 pub use arrays::{
     A_THROW_CHANGES_NOTHING_ELSE, OBJECT_ARRAYS, REGIONS_OF_ARRAYS, VALUES_OF_TYPES,
     WRITES_OF_REGIONS, a_throw_changes_nothing_else, object_arrays, regions_of_arrays,
@@ -25,6 +32,16 @@ pub use frames::{
     FRAME_CAPACITIES, FRAMES_WITHIN_FRAMES, POP_OF_DEAD_RESULT, POP_WITHOUT_FRAME,
     RESULT_OF_FRAME_BELOW, RESULT_OUT_OF_FRAME, frame_capacities, frames_within_frames,
     pop_of_dead_result, pop_without_frame, result_of_frame_below, result_out_of_frame,
+};
+pub use natives::{
+    FRAME_OF_EARLIER_ACTIVATION, FRAME_OF_OTHER_ACTIVATION, LEAVE_CUTS_FRAMES,
+    LEAVE_WITH_AN_EXCEPTION_PENDING, NATIVES_OF_A_CLASS, frame_of_earlier_activation,
+    frame_of_other_activation, leave_cuts_frames, leave_with_an_exception_pending,
+    natives_of_a_class,
+};
+pub use object_fields::{
+    FIELDS, FIELDS_OF_EACH_TYPE, FIELDS_OF_OBJECTS, FIELDS_OF_OTHERS, fields, fields_of_each_type,
+    fields_of_objects, fields_of_others,
 };
 pub use objects::{
     CLASSES_AND_INSTANCES, THROWN_CLASSES, WRONG_TYPES, classes_and_instances, thrown_classes,

@@ -1,8 +1,11 @@
 //! The same rows as texts: the script of each, checked, and what is written.
 
+mod access;
 mod arrays;
 mod exceptions;
 mod frames;
+mod natives;
+mod object_fields;
 mod objects;
 mod references;
 mod scripts;
@@ -25,15 +28,46 @@ struct Ended {
     result: Result<u64, RunFault>,
 }
 
-/// A new guard with this limit answers the script by this text, and ends so.
+/// The setup that denies native access and states nothing else.
+const CLOSED: &str = "version = 1
+illegal_native_access = \"deny\"
+";
+
+/// What a setup of two modules states after its mode. Its classes are 15 to 17.
+const TWO_MODULES: &str = "enable_native_access = [\"app\"]
+[[class]]
+name = \"app/Main\"
+module = \"app\"
+fields = [{ name = \"count\", type = \"I\" }, { name = \"next\", type = \"Lapp/Main;\" }]
+natives = [{ name = \"run\", type = \"()V\" }]
+[[class]]
+name = \"lib/Tool\"
+module = \"lib\"
+natives = [{ name = \"go\", type = \"()V\" }]
+[[class]]
+name = \"app/Fault\"
+module = \"app\"
+throwable = true
+";
+
+/// The text of the setup of two modules, with this mode.
+fn two_modules(alloc: Global, mode: &str) -> Result<String, Fail> {
+    Ok(format!(in alloc; "version = 1\nillegal_native_access = \"{mode}\"\n{TWO_MODULES}")?)
+}
+
+/// A new guard with this setup and limit answers the script by this text, and ends so.
 fn answers(
     alloc: Global,
+    setup: &str,
     limit: u32,
     script: &[u8],
     text: &str,
     ended: Result<u64, RunFault>,
 ) -> Result<(), Fail> {
-    let mut guard = Guard::new(alloc, alloc, Setup::closed(alloc), limit)?;
+    let Ok(setup) = Setup::read(alloc, setup) else {
+        return Err(Fail::from("the setup isn't one"));
+    };
+    let mut guard = Guard::new(alloc, alloc, setup, limit)?;
     let mut reader = Watched::new(script);
     let mut writer = Watched::new(Vec::new(alloc));
     if check(alloc, &mut guard, &mut reader, &mut writer) != ended {
@@ -58,17 +92,23 @@ fn script_of(alloc: Global, text: &str) -> Result<Vec<u8>, Fail> {
     Ok(script)
 }
 
-/// The calls of the row's text are answered by this very text.
-fn comes_out(alloc: Global, text: &str) -> Result<(), Fail> {
+/// The calls of the row's text are answered by this very text, under this setup.
+fn comes_out_under(alloc: Global, setup: &str, text: &str) -> Result<(), Fail> {
     let script = script_of(alloc, text)?;
     let count = text.lines().count() as u64;
-    answers(alloc, 100, &script, text, Ok(count))
+    answers(alloc, setup, 100, &script, text, Ok(count))
+}
+
+/// The same under the setup that states no class.
+fn comes_out(alloc: Global, text: &str) -> Result<(), Fail> {
+    comes_out_under(alloc, CLOSED, text)
 }
 
 /// The script is answered as the row says.
 fn ends(alloc: Global, row: &Ended) -> Result<(), Fail> {
     answers(
         alloc,
+        CLOSED,
         row.limit,
         row.script.as_bytes(),
         row.text,

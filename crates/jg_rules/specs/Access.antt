@@ -9,15 +9,21 @@ use Rattle.jg_policy.specs.declared.access.Access.TheVariants.{Allowed, AllowedW
 use Rattle.jg_policy.specs.declared.access.Operation.TheVariants.{Load}
 use Rattle.jg_policy.specs.Stated.{StatedSetup}
 use Rattle.jg_policy.specs.Access.{access_of}
-use Rattle.jg_policy.specs.Classes.{module_of}
+use Rattle.jg_policy.specs.Classes.{class_named, module_of}
 use Rattle.jg_policy.specs.Links.{warned}
 use Rattle.jg_rules.specs.Parts.{Parts}
+use Rattle.jg_rules.specs.Names.{class_meant}
 
 -- the class whose module decides
 abbrev pub vm_class : StatedSetup → Parts → ℕ → VmCall → Option ℕ
 vm_class s p t AttachCurrentThread = None
 vm_class s p t DetachCurrentThread = None
 vm_class s p t GetEnv = None
+vm_class s p t (NativeEnter class method signature) = class_named s class
+vm_class s p t (NativeLeave kept) = None
+vm_class s p t (LoadLibrary class library) = class_named s class
+vm_class s p t (RegisterNatives class method signature) = class_meant s p t class
+vm_class s p t (UnregisterNatives class) = None
 
 abbrev pub native_class : StatedSetup → Parts → ℕ → Call → Option ℕ
 native_class s p t (Vm call) = vm_class s p t call

@@ -3,14 +3,15 @@ use Rattle.std.specs.Prelude.{ℕ, ℤ, pos, ◌+◌, ◌==◌, ◌||◌, Bool, 
 use Rattle.std.specs.Option.{option_map, is_some}
 use Rattle.jg_words.specs.declared.thread.Tid.{Tid}
 use Rattle.jg_words.specs.declared.object.ObjId.{ObjId}
+use Rattle.jg_words.specs.declared.object.FieldId.{FieldId}
 use Rattle.jg_words.specs.declared.reference.Kind.{Kind}
 use Rattle.jg_words.specs.declared.reference.Kind.TheVariants.{Local, Global, Weak}
 use Rattle.jg_words.specs.declared.reference.Ref.{Ref}
 use Rattle.jg_words.specs.declared.reference.Ref.TheVariants.{Null, To}
 use Rattle.jg_words.specs.declared.value.Value.{Value}
-use Rattle.jg_words.specs.declared.value.Value.TheVariants.{Ok as Done, Number as Amount, Truth, Null as NullAnswer, Reference, Environment, List as Listed, Detached as NotAttached, Throw as Threw}
+use Rattle.jg_words.specs.declared.value.Value.TheVariants.{Ok as Done, Number as Amount, Truth, Null as NullAnswer, Reference, Field, Environment, List as Listed, Detached as NotAttached, Throw as Threw}
 use Rattle.jg_words.specs.declared.value.Thrown.{Thrown}
-use Rattle.jg_words.specs.declared.value.Thrown.TheVariants.{ArrayIndexOutOfBounds, StringIndexOutOfBounds, NoClassDefFound}
+use Rattle.jg_words.specs.declared.value.Thrown.TheVariants.{ArrayIndexOutOfBounds, StringIndexOutOfBounds, NoClassDefFound, NoSuchField, NoSuchMethod}
 use Rattle.jg_words.specs.declared.call.Call.{Call}
 use Rattle.jg_words.specs.declared.call.Call.TheVariants.{Vm, Refs, Frames, Exceptions, Objects, Strings, Arrays}
 use Rattle.jg_words.specs.declared.call.vm.VmCall.{VmCall}
@@ -31,13 +32,14 @@ use Rattle.jg_policy.specs.Stated.{StatedSetup}
 use Rattle.jg_policy.specs.Classes.{class_named}
 use Rattle.jg_heap.specs.Reading.{natural}
 use Rattle.jg_heap.specs.Spelling.{spelt}
+use Rattle.jg_heap.specs.declared.object.Slot.{Slot}
 use Rattle.jg_threads.specs.History as threads
 use Rattle.jg_rules.specs.declared.answer.Answer.{Answer}
 use Rattle.jg_rules.specs.declared.named.Named.{Named}
 use Rattle.jg_rules.specs.declared.named.Named.TheVariants.{Nothing}
 use Rattle.jg_rules.specs.Parts.{Parts}
 use Rattle.jg_rules.specs.Access.{warns}
-use Rattle.jg_rules.specs.Names.{names, object_named, the_object, object_count, class_of, length_of, units_of, slot_of, target_in, items_of, session, next_ref, pending}
+use Rattle.jg_rules.specs.Names.{names, object_named, the_object, object_count, class_of, length_of, units_of, slot_of, slot_place, number_in, target_in, items_of, session, next_ref, pending, class_meant, native_meant, field_meant}
 
 abbrev pub saying : Value → Option ObjId → Answer
 saying value object = record { reply = record { value = value; warned = false }; object = object }
@@ -62,13 +64,30 @@ abbrev pub present_env : Tid → Option ℕ → Value
 present_env t None = NotAttached
 present_env t (Some n) = Environment (record { tid = t; session = n })
 
+-- with an exception pending a native method returns null, whatever it was to return
+abbrev pub unless_pending : Option ℕ → Answer → Answer
+unless_pending None a = a
+unless_pending (Some exception) a = plain NullAnswer
+
+-- a method that the class doesn't declare native throws (JNI Specification, chapter 4, RegisterNatives)
+abbrev pub registered : StatedSetup → Parts → Option ℕ → Option ℕ → Answer
+registered s p class None = thrown s p NoSuchMethod
+registered s p class (Some native) = admitted s p class (plain Done)
+
 -- the environment of the session that the thread has then; JNI_EDETACHED where it has none (JNI Specification, chapter
--- 5)
-abbrev pub vm_answer : Parts → Tid → VmCall → Answer
-vm_answer p t AttachCurrentThread = plain
+-- 5). A native method is handed its class, and what it returns is handed on to the frame below (chapter 2)
+abbrev pub vm_answer : StatedSetup → Parts → Tid → VmCall → Answer
+vm_answer s p t AttachCurrentThread = plain
     (Environment (record { tid = t; session = threads.sessions (threads.Attach ∷ threads.acts_of t.0 p.threads) }))
-vm_answer p t DetachCurrentThread = plain Done
-vm_answer p t GetEnv = plain (present_env t (session p t.0))
+vm_answer s p t DetachCurrentThread = plain Done
+vm_answer s p t GetEnv = plain (present_env t (session p t.0))
+vm_answer s p t (NativeEnter class method signature) =
+    admitted s p (class_named s class) (handed p t Local (class_named s class))
+vm_answer s p t (NativeLeave kept) = unless_pending (pending p t.0) (handed p t Local (object_named p t.0 kept))
+vm_answer s p t (LoadLibrary class library) = admitted s p (class_named s class) (plain Done)
+vm_answer s p t (RegisterNatives class method signature) =
+    registered s p (class_meant s p t.0 class) (native_meant s (class_meant s p t.0 class) method signature)
+vm_answer s p t (UnregisterNatives class) = plain Done
 
 abbrev pub same_object : Option ℕ → Option ℕ → Bool
 same_object None None = true
@@ -123,13 +142,30 @@ abbrev pub class_found : StatedSetup → Parts → Tid → Option ℕ → Answer
 class_found s p t None = thrown s p NoClassDefFound
 class_found s p t (Some class) = handed p t Local (Some class)
 
--- (JNI Specification, chapter 4, "Class Operations", "Object Operations")
+-- a field that the class doesn't have throws
+abbrev pub field_found : StatedSetup → Parts → Option FieldId → Answer
+field_found s p None = thrown s p NoSuchField
+field_found s p (Some field) = plain (Field field)
+
+-- what the field holds of the object
+abbrev pub field_value : StatedSetup → Parts → ℕ → FieldId → Slot
+field_value s p o field = slot_of s p o (slot_place field)
+
+-- (JNI Specification, chapter 4, "Class Operations", "Object Operations", "Accessing Fields of Objects")
 abbrev pub objects_answer : StatedSetup → Parts → Tid → ObjectsCall → Answer
 objects_answer s p t (FindClass name) = class_found s p t (class_named s name)
 objects_answer s p t (GetObjectClass r) = handed p t Local (Some (class_of s p (the_object p t.0 r)))
 objects_answer s p t (IsInstanceOf r class) =
     plain (Truth (is_instance s p (the_object p t.0 class) (object_named p t.0 r)))
 objects_answer s p t (AllocObject class) = made s p t
+objects_answer s p t (GetFieldID class field signature) =
+    field_found s p (field_meant s (class_meant s p t.0 class) field signature)
+objects_answer s p t (GetField primitive r field) =
+    plain (Amount (number_in (field_value s p (the_object p t.0 r) field)))
+objects_answer s p t (GetObjectField r field) =
+    handed p t Local (target_in (field_value s p (the_object p t.0 r) field))
+objects_answer s p t (SetField primitive r field value) = plain Done
+objects_answer s p t (SetObjectField r field value) = plain Done
 
 -- start or length negative, or their sum over the whole length
 abbrev pub is_outside : ℤ → ℤ → ℕ → Bool
@@ -171,7 +207,7 @@ arrays_answer s p t (SetObjectArrayElement r index value) =
     or_outside s p ArrayIndexOutOfBounds (is_outside index (pos 1) (length_of s p (the_object p t.0 r))) (plain Done)
 
 abbrev pub answer : StatedSetup → Parts → Tid → Call → Answer
-answer s p t (Vm call) = vm_answer p t call
+answer s p t (Vm call) = vm_answer s p t call
 answer s p t (Refs call) = refs_answer p t call
 answer s p t (Frames call) = frames_answer p t call
 answer s p t (Exceptions call) = exceptions_answer p t call

@@ -42,7 +42,7 @@ use Rattle.jg_heap.specs.Making.{Text, Plain, Filled, array_class}
 use Rattle.jg_heap.specs.Reading.{natural, decoded}
 use Rattle.jg_heap.specs.declared.object.Slot.{Slot}
 use Rattle.jg_heap.specs.declared.object.Slot.TheVariants.{Number, Object as Pointer}
-use Rattle.jg_rules.specs.Names.{the_object, object_named}
+use Rattle.jg_rules.specs.Names.{the_object, object_named, class_meant, native_meant, slot_place}
 use Rattle.jg_rules.specs.Parts.{Parts, nothing_yet}
 use Rattle.jg_rules.specs.Access.{native_class, home_of}
 
@@ -52,6 +52,11 @@ abbrev pub vm_threads : VmCall → List threads.Act
 vm_threads AttachCurrentThread = threads.Attach ∷ []
 vm_threads DetachCurrentThread = threads.Detach ∷ []
 vm_threads GetEnv = []
+vm_threads (NativeEnter class method signature) = threads.Enter ∷ []
+vm_threads (NativeLeave kept) = threads.Leave ∷ []
+vm_threads (LoadLibrary class library) = []
+vm_threads (RegisterNatives class method signature) = []
+vm_threads (UnregisterNatives class) = []
 
 abbrev pub exceptions_threads : Parts → ℕ → ExceptionsCall → List threads.Act
 exceptions_threads p t (Throw r) = threads.Raise (the_object p t r) ∷ []
@@ -78,6 +83,11 @@ abbrev pub vm_locals : Parts → ℕ → VmCall → List locals.Act
 vm_locals p t AttachCurrentThread = started (threads.attached (threads.acts_of t p.threads))
 vm_locals p t DetachCurrentThread = locals.End ∷ []
 vm_locals p t GetEnv = []
+vm_locals p t (NativeEnter class method signature) = locals.Enter ∷ []
+vm_locals p t (NativeLeave kept) = locals.Leave ∷ []
+vm_locals p t (LoadLibrary class library) = []
+vm_locals p t (RegisterNatives class method signature) = []
+vm_locals p t (UnregisterNatives class) = []
 
 abbrev pub deletes_local : Ref → List locals.Act
 deletes_local Null = []
@@ -126,6 +136,11 @@ abbrev pub vm_monitors : VmCall → List monitors.Act
 vm_monitors AttachCurrentThread = []
 vm_monitors DetachCurrentThread = monitors.ReleaseAll ∷ []
 vm_monitors GetEnv = []
+vm_monitors (NativeEnter class method signature) = []
+vm_monitors (NativeLeave kept) = []
+vm_monitors (LoadLibrary class library) = []
+vm_monitors (RegisterNatives class method signature) = []
+vm_monitors (UnregisterNatives class) = []
 
 abbrev pub call_monitors : StatedSetup → Parts → ℕ → Call → List monitors.Act
 call_monitors s p t (Vm call) = vm_monitors call
@@ -140,12 +155,23 @@ call_monitors s p t (Arrays call) = []
 abbrev pub first_value : StatedMember → Slot
 first_value field = if is_class_type field.signature then Pointer None else Number (pos 0)
 
+-- what a place that holds references is made to hold
+abbrev pub pointer : Option ℕ → Slot
+pointer target = Pointer (option_map (λ o. record { 0 = o }) target)
+
 abbrev pub objects_heap : StatedSetup → Parts → ℕ → ObjectsCall → List heap.Event
 objects_heap s p t (FindClass name) = []
 objects_heap s p t (GetObjectClass r) = []
 objects_heap s p t (IsInstanceOf r class) = []
 objects_heap s p t (AllocObject class) =
     heap.Made (Plain (the_object p t class) (map first_value (fields_in (class_at s (the_object p t class))))) ∷ []
+objects_heap s p t (GetFieldID class field signature) = []
+objects_heap s p t (GetField primitive r field) = []
+objects_heap s p t (GetObjectField r field) = []
+objects_heap s p t (SetField primitive r field value) =
+    heap.Wrote (the_object p t r) (slot_place field) (Number value) ∷ []
+objects_heap s p t (SetObjectField r field value) =
+    heap.Wrote (the_object p t r) (slot_place field) (pointer (object_named p t value)) ∷ []
 
 abbrev pub strings_heap : StringsCall → List heap.Event
 strings_heap (NewString units) = heap.Made (Text (map natural units)) ∷ []
@@ -153,10 +179,6 @@ strings_heap (NewStringUTF bytes) = heap.Made (Text (unwrap_or (decoded bytes) [
 strings_heap (GetStringLength r) = []
 strings_heap (GetStringUTFLength r) = []
 strings_heap (GetStringRegion r start n) = []
-
--- what a place that holds references is made to hold
-abbrev pub pointer : Option ℕ → Slot
-pointer target = Pointer (option_map (λ o. record { 0 = o }) target)
 
 abbrev pub arrays_heap : Parts → ℕ → ArraysCall → List heap.Event
 arrays_heap p t (NewArray element n) = heap.Made (Filled (array_class element) (natural n) (Number (pos 0))) ∷ []
@@ -177,8 +199,29 @@ call_heap s p t (Objects call) = objects_heap s p t call
 call_heap s p t (Strings call) = strings_heap call
 call_heap s p t (Arrays call) = arrays_heap p t call
 
+-- the class's native method is linked, again if it was
+abbrev pub linking : Option ℕ → Option ℕ → List links.Event
+linking None native = []
+linking (Some class) None = []
+linking (Some class) (Some native) = links.Linked class native ∷ []
+
+abbrev pub unlinking : Option ℕ → List links.Event
+unlinking None = []
+unlinking (Some class) = links.UnlinkedAll class ∷ []
+
+abbrev pub vm_links : StatedSetup → Parts → ℕ → VmCall → List links.Event
+vm_links s p t AttachCurrentThread = []
+vm_links s p t DetachCurrentThread = []
+vm_links s p t GetEnv = []
+vm_links s p t (NativeEnter class method signature) = []
+vm_links s p t (NativeLeave kept) = []
+vm_links s p t (LoadLibrary class library) = []
+vm_links s p t (RegisterNatives class method signature) =
+    linking (class_meant s p t class) (native_meant s (class_meant s p t class) method signature)
+vm_links s p t (UnregisterNatives class) = unlinking (class_meant s p t class)
+
 abbrev pub call_links : StatedSetup → Parts → ℕ → Call → List links.Event
-call_links s p t (Vm call) = []
+call_links s p t (Vm call) = vm_links s p t call
 call_links s p t (Refs call) = []
 call_links s p t (Frames call) = []
 call_links s p t (Exceptions call) = []

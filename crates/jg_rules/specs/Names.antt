@@ -1,11 +1,13 @@
 -- What references name, and what is known of threads and objects.
-use Rattle.std.specs.Prelude.{ℕ, ℤ, pos, ◌+◌, ◌==◌, if◌then◌else◌, List, [], map, Option, Some, None}
+use Rattle.std.specs.Prelude.{ℕ, ℤ, pos, ◌+◌, ◌-◌, ◌==◌, nat_lt, if◌then◌else◌, List, [], map, Option, Some, None, option_and_then}
 use Rattle.std.specs.List.{range_with_len}
 use Rattle.std.specs.Option.{option_map, unwrap_or}
+use Rattle.jg_words.specs.declared.object.FieldId.{FieldId}
 use Rattle.jg_words.specs.declared.reference.Ref.{Ref}
 use Rattle.jg_words.specs.declared.reference.Ref.TheVariants.{Null, To}
 use Rattle.jg_words.specs.declared.reference.Kind.TheVariants.{Local, Global, Weak}
 use Rattle.jg_policy.specs.Stated.{StatedSetup, class_count}
+use Rattle.jg_policy.specs.Classes.{field_named, native_named}
 use Rattle.jg_threads.specs.History as threads
 use Rattle.jg_locals.specs.History as locals
 use Rattle.jg_globals.specs.History as globals
@@ -81,10 +83,28 @@ target_in (Pointer target) = option_map (λ o. o.0) target
 abbrev pub items_of : StatedSetup → Parts → ℕ → List ℤ
 items_of s p o = map number_in (map (slot_of s p o) (range_with_len 0 (length_of s p o)))
 
--- the units of the object that a reference names, where it names one
-abbrev pub units_named : StatedSetup → Parts → Option ℕ → List ℕ
-units_named s p None = []
-units_named s p (Some o) = units_of s p o
+-- the class whose class object it is: class objects have the numbers of their classes
+abbrev pub class_by : StatedSetup → ℕ → Option ℕ
+class_by s o = if nat_lt o (class_count s) then Some o else None
+
+-- the class whose class object a reference names, where it names one
+abbrev pub class_meant : StatedSetup → Parts → ℕ → Ref → Option ℕ
+class_meant s p t r = option_and_then (class_by s) (object_named p t r)
+
+-- the class's native method of that name and type, by its number
+abbrev pub native_meant : StatedSetup → Option ℕ → List ℕ → List ℕ → Option ℕ
+native_meant s None name signature = None
+native_meant s (Some class) name signature = native_named s class name signature
+
+-- the class's field of that name and type
+abbrev pub field_meant : StatedSetup → Option ℕ → List ℕ → List ℕ → Option FieldId
+field_meant s None name signature = None
+field_meant s (Some class) name signature =
+    option_map (λ n. record { class = class; field = n }) (field_named s class name signature)
+
+-- the slot that a field has in each object of its class: fields count from 1, slots from 0
+abbrev pub slot_place : FieldId → ℕ
+slot_place f = f.field - 1
 
 -- the number of t's present session
 abbrev pub session : Parts → ℕ → Option ℕ

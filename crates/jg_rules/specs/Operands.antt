@@ -44,6 +44,11 @@ abbrev pub vm_operands : VmCall → List Operand
 vm_operands AttachCurrentThread = []
 vm_operands DetachCurrentThread = []
 vm_operands GetEnv = []
+vm_operands (NativeEnter class method signature) = []
+vm_operands (NativeLeave kept) = optional kept ∷ []
+vm_operands (LoadLibrary class library) = []
+vm_operands (RegisterNatives class method signature) = required class ClassObject ∷ []
+vm_operands (UnregisterNatives class) = required class ClassObject ∷ []
 
 -- GetObjectRefType takes any reference, dead or alive
 abbrev pub refs_operands : RefsCall → List Operand
@@ -68,6 +73,11 @@ objects_operands (FindClass name) = []
 objects_operands (GetObjectClass r) = required r AnyObject ∷ []
 objects_operands (IsInstanceOf r class) = optional r ∷ required class ClassObject ∷ []
 objects_operands (AllocObject class) = required class PlainClass ∷ []
+objects_operands (GetFieldID class field signature) = required class ClassObject ∷ []
+objects_operands (GetField primitive r field) = required r AnyObject ∷ []
+objects_operands (GetObjectField r field) = required r AnyObject ∷ []
+objects_operands (SetField primitive r field value) = required r AnyObject ∷ []
+objects_operands (SetObjectField r field value) = required r AnyObject ∷ optional value ∷ []
 
 abbrev pub strings_operands : StringsCall → List Operand
 strings_operands (NewString units) = []

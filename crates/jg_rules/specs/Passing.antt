@@ -23,6 +23,11 @@ abbrev pub vm_passes_pending : VmFun → Bool
 vm_passes_pending AttachCurrentThread = true
 vm_passes_pending DetachCurrentThread = true
 vm_passes_pending GetEnv = true
+vm_passes_pending NativeEnter = false
+vm_passes_pending NativeLeave = true
+vm_passes_pending LoadLibrary = false
+vm_passes_pending RegisterNatives = false
+vm_passes_pending UnregisterNatives = false
 
 abbrev pub refs_passes_pending : RefsFun → Bool
 refs_passes_pending NewLocalRef = false

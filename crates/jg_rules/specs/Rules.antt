@@ -1,5 +1,5 @@
 -- The rules, each as its own definition, and the first that a call breaks.
-use Rattle.std.specs.Prelude.{ℕ, ℤ, pos, ◌==◌, ◌&&◌, ◌||◌, Bool, true, false, not, if◌then◌else◌, nat_lt, int_lt, List, [], ◌∷◌, Option, Some, None}
+use Rattle.std.specs.Prelude.{ℕ, ℤ, pos, ◌==◌, ◌&&◌, ◌||◌, Bool, true, false, not, if◌then◌else◌, nat_lt, int_lt, List, [], ◌∷◌, Option, Some, None, codes}
 use Rattle.std.specs.List.{list_any, list_all, find}
 use Rattle.jg_words.specs.Call.{fun_of}
 use Rattle.jg_words.specs.Fun.{needs_env}
@@ -27,6 +27,8 @@ use Rattle.jg_words.specs.declared.call.strings.StringsCall.TheVariants.{NewStri
 use Rattle.jg_words.specs.declared.call.arrays.ArraysCall.{ArraysCall}
 use Rattle.jg_words.specs.declared.call.arrays.ArraysCall.TheVariants.{NewArray, GetArrayLength, GetArrayRegion, SetArrayRegion, NewObjectArray, GetObjectArrayElement, SetObjectArrayElement}
 use Rattle.jg_policy.specs.Stated.{StatedSetup}
+use Rattle.jg_policy.specs.Classes.{class_named, field_type, is_class_type}
+use Rattle.jg_policy.specs.Links as links
 use Rattle.jg_rules.specs.declared.named.Named.{Named}
 use Rattle.jg_rules.specs.declared.named.Named.TheVariants.{Nothing, Null as NamesNull, Object}
 use Rattle.jg_rules.specs.declared.operand.ObjectType.{ObjectType}
@@ -34,12 +36,15 @@ use Rattle.jg_rules.specs.declared.operand.Operand.{Operand}
 use Rattle.jg_rules.specs.Parts.{Parts}
 use Rattle.jg_rules.specs.Numbers.{is_within, is_value_of}
 use Rattle.jg_heap.specs.Reading.{decoded}
-use Rattle.jg_words.specs.declared.object.Primitive.TheVariants.{Char}
+use Rattle.jg_words.specs.declared.object.FieldId.{FieldId}
+use Rattle.jg_words.specs.declared.object.Primitive.{Primitive}
+use Rattle.jg_words.specs.declared.object.Primitive.TheVariants.{Boolean, Byte, Char, Short, Int, Long}
 use Rattle.std.specs.Option.{is_some, is_none}
+use Rattle.std.specs.Str.{bytes_eq}
 use Rattle.jg_buffers.specs.History as buffers
 use Rattle.jg_rules.specs.Access.{native_class, refuses}
 use Rattle.jg_rules.specs.Passing.{passes_critical, passes_pending}
-use Rattle.jg_rules.specs.Names.{names, session, depth, open_frames, pending}
+use Rattle.jg_rules.specs.Names.{names, session, depth, open_frames, pending, class_of, native_meant}
 use Rattle.jg_rules.specs.Operands.{operands, is_of}
 
 abbrev pub of_another : ℕ → Option EnvId → Bool
@@ -126,16 +131,56 @@ is_wrong s p type (Object o) = not (is_of s p type o.0)
 abbrev pub wrong_type : StatedSetup → Parts → ℕ → Call → Bool
 wrong_type s p t call = list_any (λ x. is_wrong s p x.object_type (names p t x.reference)) (operands call)
 
--- 10: a field ID that isn't the object's (JNI Specification, chapter 4, "Accessing Fields of Objects"). No function
--- takes one yet
-abbrev pub bad_field : Call → Bool
-bad_field (Vm call) = false
-bad_field (Refs call) = false
-bad_field (Frames call) = false
-bad_field (Exceptions call) = false
-bad_field (Objects call) = false
-bad_field (Strings call) = false
-bad_field (Arrays call) = false
+-- the type that a field of a primitive type has (JNI Specification, chapter 3, "Type Signatures")
+abbrev pub type_letter : Primitive → List ℕ
+type_letter Boolean = codes "Z"
+type_letter Byte = codes "B"
+type_letter Char = codes "C"
+type_letter Short = codes "S"
+type_letter Int = codes "I"
+type_letter Long = codes "J"
+
+-- the type of the fields that a function reads or writes: a primitive type, or, where none is named, any class
+abbrev pub is_field_type : Option Primitive → List ℕ → Bool
+is_field_type None signature = is_class_type signature
+is_field_type (Some primitive) signature = bytes_eq signature (type_letter primitive)
+
+-- the setup states the field, and it is of the function's type
+abbrev pub is_stated_as : Option Primitive → Option (List ℕ) → Bool
+is_stated_as wanted None = false
+is_stated_as wanted (Some signature) = is_field_type wanted signature
+
+-- the object is of that class; a reference that names no object doesn't break this rule
+abbrev pub is_of_class : StatedSetup → Parts → ℕ → Named → Bool
+is_of_class s p class Nothing = true
+is_of_class s p class NamesNull = true
+is_of_class s p class (Object o) = class_of s p o.0 == class
+
+abbrev pub field_of_another : StatedSetup → Parts → ℕ → Option Primitive → Ref → FieldId → Bool
+field_of_another s p t wanted r f =
+    not (is_stated_as wanted (field_type s f.class f.field) && is_of_class s p f.class (names p t r))
+
+abbrev pub objects_bad_field : StatedSetup → Parts → ℕ → ObjectsCall → Bool
+objects_bad_field s p t (FindClass name) = false
+objects_bad_field s p t (GetObjectClass r) = false
+objects_bad_field s p t (IsInstanceOf r class) = false
+objects_bad_field s p t (AllocObject class) = false
+objects_bad_field s p t (GetFieldID class field signature) = false
+objects_bad_field s p t (GetField primitive r field) = field_of_another s p t (Some primitive) r field
+objects_bad_field s p t (GetObjectField r field) = field_of_another s p t None r field
+objects_bad_field s p t (SetField primitive r field value) = field_of_another s p t (Some primitive) r field
+objects_bad_field s p t (SetObjectField r field value) = field_of_another s p t None r field
+
+-- 10: a field ID that names no field of the setup, one of another class than the object's, or one that isn't of the
+-- function's type (JNI Specification, chapter 4, "Accessing Fields of Objects")
+abbrev pub bad_field : StatedSetup → Parts → ℕ → Call → Bool
+bad_field s p t (Vm call) = false
+bad_field s p t (Refs call) = false
+bad_field s p t (Frames call) = false
+bad_field s p t (Exceptions call) = false
+bad_field s p t (Objects call) = objects_bad_field s p t call
+bad_field s p t (Strings call) = false
+bad_field s p t (Arrays call) = false
 
 -- 11: a buffer that isn't the call's (JNI Specification, chapter 4, "Array Operations"). No function takes one yet
 abbrev pub bad_buffer : Call → Bool
@@ -147,9 +192,30 @@ bad_buffer (Objects call) = false
 bad_buffer (Strings call) = false
 bad_buffer (Arrays call) = false
 
+abbrev pub vm_bad_argument : StatedSetup → VmCall → Bool
+vm_bad_argument s AttachCurrentThread = false
+vm_bad_argument s DetachCurrentThread = false
+vm_bad_argument s GetEnv = false
+vm_bad_argument s (NativeEnter class method signature) = is_none (class_named s class)
+vm_bad_argument s (NativeLeave kept) = false
+vm_bad_argument s (LoadLibrary class library) = is_none (class_named s class)
+vm_bad_argument s (RegisterNatives class method signature) = false
+vm_bad_argument s (UnregisterNatives class) = false
+
 abbrev pub frames_bad_argument : FramesCall → Bool
 frames_bad_argument (PushLocalFrame capacity) = not (is_within (pos 0) (pos 65535) capacity)
 frames_bad_argument (PopLocalFrame r) = false
+
+abbrev pub objects_bad_argument : ObjectsCall → Bool
+objects_bad_argument (FindClass name) = false
+objects_bad_argument (GetObjectClass r) = false
+objects_bad_argument (IsInstanceOf r class) = false
+objects_bad_argument (AllocObject class) = false
+objects_bad_argument (GetFieldID class field signature) = false
+objects_bad_argument (GetField primitive r field) = false
+objects_bad_argument (GetObjectField r field) = false
+objects_bad_argument (SetField primitive r field value) = not (is_value_of primitive value)
+objects_bad_argument (SetObjectField r field value) = false
 
 -- a region of more items than a list may have
 abbrev pub is_long : ℤ → Bool
@@ -176,14 +242,15 @@ arrays_bad_argument (GetObjectArrayElement r index) = false
 arrays_bad_argument (SetObjectArrayElement r index value) = false
 
 -- 12: a capacity below 0 or above 65,535; an array's length below 0 or above 1,000,000; a region of more than 1,000
--- items; a unit or an item that isn't of its type; bytes that are no modified UTF-8 (JNI Specification, chapter 4,
--- PushLocalFrame, "String Operations", "Array Operations"; chapter 3, "Modified UTF-8 Strings")
+-- items; a unit, an item or a field's value that isn't of its type; bytes that are no modified UTF-8; the name of no class
+-- where a native method is entered or a library loaded (JNI Specification, chapter 4, PushLocalFrame, "Accessing Fields of
+-- Objects", "String Operations", "Array Operations"; chapter 3, "Modified UTF-8 Strings")
 abbrev pub bad_argument : StatedSetup → Call → Bool
-bad_argument s (Vm call) = false
+bad_argument s (Vm call) = vm_bad_argument s call
 bad_argument s (Refs call) = false
 bad_argument s (Frames call) = frames_bad_argument call
 bad_argument s (Exceptions call) = false
-bad_argument s (Objects call) = false
+bad_argument s (Objects call) = objects_bad_argument call
 bad_argument s (Strings call) = strings_bad_argument call
 bad_argument s (Arrays call) = arrays_bad_argument call
 
@@ -212,12 +279,17 @@ abbrev pub vm_bad_frame : Parts → ℕ → VmCall → Bool
 vm_bad_frame p t AttachCurrentThread = false
 vm_bad_frame p t DetachCurrentThread = nat_lt 0 (depth p t)
 vm_bad_frame p t GetEnv = false
+vm_bad_frame p t (NativeEnter class method signature) = false
+vm_bad_frame p t (NativeLeave kept) = depth p t == 0
+vm_bad_frame p t (LoadLibrary class library) = false
+vm_bad_frame p t (RegisterNatives class method signature) = false
+vm_bad_frame p t (UnregisterNatives class) = false
 
 abbrev pub frames_bad_frame : Parts → ℕ → FramesCall → Bool
 frames_bad_frame p t (PushLocalFrame capacity) = false
 frames_bad_frame p t (PopLocalFrame r) = open_frames p t == 0
 
--- 15: no frame to pop at this depth (JNI Specification, chapter 4, PopLocalFrame);
+-- 15: no frame to pop at this depth (JNI Specification, chapter 4, PopLocalFrame); no native method to leave;
 -- a detachment with native methods on the stack (chapter 5, "Detaching from the VM")
 abbrev pub bad_frame : Parts → ℕ → Call → Bool
 bad_frame p t (Vm call) = vm_bad_frame p t call
@@ -232,16 +304,32 @@ bad_frame p t (Arrays call) = false
 abbrev pub no_access : StatedSetup → Parts → ℕ → Call → Bool
 no_access s p t call = refuses s (native_class s p t call)
 
--- 17: a native method that isn't linked (JNI Specification, chapter 4, "Registering Native Methods"). No function
--- enters one yet
-abbrev pub not_linked : Call → Bool
-not_linked (Vm call) = false
-not_linked (Refs call) = false
-not_linked (Frames call) = false
-not_linked (Exceptions call) = false
-not_linked (Objects call) = false
-not_linked (Strings call) = false
-not_linked (Arrays call) = false
+-- the class's native method is linked
+abbrev pub is_linked : Parts → Option ℕ → Option ℕ → Bool
+is_linked p None native = false
+is_linked p (Some class) None = false
+is_linked p (Some class) (Some native) = links.linked p.links class native
+
+abbrev pub vm_not_linked : StatedSetup → Parts → VmCall → Bool
+vm_not_linked s p AttachCurrentThread = false
+vm_not_linked s p DetachCurrentThread = false
+vm_not_linked s p GetEnv = false
+vm_not_linked s p (NativeEnter class method signature) =
+    not (is_linked p (class_named s class) (native_meant s (class_named s class) method signature))
+vm_not_linked s p (NativeLeave kept) = false
+vm_not_linked s p (LoadLibrary class library) = false
+vm_not_linked s p (RegisterNatives class method signature) = false
+vm_not_linked s p (UnregisterNatives class) = false
+
+-- 17: a native method entered that isn't linked (JNI Specification, chapter 4, "Registering Native Methods")
+abbrev pub not_linked : StatedSetup → Parts → Call → Bool
+not_linked s p (Vm call) = vm_not_linked s p call
+not_linked s p (Refs call) = false
+not_linked s p (Frames call) = false
+not_linked s p (Exceptions call) = false
+not_linked s p (Objects call) = false
+not_linked s p (Strings call) = false
+not_linked s p (Arrays call) = false
 
 -- the call breaks the rule
 abbrev pub broken : Rule → StatedSetup → Parts → ℕ → Option EnvId → Call → Bool
@@ -254,14 +342,14 @@ broken DeadReference s p t env call = dead_reference p t call
 broken WrongRefKind s p t env call = wrong_kind call
 broken NullReference s p t env call = null_reference p t call
 broken WrongType s p t env call = wrong_type s p t call
-broken BadField s p t env call = bad_field call
+broken BadField s p t env call = bad_field s p t call
 broken BadBuffer s p t env call = bad_buffer call
 broken BadArgument s p t env call = bad_argument s call
 broken Pinned s p t env call = pinned call
 broken NotOwner s p t env call = not_owner call
 broken BadFrame s p t env call = bad_frame p t call
 broken NoNativeAccess s p t env call = no_access s p t call
-broken NotLinked s p t env call = not_linked call
+broken NotLinked s p t env call = not_linked s p call
 
 -- the rules that each group of functions judges for itself
 abbrev pub own_rules : List Rule

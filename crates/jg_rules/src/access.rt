@@ -1,30 +1,42 @@
-//! Native access: the class that a call asks for it with, and that class's module.
+//! Native access: the class that a call asks for it with, that class's module, and whether the use
+//! is refused or warned of.
 
-ghost use Rattle.std.specs.Prelude.{◌≡◌, ℕ};
-ghost use Rattle.jg_policy.specs.Stated.{StatedSetup};
+ghost use Rattle.std.specs.Prelude.{◌≡◌, ◌<◌, IfSome};
+ghost use Rattle.jg_policy.specs.Stated.{class_count};
 ghost use Rattle.jg_rules.specs.Parts.{Parts};
-ghost use Rattle.jg_rules.specs.Access.{native_class, vm_class, home_of};
+ghost use Rattle.jg_rules.specs.Access.{native_class, vm_class, home_of, refuses, unwarned, warns};
 ghost use Rattle.jg_rules.specs.View.{ViewStands};
 
+use crate::named::class_meant;
 use crate::view::View;
+use jg_policy::{Access, Operation};
 use jg_words::{Call, Tid, VmCall};
 use std::alloc::Allocator;
 
-fn class_asked_by_vm(call: &VmCall) -> Option<u32>
-    ensures { (s : StatedSetup) (p : Parts) (t : ℕ) → result ≡ vm_class s p t call.now }
+fn class_asked_by_vm<A: Allocator + Clone>(
+    view: &View<'_, A>,
+    tid: Tid,
+    call: &VmCall,
+) -> Option<u32>
+    ensures { (p : Parts) → ViewStands view.now p → result ≡ vm_class view.now.setup.now p tid.0 call.now }
 {
     match call {
         VmCall::AttachCurrentThread => None,
         VmCall::DetachCurrentThread => None,
         VmCall::GetEnv => None,
+        VmCall::NativeEnter { class, .. } => view.setup.class_named(class),
+        VmCall::NativeLeave { .. } => None,
+        VmCall::LoadLibrary { class, .. } => view.setup.class_named(class),
+        VmCall::RegisterNatives { class, .. } => class_meant(view, tid, *class),
+        VmCall::UnregisterNatives { .. } => None,
     }
 }
 
-fn class_asked<A: Allocator + Clone>(_view: &View<'_, A>, _tid: Tid, call: &Call) -> Option<u32>
-    ensures { (p : Parts) → ViewStands _view.now p → result ≡ native_class _view.now.setup.now p _tid.0 call.now }
+fn class_asked<A: Allocator + Clone>(view: &View<'_, A>, tid: Tid, call: &Call) -> Option<u32>
+    ensures { (p : Parts) → ViewStands view.now p → result ≡ native_class view.now.setup.now p tid.0 call.now }
 {
     match call {
-        Call::Vm(call) => class_asked_by_vm(call),
+        Call::Vm(call) => class_asked_by_vm(view, tid, call),
         Call::Refs(_) => None,
         Call::Frames(_) => None,
         Call::Exceptions(_) => None,
@@ -42,5 +54,45 @@ pub fn home_named<A: Allocator + Clone>(view: &View<'_, A>, tid: Tid, call: &Cal
     match class_asked(view, tid, call) {
         None => None,
         Some(class) => view.setup.module_of(class),
+    }
+}
+
+/// Whether a use of native code by the class is refused.
+pub(crate) fn is_refused_to<A: Allocator + Clone>(view: &View<'_, A>, class: Option<u32>) -> bool
+    requires { IfSome class (λ c. c < class_count view.now.setup.now) }
+    ensures { result ≡ refuses view.now.setup.now class }
+{
+    match class {
+        None => false,
+        Some(class) => match view.setup.access(class, Operation::Load) {
+            Access::Allowed => false,
+            Access::AllowedWithWarning => false,
+            Access::Refused => true,
+        },
+    }
+}
+
+fn is_unwarned<A: Allocator + Clone>(view: &View<'_, A>, home: Option<u32>) -> bool
+    ensures { (p : Parts) → ViewStands view.now p → result ≡ unwarned p home }
+{
+    match home {
+        None => false,
+        Some(home) => !view.links.warned(home),
+    }
+}
+
+/// Whether a use of native code by the class comes with a warning: the first one by its module,
+/// where it is neither refused nor allowed without. The class is one of the setup's.
+pub fn is_warned_use<A: Allocator + Clone>(view: &View<'_, A>, class: Option<u32>) -> bool
+    requires { IfSome class (λ c. c < class_count view.now.setup.now) }
+    ensures { (p : Parts) → ViewStands view.now p → result ≡ warns view.now.setup.now p class }
+{
+    match class {
+        None => false,
+        Some(class) => match view.setup.access(class, Operation::Load) {
+            Access::Allowed => false,
+            Access::AllowedWithWarning => is_unwarned(view, view.setup.module_of(class)),
+            Access::Refused => false,
+        },
     }
 }

@@ -8,6 +8,7 @@ ghost use Rattle.jg_rules.specs.View.{ViewStands};
 mod arrays;
 mod frames;
 mod numbers;
+mod objects;
 mod references;
 mod strings;
 mod vm;
@@ -17,6 +18,7 @@ use crate::view::View;
 use arrays::judge_arrays;
 use frames::judge_frames;
 use jg_words::{Call, EnvId, Rule, Tid};
+use objects::judge_objects;
 use references::judge_references;
 use std::alloc::Allocator;
 use strings::judge_strings;
@@ -59,7 +61,7 @@ fn judge_group<A: Allocator + Clone>(view: &View<'_, A>, tid: Tid, call: &Call) 
         Call::Refs(_) => None,
         Call::Frames(call) => judge_frames(view, tid, call),
         Call::Exceptions(_) => None,
-        Call::Objects(_) => None,
+        Call::Objects(call) => judge_objects(view, tid, call),
         Call::Strings(call) => judge_strings(call),
         Call::Arrays(call) => judge_arrays(call),
     }

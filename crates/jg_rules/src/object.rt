@@ -1,16 +1,18 @@
 //! What the store holds of an object, by the definitions: an object that was never made counts as a
 //! class object.
 
-ghost use Rattle.std.specs.Prelude.{◌≡◌, ◌<◌, ◌^◌, length};
-ghost use Rattle.jg_heap.specs.Making.{IsArrayClass, IsPrimitiveArray};
+ghost use Rattle.std.specs.Prelude.{◌≡◌, ◌<◌, ◌≤◌, ◌^◌, length};
+ghost use Rattle.jg_heap.specs.Making.{IsArrayClass, IsPrimitiveArray, HasFields};
 ghost use Rattle.jg_heap.specs.Rows.{count_in, class_at, length_at};
 ghost use Rattle.jg_rules.specs.Parts.{Parts};
 ghost use Rattle.jg_rules.specs.Names as names_of;
+ghost use Rattle.jg_rules.specs.Names.{slot_place};
+ghost use Rattle.jg_rules.specs.Answers.{field_value};
 ghost use Rattle.jg_rules.specs.View.{ViewStands};
 
 use crate::view::View;
 use jg_heap::Slot;
-use jg_words::ObjId;
+use jg_words::{FieldId, ObjId};
 use std::alloc::Allocator;
 
 const CLASS_CLASS: u32 = 1;
@@ -73,4 +75,23 @@ pub fn slot_of<A: Allocator + Clone>(view: &View<'_, A>, object: ObjId, index: u
         → result ≡ names_of.slot_of view.now.setup.now p object.0 index }
 {
     view.heap.element(object, index)
+}
+
+/// The slot that a field has in each object of its class: fields count from 1, slots from 0.
+pub fn slot_place_of(field: FieldId) -> usize
+    requires { 1 ≤ field.field }
+    ensures { result ≡ slot_place field }
+{
+    (field.field - 1) as usize
+}
+
+/// What a field of an object holds.
+pub fn field_of<A: Allocator + Clone>(view: &View<'_, A>, object: ObjId, field: FieldId) -> Slot
+    requires named { 1 ≤ field.field }
+    requires made { object.0 < count_in view.now.heap.now }
+    requires fields { HasFields (class_at view.now.heap.now object.0) }
+    requires within { slot_place field < length_at view.now.heap.now object.0 }
+    ensures { (p : Parts) → ViewStands view.now p → result ≡ field_value view.now.setup.now p object.0 field }
+{
+    view.heap.field(object, slot_place_of(field))
 }

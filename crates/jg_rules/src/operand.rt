@@ -74,6 +74,11 @@ fn of_vm(call: &VmCall) -> Operands
         VmCall::AttachCurrentThread => Operands::Nil,
         VmCall::DetachCurrentThread => Operands::Nil,
         VmCall::GetEnv => Operands::Nil,
+        VmCall::NativeEnter { .. } => Operands::Nil,
+        VmCall::NativeLeave { kept } => Operands::One(Operand::optional(*kept)),
+        VmCall::LoadLibrary { .. } => Operands::Nil,
+        VmCall::RegisterNatives { class, .. } => required(*class, ObjectType::ClassObject),
+        VmCall::UnregisterNatives { class } => required(*class, ObjectType::ClassObject),
     }
 }
 
@@ -122,6 +127,14 @@ fn of_objects(call: &ObjectsCall) -> Operands
             Operand::required(*class, ObjectType::ClassObject),
         ),
         ObjectsCall::AllocObject { class } => required(*class, ObjectType::PlainClass),
+        ObjectsCall::GetFieldID { class, .. } => required(*class, ObjectType::ClassObject),
+        ObjectsCall::GetField { object, .. } => required(*object, ObjectType::AnyObject),
+        ObjectsCall::GetObjectField { object, .. } => required(*object, ObjectType::AnyObject),
+        ObjectsCall::SetField { object, .. } => required(*object, ObjectType::AnyObject),
+        ObjectsCall::SetObjectField { object, value, .. } => Operands::Two(
+            Operand::required(*object, ObjectType::AnyObject),
+            Operand::optional(*value),
+        ),
     }
 }
 

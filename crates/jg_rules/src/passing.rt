@@ -25,6 +25,11 @@ fn vm_passes(fun: VmFun) -> bool
         VmFun::AttachCurrentThread => true,
         VmFun::DetachCurrentThread => true,
         VmFun::GetEnv => true,
+        VmFun::NativeEnter => false,
+        VmFun::NativeLeave => true,
+        VmFun::LoadLibrary => false,
+        VmFun::RegisterNatives => false,
+        VmFun::UnregisterNatives => false,
     }
 }
 

@@ -45,6 +45,14 @@ impl Read for Broken<'_> {
     }
 }
 
+/// The setup that denies native access and states nothing else.
+fn closed(alloc: Global) -> Result<Setup, Fail> {
+    match Setup::read(alloc, "version = 1\nillegal_native_access = \"deny\"\n") {
+        Ok(setup) => Ok(setup),
+        Err(_) => Err(Fail::from("the setup isn't one")),
+    }
+}
+
 /// What `check` answers to the script, what it wrote, and whether the reader and the writer failed.
 #[derive(Drop)]
 struct Done {
@@ -55,7 +63,7 @@ struct Done {
 }
 
 fn run<R: BufRead + Drop>(alloc: Global, script: R, limit: u32, room: usize) -> Result<Done, Fail> {
-    let mut guard = Guard::new(alloc, alloc, Setup::closed(alloc), limit)?;
+    let mut guard = Guard::new(alloc, alloc, closed(alloc)?, limit)?;
     let mut reader = Watched::new(script);
     let mut writer = Watched::new(Trickle {
         bytes: Vec::new(alloc),
@@ -173,7 +181,7 @@ fn a_slow_reader_does_not_fail(rt: HostRuntime) -> Result<(), Fail> {
         assert!(rt; !done.reader_failed && !done.writer_failed, "at {capacity}");
         let bytes = FIRST_PATH_ANSWERED.as_bytes();
         let reader = BufReader::with_capacity(rt.alloc(), capacity, Slow { bytes })?;
-        let answer = read_back(rt.alloc(), reader, 10);
+        let answer = read_back(rt.alloc(), reader, 10)?;
         assert_eq!(rt; answer, (Ok(Verdict::Legal), false), "at {capacity}");
     }
     Ok(())
@@ -213,7 +221,7 @@ fn a_flush_reaches_the_device_or_fails(rt: HostRuntime) -> Result<(), Fail> {
     let mut bytes = Vec::new(rt.alloc());
     let mut writer = Watched::new(BufWriter::new(rt.alloc(), &mut bytes)?);
     let script = FIRST_PATH.as_bytes();
-    let mut guard = Guard::new(rt.alloc(), rt.alloc(), Setup::closed(rt.alloc()), 10)?;
+    let mut guard = Guard::new(rt.alloc(), rt.alloc(), closed(rt.alloc())?, 10)?;
     assert_eq!(rt; guard.journal_len(), 0);
     assert_eq!(rt;
         check(
@@ -231,7 +239,7 @@ fn a_flush_reaches_the_device_or_fails(rt: HostRuntime) -> Result<(), Fail> {
         room: 0,
     };
     let mut writer = Watched::new(BufWriter::new(rt.alloc(), full)?);
-    let mut guard = Guard::new(rt.alloc(), rt.alloc(), Setup::closed(rt.alloc()), 10)?;
+    let mut guard = Guard::new(rt.alloc(), rt.alloc(), closed(rt.alloc())?, 10)?;
     assert_eq!(rt; guard.journal_len(), 0);
     assert_eq!(rt;
         check(
@@ -319,7 +327,7 @@ fn a_refused_growth_names_its_line(rt: HostRuntime) -> Result<(), Fail> {
         script.extend_from_slice(line)?;
     }
     let heap = LocalHeap::new(rt.alloc(), 20_000)?;
-    let mut guard = Guard::new(&heap, rt.alloc(), Setup::closed(rt.alloc()), 1000)?;
+    let mut guard = Guard::new(&heap, rt.alloc(), closed(rt.alloc())?, 1000)?;
     assert_eq!(rt; guard.journal_len(), 0);
     let mut reader = Watched::new(script.as_slice());
     let mut writer = Watched::new(Vec::new(rt.alloc()));
@@ -344,10 +352,10 @@ fn read_back<R: BufRead + Drop>(
     alloc: Global,
     text: R,
     limit: u32,
-) -> (Result<Verdict, RunFault>, bool) {
+) -> Result<(Result<Verdict, RunFault>, bool), Fail> {
     let mut reader = Watched::new(text);
-    let result = verify(alloc, alloc, Setup::closed(alloc), limit, &mut reader);
-    (result, reader.has_failed())
+    let result = verify(alloc, alloc, closed(alloc)?, limit, &mut reader);
+    Ok((result, reader.has_failed()))
 }
 
 const DOUBLED: &str = "T1 - AttachCurrentThread = E1.1
@@ -377,7 +385,7 @@ fn journals_are_read_back(rt: HostRuntime) -> Result<(), Fail> {
         ("\n", 0, Ok(Verdict::Differs(1))),
     ];
     for (text, limit, result) in readings {
-        let (answer, failed) = read_back(rt.alloc(), text.as_bytes(), limit);
+        let (answer, failed) = read_back(rt.alloc(), text.as_bytes(), limit)?;
         assert_eq!(rt; answer, result, "at `{text}`");
         assert!(rt; !failed, "at `{text}`");
     }
@@ -392,9 +400,9 @@ fn a_long_line_past_the_limit_is_past_the_limit(rt: HostRuntime) -> Result<(), F
         text.push(200)?;
     }
     let past = Err(RunFault::Limit { line: 1 });
-    assert_eq!(rt; read_back(rt.alloc(), text.as_slice(), 0), (past, false));
+    assert_eq!(rt; read_back(rt.alloc(), text.as_slice(), 0)?, (past, false));
     let differs = Ok(Verdict::Differs(1));
-    assert_eq!(rt; read_back(rt.alloc(), text.as_slice(), 1), (differs, false));
+    assert_eq!(rt; read_back(rt.alloc(), text.as_slice(), 1)?, (differs, false));
     Ok(())
 }
 
@@ -403,7 +411,7 @@ fn a_journal_cannot_be_read(rt: HostRuntime) -> Result<(), Fail> {
     let bytes = b"T1 - GetEnv = detached\nT1 - G".as_slice();
     let unread = Err(RunFault::Read { line: 2 });
     let reader = BufReader::with_capacity(rt.alloc(), 7, Broken { bytes })?;
-    assert_eq!(rt; read_back(rt.alloc(), reader, 10), (unread, true));
+    assert_eq!(rt; read_back(rt.alloc(), reader, 10)?, (unread, true));
     Ok(())
 }
 
@@ -415,8 +423,7 @@ fn a_refused_growth_ends_a_reading(rt: HostRuntime) -> Result<(), Fail> {
     }
     let heap = LocalHeap::new(rt.alloc(), 20_000)?;
     let mut reader = Watched::new(text.as_slice());
-    let closed = Setup::closed(rt.alloc());
-    match verify(rt.alloc(), &heap, closed, 1000, &mut reader) {
+    match verify(rt.alloc(), &heap, closed(rt.alloc())?, 1000, &mut reader) {
         Err(RunFault::NoMemory { line }) => assert!(rt; line > 1),
         _ => assert!(rt; false, "no growth is refused"),
     }

@@ -1,5 +1,6 @@
 ghost use Rattle.std.specs.Prelude.{◌≡◌, Some, true, map, IfOk, OnOk, OnErr};
 ghost use Rattle.jg_words.specs.declared.call.Call.TheVariants.{Objects};
+ghost use Rattle.jg_words.specs.declared.call.objects.ObjectsCall.TheVariants.{GetField, GetObjectField, SetField, SetObjectField};
 ghost use Rattle.jg_rules.specs.Parts.{Parts, TablesStand};
 ghost use Rattle.jg_rules.specs.View.{ViewStands, rows_in};
 ghost use Rattle.jg_rules.specs.Answers.{objects_answer, class_found};
@@ -9,6 +10,7 @@ ghost use Rattle.jg_policy.specs.Classes.{class_at, class_named, fields_in};
 ghost use Rattle.jg_rules.specs.Effects.{first_value};
 ghost use Rattle.jg_rules.specs.Answers as answers;
 ghost use Rattle.jg_rules.specs.Operands.{is_plain};
+ghost use Rattle.jg_rules.specs.Names as names_of;
 ghost use Rattle.jg_rules.specs.Names.{object_named, the_object};
 ghost use Rattle.jg_threads.specs.Rows.{CanCount};
 ghost use Rattle.jg_policy.specs.Stated.{StatedMember};
@@ -18,8 +20,11 @@ use crate::settle::{handing_out, plain, throwing};
 use crate::tables::Tables;
 use jg_heap::{Shape, Slot};
 use jg_policy::Setup;
-use jg_rules::{Answer, View, class_of, object_named, the_object};
-use jg_words::{FieldId, Kind, Name, ObjId, ObjectsCall, Ref, Thrown, Tid, Value};
+use jg_rules::{
+    Answer, View, class_meant, class_of, field_meant, field_of, object_named, slot_place_of,
+    the_object,
+};
+use jg_words::{FieldId, Kind, Name, ObjId, ObjectsCall, Primitive, Ref, Thrown, Tid, Value};
 use std::alloc::{AllocError, Allocator};
 
 fn found<A: Allocator + Clone>(view: &View<'_, A>, tid: Tid, name: &Name) -> Answer
@@ -45,6 +50,55 @@ fn is_instance<A: Allocator + Clone>(view: &View<'_, A>, tid: Tid, object: Ref, 
     }
 }
 
+fn named_field<A: Allocator + Clone>(
+    view: &View<'_, A>,
+    class: Option<u32>,
+    field: &Name,
+    signature: &Name,
+) -> Answer
+    ensures { (p : Parts) → ViewStands view.now p → result ≡ answers.field_found view.now.setup.now p
+        (names_of.field_meant view.now.setup.now class field.now signature.now) }
+{
+    match field_meant(view.setup, class, field, signature) {
+        None => throwing(view, Thrown::NoSuchField),
+        Some(field) => plain(Value::Field(field)),
+    }
+}
+
+fn answer_number<A: Allocator + Clone>(
+    view: &View<'_, A>,
+    tid: Tid,
+    primitive: Primitive,
+    object: Ref,
+    field: FieldId,
+) -> Answer
+    requires { IsDue view.now.setup.now (rows_in view.now) tid.0 (Objects (GetField primitive object field)) }
+    ensures { (p : Parts) → ViewStands view.now p
+        → result ≡ objects_answer view.now.setup.now p tid (GetField primitive object field) }
+{
+    let _primitive = primitive;
+    match field_of(view, the_object(view, tid, object), field) {
+        Slot::Number(number) => plain(Value::Number(number)),
+        Slot::Object(_) => plain(Value::Number(0)),
+    }
+}
+
+fn answer_pointer<A: Allocator + Clone>(
+    view: &View<'_, A>,
+    tid: Tid,
+    object: Ref,
+    field: FieldId,
+) -> Answer
+    requires { IsDue view.now.setup.now (rows_in view.now) tid.0 (Objects (GetObjectField object field)) }
+    ensures { (p : Parts) → ViewStands view.now p
+        → result ≡ objects_answer view.now.setup.now p tid (GetObjectField object field) }
+{
+    match field_of(view, the_object(view, tid, object), field) {
+        Slot::Number(_) => handing_out(view, tid, Kind::Local, None),
+        Slot::Object(target) => handing_out(view, tid, Kind::Local, target),
+    }
+}
+
 /// What a call of the group answers, where it breaks no rule.
 pub(crate) fn answer_objects<A: Allocator + Clone>(
     view: &View<'_, A>,
@@ -66,6 +120,21 @@ pub(crate) fn answer_objects<A: Allocator + Clone>(
         ObjectsCall::AllocObject { .. } => {
             handing_out(view, tid, Kind::Local, Some(ObjId(view.heap.len())))
         }
+        ObjectsCall::GetFieldID {
+            class,
+            field,
+            signature,
+        } => named_field(view, class_meant(view, tid, *class), field, signature),
+        ObjectsCall::GetField {
+            primitive,
+            object,
+            field,
+        } => answer_number(view, tid, *primitive, *object, *field),
+        ObjectsCall::GetObjectField { object, field } => {
+            answer_pointer(view, tid, *object, *field)
+        }
+        ObjectsCall::SetField { .. } => plain(Value::Ok),
+        ObjectsCall::SetObjectField { .. } => plain(Value::Ok),
     }
 }
 
@@ -116,6 +185,49 @@ fn first_slots<A: Allocator>(
     Ok(slots)
 }
 
+fn set_number<A: Allocator + Clone>(
+    tables: &mut Tables<A>,
+    setup: &Setup,
+    tid: Tid,
+    primitive: Primitive,
+    object: Ref,
+    field: FieldId,
+    value: i64,
+)
+    requires { IsEffective setup.now (rows_of tables.old) tid (Objects (SetField primitive object field value)) }
+    ensures stands { (p : Parts) → TablesStand setup.now (rows_of tables.old) p
+        → TablesStand setup.now (rows_of tables.new)
+        (done_by setup.now tid.0 (Objects (SetField primitive object field value)) p) }
+    ensures room { KeepsRoom tables.old tables.new tid.0 (Objects (SetField primitive object field value)) }
+{
+    let _primitive = primitive;
+    let object = the_object(&tables.view(setup), tid, object);
+    tables
+        .heap
+        .set_field(object, slot_place_of(field), Slot::Number(value));
+}
+
+fn set_pointer<A: Allocator + Clone>(
+    tables: &mut Tables<A>,
+    setup: &Setup,
+    tid: Tid,
+    object: Ref,
+    field: FieldId,
+    value: Ref,
+)
+    requires { IsEffective setup.now (rows_of tables.old) tid (Objects (SetObjectField object field value)) }
+    ensures stands { (p : Parts) → TablesStand setup.now (rows_of tables.old) p
+        → TablesStand setup.now (rows_of tables.new)
+        (done_by setup.now tid.0 (Objects (SetObjectField object field value)) p) }
+    ensures room { KeepsRoom tables.old tables.new tid.0 (Objects (SetObjectField object field value)) }
+{
+    let object = the_object(&tables.view(setup), tid, object);
+    let target = object_named(&tables.view(setup), tid, value);
+    tables
+        .heap
+        .set_field(object, slot_place_of(field), Slot::Object(target));
+}
+
 /// Does what a call of the group does beside handing out a reference. An `Err` leaves all rows as
 /// they were.
 pub(crate) fn perform_objects<A: Allocator + Clone>(
@@ -138,6 +250,26 @@ pub(crate) fn perform_objects<A: Allocator + Clone>(
             let class = class_number(setup, the_object(&tables.view(setup), tid, *class));
             let fields = first_slots(tables.alloc.clone()?, setup, class)?;
             tables.heap.alloc(Shape::Plain { class, fields })?;
+            Ok(())
+        }
+        ObjectsCall::GetFieldID { .. } => Ok(()),
+        ObjectsCall::GetField { .. } => Ok(()),
+        ObjectsCall::GetObjectField { .. } => Ok(()),
+        ObjectsCall::SetField {
+            primitive,
+            object,
+            field,
+            value,
+        } => {
+            set_number(tables, setup, tid, *primitive, *object, *field, *value);
+            Ok(())
+        }
+        ObjectsCall::SetObjectField {
+            object,
+            field,
+            value,
+        } => {
+            set_pointer(tables, setup, tid, *object, *field, *value);
             Ok(())
         }
     }

@@ -17,8 +17,8 @@ pub(crate) fn is_too_long(length: i32) -> bool
     length > MAX_REGION
 }
 
-/// Whether an array or a string of these items can hold the number.
-fn fits(element: Primitive, item: i64) -> bool
+/// Whether a field of the type, or an array or a string of such items, can hold the number.
+pub(crate) fn fits(element: Primitive, item: i64) -> bool
     ensures { result ≡ is_value_of element item }
 {
     match element {

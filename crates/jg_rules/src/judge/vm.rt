@@ -1,12 +1,45 @@
-ghost use Rattle.std.specs.Prelude.{◌≡◌};
+ghost use Rattle.std.specs.Prelude.{◌≡◌, ◌<◌, Some, true};
 ghost use Rattle.jg_words.specs.declared.call.Call.TheVariants.{Vm};
+ghost use Rattle.jg_words.specs.declared.call.vm.VmCall.TheVariants.{NativeEnter};
 ghost use Rattle.jg_rules.specs.Parts.{Parts};
 ghost use Rattle.jg_rules.specs.Rules.{own_verdict};
 ghost use Rattle.jg_rules.specs.View.{ViewStands};
 
+use crate::access::is_refused_to;
+use crate::named::{class_meant, native_meant};
 use crate::view::View;
-use jg_words::{Rule, Tid, VmCall};
+use jg_words::{Name, Rule, Tid, VmCall};
 use std::alloc::Allocator;
+
+fn judge_enter<A: Allocator + Clone>(
+    view: &View<'_, A>,
+    tid: Tid,
+    class: &Name,
+    method: &Name,
+    signature: &Name,
+) -> Option<Rule>
+    ensures { (p : Parts) → ViewStands view.now p → result
+        ≡ own_verdict view.now.setup.now p tid.0 (Vm (NativeEnter class.now method.now signature.now)) }
+{
+    let _tid = tid;
+    let found = view.setup.class_named(class);
+    let Some(class) = found else {
+        return Some(Rule::BadArgument);
+    };
+    if is_refused_to(view, Some(class)) {
+        return Some(Rule::NoNativeAccess);
+    }
+    match native_meant(view.setup, Some(class), method, signature) {
+        None => Some(Rule::NotLinked),
+        Some(native) => {
+            if view.links.linked(class, native) {
+                None
+            } else {
+                Some(Rule::NotLinked)
+            }
+        }
+    }
+}
 
 /// The first of the rules 10 to 17 that a call of the group breaks.
 pub(crate) fn judge_vm<A: Allocator + Clone>(
@@ -26,5 +59,35 @@ pub(crate) fn judge_vm<A: Allocator + Clone>(
             }
         }
         VmCall::GetEnv => None,
+        VmCall::NativeEnter {
+            class,
+            method,
+            signature,
+        } => judge_enter(view, tid, class, method, signature),
+        VmCall::NativeLeave { .. } => {
+            if view.threads.depth(tid) == 0 {
+                Some(Rule::BadFrame)
+            } else {
+                None
+            }
+        }
+        VmCall::LoadLibrary { class, .. } => {
+            let found = view.setup.class_named(class);
+            if found.is_none() {
+                Some(Rule::BadArgument)
+            } else if is_refused_to(view, found) {
+                Some(Rule::NoNativeAccess)
+            } else {
+                None
+            }
+        }
+        VmCall::RegisterNatives { class, .. } => {
+            if is_refused_to(view, class_meant(view, tid, *class)) {
+                Some(Rule::NoNativeAccess)
+            } else {
+                None
+            }
+        }
+        VmCall::UnregisterNatives { .. } => None,
     }
 }

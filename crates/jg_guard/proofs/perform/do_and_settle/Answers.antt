@@ -15,6 +15,7 @@ do_call-requires g c =
         events = due.events;
         env = due.env;
         ordinary = due.ordinary;
+        stated = due.stated;
         stand = stand;
         unbroken = due.unbroken;
         counts = counts due.events _ c.args.tid.0 due.ordinary stand.threads;

@@ -1,7 +1,8 @@
 use Rattle.std.proofs.Common.{rules, ◌≡◌, true, false}
 use Rattle.jg_rules.specs.Effects.{is_effective}
 use Rattle.jg_guard.specs.Tables.{makes_global}
-use Rattle.jg_guard.proofs.Due.{is_on, attached_caller, takes_env, can_throw, can_settle_global, own_proper, stand_none, stand_global}
+use Rattle.jg_laws.proofs.Acts.{attached_caller}
+use Rattle.jg_guard.proofs.Due.{is_on, takes_env, can_throw, can_settle_global, own_proper, stand_none, stand_global}
 use Rattle.jg_guard.proofs.perform.perform.Goals as goal
 
 pub throw_if-requires-clause-attached : goal.throw_if-requires-clause-attached

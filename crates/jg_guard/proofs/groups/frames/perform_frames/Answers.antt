@@ -1,5 +1,6 @@
 use Rattle.std.proofs.Common.{refl}
-use Rattle.jg_guard.proofs.Due.{attached_caller, has_frame, can_push, can_pop}
+use Rattle.jg_laws.proofs.Acts.{attached_caller}
+use Rattle.jg_guard.proofs.Due.{has_frame, can_push, can_pop}
 use Rattle.jg_guard.proofs.groups.frames.perform_frames.Goals as goal
 
 pub push-requires-clause-started : goal.push-requires-clause-started

@@ -1,0 +1,97 @@
+-- What the store has of the object that a field's function takes.
+use Rattle.std.proofs.Common.{ℕ, ◌≡◌, ◌+◌, ◌-◌, ◌<◌, ◌≤◌, Bool, true, false, List, length, Option, Some, None, refl, ap, sym, ◌∙◌, arith}
+use Rattle.std.specs.Prelude.{◌==◌, ◌&&◌, ◌||◌, not, nat_lt, if◌then◌else◌, slice_get}
+use Rattle.std.specs.List.{AllByRecursion}
+use Rattle.std.specs.Option.{option_map, unwrap_or}
+use Rattle.std.proofs.lemmas.Bool.Decides.{nat_tests}
+use Rattle.std.proofs.lemmas.Option.{slice_get_within}
+use Rattle.jg_words.specs.declared.object.FieldId.{FieldId}
+use Rattle.jg_words.specs.declared.object.Primitive.{Primitive}
+use Rattle.jg_words.specs.declared.reference.Ref.{Ref}
+use Rattle.jg_policy.specs.Stated.{StatedSetup, StatedMember, StatedClass, class_count}
+use Rattle.jg_policy.specs.Classes.{class_at, fields_in, field_type, member_type}
+use Rattle.jg_heap.specs.Making.{HasFields}
+use Rattle.jg_heap.specs.Rows.{count_in, class_at as class_in_row, length_at}
+use Rattle.jg_heap.specs.History.{making_at}
+use Rattle.jg_rules.specs.declared.named.Named.{Named}
+use Rattle.jg_rules.specs.declared.named.Named.TheVariants.{Nothing, Null as NamesNull, Object}
+use Rattle.jg_rules.specs.Parts.{Parts, TableRows, TablesStand}
+use Rattle.jg_rules.specs.Names.{object_in, class_of, length_of, slot_place}
+use Rattle.jg_rules.specs.Rules.{is_nothing, is_null, is_stated_as, is_of_class}
+use Rattle.jg_rules.proofs.Objects.{is_there}
+use Rattle.jg_laws.specs.Laws.{MakesStated}
+use Rattle.jg_laws.proofs.Makings.{stated_at, stated_length}
+
+-- the object is in the store and has a slot for the field
+pub record HasSlot (rows : TableRows) (o : ℕ) (field : FieldId) : Type 0 where
+  pub named : 1 ≤ field.field
+  pub made : o < count_in rows.heap
+  pub fields : HasFields (class_in_row rows.heap o)
+  pub within : slot_place field < length_at rows.heap o
+
+-- ---- a field that the setup states
+
+-- its class is one of the setup, which states so many fields
+pub record IsStatedField (s : StatedSetup) (class field : ℕ) : Type 0 where
+  pub high : 15 ≤ class
+  pub named : 1 ≤ field
+  pub within : field - 1 < length (fields_in (class_at s class))
+
+found_within : (wanted : Option Primitive) (members : List StatedMember) (i : ℕ) (found : Option StatedMember) → slice_get members i ≡ found
+    → is_stated_as wanted (option_map (λ (m : StatedMember). m.signature) found) ≡ true → i < length members
+found_within wanted members i None is stated = absurd cc
+found_within wanted members i (Some m) is stated = slice_get_within members i m is
+
+member_within : (b : Bool) (wanted : Option Primitive) (members : List StatedMember) (field : ℕ) → (field == 0) ≡ b
+    → is_stated_as wanted (if b then None else option_map (λ (m : StatedMember). m.signature) (slice_get members (field - 1))) ≡ true
+    → (1 ≤ field) × (field - 1 < length members)
+member_within true wanted members field is stated = absurd cc
+member_within false wanted members field is stated = (grind (arith, nat_tests, is), found_within wanted members (field - 1) (slice_get members (field - 1)) refl stated)
+
+high_if : (b : Bool) (s : StatedSetup) (class n : ℕ) (found : Option StatedClass) → nat_lt class 15 ≡ b → n < length (fields_in (if b then None else found)) → 15 ≤ class
+high_if true s class n found is within = absurd (omega (arith, within))
+high_if false s class n found is within = grind (arith, nat_tests, is)
+
+stated_field : (s : StatedSetup) (class field : ℕ) (wanted : Option Primitive) → is_stated_as wanted (field_type s class field) ≡ true → IsStatedField s class field
+stated_field s class field wanted stated =
+    let at_place = member_within (field == 0) wanted (fields_in (class_at s class)) field refl stated in
+    record {
+      high = high_if (nat_lt class 15) s class (field - 1) (slice_get s.classes (class - 15)) refl at_place.1;
+      named = at_place.0;
+      within = at_place.1;
+    }
+
+-- ---- the object of that class
+
+both_true : (a b : Bool) → not (a && b) ≡ false → (a ≡ true) × (b ≡ true)
+both_true true true is = (refl, refl)
+both_true true false is = absurd cc
+both_true false b is = absurd cc
+
+same_number : (a b : ℕ) → (a == b) ≡ true → a ≡ b
+same_number a b is = grind (arith, nat_tests, is)
+
+slot_here : (s : StatedSetup) (rows : TableRows) (p : Parts) (o : ℕ) (field : FieldId) → TablesStand s rows p → AllByRecursion (MakesStated s) p.heap
+    → IsStatedField s field.class field.field → class_of s p o ≡ field.class → HasSlot rows o field
+slot_here s rows p o field stand stated is same =
+    let there = is_there s rows p o field.class stand same (omega (arith, is.high)) in
+    let high : 10 ≤ class_of s p o = omega (arith, is.high, same) in
+    let size = stated_length s (making_at (class_count s) p.heap o) (stated_at s (class_count s) p.heap o stated) high in
+    let wide : length_of s p o ≡ length (fields_in (class_at s field.class)) = size ∙ ap (λ (c : ℕ). length (fields_in (class_at s c))) same in
+    record {
+      named = is.named;
+      made = there.made;
+      fields = λ more. omega (arith, there.class, is.high);
+      within = omega (arith, there.len, wide, is.within);
+    }
+
+-- where the call breaks no rule
+pub has_slot : (s : StatedSetup) (rows : TableRows) (p : Parts) (wanted : Option Primitive) (named : Named) (field : FieldId) (a b : Bool) → TablesStand s rows p
+    → AllByRecursion (MakesStated s) p.heap → (is_nothing named || a) ≡ false → ((true && is_null named) || b) ≡ false
+    → not (is_stated_as wanted (field_type s field.class field.field) && is_of_class s p field.class named) ≡ false
+    → HasSlot rows (unwrap_or (object_in named) 0) field
+has_slot s rows p wanted Nothing field a b stand stated alive there right = absurd cc
+has_slot s rows p wanted NamesNull field a b stand stated alive there right = absurd cc
+has_slot s rows p wanted (Object x) field a b stand stated alive there right =
+    let both = both_true (is_stated_as wanted (field_type s field.class field.field)) (class_of s p x.0 == field.class) right in
+    slot_here s rows p x.0 field stand stated (stated_field s field.class field.field wanted both.0) (same_number (class_of s p x.0) field.class both.1)

@@ -1,0 +1,91 @@
+-- Each object that a call makes has the fields that the setup states for its class.
+use Rattle.std.proofs.Common.{ℕ, ℤ, ◌≡◌, ◌≤◌, ◌+◌, ◌++◌, Bool, true, false, List, [], ◌∷◌, length, map, refl, arith}
+use Rattle.std.specs.Prelude.{◌==◌, if◌then◌else◌}
+use Rattle.std.specs.List.{AllByRecursion}
+use Rattle.std.proofs.lemmas.List.{length-map}
+use Rattle.jg_words.specs.declared.object.Primitive.{Primitive}
+use Rattle.jg_words.specs.declared.object.Primitive.TheVariants.{Boolean, Byte, Char, Short, Int, Long}
+use Rattle.jg_words.specs.declared.value.Value.TheVariants.{Throw as Threw}
+use Rattle.jg_words.specs.declared.value.Thrown.{Thrown}
+use Rattle.jg_words.specs.declared.value.Thrown.TheVariants.{ArrayIndexOutOfBounds, StringIndexOutOfBounds, NoClassDefFound, NoSuchField, NoSuchMethod}
+use Rattle.jg_words.specs.declared.call.Call.{Call}
+use Rattle.jg_words.specs.declared.call.Call.TheVariants.{Vm, Refs, Frames, Exceptions, Objects, Strings, Arrays}
+use Rattle.jg_words.specs.declared.call.objects.ObjectsCall.TheVariants.{FindClass, GetObjectClass, IsInstanceOf, AllocObject, GetFieldID, GetField, GetObjectField, SetField, SetObjectField}
+use Rattle.jg_words.specs.declared.call.strings.StringsCall.TheVariants.{NewString, NewStringUTF, GetStringLength, GetStringUTFLength, GetStringRegion}
+use Rattle.jg_words.specs.declared.call.arrays.ArraysCall.TheVariants.{NewArray, GetArrayLength, GetArrayRegion, SetArrayRegion, NewObjectArray, GetObjectArrayElement, SetObjectArrayElement}
+use Rattle.jg_policy.specs.Stated.{StatedSetup}
+use Rattle.jg_policy.specs.Classes.{class_at, fields_in}
+use Rattle.jg_heap.specs.History.{Event, Made, Wrote, Collected, count_of, making_at, region_writes}
+use Rattle.jg_heap.specs.Making.{Making, Plain, Text, Filled, array_class, class_in, length_in}
+use Rattle.jg_heap.specs.Reading.{natural}
+use Rattle.jg_rules.specs.Parts.{Parts}
+use Rattle.jg_rules.specs.Names.{the_object}
+use Rattle.jg_rules.specs.Effects.{call_heap, value_heap, first_value}
+use Rattle.jg_laws.specs.Laws.{IsStatedMaking, MakesStated}
+
+pub all_append : {X : Type 0} (P : X → Type 0) (xs ys : List X) → AllByRecursion P xs → AllByRecursion P ys → AllByRecursion P (xs ++ ys)
+all_append P [] ys a b = b
+all_append P (x ∷ xs) ys a b = (a.0, all_append P xs ys a.1 b)
+
+array_class-le : (element : Primitive) → array_class element ≤ 9
+array_class-le Boolean = omega arith
+array_class-le Byte = omega arith
+array_class-le Char = omega arith
+array_class-le Short = omega arith
+array_class-le Int = omega arith
+array_class-le Long = omega arith
+
+region_stated : (s : StatedSetup) (o j : ℕ) (values : List ℤ) → AllByRecursion (MakesStated s) (region_writes o j values)
+region_stated s o j [] = tt
+region_stated s o j (v ∷ values) = all_append (MakesStated s) (region_writes o (j + 1) values) _ (region_stated s o (j + 1) values) (tt, tt)
+
+pub call_stated : (s : StatedSetup) (p : Parts) (t : ℕ) (call : Call) → AllByRecursion (MakesStated s) (call_heap s p t call)
+call_stated s p t (Vm call) = tt
+call_stated s p t (Refs call) = tt
+call_stated s p t (Frames call) = tt
+call_stated s p t (Exceptions call) = tt
+call_stated s p t (Objects (FindClass name)) = tt
+call_stated s p t (Objects (GetObjectClass r)) = tt
+call_stated s p t (Objects (IsInstanceOf r class)) = tt
+call_stated s p t (Objects (AllocObject class)) = (length-map (fields_in (class_at s (the_object p t class))) first_value, tt)
+call_stated s p t (Objects (GetFieldID class field signature)) = tt
+call_stated s p t (Objects (GetField primitive r field)) = tt
+call_stated s p t (Objects (GetObjectField r field)) = tt
+call_stated s p t (Objects (SetField primitive r field value)) = (tt, tt)
+call_stated s p t (Objects (SetObjectField r field value)) = (tt, tt)
+call_stated s p t (Strings (NewString units)) = (tt, tt)
+call_stated s p t (Strings (NewStringUTF bytes)) = (tt, tt)
+call_stated s p t (Strings (GetStringLength r)) = tt
+call_stated s p t (Strings (GetStringUTFLength r)) = tt
+call_stated s p t (Strings (GetStringRegion r start n)) = tt
+call_stated s p t (Arrays (NewArray element n)) = (array_class-le element, tt)
+call_stated s p t (Arrays (GetArrayLength r)) = tt
+call_stated s p t (Arrays (GetArrayRegion element r start n)) = tt
+call_stated s p t (Arrays (SetArrayRegion element r start values)) = region_stated s (the_object p t r) (natural start) values
+call_stated s p t (Arrays (NewObjectArray n class fill)) = (omega arith, tt)
+call_stated s p t (Arrays (GetObjectArrayElement r index)) = tt
+call_stated s p t (Arrays (SetObjectArrayElement r index value)) = (tt, tt)
+
+pub thrown_stated : (s : StatedSetup) (kind : Thrown) → AllByRecursion (MakesStated s) (value_heap (Threw kind))
+thrown_stated s ArrayIndexOutOfBounds = (refl, tt)
+thrown_stated s StringIndexOutOfBounds = (refl, tt)
+thrown_stated s NoClassDefFound = (refl, tt)
+thrown_stated s NoSuchField = (refl, tt)
+thrown_stated s NoSuchMethod = (refl, tt)
+
+stated_if : (b : Bool) (s : StatedSetup) (m n : Making) → IsStatedMaking s m → IsStatedMaking s n → IsStatedMaking s (if b then m else n)
+stated_if true s m n a b = a
+stated_if false s m n a b = b
+
+-- so each object was made
+pub stated_at : (s : StatedSetup) (k : ℕ) (e : List Event) (o : ℕ) → AllByRecursion (MakesStated s) e → IsStatedMaking s (making_at k e o)
+stated_at s k [] o all = refl
+stated_at s k (Made m ∷ e) o all = stated_if (o == count_of k e) s m (making_at k e o) all.0 (stated_at s k e o all.1)
+stated_at s k (Wrote p j v ∷ e) o all = stated_at s k e o all.1
+stated_at s k (Collected roots ∷ e) o all = stated_at s k e o all.1
+
+-- one of a class of the setup is plain
+pub stated_length : (s : StatedSetup) (m : Making) → IsStatedMaking s m → 10 ≤ class_in m → length_in m ≡ length (fields_in (class_at s (class_in m)))
+stated_length s (Plain class fields) is high = is
+stated_length s (Text units) is high = absurd (omega (arith, high))
+stated_length s (Filled class n item) is high = absurd (omega (arith, is, high))

@@ -1,0 +1,90 @@
+-- What was entered was linked, and what the setup states of fields holds of each object.
+use Rattle.std.proofs.Common.{ℕ, ◌≡◌, ◌≤◌, ◌++◌, ◌∙◌, Bool, true, false, List, [], ◌∷◌, Option, Some, None, length, refl, sym, ap, subst}
+use Rattle.std.specs.Prelude.{not}
+use Rattle.std.specs.List.{AllByRecursion}
+use Rattle.jg_words.specs.declared.thread.Tid.{Tid}
+use Rattle.jg_words.specs.declared.thread.EnvId.{EnvId}
+use Rattle.jg_words.specs.declared.rule.Rule.{Rule}
+use Rattle.jg_words.specs.declared.entry.Entry.{Entry}
+use Rattle.jg_words.specs.declared.entry.Reply.{Reply}
+use Rattle.jg_words.specs.declared.entry.Outcome.{Outcome}
+use Rattle.jg_words.specs.declared.entry.Outcome.TheVariants.{Passed, Denied}
+use Rattle.jg_words.specs.declared.call.Call.{Call}
+use Rattle.jg_words.specs.declared.call.Call.TheVariants.{Vm}
+use Rattle.jg_words.specs.declared.call.vm.VmCall.TheVariants.{NativeEnter}
+use Rattle.jg_policy.specs.Stated.{StatedSetup, class_count}
+use Rattle.jg_policy.specs.Classes.{class_named}
+use Rattle.jg_heap.specs.History.{making_at}
+use Rattle.jg_rules.specs.Parts.{Parts}
+use Rattle.jg_rules.specs.Names.{native_meant}
+use Rattle.jg_rules.specs.Access.{refuses}
+use Rattle.jg_rules.specs.Effects.{parts}
+use Rattle.jg_rules.specs.Rules.{verdict, is_linked}
+use Rattle.jg_rules.specs.Answers.{answer}
+use Rattle.jg_rules.specs.declared.answer.Answer.{Answer}
+use Rattle.jg_rules.specs.Legal.{Legal, entry_at, entry_by}
+use Rattle.jg_rules.specs.Unbroken.{Unbroken}
+use Rattle.jg_rules.proofs.Kept.{unbroken}
+use Rattle.jg_laws.specs.Laws.{MakesStated, FieldsAreStated, EnteredWasLinked}
+use Rattle.jg_laws.proofs.Makings.{all_append, stated_at, stated_length}
+use Rattle.jg_laws.proofs.Steps.{Steps, each_legal}
+use Rattle.jg_laws.proofs.Fresh.{Legal-before}
+
+-- ---- fields
+
+-- each object was made as the setup states
+abbrev pub AllStated : StatedSetup → Parts → Type 0
+AllStated s p = AllByRecursion (MakesStated s) p.heap
+
+pub stated_steps : (s : StatedSetup) → Steps s (AllStated s)
+stated_steps s = record {
+  begins = λ p u is old. old;
+  begun = λ p u is old. old;
+  ends = λ p u old. old;
+  enters = λ p u on old. old;
+  leaves = λ p u on deep old. old;
+  deletes = λ p u k old. old;
+  pushes = λ p u old. old;
+  pops = λ p u some old. old;
+  to_globals = λ p e none old. old;
+  to_buffers = λ p e old. old;
+  to_monitors = λ p e old. old;
+  to_heap = λ p e all old. all_append (MakesStated s) e p.heap all old;
+  to_links = λ p e old. old;
+  hands = λ p u n o is old. old;
+  hands_strong = λ p u n o is old. old;
+  hands_weak = λ p u n o is old. old;
+  lends = λ p u old. old;
+  raises = λ p u o old. old;
+  calms = λ p u old. old;
+}
+
+pub all_stated : (s : StatedSetup) (h : List Entry) → Legal s h → AllStated s (parts s h)
+all_stated s h legal = each_legal (AllStated s) s (stated_steps s) tt h legal
+
+pub fields_are_stated : FieldsAreStated
+fields_are_stated s h o legal high =
+    stated_length s (making_at (class_count s) (parts s h).heap o) (stated_at s (class_count s) (parts s h).heap o (all_stated s h legal)) high
+
+-- ---- native methods
+
+not_false : (b : Bool) → not b ≡ false → b ≡ true
+not_false true is = refl
+not_false false is = absurd cc
+
+never_passed : (rule : Rule) (reply : Reply) → Denied rule ≡ Passed reply → ⊥
+never_passed rule reply is = cc
+
+-- a call that passed broke no rule
+passed_unbroken : (s : StatedSetup) (p : Parts) (v : Option Rule) (x : Entry) (reply : Reply) → verdict s p x.tid.0 x.env x.call ≡ v
+    → x ≡ entry_by v (answer s p x.tid x.call) x.tid x.env x.call → x.outcome ≡ Passed reply → Unbroken s p x.tid.0 x.env x.call
+passed_unbroken s p (Some rule) x reply denied is passed = absurd (never_passed rule reply (sym (ap (λ (y : Entry). y.outcome) is) ∙ passed))
+passed_unbroken s p None x reply none is passed = unbroken s p x.tid.0 x.env x.call none
+
+pub entered_was_linked : EnteredWasLinked
+entered_was_linked s later x before class method signature reply legal is passed =
+    let own = Legal-before s later (x ∷ before) legal in
+    let kept = passed_unbroken s (parts s before) (verdict s (parts s before) x.tid.0 x.env x.call) x reply refl own.0 passed in
+    let here : Unbroken s (parts s before) x.tid.0 x.env (Vm (NativeEnter class method signature)) =
+    subst (λ (call : Call). Unbroken s (parts s before) x.tid.0 x.env call) is kept in
+    (not_false _ here.is_linked, here.accessible)

@@ -1,0 +1,55 @@
+-- The setups of worked rows.
+use Rattle.std.specs.Prelude.{[], ◌∷◌, true, false, codes}
+use Rattle.jg_policy.specs.declared.mode.Mode.{Mode}
+use Rattle.jg_policy.specs.declared.mode.Mode.TheVariants.{Deny}
+use Rattle.jg_policy.specs.Stated.{StatedSetup, StatedClass, StatedMember}
+
+abbrev pub main_class : StatedClass
+main_class = record {
+  name = codes "app/Main";
+  module_name = codes "app";
+  throwable = false;
+  fields = record { name = codes "count"; signature = codes "I" }
+      ∷ record { name = codes "next"; signature = codes "Lapp/Main;" } ∷ [];
+  natives = record { name = codes "run"; signature = codes "()V" } ∷ [];
+}
+
+abbrev pub tool_class : StatedClass
+tool_class = record {
+  name = codes "lib/Tool";
+  module_name = codes "lib";
+  throwable = false;
+  fields = [];
+  natives = record { name = codes "go"; signature = codes "()V" } ∷ [];
+}
+
+abbrev pub fault_class : StatedClass
+fault_class = record {
+  name = codes "app/Fault";
+  module_name = codes "app";
+  throwable = true;
+  fields = [];
+  natives = [];
+}
+
+-- classes 15, 16 and 17 in two modules, of which one is enabled; the first object that is made is number 18
+abbrev pub two_modules : Mode → StatedSetup
+two_modules mode =
+    record { mode = mode; enabled = codes "app" ∷ []; classes = main_class ∷ tool_class ∷ fault_class ∷ [] }
+
+-- class 15 with a field of each primitive type; the first object that is made is number 16
+abbrev pub all_types : StatedSetup
+all_types = record {
+  mode = Deny;
+  enabled = [];
+  classes = record {
+      name = codes "t/All";
+      module_name = codes "t";
+      throwable = false;
+      fields = record { name = codes "z"; signature = codes "Z" } ∷ record { name = codes "b"; signature = codes "B" }
+          ∷ record { name = codes "c"; signature = codes "C" } ∷ record { name = codes "s"; signature = codes "S" }
+          ∷ record { name = codes "i"; signature = codes "I" } ∷ record { name = codes "j"; signature = codes "J" }
+          ∷ [];
+      natives = [];
+    } ∷ [];
+}
