@@ -34,7 +34,7 @@ use Rattle.jg_words.specs.declared.call.strings.StringsCall.TheVariants.{NewStri
 use Rattle.jg_words.specs.declared.call.arrays.ArraysCall.{ArraysCall}
 use Rattle.jg_words.specs.declared.call.arrays.ArraysCall.TheVariants.{NewArray, GetArrayLength, GetArrayRegion, SetArrayRegion, NewObjectArray, GetObjectArrayElement, SetObjectArrayElement}
 use Rattle.jg_words.specs.Call.{fun_of, vm_fun, refs_fun, frames_fun, exceptions_fun, objects_fun, strings_fun, arrays_fun}
-use Rattle.jg_text.specs.Kinds.{OperandKind, Reference, Number, Numbers, Name}
+use Rattle.jg_text.specs.Kinds.{OperandKind, Reference, Number, LongNumber, Numbers, Name, Field}
 use Rattle.jg_text.specs.Words.{kind_of}
 use Rattle.jg_text.specs.Operands.{operands, operand_kinds, vm_operands, vm_kinds, refs_operands, refs_kinds, frames_operands, frames_kinds, exceptions_operands, exceptions_kinds, objects_operands, objects_kinds, strings_operands, strings_kinds, arrays_operands, arrays_kinds}
 
@@ -42,8 +42,10 @@ use Rattle.jg_text.specs.Operands.{operands, operand_kinds, vm_operands, vm_kind
 abbrev pub longest : OperandKind → ℕ
 longest Reference = 42
 longest Number = 42
+longest LongNumber = 42
 longest Numbers = 21002
 longest Name = 255
+longest Field = 42
 
 -- how long operands of these kinds are at most, with a space before each
 abbrev pub room : List OperandKind → ℕ
@@ -54,17 +56,32 @@ vm_same : (c d : VmCall) → vm_fun c ≡ vm_fun d → vm_operands c ≡ vm_oper
 vm_same AttachCurrentThread AttachCurrentThread e1 e2 = refl
 vm_same DetachCurrentThread DetachCurrentThread e1 e2 = refl
 vm_same GetEnv GetEnv e1 e2 = refl
+vm_same (NativeEnter a0 a1 a2) (NativeEnter b0 b1 b2) e1 e2 = cc
+vm_same (NativeLeave a0) (NativeLeave b0) e1 e2 = cc
+vm_same (LoadLibrary a0 a1) (LoadLibrary b0 b1) e1 e2 = cc
+vm_same (RegisterNatives a0 a1 a2) (RegisterNatives b0 b1 b2) e1 e2 = cc
+vm_same (UnregisterNatives a0) (UnregisterNatives b0) e1 e2 = cc
 vm_same _ _ e1 e2 = absurd (cc)
 
 vm_few : (f : VmFun) → room (vm_kinds f) ≤ 21600
 vm_few vm.AttachCurrentThread = omega arith
 vm_few vm.DetachCurrentThread = omega arith
 vm_few vm.GetEnv = omega arith
+vm_few vm.NativeEnter = omega arith
+vm_few vm.NativeLeave = omega arith
+vm_few vm.LoadLibrary = omega arith
+vm_few vm.RegisterNatives = omega arith
+vm_few vm.UnregisterNatives = omega arith
 
 vm_same_kinds : (c : VmCall) → map kind_of (vm_operands c) ≡ vm_kinds (vm_fun c)
 vm_same_kinds AttachCurrentThread = refl
 vm_same_kinds DetachCurrentThread = refl
 vm_same_kinds GetEnv = refl
+vm_same_kinds (NativeEnter class method signature) = refl
+vm_same_kinds (NativeLeave kept) = refl
+vm_same_kinds (LoadLibrary class library) = refl
+vm_same_kinds (RegisterNatives class method signature) = refl
+vm_same_kinds (UnregisterNatives class) = refl
 
 refs_same : (c d : RefsCall) → refs_fun c ≡ refs_fun d → refs_operands c ≡ refs_operands d → c ≡ d
 refs_same (NewLocalRef a0) (NewLocalRef b0) e1 e2 = cc
@@ -125,6 +142,11 @@ objects_same (FindClass a0) (FindClass b0) e1 e2 = cc
 objects_same (GetObjectClass a0) (GetObjectClass b0) e1 e2 = cc
 objects_same (IsInstanceOf a0 a1) (IsInstanceOf b0 b1) e1 e2 = cc
 objects_same (AllocObject a0) (AllocObject b0) e1 e2 = cc
+objects_same (GetFieldID a0 a1 a2) (GetFieldID b0 b1 b2) e1 e2 = cc
+objects_same (GetField a0 a1 a2) (GetField b0 b1 b2) e1 e2 = cc
+objects_same (GetObjectField a0 a1) (GetObjectField b0 b1) e1 e2 = cc
+objects_same (SetField a0 a1 a2 a3) (SetField b0 b1 b2 b3) e1 e2 = cc
+objects_same (SetObjectField a0 a1 a2) (SetObjectField b0 b1 b2) e1 e2 = cc
 objects_same _ _ e1 e2 = absurd (cc)
 
 objects_few : (f : ObjectsFun) → room (objects_kinds f) ≤ 21600
@@ -132,12 +154,22 @@ objects_few objects.FindClass = omega arith
 objects_few objects.GetObjectClass = omega arith
 objects_few objects.IsInstanceOf = omega arith
 objects_few objects.AllocObject = omega arith
+objects_few objects.GetFieldID = omega arith
+objects_few (objects.GetField primitive) = omega arith
+objects_few objects.GetObjectField = omega arith
+objects_few (objects.SetField primitive) = omega arith
+objects_few objects.SetObjectField = omega arith
 
 objects_same_kinds : (c : ObjectsCall) → map kind_of (objects_operands c) ≡ objects_kinds (objects_fun c)
 objects_same_kinds (FindClass name) = refl
 objects_same_kinds (GetObjectClass object) = refl
 objects_same_kinds (IsInstanceOf object class) = refl
 objects_same_kinds (AllocObject class) = refl
+objects_same_kinds (GetFieldID class field signature) = refl
+objects_same_kinds (GetField primitive object field) = refl
+objects_same_kinds (GetObjectField object field) = refl
+objects_same_kinds (SetField primitive object field value) = refl
+objects_same_kinds (SetObjectField object field value) = refl
 
 strings_same : (c d : StringsCall) → strings_fun c ≡ strings_fun d → strings_operands c ≡ strings_operands d → c ≡ d
 strings_same (NewString a0) (NewString b0) e1 e2 = cc

@@ -15,6 +15,7 @@ use Rattle.std.proofs.lemmas.List.Elements.{All-cons, All-append, All-nil, All-f
 use Rattle.std.proofs.lemmas.List.Splits.{slice_split_none}
 use Rattle.jg_words.specs.declared.thread.Tid.{Tid}
 use Rattle.jg_words.specs.declared.thread.EnvId.{EnvId}
+use Rattle.jg_words.specs.declared.object.FieldId.{FieldId}
 use Rattle.jg_words.specs.declared.reference.Kind.{Kind}
 use Rattle.jg_words.specs.declared.reference.Kind.TheVariants.{Local, Global, Weak}
 use Rattle.jg_words.specs.declared.reference.Ref.{Ref}
@@ -25,13 +26,13 @@ use Rattle.jg_words.proofs.Names.{named-name_of}
 use Rattle.jg_words.specs.declared.call.Call.{Call}
 use Rattle.jg_words.specs.Call.{fun_of}
 use Rattle.jg_text.specs.Kinds.{OperandKind}
-use Rattle.jg_text.specs.Words.{SpellsOperand, SpellOperands, tid_text, env_text, ref_text, dotted_text, kind_letter, FitsTid, FitsEnv, FitsRef, Word, of_ref, of_number, of_items, of_name, kind_of, text_of, FitsWord}
+use Rattle.jg_text.specs.Words.{SpellsOperand, SpellOperands, tid_text, env_text, ref_text, dotted_text, kind_letter, field_text, FitsTid, FitsEnv, FitsRef, FitsField, Word, of_ref, of_number, of_long_number, of_items, of_name, of_field, kind_of, text_of, FitsWord}
 use Rattle.jg_text.specs.Operands.{operands, operand_texts, operand_kinds, FitsCall}
 use Rattle.jg_text.specs.Spelling.{spelling, line_fields, Spells}
 use Rattle.jg_text.specs.Faults.{fields, HasFault}
 use Rattle.jg_text.specs.Pieces.{after_spaces}
-use Rattle.jg_text.proofs.Numbers.{clean_decimal, own, mag_fits, mag_fits_small}
-use Rattle.jg_text.proofs.Cuts.{IsClean, split_first, same_cut}
+use Rattle.jg_text.proofs.Numbers.{own, mag_fits, mag_fits_small}
+use Rattle.jg_text.proofs.Cuts.{IsClean, split_first, dotted_same}
 use Rattle.jg_text.proofs.Lists.{Fit, pieces, commas_split, same_inner}
 use Rattle.jg_text.proofs.Named.{names_injective, both_true, below, each_passes}
 use Rattle.jg_text.proofs.Calls.{same_call, same_kinds, few_operands, longest, room}
@@ -79,11 +80,6 @@ pub fields_join : (part : List ℕ) (parts : List (List ℕ)) → AllByRecursion
 fields_join part [] h = slice_split_none (λ b. b == 32) part h.0
 fields_join part (next ∷ parts) h = split_first 32 part (join_with_byte 32 (next ∷ parts)) h.0 ∙ ap (λ ps. part ∷ ps) (fields_join next parts h.1)
 
-dotted_same : (a b c d : ℕ) → a < 2 ^ 64 → b < 2 ^ 64 → c < 2 ^ 64 → d < 2 ^ 64 → dotted_text a b ≡ dotted_text c d → (a ≡ c) × (b ≡ d)
-dotted_same a b c d ha hb hc hd e =
-    let cut = same_cut 46 (decimal a) (decimal b) (decimal c) (decimal d) (clean_decimal 46 a (omega arith) ha) (clean_decimal 46 c (omega arith) hc) e in
-    (decimal_injective a c ha hc cut.0, decimal_injective b d hb hd cut.1)
-
 letters_same : (k l : Kind) → kind_letter k ≡ kind_letter l → k ≡ l
 letters_same Local Local e = refl
 letters_same Global Global e = refl
@@ -111,6 +107,13 @@ refs_same (To kind maker n) (To kind' maker' n') h k e =
     let kinds = letters_same kind kind' letter in
     let makers : maker ≡ maker' = ap (λ (m : ℕ). let t : Tid = record { 0 = m } in t) same.0 in
     cc (kinds, makers, same.1)
+
+field_ids_same : (f g : FieldId) → FitsField f → FitsField g → field_text f ≡ field_text g → f ≡ g
+field_ids_same f g h k e =
+    let numbers : dotted_text f.class f.field ≡ dotted_text g.class g.field = cc in
+    let same = dotted_same f.class f.field g.class g.field (omega (arith, h.0)) (omega (arith, h.1)) (omega (arith, k.0)) (omega (arith, k.1)) numbers in
+    ap (λ (m : ℕ). let v : FieldId = record { class = m; field = f.field } in v) same.0
+    ∙ ap (λ (n : ℕ). let v : FieldId = record { class = g.class; field = n } in v) same.1
 
 numbers_same : (xs ys : List ℤ) → Fit xs → Fit ys → map signed_decimal xs ≡ map signed_decimal ys → xs ≡ ys
 numbers_same [] [] f g e = refl
@@ -142,8 +145,10 @@ joined_same (x ∷ xs) (y ∷ ys) f g e = numbers_same (x ∷ xs) (y ∷ ys) f g
 pub word_same : (a b : Word) → kind_of a ≡ kind_of b → FitsWord a → FitsWord b → text_of a ≡ text_of b → a ≡ b
 word_same (of_ref r) (of_ref q) e h k t = ap of_ref (refs_same r q h k t)
 word_same (of_number i) (of_number j) e h k t = ap of_number (signed_decimal_injective i j (mag_fits_small i h) (mag_fits_small j k) t)
+word_same (of_long_number i) (of_long_number j) e h k t = ap of_long_number (signed_decimal_injective i j (mag_fits i h) (mag_fits j k) t)
 word_same (of_items xs) (of_items ys) e h k t = ap of_items (joined_same xs ys h.1 k.1 (same_inner _ _ t))
 word_same (of_name a) (of_name b) e h k t = ap of_name t
+word_same (of_field f) (of_field g) e h k t = ap of_field (field_ids_same f g h k t)
 word_same _ _ e h k t = absurd (cc)
 
 words_same : (us vs : List Word) → map kind_of us ≡ map kind_of vs → AllByRecursion FitsWord us → AllByRecursion FitsWord vs → map text_of us ≡ map text_of vs → us ≡ vs
@@ -180,9 +185,11 @@ seen_word (of_ref (To Global maker n)) h = seen_cons 71 (dotted_text maker.0 n) 
 seen_word (of_ref (To Weak maker n)) h = seen_cons 87 (dotted_text maker.0 n) (omega arith) (seen_dotted maker.0 n (omega (arith, h.0)) h.1)
 seen_word (of_number (pos n)) h = seen_number n (omega (arith, h))
 seen_word (of_number (negsuc m)) h = seen_cons 45 (decimal (suc m)) (omega arith) (seen_number (suc m) (omega (arith, h)))
+seen_word (of_long_number i) h = seen_signed i h
 seen_word (of_items xs) h = seen_cons 91 (join_with_byte 44 (map signed_decimal xs)
     ++ 93 ∷ []) (omega arith) (seen_append (join_with_byte 44 (map signed_decimal xs)) (93 ∷ []) (seen_joined xs h.1) (seen_cons 93 [] (omega arith) (All-nil (λ b. IsInRange 33 126 b))))
 seen_word (of_name name) h = λ k d within. let v = h.2 k d within in omega (arith, v)
+seen_word (of_field f) h = seen_cons 70 (dotted_text f.class f.field) (omega arith) (seen_dotted f.class f.field (omega (arith, h.0)) (omega (arith, h.1)))
 
 seen_words : (us : List Word) → AllByRecursion FitsWord us → AllByRecursion IsVisible (map text_of us)
 seen_words [] h = tt
@@ -260,8 +267,10 @@ word_short : (a : Word) → FitsWord a → length (text_of a) ≤ longest (kind_
 word_short (of_ref Null) h = omega arith
 word_short (of_ref (To kind maker n)) h = omega (arith, dotted_short maker.0 n (omega (arith, h.0)) h.1)
 word_short (of_number i) h = let short = length_signed_le 19 i (omega (arith, mag_fits_small i h)) (mag_fits_small i h) in omega (arith, short)
+word_short (of_long_number i) h = omega (arith, signed_short i h)
 word_short (of_items xs) h = simp length-append (omega (arith, joined_short xs h.1, h.0))
 word_short (of_name name) h = omega (arith, h.1)
+word_short (of_field f) h = omega (arith, dotted_short f.class f.field (omega (arith, h.0)) (omega (arith, h.1)))
 
 words_short : (us : List Word) → AllByRecursion FitsWord us → length (after_spaces (map text_of us)) ≤ room (map kind_of us)
 words_short [] h = omega arith
@@ -312,8 +321,10 @@ printable_line t e c ht he hc = printable_join (line_fields t e c) (seen_fields 
 word_spelt : (a : Word) → FitsWord a → SpellsOperand (kind_of a) (text_of a)
 word_spelt (of_ref r) h = (r, h, refl)
 word_spelt (of_number i) h = (i, h, refl)
+word_spelt (of_long_number i) h = (i, h, refl)
 word_spelt (of_items xs) h = (xs, h, refl)
 word_spelt (of_name name) h = (name, h, refl)
+word_spelt (of_field f) h = (f, h, refl)
 
 words_spelt : (us : List Word) → AllByRecursion FitsWord us → SpellOperands (map kind_of us) (map text_of us)
 words_spelt [] h = tt

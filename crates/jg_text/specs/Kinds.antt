@@ -4,7 +4,11 @@ pub data OperandKind : Type 0 where
   Reference : OperandKind
   -- a number of 32 bits with a sign
   Number : OperandKind
+  -- a number of 64 bits with a sign
+  LongNumber : OperandKind
   -- a list of numbers of 64 bits with a sign
   Numbers : OperandKind
   -- a name, as of a class
   Name : OperandKind
+  -- a field ID
+  Field : OperandKind

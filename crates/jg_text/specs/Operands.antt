@@ -33,15 +33,20 @@ use Rattle.jg_words.specs.declared.call.strings.StringsCall.{StringsCall}
 use Rattle.jg_words.specs.declared.call.strings.StringsCall.TheVariants.{NewString, NewStringUTF, GetStringLength, GetStringUTFLength, GetStringRegion}
 use Rattle.jg_words.specs.declared.call.arrays.ArraysCall.{ArraysCall}
 use Rattle.jg_words.specs.declared.call.arrays.ArraysCall.TheVariants.{NewArray, GetArrayLength, GetArrayRegion, SetArrayRegion, NewObjectArray, GetObjectArrayElement, SetObjectArrayElement}
-use Rattle.jg_text.specs.Words.{Word, of_ref, of_number, of_items, of_name, text_of, FitsWord}
-use Rattle.jg_text.specs.Kinds.{OperandKind, Reference, Number, Numbers, Name}
+use Rattle.jg_text.specs.Words.{Word, of_ref, of_number, of_long_number, of_items, of_name, of_field, text_of, FitsWord}
+use Rattle.jg_text.specs.Kinds.{OperandKind, Reference, Number, LongNumber, Numbers, Name, Field}
 
--- the operands of each function, from left to right; the element type of a family over the primitive types is part
--- of the function's name, and no operand
+-- the operands of each function, from left to right; the type of a family over the primitive types is part of the
+-- function's name, and no operand
 abbrev pub vm_kinds : VmFun → List OperandKind
 vm_kinds vm.AttachCurrentThread = []
 vm_kinds vm.DetachCurrentThread = []
 vm_kinds vm.GetEnv = []
+vm_kinds vm.NativeEnter = Name ∷ Name ∷ Name ∷ []
+vm_kinds vm.NativeLeave = Reference ∷ []
+vm_kinds vm.LoadLibrary = Name ∷ Name ∷ []
+vm_kinds vm.RegisterNatives = Reference ∷ Name ∷ Name ∷ []
+vm_kinds vm.UnregisterNatives = Reference ∷ []
 
 abbrev pub refs_kinds : RefsFun → List OperandKind
 refs_kinds refs.NewLocalRef = Reference ∷ []
@@ -65,6 +70,11 @@ objects_kinds objects.FindClass = Name ∷ []
 objects_kinds objects.GetObjectClass = Reference ∷ []
 objects_kinds objects.IsInstanceOf = Reference ∷ Reference ∷ []
 objects_kinds objects.AllocObject = Reference ∷ []
+objects_kinds objects.GetFieldID = Reference ∷ Name ∷ Name ∷ []
+objects_kinds (objects.GetField primitive) = Reference ∷ Field ∷ []
+objects_kinds objects.GetObjectField = Reference ∷ Field ∷ []
+objects_kinds (objects.SetField primitive) = Reference ∷ Field ∷ LongNumber ∷ []
+objects_kinds objects.SetObjectField = Reference ∷ Field ∷ Reference ∷ []
 
 abbrev pub strings_kinds : StringsFun → List OperandKind
 strings_kinds strings.NewString = Numbers ∷ []
@@ -96,6 +106,11 @@ abbrev pub vm_operands : VmCall → List Word
 vm_operands AttachCurrentThread = []
 vm_operands DetachCurrentThread = []
 vm_operands GetEnv = []
+vm_operands (NativeEnter class method signature) = of_name class ∷ of_name method ∷ of_name signature ∷ []
+vm_operands (NativeLeave kept) = of_ref kept ∷ []
+vm_operands (LoadLibrary class library) = of_name class ∷ of_name library ∷ []
+vm_operands (RegisterNatives class method signature) = of_ref class ∷ of_name method ∷ of_name signature ∷ []
+vm_operands (UnregisterNatives class) = of_ref class ∷ []
 
 abbrev pub refs_operands : RefsCall → List Word
 refs_operands (NewLocalRef r) = of_ref r ∷ []
@@ -119,6 +134,11 @@ objects_operands (FindClass name) = of_name name ∷ []
 objects_operands (GetObjectClass object) = of_ref object ∷ []
 objects_operands (IsInstanceOf object class) = of_ref object ∷ of_ref class ∷ []
 objects_operands (AllocObject class) = of_ref class ∷ []
+objects_operands (GetFieldID class field signature) = of_ref class ∷ of_name field ∷ of_name signature ∷ []
+objects_operands (GetField primitive object field) = of_ref object ∷ of_field field ∷ []
+objects_operands (GetObjectField object field) = of_ref object ∷ of_field field ∷ []
+objects_operands (SetField primitive object field value) = of_ref object ∷ of_field field ∷ of_long_number value ∷ []
+objects_operands (SetObjectField object field value) = of_ref object ∷ of_field field ∷ of_ref value ∷ []
 
 abbrev pub strings_operands : StringsCall → List Word
 strings_operands (NewString units) = of_items units ∷ []

@@ -13,7 +13,7 @@ use Rattle.jg_words.specs.declared.reference.Kind.{Kind}
 use Rattle.jg_words.specs.declared.reference.Kind.TheVariants.{Local, Global, Weak}
 use Rattle.jg_words.specs.declared.reference.Ref.{Ref}
 use Rattle.jg_words.specs.declared.reference.Ref.TheVariants.{Null, To}
-use Rattle.jg_text.specs.Kinds.{OperandKind, Reference, Number, Numbers, Name}
+use Rattle.jg_text.specs.Kinds.{OperandKind, Reference, Number, LongNumber, Numbers, Name, Field}
 
 -- `T` and its number
 abbrev pub tid_text : Tid → List ℕ
@@ -60,7 +60,8 @@ abbrev pub name_text : List ℕ → List ℕ
 name_text name = name
 
 -- which of them the program's types can hold: 16 bits for a thread, 64 for a session, a reference's
--- number and an item, and at most 1,000 items; a name's bytes are what `IsName` says
+-- number and an item, 32 for a field's two numbers, and at most 1,000 items; a name's bytes are what
+-- `IsName` says
 abbrev pub FitsTid : Tid → Type 0
 FitsTid t = t.0 < 2 ^ 16
 
@@ -88,33 +89,43 @@ FitsItems xs = (length xs ≤ 1000) × All (λ x. FitsSigned w64 x) xs
 pub data Word : Type 0 where
   of_ref : Ref → Word
   of_number : ℤ → Word
+  of_long_number : ℤ → Word
   of_items : List ℤ → Word
   of_name : List ℕ → Word
+  of_field : FieldId → Word
 
 abbrev pub kind_of : Word → OperandKind
 kind_of (of_ref r) = Reference
 kind_of (of_number i) = Number
+kind_of (of_long_number i) = LongNumber
 kind_of (of_items xs) = Numbers
 kind_of (of_name name) = Name
+kind_of (of_field f) = Field
 
 abbrev pub text_of : Word → List ℕ
 text_of (of_ref r) = ref_text r
 text_of (of_number i) = signed_decimal i
+text_of (of_long_number i) = signed_decimal i
 text_of (of_items xs) = items_text xs
 text_of (of_name name) = name_text name
+text_of (of_field f) = field_text f
 
 abbrev pub FitsWord : Word → Type 0
 FitsWord (of_ref r) = FitsRef r
 FitsWord (of_number i) = FitsSigned w32 i
+FitsWord (of_long_number i) = FitsSigned w64 i
 FitsWord (of_items xs) = FitsItems xs
 FitsWord (of_name name) = IsName name
+FitsWord (of_field f) = FitsField f
 
 -- the text spells an operand of the kind
 abbrev pub SpellsOperand : OperandKind → List ℕ → Type 0
 SpellsOperand Reference text = (r : Ref) × FitsRef r × (text ≡ ref_text r)
 SpellsOperand Number text = (i : ℤ) × FitsSigned w32 i × (text ≡ signed_decimal i)
+SpellsOperand LongNumber text = (i : ℤ) × FitsSigned w64 i × (text ≡ signed_decimal i)
 SpellsOperand Numbers text = (xs : List ℤ) × FitsItems xs × (text ≡ items_text xs)
 SpellsOperand Name text = (name : List ℕ) × IsName name × (text ≡ name_text name)
+SpellsOperand Field text = (f : FieldId) × FitsField f × (text ≡ field_text f)
 
 -- each text spells an operand of the kind at its place, and there are as many texts as kinds
 abbrev pub SpellOperands : List OperandKind → List (List ℕ) → Type 0

@@ -103,20 +103,43 @@ pub fn cut_at(byte: u8, text: &[u8]) -> Option<(&[u8], &[u8])>
     Some((&text[..i], &text[i + 1..]))
 }
 
-/// The two numbers that the text spells, of 16 and 64 bits at most, with a full stop between them.
-pub fn dotted(text: &[u8]) -> Option<(u16, u64)>
+/// The two numbers that the text spells, of 64 bits at most, with a full stop between them.
+fn two_numbers(text: &[u8]) -> Option<(u64, u64)>
     ensures some { IfSome result (λ r. text.now ≡ dotted_text r.0 r.1) }
-    ensures none { IfNone result ((a b : ℕ) → a < 2 ^ 16 → b < 2 ^ 64 → text.now ≢ dotted_text a b) }
+    ensures fits { IfSome result (λ r. (r.0 < 2 ^ 64) × (r.1 < 2 ^ 64)) }
+    ensures none { IfNone result ((a b : ℕ) → a < 2 ^ 64 → b < 2 ^ 64 → text.now ≢ dotted_text a b) }
 {
     let Some((front, back)) = cut_at(b'.', text) else {
         return None;
     };
-    let Some(a) = small_number(front) else {
+    let Some(a) = number(front) else {
         return None;
     };
     match number(back) {
         Some(b) => Some((a, b)),
         None => None,
+    }
+}
+
+/// The two numbers that the text spells, of 16 and 64 bits at most, with a full stop between them.
+pub fn dotted(text: &[u8]) -> Option<(u16, u64)>
+    ensures some { IfSome result (λ r. text.now ≡ dotted_text r.0 r.1) }
+    ensures none { IfNone result ((a b : ℕ) → a < 2 ^ 16 → b < 2 ^ 64 → text.now ≢ dotted_text a b) }
+{
+    match two_numbers(text) {
+        Some((a, b)) if a < 0x1_0000 => Some((a as u16, b)),
+        _ => None,
+    }
+}
+
+/// The two numbers that the text spells, of 32 bits at most, with a full stop between them.
+pub fn small_dotted(text: &[u8]) -> Option<(u32, u32)>
+    ensures some { IfSome result (λ r. text.now ≡ dotted_text r.0 r.1) }
+    ensures none { IfNone result ((a b : ℕ) → a < 2 ^ 32 → b < 2 ^ 32 → text.now ≢ dotted_text a b) }
+{
+    match two_numbers(text) {
+        Some((a, b)) if a < 0x1_0000_0000 && b < 0x1_0000_0000 => Some((a as u32, b as u32)),
+        _ => None,
     }
 }
 

@@ -11,9 +11,9 @@ use crate::digits::push_signed;
 use crate::fault::ScriptFault;
 use crate::list::{push_items, read_items};
 use crate::name::read_name;
-use crate::number::{cut_at, small_signed_number};
-use crate::word::{push_ref, read_ref};
-use jg_words::{Items, Name, Ref};
+use crate::number::{cut_at, signed_number, small_signed_number};
+use crate::word::{push_field, push_ref, read_field, read_ref};
+use jg_words::{FieldId, Items, Name, Ref};
 use std::alloc::{AllocError, Global};
 
 /// A value that stands as an operand in a line, with one spelling.
@@ -79,6 +79,27 @@ impl Operand for i32 {
     }
 }
 
+impl Operand for i64 {
+    ghost use Rattle.std.specs.Prelude.{FitsSigned};
+    ghost use Rattle.std.specs.Int.{w64};
+    ghost use Rattle.std.specs.Fmt.{signed_decimal};
+    ghost use Rattle.jg_text.specs.Kinds.{LongNumber};
+
+    ghost kind = { LongNumber };
+
+    ghost spelt = { signed_decimal };
+
+    ghost fits = { FitsSigned w64 };
+
+    fn read(_alloc: Global, text: &[u8]) -> Result<Self, ScriptFault> {
+        signed_number(text).ok_or(ScriptFault::BadOperand)
+    }
+
+    fn write(&self, out: &mut String) -> Result<(), AllocError> {
+        push_signed(out, *self)
+    }
+}
+
 impl Operand for Items {
     ghost use Rattle.jg_text.specs.Kinds.{Numbers};
     ghost use Rattle.jg_text.specs.Words.{items_text, FitsItems};
@@ -115,6 +136,25 @@ impl Operand for Name {
 
     fn write(&self, out: &mut String) -> Result<(), AllocError> {
         out.push_str(self.as_str())
+    }
+}
+
+impl Operand for FieldId {
+    ghost use Rattle.jg_text.specs.Kinds.{Field};
+    ghost use Rattle.jg_text.specs.Words.{field_text, FitsField};
+
+    ghost kind = { Field };
+
+    ghost spelt = { field_text };
+
+    ghost fits = { FitsField };
+
+    fn read(_alloc: Global, text: &[u8]) -> Result<Self, ScriptFault> {
+        read_field(text).ok_or(ScriptFault::BadOperand)
+    }
+
+    fn write(&self, out: &mut String) -> Result<(), AllocError> {
+        push_field(out, *self)
     }
 }
 

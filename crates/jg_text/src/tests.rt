@@ -18,6 +18,13 @@ const LOCAL: Ref = Ref::To {
     n: 1,
 };
 
+fn named(alloc: Global, text: &str) -> Result<Name, Fail> {
+    let name = Name::new(String::from_str(alloc, text)?)
+        .ok()
+        .ok_or("name")?;
+    Ok(name)
+}
+
 #[test]
 fn the_first_fault_of_a_line_is_named(rt: HostRuntime) -> Result<(), Fail> {
     let lines = [
@@ -47,6 +54,56 @@ fn the_first_fault_of_a_line_is_named(rt: HostRuntime) -> Result<(), Fail> {
             "T1 E1.1 SetObjectArrayElement L1.1 null 0",
             ScriptFault::BadOperand,
         ),
+        ("T1 E1.1 UnregisterNatives", ScriptFault::WrongCount),
+        ("T1 E1.1 LoadLibrary app/Main", ScriptFault::WrongCount),
+        ("T1 E1.1 NativeEnter app/Main run", ScriptFault::WrongCount),
+        (
+            "T1 E1.1 RegisterNatives L1.1 run ()V ()V",
+            ScriptFault::WrongCount,
+        ),
+        (
+            "T1 E1.1 RegisterNatives app/Main run ()V",
+            ScriptFault::BadOperand,
+        ),
+        ("T1 E1.1 GetFieldID L1.1 size", ScriptFault::WrongCount),
+        ("T1 E1.1 GetIntField L1.1", ScriptFault::WrongCount),
+        ("T1 E1.1 GetIntField L1.1 F1.1 0", ScriptFault::WrongCount),
+        ("T1 E1.1 SetLongField L1.1 F1.1", ScriptFault::WrongCount),
+        (
+            "T1 E1.1 GetIntField L1.1 F4294967296.1",
+            ScriptFault::BadOperand,
+        ),
+        (
+            "T1 E1.1 GetIntField L1.1 F1.4294967296",
+            ScriptFault::BadOperand,
+        ),
+        ("T1 E1.1 GetIntField L1.1 F01.1", ScriptFault::BadOperand),
+        ("T1 E1.1 GetIntField L1.1 F1", ScriptFault::BadOperand),
+        ("T1 E1.1 GetIntField L1.1 F1.", ScriptFault::BadOperand),
+        ("T1 E1.1 GetIntField L1.1 f1.1", ScriptFault::BadOperand),
+        ("T1 E1.1 GetIntField L1.1 1.1", ScriptFault::BadOperand),
+        ("T1 E1.1 GetIntField F1.1 L1.1", ScriptFault::BadOperand),
+        (
+            "T1 E1.1 SetLongField L1.1 F1.1 9223372036854775808",
+            ScriptFault::BadOperand,
+        ),
+        (
+            "T1 E1.1 SetLongField L1.1 F1.1 -9223372036854775809",
+            ScriptFault::BadOperand,
+        ),
+        (
+            "T1 E1.1 SetIntField L1.1 F1.1 null",
+            ScriptFault::BadOperand,
+        ),
+        (
+            "T1 E1.1 SetObjectField L1.1 F1.1 0",
+            ScriptFault::BadOperand,
+        ),
+        (
+            "T1 E1.1 GetFloatField L1.1 F1.1",
+            ScriptFault::UnknownFunction,
+        ),
+        ("T1 E1.1 GetField L1.1 F1.1", ScriptFault::UnknownFunction),
         ("T1 E1.1 GetArray L1.1", ScriptFault::UnknownFunction),
         ("T1 E1.1 NewStringUT [72]", ScriptFault::UnknownFunction),
         ("T1 E1.1 NewStringUTFs [72]", ScriptFault::UnknownFunction),
@@ -88,11 +145,26 @@ fn a_call_of_each_group_is_read(rt: HostRuntime) -> Result<(), Fail> {
         .ok()
         .ok_or("items")?;
     let values = Items::new(vec![in rt.alloc(); 7]?).ok().ok_or("items")?;
-    let name = Name::new(String::from_str(rt.alloc(), "app/Main")?)
-        .ok()
-        .ok_or("name")?;
     let lines = vec![in rt.alloc();
         ("T1 - GetEnv", None, Call::Vm(VmCall::GetEnv)),
+        (
+            "T1 E1.1 NativeEnter app/Main run ()V",
+            Some(ENV),
+            Call::Vm(VmCall::NativeEnter {
+                class: named(rt.alloc(), "app/Main")?,
+                method: named(rt.alloc(), "run")?,
+                signature: named(rt.alloc(), "()V")?
+            })
+        ),
+        (
+            "T1 E1.1 RegisterNatives L1.1 run ()V",
+            Some(ENV),
+            Call::Vm(VmCall::RegisterNatives {
+                class: LOCAL,
+                method: named(rt.alloc(), "run")?,
+                signature: named(rt.alloc(), "()V")?
+            })
+        ),
         (
             "T1 E1.1 IsSameObject L1.1 null",
             Some(ENV),
@@ -119,7 +191,31 @@ fn a_call_of_each_group_is_read(rt: HostRuntime) -> Result<(), Fail> {
         (
             "T1 E1.1 FindClass app/Main",
             Some(ENV),
-            Call::Objects(ObjectsCall::FindClass { name })
+            Call::Objects(ObjectsCall::FindClass {
+                name: named(rt.alloc(), "app/Main")?
+            })
+        ),
+        (
+            "T1 E1.1 GetFieldID L1.1 size J",
+            Some(ENV),
+            Call::Objects(ObjectsCall::GetFieldID {
+                class: LOCAL,
+                field: named(rt.alloc(), "size")?,
+                signature: named(rt.alloc(), "J")?
+            })
+        ),
+        (
+            "T1 E1.1 SetLongField L1.1 F15.2 -7",
+            Some(ENV),
+            Call::Objects(ObjectsCall::SetField {
+                primitive: Primitive::Long,
+                object: LOCAL,
+                field: FieldId {
+                    class: 15,
+                    field: 2
+                },
+                value: -7
+            })
         ),
         (
             "T1 E1.1 SetShortArrayRegion L1.1 2 [7]",
@@ -166,6 +262,11 @@ fn each_function_is_read_and_written_back(rt: HostRuntime) -> Result<(), Fail> {
         "T1 - AttachCurrentThread",
         "T1 - DetachCurrentThread",
         "T1 - GetEnv",
+        "T1 E1.1 NativeEnter app/Main run ()V",
+        "T1 E1.1 NativeLeave G2.3",
+        "T1 E1.1 LoadLibrary app/Main image",
+        "T1 E1.1 RegisterNatives L1.1 run ()V",
+        "T1 E1.1 UnregisterNatives L1.1",
         "T1 E1.1 NewLocalRef L1.1",
         "T1 E1.1 DeleteLocalRef G2.3",
         "T1 E1.1 IsSameObject L1.1 W1.2",
@@ -181,21 +282,14 @@ fn each_function_is_read_and_written_back(rt: HostRuntime) -> Result<(), Fail> {
         "T1 E1.1 GetObjectClass L1.1",
         "T1 E1.1 IsInstanceOf L1.1 L1.2",
         "T1 E1.1 AllocObject L1.2",
+        "T1 E1.1 GetFieldID L1.2 next Lapp/Main;",
+        "T1 E1.1 GetObjectField L1.1 F15.2",
+        "T1 E1.1 SetObjectField L1.1 F15.2 null",
         "T1 E1.1 NewString [72,105]",
         "T1 E1.1 NewStringUTF [193,129]",
         "T1 E1.1 GetStringLength L1.1",
         "T1 E1.1 GetStringUTFLength L1.1",
         "T1 E1.1 GetStringRegion L1.1 0 2",
-    ];
-    for line in lines {
-        assert!(rt; comes_back(rt.alloc(), line)?, "at `{line}`");
-    }
-    Ok(())
-}
-
-#[test]
-fn each_function_on_arrays_is_read_and_written_back(rt: HostRuntime) -> Result<(), Fail> {
-    let lines = [
         "T1 E1.1 GetArrayLength L1.1",
         "T1 E1.1 NewObjectArray 2 L1.2 null",
         "T1 E1.1 GetObjectArrayElement L1.1 1",
@@ -204,12 +298,23 @@ fn each_function_on_arrays_is_read_and_written_back(rt: HostRuntime) -> Result<(
     for line in lines {
         assert!(rt; comes_back(rt.alloc(), line)?, "at `{line}`");
     }
+    Ok(())
+}
+
+#[test]
+fn each_function_of_a_family_is_read_and_written_back(rt: HostRuntime) -> Result<(), Fail> {
     for element in ["Boolean", "Byte", "Char", "Short", "Int", "Long"] {
         let made = format!(in rt.alloc(); "T1 E1.1 New{element}Array 3")?;
         assert!(rt; comes_back(rt.alloc(), &made)?, "at `{made}`");
         let got = format!(in rt.alloc(); "T1 E1.1 Get{element}ArrayRegion L1.1 0 3")?;
         assert!(rt; comes_back(rt.alloc(), &got)?, "at `{got}`");
         let set = format!(in rt.alloc(); "T1 E1.1 Set{element}ArrayRegion L1.1 -1 [0,-9]")?;
+        assert!(rt; comes_back(rt.alloc(), &set)?, "at `{set}`");
+        let got = format!(in rt.alloc(); "T1 E1.1 Get{element}Field L1.1 F0.0")?;
+        assert!(rt; comes_back(rt.alloc(), &got)?, "at `{got}`");
+        let set = format!(in rt.alloc();
+            "T1 E1.1 Set{element}Field L1.1 F4294967295.1 -9223372036854775808"
+        )?;
         assert!(rt; comes_back(rt.alloc(), &set)?, "at `{set}`");
     }
     Ok(())
@@ -219,9 +324,7 @@ fn each_function_on_arrays_is_read_and_written_back(rt: HostRuntime) -> Result<(
 fn a_name_has_1_to_255_visible_bytes(rt: HostRuntime) -> Result<(), Fail> {
     for name in ["=", "-", "null", "[]", "T1", "~"] {
         let line = format!(in rt.alloc(); "T1 E1.1 FindClass {name}")?;
-        let wanted = Name::new(String::from_str(rt.alloc(), name)?)
-            .ok()
-            .ok_or("name")?;
+        let wanted = named(rt.alloc(), name)?;
         match read_call(rt.alloc(), line.as_bytes()) {
             Ok((_, _, call)) => assert!(rt;
                 call == Call::Objects(ObjectsCall::FindClass { name: wanted }),

@@ -2,11 +2,11 @@
 
 ghost use Rattle.std.specs.Prelude.{◌≡◌, ◌≢◌, ℕ, ◌<◌, ◌^◌, ◌∷◌, ◌++◌, IfSome, IfNone, IfOk, IfErr, OnOk, string_bytes};
 ghost use Rattle.jg_text.specs.Words.{tid_text, env_text, ref_text, buf_text, field_text, FitsTid, FitsEnv, FitsRef, FitsBuf, FitsField, SpellsOperand};
-ghost use Rattle.jg_text.specs.Kinds.{OperandKind, Reference};
+ghost use Rattle.jg_text.specs.Kinds.{OperandKind, Reference, Field};
 ghost use Rattle.jg_text.specs.Pieces.{IsNoTid, IsNoEnv};
 
 use crate::digits::{push_dotted, push_number};
-use crate::number::{dotted, small_number};
+use crate::number::{dotted, small_dotted, small_number};
 use jg_words::{BufId, EnvId, FieldId, Kind, Ref, Tid};
 use std::alloc::AllocError;
 
@@ -69,6 +69,19 @@ pub fn read_ref(text: &[u8]) -> Option<Ref>
         maker: Tid(maker),
         n,
     })
+}
+
+/// The field that the text spells.
+pub fn read_field(text: &[u8]) -> Option<FieldId>
+    ensures some { IfSome result (λ f. text.now ≡ field_text f) }
+    ensures fits { IfSome result FitsField }
+    ensures none { IfNone result (¬ SpellsOperand Field text.now) }
+{
+    let [b'F', numbers @ ..] = text else {
+        return None;
+    };
+    let (class, field) = small_dotted(numbers)?;
+    Some(FieldId { class, field })
 }
 
 /// Writes the thread's spelling.

@@ -1,4 +1,4 @@
-//! The operands of calls of this group: classes and objects.
+//! The operands of calls of this group: classes, objects and their fields.
 
 ghost use Rattle.std.specs.Prelude.{◌≡◌, ◌++◌, length, map, IfOk, IfErr, OnOk, string_bytes};
 ghost use Rattle.std.specs.List.{AllByRecursion};
@@ -9,7 +9,7 @@ ghost use Rattle.jg_text.specs.Operands.{objects_kinds, objects_operands};
 ghost use Rattle.jg_text.specs.Pieces.{rest_fields, after_spaces, IsOperandFault};
 
 use crate::fault::ScriptFault;
-use crate::operand::{read_one, read_two, write_one, write_two};
+use crate::operand::{read_one, read_three, read_two, write_one, write_three, write_two};
 use jg_words::{ObjectsCall, ObjectsFun};
 use std::alloc::{AllocError, Global};
 
@@ -22,6 +22,11 @@ pub fn arity(fun: ObjectsFun) -> usize
         ObjectsFun::GetObjectClass => 1,
         ObjectsFun::IsInstanceOf => 2,
         ObjectsFun::AllocObject => 1,
+        ObjectsFun::GetFieldID => 3,
+        ObjectsFun::GetField(_) => 2,
+        ObjectsFun::GetObjectField => 2,
+        ObjectsFun::SetField(_) => 3,
+        ObjectsFun::SetObjectField => 3,
     }
 }
 
@@ -50,6 +55,43 @@ pub fn read(alloc: Global, fun: ObjectsFun, rest: Option<&[u8]>) -> Result<Objec
             let class = read_one(alloc, rest)?;
             Ok(ObjectsCall::AllocObject { class })
         }
+        ObjectsFun::GetFieldID => {
+            let (class, field, signature) = read_three(alloc, rest)?;
+            Ok(ObjectsCall::GetFieldID {
+                class,
+                field,
+                signature,
+            })
+        }
+        ObjectsFun::GetField(primitive) => {
+            let (object, field) = read_two(alloc, rest)?;
+            Ok(ObjectsCall::GetField {
+                primitive,
+                object,
+                field,
+            })
+        }
+        ObjectsFun::GetObjectField => {
+            let (object, field) = read_two(alloc, rest)?;
+            Ok(ObjectsCall::GetObjectField { object, field })
+        }
+        ObjectsFun::SetField(primitive) => {
+            let (object, field, value) = read_three(alloc, rest)?;
+            Ok(ObjectsCall::SetField {
+                primitive,
+                object,
+                field,
+                value,
+            })
+        }
+        ObjectsFun::SetObjectField => {
+            let (object, field, value) = read_three(alloc, rest)?;
+            Ok(ObjectsCall::SetObjectField {
+                object,
+                field,
+                value,
+            })
+        }
     }
 }
 
@@ -63,5 +105,23 @@ pub fn write(out: &mut String, call: &ObjectsCall) -> Result<(), AllocError>
         ObjectsCall::GetObjectClass { object } => write_one(out, object),
         ObjectsCall::IsInstanceOf { object, class } => write_two(out, object, class),
         ObjectsCall::AllocObject { class } => write_one(out, class),
+        ObjectsCall::GetFieldID {
+            class,
+            field,
+            signature,
+        } => write_three(out, class, field, signature),
+        ObjectsCall::GetField { object, field, .. } => write_two(out, object, field),
+        ObjectsCall::GetObjectField { object, field } => write_two(out, object, field),
+        ObjectsCall::SetField {
+            object,
+            field,
+            value,
+            ..
+        } => write_three(out, object, field, value),
+        ObjectsCall::SetObjectField {
+            object,
+            field,
+            value,
+        } => write_three(out, object, field, value),
     }
 }

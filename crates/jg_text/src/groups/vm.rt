@@ -1,4 +1,4 @@
-//! The operands of calls of this group: attachment and environments.
+//! The operands of calls of this group: attachment, environments and native methods.
 
 ghost use Rattle.std.specs.Prelude.{◌≡◌, ◌++◌, length, map, IfOk, IfErr, OnOk, string_bytes};
 ghost use Rattle.std.specs.List.{AllByRecursion};
@@ -9,6 +9,7 @@ ghost use Rattle.jg_text.specs.Operands.{vm_kinds, vm_operands};
 ghost use Rattle.jg_text.specs.Pieces.{rest_fields, after_spaces, IsOperandFault};
 
 use crate::fault::ScriptFault;
+use crate::operand::{read_one, read_three, read_two, write_one, write_three, write_two};
 use jg_words::{VmCall, VmFun};
 use std::alloc::{AllocError, Global};
 
@@ -20,6 +21,11 @@ pub fn arity(fun: VmFun) -> usize
         VmFun::AttachCurrentThread => 0,
         VmFun::DetachCurrentThread => 0,
         VmFun::GetEnv => 0,
+        VmFun::NativeEnter => 3,
+        VmFun::NativeLeave => 1,
+        VmFun::LoadLibrary => 2,
+        VmFun::RegisterNatives => 3,
+        VmFun::UnregisterNatives => 1,
     }
 }
 
@@ -35,6 +41,34 @@ pub fn read(alloc: Global, fun: VmFun, rest: Option<&[u8]>) -> Result<VmCall, Sc
         VmFun::AttachCurrentThread => Ok(VmCall::AttachCurrentThread),
         VmFun::DetachCurrentThread => Ok(VmCall::DetachCurrentThread),
         VmFun::GetEnv => Ok(VmCall::GetEnv),
+        VmFun::NativeEnter => {
+            let (class, method, signature) = read_three(alloc, rest)?;
+            Ok(VmCall::NativeEnter {
+                class,
+                method,
+                signature,
+            })
+        }
+        VmFun::NativeLeave => {
+            let kept = read_one(alloc, rest)?;
+            Ok(VmCall::NativeLeave { kept })
+        }
+        VmFun::LoadLibrary => {
+            let (class, library) = read_two(alloc, rest)?;
+            Ok(VmCall::LoadLibrary { class, library })
+        }
+        VmFun::RegisterNatives => {
+            let (class, method, signature) = read_three(alloc, rest)?;
+            Ok(VmCall::RegisterNatives {
+                class,
+                method,
+                signature,
+            })
+        }
+        VmFun::UnregisterNatives => {
+            let class = read_one(alloc, rest)?;
+            Ok(VmCall::UnregisterNatives { class })
+        }
     }
 }
 
@@ -47,5 +81,18 @@ pub fn write(out: &mut String, call: &VmCall) -> Result<(), AllocError>
         VmCall::AttachCurrentThread => Ok(()),
         VmCall::DetachCurrentThread => Ok(()),
         VmCall::GetEnv => Ok(()),
+        VmCall::NativeEnter {
+            class,
+            method,
+            signature,
+        } => write_three(out, class, method, signature),
+        VmCall::NativeLeave { kept } => write_one(out, kept),
+        VmCall::LoadLibrary { class, library } => write_two(out, class, library),
+        VmCall::RegisterNatives {
+            class,
+            method,
+            signature,
+        } => write_three(out, class, method, signature),
+        VmCall::UnregisterNatives { class } => write_one(out, class),
     }
 }
