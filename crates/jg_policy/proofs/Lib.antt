@@ -11,3 +11,4 @@ pub mod LinkLaws
 pub mod ModuleLaws
 pub mod Trees
 pub mod NameLaws
+pub mod Settling

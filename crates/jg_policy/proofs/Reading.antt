@@ -1,20 +1,20 @@
 -- What is kept at a class's number is what the setup states there.
-use Rattle.std.proofs.Common.{◌≡◌, ℕ, ◌+◌, ◌-◌, ◌≤◌, nat_lt, zero, suc, false, List, [], ◌∷◌, length, map, Some, None, slice_get, position, codes, String, Global, string_bytes, refl, ap, ◌∙◌, sym, arith}
+use Rattle.std.proofs.Common.{◌≡◌, ℕ, ◌+◌, ◌-◌, ◌≤◌, nat_lt, zero, suc, false, List, [], ◌∷◌, length, map, Some, None, slice_get, position, String, Global, string_bytes, refl, ap, ◌∙◌, sym, arith}
 use Rattle.std.proofs.lemmas.Bool.Decides.{nat_tests}
 use Rattle.std.specs.Option.{option_map}
 use Rattle.std.specs.Str.{bytes_eq}
 use Rattle.jg_policy.specs.declared.class.Class.{Class}
 use Rattle.jg_policy.specs.BaseClasses.{base_names}
 use Rattle.jg_policy.specs.Stated.{StatedClass, StatedSetup, class_names}
-use Rattle.jg_policy.specs.Classes.{class_at, class_named, module_names}
+use Rattle.jg_policy.specs.Classes.{class_at, class_named}
 use Rattle.jg_policy.specs.Kept.{class_view}
-use Rattle.jg_policy.proofs.Places.{position-append, position-map, position-cons}
+use Rattle.jg_policy.proofs.Places.{position-append, position-map}
 
 -- the entries of a setup's map of classes
 abbrev pub Entries : Type 0
 Entries = List (String Global × Class)
 
-slice_get-map : {A B : Type 0} (f : A → B) (xs : List A) (i : ℕ) → slice_get (map f xs) i ≡ option_map f (slice_get xs i)
+pub slice_get-map : {A B : Type 0} (f : A → B) (xs : List A) (i : ℕ) → slice_get (map f xs) i ≡ option_map f (slice_get xs i)
 slice_get-map f [] i = refl
 slice_get-map f (x ∷ xs) zero = refl
 slice_get-map f (x ∷ xs) (suc i) = slice_get-map f xs i
@@ -48,16 +48,3 @@ module _ (s : StatedSetup) (name : List ℕ) where
     where
       twice : (es : Entries) → position (λ k. bytes_eq name (string_bytes k)) (map (λ e. e.0) es) ≡ position (λ (c : StatedClass). bytes_eq name c.name) (map class_view es)
       twice es = sym (position-map es (λ (e : String Global × Class). e.0) (λ k. bytes_eq name (string_bytes k))) ∙ position-map es class_view (λ (c : StatedClass). bytes_eq name c.name)
-
-  -- and a module other than java.base among those of the setup's classes
-  pub module_later : bytes_eq name (codes "java.base") ≡ false → (es : Entries) → map class_view es ≡ s.classes
-      → position (bytes_eq name) (module_names s) ≡ option_map (λ i. 1 + i) (position (λ (c : Class). bytes_eq name (string_bytes c.module_name)) (map (λ e. e.1) es))
-  module_later other es kept =
-      position-cons (bytes_eq name) (codes "java.base") (map (λ (c : StatedClass). c.module_name) s.classes)
-      ∙ rw (other, ← kept) (ap (option_map (λ i. 1 + i)) (sym (twice es ∙ position-map (map class_view es) (λ (c : StatedClass). c.module_name) (bytes_eq name))))
-    where
-      twice : (es : Entries) → position (λ (c : Class). bytes_eq name (string_bytes c.module_name)) (map (λ e. e.1) es)
-          ≡ position (λ (c : StatedClass). bytes_eq name c.module_name) (map class_view es)
-      twice es =
-          sym (position-map es (λ (e : String Global × Class). e.1) (λ (c : Class). bytes_eq name (string_bytes c.module_name)))
-          ∙ position-map es class_view (λ (c : StatedClass). bytes_eq name c.module_name)

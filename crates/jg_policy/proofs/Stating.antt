@@ -1,8 +1,6 @@
 -- The items of an array as they are stated, one after another.
-use Rattle.std.proofs.Common.{◌≡◌, ℕ, ◌<◌, ◌+◌, List, [], ◌∷◌, ◌++◌, length, take, drop, get_or, map, String, Global, string_bytes, ◌||◌, refl, ap, ◌∙◌, sym}
+use Rattle.std.proofs.Common.{◌≡◌, ℕ, ◌<◌, ◌+◌, List, [], ◌∷◌, ◌++◌, length, take, drop, get_or, map, refl, ap, ◌∙◌, sym}
 use Rattle.std.proofs.lemmas.List.{take_more, take-append-drop, map-append}
-use Rattle.std.specs.List.{list_any}
-use Rattle.std.specs.Str.{bytes_eq}
 use Rattle.toml.specs.Data.{Data}
 use Rattle.toml.specs.View.{view, items_view}
 use Rattle.toml.specs.declared.value.Value.{Value}
@@ -33,10 +31,3 @@ pub kept_more : {A B : Type 0} (show : A → B) (f : Data → B) (kept : List A)
     → map show (kept ++ a ∷ []) ≡ each_item f (items_view (take (i + 1) vs))
 kept_more show f kept a vs i v below is seen stated =
     rw (each_item-more f vs i v below, map-append show kept (a ∷ []), ← is, ← seen, ← stated) refl
-
--- a text among others, by their bytes
-pub listed : (text : List ℕ) (ts : List (String Global)) → list_any (bytes_eq text) (map string_bytes ts) ≡ list_any (λ t. bytes_eq text (string_bytes t)) ts
-listed text [] = refl
-listed text (t ∷ ts) = ap (λ b. bytes_eq text (string_bytes t) || b) (listed text ts)
-
-pub ruleset text_rules = (listed)

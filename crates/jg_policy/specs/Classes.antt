@@ -3,7 +3,7 @@ use Rattle.std.specs.Prelude.{ℕ, ◌+◌, ◌-◌, Bool, false, ◌==◌, ◌&
 use Rattle.std.specs.Option.{option_map}
 use Rattle.std.specs.Str.{bytes_eq}
 use Rattle.jg_policy.specs.BaseClasses.{base_names}
-use Rattle.jg_policy.specs.Stated.{StatedMember, StatedClass, StatedSetup, class_names, class_count}
+use Rattle.jg_policy.specs.Stated.{StatedMember, StatedClass, StatedSetup, class_names}
 
 -- the number of the class of a name: base classes first, and then those of the setup in the order of its text
 abbrev pub class_named : StatedSetup → List ℕ → Option ℕ

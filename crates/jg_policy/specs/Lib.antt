@@ -6,6 +6,7 @@ pub mod Findings
 pub mod Kept
 pub mod Classes
 pub mod Access
+pub mod Settling
 pub mod Links
 pub mod LinkRows
 pub mod LinkStanding

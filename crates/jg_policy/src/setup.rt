@@ -11,11 +11,13 @@ ghost use Rattle.jg_policy.specs.Kept.{class_view, has_many_kept, is_large_kept}
 ghost use Rattle.indexmap.specs.IndexMap.{values};
 
 mod readers;
+mod settling;
 
 use crate::class::{Class, classes_from};
 use crate::fault::SetupFault;
 use crate::findings::shape_fault;
 use crate::mode::Mode;
+use crate::setup::settling::{Settled, settle};
 use crate::tree::{items_at, text_at, text_of};
 use indexmap::IndexMap;
 use std::alloc::{AllocError, Global};
@@ -35,25 +37,28 @@ const MAX_ENABLED: usize = 1000;
 /// states.
 #[derive(Drop)]
 pub struct Setup {
+    // These two are for contracts: what comes of them is settled for each class below.
     mode: Mode,
     enabled: Vec<String>,
     classes: IndexMap<String, Class>,
+    // In the order of the classes.
+    settled: Vec<Settled>,
 }
 
 impl Model for Setup {
-    ghost use Rattle.std.specs.Prelude.{◌≡◌, false, map, string_bytes};
+    ghost use Rattle.std.specs.Prelude.{◌≡◌, false};
     ghost use Rattle.jg_policy.specs.Stated.{StatedSetup};
-    ghost use Rattle.jg_policy.specs.Kept.{class_view, is_large_kept};
+    ghost use Rattle.jg_policy.specs.Kept.{is_large_kept};
+    ghost use Rattle.jg_policy.specs.Settling.{setup_view, AreSettled};
 
     ghost Value = { StatedSetup };
 
-    ghost view = { λ s. record {
-      mode = s.mode;
-      enabled = map string_bytes s.enabled.items;
-      classes = map class_view s.classes.entries;
-    } };
+    ghost view = { λ s. setup_view s.mode s.enabled.items s.classes.entries };
 
-    ghost invariant = { λ s. is_large_kept s.enabled.items s.classes.entries ≡ false };
+    ghost invariant = { λ s. record {
+      sized : is_large_kept s.enabled.items s.classes.entries ≡ false;
+      settled : AreSettled (setup_view s.mode s.enabled.items s.classes.entries) s.settled.items;
+    } };
 }
 
 impl Setup {
@@ -65,6 +70,7 @@ impl Setup {
             mode: Mode::Deny,
             enabled: Vec::new(alloc),
             classes: IndexMap::new(alloc),
+            settled: Vec::new(alloc),
         }
     }
 
@@ -109,10 +115,14 @@ impl Setup {
         if is_too_large(&enabled, &classes) {
             return Err(SetupFault::TooMany);
         }
+        let Ok(settled) = settle(alloc, mode, enabled.as_slice(), &classes) else {
+            return Err(SetupFault::NoMemory);
+        };
         Ok(Setup {
             mode,
             enabled,
             classes,
+            settled,
         })
     }
 }

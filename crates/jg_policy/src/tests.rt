@@ -336,7 +336,13 @@ fn write_class(text: &mut String, n: u32) -> Result<(), AllocError> {
     text.push_str(class.as_str())
 }
 
-// A setup with so many classes, enabled modules, and fields and native methods of the last class.
+fn write_module(text: &mut String, n: u32) -> Result<(), AllocError> {
+    let module = format!(in *text.allocator(); "\"m{n}\", ")?;
+    text.push_str(module.as_str())
+}
+
+// A setup with so many classes, each in a module of its own, so many of these modules enabled,
+// and so many fields and native methods of the last class.
 fn sized(
     alloc: Global,
     classes: u32,
@@ -345,8 +351,8 @@ fn sized(
     natives: u32,
 ) -> Result<String, AllocError> {
     let mut text = format!(in alloc; "{DENY}enable_native_access = [")?;
-    for _ in 0..modules {
-        text.push_str("\"app\", ")?;
+    for n in 0..modules {
+        write_module(&mut text, n)?;
     }
     text.push_str("]\n")?;
     for n in 0..classes {
@@ -387,11 +393,27 @@ fn limits(rt: HostRuntime) -> Result<(), Fail> {
 
 #[test]
 fn the_largest_setup(rt: HostRuntime) -> Result<(), Fail> {
-    let text = sized(rt.alloc(), 1000, 0, 100, 100)?;
+    let text = sized(rt.alloc(), 1000, 1000, 100, 100)?;
     let setup = Setup::read(rt.alloc(), text.as_str())?;
     assert_eq!(rt; class(rt.alloc(), &setup, "app/C999")?, Some(1014));
     assert_eq!(rt; field(rt.alloc(), &setup, 1014, "f99", "I")?, Some(100));
     assert_eq!(rt; native(rt.alloc(), &setup, 1014, "f", "()99")?, Some(100));
+    assert_eq!(rt; setup.class_count(), 1015);
+    for (class, home) in [(15, 1), (514, 500), (1014, 1000)] {
+        assert_eq!(rt; setup.module_of(class), Some(home));
+        assert_eq!(rt; setup.access(class, Operation::Load), Access::Allowed);
+    }
+    assert_eq!(rt; setup.module_of(1015), None);
+    Ok(())
+}
+
+#[test]
+fn one_of_many_modules_not_enabled(rt: HostRuntime) -> Result<(), Fail> {
+    let text = sized(rt.alloc(), 1000, 999, 0, 0)?;
+    let setup = Setup::read(rt.alloc(), text.as_str())?;
+    assert_eq!(rt; setup.class_count(), 1015);
+    assert_eq!(rt; setup.access(1013, Operation::Link), Access::Allowed);
+    assert_eq!(rt; setup.access(1014, Operation::Link), Access::Refused);
     Ok(())
 }
 

@@ -2,19 +2,16 @@
 //! numbers: the base classes 0 to 14, and then those of the text in their order.
 ghost use Rattle.std.specs.Prelude.{◌≡◌, ◌<◌, ◌≤◌, ◌&&◌, length, string_bytes, map, IfSome, position};
 ghost use Rattle.std.specs.Option.{option_map};
-ghost use Rattle.std.specs.List.{list_any};
 ghost use Rattle.std.specs.Str.{bytes_eq};
-ghost use Rattle.indexmap.specs.IndexMap.{values};
 ghost use Rattle.jg_policy.specs.Stated.{class_count};
-ghost use Rattle.jg_policy.specs.Access.{is_enabled, access_of};
-ghost use Rattle.jg_policy.specs.Classes.{class_named, is_throwable, module_names, module_of, member_named, field_named, native_named, member_type, field_type, class_at, fields_in};
+ghost use Rattle.jg_policy.specs.Access.{access_of};
+ghost use Rattle.jg_policy.specs.Classes.{class_named, is_throwable, module_of, member_named, field_named, native_named, member_type, field_type, class_at, fields_in};
 ghost use Rattle.jg_policy.specs.Kept.{member_view};
 
 use crate::access::{Access, Operation};
 use crate::base::{BASE_COUNT, base_class};
-use crate::class::{Class, Member};
+use crate::class::Member;
 use crate::setup::Setup;
-use indexmap::IndexMap;
 use jg_words::{FieldId, Name};
 
 impl Setup {
@@ -61,9 +58,9 @@ impl Setup {
         if class < BASE_COUNT {
             return Some(0);
         }
-        match self.classes.get_index((class - BASE_COUNT) as usize) {
+        match self.settled.get((class - BASE_COUNT) as usize) {
             None => None,
-            Some((_, found)) => self.module_named(found.module_name.as_str()),
+            Some(settled) => Some(settled.home),
         }
     }
 
@@ -135,59 +132,8 @@ impl Setup {
         if class < BASE_COUNT {
             return Access::Allowed;
         }
-        match self.classes.get_index((class - BASE_COUNT) as usize) {
-            None => Access::by(self.mode),
-            Some((_, found)) => {
-                if self.is_enabled(found.module_name.as_str()) {
-                    Access::Allowed
-                } else {
-                    Access::by(self.mode)
-                }
-            }
-        }
+        self.settled[(class - BASE_COUNT) as usize].access
     }
-
-    fn is_enabled(&self, module_name: &str) -> bool
-        ensures { result ≡ is_enabled self.now module_name.now }
-    {
-        module_name == JAVA_BASE || self.is_listed(module_name)
-    }
-
-    #[tactic(auto, using(crate::proofs::Stating::text_rules))]
-    fn is_listed(&self, module_name: &str) -> bool
-        ensures { result ≡ list_any (bytes_eq module_name.now) self.now.enabled }
-    {
-        is_among(self.enabled.as_slice(), module_name)
-    }
-
-    // The number of a module: 0 for java.base, else that of the first class in it, from 1.
-    fn module_named(&self, name: &str) -> Option<u32>
-        ensures { result ≡ position (bytes_eq name.now) (module_names self.now) }
-    {
-        if name == JAVA_BASE {
-            return Some(0);
-        }
-        match first_in(&self.classes, name) {
-            None => None,
-            Some(place) => Some(1 + place as u32),
-        }
-    }
-}
-
-const JAVA_BASE: &str = "java.base";
-
-fn is_among(texts: &[String], text: &str) -> bool
-    ensures { result ≡ list_any (λ t. bytes_eq text.now (string_bytes t)) texts.now }
-{
-    texts.iter().any(|t| text == t.as_str())
-}
-
-fn first_in(classes: &IndexMap<String, Class>, module_name: &str) -> Option<usize>
-    ensures { result ≡ position (λ c. bytes_eq module_name.now (string_bytes c.module_name)) (values classes.now) }
-{
-    classes
-        .values()
-        .position(|class| module_name == class.module_name.as_str())
 }
 
 fn member_named(members: &[Member], name: &str, signature: &str) -> Option<u32>

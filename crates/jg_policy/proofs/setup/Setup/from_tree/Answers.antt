@@ -3,7 +3,7 @@ use Rattle.toml.specs.View.{table_view}
 use Rattle.jg_policy.specs.Stated.{setup_stated, each_item, class_stated, text_item}
 use Rattle.jg_policy.specs.Findings.{states_twice, tree_faults}
 use Rattle.jg_policy.specs.Kept.{class_view}
-use Rattle.jg_policy.proofs.Sizes.{large_kept}
+use Rattle.jg_policy.proofs.Sizes.{large_kept, few_classes}
 use Rattle.jg_policy.proofs.Trees.{shape_answers, repeat_answers, size_answers, clean_answers, first_found, none_found}
 use Rattle.jg_policy.proofs.setup.Setup.from_tree.Goals as goal
 
@@ -26,8 +26,14 @@ returns-then-is_too_large-clause-refused c _ =
     first_found (tree_faults (table_view c.args.table.now)) _ (size_answers (table_view c.args.table.now) (sym c.in_default.ensures) once (sym (large_kept stated _ _ enabled classes)
     ∙ sym c.if-is_too_large.ensures))
 
+pub settle-requires : goal.settle-requires
+settle-requires c = few_classes c.in-Ok-texts_from.enabled.items c.in-Ok.classes.entries (sym c.if-is_too_large.ensures)
+
 pub invariant_of-result : goal.invariant_of-result
-invariant_of-result c = sym c.if-is_too_large.ensures
+invariant_of-result c = record {
+  sized = sym c.if-is_too_large.ensures;
+  settled = rw (← c.as_slice.ensures.value) c.in-Ok-settle.ensures;
+}
 
 pub returns-clause-clean : goal.returns-clause-clean
 returns-clause-clean c =
