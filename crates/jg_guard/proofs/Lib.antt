@@ -3,3 +3,4 @@ pub mod Passing
 pub mod Arrays
 pub mod Fields
 pub mod Slots
+pub mod Linking

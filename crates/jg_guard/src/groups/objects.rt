@@ -1,6 +1,7 @@
 ghost use Rattle.std.specs.Prelude.{◌≡◌, Some, true, map, IfOk, OnOk, OnErr};
 ghost use Rattle.jg_words.specs.declared.call.Call.TheVariants.{Objects};
 ghost use Rattle.jg_words.specs.declared.call.objects.ObjectsCall.TheVariants.{GetField, GetObjectField, SetField, SetObjectField};
+ghost use Rattle.jg_heap.specs.declared.object.Slot.TheVariants.{Number};
 ghost use Rattle.jg_rules.specs.Parts.{Parts, TablesStand};
 ghost use Rattle.jg_rules.specs.View.{ViewStands, rows_in};
 ghost use Rattle.jg_rules.specs.Answers.{objects_answer, class_found};
@@ -185,6 +186,12 @@ fn first_slots<A: Allocator>(
     Ok(slots)
 }
 
+fn holding(value: i64) -> Slot
+    ensures { result ≡ Number value }
+{
+    Slot::Number(value)
+}
+
 fn set_number<A: Allocator + Clone>(
     tables: &mut Tables<A>,
     setup: &Setup,
@@ -204,7 +211,7 @@ fn set_number<A: Allocator + Clone>(
     let object = the_object(&tables.view(setup), tid, object);
     tables
         .heap
-        .set_field(object, slot_place_of(field), Slot::Number(value));
+        .set_field(object, slot_place_of(field), holding(value));
 }
 
 fn set_pointer<A: Allocator + Clone>(

@@ -1,4 +1,5 @@
 use Rattle.std.proofs.Common.{rules, ◌≡◌, Some, None, true, false, refl, ◌∙◌}
+use Rattle.jg_heap.specs.declared.object.Slot.TheVariants.{Number}
 use Rattle.jg_rules.specs.Names.{names, slot_place, object_named}
 use Rattle.jg_guard.proofs.Due.{stand_at}
 use Rattle.jg_guard.proofs.Arrays.{wrote_at, points}
@@ -33,13 +34,14 @@ pub returns-clause-stands : goal.returns-clause-stands
 returns-clause-stands g c = λ p stands.
     let object = c.the_object-object.ensures p (stand_at _ _ _ _ p c.view.ensures.setup c.view.ensures.rows stands) in
     let place : c.slot_place_of.result ≡ slot_place c.args.field = search rules in
+    let value : c.holding.result ≡ Number c.args.value = search rules in
     record {
       threads = stands.threads;
       locals = stands.locals;
       globals = stands.globals;
       buffers = stands.buffers;
       monitors = stands.monitors;
-      heap = wrote_at _ p.heap _ _ _ _ _ _ object place refl (c.set_field.ensures.stands p.heap stands.heap);
+      heap = wrote_at _ p.heap _ _ _ _ _ _ object place value (c.set_field.ensures.stands p.heap stands.heap);
       links = stands.links;
       classes = c.set_field.ensures.classes ∙ stands.classes;
     }
