@@ -9,6 +9,9 @@ const DEFAULTS: Asked<'static> = Asked {
     leaks: false,
 };
 
+const STATUSES: &str = "Exit status: 0 done, 2 faulty script, setup or arguments, 3 limit met or no memory, \
+    4 reading or writing failed.";
+
 #[test]
 fn words_are_read(rt: HostRuntime) -> Result<(), Fail> {
     assert_eq!(rt; read_words(rt.alloc(), &[]), Ok(DEFAULTS));
@@ -43,7 +46,7 @@ fn words_are_read(rt: HostRuntime) -> Result<(), Fail> {
 
 #[test]
 fn words_are_refused(rt: HostRuntime) -> Result<(), Fail> {
-    let refused: [&[&str]; 15] = [
+    let refused: [&[&str]; 19] = [
         &["fly"],
         &["--fly"],
         &["--limit"],
@@ -52,6 +55,10 @@ fn words_are_refused(rt: HostRuntime) -> Result<(), Fail> {
         &["--limit", "many"],
         &["--limit", "1", "--limit", "1"],
         &["--limit", "1", "check"],
+        &["--setup"],
+        &["--setup", "app.toml", "--setup", "app.toml"],
+        &["check", "--setup", "app.toml", "--setup=lib.toml"],
+        &["--setup", "app.toml", "check"],
         &["--leaks", "verify"],
         &["verify", "--leaks"],
         &["play"],
@@ -72,11 +79,13 @@ fn words_are_refused(rt: HostRuntime) -> Result<(), Fail> {
 
 #[test]
 fn texts_are_asked_for(rt: HostRuntime) -> Result<(), Fail> {
-    let texts: [(&[&str], &str); 5] = [
+    let texts: [(&[&str], &str); 7] = [
         (&["--help"], "Usage: jg [OPTIONS] [COMMAND]"),
         (&["check", "--help"], "Usage: jg check [OPTIONS]"),
-        (&["--help"], "Exit status: 0 done, 2 "),
-        (&["check", "-h"], "Exit status: 0 done, 2 "),
+        (&["--help"], "--setup <FILE>"),
+        (&["check", "--help"], "--setup <FILE>"),
+        (&["--help"], STATUSES),
+        (&["check", "-h"], STATUSES),
         (&["--version"], "jg 0.1.0\n"),
     ];
     for (words, part) in texts {

@@ -13,14 +13,13 @@ const DEFAULT_TURNS: u32 = 1000;
 const VERSION: &str = "0.1.0";
 
 const STATUSES: &str =
-    "Exit status: 0 done, 2 faulty script or arguments, 3 limit met or no memory, 4 reading or writing failed.";
+    "Exit status: 0 done, 2 faulty script, setup or arguments, 3 limit met or no memory, 4 reading or writing failed.";
 
 fn setup_arg<'a>(alloc: Global) -> Arg<'a> {
     Arg::new(alloc, "setup")
         .long("setup")
         .value_name("FILE")
         .help("reads the setup from FILE")
-        .hide(true)
 }
 
 fn limit_arg<'a>(alloc: Global) -> Arg<'a> {

@@ -1,1 +1,4 @@
+pub mod Closed
 pub mod Flushing
+pub mod Reading
+pub mod Refusing

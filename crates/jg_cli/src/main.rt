@@ -1,7 +1,10 @@
-//! The program `jg`: it answers a script on standard input with its journal on standard output.
+//! The program `jg`: it answers a script on standard input, under a setup, with its journal on standard output.
 #![tactic(auto)]
 
 mod program;
+mod setup_file;
+#[cfg(test)]
+mod setup_tests;
 mod stop;
 #[cfg(test)]
 mod tests;
@@ -35,7 +38,7 @@ fn start(rt: &HostRuntime) -> Result<Status, Stop> {
     let Ok(out) = BufWriter::new(alloc, rt.stdout()) else {
         return Err(Stop::NO_MEMORY);
     };
-    Ok(run(alloc, &words, reader, out, &mut rt.stderr()))
+    Ok(run(alloc, &words, rt, reader, out, &mut rt.stderr()))
 }
 
 fn main(rt: HostRuntime) -> ExitCode {

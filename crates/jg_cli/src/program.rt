@@ -1,31 +1,34 @@
 //! What the program does, over any words, reader and writers.
 
 ghost use Rattle.std.specs.Prelude.{OnOk};
-ghost use Rattle.jg_cli.specs.Ended.{Ends, IsHandedOn};
+ghost use Rattle.jg_cli.specs.StatedBy.{base_setup};
+ghost use Rattle.jg_cli.specs.Ended.{Ends, EndsUnder, IsHandedOn};
 
+use crate::setup_file::{SetupFiles, closed_setup, read_setup, stop_of};
 use crate::stop::{Status, Stop, tell};
 use jg_args::{ArgsFault, Asked, Task, help_text, read_words};
 use jg_guard::Guard;
-use jg_policy::Setup;
+use jg_policy::{Setup, SetupFault};
 use jg_script::{HandsOn, RunFault, Watched, check};
 use std::alloc::Global;
-use std::io::{BufRead, Write};
+use std::io::{BufRead, Read, Write};
 
-/// Answers the script that the reader holds. What is still buffered is handed on before it ends,
-/// also where it ends by a fault; a failure of that counts as a failed write of the last line that
-/// the guard took.
+/// Answers the script that the reader holds, under this setup. What is still buffered is handed on
+/// before it ends, also where it ends by a fault; a failure of that counts as a failed write of the
+/// last line that the guard took.
 fn answer_script<R: BufRead, W: HandsOn>(
     alloc: Global,
+    setup: Setup,
     limit: u32,
     reader: &mut Watched<R>,
     out: &mut Watched<W>,
 ) -> Result<(), Stop>
-    ensures ends { Ends (R.remaining reader.old.device) (R.remaining reader.new.device) (W.contents out.old.device)
-        (W.contents out.new.device) limit result }
+    ensures ends { Ends setup (R.remaining reader.old.device) (R.remaining reader.new.device)
+        (W.contents out.old.device) (W.contents out.new.device) limit result }
     ensures handed_on { IsHandedOn (W.holds_nothing out.new.device) out.new.failed result }
 {
-    let Ok(mut guard) = Guard::new(alloc, alloc, Setup::closed(alloc), limit) else {
-        return Err(Stop::Setup);
+    let Ok(mut guard) = Guard::new(alloc, alloc, setup, limit) else {
+        return Err(Stop::Setup(SetupFault::NoMemory));
     };
     let checked = check(alloc, &mut guard, reader, out);
     let Ok(()) = out.flush() else {
@@ -35,6 +38,43 @@ fn answer_script<R: BufRead, W: HandsOn>(
     match checked {
         Ok(_) => Ok(()),
         Err(fault) => Err(Stop::Run(fault)),
+    }
+}
+
+/// Answers the script under the setup where none is given.
+fn answer_closed<R: BufRead, W: HandsOn>(
+    alloc: Global,
+    limit: u32,
+    reader: &mut Watched<R>,
+    out: &mut Watched<W>,
+) -> Result<(), Stop>
+    ensures ends { Ends base_setup (R.remaining reader.old.device) (R.remaining reader.new.device)
+        (W.contents out.old.device) (W.contents out.new.device) limit result }
+    ensures handed_on { IsHandedOn (W.holds_nothing out.new.device) out.new.failed result }
+{
+    match closed_setup(alloc) {
+        Ok(setup) => answer_script(alloc, setup, limit, reader, out),
+        Err(fault) => Err(Stop::Setup(fault)),
+    }
+}
+
+/// Answers the script under the setup that a file states, of which the system told the length. The
+/// file is read before the script's first byte.
+fn answer_under<F: Read, R: BufRead, W: HandsOn>(
+    alloc: Global,
+    file: &mut F,
+    told: u64,
+    limit: u32,
+    reader: &mut Watched<R>,
+    out: &mut Watched<W>,
+) -> Result<(), Stop>
+    ensures ends { EndsUnder (F.remaining file.old) told (R.remaining reader.old.device) (R.remaining reader.new.device)
+        (W.contents out.old.device) (W.contents out.new.device) limit result }
+    ensures handed_on { IsHandedOn (W.holds_nothing out.new.device) out.new.failed result }
+{
+    match read_setup(alloc, file, told) {
+        Ok(setup) => answer_script(alloc, setup, limit, reader, out),
+        Err(stop) => Err(stop),
     }
 }
 
@@ -54,40 +94,45 @@ fn print_help<W: HandsOn>(alloc: Global, words: &[&str], out: &mut W) -> Result<
     }
 }
 
-/// Does what is asked for, as far as the program can: it answers scripts under the base setup.
-fn serve<R: BufRead + Drop, W: HandsOn + Drop>(
+/// Does what is asked for, as far as the program can: it answers scripts.
+fn serve<S: SetupFiles, R: BufRead + Drop, W: HandsOn + Drop>(
     alloc: Global,
     asked: Asked<'_>,
+    files: &S,
     reader: R,
     out: W,
 ) -> Result<(), Stop> {
-    match asked {
-        Asked {
-            task: Task::Check,
-            setup: None,
-            limit,
-            turns: _,
-            leaks: false,
-        } => answer_script(
-            alloc,
-            limit,
-            &mut Watched::new(reader),
-            &mut Watched::new(out),
-        ),
-        _ => Err(Stop::REFUSED),
+    let Asked {
+        task: Task::Check,
+        setup,
+        limit,
+        turns: _,
+        leaks: false,
+    } = asked
+    else {
+        return Err(Stop::REFUSED);
+    };
+    let (mut reader, mut out) = (Watched::new(reader), Watched::new(out));
+    let Some(path) = setup else {
+        return answer_closed(alloc, limit, &mut reader, &mut out);
+    };
+    match files.open(path) {
+        Ok((mut file, told)) => answer_under(alloc, &mut file, told, limit, &mut reader, &mut out),
+        Err(error) => Err(stop_of(&error)),
     }
 }
 
-/// Runs the program on the words after its name.
-pub fn run<R: BufRead + Drop, W: HandsOn + Drop, E: Write>(
+/// Runs the program on the words after its name, with the files that they may name.
+pub fn run<S: SetupFiles, R: BufRead + Drop, W: HandsOn + Drop, E: Write>(
     alloc: Global,
     words: &[&str],
+    files: &S,
     reader: R,
     mut out: W,
     err: &mut E,
 ) -> Status {
     let done = match read_words(alloc, words) {
-        Ok(asked) => serve(alloc, asked, reader, out),
+        Ok(asked) => serve(alloc, asked, files, reader, out),
         Err(ArgsFault::Help) => print_help(alloc, words, &mut out),
         Err(fault) => Err(Stop::Arguments(fault)),
     };

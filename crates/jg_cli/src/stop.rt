@@ -1,6 +1,7 @@
 //! How the program ends.
 
 use jg_args::ArgsFault;
+use jg_policy::SetupFault;
 use jg_script::RunFault;
 use std::io::Write;
 use thiserror::Error;
@@ -11,7 +12,7 @@ use thiserror::Error;
 pub enum Status {
     /// All was done.
     Done = 0,
-    /// The script or the arguments are faulty.
+    /// The script, the setup or the arguments are faulty.
     Faulty = 2,
     /// The limit was met, or memory ran out.
     Exhausted = 3,
@@ -24,9 +25,12 @@ pub enum Status {
 pub enum Stop {
     #[error("{0}")]
     Arguments(ArgsFault),
-    /// Memory ran out before the guard was made.
-    #[error("setup: no memory")]
-    Setup,
+    /// The setup is faulty, or memory ran out before the script was begun.
+    #[error("setup: {0}")]
+    Setup(SetupFault),
+    /// The setup file can't be opened or read.
+    #[error("setup: read failed")]
+    SetupRead,
     #[error("{0}")]
     Run(RunFault),
 }
@@ -44,7 +48,9 @@ impl Stop {
             Stop::Arguments(ArgsFault::Help) => Status::Done,
             Stop::Arguments(ArgsFault::Refused) => Status::Faulty,
             Stop::Arguments(ArgsFault::NoMemory) => Status::Exhausted,
-            Stop::Setup => Status::Exhausted,
+            Stop::Setup(SetupFault::NoMemory) => Status::Exhausted,
+            Stop::Setup(_) => Status::Faulty,
+            Stop::SetupRead => Status::Device,
             Stop::Run(RunFault::Script { .. }) => Status::Faulty,
             Stop::Run(RunFault::Limit { .. }) => Status::Exhausted,
             Stop::Run(RunFault::NoMemory { .. }) => Status::Exhausted,

@@ -123,7 +123,7 @@ fn each_end_has_its_status_and_its_text(rt: HostRuntime) -> Result<(), Fail> {
         let mut out = Vec::new(rt.alloc());
         let mut err = Vec::new(rt.alloc());
         let writer = BufWriter::new(rt.alloc(), &mut out)?;
-        let ended = run(rt.alloc(), words, script.as_bytes(), writer, &mut err);
+        let ended = run(rt.alloc(), words, &rt, script.as_bytes(), writer, &mut err);
         assert_eq!(rt; ended, status, "at {words:?}");
         assert!(rt; out.as_slice() == text.as_bytes(), "at {words:?}");
         assert!(rt; err.as_slice() == said.as_bytes(), "at {words:?}");
@@ -133,13 +133,14 @@ fn each_end_has_its_status_and_its_text(rt: HostRuntime) -> Result<(), Fail> {
 
 #[test]
 fn what_the_program_cannot_do_is_refused(rt: HostRuntime) -> Result<(), Fail> {
-    let refused: [&[&str]; 8] = [
+    let refused: [&[&str]; 9] = [
         &["--fly"],
         &["fly"],
         &["--limit", "1000001"],
         &["verify"],
         &["play", "two"],
-        &["--setup", "app.toml"],
+        &["verify", "--setup", "app.toml"],
+        &["--setup", "app.toml", "--leaks"],
         &["--leaks"],
         &["--turns", "3"],
     ];
@@ -147,7 +148,14 @@ fn what_the_program_cannot_do_is_refused(rt: HostRuntime) -> Result<(), Fail> {
         let mut out = Vec::new(rt.alloc());
         let mut err = Vec::new(rt.alloc());
         let writer = BufWriter::new(rt.alloc(), &mut out)?;
-        let ended = run(rt.alloc(), words, THREE_LINES.as_bytes(), writer, &mut err);
+        let ended = run(
+            rt.alloc(),
+            words,
+            &rt,
+            THREE_LINES.as_bytes(),
+            writer,
+            &mut err,
+        );
         assert_eq!(rt; ended, Status::Faulty, "at {words:?}");
         assert!(rt; out.is_empty(), "at {words:?}");
         assert!(rt;
@@ -166,6 +174,7 @@ fn failing_devices_have_their_texts(rt: HostRuntime) -> Result<(), Fail> {
         run(
             rt.alloc(),
             &[],
+            &rt,
             BufReader::new(rt.alloc(), Broken)?,
             BufWriter::new(rt.alloc(), &mut out)?,
             &mut err
@@ -175,13 +184,27 @@ fn failing_devices_have_their_texts(rt: HostRuntime) -> Result<(), Fail> {
     assert!(rt; err.as_slice() == b"line 1: read failed\n".as_slice());
     err.clear();
     assert_eq!(rt;
-        run(rt.alloc(), &[], THREE_LINES.as_bytes(), Broken, &mut err),
+        run(
+            rt.alloc(),
+            &[],
+            &rt,
+            THREE_LINES.as_bytes(),
+            Broken,
+            &mut err
+        ),
         Status::Device
     );
     assert!(rt; err.as_slice() == b"line 1: write failed\n".as_slice());
     err.clear();
     assert_eq!(rt;
-        run(rt.alloc(), &[], THREE_LINES.as_bytes(), Unflushed, &mut err),
+        run(
+            rt.alloc(),
+            &[],
+            &rt,
+            THREE_LINES.as_bytes(),
+            Unflushed,
+            &mut err
+        ),
         Status::Device
     );
     assert!(rt; err.as_slice() == b"line 3: write failed\n".as_slice());
@@ -190,6 +213,7 @@ fn failing_devices_have_their_texts(rt: HostRuntime) -> Result<(), Fail> {
         run(
             rt.alloc(),
             &["--help"],
+            &rt,
             THREE_LINES.as_bytes(),
             Unflushed,
             &mut err
@@ -201,6 +225,7 @@ fn failing_devices_have_their_texts(rt: HostRuntime) -> Result<(), Fail> {
         run(
             rt.alloc(),
             &["--fly"],
+            &rt,
             BufReader::new(rt.alloc(), Broken)?,
             BufWriter::new(rt.alloc(), &mut out)?,
             &mut Broken
@@ -223,7 +248,7 @@ fn the_help_goes_to_the_output(rt: HostRuntime) -> Result<(), Fail> {
         let reader = BufReader::new(rt.alloc(), Broken)?;
         let writer = BufWriter::new(rt.alloc(), &mut out)?;
         assert_eq!(rt;
-            run(rt.alloc(), words, reader, writer, &mut err),
+            run(rt.alloc(), words, &rt, reader, writer, &mut err),
             Status::Done,
             "at {words:?}"
         );

@@ -11,7 +11,7 @@ returns-clause-ends g c =
     let holds = g.W.Write.contents in
     let h = c.check-checked.new.guard.journal in
     let told = c.in-Err.ensures.checks in
-    let legal = subst (λ (s : StatedSetup). Legal s h) (c.check-checked.ensures.setup ∙ c.in-Ok.ensures.setup ∙ c.closed.ensures) c.check-checked.ensures.legal in
+    let legal = subst (λ (s : StatedSetup). Legal s h) (c.check-checked.ensures.setup ∙ c.in-Ok.ensures.setup) c.check-checked.ensures.legal in
     let within = subst (λ (n : ℕ). Checks (reads c.args.reader.now.device) (reads c.check-checked.new.reader.device) (holds c.args.out.now.device) (holds c.check-checked.new.writer.device) n h
     (Err c.in-Err.fault)) c.in-Ok.ensures.limit told in
     inl (h, legal, checks_kept _ _ _ _ (holds c.flush.new.self.device) c.args.limit h (Err c.in-Err.fault) within c.flush.ensures.kept)
@@ -23,7 +23,7 @@ returns-in-Ok-checked-clause-ends g c =
     let h = c.check-checked.new.guard.journal in
     let n = c.in-Ok-checked.field-0 in
     let told = c.in-Ok-checked.ensures.checks in
-    let legal = subst (λ (s : StatedSetup). Legal s h) (c.check-checked.ensures.setup ∙ c.in-Ok.ensures.setup ∙ c.closed.ensures) c.check-checked.ensures.legal in
+    let legal = subst (λ (s : StatedSetup). Legal s h) (c.check-checked.ensures.setup ∙ c.in-Ok.ensures.setup) c.check-checked.ensures.legal in
     let within = subst (λ (l : ℕ). Checks (reads c.args.reader.now.device) (reads c.check-checked.new.reader.device) (holds c.args.out.now.device) (holds c.check-checked.new.writer.device) l h (Ok n))
     c.in-Ok.ensures.limit told in
     let kept = checks_kept _ _ _ _ (holds c.flush.new.self.device) c.args.limit h (Ok n) within c.flush.ensures.kept in

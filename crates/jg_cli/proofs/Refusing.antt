@@ -1,0 +1,30 @@
+-- A refused setup file ends the program before the script is begun.
+use Rattle.std.proofs.Common.{◌≡◌, ap, inl, inr, ℕ, Bool, true, false, List, Option, Err}
+use Rattle.std.proofs.lemmas.Bool.{false≢true}
+use Rattle.std.proofs.KnownBytes.{Keeps-refl}
+use Rattle.jg_cli.specs.declared.stop.Stop.{Stop}
+use Rattle.jg_cli.specs.declared.stop.Stop.TheVariants.{Arguments, Setup, SetupRead, Run}
+use Rattle.jg_cli.specs.StatedBy.{IsRefused}
+use Rattle.jg_cli.specs.Ended.{EndsUnder}
+
+is_of_setup : Stop → Bool
+is_of_setup (Setup fault) = true
+is_of_setup SetupRead = true
+is_of_setup (Run fault) = false
+is_of_setup (Arguments fault) = false
+
+refused_by_setup : (known : Option (List ℕ)) (told : ℕ) (stop : Stop) → IsRefused known told stop → is_of_setup stop ≡ true
+unfolding is_of_setup
+refused_by_setup known told stop (bytes, gives, inl (inl read)) = ap is_of_setup read
+refused_by_setup known told stop (bytes, gives, inl (inr (inl memory))) = ap is_of_setup memory
+refused_by_setup known told stop (bytes, gives, inl (inr (inr (inl (long, by))))) = ap is_of_setup long
+refused_by_setup known told stop (bytes, gives, inl (inr (inr (inr (no_text, low, short, not_utf8))))) = ap is_of_setup no_text
+refused_by_setup known told stop (bytes, gives, inr (fault, is, low, short, first)) = ap is_of_setup is
+
+pub ends_refused : (known : Option (List ℕ)) (told : ℕ) (input bytes : Option (List ℕ)) (limit : ℕ) (stop : Stop) → IsRefused known told stop
+    → EndsUnder known told input input bytes bytes limit (Err stop)
+unfolding is_of_setup
+ends_refused known told input bytes limit (Setup fault) refused = (refused, Keeps-refl input, Keeps-refl bytes)
+ends_refused known told input bytes limit SetupRead refused = (Keeps-refl input, Keeps-refl bytes)
+ends_refused known told input bytes limit (Run fault) refused = absurd (false≢true (refused_by_setup known told (Run fault) refused))
+ends_refused known told input bytes limit (Arguments fault) refused = absurd (false≢true (refused_by_setup known told (Arguments fault) refused))
