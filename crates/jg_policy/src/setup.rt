@@ -62,18 +62,6 @@ impl Model for Setup {
 }
 
 impl Setup {
-    /// The setup that denies native access and states nothing else. It takes no memory.
-    pub fn closed(alloc: Global) -> Setup
-        ensures { result ≡ record { mode = Mode.Deny; enabled = []; classes = [] } }
-    {
-        Setup {
-            mode: Mode::Deny,
-            enabled: Vec::new(alloc),
-            classes: IndexMap::new(alloc),
-            settled: Vec::new(alloc),
-        }
-    }
-
     /// Reads a setup text. Of the faults that the text has anywhere the first in the order of
     /// [`SetupFault`] is answered, or `NoMemory` where memory runs out.
     pub fn read(alloc: Global, text: &str) -> Result<Setup, SetupFault>
