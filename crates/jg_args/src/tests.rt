@@ -9,7 +9,8 @@ const DEFAULTS: Asked<'static> = Asked {
     leaks: false,
 };
 
-const STATUSES: &str = "Exit status: 0 done, 2 faulty script, setup or arguments, 3 limit met or no memory, \
+const STATUSES: &str =
+    "Exit status: 0 done, 2 faulty script, setup or arguments, 3 limit met or no memory, \
     4 reading or writing failed.";
 
 #[test]

@@ -1,5 +1,5 @@
 -- What the store has of the array that an operand names, and that a region is within it.
-use Rattle.std.proofs.Common.{ℕ, ℤ, pos, ◌≡◌, ◌+◌, ◌<◌, ◌≤◌, Bool, true, false, List, ◌∷◌, length, Option, Some, None, refl, ap, sym, ◌∙◌, arith}
+use Rattle.std.proofs.Common.{ℕ, ℤ, pos, ◌≡◌, ◌+◌, ◌≤◌, Bool, true, false, List, ◌∷◌, Option, Some, None, refl, ap, sym, ◌∙◌, arith}
 use Rattle.std.specs.Prelude.{◌==◌, ◌&&◌, ◌||◌, nat_lt, int_lt}
 use Rattle.std.specs.Option.{option_map, unwrap_or}
 use Rattle.std.proofs.lemmas.Bool.Decides.{nat_tests}
@@ -20,16 +20,14 @@ use Rattle.jg_heap.specs.Standing.{Stands}
 use Rattle.jg_heap.specs.Reading.{natural}
 use Rattle.jg_rules.specs.declared.answer.Answer.{Answer}
 use Rattle.jg_rules.specs.declared.named.Named.{Named}
-use Rattle.jg_rules.specs.declared.operand.ObjectType.{ObjectType}
 use Rattle.jg_rules.specs.declared.operand.ObjectType.TheVariants.{ArrayOf, ObjectArray}
 use Rattle.jg_rules.specs.Parts.{Parts, TableRows, TablesStand}
-use Rattle.jg_rules.specs.Names.{names, object_in, the_object, class_of, length_of}
-use Rattle.jg_rules.specs.Operands.{is_of}
+use Rattle.jg_rules.specs.Names.{names, object_in, the_object, class_of}
 use Rattle.jg_rules.specs.Rules.{is_nothing, is_null, is_wrong}
 use Rattle.jg_rules.specs.Answers.{is_outside, or_outside}
 use Rattle.jg_rules.specs.Effects.{is_effective, pointer}
 use Rattle.jg_rules.proofs.Objects.{IsThere, is_there, first_is_of}
-use Rattle.jg_guard.specs.Tables.{IsDue, IsEffective}
+use Rattle.jg_guard.specs.Tables.{IsDue}
 
 same : (a b : ℕ) → (a == b) ≡ true → a ≡ b
 same a b is = grind (arith, nat_tests, is)

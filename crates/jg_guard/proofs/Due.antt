@@ -1,6 +1,6 @@
 -- What the tables hold where a call is due, and how they stand after it.
-use Rattle.std.proofs.Common.{ℕ, ◌≡◌, ◌+◌, ◌-◌, ◌<◌, ◌≤◌, ◌^◌, Bool, true, false, List, [], ◌∷◌, ◌++◌, map, length, Option, Some, None, refl, ap, ◌∙◌, sym, subst, arith, length-append}
-use Rattle.std.specs.Prelude.{◌==◌, ◌&&◌, All, not, cond, IsNone, IsTrue}
+use Rattle.std.proofs.Common.{ℕ, ◌≡◌, ◌+◌, ◌<◌, ◌≤◌, ◌^◌, Bool, true, false, List, ◌++◌, map, length, Option, Some, None, refl, ap, ◌∙◌, sym, subst, arith, length-append}
+use Rattle.std.specs.Prelude.{◌==◌, All, IsNone, IsTrue}
 use Rattle.std.proofs.lemmas.Bool.Decides.{nat_tests}
 use Rattle.std.proofs.lemmas.List.{length-map}
 use Rattle.jg_words.specs.Call.{fun_of}
@@ -8,7 +8,6 @@ use Rattle.jg_words.specs.Fun.{needs_env}
 use Rattle.jg_words.specs.declared.thread.EnvId.{EnvId}
 use Rattle.jg_words.specs.declared.thread.Tid.{Tid}
 use Rattle.jg_words.specs.declared.object.ObjId.{ObjId}
-use Rattle.jg_words.specs.declared.reference.Ref.{Ref}
 use Rattle.jg_words.specs.declared.reference.Ref.TheVariants.{Null, To}
 use Rattle.jg_words.specs.declared.reference.Kind.TheVariants.{Local, Global, Weak}
 use Rattle.jg_words.specs.declared.value.Value.{Value}
@@ -19,7 +18,7 @@ use Rattle.jg_threads.specs.History as threads
 use Rattle.jg_threads.specs.declared.row.Row.{Row}
 use Rattle.jg_threads.specs.Rows.{row_of, CanCount}
 use Rattle.jg_threads.specs.Standing as thread_standing
-use Rattle.jg_locals.specs.History.{acts_of, has_session, depth, frames, IsMadeBelow}
+use Rattle.jg_locals.specs.History.{acts_of, has_session, depth, IsMadeBelow}
 use Rattle.jg_locals.specs.Rows.{Rows, HasFrame, pushed, entered, top, spare}
 use Rattle.jg_locals.specs.Standing as local_standing
 use Rattle.jg_locals.proofs.Callers.{has_frame_law, above_law, pushed_law, entered_law, top_is}
@@ -28,7 +27,7 @@ use Rattle.jg_rules.specs.Parts.{Parts, TableRows, TablesStand}
 use Rattle.jg_rules.specs.Names.{next_ref, open_frames, depth as depth_of}
 use Rattle.jg_rules.specs.Effects.{done_by, done_if, is_effective, settled, passed_on, call_threads}
 use Rattle.jg_rules.specs.Access.{native_class, home_of}
-use Rattle.jg_rules.specs.Rules.{detached, is_session}
+use Rattle.jg_rules.specs.Rules.{detached}
 use Rattle.jg_rules.specs.Unbroken.{Unbroken}
 use Rattle.jg_rules.specs.Answers.{answer}
 use Rattle.jg_rules.specs.declared.answer.Answer.{Answer}
@@ -40,7 +39,7 @@ use Rattle.jg_laws.proofs.Steps.{each_done}
 use Rattle.jg_laws.proofs.Kept.{Agreed, agree_of, agree_steps, below_steps, Below}
 use Rattle.jg_laws.proofs.Sizes.{sessions-le, refs-le, buffers-le, depth-le, frames-le, call_threads-le}
 use Rattle.jg_guard.specs.declared.tables.Tables.{Tables}
-use Rattle.jg_guard.specs.Tables.{rows_of, IsOrdinary, IsDue, CanHandOut, CanMakeGlobal, CanLend, CanSettle, CanSettleGlobal, CanThrow, makes_local, makes_global}
+use Rattle.jg_guard.specs.Tables.{rows_of, IsOrdinary, IsDue, CanHandOut, CanMakeGlobal, CanSettle, CanSettleGlobal, CanThrow, makes_local, makes_global}
 use Rattle.jg_guard.specs.Settled.{saying_of, warned_on}
 
 -- each count may rise by one

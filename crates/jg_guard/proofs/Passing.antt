@@ -1,5 +1,5 @@
 -- What a sound guard knows of a call that passes, and that it stays sound.
-use Rattle.std.proofs.Common.{ℕ, ◌≡◌, ◌+◌, ◌*◌, ◌<◌, ◌≤◌, ◌^◌, List, [], ◌∷◌, length, Option, Some, None, refl, ap, ◌∙◌, sym, subst, arith}
+use Rattle.std.proofs.Common.{◌≡◌, ◌<◌, List, ◌∷◌, length, Option, Some, None, refl, ap, ◌∙◌, arith}
 use Rattle.jg_words.specs.declared.thread.EnvId.{EnvId}
 use Rattle.jg_words.specs.declared.thread.Tid.{Tid}
 use Rattle.jg_words.specs.declared.call.Call.{Call}
@@ -9,7 +9,7 @@ use Rattle.jg_rules.specs.Parts.{Parts, TableRows, TablesStand}
 use Rattle.jg_rules.specs.Effects.{parts}
 use Rattle.jg_rules.specs.Rules.{verdict}
 use Rattle.jg_rules.specs.Answers.{answer}
-use Rattle.jg_rules.specs.Legal.{Legal, entry_at, entry_by}
+use Rattle.jg_rules.specs.Legal.{entry_at, entry_by}
 use Rattle.jg_laws.proofs.Kept.{agreed, below, globals_below}
 use Rattle.jg_laws.proofs.Natives.{all_stated}
 use Rattle.jg_laws.proofs.Sizes.{small}

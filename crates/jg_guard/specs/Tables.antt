@@ -1,5 +1,5 @@
 -- What the guard's helpers say of its tables.
-use Rattle.std.specs.Prelude.{ℕ, ◌+◌, ◌<◌, ◌≤◌, ◌^◌, ◌≡◌, Bool, true, false, List, ◌∷◌, Option, Some, None, IsTrue, All, length}
+use Rattle.std.specs.Prelude.{ℕ, ◌<◌, ◌≤◌, ◌^◌, ◌≡◌, Bool, true, false, Option, Some, None, IsTrue, All, length}
 use Rattle.std.specs.List.{AllByRecursion}
 use Rattle.jg_words.specs.Call.{fun_of}
 use Rattle.jg_words.specs.Fun.{needs_env}

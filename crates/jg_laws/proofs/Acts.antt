@@ -1,7 +1,6 @@
 -- What a thread did, one act or a few acts later.
-use Rattle.std.proofs.Common.{ℕ, ◌≡◌, ◌≢◌, ◌+◌, Bool, true, false, List, [], ◌∷◌, ◌++◌, map, Option, Some, None, refl, ap, sym, ◌∙◌, arith}
+use Rattle.std.proofs.Common.{ℕ, ◌≡◌, ◌≢◌, ◌+◌, Bool, true, false, List, [], ◌∷◌, ◌++◌, map, Option, Some, None, refl, ap, ◌∙◌, arith}
 use Rattle.std.specs.Prelude.{◌==◌, ◌&&◌, not, cond}
-use Rattle.std.specs.List.{list_all}
 use Rattle.std.proofs.lemmas.Bool.Decides.{nat_tests}
 use Rattle.jg_words.specs.Call.{fun_of}
 use Rattle.jg_words.specs.Fun.{needs_env}
@@ -11,11 +10,11 @@ use Rattle.jg_words.specs.declared.call.Call.TheVariants.{Vm, Refs, Frames, Exce
 use Rattle.jg_words.specs.declared.call.vm.VmCall.TheVariants.{AttachCurrentThread, DetachCurrentThread, GetEnv, NativeEnter, NativeLeave, LoadLibrary, RegisterNatives, UnregisterNatives}
 use Rattle.jg_words.specs.declared.call.exceptions.ExceptionsCall.TheVariants.{Throw, ExceptionOccurred, ExceptionDescribe, ExceptionClear, ExceptionCheck}
 use Rattle.jg_policy.specs.Stated.{StatedSetup}
-use Rattle.jg_threads.specs.History.{Act, Attach, Detach, Enter, Leave, Raise, Calm, CountRef, CountBuffer, Event, by, acts_of, attached, refs, is_count_ref, how_many}
+use Rattle.jg_threads.specs.History.{Act, Attach, Detach, Enter, Leave, Raise, Calm, CountRef, CountBuffer, Event, by, acts_of, attached, refs, is_count_ref}
 use Rattle.jg_locals.proofs.Callers.{each_thread}
 use Rattle.jg_rules.specs.Parts.{Parts}
 use Rattle.jg_rules.specs.Names.{next_ref}
-use Rattle.jg_rules.specs.Effects.{call_threads, done_if, done_by, if_effective}
+use Rattle.jg_rules.specs.Effects.{call_threads, done_if, done_by}
 use Rattle.jg_rules.specs.Rules.{detached, is_session}
 
 pub did_more : (u : ℕ) (a : Act) (te : List Event) → acts_of u (by u a ∷ te) ≡ a ∷ acts_of u te

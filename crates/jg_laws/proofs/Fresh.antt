@@ -1,6 +1,6 @@
 -- No reference is handed out twice, and none that ended is live again.
-use Rattle.std.proofs.Common.{ℕ, ◌≡◌, ◌≢◌, ◌+◌, ◌≤◌, ◌<◌, Bool, true, false, List, [], ◌∷◌, ◌++◌, Option, Some, None, ◌⊎◌, inl, inr, refl, ap, sym, ◌∙◌, subst, arith}
-use Rattle.std.specs.Prelude.{◌==◌, ◌&&◌, ◌||◌, if◌then◌else◌}
+use Rattle.std.proofs.Common.{ℕ, ◌≡◌, ◌≢◌, ◌+◌, ◌≤◌, ◌<◌, Bool, true, false, List, [], ◌∷◌, ◌++◌, Option, Some, None, inl, inr, refl, ap, sym, ◌∙◌, subst, arith}
+use Rattle.std.specs.Prelude.{◌==◌, ◌||◌, if◌then◌else◌}
 use Rattle.std.specs.List.{list_any}
 use Rattle.std.proofs.lemmas.Bool.Decides.{nat_tests}
 use Rattle.jg_words.specs.declared.thread.Tid.{Tid}
@@ -13,12 +13,11 @@ use Rattle.jg_words.specs.declared.reference.Kind.TheVariants.{Local, Global, We
 use Rattle.jg_words.specs.declared.value.Value.{Value}
 use Rattle.jg_words.specs.declared.value.Value.TheVariants.{Reference}
 use Rattle.jg_words.specs.declared.rule.Rule.{Rule}
-use Rattle.jg_words.specs.declared.entry.Reply.{Reply}
 use Rattle.jg_words.specs.declared.entry.Entry.{Entry}
 use Rattle.jg_words.specs.declared.call.Call.{Call}
 use Rattle.jg_policy.specs.Stated.{StatedSetup}
 use Rattle.jg_threads.specs.History as threads
-use Rattle.jg_locals.specs.History.{Act, Start, Make, Push, Delete, Pop, End, Event, by, acts_of, IsMadeBelow, Making, making, seen_after, live, local_if_live, object_of, survives, Enter, Leave}
+use Rattle.jg_locals.specs.History.{Act, Start, Make, Push, Delete, Pop, End, Event, by, acts_of, Making, making, seen_after, live, local_if_live, object_of, survives, Enter, Leave}
 use Rattle.jg_locals.proofs.Callers.{acts_more, acts_same, each_thread, live_below}
 use Rattle.jg_globals.specs.declared.target.Target.{Target}
 use Rattle.jg_globals.specs.declared.target.Target.TheVariants.{Object as ToObject, Cleared}

@@ -1,7 +1,5 @@
 -- What the events of a legal history keep.
-use Rattle.std.proofs.Common.{ℕ, ◌≡◌, ◌≢◌, ◌+◌, ◌-◌, ◌<◌, ◌≤◌, Bool, true, false, List, [], ◌∷◌, ◌++◌, refl, subst, sym, ap, ◌∙◌, arith}
-use Rattle.std.specs.Prelude.{◌==◌}
-use Rattle.std.proofs.lemmas.Bool.Decides.{nat_tests}
+use Rattle.std.proofs.Common.{ℕ, ◌≡◌, ◌+◌, ◌<◌, ◌≤◌, Bool, true, false, List, [], ◌∷◌, ◌++◌, refl, subst, sym, ap, ◌∙◌, arith}
 use Rattle.jg_words.specs.declared.entry.Entry.{Entry}
 use Rattle.jg_policy.specs.Stated.{StatedSetup}
 use Rattle.jg_threads.specs.History as threads
@@ -15,7 +13,7 @@ use Rattle.jg_laws.specs.Laws.{Agree, AgreeInNatives}
 use Rattle.jg_globals.specs.History as globals
 use Rattle.jg_globals.specs.Laws as global_laws
 use Rattle.jg_laws.proofs.Acts.{did_more, did_same, refs_same}
-use Rattle.jg_laws.proofs.Steps.{Steps, each_legal, makes_no_global, make_no_global}
+use Rattle.jg_laws.proofs.Steps.{Steps, each_legal, make_no_global}
 
 -- the two tables agree on a thread
 abbrev pub Agreed : List threads.Act → List Act → Type 0

@@ -1,14 +1,8 @@
 -- Each call's answer is a proper one.
-use Rattle.std.proofs.Common.{ℕ, pos, ◌≡◌, ◌+◌, Bool, true, false, List, [], ◌∷◌, length, Option, Some, None, refl}
+use Rattle.std.proofs.Common.{ℕ, pos, ◌≡◌, Bool, true, false, length, Option, Some, None, refl}
 use Rattle.jg_words.specs.declared.thread.Tid.{Tid}
-use Rattle.jg_words.specs.declared.object.ObjId.{ObjId}
 use Rattle.jg_words.specs.declared.object.FieldId.{FieldId}
-use Rattle.jg_words.specs.declared.reference.Kind.{Kind}
-use Rattle.jg_words.specs.declared.reference.Kind.TheVariants.{Local, Global, Weak}
-use Rattle.jg_words.specs.declared.reference.Ref.{Ref}
-use Rattle.jg_words.specs.declared.reference.Ref.TheVariants.{Null, To}
-use Rattle.jg_words.specs.declared.value.Value.{Value}
-use Rattle.jg_words.specs.declared.value.Value.TheVariants.{Reference, Buffer, Throw as Threw}
+use Rattle.jg_words.specs.declared.reference.Kind.TheVariants.{Local, Global}
 use Rattle.jg_words.specs.declared.value.Thrown.{Thrown}
 use Rattle.jg_words.specs.declared.call.Call.{Call}
 use Rattle.jg_words.specs.declared.call.Call.TheVariants.{Vm, Refs, Frames, Exceptions, Objects, Strings, Arrays}
@@ -24,10 +18,10 @@ use Rattle.jg_words.specs.Fun.{needs_env}
 use Rattle.jg_policy.specs.Stated.{StatedSetup}
 use Rattle.jg_rules.specs.declared.answer.Answer.{Answer}
 use Rattle.jg_rules.specs.Parts.{Parts}
-use Rattle.jg_rules.specs.Names.{object_named, the_object, object_count, class_of, length_of, units_of, slot_of, target_in, session, next_ref, next_buffer, pending, class_meant, native_meant, field_meant}
+use Rattle.jg_rules.specs.Names.{object_named, the_object, object_count, class_of, length_of, units_of, slot_of, target_in, session, pending, class_meant, native_meant, field_meant}
 use Rattle.jg_rules.specs.Effects.{done_by}
 use Rattle.jg_laws.specs.Proper.{ProperAnswer}
-use Rattle.jg_rules.specs.Answers.{answer, handed, thrown, present_env, plain, admitted, unless_pending, registered, class_found, field_found, field_value, or_outside, is_outside}
+use Rattle.jg_rules.specs.Answers.{answer, handed, present_env, plain, admitted, unless_pending, registered, class_found, field_found, field_value, or_outside, is_outside}
 use Rattle.jg_policy.specs.Classes.{class_named}
 use Rattle.jg_heap.specs.Reading.{natural}
 use Rattle.jg_words.specs.declared.value.Thrown.TheVariants.{ArrayIndexOutOfBounds, StringIndexOutOfBounds}

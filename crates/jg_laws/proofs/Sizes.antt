@@ -1,5 +1,5 @@
 -- How many events a history has, and how large the counts are that they give.
-use Rattle.std.proofs.Common.{ℕ, ◌≡◌, ◌+◌, ◌*◌, ◌-◌, ◌≤◌, Bool, true, false, List, [], ◌∷◌, ◌++◌, length, map, Option, Some, None, refl, arith, length-append}
+use Rattle.std.proofs.Common.{ℕ, ◌+◌, ◌*◌, ◌≤◌, Bool, true, false, List, [], ◌∷◌, ◌++◌, length, map, Option, Some, arith, length-append}
 use Rattle.std.proofs.lemmas.Bool.Decides.{nat_tests}
 use Rattle.std.proofs.lemmas.List.{length-map}
 use Rattle.jg_words.specs.declared.object.ObjId.{ObjId}
@@ -8,14 +8,12 @@ use Rattle.jg_words.specs.declared.reference.Ref.TheVariants.{Null, To}
 use Rattle.jg_words.specs.declared.reference.Kind.TheVariants.{Local, Global, Weak}
 use Rattle.jg_words.specs.declared.value.Value.{Value}
 use Rattle.jg_words.specs.declared.value.Value.TheVariants.{Reference, Buffer as Lent, Throw as Threw}
-use Rattle.jg_words.specs.declared.entry.Reply.{Reply}
 use Rattle.jg_words.specs.declared.entry.Outcome.{Outcome}
 use Rattle.jg_words.specs.declared.entry.Outcome.TheVariants.{Passed, Denied}
 use Rattle.jg_words.specs.declared.entry.Entry.{Entry}
 use Rattle.jg_words.specs.declared.call.Call.{Call}
 use Rattle.jg_words.specs.declared.call.Call.TheVariants.{Vm, Refs, Frames, Exceptions, Objects, Strings, Arrays}
 use Rattle.jg_words.specs.declared.call.vm.VmCall.TheVariants.{AttachCurrentThread, DetachCurrentThread, GetEnv, NativeEnter, NativeLeave, LoadLibrary, RegisterNatives, UnregisterNatives}
-use Rattle.jg_words.specs.declared.call.refs.RefsCall.{RefsCall}
 use Rattle.jg_words.specs.declared.call.refs.RefsCall.TheVariants.{NewLocalRef, DeleteLocalRef, IsSameObject, GetObjectRefType}
 use Rattle.jg_words.specs.declared.call.frames.FramesCall.TheVariants.{PushLocalFrame, PopLocalFrame}
 use Rattle.jg_words.specs.declared.call.exceptions.ExceptionsCall.TheVariants.{Throw, ExceptionOccurred, ExceptionDescribe, ExceptionClear, ExceptionCheck}

@@ -1,5 +1,5 @@
 -- What each event of a passed call keeps, each legal history has: one induction over events for all laws.
-use Rattle.std.proofs.Common.{ℕ, ◌≡◌, Bool, true, false, List, [], ◌∷◌, ◌++◌, map, Option, Some, None, refl, sym, ap, ◌∙◌, subst}
+use Rattle.std.proofs.Common.{ℕ, ◌≡◌, Bool, true, false, List, [], ◌∷◌, ◌++◌, map, Option, Some, None, refl, sym, ◌∙◌, subst}
 use Rattle.std.specs.Prelude.{◌==◌, if◌then◌else◌}
 use Rattle.std.specs.List.{AllByRecursion}
 use Rattle.jg_words.specs.declared.thread.Tid.{Tid}
@@ -27,7 +27,7 @@ use Rattle.jg_buffers.specs.History as buffers
 use Rattle.jg_monitors.specs.History as monitors
 use Rattle.jg_heap.specs.History as heap
 use Rattle.jg_rules.specs.Parts.{Parts, nothing_yet}
-use Rattle.jg_rules.specs.Names.{next_ref, next_buffer, open_frames, depth, the_object}
+use Rattle.jg_rules.specs.Names.{next_ref, open_frames, depth, the_object}
 use Rattle.jg_rules.specs.Access.{native_class, home_of}
 use Rattle.jg_rules.specs.Effects.{parts, after, started, deletes_local, call_globals, call_buffers, call_monitors, call_heap, call_links, done_by, done_if, is_effective, warning, value_heap, settled}
 use Rattle.jg_rules.specs.Rules.{verdict}

@@ -1,5 +1,5 @@
 -- A legal history without its denied entries is legal.
-use Rattle.std.proofs.Common.{ℕ, ◌≡◌, List, [], ◌∷◌, refl, ap, sym, ◌∙◌}
+use Rattle.std.proofs.Common.{◌≡◌, List, [], ◌∷◌, refl, ap, sym, ◌∙◌}
 use Rattle.jg_words.specs.declared.entry.Outcome.{Outcome}
 use Rattle.jg_words.specs.declared.entry.Outcome.TheVariants.{Passed, Denied}
 use Rattle.jg_words.specs.declared.entry.Entry.{Entry}

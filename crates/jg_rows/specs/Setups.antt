@@ -43,13 +43,13 @@ all_types = record {
   mode = Deny;
   enabled = [];
   classes = record {
-      name = codes "t/All";
-      module_name = codes "t";
-      throwable = false;
-      fields = record { name = codes "z"; signature = codes "Z" } ∷ record { name = codes "b"; signature = codes "B" }
-          ∷ record { name = codes "c"; signature = codes "C" } ∷ record { name = codes "s"; signature = codes "S" }
-          ∷ record { name = codes "i"; signature = codes "I" } ∷ record { name = codes "j"; signature = codes "J" }
-          ∷ [];
-      natives = [];
-    } ∷ [];
+    name = codes "t/All";
+    module_name = codes "t";
+    throwable = false;
+    fields = record { name = codes "z"; signature = codes "Z" } ∷ record { name = codes "b"; signature = codes "B" }
+        ∷ record { name = codes "c"; signature = codes "C" } ∷ record { name = codes "s"; signature = codes "S" }
+        ∷ record { name = codes "i"; signature = codes "I" } ∷ record { name = codes "j"; signature = codes "J" }
+        ∷ [];
+    natives = [];
+  } ∷ [];
 }

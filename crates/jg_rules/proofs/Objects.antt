@@ -6,10 +6,10 @@ use Rattle.std.specs.Option.{unwrap_or}
 use Rattle.std.proofs.lemmas.List.{length-map}
 use Rattle.std.proofs.lemmas.List.FromFn.{length-map-range_with_len}
 use Rattle.std.proofs.lemmas.Bool.Decides.{nat_tests}
-use Rattle.jg_policy.specs.Stated.{StatedSetup, class_count}
+use Rattle.jg_policy.specs.Stated.{StatedSetup}
 use Rattle.jg_heap.specs.declared.object.Slot.{Slot}
 use Rattle.jg_heap.specs.declared.object.Slot.TheVariants.{Number}
-use Rattle.jg_heap.specs.Making.{Making, Plain, class_in, length_in}
+use Rattle.jg_heap.specs.Making.{class_in, length_in}
 use Rattle.jg_heap.specs.Rows.{count_in, class_at, length_at}
 use Rattle.jg_heap.specs.History.{making_at, value_at}
 use Rattle.jg_heap.proofs.Callers.{rows_law}

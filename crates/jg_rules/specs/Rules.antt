@@ -4,7 +4,6 @@ use Rattle.std.specs.List.{list_any, list_all, find}
 use Rattle.jg_words.specs.Call.{fun_of}
 use Rattle.jg_words.specs.Fun.{needs_env}
 use Rattle.jg_words.specs.declared.thread.EnvId.{EnvId}
-use Rattle.jg_words.specs.declared.reference.Kind.{Kind}
 use Rattle.jg_words.specs.declared.reference.Kind.TheVariants.{Local, Global, Weak}
 use Rattle.jg_words.specs.declared.reference.Ref.{Ref}
 use Rattle.jg_words.specs.declared.reference.Ref.TheVariants.{Null, To}
@@ -18,8 +17,6 @@ use Rattle.jg_words.specs.declared.call.refs.RefsCall.{RefsCall}
 use Rattle.jg_words.specs.declared.call.refs.RefsCall.TheVariants.{NewLocalRef, DeleteLocalRef, IsSameObject, GetObjectRefType}
 use Rattle.jg_words.specs.declared.call.frames.FramesCall.{FramesCall}
 use Rattle.jg_words.specs.declared.call.frames.FramesCall.TheVariants.{PushLocalFrame, PopLocalFrame}
-use Rattle.jg_words.specs.declared.call.exceptions.ExceptionsCall.{ExceptionsCall}
-use Rattle.jg_words.specs.declared.call.exceptions.ExceptionsCall.TheVariants.{Throw, ExceptionOccurred, ExceptionDescribe, ExceptionClear, ExceptionCheck}
 use Rattle.jg_words.specs.declared.call.objects.ObjectsCall.{ObjectsCall}
 use Rattle.jg_words.specs.declared.call.objects.ObjectsCall.TheVariants.{FindClass, GetObjectClass, IsInstanceOf, AllocObject, GetFieldID, GetField, GetObjectField, SetField, SetObjectField}
 use Rattle.jg_words.specs.declared.call.strings.StringsCall.{StringsCall}
@@ -242,9 +239,9 @@ arrays_bad_argument (GetObjectArrayElement r index) = false
 arrays_bad_argument (SetObjectArrayElement r index value) = false
 
 -- 12: a capacity below 0 or above 65,535; an array's length below 0 or above 1,000,000; a region of more than 1,000
--- items; a unit, an item or a field's value that isn't of its type; bytes that are no modified UTF-8; the name of no class
--- where a native method is entered or a library loaded (JNI Specification, chapter 4, PushLocalFrame, "Accessing Fields of
--- Objects", "String Operations", "Array Operations"; chapter 3, "Modified UTF-8 Strings")
+-- items; a unit, an item or a field's value that isn't of its type; bytes that are no modified UTF-8; the name of no
+-- class where a native method is entered or a library loaded (JNI Specification, chapter 4, PushLocalFrame, "Accessing
+-- Fields of Objects", "String Operations", "Array Operations"; chapter 3, "Modified UTF-8 Strings")
 abbrev pub bad_argument : StatedSetup → Call → Bool
 bad_argument s (Vm call) = vm_bad_argument s call
 bad_argument s (Refs call) = false

@@ -14,9 +14,7 @@ mod view;
 pub use access::{home_named, is_warned_use};
 pub use answer::Answer;
 pub use judge::first_broken;
-pub use named::{
-    Named, class_meant, field_meant, look_up, native_meant, object_named, the_object,
-};
+pub use named::{Named, class_meant, field_meant, look_up, native_meant, object_named, the_object};
 pub use object::{class_of, field_of, items_of, length_of, slot_of, slot_place_of, units_of};
 pub use operand::{ObjectType, Operand, Operands, operands_of};
 pub use view::View;

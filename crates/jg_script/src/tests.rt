@@ -402,7 +402,10 @@ fn a_long_line_past_the_limit_is_past_the_limit(rt: HostRuntime) -> Result<(), F
     let past = Err(RunFault::Limit { line: 1 });
     assert_eq!(rt; read_back(rt.alloc(), text.as_slice(), 0)?, (past, false));
     let differs = Ok(Verdict::Differs(1));
-    assert_eq!(rt; read_back(rt.alloc(), text.as_slice(), 1)?, (differs, false));
+    assert_eq!(rt;
+        read_back(rt.alloc(), text.as_slice(), 1)?,
+        (differs, false)
+    );
     Ok(())
 }
 

@@ -164,12 +164,7 @@ fn unlink<A: Allocator + Clone>(tables: &mut Tables<A>, class: Option<u32>)
     }
 }
 
-fn unregister<A: Allocator + Clone>(
-    tables: &mut Tables<A>,
-    setup: &Setup,
-    tid: Tid,
-    class: Ref,
-)
+fn unregister<A: Allocator + Clone>(tables: &mut Tables<A>, setup: &Setup, tid: Tid, class: Ref)
     ensures stands { (p : Parts) → TablesStand setup.now (rows_of tables.old) p
         → TablesStand setup.now (rows_of tables.new) (done_by setup.now tid.0 (Vm (UnregisterNatives class)) p) }
     ensures warnings { tables.old.links.spare_warnings ≤ tables.new.links.spare_warnings }

@@ -1,32 +1,55 @@
 //! Native methods.
 
-use crate::natives::{FRAME_OF_OTHER_ACTIVATION, LEAVE_CUTS_FRAMES, FRAME_OF_EARLIER_ACTIVATION, LEAVE_WITH_AN_EXCEPTION_PENDING, NATIVES_OF_A_CLASS};
+use crate::natives::{
+    FRAME_OF_EARLIER_ACTIVATION, FRAME_OF_OTHER_ACTIVATION, LEAVE_CUTS_FRAMES,
+    LEAVE_WITH_AN_EXCEPTION_PENDING, NATIVES_OF_A_CLASS,
+};
 use crate::tests::{comes_out_under, two_modules};
 use std::test::Fail;
 
 #[test]
 fn frame_of_other_activation(rt: HostRuntime) -> Result<(), Fail> {
-    comes_out_under(rt.alloc(), two_modules(rt.alloc(), "deny")?.as_str(), FRAME_OF_OTHER_ACTIVATION)
+    comes_out_under(
+        rt.alloc(),
+        two_modules(rt.alloc(), "deny")?.as_str(),
+        FRAME_OF_OTHER_ACTIVATION,
+    )
 }
 
 #[test]
 fn leave_cuts_frames(rt: HostRuntime) -> Result<(), Fail> {
-    comes_out_under(rt.alloc(), two_modules(rt.alloc(), "deny")?.as_str(), LEAVE_CUTS_FRAMES)
+    comes_out_under(
+        rt.alloc(),
+        two_modules(rt.alloc(), "deny")?.as_str(),
+        LEAVE_CUTS_FRAMES,
+    )
 }
 
 #[test]
 fn frame_of_earlier_activation(rt: HostRuntime) -> Result<(), Fail> {
-    comes_out_under(rt.alloc(), two_modules(rt.alloc(), "deny")?.as_str(), FRAME_OF_EARLIER_ACTIVATION)
+    comes_out_under(
+        rt.alloc(),
+        two_modules(rt.alloc(), "deny")?.as_str(),
+        FRAME_OF_EARLIER_ACTIVATION,
+    )
 }
 
 #[test]
 fn leave_with_an_exception_pending(rt: HostRuntime) -> Result<(), Fail> {
-    comes_out_under(rt.alloc(), two_modules(rt.alloc(), "deny")?.as_str(), LEAVE_WITH_AN_EXCEPTION_PENDING)
+    comes_out_under(
+        rt.alloc(),
+        two_modules(rt.alloc(), "deny")?.as_str(),
+        LEAVE_WITH_AN_EXCEPTION_PENDING,
+    )
 }
 
 #[test]
 fn natives_of_a_class(rt: HostRuntime) -> Result<(), Fail> {
-    comes_out_under(rt.alloc(), two_modules(rt.alloc(), "deny")?.as_str(), NATIVES_OF_A_CLASS)
+    comes_out_under(
+        rt.alloc(),
+        two_modules(rt.alloc(), "deny")?.as_str(),
+        NATIVES_OF_A_CLASS,
+    )
 }
 
 /// The chain is ten native methods deep, each with a frame of its own.
@@ -50,5 +73,9 @@ fn ten_native_methods_deep(rt: HostRuntime) -> Result<(), Fail> {
     text.push_str("T1 E1.1 PopLocalFrame null = deny 15 BadFrame\n")?;
     text.push_str("T1 E1.1 IsSameObject L1.1 L1.21 = true\n")?;
     text.push_str("T1 - DetachCurrentThread = ok\n")?;
-    comes_out_under(rt.alloc(), two_modules(rt.alloc(), "deny")?.as_str(), text.as_str())
+    comes_out_under(
+        rt.alloc(),
+        two_modules(rt.alloc(), "deny")?.as_str(),
+        text.as_str(),
+    )
 }

@@ -1,6 +1,6 @@
 //! Fields of objects.
 
-use crate::object_fields::{FIELDS, FIELDS_OF_OBJECTS, FIELDS_OF_OTHERS, FIELDS_OF_EACH_TYPE};
+use crate::object_fields::{FIELDS, FIELDS_OF_EACH_TYPE, FIELDS_OF_OBJECTS, FIELDS_OF_OTHERS};
 use crate::tests::{comes_out_under, two_modules};
 use std::test::Fail;
 
@@ -22,17 +22,29 @@ fields = [
 
 #[test]
 fn fields(rt: HostRuntime) -> Result<(), Fail> {
-    comes_out_under(rt.alloc(), two_modules(rt.alloc(), "deny")?.as_str(), FIELDS)
+    comes_out_under(
+        rt.alloc(),
+        two_modules(rt.alloc(), "deny")?.as_str(),
+        FIELDS,
+    )
 }
 
 #[test]
 fn fields_of_objects(rt: HostRuntime) -> Result<(), Fail> {
-    comes_out_under(rt.alloc(), two_modules(rt.alloc(), "deny")?.as_str(), FIELDS_OF_OBJECTS)
+    comes_out_under(
+        rt.alloc(),
+        two_modules(rt.alloc(), "deny")?.as_str(),
+        FIELDS_OF_OBJECTS,
+    )
 }
 
 #[test]
 fn fields_of_others(rt: HostRuntime) -> Result<(), Fail> {
-    comes_out_under(rt.alloc(), two_modules(rt.alloc(), "deny")?.as_str(), FIELDS_OF_OTHERS)
+    comes_out_under(
+        rt.alloc(),
+        two_modules(rt.alloc(), "deny")?.as_str(),
+        FIELDS_OF_OTHERS,
+    )
 }
 
 #[test]

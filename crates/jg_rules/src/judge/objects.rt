@@ -110,7 +110,9 @@ pub(crate) fn judge_objects<A: Allocator + Clone>(
     }
     match call {
         ObjectsCall::SetField {
-            primitive, value, ..
+            primitive,
+            value,
+            ..
         } if !fits(*primitive, *value) => Some(Rule::BadArgument),
         _ => None,
     }

@@ -1,6 +1,4 @@
-use Rattle.std.proofs.Common.{◌≡◌, ◌∙◌, sym, false, true}
-use Rattle.std.specs.Option.{is_some}
-use Rattle.jg_rules.specs.Rules.{wrong_thread, detached, in_critical, while_pending, operands_verdict}
+use Rattle.std.proofs.Common.{◌∙◌, sym}
 use Rattle.jg_rules.proofs.Split.{after_four, some_there, none_there}
 use Rattle.jg_rules.proofs.judge.first_broken.Goals as goal
 

@@ -1,4 +1,4 @@
-use Rattle.std.proofs.Common.{rules, false, ℕ, pos, ◌≡◌, ◌+◌, ◌<◌, ◌≤◌, arith, sym, ◌∙◌, ap}
+use Rattle.std.proofs.Common.{rules, false, ℕ, pos, ◌≡◌, ◌+◌, ◌<◌, ◌≤◌, arith, ◌∙◌, ap}
 use Rattle.jg_heap.specs.Reading.{natural}
 use Rattle.jg_rules.specs.Parts.{Parts}
 use Rattle.jg_rules.specs.Names.{the_object, length_of}

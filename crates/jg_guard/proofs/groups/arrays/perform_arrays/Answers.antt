@@ -1,4 +1,4 @@
-use Rattle.std.proofs.Common.{◌≡◌, ◌∙◌, sym, ℤ, rules, w32}
+use Rattle.std.proofs.Common.{◌≡◌, ◌∙◌, rules, w32}
 use mir.Val.{to_z, of_z}
 use Rattle.jg_heap.specs.Reading.{natural}
 use Rattle.jg_rules.specs.Names.{object_named}

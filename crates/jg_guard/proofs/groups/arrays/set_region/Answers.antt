@@ -1,4 +1,4 @@
-use Rattle.std.proofs.Common.{rules, ℕ, pos, ◌≡◌, ◌+◌, ◌≤◌, length, arith, sym, ap}
+use Rattle.std.proofs.Common.{rules, ℕ, pos, ◌≡◌, ◌+◌, ◌≤◌, length, arith}
 use Rattle.jg_words.specs.declared.value.Thrown.TheVariants.{ArrayIndexOutOfBounds}
 use Rattle.jg_words.specs.declared.value.Value.TheVariants.{Ok as Done}
 use Rattle.jg_heap.specs.Reading.{natural}

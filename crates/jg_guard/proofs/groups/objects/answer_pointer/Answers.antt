@@ -1,4 +1,4 @@
-use Rattle.std.proofs.Common.{Some, None, true, false}
+use Rattle.std.proofs.Common.{None, false}
 use Rattle.jg_rules.specs.Names.{names}
 use Rattle.jg_guard.proofs.Slots.{has_slot}
 use Rattle.jg_guard.proofs.groups.objects.answer_pointer.Goals as goal

@@ -1,4 +1,4 @@
-use Rattle.std.proofs.Common.{◌≡◌, ◌≤◌, ◌∙◌, sym, ap, map, length, arith}
+use Rattle.std.proofs.Common.{◌≤◌, ◌∙◌, ap, map, length, arith}
 use Rattle.std.proofs.lemmas.List.{take_all}
 use Rattle.jg_policy.specs.Classes.{class_at, fields_in}
 use Rattle.jg_rules.specs.Effects.{first_value}

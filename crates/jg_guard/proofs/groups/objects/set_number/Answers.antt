@@ -1,8 +1,8 @@
-use Rattle.std.proofs.Common.{rules, ◌≡◌, Some, None, true, false, refl, ◌∙◌}
+use Rattle.std.proofs.Common.{rules, ◌≡◌, Some, false, ◌∙◌}
 use Rattle.jg_heap.specs.declared.object.Slot.TheVariants.{Number}
-use Rattle.jg_rules.specs.Names.{names, slot_place, object_named}
+use Rattle.jg_rules.specs.Names.{names, slot_place}
 use Rattle.jg_guard.proofs.Due.{stand_at}
-use Rattle.jg_guard.proofs.Arrays.{wrote_at, points}
+use Rattle.jg_guard.proofs.Arrays.{wrote_at}
 use Rattle.jg_guard.proofs.Slots.{has_slot}
 use Rattle.jg_guard.proofs.groups.objects.set_number.Goals as goal
 

@@ -1,4 +1,4 @@
-use Rattle.std.proofs.Common.{rules, ◌≡◌, Some, None, true, false, refl, ◌∙◌}
+use Rattle.std.proofs.Common.{rules, ◌≡◌, None, ◌∙◌}
 use Rattle.jg_rules.specs.Names.{names, slot_place, object_named}
 use Rattle.jg_guard.proofs.Due.{stand_at}
 use Rattle.jg_guard.proofs.Arrays.{wrote_at, points}

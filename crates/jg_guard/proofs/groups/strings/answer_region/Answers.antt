@@ -1,4 +1,4 @@
-use Rattle.std.proofs.Common.{ℕ, ◌≡◌, ◌∙◌, sym, ap, true, false, length, map, pos, rules}
+use Rattle.std.proofs.Common.{◌≡◌, ◌∙◌, sym, ap, true, false, length, rules}
 use Rattle.jg_rules.specs.Names.{the_object, units_of}
 use Rattle.jg_rules.specs.Answers.{is_outside}
 use Rattle.jg_guard.proofs.groups.strings.answer_region.Goals as goal

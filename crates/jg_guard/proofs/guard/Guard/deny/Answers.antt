@@ -1,4 +1,4 @@
-use Rattle.std.proofs.Common.{rules, ◌≡◌, ◌<◌, length, reverse, Some, subst, sym, ◌∙◌, ◌∷◌, List, arith}
+use Rattle.std.proofs.Common.{rules, ◌≡◌, ◌<◌, length, reverse, Some, subst, sym, ◌∷◌}
 use Rattle.jg_words.specs.declared.entry.Entry.{Entry}
 use Rattle.jg_rules.specs.Effects.{parts}
 use Rattle.jg_rules.specs.Rules.{verdict}

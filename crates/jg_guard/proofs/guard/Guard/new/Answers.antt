@@ -1,4 +1,4 @@
-use Rattle.std.proofs.Common.{rules, ◌∙◌, ◌≡◌, []}
+use Rattle.std.proofs.Common.{rules, ◌≡◌, []}
 use Rattle.jg_guard.proofs.guard.Guard.new.Goals as goal
 
 -- the empty journal is legal, and empty tables stand for it

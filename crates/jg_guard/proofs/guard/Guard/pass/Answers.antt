@@ -1,4 +1,4 @@
-use Rattle.std.proofs.Common.{rules, ◌≡◌, ◌<◌, length, reverse, None, subst, sym, ap, refl, ◌∙◌, ◌∷◌, List, arith}
+use Rattle.std.proofs.Common.{rules, ◌≡◌, ◌<◌, length, reverse, None, subst, sym, refl, ◌∷◌}
 use Rattle.jg_words.specs.declared.entry.Entry.{Entry}
 use Rattle.jg_rules.specs.declared.answer.Answer.{Answer}
 use Rattle.jg_rules.specs.Answers.{answer}
