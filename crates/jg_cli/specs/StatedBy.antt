@@ -53,4 +53,5 @@ abbrev pub IsUnreadable : Option (List ℕ) → ℕ → Stop → Type 0
 IsUnreadable known told stop = (bytes : List ℕ) × Gives known bytes × HasNoText told bytes stop
 
 abbrev pub IsRefused : Option (List ℕ) → ℕ → Stop → Type 0
-IsRefused known told stop = (bytes : List ℕ) × Gives known bytes × (HasNoText told bytes stop ⊎ HasFault told bytes stop)
+IsRefused known told stop =
+    (bytes : List ℕ) × Gives known bytes × (HasNoText told bytes stop ⊎ HasFault told bytes stop)

@@ -52,7 +52,8 @@ entered_proper : (s : StatedSetup) (p : Parts) (t : Tid) (call : Call) (class fo
 entered_proper s p t call class None env = tt
 entered_proper s p t call class (Some o) env = (env, refl, refl)
 
-left_proper : (s : StatedSetup) (p : Parts) (t : Tid) (call : Call) (exception found : Option ℕ) → needs_env (fun_of call) ≡ true → ProperAnswer s p t call (unless_pending exception (handed p t Local found))
+left_proper : (s : StatedSetup) (p : Parts) (t : Tid) (call : Call) (exception found : Option ℕ) → needs_env (fun_of call) ≡ true
+    → ProperAnswer s p t call (unless_pending exception (handed p t Local found))
 left_proper s p t call None found env = local_proper s p t call found env
 left_proper s p t call (Some exception) found env = tt
 

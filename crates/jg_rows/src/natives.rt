@@ -69,7 +69,8 @@ T1 - DetachCurrentThread = ok
 /// A native method that ends with an exception pending returns null, and the exception stays.
 pub fn leave_with_an_exception_pending()
     ensures outcomes { ComesOut (two_modules Deny) rows.leave_with_an_exception_pending }
-    ensures journal { HasText (two_modules Deny) rows.leave_with_an_exception_pending LEAVE_WITH_AN_EXCEPTION_PENDING.now }
+    ensures journal { HasText (two_modules Deny) rows.leave_with_an_exception_pending
+        LEAVE_WITH_AN_EXCEPTION_PENDING.now }
 {}
 
 /// The journal of `leave_with_an_exception_pending`.

@@ -37,7 +37,8 @@ pub returns-clause-stands : goal.returns-clause-stands
 returns-clause-stands g c = λ p stands.
     let seen = stand_at _ _ _ _ p c.view.ensures.setup c.view.ensures.rows stands in
     let object = c.the_object-object.ensures p seen in
-    let target = points c.object_named-target.result (object_named p c.args.tid.0 c.args.value) (c.object_named-target.ensures p (stand_at _ _ _ _ p c.view-2.ensures.setup c.view-2.ensures.rows stands)) in
+    let target = points c.object_named-target.result (object_named p c.args.tid.0 c.args.value)
+    (c.object_named-target.ensures p (stand_at _ _ _ _ p c.view-2.ensures.setup c.view-2.ensures.rows stands)) in
     let place : c.natural.result ≡ natural c.args.index = search rules in
     record {
       threads = stands.threads;
