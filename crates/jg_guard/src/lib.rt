@@ -11,6 +11,3 @@ mod settle;
 mod tables;
 
 pub use guard::{Guard, Refusal};
-
-#[cfg(test)]
-mod tests;

@@ -16,6 +16,3 @@ pub use replay::{Verdict, verify};
 pub use run::check;
 pub use run_fault::RunFault;
 pub use watched::{DeviceFailed, Watched};
-
-#[cfg(test)]
-mod tests;

@@ -1,57 +1,11 @@
-use crate::{RunFault, ScriptFault, Verdict, Watched, check, verify};
+use super::devices::{Broken, Slow, Trickle};
+use super::{CLOSED, FIRST_PATH, FIRST_PATH_ANSWERED, setup};
 use jg_guard::Guard;
-use jg_policy::Setup;
+use jg_script::{RunFault, ScriptFault, Watched, check};
 use linked_list_allocator::LocalHeap;
 use std::alloc::Global;
-use std::io;
-use std::io::{BufRead, BufReader, BufWriter, ErrorKind, Read, Write};
+use std::io::{BufRead, BufReader, BufWriter};
 use std::test::Fail;
-
-/// A writer that takes one byte at a time, and has room for so many.
-#[derive(Drop)]
-struct Trickle {
-    bytes: Vec<u8>,
-    room: usize,
-}
-
-impl Write for Trickle {
-    fn write(&mut self, buf: &[u8]) -> io::Result<usize> {
-        match buf {
-            [first, ..] if self.bytes.len() < self.room => {
-                self.bytes.push(*first)?;
-                Ok(1)
-            }
-            _ => Ok(0),
-        }
-    }
-
-    fn flush(&mut self) -> io::Result<()> {
-        Ok(())
-    }
-}
-
-/// A reader that fails once its bytes are read.
-#[derive(Drop)]
-struct Broken<'a> {
-    bytes: &'a [u8],
-}
-
-impl Read for Broken<'_> {
-    fn read(&mut self, buf: &mut [u8]) -> io::Result<usize> {
-        if self.bytes.is_empty() {
-            return Err(io::Error::from(ErrorKind::BrokenPipe));
-        }
-        self.bytes.read(buf)
-    }
-}
-
-/// The setup that denies native access and states nothing else.
-fn closed(alloc: Global) -> Result<Setup, Fail> {
-    match Setup::read(alloc, "version = 1\nillegal_native_access = \"deny\"\n") {
-        Ok(setup) => Ok(setup),
-        Err(_) => Err(Fail::from("the setup isn't one")),
-    }
-}
 
 /// What `check` answers to the script, what it wrote, and whether the reader and the writer failed.
 #[derive(Drop)]
@@ -63,7 +17,7 @@ struct Done {
 }
 
 fn run<R: BufRead + Drop>(alloc: Global, script: R, limit: u32, room: usize) -> Result<Done, Fail> {
-    let mut guard = Guard::new(alloc, alloc, closed(alloc)?, limit)?;
+    let mut guard = Guard::new(alloc, alloc, setup(alloc, CLOSED)?, limit)?;
     let mut reader = Watched::new(script);
     let mut writer = Watched::new(Trickle {
         bytes: Vec::new(alloc),
@@ -82,22 +36,6 @@ fn run<R: BufRead + Drop>(alloc: Global, script: R, limit: u32, room: usize) -> 
         writer_failed,
     })
 }
-
-const FIRST_PATH: &str = "T1 - AttachCurrentThread
-T1 E1.1 NewString [72,105]
-T1 E1.1 GetStringLength L1.1
-T1 E1.1 DeleteLocalRef L1.1
-T1 E1.1 GetStringLength L1.1
-T1 - DetachCurrentThread
-";
-
-const FIRST_PATH_ANSWERED: &str = "T1 - AttachCurrentThread = E1.1
-T1 E1.1 NewString [72,105] = L1.1
-T1 E1.1 GetStringLength L1.1 = 2
-T1 E1.1 DeleteLocalRef L1.1 = ok
-T1 E1.1 GetStringLength L1.1 = deny 6 DeadReference
-T1 - DetachCurrentThread = ok
-";
 
 #[test]
 fn scripts_are_answered(rt: HostRuntime) -> Result<(), Fail> {
@@ -147,25 +85,6 @@ fn scripts_are_answered(rt: HostRuntime) -> Result<(), Fail> {
     Ok(())
 }
 
-/// A reader that hands out one byte at a time.
-#[derive(Drop)]
-struct Slow<'a> {
-    bytes: &'a [u8],
-}
-
-impl Read for Slow<'_> {
-    fn read(&mut self, buf: &mut [u8]) -> io::Result<usize> {
-        match (self.bytes, buf) {
-            ([byte, rest @ ..], [place, ..]) => {
-                *place = *byte;
-                self.bytes = rest;
-                Ok(1)
-            }
-            _ => Ok(0),
-        }
-    }
-}
-
 // With no buffer nothing is shown before it is read.
 #[test]
 fn a_slow_reader_does_not_fail(rt: HostRuntime) -> Result<(), Fail> {
@@ -179,10 +98,6 @@ fn a_slow_reader_does_not_fail(rt: HostRuntime) -> Result<(), Fail> {
             "at {capacity}"
         );
         assert!(rt; !done.reader_failed && !done.writer_failed, "at {capacity}");
-        let bytes = FIRST_PATH_ANSWERED.as_bytes();
-        let reader = BufReader::with_capacity(rt.alloc(), capacity, Slow { bytes })?;
-        let answer = read_back(rt.alloc(), reader, 10)?;
-        assert_eq!(rt; answer, (Ok(Verdict::Legal), false), "at {capacity}");
     }
     Ok(())
 }
@@ -221,7 +136,7 @@ fn a_flush_reaches_the_device_or_fails(rt: HostRuntime) -> Result<(), Fail> {
     let mut bytes = Vec::new(rt.alloc());
     let mut writer = Watched::new(BufWriter::new(rt.alloc(), &mut bytes)?);
     let script = FIRST_PATH.as_bytes();
-    let mut guard = Guard::new(rt.alloc(), rt.alloc(), closed(rt.alloc())?, 10)?;
+    let mut guard = Guard::new(rt.alloc(), rt.alloc(), setup(rt.alloc(), CLOSED)?, 10)?;
     assert_eq!(rt; guard.journal_len(), 0);
     assert_eq!(rt;
         check(
@@ -239,7 +154,7 @@ fn a_flush_reaches_the_device_or_fails(rt: HostRuntime) -> Result<(), Fail> {
         room: 0,
     };
     let mut writer = Watched::new(BufWriter::new(rt.alloc(), full)?);
-    let mut guard = Guard::new(rt.alloc(), rt.alloc(), closed(rt.alloc())?, 10)?;
+    let mut guard = Guard::new(rt.alloc(), rt.alloc(), setup(rt.alloc(), CLOSED)?, 10)?;
     assert_eq!(rt; guard.journal_len(), 0);
     assert_eq!(rt;
         check(
@@ -327,7 +242,7 @@ fn a_refused_growth_names_its_line(rt: HostRuntime) -> Result<(), Fail> {
         script.extend_from_slice(line)?;
     }
     let heap = LocalHeap::new(rt.alloc(), 20_000)?;
-    let mut guard = Guard::new(&heap, rt.alloc(), closed(rt.alloc())?, 1000)?;
+    let mut guard = Guard::new(&heap, rt.alloc(), setup(rt.alloc(), CLOSED)?, 1000)?;
     assert_eq!(rt; guard.journal_len(), 0);
     let mut reader = Watched::new(script.as_slice());
     let mut writer = Watched::new(Vec::new(rt.alloc()));
@@ -344,92 +259,5 @@ fn a_refused_growth_names_its_line(rt: HostRuntime) -> Result<(), Fail> {
         guard.journal_len().saturating_mul(answer.len())
     );
     assert!(rt; written.starts_with(answer) && written.ends_with(answer));
-    Ok(())
-}
-
-/// What `verify` answers to the text, and whether the reader failed.
-fn read_back<R: BufRead + Drop>(
-    alloc: Global,
-    text: R,
-    limit: u32,
-) -> Result<(Result<Verdict, RunFault>, bool), Fail> {
-    let mut reader = Watched::new(text);
-    let result = verify(alloc, alloc, closed(alloc)?, limit, &mut reader);
-    Ok((result, reader.has_failed()))
-}
-
-const DOUBLED: &str = "T1 - AttachCurrentThread = E1.1
-T1 - AttachCurrentThread = E1.1
-T1 E1.1 NewString [] = L1.1
-T1 E1.1 NewString [] = L1.1
-";
-
-#[test]
-fn journals_are_read_back(rt: HostRuntime) -> Result<(), Fail> {
-    let altered = "T1 - AttachCurrentThread = E1.1\nT1 E1.1 NewString [72,105] = L1.2\n";
-    let (cut, _) = FIRST_PATH_ANSWERED.split_at(FIRST_PATH_ANSWERED.len() - 1);
-    let readings = [
-        ("", 0, Ok(Verdict::Legal)),
-        (FIRST_PATH_ANSWERED, 6, Ok(Verdict::Legal)),
-        (altered, 10, Ok(Verdict::Differs(2))),
-        (DOUBLED, 10, Ok(Verdict::Differs(4))),
-        (cut, 10, Ok(Verdict::Differs(6))),
-        (FIRST_PATH_ANSWERED, 5, Err(RunFault::Limit { line: 6 })),
-        (cut, 5, Err(RunFault::Limit { line: 6 })),
-        (FIRST_PATH, 10, Ok(Verdict::Differs(1))),
-        ("T1 - GetEnv = ", 0, Err(RunFault::Limit { line: 1 })),
-        ("T1 - GetEnv =", 0, Ok(Verdict::Differs(1))),
-        ("T1 - GetEnv 1 = ", 0, Ok(Verdict::Differs(1))),
-        ("T01 - GetEnv = detached\n", 10, Ok(Verdict::Differs(1))),
-        ("\n", 10, Ok(Verdict::Differs(1))),
-        ("\n", 0, Ok(Verdict::Differs(1))),
-    ];
-    for (text, limit, result) in readings {
-        let (answer, failed) = read_back(rt.alloc(), text.as_bytes(), limit)?;
-        assert_eq!(rt; answer, result, "at `{text}`");
-        assert!(rt; !failed, "at `{text}`");
-    }
-    Ok(())
-}
-
-#[test]
-fn a_long_line_past_the_limit_is_past_the_limit(rt: HostRuntime) -> Result<(), Fail> {
-    let mut text = Vec::new(rt.alloc());
-    text.extend_from_slice(b"T1 - GetEnv = ".as_slice())?;
-    for _ in 0..70_000u32 {
-        text.push(200)?;
-    }
-    let past = Err(RunFault::Limit { line: 1 });
-    assert_eq!(rt; read_back(rt.alloc(), text.as_slice(), 0)?, (past, false));
-    let differs = Ok(Verdict::Differs(1));
-    assert_eq!(rt;
-        read_back(rt.alloc(), text.as_slice(), 1)?,
-        (differs, false)
-    );
-    Ok(())
-}
-
-#[test]
-fn a_journal_cannot_be_read(rt: HostRuntime) -> Result<(), Fail> {
-    let bytes = b"T1 - GetEnv = detached\nT1 - G".as_slice();
-    let unread = Err(RunFault::Read { line: 2 });
-    let reader = BufReader::with_capacity(rt.alloc(), 7, Broken { bytes })?;
-    assert_eq!(rt; read_back(rt.alloc(), reader, 10)?, (unread, true));
-    Ok(())
-}
-
-#[test]
-fn a_refused_growth_ends_a_reading(rt: HostRuntime) -> Result<(), Fail> {
-    let mut text = Vec::new(rt.alloc());
-    for _ in 0..1000u32 {
-        text.extend_from_slice(b"T1 - GetEnv = detached\n".as_slice())?;
-    }
-    let heap = LocalHeap::new(rt.alloc(), 20_000)?;
-    let mut reader = Watched::new(text.as_slice());
-    match verify(rt.alloc(), &heap, closed(rt.alloc())?, 1000, &mut reader) {
-        Err(RunFault::NoMemory { line }) => assert!(rt; line > 1),
-        _ => assert!(rt; false, "no growth is refused"),
-    }
-    assert!(rt; !reader.has_failed());
     Ok(())
 }

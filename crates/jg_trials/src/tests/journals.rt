@@ -1,0 +1,112 @@
+use super::devices::{Broken, Slow};
+use super::{CLOSED, FIRST_PATH, FIRST_PATH_ANSWERED, setup};
+use jg_script::{RunFault, Verdict, Watched, verify};
+use linked_list_allocator::LocalHeap;
+use std::alloc::Global;
+use std::io::{BufRead, BufReader};
+use std::test::Fail;
+
+/// What `verify` answers to the text, and whether the reader failed.
+fn read_back<R: BufRead + Drop>(
+    alloc: Global,
+    text: R,
+    limit: u32,
+) -> Result<(Result<Verdict, RunFault>, bool), Fail> {
+    let mut reader = Watched::new(text);
+    let result = verify(alloc, alloc, setup(alloc, CLOSED)?, limit, &mut reader);
+    Ok((result, reader.has_failed()))
+}
+
+const DOUBLED: &str = "T1 - AttachCurrentThread = E1.1
+T1 - AttachCurrentThread = E1.1
+T1 E1.1 NewString [] = L1.1
+T1 E1.1 NewString [] = L1.1
+";
+
+#[test]
+fn journals_are_read_back(rt: HostRuntime) -> Result<(), Fail> {
+    let altered = "T1 - AttachCurrentThread = E1.1\nT1 E1.1 NewString [72,105] = L1.2\n";
+    let (cut, _) = FIRST_PATH_ANSWERED.split_at(FIRST_PATH_ANSWERED.len() - 1);
+    let readings = [
+        ("", 0, Ok(Verdict::Legal)),
+        (FIRST_PATH_ANSWERED, 6, Ok(Verdict::Legal)),
+        (altered, 10, Ok(Verdict::Differs(2))),
+        (DOUBLED, 10, Ok(Verdict::Differs(4))),
+        (cut, 10, Ok(Verdict::Differs(6))),
+        (FIRST_PATH_ANSWERED, 5, Err(RunFault::Limit { line: 6 })),
+        (cut, 5, Err(RunFault::Limit { line: 6 })),
+        (FIRST_PATH, 10, Ok(Verdict::Differs(1))),
+        ("T1 - GetEnv = ", 0, Err(RunFault::Limit { line: 1 })),
+        ("T1 - GetEnv =", 0, Ok(Verdict::Differs(1))),
+        ("T1 - GetEnv 1 = ", 0, Ok(Verdict::Differs(1))),
+        ("T01 - GetEnv = detached\n", 10, Ok(Verdict::Differs(1))),
+        ("\n", 10, Ok(Verdict::Differs(1))),
+        ("\n", 0, Ok(Verdict::Differs(1))),
+    ];
+    for (text, limit, result) in readings {
+        let (answer, failed) = read_back(rt.alloc(), text.as_bytes(), limit)?;
+        assert_eq!(rt; answer, result, "at `{text}`");
+        assert!(rt; !failed, "at `{text}`");
+    }
+    Ok(())
+}
+
+// With no buffer nothing is shown before it is read.
+#[test]
+fn a_slow_journal_is_read_back(rt: HostRuntime) -> Result<(), Fail> {
+    for capacity in [0, 1, 7] {
+        let bytes = FIRST_PATH_ANSWERED.as_bytes();
+        let reader = BufReader::with_capacity(rt.alloc(), capacity, Slow { bytes })?;
+        let answer = read_back(rt.alloc(), reader, 10)?;
+        assert_eq!(rt; answer, (Ok(Verdict::Legal), false), "at {capacity}");
+    }
+    Ok(())
+}
+
+#[test]
+fn a_long_line_past_the_limit_is_past_the_limit(rt: HostRuntime) -> Result<(), Fail> {
+    let mut text = Vec::new(rt.alloc());
+    text.extend_from_slice(b"T1 - GetEnv = ".as_slice())?;
+    for _ in 0..70_000u32 {
+        text.push(200)?;
+    }
+    let past = Err(RunFault::Limit { line: 1 });
+    assert_eq!(rt; read_back(rt.alloc(), text.as_slice(), 0)?, (past, false));
+    let differs = Ok(Verdict::Differs(1));
+    assert_eq!(rt;
+        read_back(rt.alloc(), text.as_slice(), 1)?,
+        (differs, false)
+    );
+    Ok(())
+}
+
+#[test]
+fn a_journal_cannot_be_read(rt: HostRuntime) -> Result<(), Fail> {
+    let bytes = b"T1 - GetEnv = detached\nT1 - G".as_slice();
+    let unread = Err(RunFault::Read { line: 2 });
+    let reader = BufReader::with_capacity(rt.alloc(), 7, Broken { bytes })?;
+    assert_eq!(rt; read_back(rt.alloc(), reader, 10)?, (unread, true));
+    Ok(())
+}
+
+#[test]
+fn a_refused_growth_ends_a_reading(rt: HostRuntime) -> Result<(), Fail> {
+    let mut text = Vec::new(rt.alloc());
+    for _ in 0..1000u32 {
+        text.extend_from_slice(b"T1 - GetEnv = detached\n".as_slice())?;
+    }
+    let heap = LocalHeap::new(rt.alloc(), 20_000)?;
+    let mut reader = Watched::new(text.as_slice());
+    match verify(
+        rt.alloc(),
+        &heap,
+        setup(rt.alloc(), CLOSED)?,
+        1000,
+        &mut reader,
+    ) {
+        Err(RunFault::NoMemory { line }) => assert!(rt; line > 1),
+        _ => assert!(rt; false, "no growth is refused"),
+    }
+    assert!(rt; !reader.has_failed());
+    Ok(())
+}
