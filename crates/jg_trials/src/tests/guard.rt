@@ -32,29 +32,65 @@ fn is_denied(answer: Result<Outcome, Refusal>, want: Rule) -> bool {
     }
 }
 
+fn is_past_the_limit(answer: Result<Outcome, Refusal>) -> bool {
+    match answer {
+        Ok(_) => false,
+        Err(Refusal::Limit(call)) => call == push_frame(),
+        Err(Refusal::NoMemory(_)) => false,
+    }
+}
+
+/// Whether judging a frame's push says that thread 1 is detached, and the call is denied by that.
+fn denies_the_detached(guard: &mut Guard) -> bool {
+    let call = push_frame();
+    let judged = guard.judge(T, None, &call);
+    let denied = is_denied(guard.call(T, None, call), Rule::Detached);
+    judged == Some(Rule::Detached) && denied
+}
+
+/// Whether judging an attachment says that it breaks no rule, and the call answers the environment.
+fn attaches(guard: &mut Guard) -> bool {
+    let call = attach();
+    let judged = guard.judge(T, None, &call);
+    let env = EnvId { tid: T, session: 1 };
+    let passed = is_passed(guard.call(T, None, call), Value::Environment(env));
+    judged.is_none() && passed
+}
+
+/// Whether a push passes, and the next one is past the limit.
+fn stops_at_its_limit(guard: &mut Guard) -> bool {
+    let passed = is_passed(guard.call(T, ENV, push_frame()), Value::Ok);
+    let stopped = is_past_the_limit(guard.call(T, ENV, push_frame()));
+    passed && stopped
+}
+
+/// Whether the journal has three entries, of which the first is the push that was denied.
+fn has_journaled(guard: &Guard) -> bool {
+    let is_first = match guard.journal_entry(0) {
+        None => false,
+        Some(first) => first.tid == T && first.env == None && first.call == push_frame(),
+    };
+    is_first && guard.journal_len() == 3 && guard.journal_entry(3).is_none()
+}
+
 /// What `judge` says is what `call` denies by; the journal has both entries.
 #[test]
 fn judges_answers_and_journals(rt: HostRuntime) -> Result<(), Fail> {
-    let mut guard = Guard::new(rt.alloc(), rt.alloc(), setup(rt.alloc(), CLOSED)?, 3)?;
+    let setup = setup(rt.alloc(), CLOSED)?;
+    let mut guard = Guard::new(rt.alloc(), rt.alloc(), setup, 3)?;
     assert_eq!(rt; guard.limit(), 3);
-    assert_eq!(rt; guard.judge(T, None, &push_frame()), Some(Rule::Detached));
-    assert!(rt; is_denied(guard.call(T, None, push_frame()), Rule::Detached));
-    assert_eq!(rt; guard.judge(T, None, &attach()), None);
-    let env = EnvId { tid: T, session: 1 };
-    assert!(rt; is_passed(guard.call(T, None, attach()), Value::Environment(env)));
-    assert!(rt; is_passed(guard.call(T, ENV, push_frame()), Value::Ok));
-    assert!(rt; guard.call(T, ENV, push_frame()) == Err(Refusal::Limit(push_frame())));
-    assert_eq!(rt; guard.journal_len(), 3);
-    let first = guard.journal_entry(0).ok_or("no entry")?;
-    assert!(rt; first.tid == T && first.env == None && first.call == push_frame());
-    assert!(rt; guard.journal_entry(3).is_none());
+    assert!(rt; denies_the_detached(&mut guard));
+    assert!(rt; attaches(&mut guard));
+    assert!(rt; stops_at_its_limit(&mut guard));
+    assert!(rt; has_journaled(&guard));
     Ok(())
 }
 
 /// A guard that can't be made drops what it was handed.
 #[test]
 fn a_guard_needs_room_for_its_class_objects(rt: HostRuntime) -> Result<(), Fail> {
+    let setup = setup(rt.alloc(), CLOSED)?;
     let heap = LocalHeap::new(rt.alloc(), 64)?;
-    assert!(rt; Guard::new(&heap, rt.alloc(), setup(rt.alloc(), CLOSED)?, 3).is_err());
+    assert!(rt; Guard::new(&heap, rt.alloc(), setup, 3).is_err());
     Ok(())
 }

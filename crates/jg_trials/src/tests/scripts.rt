@@ -4,7 +4,7 @@ use jg_guard::Guard;
 use jg_script::{RunFault, ScriptFault, Watched, check};
 use linked_list_allocator::LocalHeap;
 use std::alloc::Global;
-use std::io::{BufRead, BufReader, BufWriter};
+use std::io::{BufRead, BufReader, BufWriter, Write};
 use std::test::Fail;
 
 /// What `check` answers to the script, what it wrote, and whether the reader and the writer failed.
@@ -17,7 +17,8 @@ struct Done {
 }
 
 fn run<R: BufRead + Drop>(alloc: Global, script: R, limit: u32, room: usize) -> Result<Done, Fail> {
-    let mut guard = Guard::new(alloc, alloc, setup(alloc, CLOSED)?, limit)?;
+    let setup = setup(alloc, CLOSED)?;
+    let mut guard = Guard::new(alloc, alloc, setup, limit)?;
     let mut reader = Watched::new(script);
     let mut writer = Watched::new(Trickle {
         bytes: Vec::new(alloc),
@@ -131,40 +132,39 @@ fn lists_have_at_most_a_thousand_items(rt: HostRuntime) -> Result<(), Fail> {
     Ok(())
 }
 
+/// What a new guard answers to the script of the first path, with this writer.
+fn answers_the_first_path<W: Write + Drop>(
+    alloc: Global,
+    writer: &mut Watched<W>,
+) -> Result<Result<u64, RunFault>, Fail> {
+    let setup = setup(alloc, CLOSED)?;
+    let mut guard = Guard::new(alloc, alloc, setup, 10)?;
+    let mut reader = Watched::new(FIRST_PATH.as_bytes());
+    if guard.journal_len() == 0 {
+        Ok(check(alloc, &mut guard, &mut reader, writer))
+    } else {
+        Err(Fail::from("a new guard's journal isn't empty"))
+    }
+}
+
 #[test]
-fn a_flush_reaches_the_device_or_fails(rt: HostRuntime) -> Result<(), Fail> {
+fn a_flush_reaches_the_device(rt: HostRuntime) -> Result<(), Fail> {
     let mut bytes = Vec::new(rt.alloc());
     let mut writer = Watched::new(BufWriter::new(rt.alloc(), &mut bytes)?);
-    let script = FIRST_PATH.as_bytes();
-    let mut guard = Guard::new(rt.alloc(), rt.alloc(), setup(rt.alloc(), CLOSED)?, 10)?;
-    assert_eq!(rt; guard.journal_len(), 0);
-    assert_eq!(rt;
-        check(
-            rt.alloc(),
-            &mut guard,
-            &mut Watched::new(script),
-            &mut writer
-        ),
-        Ok(6)
-    );
+    assert_eq!(rt; answers_the_first_path(rt.alloc(), &mut writer)?, Ok(6));
     assert!(rt; writer.flush().is_ok() && !writer.has_failed());
     assert!(rt; writer.into_inner().into_parts().1.is_empty());
+    Ok(())
+}
+
+#[test]
+fn a_flush_fails_where_the_device_does(rt: HostRuntime) -> Result<(), Fail> {
     let full = Trickle {
         bytes: Vec::new(rt.alloc()),
         room: 0,
     };
     let mut writer = Watched::new(BufWriter::new(rt.alloc(), full)?);
-    let mut guard = Guard::new(rt.alloc(), rt.alloc(), setup(rt.alloc(), CLOSED)?, 10)?;
-    assert_eq!(rt; guard.journal_len(), 0);
-    assert_eq!(rt;
-        check(
-            rt.alloc(),
-            &mut guard,
-            &mut Watched::new(script),
-            &mut writer
-        ),
-        Ok(6)
-    );
+    assert_eq!(rt; answers_the_first_path(rt.alloc(), &mut writer)?, Ok(6));
     assert!(rt; writer.flush().is_err() && writer.has_failed());
     Ok(())
 }
@@ -233,31 +233,39 @@ fn faults_have_their_texts(rt: HostRuntime) -> Result<(), Fail> {
     Ok(())
 }
 
+/// What a guard over this heap answers to the script, and how many entries it journaled.
+fn answers_over(
+    alloc: Global,
+    heap: &LocalHeap,
+    script: &[u8],
+    written: &mut Vec<u8>,
+) -> Result<(Result<u64, RunFault>, usize), Fail> {
+    let setup = setup(alloc, CLOSED)?;
+    let mut guard = Guard::new(heap, alloc, setup, 1000)?;
+    let mut reader = Watched::new(script);
+    let mut writer = Watched::new(written);
+    if guard.journal_len() == 0 {
+        let result = check(alloc, &mut guard, &mut reader, &mut writer);
+        Ok((result, guard.journal_len()))
+    } else {
+        Err(Fail::from("a new guard's journal isn't empty"))
+    }
+}
+
 #[test]
 fn a_refused_growth_names_its_line(rt: HostRuntime) -> Result<(), Fail> {
-    let line = b"T1 - GetEnv\n".as_slice();
     let answer = b"T1 - GetEnv = detached\n".as_slice();
     let mut script = Vec::new(rt.alloc());
     for _ in 0..1000u32 {
-        script.extend_from_slice(line)?;
+        script.extend_from_slice(b"T1 - GetEnv\n".as_slice())?;
     }
     let heap = LocalHeap::new(rt.alloc(), 20_000)?;
-    let mut guard = Guard::new(&heap, rt.alloc(), setup(rt.alloc(), CLOSED)?, 1000)?;
-    assert_eq!(rt; guard.journal_len(), 0);
-    let mut reader = Watched::new(script.as_slice());
-    let mut writer = Watched::new(Vec::new(rt.alloc()));
-    match check(rt.alloc(), &mut guard, &mut reader, &mut writer) {
-        Err(RunFault::NoMemory { line }) => {
-            assert!(rt; line > 1);
-            assert_eq!(rt; (guard.journal_len() as u64).saturating_add(1), line);
-        }
-        _ => assert!(rt; false, "no growth is refused"),
-    }
-    let written = writer.into_inner();
-    assert_eq!(rt;
-        written.len(),
-        guard.journal_len().saturating_mul(answer.len())
-    );
+    let mut written = Vec::new(rt.alloc());
+    let (result, count) = answers_over(rt.alloc(), &heap, &script, &mut written)?;
+    let line = (count as u64).saturating_add(1);
+    assert!(rt; count > 0);
+    assert_eq!(rt; result, Err(RunFault::NoMemory { line }));
+    assert_eq!(rt; written.len(), count.saturating_mul(answer.len()));
     assert!(rt; written.starts_with(answer) && written.ends_with(answer));
     Ok(())
 }
