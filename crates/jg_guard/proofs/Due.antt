@@ -1,6 +1,6 @@
 -- What the tables hold where a call is due, and how they stand after it.
-use Rattle.std.proofs.Common.{ℕ, ◌≡◌, ◌+◌, ◌<◌, ◌≤◌, ◌^◌, Bool, true, false, List, ◌++◌, map, length, Option, Some, None, refl, ap, ◌∙◌, sym, subst, arith, length-append}
-use Rattle.std.specs.Prelude.{◌==◌, All, IsNone, IsTrue}
+use Rattle.std.proofs.Common.{ℕ, ◌≡◌, ◌+◌, ◌<◌, ◌≤◌, ◌^◌, Bool, true, false, List, ◌++◌, map, length, Option, Some, None, refl, ap, ◌∙◌, sym, subst, arith, length-append, eqb-true}
+use Rattle.std.specs.Prelude.{◌==◌, ◌&&◌, ◌||◌, not, All, IsNone, IsTrue}
 use Rattle.std.proofs.lemmas.Bool.Decides.{nat_tests}
 use Rattle.std.proofs.lemmas.List.{length-map}
 use Rattle.jg_words.specs.Call.{fun_of}
@@ -23,11 +23,18 @@ use Rattle.jg_locals.specs.Rows.{Rows, HasFrame, pushed, entered, top, spare}
 use Rattle.jg_locals.specs.Standing as local_standing
 use Rattle.jg_locals.proofs.Callers.{has_frame_law, above_law, pushed_law, entered_law, top_is}
 use Rattle.jg_globals.proofs.Callers.{above_law as global_above_law}
+use Rattle.jg_monitors.specs.History as monitors
+use Rattle.jg_monitors.specs.Rows as monitor_rows
+use Rattle.jg_monitors.specs.Standing as monitor_standing
+use Rattle.jg_monitors.proofs.Callers.{rows_tell_law, bounded_law}
 use Rattle.jg_rules.specs.Parts.{Parts, TableRows, TablesStand}
-use Rattle.jg_rules.specs.Names.{next_ref, open_frames, depth as depth_of}
+use Rattle.jg_rules.specs.Names.{next_ref, open_frames, object_in, depth as depth_of}
+use Rattle.std.specs.Option.{unwrap_or}
 use Rattle.jg_rules.specs.Effects.{done_by, done_if, is_effective, settled, passed_on, call_threads}
 use Rattle.jg_rules.specs.Access.{native_class, home_of}
-use Rattle.jg_rules.specs.Rules.{detached}
+use Rattle.jg_rules.specs.declared.named.Named.{Named}
+use Rattle.jg_rules.specs.declared.named.Named.TheVariants.{Nothing, Null as NamesNull, Object}
+use Rattle.jg_rules.specs.Rules.{detached, is_nothing, is_null, is_by, is_not_owned}
 use Rattle.jg_rules.specs.Unbroken.{Unbroken}
 use Rattle.jg_rules.specs.Answers.{answer}
 use Rattle.jg_rules.specs.declared.answer.Answer.{Answer}
@@ -99,6 +106,26 @@ can_leave_native p rows t stands is =
     let row = ap (λ (r : Row). r.depth) (stands.threads t) in
     let deep = some_frame (depth_of p t) is in
     omega (arith, row, deep)
+
+-- a monitor may be entered once more
+pub can_own : (p : Parts) (rows : monitor_rows.Rows) (o : ℕ) → IsOrdinary p → monitor_standing.Stands rows p.monitors
+    → monitor_rows.count_in (monitor_rows.row_of o rows) < 18446744073709551615
+can_own p rows o ordinary stands = omega (arith, (rows_tell_law rows p.monitors o stands).count, bounded_law p.monitors o, ordinary.few_monitors)
+
+own_owner : (b : Bool) (owner t : ℕ) → (owner == t) ≡ b → not b ≡ false → Some owner ≡ Some t
+own_owner true owner t is own = ap Some (eqb-true owner t is)
+own_owner false owner t is own = absurd cc
+
+owned_by : (found : Option ℕ) (t : ℕ) → not (is_by t found) ≡ false → found ≡ Some t
+owned_by None t own = absurd cc
+owned_by (Some owner) t own = own_owner (owner == t) owner t refl own
+
+-- a monitor that the caller owns is its own in the rows, too
+pub owns : (p : Parts) (rows : monitor_rows.Rows) (t : ℕ) (named : Named) (a b : Bool) → monitor_standing.Stands rows p.monitors → (is_nothing named || a) ≡ false
+    → ((true && is_null named) || b) ≡ false → is_not_owned p t (object_in named) ≡ false → monitor_rows.owner_in (monitor_rows.row_of (unwrap_or (object_in named) 0) rows) ≡ Some t
+owns p rows t Nothing a b stands alive there own = absurd cc
+owns p rows t NamesNull a b stands alive there own = absurd cc
+owns p rows t (Object x) a b stands alive there own = (rows_tell_law rows p.monitors x.0 stands).owner ∙ owned_by (monitors.owner p.monitors x.0) t own
 
 -- ---- where the tables still stand
 

@@ -4,3 +4,4 @@ pub mod Arrays
 pub mod Fields
 pub mod Slots
 pub mod Linking
+pub mod Collecting

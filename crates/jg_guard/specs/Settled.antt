@@ -11,6 +11,8 @@ use Rattle.jg_heap.specs.History as heap
 use Rattle.jg_heap.specs.Making.{Plain}
 use Rattle.jg_rules.specs.Parts.{Parts}
 use Rattle.jg_rules.specs.Effects.{class_thrown, warning, deletes_local, linking, unlinking}
+use Rattle.jg_rules.specs.Holding.{roots, going}
+use Rattle.jg_policy.specs.Stated.{StatedSetup}
 use Rattle.std.specs.Prelude.{map}
 use Rattle.jg_words.specs.declared.reference.Ref.{Ref}
 
@@ -60,3 +62,10 @@ linked_on class native p = record p { links = linking class native ++ p.links }
 
 abbrev pub unlinked_on : Option ℕ → Parts → Parts
 unlinked_on class p = record p { links = unlinking class ++ p.links }
+
+-- what nothing held went, and weak references to it were cleared
+abbrev pub collected_on : StatedSetup → Parts → Parts
+collected_on s p = record p {
+  globals = map (λ o. globals.Clear o) (going s p) ++ p.globals;
+  heap = heap.Collected (roots s p) ∷ p.heap;
+}

@@ -9,6 +9,7 @@ ghost use Rattle.jg_guard.specs.Tables.{IsDue};
 use crate::groups::arrays::answer_arrays;
 use crate::groups::exceptions::answer_exceptions;
 use crate::groups::frames::answer_frames;
+use crate::groups::monitors::answer_monitors;
 use crate::groups::objects::answer_objects;
 use crate::groups::refs::answer_refs;
 use crate::groups::strings::answer_strings;
@@ -17,9 +18,11 @@ use jg_rules::{Answer, View};
 use jg_words::{Call, Tid};
 use std::alloc::{AllocError, Allocator, Global};
 
-/// What the call answers, where it breaks no rule. `lists` is for the items of a list answer.
+/// What the call answers, where it breaks no rule. `alloc` is for the collector's marks, `lists` for
+/// the items of a list answer.
 pub(crate) fn answer_to<A: Allocator + Clone>(
     view: &View<'_, A>,
+    alloc: A,
     lists: Global,
     tid: Tid,
     call: &Call,
@@ -29,12 +32,13 @@ pub(crate) fn answer_to<A: Allocator + Clone>(
         → given ≡ answer view.now.setup.now p tid call.now) }
 {
     match call {
-        Call::Vm(call) => Ok(answer_vm(view, tid, call)),
+        Call::Vm(call) => answer_vm(view, alloc, tid, call),
         Call::Refs(call) => Ok(answer_refs(view, tid, call)),
         Call::Frames(call) => Ok(answer_frames(view, tid, call)),
         Call::Exceptions(call) => Ok(answer_exceptions(view, tid, call)),
         Call::Objects(call) => Ok(answer_objects(view, tid, call)),
         Call::Strings(call) => answer_strings(view, lists, tid, call),
         Call::Arrays(call) => answer_arrays(view, lists, tid, call),
+        Call::Monitors(call) => Ok(answer_monitors(view, tid, call)),
     }
 }

@@ -3,6 +3,7 @@
 pub(crate) mod arrays;
 pub(crate) mod exceptions;
 pub(crate) mod frames;
+pub(crate) mod monitors;
 pub(crate) mod objects;
 pub(crate) mod refs;
 pub(crate) mod strings;

@@ -154,8 +154,11 @@ impl<A: Allocator + Clone> Guard<A> {
         ensures err { OnErr result (self.new ≡ self.old) }
         ensures back { IfErr result (λ refusal. refusal ≡ Refusal.NoMemory call) }
     {
+        let Ok(alloc) = self.tables.alloc.clone() else {
+            return Err(Refusal::NoMemory(call));
+        };
         let view = self.tables.view(&self.setup);
-        let Ok(given) = answer_to(&view, self.tables.lists, tid, &call) else {
+        let Ok(given) = answer_to(&view, alloc, self.tables.lists, tid, &call) else {
             return Err(Refusal::NoMemory(call));
         };
         let Ok(value) = given.reply.value.try_copy() else {

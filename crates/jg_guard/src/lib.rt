@@ -3,6 +3,7 @@
 #![tactic(auto)]
 
 mod answer;
+mod collect;
 mod groups;
 mod guard;
 mod perform;

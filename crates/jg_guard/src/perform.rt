@@ -15,6 +15,7 @@ ghost use Rattle.jg_guard.specs.Tables.{rows_of, StillStand, IsAnswered, IsEffec
 use crate::groups::arrays::perform_arrays;
 use crate::groups::exceptions::perform_exceptions;
 use crate::groups::frames::perform_frames;
+use crate::groups::monitors::perform_monitors;
 use crate::groups::objects::perform_objects;
 use crate::groups::refs::perform_refs;
 use crate::groups::strings::perform_strings;
@@ -118,6 +119,10 @@ fn do_call<A: Allocator + Clone>(
         }
         Call::Arrays(call) => {
             perform_arrays(tables, setup, tid, call)?;
+            Ok(())
+        }
+        Call::Monitors(call) => {
+            perform_monitors(tables, setup, tid, call)?;
             Ok(())
         }
     }

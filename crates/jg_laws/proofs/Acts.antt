@@ -6,8 +6,8 @@ use Rattle.jg_words.specs.Call.{fun_of}
 use Rattle.jg_words.specs.Fun.{needs_env}
 use Rattle.jg_words.specs.declared.thread.EnvId.{EnvId}
 use Rattle.jg_words.specs.declared.call.Call.{Call}
-use Rattle.jg_words.specs.declared.call.Call.TheVariants.{Vm, Refs, Frames, Exceptions, Objects, Strings, Arrays}
-use Rattle.jg_words.specs.declared.call.vm.VmCall.TheVariants.{AttachCurrentThread, DetachCurrentThread, GetEnv, NativeEnter, NativeLeave, LoadLibrary, RegisterNatives, UnregisterNatives}
+use Rattle.jg_words.specs.declared.call.Call.TheVariants.{Vm, Refs, Frames, Exceptions, Objects, Strings, Arrays, Monitors}
+use Rattle.jg_words.specs.declared.call.vm.VmCall.TheVariants.{AttachCurrentThread, DetachCurrentThread, GetEnv, NativeEnter, NativeLeave, LoadLibrary, RegisterNatives, UnregisterNatives, Collect}
 use Rattle.jg_words.specs.declared.call.exceptions.ExceptionsCall.TheVariants.{Throw, ExceptionOccurred, ExceptionDescribe, ExceptionClear, ExceptionCheck}
 use Rattle.jg_policy.specs.Stated.{StatedSetup}
 use Rattle.jg_threads.specs.History.{Act, Attach, Detach, Enter, Leave, Raise, Calm, CountRef, CountBuffer, Event, by, acts_of, attached, refs, is_count_ref}
@@ -55,6 +55,7 @@ call_quiet s p t (Vm (NativeLeave kept)) = refl
 call_quiet s p t (Vm (LoadLibrary class library)) = refl
 call_quiet s p t (Vm (RegisterNatives class method signature)) = refl
 call_quiet s p t (Vm (UnregisterNatives class)) = refl
+call_quiet s p t (Vm Collect) = refl
 call_quiet s p t (Refs call) = refl
 call_quiet s p t (Frames call) = refl
 call_quiet s p t (Exceptions (Throw r)) = refl
@@ -65,6 +66,7 @@ call_quiet s p t (Exceptions ExceptionCheck) = refl
 call_quiet s p t (Objects call) = refl
 call_quiet s p t (Strings call) = refl
 call_quiet s p t (Arrays call) = refl
+call_quiet s p t (Monitors call) = refl
 
 pub next_done : (s : StatedSetup) (p : Parts) (t : ℕ) (call : Call) (u : ℕ) → next_ref (done_by s t call p) u ≡ next_ref p u
 next_done s p t call u = ap (λ n. n + 1) (refs_quiet p.threads t (call_threads s p t call) (call_quiet s p t call) u)
@@ -105,6 +107,7 @@ call_stays s p t (Vm (NativeLeave kept)) env = refl
 call_stays s p t (Vm (LoadLibrary class library)) env = refl
 call_stays s p t (Vm (RegisterNatives class method signature)) env = refl
 call_stays s p t (Vm (UnregisterNatives class)) env = refl
+call_stays s p t (Vm Collect) env = refl
 call_stays s p t (Refs call) env = refl
 call_stays s p t (Frames call) env = refl
 call_stays s p t (Exceptions (Throw r)) env = refl
@@ -115,6 +118,7 @@ call_stays s p t (Exceptions ExceptionCheck) env = refl
 call_stays s p t (Objects call) env = refl
 call_stays s p t (Strings call) env = refl
 call_stays s p t (Arrays call) env = refl
+call_stays s p t (Monitors call) env = refl
 
 pub attached_done : (s : StatedSetup) (p : Parts) (t : ℕ) (call : Call) → needs_env (fun_of call) ≡ true → attached (acts_of t p.threads) ≡ true
     → attached (acts_of t (done_by s t call p).threads) ≡ true

@@ -8,3 +8,10 @@ pub mod WithoutDenied
 pub mod Replays
 pub mod Fresh
 pub mod Natives
+pub mod Owners
+pub mod Referring
+pub mod Here
+pub mod NothingGone
+pub mod HandsHere
+pub mod StatedFields
+pub mod HandedHere

@@ -9,7 +9,8 @@ use Rattle.jg_words.specs.declared.value.Value.TheVariants.{Throw as Threw}
 use Rattle.jg_words.specs.declared.value.Thrown.{Thrown}
 use Rattle.jg_words.specs.declared.value.Thrown.TheVariants.{ArrayIndexOutOfBounds, StringIndexOutOfBounds, NoClassDefFound, NoSuchField, NoSuchMethod}
 use Rattle.jg_words.specs.declared.call.Call.{Call}
-use Rattle.jg_words.specs.declared.call.Call.TheVariants.{Vm, Refs, Frames, Exceptions, Objects, Strings, Arrays}
+use Rattle.jg_words.specs.declared.call.Call.TheVariants.{Vm, Refs, Frames, Exceptions, Objects, Strings, Arrays, Monitors}
+use Rattle.jg_words.specs.declared.call.vm.VmCall.TheVariants.{AttachCurrentThread, DetachCurrentThread, GetEnv, NativeEnter, NativeLeave, LoadLibrary, RegisterNatives, UnregisterNatives, Collect}
 use Rattle.jg_words.specs.declared.call.objects.ObjectsCall.TheVariants.{FindClass, GetObjectClass, IsInstanceOf, AllocObject, GetFieldID, GetField, GetObjectField, SetField, SetObjectField}
 use Rattle.jg_words.specs.declared.call.strings.StringsCall.TheVariants.{NewString, NewStringUTF, GetStringLength, GetStringUTFLength, GetStringRegion}
 use Rattle.jg_words.specs.declared.call.arrays.ArraysCall.TheVariants.{NewArray, GetArrayLength, GetArrayRegion, SetArrayRegion, NewObjectArray, GetObjectArrayElement, SetObjectArrayElement}
@@ -27,7 +28,7 @@ pub all_append : {X : Type 0} (P : X → Type 0) (xs ys : List X) → AllByRecur
 all_append P [] ys a b = b
 all_append P (x ∷ xs) ys a b = (a.0, all_append P xs ys a.1 b)
 
-array_class-le : (element : Primitive) → array_class element ≤ 9
+pub array_class-le : (element : Primitive) → array_class element ≤ 9
 array_class-le Boolean = omega arith
 array_class-le Byte = omega arith
 array_class-le Char = omega arith
@@ -40,7 +41,15 @@ region_stated s o j [] = tt
 region_stated s o j (v ∷ values) = all_append (MakesStated s) (region_writes o (j + 1) values) _ (region_stated s o (j + 1) values) (tt, tt)
 
 pub call_stated : (s : StatedSetup) (p : Parts) (t : ℕ) (call : Call) → AllByRecursion (MakesStated s) (call_heap s p t call)
-call_stated s p t (Vm call) = tt
+call_stated s p t (Vm AttachCurrentThread) = tt
+call_stated s p t (Vm DetachCurrentThread) = tt
+call_stated s p t (Vm GetEnv) = tt
+call_stated s p t (Vm (NativeEnter class method signature)) = tt
+call_stated s p t (Vm (NativeLeave kept)) = tt
+call_stated s p t (Vm (LoadLibrary class library)) = tt
+call_stated s p t (Vm (RegisterNatives class method signature)) = tt
+call_stated s p t (Vm (UnregisterNatives class)) = tt
+call_stated s p t (Vm Collect) = (tt, tt)
 call_stated s p t (Refs call) = tt
 call_stated s p t (Frames call) = tt
 call_stated s p t (Exceptions call) = tt
@@ -65,6 +74,7 @@ call_stated s p t (Arrays (SetArrayRegion element r start values)) = region_stat
 call_stated s p t (Arrays (NewObjectArray n class fill)) = (omega arith, tt)
 call_stated s p t (Arrays (GetObjectArrayElement r index)) = tt
 call_stated s p t (Arrays (SetObjectArrayElement r index value)) = (tt, tt)
+call_stated s p t (Monitors call) = tt
 
 pub thrown_stated : (s : StatedSetup) (kind : Thrown) → AllByRecursion (MakesStated s) (value_heap (Threw kind))
 thrown_stated s ArrayIndexOutOfBounds = (refl, tt)

@@ -2,17 +2,18 @@
 use Rattle.std.proofs.Common.{ℕ, pos, ◌≡◌, Bool, true, false, length, Option, Some, None, refl}
 use Rattle.jg_words.specs.declared.thread.Tid.{Tid}
 use Rattle.jg_words.specs.declared.object.FieldId.{FieldId}
-use Rattle.jg_words.specs.declared.reference.Kind.TheVariants.{Local, Global}
+use Rattle.jg_words.specs.declared.reference.Kind.TheVariants.{Local, Global, Weak}
 use Rattle.jg_words.specs.declared.value.Thrown.{Thrown}
 use Rattle.jg_words.specs.declared.call.Call.{Call}
-use Rattle.jg_words.specs.declared.call.Call.TheVariants.{Vm, Refs, Frames, Exceptions, Objects, Strings, Arrays}
-use Rattle.jg_words.specs.declared.call.vm.VmCall.TheVariants.{AttachCurrentThread, DetachCurrentThread, GetEnv, NativeEnter, NativeLeave, LoadLibrary, RegisterNatives, UnregisterNatives}
-use Rattle.jg_words.specs.declared.call.refs.RefsCall.TheVariants.{NewLocalRef, DeleteLocalRef, IsSameObject, GetObjectRefType}
+use Rattle.jg_words.specs.declared.call.Call.TheVariants.{Vm, Refs, Frames, Exceptions, Objects, Strings, Arrays, Monitors}
+use Rattle.jg_words.specs.declared.call.vm.VmCall.TheVariants.{AttachCurrentThread, DetachCurrentThread, GetEnv, NativeEnter, NativeLeave, LoadLibrary, RegisterNatives, UnregisterNatives, Collect}
+use Rattle.jg_words.specs.declared.call.refs.RefsCall.TheVariants.{NewLocalRef, NewGlobalRef, NewWeakGlobalRef, DeleteLocalRef, DeleteGlobalRef, DeleteWeakGlobalRef, IsSameObject, GetObjectRefType}
 use Rattle.jg_words.specs.declared.call.frames.FramesCall.TheVariants.{PushLocalFrame, PopLocalFrame}
 use Rattle.jg_words.specs.declared.call.exceptions.ExceptionsCall.TheVariants.{Throw, ExceptionOccurred, ExceptionDescribe, ExceptionClear, ExceptionCheck}
 use Rattle.jg_words.specs.declared.call.objects.ObjectsCall.TheVariants.{FindClass, GetObjectClass, IsInstanceOf, AllocObject, GetFieldID, GetField, GetObjectField, SetField, SetObjectField}
 use Rattle.jg_words.specs.declared.call.strings.StringsCall.TheVariants.{NewString, NewStringUTF, GetStringLength, GetStringUTFLength, GetStringRegion}
 use Rattle.jg_words.specs.declared.call.arrays.ArraysCall.TheVariants.{NewArray, GetArrayLength, GetArrayRegion, SetArrayRegion, NewObjectArray, GetObjectArrayElement, SetObjectArrayElement}
+use Rattle.jg_words.specs.declared.call.monitors.MonitorsCall.TheVariants.{MonitorEnter, MonitorExit}
 use Rattle.jg_words.specs.Call.{fun_of}
 use Rattle.jg_words.specs.Fun.{needs_env}
 use Rattle.jg_policy.specs.Stated.{StatedSetup}
@@ -21,7 +22,10 @@ use Rattle.jg_rules.specs.Parts.{Parts}
 use Rattle.jg_rules.specs.Names.{object_named, the_object, object_count, class_of, length_of, units_of, slot_of, target_in, session, pending, class_meant, native_meant, field_meant}
 use Rattle.jg_rules.specs.Effects.{done_by}
 use Rattle.jg_laws.specs.Proper.{ProperAnswer}
-use Rattle.jg_rules.specs.Answers.{answer, handed, present_env, plain, admitted, unless_pending, registered, class_found, field_found, field_value, or_outside, is_outside}
+use Rattle.jg_monitors.specs.History as monitors
+use Rattle.jg_monitors.specs.declared.entering.Entering.{Entering}
+use Rattle.jg_monitors.specs.declared.entering.Entering.TheVariants.{Entered, Busy}
+use Rattle.jg_rules.specs.Answers.{answer, entered, handed, present_env, plain, admitted, unless_pending, registered, class_found, field_found, field_value, or_outside, is_outside}
 use Rattle.jg_policy.specs.Classes.{class_named}
 use Rattle.jg_heap.specs.Reading.{natural}
 use Rattle.jg_words.specs.declared.value.Thrown.TheVariants.{ArrayIndexOutOfBounds, StringIndexOutOfBounds}
@@ -34,6 +38,15 @@ pub global_proper : (s : StatedSetup) (p : Parts) (t : Tid) (call : Call) (found
     → ProperAnswer s p t call (handed p t Global found)
 global_proper s p t call None env none = tt
 global_proper s p t call (Some o) env none = (env, refl, refl, none, refl)
+
+pub weak_proper : (s : StatedSetup) (p : Parts) (t : Tid) (call : Call) (found : Option ℕ) → needs_env (fun_of call) ≡ true → done_by s t.0 call p ≡ p
+    → ProperAnswer s p t call (handed p t Weak found)
+weak_proper s p t call None env none = tt
+weak_proper s p t call (Some o) env none = (env, refl, refl, none, refl)
+
+enter_proper : (s : StatedSetup) (p : Parts) (t : Tid) (call : Call) (e : Entering) → needs_env (fun_of call) ≡ true → ProperAnswer s p t call (plain (entered e))
+enter_proper s p t call Entered env = tt
+enter_proper s p t call Busy env = (env, refl)
 
 env_proper : (s : StatedSetup) (p : Parts) (t : Tid) (call : Call) (n : Option ℕ) → ProperAnswer s p t call (plain (present_env t n))
 env_proper s p t call None = tt
@@ -75,8 +88,13 @@ proper s p t (Vm (LoadLibrary class library)) = tt
 proper s p t (Vm (RegisterNatives class method signature)) =
     registered_proper s p t (Vm (RegisterNatives class method signature)) (class_meant s p t.0 class) (native_meant s (class_meant s p t.0 class) method signature) refl
 proper s p t (Vm (UnregisterNatives class)) = tt
+proper s p t (Vm Collect) = tt
 proper s p t (Refs (NewLocalRef r)) = local_proper s p t (Refs (NewLocalRef r)) (object_named p t.0 r) refl
+proper s p t (Refs (NewGlobalRef r)) = global_proper s p t (Refs (NewGlobalRef r)) (object_named p t.0 r) refl refl
+proper s p t (Refs (NewWeakGlobalRef r)) = weak_proper s p t (Refs (NewWeakGlobalRef r)) (object_named p t.0 r) refl refl
 proper s p t (Refs (DeleteLocalRef r)) = tt
+proper s p t (Refs (DeleteGlobalRef r)) = tt
+proper s p t (Refs (DeleteWeakGlobalRef r)) = tt
 proper s p t (Refs (IsSameObject r u)) = tt
 proper s p t (Refs (GetObjectRefType r)) = tt
 proper s p t (Frames (PushLocalFrame capacity)) = tt
@@ -114,3 +132,5 @@ proper s p t (Arrays (GetObjectArrayElement r index)) =
     (local_proper s p t (Arrays (GetObjectArrayElement r index)) (target_in (slot_of s p (the_object p t.0 r) (natural index))) refl)
 proper s p t (Arrays (SetObjectArrayElement r index value)) =
     outside_proper s p t (Arrays (SetObjectArrayElement r index value)) ArrayIndexOutOfBounds (is_outside index (pos 1) (length_of s p (the_object p t.0 r))) _ refl tt
+proper s p t (Monitors (MonitorEnter r)) = enter_proper s p t (Monitors (MonitorEnter r)) (monitors.entering t.0 (monitors.owner p.monitors (the_object p t.0 r))) refl
+proper s p t (Monitors (MonitorExit r)) = tt

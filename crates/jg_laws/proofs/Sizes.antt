@@ -12,10 +12,11 @@ use Rattle.jg_words.specs.declared.entry.Outcome.{Outcome}
 use Rattle.jg_words.specs.declared.entry.Outcome.TheVariants.{Passed, Denied}
 use Rattle.jg_words.specs.declared.entry.Entry.{Entry}
 use Rattle.jg_words.specs.declared.call.Call.{Call}
-use Rattle.jg_words.specs.declared.call.Call.TheVariants.{Vm, Refs, Frames, Exceptions, Objects, Strings, Arrays}
-use Rattle.jg_words.specs.declared.call.vm.VmCall.TheVariants.{AttachCurrentThread, DetachCurrentThread, GetEnv, NativeEnter, NativeLeave, LoadLibrary, RegisterNatives, UnregisterNatives}
-use Rattle.jg_words.specs.declared.call.refs.RefsCall.TheVariants.{NewLocalRef, DeleteLocalRef, IsSameObject, GetObjectRefType}
+use Rattle.jg_words.specs.declared.call.Call.TheVariants.{Vm, Refs, Frames, Exceptions, Objects, Strings, Arrays, Monitors}
+use Rattle.jg_words.specs.declared.call.vm.VmCall.TheVariants.{AttachCurrentThread, DetachCurrentThread, GetEnv, NativeEnter, NativeLeave, LoadLibrary, RegisterNatives, UnregisterNatives, Collect}
+use Rattle.jg_words.specs.declared.call.refs.RefsCall.TheVariants.{NewLocalRef, NewGlobalRef, NewWeakGlobalRef, DeleteLocalRef, DeleteGlobalRef, DeleteWeakGlobalRef, IsSameObject, GetObjectRefType}
 use Rattle.jg_words.specs.declared.call.frames.FramesCall.TheVariants.{PushLocalFrame, PopLocalFrame}
+use Rattle.jg_words.specs.declared.call.monitors.MonitorsCall.TheVariants.{MonitorEnter, MonitorExit}
 use Rattle.jg_words.specs.declared.call.exceptions.ExceptionsCall.TheVariants.{Throw, ExceptionOccurred, ExceptionDescribe, ExceptionClear, ExceptionCheck}
 use Rattle.jg_threads.specs.History as threads
 use Rattle.jg_locals.specs.History as locals
@@ -39,6 +40,7 @@ call_threads-le s p t (Vm (NativeLeave kept)) = omega arith
 call_threads-le s p t (Vm (LoadLibrary class library)) = omega arith
 call_threads-le s p t (Vm (RegisterNatives class method signature)) = omega arith
 call_threads-le s p t (Vm (UnregisterNatives class)) = omega arith
+call_threads-le s p t (Vm Collect) = omega arith
 call_threads-le s p t (Refs call) = omega arith
 call_threads-le s p t (Frames call) = omega arith
 call_threads-le s p t (Exceptions (Throw r)) = omega arith
@@ -49,6 +51,7 @@ call_threads-le s p t (Exceptions ExceptionCheck) = omega arith
 call_threads-le s p t (Objects call) = omega arith
 call_threads-le s p t (Strings call) = omega arith
 call_threads-le s p t (Arrays call) = omega arith
+call_threads-le s p t (Monitors call) = omega arith
 
 value_threads-le : (value : Value) (o : Option ObjId) → length (value_threads value o) ≤ 1
 value_threads-le (Reference r) o = omega arith
@@ -75,8 +78,13 @@ call_locals-le s p t (Vm (NativeLeave kept)) = omega arith
 call_locals-le s p t (Vm (LoadLibrary class library)) = omega arith
 call_locals-le s p t (Vm (RegisterNatives class method signature)) = omega arith
 call_locals-le s p t (Vm (UnregisterNatives class)) = omega arith
+call_locals-le s p t (Vm Collect) = omega arith
 call_locals-le s p t (Refs (NewLocalRef r)) = omega arith
+call_locals-le s p t (Refs (NewGlobalRef r)) = omega arith
+call_locals-le s p t (Refs (NewWeakGlobalRef r)) = omega arith
 call_locals-le s p t (Refs (DeleteLocalRef r)) = deletes_local-le r
+call_locals-le s p t (Refs (DeleteGlobalRef r)) = omega arith
+call_locals-le s p t (Refs (DeleteWeakGlobalRef r)) = omega arith
 call_locals-le s p t (Refs (IsSameObject r u)) = omega arith
 call_locals-le s p t (Refs (GetObjectRefType r)) = omega arith
 call_locals-le s p t (Frames (PushLocalFrame capacity)) = omega arith
@@ -85,6 +93,7 @@ call_locals-le s p t (Exceptions call) = omega arith
 call_locals-le s p t (Objects call) = omega arith
 call_locals-le s p t (Strings call) = omega arith
 call_locals-le s p t (Arrays call) = omega arith
+call_locals-le s p t (Monitors call) = omega arith
 
 value_locals-le : (value : Value) (o : Option ObjId) → length (value_locals value o) ≤ 1
 value_locals-le (Reference (To Local maker n)) (Some o) = omega arith
@@ -99,12 +108,15 @@ call_monitors-le s p t (Vm (NativeLeave kept)) = omega arith
 call_monitors-le s p t (Vm (LoadLibrary class library)) = omega arith
 call_monitors-le s p t (Vm (RegisterNatives class method signature)) = omega arith
 call_monitors-le s p t (Vm (UnregisterNatives class)) = omega arith
+call_monitors-le s p t (Vm Collect) = omega arith
 call_monitors-le s p t (Refs call) = omega arith
 call_monitors-le s p t (Frames call) = omega arith
 call_monitors-le s p t (Exceptions call) = omega arith
 call_monitors-le s p t (Objects call) = omega arith
 call_monitors-le s p t (Strings call) = omega arith
 call_monitors-le s p t (Arrays call) = omega arith
+call_monitors-le s p t (Monitors (MonitorEnter r)) = omega arith
+call_monitors-le s p t (Monitors (MonitorExit r)) = omega arith
 
 -- two short lists in front of a third
 in_front : {X Y : Type 0} (f : X → Y) (xs ys : List X) (zs : List Y) → length xs ≤ 1 → length ys ≤ 1 → length (map f xs ++ (map f ys ++ zs)) ≤ length zs + 2

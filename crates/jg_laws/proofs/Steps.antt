@@ -13,9 +13,9 @@ use Rattle.jg_words.specs.declared.value.Value.{Value}
 use Rattle.jg_words.specs.declared.value.Value.TheVariants.{Reference, Buffer as Lent, Throw as Threw}
 use Rattle.jg_words.specs.declared.entry.Entry.{Entry}
 use Rattle.jg_words.specs.declared.call.Call.{Call}
-use Rattle.jg_words.specs.declared.call.Call.TheVariants.{Vm, Refs, Frames, Exceptions, Objects, Strings, Arrays}
-use Rattle.jg_words.specs.declared.call.vm.VmCall.TheVariants.{AttachCurrentThread, DetachCurrentThread, GetEnv, NativeEnter, NativeLeave, LoadLibrary, RegisterNatives, UnregisterNatives}
-use Rattle.jg_words.specs.declared.call.refs.RefsCall.TheVariants.{NewLocalRef, DeleteLocalRef, IsSameObject, GetObjectRefType}
+use Rattle.jg_words.specs.declared.call.Call.TheVariants.{Vm, Refs, Frames, Exceptions, Objects, Strings, Arrays, Monitors}
+use Rattle.jg_words.specs.declared.call.vm.VmCall.TheVariants.{AttachCurrentThread, DetachCurrentThread, GetEnv, NativeEnter, NativeLeave, LoadLibrary, RegisterNatives, UnregisterNatives, Collect}
+use Rattle.jg_words.specs.declared.call.refs.RefsCall.TheVariants.{NewLocalRef, NewGlobalRef, NewWeakGlobalRef, DeleteLocalRef, DeleteGlobalRef, DeleteWeakGlobalRef, IsSameObject, GetObjectRefType}
 use Rattle.jg_words.specs.declared.call.frames.FramesCall.TheVariants.{PushLocalFrame, PopLocalFrame}
 use Rattle.jg_words.specs.declared.call.exceptions.ExceptionsCall.TheVariants.{Throw, ExceptionOccurred, ExceptionDescribe, ExceptionClear, ExceptionCheck}
 use Rattle.jg_policy.specs.Stated.{StatedSetup}
@@ -31,6 +31,7 @@ use Rattle.jg_rules.specs.Names.{next_ref, open_frames, depth, the_object}
 use Rattle.jg_rules.specs.Access.{native_class, home_of}
 use Rattle.jg_rules.specs.Effects.{parts, after, started, deletes_local, call_globals, call_buffers, call_monitors, call_heap, call_links, done_by, done_if, is_effective, warning, value_heap, settled}
 use Rattle.jg_rules.specs.Rules.{verdict}
+use Rattle.jg_rules.specs.Holding.{going}
 use Rattle.jg_rules.specs.Answers.{answer}
 use Rattle.jg_rules.specs.declared.answer.Answer.{Answer}
 use Rattle.jg_rules.specs.Legal.{Legal, answered, entry_at, entry_by}
@@ -94,14 +95,40 @@ elsewhere s t call p q = record q {
   links = call_links s p t call ++ q.links;
 }
 
+deletes_none : (r : Ref) → make_no_global (globals.deletion r) ≡ true
+deletes_none Null = refl
+deletes_none (To Local maker n) = refl
+deletes_none (To Global maker n) = refl
+deletes_none (To Weak maker n) = refl
+
+clears_none : (objects : List ℕ) → make_no_global (map (λ o. globals.Clear o) objects) ≡ true
+clears_none [] = refl
+clears_none (o ∷ objects) = clears_none objects
+
 makes_none : (s : StatedSetup) (p : Parts) (t : ℕ) (call : Call) → make_no_global (call_globals s p t call) ≡ true
-makes_none s p t (Vm call) = refl
-makes_none s p t (Refs call) = refl
+makes_none s p t (Vm AttachCurrentThread) = refl
+makes_none s p t (Vm DetachCurrentThread) = refl
+makes_none s p t (Vm GetEnv) = refl
+makes_none s p t (Vm (NativeEnter class method signature)) = refl
+makes_none s p t (Vm (NativeLeave kept)) = refl
+makes_none s p t (Vm (LoadLibrary class library)) = refl
+makes_none s p t (Vm (RegisterNatives class method signature)) = refl
+makes_none s p t (Vm (UnregisterNatives class)) = refl
+makes_none s p t (Vm Collect) = clears_none (going s p)
+makes_none s p t (Refs (NewLocalRef r)) = refl
+makes_none s p t (Refs (NewGlobalRef r)) = refl
+makes_none s p t (Refs (NewWeakGlobalRef r)) = refl
+makes_none s p t (Refs (DeleteLocalRef r)) = refl
+makes_none s p t (Refs (DeleteGlobalRef r)) = deletes_none r
+makes_none s p t (Refs (DeleteWeakGlobalRef r)) = deletes_none r
+makes_none s p t (Refs (IsSameObject r u)) = refl
+makes_none s p t (Refs (GetObjectRefType r)) = refl
 makes_none s p t (Frames call) = refl
 makes_none s p t (Exceptions call) = refl
 makes_none s p t (Objects call) = refl
 makes_none s p t (Strings call) = refl
 makes_none s p t (Arrays call) = refl
+makes_none s p t (Monitors call) = refl
 
 others : (P : Parts → Type 0) (s : StatedSetup) → Steps s P → (t : ℕ) (call : Call) (p q : Parts) → P q → P (elsewhere s t call p q)
 others P s steps t call p q old =
@@ -135,8 +162,13 @@ each_done P s steps p t env (Vm (NativeLeave kept_ref)) kept old =
 each_done P s steps p t env (Vm (LoadLibrary class library)) kept old = old
 each_done P s steps p t env (Vm (RegisterNatives class method signature)) kept old = others P s steps t (Vm (RegisterNatives class method signature)) p p old
 each_done P s steps p t env (Vm (UnregisterNatives class)) kept old = others P s steps t (Vm (UnregisterNatives class)) p p old
+each_done P s steps p t env (Vm Collect) kept old = others P s steps t (Vm Collect) p p old
 each_done P s steps p t env (Refs (NewLocalRef r)) kept old = old
+each_done P s steps p t env (Refs (NewGlobalRef r)) kept old = old
+each_done P s steps p t env (Refs (NewWeakGlobalRef r)) kept old = old
 each_done P s steps p t env (Refs (DeleteLocalRef r)) kept old = deleting P s steps p t r old
+each_done P s steps p t env (Refs (DeleteGlobalRef r)) kept old = others P s steps t (Refs (DeleteGlobalRef r)) p p old
+each_done P s steps p t env (Refs (DeleteWeakGlobalRef r)) kept old = others P s steps t (Refs (DeleteWeakGlobalRef r)) p p old
 each_done P s steps p t env (Refs (IsSameObject r u)) kept old = old
 each_done P s steps p t env (Refs (GetObjectRefType r)) kept old = old
 each_done P s steps p t env (Frames (PushLocalFrame capacity)) kept old = steps.pushes p t old
@@ -149,6 +181,7 @@ each_done P s steps p t env (Exceptions ExceptionCheck) kept old = old
 each_done P s steps p t env (Objects call) kept old = others P s steps t (Objects call) p p old
 each_done P s steps p t env (Strings call) kept old = others P s steps t (Strings call) p p old
 each_done P s steps p t env (Arrays call) kept old = others P s steps t (Arrays call) p p old
+each_done P s steps p t env (Monitors call) kept old = others P s steps t (Monitors call) p p old
 
 each_if : (P : Parts → Type 0) (s : StatedSetup) → Steps s P → (b : Bool) (p : Parts) (t : ℕ) (env : Option EnvId) (call : Call) → Unbroken s p t env call → P p → P (done_if b s t call p)
 each_if P s steps true p t env call kept old = each_done P s steps p t env call kept old

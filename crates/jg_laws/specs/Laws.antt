@@ -1,5 +1,5 @@
 -- The laws of legal histories.
-use Rattle.std.specs.Prelude.{ℕ, ◌≡◌, ◌<◌, ◌≤◌, true, false, List, ◌∷◌, ◌++◌, length, Some, None}
+use Rattle.std.specs.Prelude.{ℕ, ◌≡◌, ◌<◌, ◌≤◌, Bool, true, false, List, ◌∷◌, ◌++◌, length, Some, None}
 use Rattle.jg_words.specs.declared.thread.Tid.{Tid}
 use Rattle.jg_words.specs.declared.reference.Kind.{Kind}
 use Rattle.jg_words.specs.declared.reference.Ref.{Ref}
@@ -9,12 +9,13 @@ use Rattle.jg_words.specs.declared.entry.Outcome.TheVariants.{Passed}
 use Rattle.jg_words.specs.declared.entry.Entry.{Entry}
 use Rattle.jg_words.specs.declared.call.Call.TheVariants.{Vm}
 use Rattle.jg_words.specs.declared.call.vm.VmCall.TheVariants.{NativeEnter}
-use Rattle.jg_policy.specs.Stated.{StatedSetup}
+use Rattle.jg_policy.specs.Stated.{StatedSetup, class_count}
 use Rattle.jg_policy.specs.Classes.{class_at, class_named, fields_in}
 use Rattle.jg_threads.specs.History as threads
 use Rattle.jg_locals.specs.History as locals
 use Rattle.jg_heap.specs.History as heap
 use Rattle.jg_heap.specs.Making.{Making, Plain, Text, Filled}
+use Rattle.jg_monitors.specs.History as monitors
 use Rattle.jg_rules.specs.Names.{object_named, next_ref, class_of, length_of, native_meant}
 use Rattle.jg_rules.specs.Access.{refuses}
 use Rattle.jg_rules.specs.Rules.{is_linked}
@@ -87,3 +88,22 @@ EnteredWasLinked = (s : StatedSetup) (later : List Entry) (x : Entry) (before : 
     → x.call ≡ Vm (NativeEnter class method signature) → x.outcome ≡ Passed reply
     → (is_linked (parts s before) (class_named s class) (native_meant s (class_named s class) method signature) ≡ true)
     × (refuses s (class_named s class) ≡ false)
+
+-- two owners of a monitor are one
+abbrev pub OneOwner : Type 0
+OneOwner = (s : StatedSetup) (h : List Entry) (t u o : ℕ) → Legal s h
+    → 0 < monitors.count (parts s h).monitors t o → 0 < monitors.count (parts s h).monitors u o → t ≡ u
+
+-- an object that is gone
+abbrev pub is_gone : StatedSetup → List Entry → ℕ → Bool
+is_gone s h o = heap.gone_at (class_count s) (parts s h).heap o
+
+-- what went stays gone
+abbrev pub StaysGone : Type 0
+StaysGone = (s : StatedSetup) (later before : List Entry) (o : ℕ) → Legal s (later ++ before)
+    → is_gone s before o ≡ true → is_gone s (later ++ before) o ≡ true
+
+-- what a live reference names isn't gone
+abbrev pub LiveIsNotGone : Type 0
+LiveIsNotGone = (s : StatedSetup) (h : List Entry) (t o : ℕ) (r : Ref) → Legal s h
+    → object_named (parts s h) t r ≡ Some o → is_gone s h o ≡ false

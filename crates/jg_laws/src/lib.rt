@@ -2,7 +2,7 @@
 //! journal can be any legal history within its limit, so each is a law of the guard.
 #![tactic(auto)]
 
-ghost use Rattle.jg_laws.specs.Laws.{ReferencesCounted, NoReferenceTwice, NoReferenceRevived, DeniedEntriesDoNothing, OneHistoryForTheCalls, DepthsAgree, FieldsAreStated, EnteredWasLinked};
+ghost use Rattle.jg_laws.specs.Laws.{ReferencesCounted, NoReferenceTwice, NoReferenceRevived, DeniedEntriesDoNothing, OneHistoryForTheCalls, DepthsAgree, FieldsAreStated, EnteredWasLinked, OneOwner, StaysGone, LiveIsNotGone};
 
 /// The number of a reference that was handed out is below the number of its maker's next one.
 pub fn references_are_counted()
@@ -42,4 +42,19 @@ pub fn fields_are_stated()
 /// A native method that was entered was linked then, and its class was not refused native access.
 pub fn entered_was_linked()
     ensures { EnteredWasLinked }
+{}
+
+/// An object's monitor has one owner at the most.
+pub fn one_owner()
+    ensures { OneOwner }
+{}
+
+/// What went at a collection stays gone.
+pub fn gone_stays_gone()
+    ensures { StaysGone }
+{}
+
+/// An object that a live reference names isn't gone.
+pub fn live_is_not_gone()
+    ensures { LiveIsNotGone }
 {}

@@ -1,9 +1,13 @@
 -- What other crates rest on: facts of lists of acts, and laws of specs/Laws.
 pub use Rattle.jg_lists.proofs.Acts.{acts_more, acts_same, each_thread}
-use Rattle.jg_locals.specs.Laws.{SessionHasFrame, TopMeans, PushedMeans, EnteredMeans, NewNumberIsAbove, LiveIsBelow}
+use Rattle.jg_locals.specs.Laws.{HeldMeans, SessionHasFrame, TopMeans, PushedMeans, EnteredMeans, NewNumberIsAbove, LiveIsBelow}
 use Rattle.jg_locals.proofs.Above.{has_frame, above_rows, live_is_made_below}
+use Rattle.jg_locals.proofs.Held.{held_means}
 use Rattle.jg_locals.proofs.Lookups.{pushed_told, depth_law}
 use Rattle.jg_locals.proofs.Tops.{top_told}
+
+pub held_law : HeldMeans
+held_law e o = held_means e o
 
 pub has_frame_law : SessionHasFrame
 has_frame_law rows e t stands is = has_frame rows e t stands is

@@ -1,3 +1,4 @@
+pub mod Callers
 mod Counting
 mod Lookups
 mod Pairs

@@ -10,3 +10,6 @@ pub mod Setups
 pub mod ObjectFields
 pub mod Natives
 pub mod Access
+pub mod Globals
+pub mod Collections
+pub mod Monitors

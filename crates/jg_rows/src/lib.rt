@@ -7,11 +7,14 @@
 
 mod access;
 mod arrays;
+mod collections;
 mod exceptions;
 mod frames;
+mod globals;
 mod natives;
 mod object_fields;
 mod objects;
+mod owners;
 mod references;
 mod sessions;
 mod strings;
@@ -25,6 +28,12 @@ pub use arrays::{
     WRITES_OF_REGIONS, a_throw_changes_nothing_else, object_arrays, regions_of_arrays,
     values_of_types, writes_of_regions,
 };
+pub use collections::{
+    A_CYCLE_STAYS, CHAIN_AND_LEAKS, HELD_BY_A_MONITOR, HELD_BY_A_PENDING_EXCEPTION, HELD_BY_A_SLOT,
+    HELD_BY_REFERENCES, THREAD_ZERO_COLLECTS, WEAK_CLEARED, WEAK_MADE_STRONG, a_cycle_stays,
+    chain_and_leaks, held_by_a_monitor, held_by_a_pending_exception, held_by_a_slot,
+    held_by_references, thread_zero_collects, weak_cleared, weak_made_strong,
+};
 pub use exceptions::{
     PASSING_WITH_AN_EXCEPTION_PENDING, PENDING, passing_with_an_exception_pending, pending,
 };
@@ -32,6 +41,10 @@ pub use frames::{
     FRAME_CAPACITIES, FRAMES_WITHIN_FRAMES, POP_OF_DEAD_RESULT, POP_WITHOUT_FRAME,
     RESULT_OF_FRAME_BELOW, RESULT_OUT_OF_FRAME, frame_capacities, frames_within_frames,
     pop_of_dead_result, pop_without_frame, result_of_frame_below, result_out_of_frame,
+};
+pub use globals::{
+    GLOBAL_OUTLIVES_ITS_THREAD, LETS_GO_WITH_AN_EXCEPTION_PENDING, LOCAL_AGAINST_GLOBAL,
+    global_outlives_its_thread, lets_go_with_an_exception_pending, local_against_global,
 };
 pub use natives::{
     FRAME_OF_EARLIER_ACTIVATION, FRAME_OF_OTHER_ACTIVATION, LEAVE_CUTS_FRAMES,
@@ -47,6 +60,7 @@ pub use objects::{
     CLASSES_AND_INSTANCES, THROWN_CLASSES, WRONG_TYPES, classes_and_instances, thrown_classes,
     wrong_types,
 };
+pub use owners::{BUSY_UNTIL_DETACHED, MONITORS, busy_until_detached, monitors};
 pub use references::{
     DELETED_TWICE, FOREIGN_BEFORE_DEAD, KINDS_OF_REFERENCES, NEVER_MADE, SAME_OBJECT,
     deleted_twice, foreign_before_dead, kinds_of_references, never_made, same_object,

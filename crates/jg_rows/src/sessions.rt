@@ -111,4 +111,5 @@ T1 - DetachCurrentThread = ok
 T1 E1.1 ExceptionCheck = deny 2 Detached
 T2 E1.1 ExceptionCheck = deny 1 WrongThread
 T2 - ExceptionCheck = deny 2 Detached
+T2 - Collect = deny 1 WrongThread
 ";

@@ -2,11 +2,14 @@
 
 mod access;
 mod arrays;
+mod collections;
 mod exceptions;
 mod frames;
+mod globals;
 mod natives;
 mod object_fields;
 mod objects;
+mod owners;
 mod references;
 mod scripts;
 mod sessions;

@@ -27,7 +27,7 @@ nested false false false false true later = refl
 nested false false false false false later = refl
 
 -- a call that breaks none of the first four rules
-pub after_four : (s : StatedSetup) (p : Parts) (t : ℕ) (env : Option EnvId) (call : Call) → wrong_thread t env ≡ false → detached p t env call ≡ false
+pub after_four : (s : StatedSetup) (p : Parts) (t : ℕ) (env : Option EnvId) (call : Call) → wrong_thread t env call ≡ false → detached p t env call ≡ false
     → in_critical p t call ≡ false → while_pending p t call ≡ false
     → verdict s p t env call ≡ first_there (operands_verdict s p t (operands call) (wrong_kind call)) (own_verdict s p t call)
 after_four s p t env call own attached outside calm =

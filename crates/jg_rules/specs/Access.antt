@@ -1,9 +1,9 @@
 -- Native access (JEP 472): the class that a call asks for it with, and what the setup says of its module.
 use Rattle.std.specs.Prelude.{ℕ, ◌&&◌, Bool, true, false, not, Option, Some, None, option_and_then}
 use Rattle.jg_words.specs.declared.call.Call.{Call}
-use Rattle.jg_words.specs.declared.call.Call.TheVariants.{Vm, Refs, Frames, Exceptions, Objects, Strings, Arrays}
+use Rattle.jg_words.specs.declared.call.Call.TheVariants.{Vm, Refs, Frames, Exceptions, Objects, Strings, Arrays, Monitors}
 use Rattle.jg_words.specs.declared.call.vm.VmCall.{VmCall}
-use Rattle.jg_words.specs.declared.call.vm.VmCall.TheVariants.{AttachCurrentThread, DetachCurrentThread, GetEnv, NativeEnter, NativeLeave, LoadLibrary, RegisterNatives, UnregisterNatives}
+use Rattle.jg_words.specs.declared.call.vm.VmCall.TheVariants.{AttachCurrentThread, DetachCurrentThread, GetEnv, NativeEnter, NativeLeave, LoadLibrary, RegisterNatives, UnregisterNatives, Collect}
 use Rattle.jg_policy.specs.declared.access.Access.{Access}
 use Rattle.jg_policy.specs.declared.access.Access.TheVariants.{Allowed, AllowedWithWarning, Refused}
 use Rattle.jg_policy.specs.declared.access.Operation.TheVariants.{Load}
@@ -24,6 +24,7 @@ vm_class s p t (NativeLeave kept) = None
 vm_class s p t (LoadLibrary class library) = class_named s class
 vm_class s p t (RegisterNatives class method signature) = class_meant s p t class
 vm_class s p t (UnregisterNatives class) = None
+vm_class s p t Collect = None
 
 abbrev pub native_class : StatedSetup → Parts → ℕ → Call → Option ℕ
 native_class s p t (Vm call) = vm_class s p t call
@@ -33,6 +34,7 @@ native_class s p t (Exceptions call) = None
 native_class s p t (Objects call) = None
 native_class s p t (Strings call) = None
 native_class s p t (Arrays call) = None
+native_class s p t (Monitors call) = None
 
 -- the number of the class's module
 abbrev pub home_of : StatedSetup → Option ℕ → Option ℕ

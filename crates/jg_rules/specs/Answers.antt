@@ -9,15 +9,15 @@ use Rattle.jg_words.specs.declared.reference.Kind.TheVariants.{Local, Global, We
 use Rattle.jg_words.specs.declared.reference.Ref.{Ref}
 use Rattle.jg_words.specs.declared.reference.Ref.TheVariants.{Null, To}
 use Rattle.jg_words.specs.declared.value.Value.{Value}
-use Rattle.jg_words.specs.declared.value.Value.TheVariants.{Ok as Done, Number as Amount, Truth, Null as NullAnswer, Reference, Field, Environment, List as Listed, Detached as NotAttached, Throw as Threw}
+use Rattle.jg_words.specs.declared.value.Value.TheVariants.{Ok as Done, Number as Amount, Truth, Null as NullAnswer, Reference, Field, Environment, List as Listed, Busy, Detached as NotAttached, Throw as Threw}
 use Rattle.jg_words.specs.declared.value.Thrown.{Thrown}
 use Rattle.jg_words.specs.declared.value.Thrown.TheVariants.{ArrayIndexOutOfBounds, StringIndexOutOfBounds, NoClassDefFound, NoSuchField, NoSuchMethod}
 use Rattle.jg_words.specs.declared.call.Call.{Call}
-use Rattle.jg_words.specs.declared.call.Call.TheVariants.{Vm, Refs, Frames, Exceptions, Objects, Strings, Arrays}
+use Rattle.jg_words.specs.declared.call.Call.TheVariants.{Vm, Refs, Frames, Exceptions, Objects, Strings, Arrays, Monitors}
 use Rattle.jg_words.specs.declared.call.vm.VmCall.{VmCall}
-use Rattle.jg_words.specs.declared.call.vm.VmCall.TheVariants.{AttachCurrentThread, DetachCurrentThread, GetEnv, NativeEnter, NativeLeave, LoadLibrary, RegisterNatives, UnregisterNatives}
+use Rattle.jg_words.specs.declared.call.vm.VmCall.TheVariants.{AttachCurrentThread, DetachCurrentThread, GetEnv, NativeEnter, NativeLeave, LoadLibrary, RegisterNatives, UnregisterNatives, Collect}
 use Rattle.jg_words.specs.declared.call.refs.RefsCall.{RefsCall}
-use Rattle.jg_words.specs.declared.call.refs.RefsCall.TheVariants.{NewLocalRef, DeleteLocalRef, IsSameObject, GetObjectRefType}
+use Rattle.jg_words.specs.declared.call.refs.RefsCall.TheVariants.{NewLocalRef, NewGlobalRef, NewWeakGlobalRef, DeleteLocalRef, DeleteGlobalRef, DeleteWeakGlobalRef, IsSameObject, GetObjectRefType}
 use Rattle.jg_words.specs.declared.call.frames.FramesCall.{FramesCall}
 use Rattle.jg_words.specs.declared.call.frames.FramesCall.TheVariants.{PushLocalFrame, PopLocalFrame}
 use Rattle.jg_words.specs.declared.call.exceptions.ExceptionsCall.{ExceptionsCall}
@@ -28,17 +28,23 @@ use Rattle.jg_words.specs.declared.call.strings.StringsCall.{StringsCall}
 use Rattle.jg_words.specs.declared.call.strings.StringsCall.TheVariants.{NewString, NewStringUTF, GetStringLength, GetStringUTFLength, GetStringRegion}
 use Rattle.jg_words.specs.declared.call.arrays.ArraysCall.{ArraysCall}
 use Rattle.jg_words.specs.declared.call.arrays.ArraysCall.TheVariants.{NewArray, GetArrayLength, GetArrayRegion, SetArrayRegion, NewObjectArray, GetObjectArrayElement, SetObjectArrayElement}
+use Rattle.jg_words.specs.declared.call.monitors.MonitorsCall.{MonitorsCall}
+use Rattle.jg_words.specs.declared.call.monitors.MonitorsCall.TheVariants.{MonitorEnter, MonitorExit}
 use Rattle.jg_policy.specs.Stated.{StatedSetup}
 use Rattle.jg_policy.specs.Classes.{class_named}
 use Rattle.jg_heap.specs.Reading.{natural}
 use Rattle.jg_heap.specs.Spelling.{spelt}
 use Rattle.jg_heap.specs.declared.object.Slot.{Slot}
 use Rattle.jg_threads.specs.History as threads
+use Rattle.jg_monitors.specs.History as monitors
+use Rattle.jg_monitors.specs.declared.entering.Entering.{Entering}
+use Rattle.jg_monitors.specs.declared.entering.Entering.TheVariants.{Entered, Busy as KeptOut}
 use Rattle.jg_rules.specs.declared.answer.Answer.{Answer}
 use Rattle.jg_rules.specs.declared.named.Named.{Named}
 use Rattle.jg_rules.specs.declared.named.Named.TheVariants.{Nothing}
 use Rattle.jg_rules.specs.Parts.{Parts}
 use Rattle.jg_rules.specs.Access.{warns}
+use Rattle.jg_rules.specs.Holding.{going}
 use Rattle.jg_rules.specs.Names.{names, object_named, the_object, object_count, class_of, length_of, units_of, slot_of, slot_place, number_in, target_in, items_of, session, next_ref, pending, class_meant, native_meant, field_meant}
 
 abbrev pub saying : Value → Option ObjId → Answer
@@ -46,6 +52,10 @@ saying value object = record { reply = record { value = value; warned = false };
 
 abbrev pub plain : Value → Answer
 plain value = saying value None
+
+-- so much
+abbrev pub amount : ℕ → Answer
+amount n = plain (Amount (pos n))
 
 -- a new reference of the kind for the object, or null for null
 abbrev pub handed : Parts → Tid → Kind → Option ℕ → Answer
@@ -75,7 +85,8 @@ registered s p class None = thrown s p NoSuchMethod
 registered s p class (Some native) = admitted s p class (plain Done)
 
 -- the environment of the session that the thread has then; JNI_EDETACHED where it has none (JNI Specification, chapter
--- 5). A native method is handed its class, and what it returns is handed on to the frame below (chapter 2)
+-- 5). A native method is handed its class, and what it returns is handed on to the frame below (chapter 2). A
+-- collection answers how many objects go
 abbrev pub vm_answer : StatedSetup → Parts → Tid → VmCall → Answer
 vm_answer s p t AttachCurrentThread = plain
     (Environment (record { tid = t; session = threads.sessions (threads.Attach ∷ threads.acts_of t.0 p.threads) }))
@@ -88,6 +99,7 @@ vm_answer s p t (LoadLibrary class library) = admitted s p (class_named s class)
 vm_answer s p t (RegisterNatives class method signature) =
     registered s p (class_meant s p t.0 class) (native_meant s (class_meant s p t.0 class) method signature)
 vm_answer s p t (UnregisterNatives class) = plain Done
+vm_answer s p t Collect = amount (length (going s p))
 
 abbrev pub same_object : Option ℕ → Option ℕ → Bool
 same_object None None = true
@@ -106,7 +118,11 @@ ref_type named (To Weak maker n) = pos 3
 
 abbrev pub refs_answer : Parts → Tid → RefsCall → Answer
 refs_answer p t (NewLocalRef r) = handed p t Local (object_named p t.0 r)
+refs_answer p t (NewGlobalRef r) = handed p t Global (object_named p t.0 r)
+refs_answer p t (NewWeakGlobalRef r) = handed p t Weak (object_named p t.0 r)
 refs_answer p t (DeleteLocalRef r) = plain Done
+refs_answer p t (DeleteGlobalRef r) = plain Done
+refs_answer p t (DeleteWeakGlobalRef r) = plain Done
 refs_answer p t (IsSameObject r u) = plain (Truth (same_object (object_named p t.0 r) (object_named p t.0 u)))
 refs_answer p t (GetObjectRefType r) = plain (Amount (ref_type (names p t.0 r) r))
 
@@ -118,10 +134,6 @@ frames_answer p t (PopLocalFrame kept) = handed p t Local (object_named p t.0 ke
 -- a local reference for a new object
 abbrev pub made : StatedSetup → Parts → Tid → Answer
 made s p t = handed p t Local (Some (object_count s p))
-
--- so much
-abbrev pub amount : ℕ → Answer
-amount n = plain (Amount (pos n))
 
 -- the exception that Throw makes pending is its operand's object; a local reference for the pending one, or null (JNI
 -- Specification, chapter 4, "Exceptions")
@@ -206,6 +218,17 @@ arrays_answer s p t (GetObjectArrayElement r index) =
 arrays_answer s p t (SetObjectArrayElement r index value) =
     or_outside s p ArrayIndexOutOfBounds (is_outside index (pos 1) (length_of s p (the_object p t.0 r))) (plain Done)
 
+-- a thread that finds another owner is told so, and doesn't wait here
+abbrev pub entered : Entering → Value
+entered Entered = Done
+entered KeptOut = Busy
+
+-- (JNI Specification, chapter 4, "Monitor Operations")
+abbrev pub monitors_answer : Parts → Tid → MonitorsCall → Answer
+monitors_answer p t (MonitorEnter r) =
+    plain (entered (monitors.entering t.0 (monitors.owner p.monitors (the_object p t.0 r))))
+monitors_answer p t (MonitorExit r) = plain Done
+
 abbrev pub answer : StatedSetup → Parts → Tid → Call → Answer
 answer s p t (Vm call) = vm_answer s p t call
 answer s p t (Refs call) = refs_answer p t call
@@ -214,3 +237,4 @@ answer s p t (Exceptions call) = exceptions_answer p t call
 answer s p t (Objects call) = objects_answer s p t call
 answer s p t (Strings call) = strings_answer s p t call
 answer s p t (Arrays call) = arrays_answer s p t call
+answer s p t (Monitors call) = monitors_answer p t call

@@ -14,11 +14,11 @@ use Rattle.jg_words.specs.declared.entry.Outcome.{Outcome}
 use Rattle.jg_words.specs.declared.entry.Outcome.TheVariants.{Passed, Denied}
 use Rattle.jg_words.specs.declared.entry.Entry.{Entry}
 use Rattle.jg_words.specs.declared.call.Call.{Call}
-use Rattle.jg_words.specs.declared.call.Call.TheVariants.{Vm, Refs, Frames, Exceptions, Objects, Strings, Arrays}
+use Rattle.jg_words.specs.declared.call.Call.TheVariants.{Vm, Refs, Frames, Exceptions, Objects, Strings, Arrays, Monitors}
 use Rattle.jg_words.specs.declared.call.vm.VmCall.{VmCall}
-use Rattle.jg_words.specs.declared.call.vm.VmCall.TheVariants.{AttachCurrentThread, DetachCurrentThread, GetEnv, NativeEnter, NativeLeave, LoadLibrary, RegisterNatives, UnregisterNatives}
+use Rattle.jg_words.specs.declared.call.vm.VmCall.TheVariants.{AttachCurrentThread, DetachCurrentThread, GetEnv, NativeEnter, NativeLeave, LoadLibrary, RegisterNatives, UnregisterNatives, Collect}
 use Rattle.jg_words.specs.declared.call.refs.RefsCall.{RefsCall}
-use Rattle.jg_words.specs.declared.call.refs.RefsCall.TheVariants.{NewLocalRef, DeleteLocalRef, IsSameObject, GetObjectRefType}
+use Rattle.jg_words.specs.declared.call.refs.RefsCall.TheVariants.{NewLocalRef, NewGlobalRef, NewWeakGlobalRef, DeleteLocalRef, DeleteGlobalRef, DeleteWeakGlobalRef, IsSameObject, GetObjectRefType}
 use Rattle.jg_words.specs.declared.call.frames.FramesCall.{FramesCall}
 use Rattle.jg_words.specs.declared.call.frames.FramesCall.TheVariants.{PushLocalFrame, PopLocalFrame}
 use Rattle.jg_words.specs.declared.call.exceptions.ExceptionsCall.{ExceptionsCall}
@@ -29,6 +29,8 @@ use Rattle.jg_words.specs.declared.call.strings.StringsCall.{StringsCall}
 use Rattle.jg_words.specs.declared.call.strings.StringsCall.TheVariants.{NewString, NewStringUTF, GetStringLength, GetStringUTFLength, GetStringRegion}
 use Rattle.jg_words.specs.declared.call.arrays.ArraysCall.{ArraysCall}
 use Rattle.jg_words.specs.declared.call.arrays.ArraysCall.TheVariants.{NewArray, GetArrayLength, GetArrayRegion, SetArrayRegion, NewObjectArray, GetObjectArrayElement, SetObjectArrayElement}
+use Rattle.jg_words.specs.declared.call.monitors.MonitorsCall.{MonitorsCall}
+use Rattle.jg_words.specs.declared.call.monitors.MonitorsCall.TheVariants.{MonitorEnter, MonitorExit}
 use Rattle.jg_policy.specs.Stated.{StatedSetup, StatedMember}
 use Rattle.jg_policy.specs.Classes.{class_at, fields_in, is_class_type}
 use Rattle.jg_policy.specs.Links as links
@@ -45,6 +47,7 @@ use Rattle.jg_heap.specs.declared.object.Slot.TheVariants.{Number, Object as Poi
 use Rattle.jg_rules.specs.Names.{the_object, object_named, class_meant, native_meant, slot_place}
 use Rattle.jg_rules.specs.Parts.{Parts, nothing_yet}
 use Rattle.jg_rules.specs.Access.{native_class, home_of}
+use Rattle.jg_rules.specs.Holding.{roots, going}
 
 -- ---- a call's own events
 
@@ -57,6 +60,7 @@ vm_threads (NativeLeave kept) = threads.Leave ∷ []
 vm_threads (LoadLibrary class library) = []
 vm_threads (RegisterNatives class method signature) = []
 vm_threads (UnregisterNatives class) = []
+vm_threads Collect = []
 
 abbrev pub exceptions_threads : Parts → ℕ → ExceptionsCall → List threads.Act
 exceptions_threads p t (Throw r) = threads.Raise (the_object p t r) ∷ []
@@ -73,6 +77,7 @@ call_threads s p t (Exceptions call) = exceptions_threads p t call
 call_threads s p t (Objects call) = []
 call_threads s p t (Strings call) = []
 call_threads s p t (Arrays call) = []
+call_threads s p t (Monitors call) = []
 
 -- a session begins only where the thread has none
 abbrev pub started : Bool → List locals.Act
@@ -88,6 +93,7 @@ vm_locals p t (NativeLeave kept) = locals.Leave ∷ []
 vm_locals p t (LoadLibrary class library) = []
 vm_locals p t (RegisterNatives class method signature) = []
 vm_locals p t (UnregisterNatives class) = []
+vm_locals p t Collect = []
 
 abbrev pub deletes_local : Ref → List locals.Act
 deletes_local Null = []
@@ -97,7 +103,11 @@ deletes_local (To Weak maker n) = []
 
 abbrev pub refs_locals : RefsCall → List locals.Act
 refs_locals (NewLocalRef r) = []
+refs_locals (NewGlobalRef r) = []
+refs_locals (NewWeakGlobalRef r) = []
 refs_locals (DeleteLocalRef r) = deletes_local r
+refs_locals (DeleteGlobalRef r) = []
+refs_locals (DeleteWeakGlobalRef r) = []
 refs_locals (IsSameObject r u) = []
 refs_locals (GetObjectRefType r) = []
 
@@ -113,15 +123,39 @@ call_locals s p t (Exceptions call) = []
 call_locals s p t (Objects call) = []
 call_locals s p t (Strings call) = []
 call_locals s p t (Arrays call) = []
+call_locals s p t (Monitors call) = []
+
+-- what goes leaves its weak references cleared (JNI Specification, chapter 4, "Weak Global References")
+abbrev pub vm_globals : StatedSetup → Parts → VmCall → List globals.Event
+vm_globals s p AttachCurrentThread = []
+vm_globals s p DetachCurrentThread = []
+vm_globals s p GetEnv = []
+vm_globals s p (NativeEnter class method signature) = []
+vm_globals s p (NativeLeave kept) = []
+vm_globals s p (LoadLibrary class library) = []
+vm_globals s p (RegisterNatives class method signature) = []
+vm_globals s p (UnregisterNatives class) = []
+vm_globals s p Collect = map (λ o. globals.Clear o) (going s p)
+
+abbrev pub refs_globals : RefsCall → List globals.Event
+refs_globals (NewLocalRef r) = []
+refs_globals (NewGlobalRef r) = []
+refs_globals (NewWeakGlobalRef r) = []
+refs_globals (DeleteLocalRef r) = []
+refs_globals (DeleteGlobalRef r) = globals.deletion r
+refs_globals (DeleteWeakGlobalRef r) = globals.deletion r
+refs_globals (IsSameObject r u) = []
+refs_globals (GetObjectRefType r) = []
 
 abbrev pub call_globals : StatedSetup → Parts → ℕ → Call → List globals.Event
-call_globals s p t (Vm call) = []
-call_globals s p t (Refs call) = []
+call_globals s p t (Vm call) = vm_globals s p call
+call_globals s p t (Refs call) = refs_globals call
 call_globals s p t (Frames call) = []
 call_globals s p t (Exceptions call) = []
 call_globals s p t (Objects call) = []
 call_globals s p t (Strings call) = []
 call_globals s p t (Arrays call) = []
+call_globals s p t (Monitors call) = []
 
 abbrev pub call_buffers : StatedSetup → Parts → ℕ → Call → List buffers.Event
 call_buffers s p t (Vm call) = []
@@ -131,6 +165,7 @@ call_buffers s p t (Exceptions call) = []
 call_buffers s p t (Objects call) = []
 call_buffers s p t (Strings call) = []
 call_buffers s p t (Arrays call) = []
+call_buffers s p t (Monitors call) = []
 
 abbrev pub vm_monitors : VmCall → List monitors.Act
 vm_monitors AttachCurrentThread = []
@@ -141,6 +176,11 @@ vm_monitors (NativeLeave kept) = []
 vm_monitors (LoadLibrary class library) = []
 vm_monitors (RegisterNatives class method signature) = []
 vm_monitors (UnregisterNatives class) = []
+vm_monitors Collect = []
+
+abbrev pub monitors_monitors : Parts → ℕ → MonitorsCall → List monitors.Act
+monitors_monitors p t (MonitorEnter r) = monitors.Enter (the_object p t r) ∷ []
+monitors_monitors p t (MonitorExit r) = monitors.Exit (the_object p t r) ∷ []
 
 abbrev pub call_monitors : StatedSetup → Parts → ℕ → Call → List monitors.Act
 call_monitors s p t (Vm call) = vm_monitors call
@@ -150,6 +190,7 @@ call_monitors s p t (Exceptions call) = []
 call_monitors s p t (Objects call) = []
 call_monitors s p t (Strings call) = []
 call_monitors s p t (Arrays call) = []
+call_monitors s p t (Monitors call) = monitors_monitors p t call
 
 -- a field holds 0, or null where its type is a class
 abbrev pub first_value : StatedMember → Slot
@@ -158,6 +199,17 @@ first_value field = if is_class_type field.signature then Pointer None else Numb
 -- what a place that holds references is made to hold
 abbrev pub pointer : Option ℕ → Slot
 pointer target = Pointer (option_map (λ o. record { 0 = o }) target)
+
+abbrev pub vm_heap : StatedSetup → Parts → VmCall → List heap.Event
+vm_heap s p AttachCurrentThread = []
+vm_heap s p DetachCurrentThread = []
+vm_heap s p GetEnv = []
+vm_heap s p (NativeEnter class method signature) = []
+vm_heap s p (NativeLeave kept) = []
+vm_heap s p (LoadLibrary class library) = []
+vm_heap s p (RegisterNatives class method signature) = []
+vm_heap s p (UnregisterNatives class) = []
+vm_heap s p Collect = heap.Collected (roots s p) ∷ []
 
 abbrev pub objects_heap : StatedSetup → Parts → ℕ → ObjectsCall → List heap.Event
 objects_heap s p t (FindClass name) = []
@@ -191,13 +243,14 @@ arrays_heap p t (SetObjectArrayElement r index value) =
     heap.Wrote (the_object p t r) (natural index) (pointer (object_named p t value)) ∷ []
 
 abbrev pub call_heap : StatedSetup → Parts → ℕ → Call → List heap.Event
-call_heap s p t (Vm call) = []
+call_heap s p t (Vm call) = vm_heap s p call
 call_heap s p t (Refs call) = []
 call_heap s p t (Frames call) = []
 call_heap s p t (Exceptions call) = []
 call_heap s p t (Objects call) = objects_heap s p t call
 call_heap s p t (Strings call) = strings_heap call
 call_heap s p t (Arrays call) = arrays_heap p t call
+call_heap s p t (Monitors call) = []
 
 -- the class's native method is linked, again if it was
 abbrev pub linking : Option ℕ → Option ℕ → List links.Event
@@ -219,6 +272,7 @@ vm_links s p t (LoadLibrary class library) = []
 vm_links s p t (RegisterNatives class method signature) =
     linking (class_meant s p t class) (native_meant s (class_meant s p t class) method signature)
 vm_links s p t (UnregisterNatives class) = unlinking (class_meant s p t class)
+vm_links s p t Collect = []
 
 abbrev pub call_links : StatedSetup → Parts → ℕ → Call → List links.Event
 call_links s p t (Vm call) = vm_links s p t call
@@ -228,6 +282,7 @@ call_links s p t (Exceptions call) = []
 call_links s p t (Objects call) = []
 call_links s p t (Strings call) = []
 call_links s p t (Arrays call) = []
+call_links s p t (Monitors call) = []
 
 -- the parts with them in front
 abbrev pub done_by : StatedSetup → ℕ → Call → Parts → Parts

@@ -5,6 +5,7 @@ pub mod Access
 pub mod Passing
 pub mod Operands
 pub mod Effects
+pub mod Holding
 pub mod Rules
 pub mod Answers
 pub mod Legal

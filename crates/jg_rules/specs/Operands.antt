@@ -2,11 +2,11 @@
 use Rattle.std.specs.Prelude.{ℕ, ◌==◌, ◌&&◌, ◌||◌, Bool, true, false, nat_le, nat_lt, List, [], ◌∷◌}
 use Rattle.jg_words.specs.declared.reference.Ref.{Ref}
 use Rattle.jg_words.specs.declared.call.Call.{Call}
-use Rattle.jg_words.specs.declared.call.Call.TheVariants.{Vm, Refs, Frames, Exceptions, Objects, Strings, Arrays}
+use Rattle.jg_words.specs.declared.call.Call.TheVariants.{Vm, Refs, Frames, Exceptions, Objects, Strings, Arrays, Monitors}
 use Rattle.jg_words.specs.declared.call.vm.VmCall.{VmCall}
-use Rattle.jg_words.specs.declared.call.vm.VmCall.TheVariants.{AttachCurrentThread, DetachCurrentThread, GetEnv, NativeEnter, NativeLeave, LoadLibrary, RegisterNatives, UnregisterNatives}
+use Rattle.jg_words.specs.declared.call.vm.VmCall.TheVariants.{AttachCurrentThread, DetachCurrentThread, GetEnv, NativeEnter, NativeLeave, LoadLibrary, RegisterNatives, UnregisterNatives, Collect}
 use Rattle.jg_words.specs.declared.call.refs.RefsCall.{RefsCall}
-use Rattle.jg_words.specs.declared.call.refs.RefsCall.TheVariants.{NewLocalRef, DeleteLocalRef, IsSameObject, GetObjectRefType}
+use Rattle.jg_words.specs.declared.call.refs.RefsCall.TheVariants.{NewLocalRef, NewGlobalRef, NewWeakGlobalRef, DeleteLocalRef, DeleteGlobalRef, DeleteWeakGlobalRef, IsSameObject, GetObjectRefType}
 use Rattle.jg_words.specs.declared.call.frames.FramesCall.{FramesCall}
 use Rattle.jg_words.specs.declared.call.frames.FramesCall.TheVariants.{PushLocalFrame, PopLocalFrame}
 use Rattle.jg_words.specs.declared.call.exceptions.ExceptionsCall.{ExceptionsCall}
@@ -17,6 +17,8 @@ use Rattle.jg_words.specs.declared.call.strings.StringsCall.{StringsCall}
 use Rattle.jg_words.specs.declared.call.strings.StringsCall.TheVariants.{NewString, NewStringUTF, GetStringLength, GetStringUTFLength, GetStringRegion}
 use Rattle.jg_words.specs.declared.call.arrays.ArraysCall.{ArraysCall}
 use Rattle.jg_words.specs.declared.call.arrays.ArraysCall.TheVariants.{NewArray, GetArrayLength, GetArrayRegion, SetArrayRegion, NewObjectArray, GetObjectArrayElement, SetObjectArrayElement}
+use Rattle.jg_words.specs.declared.call.monitors.MonitorsCall.{MonitorsCall}
+use Rattle.jg_words.specs.declared.call.monitors.MonitorsCall.TheVariants.{MonitorEnter, MonitorExit}
 use Rattle.jg_policy.specs.Stated.{StatedSetup, class_count}
 use Rattle.jg_policy.specs.Classes.{is_throwable}
 use Rattle.jg_heap.specs.Making.{array_class}
@@ -49,11 +51,16 @@ vm_operands (NativeLeave kept) = optional kept ∷ []
 vm_operands (LoadLibrary class library) = []
 vm_operands (RegisterNatives class method signature) = required class ClassObject ∷ []
 vm_operands (UnregisterNatives class) = required class ClassObject ∷ []
+vm_operands Collect = []
 
 -- GetObjectRefType takes any reference, dead or alive
 abbrev pub refs_operands : RefsCall → List Operand
 refs_operands (NewLocalRef r) = optional r ∷ []
+refs_operands (NewGlobalRef r) = optional r ∷ []
+refs_operands (NewWeakGlobalRef r) = optional r ∷ []
 refs_operands (DeleteLocalRef r) = optional r ∷ []
+refs_operands (DeleteGlobalRef r) = optional r ∷ []
+refs_operands (DeleteWeakGlobalRef r) = optional r ∷ []
 refs_operands (IsSameObject r u) = optional r ∷ optional u ∷ []
 refs_operands (GetObjectRefType r) = []
 
@@ -95,6 +102,10 @@ arrays_operands (NewObjectArray n class fill) = required class ClassObject ∷ o
 arrays_operands (GetObjectArrayElement r index) = required r ObjectArray ∷ []
 arrays_operands (SetObjectArrayElement r index value) = required r ObjectArray ∷ optional value ∷ []
 
+abbrev pub monitors_operands : MonitorsCall → List Operand
+monitors_operands (MonitorEnter r) = required r AnyObject ∷ []
+monitors_operands (MonitorExit r) = required r AnyObject ∷ []
+
 abbrev pub operands : Call → List Operand
 operands (Vm call) = vm_operands call
 operands (Refs call) = refs_operands call
@@ -103,6 +114,7 @@ operands (Exceptions call) = exceptions_operands call
 operands (Objects call) = objects_operands call
 operands (Strings call) = strings_operands call
 operands (Arrays call) = arrays_operands call
+operands (Monitors call) = monitors_operands call
 
 -- the object is a class object whose class has instances that can be made without a constructor's arguments: neither
 -- java/lang/Class, nor java/lang/String, nor a class of arrays. A class object has the number of its class

@@ -4,17 +4,18 @@ use Rattle.std.specs.List.{list_any, list_all, find}
 use Rattle.jg_words.specs.Call.{fun_of}
 use Rattle.jg_words.specs.Fun.{needs_env}
 use Rattle.jg_words.specs.declared.thread.EnvId.{EnvId}
+use Rattle.jg_words.specs.declared.reference.Kind.{Kind}
 use Rattle.jg_words.specs.declared.reference.Kind.TheVariants.{Local, Global, Weak}
 use Rattle.jg_words.specs.declared.reference.Ref.{Ref}
 use Rattle.jg_words.specs.declared.reference.Ref.TheVariants.{Null, To}
 use Rattle.jg_words.specs.declared.rule.Rule.{Rule}
 use Rattle.jg_words.specs.declared.rule.Rule.TheVariants.{WrongThread, Detached, InCritical, Pending, ForeignLocal, DeadReference, WrongRefKind, NullReference, WrongType, BadField, BadBuffer, BadArgument, Pinned, NotOwner, BadFrame, NoNativeAccess, NotLinked}
 use Rattle.jg_words.specs.declared.call.Call.{Call}
-use Rattle.jg_words.specs.declared.call.Call.TheVariants.{Vm, Refs, Frames, Exceptions, Objects, Strings, Arrays}
+use Rattle.jg_words.specs.declared.call.Call.TheVariants.{Vm, Refs, Frames, Exceptions, Objects, Strings, Arrays, Monitors}
 use Rattle.jg_words.specs.declared.call.vm.VmCall.{VmCall}
-use Rattle.jg_words.specs.declared.call.vm.VmCall.TheVariants.{AttachCurrentThread, DetachCurrentThread, GetEnv, NativeEnter, NativeLeave, LoadLibrary, RegisterNatives, UnregisterNatives}
+use Rattle.jg_words.specs.declared.call.vm.VmCall.TheVariants.{AttachCurrentThread, DetachCurrentThread, GetEnv, NativeEnter, NativeLeave, LoadLibrary, RegisterNatives, UnregisterNatives, Collect}
 use Rattle.jg_words.specs.declared.call.refs.RefsCall.{RefsCall}
-use Rattle.jg_words.specs.declared.call.refs.RefsCall.TheVariants.{NewLocalRef, DeleteLocalRef, IsSameObject, GetObjectRefType}
+use Rattle.jg_words.specs.declared.call.refs.RefsCall.TheVariants.{NewLocalRef, NewGlobalRef, NewWeakGlobalRef, DeleteLocalRef, DeleteGlobalRef, DeleteWeakGlobalRef, IsSameObject, GetObjectRefType}
 use Rattle.jg_words.specs.declared.call.frames.FramesCall.{FramesCall}
 use Rattle.jg_words.specs.declared.call.frames.FramesCall.TheVariants.{PushLocalFrame, PopLocalFrame}
 use Rattle.jg_words.specs.declared.call.objects.ObjectsCall.{ObjectsCall}
@@ -23,6 +24,8 @@ use Rattle.jg_words.specs.declared.call.strings.StringsCall.{StringsCall}
 use Rattle.jg_words.specs.declared.call.strings.StringsCall.TheVariants.{NewString, NewStringUTF, GetStringLength, GetStringUTFLength, GetStringRegion}
 use Rattle.jg_words.specs.declared.call.arrays.ArraysCall.{ArraysCall}
 use Rattle.jg_words.specs.declared.call.arrays.ArraysCall.TheVariants.{NewArray, GetArrayLength, GetArrayRegion, SetArrayRegion, NewObjectArray, GetObjectArrayElement, SetObjectArrayElement}
+use Rattle.jg_words.specs.declared.call.monitors.MonitorsCall.{MonitorsCall}
+use Rattle.jg_words.specs.declared.call.monitors.MonitorsCall.TheVariants.{MonitorEnter, MonitorExit}
 use Rattle.jg_policy.specs.Stated.{StatedSetup}
 use Rattle.jg_policy.specs.Classes.{class_named, field_type, is_class_type}
 use Rattle.jg_policy.specs.Links as links
@@ -39,19 +42,49 @@ use Rattle.jg_words.specs.declared.object.Primitive.TheVariants.{Boolean, Byte, 
 use Rattle.std.specs.Option.{is_some, is_none}
 use Rattle.std.specs.Str.{bytes_eq}
 use Rattle.jg_buffers.specs.History as buffers
+use Rattle.jg_monitors.specs.History as monitors
 use Rattle.jg_rules.specs.Access.{native_class, refuses}
 use Rattle.jg_rules.specs.Passing.{passes_critical, passes_pending}
-use Rattle.jg_rules.specs.Names.{names, session, depth, open_frames, pending, class_of, native_meant}
+use Rattle.jg_rules.specs.Names.{names, session, depth, open_frames, pending, class_of, native_meant, object_named}
 use Rattle.jg_rules.specs.Operands.{operands, is_of}
 
 abbrev pub of_another : ℕ → Option EnvId → Bool
 of_another t None = false
 of_another t (Some env) = not (env.tid.0 == t)
 
--- 1: a call from thread 0, the virtual machine itself; or an environment of another thread
--- (JNI Specification, chapter 2, "JNI Interface Functions and Pointers": a JNIEnv is valid in its own thread alone)
-abbrev pub wrong_thread : ℕ → Option EnvId → Bool
-wrong_thread t env = (t == 0) || of_another t env
+-- the virtual machine itself collects
+abbrev pub vm_is_machine : VmCall → Bool
+vm_is_machine AttachCurrentThread = false
+vm_is_machine DetachCurrentThread = false
+vm_is_machine GetEnv = false
+vm_is_machine (NativeEnter class method signature) = false
+vm_is_machine (NativeLeave kept) = false
+vm_is_machine (LoadLibrary class library) = false
+vm_is_machine (RegisterNatives class method signature) = false
+vm_is_machine (UnregisterNatives class) = false
+vm_is_machine Collect = true
+
+-- and calls nothing else
+abbrev pub is_machine : Call → Bool
+is_machine (Vm call) = vm_is_machine call
+is_machine (Refs call) = false
+is_machine (Frames call) = false
+is_machine (Exceptions call) = false
+is_machine (Objects call) = false
+is_machine (Strings call) = false
+is_machine (Arrays call) = false
+is_machine (Monitors call) = false
+
+-- thread 0 stands for the virtual machine itself
+abbrev pub wrong_caller : ℕ → Bool → Bool
+wrong_caller t true = not (t == 0)
+wrong_caller t false = t == 0
+
+-- 1: a call of thread 0 that is none of the virtual machine's own, or one of those from another thread; or an
+-- environment of another thread (JNI Specification, chapter 2, "JNI Interface Functions and Pointers": a JNIEnv is valid
+-- in its own thread alone)
+abbrev pub wrong_thread : ℕ → Option EnvId → Call → Bool
+wrong_thread t env call = wrong_caller t (is_machine call) || of_another t env
 
 abbrev pub is_session : Option ℕ → ℕ → Bool
 is_session None n = false
@@ -87,15 +120,26 @@ is_nothing (Object o) = false
 abbrev pub dead_reference : Parts → ℕ → Call → Bool
 dead_reference p t call = list_any (λ x. is_nothing (names p t x.reference)) (operands call)
 
-abbrev pub is_not_local : Ref → Bool
-is_not_local Null = false
-is_not_local (To Local maker n) = false
-is_not_local (To Global maker n) = true
-is_not_local (To Weak maker n) = true
+-- null is of each kind
+abbrev pub is_not : Kind → Ref → Bool
+is_not kind Null = false
+is_not Local (To Local maker n) = false
+is_not Local (To Global maker n) = true
+is_not Local (To Weak maker n) = true
+is_not Global (To Local maker n) = true
+is_not Global (To Global maker n) = false
+is_not Global (To Weak maker n) = true
+is_not Weak (To Local maker n) = true
+is_not Weak (To Global maker n) = true
+is_not Weak (To Weak maker n) = false
 
 abbrev pub refs_wrong_kind : RefsCall → Bool
 refs_wrong_kind (NewLocalRef r) = false
-refs_wrong_kind (DeleteLocalRef r) = is_not_local r
+refs_wrong_kind (NewGlobalRef r) = false
+refs_wrong_kind (NewWeakGlobalRef r) = false
+refs_wrong_kind (DeleteLocalRef r) = is_not Local r
+refs_wrong_kind (DeleteGlobalRef r) = is_not Global r
+refs_wrong_kind (DeleteWeakGlobalRef r) = is_not Weak r
 refs_wrong_kind (IsSameObject r u) = false
 refs_wrong_kind (GetObjectRefType r) = false
 
@@ -108,6 +152,7 @@ wrong_kind (Exceptions call) = false
 wrong_kind (Objects call) = false
 wrong_kind (Strings call) = false
 wrong_kind (Arrays call) = false
+wrong_kind (Monitors call) = false
 
 abbrev pub is_null : Named → Bool
 is_null Nothing = false
@@ -178,6 +223,7 @@ bad_field s p t (Exceptions call) = false
 bad_field s p t (Objects call) = objects_bad_field s p t call
 bad_field s p t (Strings call) = false
 bad_field s p t (Arrays call) = false
+bad_field s p t (Monitors call) = false
 
 -- 11: a buffer that isn't the call's (JNI Specification, chapter 4, "Array Operations"). No function takes one yet
 abbrev pub bad_buffer : Call → Bool
@@ -188,6 +234,7 @@ bad_buffer (Exceptions call) = false
 bad_buffer (Objects call) = false
 bad_buffer (Strings call) = false
 bad_buffer (Arrays call) = false
+bad_buffer (Monitors call) = false
 
 abbrev pub vm_bad_argument : StatedSetup → VmCall → Bool
 vm_bad_argument s AttachCurrentThread = false
@@ -198,6 +245,7 @@ vm_bad_argument s (NativeLeave kept) = false
 vm_bad_argument s (LoadLibrary class library) = is_none (class_named s class)
 vm_bad_argument s (RegisterNatives class method signature) = false
 vm_bad_argument s (UnregisterNatives class) = false
+vm_bad_argument s Collect = false
 
 abbrev pub frames_bad_argument : FramesCall → Bool
 frames_bad_argument (PushLocalFrame capacity) = not (is_within (pos 0) (pos 65535) capacity)
@@ -250,6 +298,7 @@ bad_argument s (Exceptions call) = false
 bad_argument s (Objects call) = objects_bad_argument call
 bad_argument s (Strings call) = strings_bad_argument call
 bad_argument s (Arrays call) = arrays_bad_argument call
+bad_argument s (Monitors call) = false
 
 -- 13: a reference deleted through which a critical buffer is open. None can be pinned yet
 abbrev pub pinned : Call → Bool
@@ -260,17 +309,31 @@ pinned (Exceptions call) = false
 pinned (Objects call) = false
 pinned (Strings call) = false
 pinned (Arrays call) = false
+pinned (Monitors call) = false
 
--- 14: a monitor exited that isn't the caller's (JNI Specification, chapter 4, "Monitor Operations"). No function exits
--- one yet
-abbrev pub not_owner : Call → Bool
-not_owner (Vm call) = false
-not_owner (Refs call) = false
-not_owner (Frames call) = false
-not_owner (Exceptions call) = false
-not_owner (Objects call) = false
-not_owner (Strings call) = false
-not_owner (Arrays call) = false
+abbrev pub is_by : ℕ → Option ℕ → Bool
+is_by t None = false
+is_by t (Some owner) = owner == t
+
+-- another thread owns the object's monitor, or none does; a reference that names no object doesn't break this rule
+abbrev pub is_not_owned : Parts → ℕ → Option ℕ → Bool
+is_not_owned p t None = false
+is_not_owned p t (Some o) = not (is_by t (monitors.owner p.monitors o))
+
+abbrev pub monitors_not_owner : Parts → ℕ → MonitorsCall → Bool
+monitors_not_owner p t (MonitorEnter r) = false
+monitors_not_owner p t (MonitorExit r) = is_not_owned p t (object_named p t r)
+
+-- 14: a monitor exited that isn't the caller's (JNI Specification, chapter 4, "Monitor Operations")
+abbrev pub not_owner : Parts → ℕ → Call → Bool
+not_owner p t (Vm call) = false
+not_owner p t (Refs call) = false
+not_owner p t (Frames call) = false
+not_owner p t (Exceptions call) = false
+not_owner p t (Objects call) = false
+not_owner p t (Strings call) = false
+not_owner p t (Arrays call) = false
+not_owner p t (Monitors call) = monitors_not_owner p t call
 
 abbrev pub vm_bad_frame : Parts → ℕ → VmCall → Bool
 vm_bad_frame p t AttachCurrentThread = false
@@ -281,6 +344,7 @@ vm_bad_frame p t (NativeLeave kept) = depth p t == 0
 vm_bad_frame p t (LoadLibrary class library) = false
 vm_bad_frame p t (RegisterNatives class method signature) = false
 vm_bad_frame p t (UnregisterNatives class) = false
+vm_bad_frame p t Collect = false
 
 abbrev pub frames_bad_frame : Parts → ℕ → FramesCall → Bool
 frames_bad_frame p t (PushLocalFrame capacity) = false
@@ -296,6 +360,7 @@ bad_frame p t (Exceptions call) = false
 bad_frame p t (Objects call) = false
 bad_frame p t (Strings call) = false
 bad_frame p t (Arrays call) = false
+bad_frame p t (Monitors call) = false
 
 -- 16: refused native access (JEP 472)
 abbrev pub no_access : StatedSetup → Parts → ℕ → Call → Bool
@@ -317,6 +382,7 @@ vm_not_linked s p (NativeLeave kept) = false
 vm_not_linked s p (LoadLibrary class library) = false
 vm_not_linked s p (RegisterNatives class method signature) = false
 vm_not_linked s p (UnregisterNatives class) = false
+vm_not_linked s p Collect = false
 
 -- 17: a native method entered that isn't linked (JNI Specification, chapter 4, "Registering Native Methods")
 abbrev pub not_linked : StatedSetup → Parts → Call → Bool
@@ -327,10 +393,11 @@ not_linked s p (Exceptions call) = false
 not_linked s p (Objects call) = false
 not_linked s p (Strings call) = false
 not_linked s p (Arrays call) = false
+not_linked s p (Monitors call) = false
 
 -- the call breaks the rule
 abbrev pub broken : Rule → StatedSetup → Parts → ℕ → Option EnvId → Call → Bool
-broken WrongThread s p t env call = wrong_thread t env
+broken WrongThread s p t env call = wrong_thread t env call
 broken Detached s p t env call = detached p t env call
 broken InCritical s p t env call = in_critical p t call
 broken Pending s p t env call = while_pending p t call
@@ -343,7 +410,7 @@ broken BadField s p t env call = bad_field s p t call
 broken BadBuffer s p t env call = bad_buffer call
 broken BadArgument s p t env call = bad_argument s call
 broken Pinned s p t env call = pinned call
-broken NotOwner s p t env call = not_owner call
+broken NotOwner s p t env call = not_owner p t call
 broken BadFrame s p t env call = bad_frame p t call
 broken NoNativeAccess s p t env call = no_access s p t call
 broken NotLinked s p t env call = not_linked s p call

@@ -29,6 +29,7 @@ fn class_asked_by_vm<A: Allocator + Clone>(
         VmCall::LoadLibrary { class, .. } => view.setup.class_named(class),
         VmCall::RegisterNatives { class, .. } => class_meant(view, tid, *class),
         VmCall::UnregisterNatives { .. } => None,
+        VmCall::Collect => None,
     }
 }
 
@@ -43,6 +44,7 @@ fn class_asked<A: Allocator + Clone>(view: &View<'_, A>, tid: Tid, call: &Call) 
         Call::Objects(_) => None,
         Call::Strings(_) => None,
         Call::Arrays(_) => None,
+        Call::Monitors(_) => None,
     }
 }
 

@@ -2,11 +2,12 @@
 
 ghost use Rattle.std.specs.Prelude.{◌≡◌};
 ghost use Rattle.jg_rules.specs.Parts.{Parts};
-ghost use Rattle.jg_rules.specs.Rules.{verdict, own_verdict, wrong_thread, detached, in_critical, while_pending};
+ghost use Rattle.jg_rules.specs.Rules.{verdict, own_verdict, is_machine, wrong_caller, wrong_thread, detached, in_critical, while_pending};
 ghost use Rattle.jg_rules.specs.View.{ViewStands};
 
 mod arrays;
 mod frames;
+mod monitors;
 mod numbers;
 mod objects;
 mod references;
@@ -17,7 +18,8 @@ use crate::passing::{passes_critical_region, passes_pending_exception};
 use crate::view::View;
 use arrays::judge_arrays;
 use frames::judge_frames;
-use jg_words::{Call, EnvId, Rule, Tid};
+use jg_words::{Call, EnvId, Rule, Tid, VmCall};
+use monitors::judge_monitors;
 use objects::judge_objects;
 use references::judge_references;
 use std::alloc::Allocator;
@@ -33,7 +35,7 @@ pub fn first_broken<A: Allocator + Clone>(
 ) -> Option<Rule>
     ensures { (p : Parts) → ViewStands view.now p → result ≡ verdict view.now.setup.now p tid.0 env call.now }
 {
-    if is_wrong_thread(tid, env) {
+    if is_wrong_thread(tid, env, call) {
         return Some(Rule::WrongThread);
     }
     if is_detached(view, tid, env, call) {
@@ -64,15 +66,36 @@ fn judge_group<A: Allocator + Clone>(view: &View<'_, A>, tid: Tid, call: &Call) 
         Call::Objects(call) => judge_objects(view, tid, call),
         Call::Strings(call) => judge_strings(call),
         Call::Arrays(call) => judge_arrays(call),
+        Call::Monitors(call) => judge_monitors(view, tid, call),
     }
 }
 
-fn is_wrong_thread(tid: Tid, env: Option<EnvId>) -> bool
-    ensures { result ≡ wrong_thread tid.0 env }
+/// Whether the virtual machine itself makes the call.
+fn is_of_machine(call: &Call) -> bool
+    ensures { result ≡ is_machine call.now }
+{
+    match call {
+        Call::Vm(VmCall::Collect) => true,
+        _ => false,
+    }
+}
+
+fn is_wrong_caller(tid: Tid, is_of_machine: bool) -> bool
+    ensures { result ≡ wrong_caller tid.0 is_of_machine }
+{
+    if is_of_machine {
+        tid.0 != 0
+    } else {
+        tid.0 == 0
+    }
+}
+
+fn is_wrong_thread(tid: Tid, env: Option<EnvId>, call: &Call) -> bool
+    ensures { result ≡ wrong_thread tid.0 env call.now }
 {
     match env {
-        None => tid.0 == 0,
-        Some(env) => tid.0 == 0 || env.tid.0 != tid.0,
+        None => is_wrong_caller(tid, is_of_machine(call)),
+        Some(env) => is_wrong_caller(tid, is_of_machine(call)) || env.tid.0 != tid.0,
     }
 }
 

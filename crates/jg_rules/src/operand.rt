@@ -1,11 +1,11 @@
 //! The references among a call's operands, each with the type that its object must have.
 
 ghost use Rattle.std.specs.Prelude.{◌≡◌, ◌∷◌, []};
-ghost use Rattle.jg_rules.specs.Operands.{required as required_operand, listed, operands, vm_operands, refs_operands, frames_operands, exceptions_operands, objects_operands, strings_operands, arrays_operands};
+ghost use Rattle.jg_rules.specs.Operands.{required as required_operand, listed, operands, vm_operands, refs_operands, frames_operands, exceptions_operands, objects_operands, strings_operands, arrays_operands, monitors_operands};
 
 use jg_words::{
-    ArraysCall, Call, ExceptionsCall, FramesCall, ObjectsCall, Primitive, Ref, RefsCall,
-    StringsCall, VmCall,
+    ArraysCall, Call, ExceptionsCall, FramesCall, MonitorsCall, ObjectsCall, Primitive, Ref,
+    RefsCall, StringsCall, VmCall,
 };
 
 /// The type that a function declares for an operand (JNI Specification, chapter 3, "Reference
@@ -79,6 +79,7 @@ fn of_vm(call: &VmCall) -> Operands
         VmCall::LoadLibrary { .. } => Operands::Nil,
         VmCall::RegisterNatives { class, .. } => required(*class, ObjectType::ClassObject),
         VmCall::UnregisterNatives { class } => required(*class, ObjectType::ClassObject),
+        VmCall::Collect => Operands::Nil,
     }
 }
 
@@ -87,7 +88,11 @@ fn of_refs(call: &RefsCall) -> Operands
 {
     match call {
         RefsCall::NewLocalRef { of } => Operands::One(Operand::optional(*of)),
+        RefsCall::NewGlobalRef { of } => Operands::One(Operand::optional(*of)),
+        RefsCall::NewWeakGlobalRef { of } => Operands::One(Operand::optional(*of)),
         RefsCall::DeleteLocalRef { of } => Operands::One(Operand::optional(*of)),
+        RefsCall::DeleteGlobalRef { of } => Operands::One(Operand::optional(*of)),
+        RefsCall::DeleteWeakGlobalRef { of } => Operands::One(Operand::optional(*of)),
         RefsCall::IsSameObject { first, second } => {
             Operands::Two(Operand::optional(*first), Operand::optional(*second))
         }
@@ -176,6 +181,15 @@ fn of_arrays(call: &ArraysCall) -> Operands
     }
 }
 
+fn of_monitors(call: &MonitorsCall) -> Operands
+    ensures { listed result ≡ monitors_operands call.now }
+{
+    match call {
+        MonitorsCall::MonitorEnter { of } => required(*of, ObjectType::AnyObject),
+        MonitorsCall::MonitorExit { of } => required(*of, ObjectType::AnyObject),
+    }
+}
+
 /// One operand that must name an object of the type.
 fn required(reference: Ref, object_type: ObjectType) -> Operands
     ensures { listed result ≡ required_operand reference object_type ∷ [] }
@@ -195,5 +209,6 @@ pub fn operands_of(call: &Call) -> Operands
         Call::Objects(call) => of_objects(call),
         Call::Strings(call) => of_strings(call),
         Call::Arrays(call) => of_arrays(call),
+        Call::Monitors(call) => of_monitors(call),
     }
 }

@@ -1,7 +1,7 @@
 ghost use Rattle.std.specs.Prelude.{◌≡◌};
-ghost use Rattle.jg_rules.specs.Passing.{passes_critical, vm_passes_pending, refs_passes_pending, exceptions_passes_pending, passes_pending};
+ghost use Rattle.jg_rules.specs.Passing.{passes_critical, vm_passes_pending, refs_passes_pending, exceptions_passes_pending, monitors_passes_pending, passes_pending};
 
-use jg_words::{ExceptionsFun, Fun, RefsFun, VmFun};
+use jg_words::{ExceptionsFun, Fun, MonitorsFun, RefsFun, VmFun};
 
 /// Whether the function may be called inside a critical region.
 pub(crate) fn passes_critical_region(fun: Fun) -> bool
@@ -15,6 +15,7 @@ pub(crate) fn passes_critical_region(fun: Fun) -> bool
         Fun::Objects(_) => false,
         Fun::Strings(_) => false,
         Fun::Arrays(_) => false,
+        Fun::Monitors(_) => false,
     }
 }
 
@@ -30,6 +31,7 @@ fn vm_passes(fun: VmFun) -> bool
         VmFun::LoadLibrary => false,
         VmFun::RegisterNatives => false,
         VmFun::UnregisterNatives => false,
+        VmFun::Collect => false,
     }
 }
 
@@ -38,7 +40,11 @@ fn refs_passes(fun: RefsFun) -> bool
 {
     match fun {
         RefsFun::NewLocalRef => false,
+        RefsFun::NewGlobalRef => false,
+        RefsFun::NewWeakGlobalRef => false,
         RefsFun::DeleteLocalRef => true,
+        RefsFun::DeleteGlobalRef => true,
+        RefsFun::DeleteWeakGlobalRef => true,
         RefsFun::IsSameObject => false,
         RefsFun::GetObjectRefType => false,
     }
@@ -56,6 +62,15 @@ fn exceptions_passes(fun: ExceptionsFun) -> bool
     }
 }
 
+fn monitors_passes(fun: MonitorsFun) -> bool
+    ensures { result ≡ monitors_passes_pending fun }
+{
+    match fun {
+        MonitorsFun::MonitorEnter => false,
+        MonitorsFun::MonitorExit => true,
+    }
+}
+
 /// Whether the function may be called with an exception pending.
 pub(crate) fn passes_pending_exception(fun: Fun) -> bool
     ensures { result ≡ passes_pending fun }
@@ -68,5 +83,6 @@ pub(crate) fn passes_pending_exception(fun: Fun) -> bool
         Fun::Objects(_) => false,
         Fun::Strings(_) => false,
         Fun::Arrays(_) => false,
+        Fun::Monitors(fun) => monitors_passes(fun),
     }
 }

@@ -17,12 +17,14 @@ use Rattle.jg_words.specs.declared.fun.strings.StringsFun.{StringsFun}
 use Rattle.jg_words.specs.declared.fun.strings.StringsFun.TheVariants as strings
 use Rattle.jg_words.specs.declared.fun.arrays.ArraysFun.{ArraysFun}
 use Rattle.jg_words.specs.declared.fun.arrays.ArraysFun.TheVariants as arrays
+use Rattle.jg_words.specs.declared.fun.monitors.MonitorsFun.{MonitorsFun}
+use Rattle.jg_words.specs.declared.fun.monitors.MonitorsFun.TheVariants as monitors
 use Rattle.jg_words.specs.declared.call.Call.{Call}
-use Rattle.jg_words.specs.declared.call.Call.TheVariants.{Vm, Refs, Frames, Exceptions, Objects, Strings, Arrays}
+use Rattle.jg_words.specs.declared.call.Call.TheVariants.{Vm, Refs, Frames, Exceptions, Objects, Strings, Arrays, Monitors}
 use Rattle.jg_words.specs.declared.call.vm.VmCall.{VmCall}
-use Rattle.jg_words.specs.declared.call.vm.VmCall.TheVariants.{AttachCurrentThread, DetachCurrentThread, GetEnv, NativeEnter, NativeLeave, LoadLibrary, RegisterNatives, UnregisterNatives}
+use Rattle.jg_words.specs.declared.call.vm.VmCall.TheVariants.{AttachCurrentThread, DetachCurrentThread, GetEnv, NativeEnter, NativeLeave, LoadLibrary, RegisterNatives, UnregisterNatives, Collect}
 use Rattle.jg_words.specs.declared.call.refs.RefsCall.{RefsCall}
-use Rattle.jg_words.specs.declared.call.refs.RefsCall.TheVariants.{NewLocalRef, DeleteLocalRef, IsSameObject, GetObjectRefType}
+use Rattle.jg_words.specs.declared.call.refs.RefsCall.TheVariants.{NewLocalRef, NewGlobalRef, NewWeakGlobalRef, DeleteLocalRef, DeleteGlobalRef, DeleteWeakGlobalRef, IsSameObject, GetObjectRefType}
 use Rattle.jg_words.specs.declared.call.frames.FramesCall.{FramesCall}
 use Rattle.jg_words.specs.declared.call.frames.FramesCall.TheVariants.{PushLocalFrame, PopLocalFrame}
 use Rattle.jg_words.specs.declared.call.exceptions.ExceptionsCall.{ExceptionsCall}
@@ -33,10 +35,12 @@ use Rattle.jg_words.specs.declared.call.strings.StringsCall.{StringsCall}
 use Rattle.jg_words.specs.declared.call.strings.StringsCall.TheVariants.{NewString, NewStringUTF, GetStringLength, GetStringUTFLength, GetStringRegion}
 use Rattle.jg_words.specs.declared.call.arrays.ArraysCall.{ArraysCall}
 use Rattle.jg_words.specs.declared.call.arrays.ArraysCall.TheVariants.{NewArray, GetArrayLength, GetArrayRegion, SetArrayRegion, NewObjectArray, GetObjectArrayElement, SetObjectArrayElement}
-use Rattle.jg_words.specs.Call.{fun_of, vm_fun, refs_fun, frames_fun, exceptions_fun, objects_fun, strings_fun, arrays_fun}
+use Rattle.jg_words.specs.declared.call.monitors.MonitorsCall.{MonitorsCall}
+use Rattle.jg_words.specs.declared.call.monitors.MonitorsCall.TheVariants.{MonitorEnter, MonitorExit}
+use Rattle.jg_words.specs.Call.{fun_of, vm_fun, refs_fun, frames_fun, exceptions_fun, objects_fun, strings_fun, arrays_fun, monitors_fun}
 use Rattle.jg_text.specs.Kinds.{OperandKind, Reference, Number, LongNumber, Numbers, Name, Field}
 use Rattle.jg_text.specs.Words.{kind_of}
-use Rattle.jg_text.specs.Operands.{operands, operand_kinds, vm_operands, vm_kinds, refs_operands, refs_kinds, frames_operands, frames_kinds, exceptions_operands, exceptions_kinds, objects_operands, objects_kinds, strings_operands, strings_kinds, arrays_operands, arrays_kinds}
+use Rattle.jg_text.specs.Operands.{operands, operand_kinds, vm_operands, vm_kinds, refs_operands, refs_kinds, frames_operands, frames_kinds, exceptions_operands, exceptions_kinds, objects_operands, objects_kinds, strings_operands, strings_kinds, arrays_operands, arrays_kinds, monitors_operands, monitors_kinds}
 
 -- how long an operand of the kind is at most
 abbrev pub longest : OperandKind → ℕ
@@ -61,6 +65,7 @@ vm_same (NativeLeave a0) (NativeLeave b0) e1 e2 = cc
 vm_same (LoadLibrary a0 a1) (LoadLibrary b0 b1) e1 e2 = cc
 vm_same (RegisterNatives a0 a1 a2) (RegisterNatives b0 b1 b2) e1 e2 = cc
 vm_same (UnregisterNatives a0) (UnregisterNatives b0) e1 e2 = cc
+vm_same Collect Collect e1 e2 = refl
 vm_same _ _ e1 e2 = absurd (cc)
 
 vm_few : (f : VmFun) → room (vm_kinds f) ≤ 21600
@@ -72,6 +77,7 @@ vm_few vm.NativeLeave = omega arith
 vm_few vm.LoadLibrary = omega arith
 vm_few vm.RegisterNatives = omega arith
 vm_few vm.UnregisterNatives = omega arith
+vm_few vm.Collect = omega arith
 
 vm_same_kinds : (c : VmCall) → map kind_of (vm_operands c) ≡ vm_kinds (vm_fun c)
 vm_same_kinds AttachCurrentThread = refl
@@ -82,23 +88,36 @@ vm_same_kinds (NativeLeave kept) = refl
 vm_same_kinds (LoadLibrary class library) = refl
 vm_same_kinds (RegisterNatives class method signature) = refl
 vm_same_kinds (UnregisterNatives class) = refl
+vm_same_kinds Collect = refl
 
 refs_same : (c d : RefsCall) → refs_fun c ≡ refs_fun d → refs_operands c ≡ refs_operands d → c ≡ d
 refs_same (NewLocalRef a0) (NewLocalRef b0) e1 e2 = cc
+refs_same (NewGlobalRef a0) (NewGlobalRef b0) e1 e2 = cc
+refs_same (NewWeakGlobalRef a0) (NewWeakGlobalRef b0) e1 e2 = cc
 refs_same (DeleteLocalRef a0) (DeleteLocalRef b0) e1 e2 = cc
+refs_same (DeleteGlobalRef a0) (DeleteGlobalRef b0) e1 e2 = cc
+refs_same (DeleteWeakGlobalRef a0) (DeleteWeakGlobalRef b0) e1 e2 = cc
 refs_same (IsSameObject a0 a1) (IsSameObject b0 b1) e1 e2 = cc
 refs_same (GetObjectRefType a0) (GetObjectRefType b0) e1 e2 = cc
 refs_same _ _ e1 e2 = absurd (cc)
 
 refs_few : (f : RefsFun) → room (refs_kinds f) ≤ 21600
 refs_few refs.NewLocalRef = omega arith
+refs_few refs.NewGlobalRef = omega arith
+refs_few refs.NewWeakGlobalRef = omega arith
 refs_few refs.DeleteLocalRef = omega arith
+refs_few refs.DeleteGlobalRef = omega arith
+refs_few refs.DeleteWeakGlobalRef = omega arith
 refs_few refs.IsSameObject = omega arith
 refs_few refs.GetObjectRefType = omega arith
 
 refs_same_kinds : (c : RefsCall) → map kind_of (refs_operands c) ≡ refs_kinds (refs_fun c)
 refs_same_kinds (NewLocalRef r) = refl
+refs_same_kinds (NewGlobalRef r) = refl
+refs_same_kinds (NewWeakGlobalRef r) = refl
 refs_same_kinds (DeleteLocalRef r) = refl
+refs_same_kinds (DeleteGlobalRef r) = refl
+refs_same_kinds (DeleteWeakGlobalRef r) = refl
 refs_same_kinds (IsSameObject r q) = refl
 refs_same_kinds (GetObjectRefType r) = refl
 
@@ -221,6 +240,19 @@ arrays_same_kinds (NewObjectArray length class fill) = refl
 arrays_same_kinds (GetObjectArrayElement array index) = refl
 arrays_same_kinds (SetObjectArrayElement array index value) = refl
 
+monitors_same : (c d : MonitorsCall) → monitors_fun c ≡ monitors_fun d → monitors_operands c ≡ monitors_operands d → c ≡ d
+monitors_same (MonitorEnter a0) (MonitorEnter b0) e1 e2 = cc
+monitors_same (MonitorExit a0) (MonitorExit b0) e1 e2 = cc
+monitors_same _ _ e1 e2 = absurd (cc)
+
+monitors_few : (f : MonitorsFun) → room (monitors_kinds f) ≤ 21600
+monitors_few monitors.MonitorEnter = omega arith
+monitors_few monitors.MonitorExit = omega arith
+
+monitors_same_kinds : (c : MonitorsCall) → map kind_of (monitors_operands c) ≡ monitors_kinds (monitors_fun c)
+monitors_same_kinds (MonitorEnter r) = refl
+monitors_same_kinds (MonitorExit r) = refl
+
 pub same_call : (c d : Call) → fun_of c ≡ fun_of d → operands c ≡ operands d → c ≡ d
 same_call (Vm c) (Vm d) e1 e2 = ap Vm (vm_same c d (cc) e2)
 same_call (Refs c) (Refs d) e1 e2 = ap Refs (refs_same c d (cc) e2)
@@ -229,6 +261,7 @@ same_call (Exceptions c) (Exceptions d) e1 e2 = ap Exceptions (exceptions_same c
 same_call (Objects c) (Objects d) e1 e2 = ap Objects (objects_same c d (cc) e2)
 same_call (Strings c) (Strings d) e1 e2 = ap Strings (strings_same c d (cc) e2)
 same_call (Arrays c) (Arrays d) e1 e2 = ap Arrays (arrays_same c d (cc) e2)
+same_call (Monitors c) (Monitors d) e1 e2 = ap Monitors (monitors_same c d (cc) e2)
 same_call _ _ e1 e2 = absurd (cc)
 
 pub same_kinds : (c : Call) → map kind_of (operands c) ≡ operand_kinds (fun_of c)
@@ -239,6 +272,7 @@ same_kinds (Exceptions c) = exceptions_same_kinds c
 same_kinds (Objects c) = objects_same_kinds c
 same_kinds (Strings c) = strings_same_kinds c
 same_kinds (Arrays c) = arrays_same_kinds c
+same_kinds (Monitors c) = monitors_same_kinds c
 
 pub few_operands : (f : Fun) → room (operand_kinds f) ≤ 21600
 few_operands (fun.Vm f) = vm_few f
@@ -248,3 +282,4 @@ few_operands (fun.Exceptions f) = exceptions_few f
 few_operands (fun.Objects f) = objects_few f
 few_operands (fun.Strings f) = strings_few f
 few_operands (fun.Arrays f) = arrays_few f
+few_operands (fun.Monitors f) = monitors_few f

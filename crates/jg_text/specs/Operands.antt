@@ -17,12 +17,14 @@ use Rattle.jg_words.specs.declared.fun.strings.StringsFun.{StringsFun}
 use Rattle.jg_words.specs.declared.fun.strings.StringsFun.TheVariants as strings
 use Rattle.jg_words.specs.declared.fun.arrays.ArraysFun.{ArraysFun}
 use Rattle.jg_words.specs.declared.fun.arrays.ArraysFun.TheVariants as arrays
+use Rattle.jg_words.specs.declared.fun.monitors.MonitorsFun.{MonitorsFun}
+use Rattle.jg_words.specs.declared.fun.monitors.MonitorsFun.TheVariants as monitors
 use Rattle.jg_words.specs.declared.call.Call.{Call}
-use Rattle.jg_words.specs.declared.call.Call.TheVariants.{Vm, Refs, Frames, Exceptions, Objects, Strings, Arrays}
+use Rattle.jg_words.specs.declared.call.Call.TheVariants.{Vm, Refs, Frames, Exceptions, Objects, Strings, Arrays, Monitors}
 use Rattle.jg_words.specs.declared.call.vm.VmCall.{VmCall}
-use Rattle.jg_words.specs.declared.call.vm.VmCall.TheVariants.{AttachCurrentThread, DetachCurrentThread, GetEnv, NativeEnter, NativeLeave, LoadLibrary, RegisterNatives, UnregisterNatives}
+use Rattle.jg_words.specs.declared.call.vm.VmCall.TheVariants.{AttachCurrentThread, DetachCurrentThread, GetEnv, NativeEnter, NativeLeave, LoadLibrary, RegisterNatives, UnregisterNatives, Collect}
 use Rattle.jg_words.specs.declared.call.refs.RefsCall.{RefsCall}
-use Rattle.jg_words.specs.declared.call.refs.RefsCall.TheVariants.{NewLocalRef, DeleteLocalRef, IsSameObject, GetObjectRefType}
+use Rattle.jg_words.specs.declared.call.refs.RefsCall.TheVariants.{NewLocalRef, NewGlobalRef, NewWeakGlobalRef, DeleteLocalRef, DeleteGlobalRef, DeleteWeakGlobalRef, IsSameObject, GetObjectRefType}
 use Rattle.jg_words.specs.declared.call.frames.FramesCall.{FramesCall}
 use Rattle.jg_words.specs.declared.call.frames.FramesCall.TheVariants.{PushLocalFrame, PopLocalFrame}
 use Rattle.jg_words.specs.declared.call.exceptions.ExceptionsCall.{ExceptionsCall}
@@ -33,6 +35,8 @@ use Rattle.jg_words.specs.declared.call.strings.StringsCall.{StringsCall}
 use Rattle.jg_words.specs.declared.call.strings.StringsCall.TheVariants.{NewString, NewStringUTF, GetStringLength, GetStringUTFLength, GetStringRegion}
 use Rattle.jg_words.specs.declared.call.arrays.ArraysCall.{ArraysCall}
 use Rattle.jg_words.specs.declared.call.arrays.ArraysCall.TheVariants.{NewArray, GetArrayLength, GetArrayRegion, SetArrayRegion, NewObjectArray, GetObjectArrayElement, SetObjectArrayElement}
+use Rattle.jg_words.specs.declared.call.monitors.MonitorsCall.{MonitorsCall}
+use Rattle.jg_words.specs.declared.call.monitors.MonitorsCall.TheVariants.{MonitorEnter, MonitorExit}
 use Rattle.jg_text.specs.Words.{Word, of_ref, of_number, of_long_number, of_items, of_name, of_field, text_of, FitsWord}
 use Rattle.jg_text.specs.Kinds.{OperandKind, Reference, Number, LongNumber, Numbers, Name, Field}
 
@@ -47,10 +51,15 @@ vm_kinds vm.NativeLeave = Reference ∷ []
 vm_kinds vm.LoadLibrary = Name ∷ Name ∷ []
 vm_kinds vm.RegisterNatives = Reference ∷ Name ∷ Name ∷ []
 vm_kinds vm.UnregisterNatives = Reference ∷ []
+vm_kinds vm.Collect = []
 
 abbrev pub refs_kinds : RefsFun → List OperandKind
 refs_kinds refs.NewLocalRef = Reference ∷ []
+refs_kinds refs.NewGlobalRef = Reference ∷ []
+refs_kinds refs.NewWeakGlobalRef = Reference ∷ []
 refs_kinds refs.DeleteLocalRef = Reference ∷ []
+refs_kinds refs.DeleteGlobalRef = Reference ∷ []
+refs_kinds refs.DeleteWeakGlobalRef = Reference ∷ []
 refs_kinds refs.IsSameObject = Reference ∷ Reference ∷ []
 refs_kinds refs.GetObjectRefType = Reference ∷ []
 
@@ -92,6 +101,10 @@ arrays_kinds arrays.NewObjectArray = Number ∷ Reference ∷ Reference ∷ []
 arrays_kinds arrays.GetObjectArrayElement = Reference ∷ Number ∷ []
 arrays_kinds arrays.SetObjectArrayElement = Reference ∷ Number ∷ Reference ∷ []
 
+abbrev pub monitors_kinds : MonitorsFun → List OperandKind
+monitors_kinds monitors.MonitorEnter = Reference ∷ []
+monitors_kinds monitors.MonitorExit = Reference ∷ []
+
 abbrev pub operand_kinds : Fun → List OperandKind
 operand_kinds (fun.Vm f) = vm_kinds f
 operand_kinds (fun.Refs f) = refs_kinds f
@@ -100,6 +113,7 @@ operand_kinds (fun.Exceptions f) = exceptions_kinds f
 operand_kinds (fun.Objects f) = objects_kinds f
 operand_kinds (fun.Strings f) = strings_kinds f
 operand_kinds (fun.Arrays f) = arrays_kinds f
+operand_kinds (fun.Monitors f) = monitors_kinds f
 
 -- the operands of a call, from left to right
 abbrev pub vm_operands : VmCall → List Word
@@ -111,10 +125,15 @@ vm_operands (NativeLeave kept) = of_ref kept ∷ []
 vm_operands (LoadLibrary class library) = of_name class ∷ of_name library ∷ []
 vm_operands (RegisterNatives class method signature) = of_ref class ∷ of_name method ∷ of_name signature ∷ []
 vm_operands (UnregisterNatives class) = of_ref class ∷ []
+vm_operands Collect = []
 
 abbrev pub refs_operands : RefsCall → List Word
 refs_operands (NewLocalRef r) = of_ref r ∷ []
+refs_operands (NewGlobalRef r) = of_ref r ∷ []
+refs_operands (NewWeakGlobalRef r) = of_ref r ∷ []
 refs_operands (DeleteLocalRef r) = of_ref r ∷ []
+refs_operands (DeleteGlobalRef r) = of_ref r ∷ []
+refs_operands (DeleteWeakGlobalRef r) = of_ref r ∷ []
 refs_operands (IsSameObject r q) = of_ref r ∷ of_ref q ∷ []
 refs_operands (GetObjectRefType r) = of_ref r ∷ []
 
@@ -156,6 +175,10 @@ arrays_operands (NewObjectArray length class fill) = of_number length ∷ of_ref
 arrays_operands (GetObjectArrayElement array index) = of_ref array ∷ of_number index ∷ []
 arrays_operands (SetObjectArrayElement array index value) = of_ref array ∷ of_number index ∷ of_ref value ∷ []
 
+abbrev pub monitors_operands : MonitorsCall → List Word
+monitors_operands (MonitorEnter r) = of_ref r ∷ []
+monitors_operands (MonitorExit r) = of_ref r ∷ []
+
 abbrev pub operands : Call → List Word
 operands (Vm c) = vm_operands c
 operands (Refs c) = refs_operands c
@@ -164,6 +187,7 @@ operands (Exceptions c) = exceptions_operands c
 operands (Objects c) = objects_operands c
 operands (Strings c) = strings_operands c
 operands (Arrays c) = arrays_operands c
+operands (Monitors c) = monitors_operands c
 
 -- how a call's operands are spelt
 abbrev pub operand_texts : Call → List (List ℕ)

@@ -9,6 +9,7 @@ ghost use Rattle.jg_text.specs.Pieces.{rest_fields, after_spaces, IsOperandFault
 mod arrays;
 mod exceptions;
 mod frames;
+mod monitors;
 mod objects;
 mod refs;
 mod strings;
@@ -30,6 +31,7 @@ pub fn arity(fun: Fun) -> usize
         Fun::Objects(fun) => objects::arity(fun),
         Fun::Strings(fun) => strings::arity(fun),
         Fun::Arrays(fun) => arrays::arity(fun),
+        Fun::Monitors(fun) => monitors::arity(fun),
     }
 }
 
@@ -47,6 +49,7 @@ pub fn read(alloc: Global, fun: Fun, rest: Option<&[u8]>) -> Result<Call, Script
         Fun::Objects(fun) => objects::read(alloc, fun, rest).map(Call::Objects),
         Fun::Strings(fun) => strings::read(alloc, fun, rest).map(Call::Strings),
         Fun::Arrays(fun) => arrays::read(alloc, fun, rest).map(Call::Arrays),
+        Fun::Monitors(fun) => monitors::read(alloc, fun, rest).map(Call::Monitors),
     }
 }
 
@@ -62,5 +65,6 @@ pub fn write(out: &mut String, call: &Call) -> Result<(), AllocError>
         Call::Objects(call) => objects::write(out, call),
         Call::Strings(call) => strings::write(out, call),
         Call::Arrays(call) => arrays::write(out, call),
+        Call::Monitors(call) => monitors::write(out, call),
     }
 }

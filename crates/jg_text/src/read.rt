@@ -16,8 +16,8 @@ use crate::groups;
 use crate::operand::cut;
 use crate::word::{read_env, read_tid};
 use jg_words::{
-    ArraysFun, Call, EnvId, ExceptionsFun, FramesFun, Fun, ObjectsFun, Primitive, RefsFun,
-    StringsFun, Tid, VmFun,
+    ArraysFun, Call, EnvId, ExceptionsFun, FramesFun, Fun, MonitorsFun, ObjectsFun, Primitive,
+    RefsFun, StringsFun, Tid, VmFun,
 };
 use std::alloc::Global;
 
@@ -64,7 +64,7 @@ const BY_LENGTH: [&[Fun]; 22] = [
     &[],
     &[Fun::Exceptions(ExceptionsFun::Throw)],
     &[Fun::Vm(VmFun::GetEnv)],
-    &[],
+    &[Fun::Vm(VmFun::Collect)],
     &[],
     &[
         Fun::Objects(ObjectsFun::FindClass),
@@ -80,8 +80,10 @@ const BY_LENGTH: [&[Fun]; 22] = [
         Fun::Objects(ObjectsFun::GetField(Primitive::Int)),
         Fun::Objects(ObjectsFun::SetField(Primitive::Int)),
         Fun::Arrays(ArraysFun::NewArray(Primitive::Int)),
+        Fun::Monitors(MonitorsFun::MonitorExit),
     ],
     &[
+        Fun::Refs(RefsFun::NewGlobalRef),
         Fun::Refs(RefsFun::IsSameObject),
         Fun::Objects(ObjectsFun::IsInstanceOf),
         Fun::Objects(ObjectsFun::GetField(Primitive::Byte)),
@@ -94,6 +96,7 @@ const BY_LENGTH: [&[Fun]; 22] = [
         Fun::Arrays(ArraysFun::NewArray(Primitive::Byte)),
         Fun::Arrays(ArraysFun::NewArray(Primitive::Char)),
         Fun::Arrays(ArraysFun::NewArray(Primitive::Long)),
+        Fun::Monitors(MonitorsFun::MonitorEnter),
     ],
     &[
         Fun::Frames(FramesFun::PopLocalFrame),
@@ -114,13 +117,17 @@ const BY_LENGTH: [&[Fun]; 22] = [
     ],
     &[
         Fun::Vm(VmFun::RegisterNatives),
+        Fun::Refs(RefsFun::DeleteGlobalRef),
         Fun::Objects(ObjectsFun::GetField(Primitive::Boolean)),
         Fun::Objects(ObjectsFun::SetField(Primitive::Boolean)),
         Fun::Strings(StringsFun::GetStringLength),
         Fun::Strings(StringsFun::GetStringRegion),
         Fun::Arrays(ArraysFun::NewArray(Primitive::Boolean)),
     ],
-    &[Fun::Refs(RefsFun::GetObjectRefType)],
+    &[
+        Fun::Refs(RefsFun::NewWeakGlobalRef),
+        Fun::Refs(RefsFun::GetObjectRefType),
+    ],
     &[
         Fun::Vm(VmFun::UnregisterNatives),
         Fun::Exceptions(ExceptionsFun::ExceptionOccurred),
@@ -140,6 +147,7 @@ const BY_LENGTH: [&[Fun]; 22] = [
     &[
         Fun::Vm(VmFun::AttachCurrentThread),
         Fun::Vm(VmFun::DetachCurrentThread),
+        Fun::Refs(RefsFun::DeleteWeakGlobalRef),
         Fun::Arrays(ArraysFun::GetArrayRegion(Primitive::Short)),
         Fun::Arrays(ArraysFun::SetArrayRegion(Primitive::Short)),
     ],

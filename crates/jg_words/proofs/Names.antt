@@ -2,11 +2,11 @@
 use Rattle.std.proofs.Common.{◌≡◌, Some, refl}
 use Rattle.jg_words.specs.declared.object.Primitive.TheVariants.{Boolean, Byte, Char, Short, Int, Long}
 use Rattle.jg_words.specs.declared.fun.Fun.{Fun}
-use Rattle.jg_words.specs.declared.fun.Fun.TheVariants.{Vm, Refs, Frames, Exceptions, Objects, Strings, Arrays}
+use Rattle.jg_words.specs.declared.fun.Fun.TheVariants.{Vm, Refs, Frames, Exceptions, Objects, Strings, Arrays, Monitors}
 use Rattle.jg_words.specs.declared.fun.vm.VmFun.{VmFun}
-use Rattle.jg_words.specs.declared.fun.vm.VmFun.TheVariants.{AttachCurrentThread, DetachCurrentThread, GetEnv, NativeEnter, NativeLeave, LoadLibrary, RegisterNatives, UnregisterNatives}
+use Rattle.jg_words.specs.declared.fun.vm.VmFun.TheVariants.{AttachCurrentThread, DetachCurrentThread, GetEnv, NativeEnter, NativeLeave, LoadLibrary, RegisterNatives, UnregisterNatives, Collect}
 use Rattle.jg_words.specs.declared.fun.refs.RefsFun.{RefsFun}
-use Rattle.jg_words.specs.declared.fun.refs.RefsFun.TheVariants.{NewLocalRef, DeleteLocalRef, IsSameObject, GetObjectRefType}
+use Rattle.jg_words.specs.declared.fun.refs.RefsFun.TheVariants.{NewLocalRef, NewGlobalRef, NewWeakGlobalRef, DeleteLocalRef, DeleteGlobalRef, DeleteWeakGlobalRef, IsSameObject, GetObjectRefType}
 use Rattle.jg_words.specs.declared.fun.frames.FramesFun.{FramesFun}
 use Rattle.jg_words.specs.declared.fun.frames.FramesFun.TheVariants.{PushLocalFrame, PopLocalFrame}
 use Rattle.jg_words.specs.declared.fun.exceptions.ExceptionsFun.{ExceptionsFun}
@@ -17,6 +17,8 @@ use Rattle.jg_words.specs.declared.fun.strings.StringsFun.{StringsFun}
 use Rattle.jg_words.specs.declared.fun.strings.StringsFun.TheVariants.{NewString, NewStringUTF, GetStringLength, GetStringUTFLength, GetStringRegion}
 use Rattle.jg_words.specs.declared.fun.arrays.ArraysFun.{ArraysFun}
 use Rattle.jg_words.specs.declared.fun.arrays.ArraysFun.TheVariants.{NewArray, GetArrayLength, GetArrayRegion, SetArrayRegion, NewObjectArray, GetObjectArrayElement, SetObjectArrayElement}
+use Rattle.jg_words.specs.declared.fun.monitors.MonitorsFun.{MonitorsFun}
+use Rattle.jg_words.specs.declared.fun.monitors.MonitorsFun.TheVariants.{MonitorEnter, MonitorExit}
 use Rattle.jg_words.specs.Fun.{name_of, named}
 
 pub named-name_of : (fun : Fun) → named (name_of fun) ≡ Some fun
@@ -28,8 +30,13 @@ named-name_of (Vm NativeLeave) = refl
 named-name_of (Vm LoadLibrary) = refl
 named-name_of (Vm RegisterNatives) = refl
 named-name_of (Vm UnregisterNatives) = refl
+named-name_of (Vm Collect) = refl
 named-name_of (Refs NewLocalRef) = refl
+named-name_of (Refs NewGlobalRef) = refl
+named-name_of (Refs NewWeakGlobalRef) = refl
 named-name_of (Refs DeleteLocalRef) = refl
+named-name_of (Refs DeleteGlobalRef) = refl
+named-name_of (Refs DeleteWeakGlobalRef) = refl
 named-name_of (Refs IsSameObject) = refl
 named-name_of (Refs GetObjectRefType) = refl
 named-name_of (Frames PushLocalFrame) = refl
@@ -85,3 +92,5 @@ named-name_of (Arrays (SetArrayRegion Long)) = refl
 named-name_of (Arrays NewObjectArray) = refl
 named-name_of (Arrays GetObjectArrayElement) = refl
 named-name_of (Arrays SetObjectArrayElement) = refl
+named-name_of (Monitors MonitorEnter) = refl
+named-name_of (Monitors MonitorExit) = refl

@@ -15,12 +15,14 @@ use Rattle.jg_words.specs.declared.fun.strings.StringsFun.{StringsFun}
 use Rattle.jg_words.specs.declared.fun.strings.StringsFun.TheVariants as strings
 use Rattle.jg_words.specs.declared.fun.arrays.ArraysFun.{ArraysFun}
 use Rattle.jg_words.specs.declared.fun.arrays.ArraysFun.TheVariants as arrays
+use Rattle.jg_words.specs.declared.fun.monitors.MonitorsFun.{MonitorsFun}
+use Rattle.jg_words.specs.declared.fun.monitors.MonitorsFun.TheVariants as monitors
 use Rattle.jg_words.specs.declared.call.Call.{Call}
-use Rattle.jg_words.specs.declared.call.Call.TheVariants.{Vm, Refs, Frames, Exceptions, Objects, Strings, Arrays}
+use Rattle.jg_words.specs.declared.call.Call.TheVariants.{Vm, Refs, Frames, Exceptions, Objects, Strings, Arrays, Monitors}
 use Rattle.jg_words.specs.declared.call.vm.VmCall.{VmCall}
-use Rattle.jg_words.specs.declared.call.vm.VmCall.TheVariants.{AttachCurrentThread, DetachCurrentThread, GetEnv, NativeEnter, NativeLeave, LoadLibrary, RegisterNatives, UnregisterNatives}
+use Rattle.jg_words.specs.declared.call.vm.VmCall.TheVariants.{AttachCurrentThread, DetachCurrentThread, GetEnv, NativeEnter, NativeLeave, LoadLibrary, RegisterNatives, UnregisterNatives, Collect}
 use Rattle.jg_words.specs.declared.call.refs.RefsCall.{RefsCall}
-use Rattle.jg_words.specs.declared.call.refs.RefsCall.TheVariants.{NewLocalRef, DeleteLocalRef, IsSameObject, GetObjectRefType}
+use Rattle.jg_words.specs.declared.call.refs.RefsCall.TheVariants.{NewLocalRef, NewGlobalRef, NewWeakGlobalRef, DeleteLocalRef, DeleteGlobalRef, DeleteWeakGlobalRef, IsSameObject, GetObjectRefType}
 use Rattle.jg_words.specs.declared.call.frames.FramesCall.{FramesCall}
 use Rattle.jg_words.specs.declared.call.frames.FramesCall.TheVariants.{PushLocalFrame, PopLocalFrame}
 use Rattle.jg_words.specs.declared.call.exceptions.ExceptionsCall.{ExceptionsCall}
@@ -31,6 +33,8 @@ use Rattle.jg_words.specs.declared.call.strings.StringsCall.{StringsCall}
 use Rattle.jg_words.specs.declared.call.strings.StringsCall.TheVariants.{NewString, NewStringUTF, GetStringLength, GetStringUTFLength, GetStringRegion}
 use Rattle.jg_words.specs.declared.call.arrays.ArraysCall.{ArraysCall}
 use Rattle.jg_words.specs.declared.call.arrays.ArraysCall.TheVariants.{NewArray, GetArrayLength, GetArrayRegion, SetArrayRegion, NewObjectArray, GetObjectArrayElement, SetObjectArrayElement}
+use Rattle.jg_words.specs.declared.call.monitors.MonitorsCall.{MonitorsCall}
+use Rattle.jg_words.specs.declared.call.monitors.MonitorsCall.TheVariants.{MonitorEnter, MonitorExit}
 
 abbrev pub vm_fun : VmCall → VmFun
 vm_fun AttachCurrentThread = vm.AttachCurrentThread
@@ -41,10 +45,15 @@ vm_fun (NativeLeave kept) = vm.NativeLeave
 vm_fun (LoadLibrary class library) = vm.LoadLibrary
 vm_fun (RegisterNatives class method signature) = vm.RegisterNatives
 vm_fun (UnregisterNatives class) = vm.UnregisterNatives
+vm_fun Collect = vm.Collect
 
 abbrev pub refs_fun : RefsCall → RefsFun
 refs_fun (NewLocalRef of) = refs.NewLocalRef
+refs_fun (NewGlobalRef of) = refs.NewGlobalRef
+refs_fun (NewWeakGlobalRef of) = refs.NewWeakGlobalRef
 refs_fun (DeleteLocalRef of) = refs.DeleteLocalRef
+refs_fun (DeleteGlobalRef of) = refs.DeleteGlobalRef
+refs_fun (DeleteWeakGlobalRef of) = refs.DeleteWeakGlobalRef
 refs_fun (IsSameObject first second) = refs.IsSameObject
 refs_fun (GetObjectRefType of) = refs.GetObjectRefType
 
@@ -86,6 +95,10 @@ arrays_fun (NewObjectArray length class fill) = arrays.NewObjectArray
 arrays_fun (GetObjectArrayElement array index) = arrays.GetObjectArrayElement
 arrays_fun (SetObjectArrayElement array index value) = arrays.SetObjectArrayElement
 
+abbrev pub monitors_fun : MonitorsCall → MonitorsFun
+monitors_fun (MonitorEnter of) = monitors.MonitorEnter
+monitors_fun (MonitorExit of) = monitors.MonitorExit
+
 abbrev pub fun_of : Call → Fun
 fun_of (Vm call) = fun.Vm (vm_fun call)
 fun_of (Refs call) = fun.Refs (refs_fun call)
@@ -94,3 +107,4 @@ fun_of (Exceptions call) = fun.Exceptions (exceptions_fun call)
 fun_of (Objects call) = fun.Objects (objects_fun call)
 fun_of (Strings call) = fun.Strings (strings_fun call)
 fun_of (Arrays call) = fun.Arrays (arrays_fun call)
+fun_of (Monitors call) = fun.Monitors (monitors_fun call)

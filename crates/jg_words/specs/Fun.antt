@@ -3,11 +3,11 @@ use Rattle.std.specs.Prelude.{ℕ, List, [], ◌∷◌, Option, codes, find, nat
 use Rattle.std.specs.Cmp.Lexicographic.{pointwise}
 use Rattle.jg_words.specs.declared.object.Primitive.TheVariants.{Boolean, Byte, Char, Short, Int, Long}
 use Rattle.jg_words.specs.declared.fun.Fun.{Fun}
-use Rattle.jg_words.specs.declared.fun.Fun.TheVariants.{Vm, Refs, Frames, Exceptions, Objects, Strings, Arrays}
+use Rattle.jg_words.specs.declared.fun.Fun.TheVariants.{Vm, Refs, Frames, Exceptions, Objects, Strings, Arrays, Monitors}
 use Rattle.jg_words.specs.declared.fun.vm.VmFun.{VmFun}
-use Rattle.jg_words.specs.declared.fun.vm.VmFun.TheVariants.{AttachCurrentThread, DetachCurrentThread, GetEnv, NativeEnter, NativeLeave, LoadLibrary, RegisterNatives, UnregisterNatives}
+use Rattle.jg_words.specs.declared.fun.vm.VmFun.TheVariants.{AttachCurrentThread, DetachCurrentThread, GetEnv, NativeEnter, NativeLeave, LoadLibrary, RegisterNatives, UnregisterNatives, Collect}
 use Rattle.jg_words.specs.declared.fun.refs.RefsFun.{RefsFun}
-use Rattle.jg_words.specs.declared.fun.refs.RefsFun.TheVariants.{NewLocalRef, DeleteLocalRef, IsSameObject, GetObjectRefType}
+use Rattle.jg_words.specs.declared.fun.refs.RefsFun.TheVariants.{NewLocalRef, NewGlobalRef, NewWeakGlobalRef, DeleteLocalRef, DeleteGlobalRef, DeleteWeakGlobalRef, IsSameObject, GetObjectRefType}
 use Rattle.jg_words.specs.declared.fun.frames.FramesFun.{FramesFun}
 use Rattle.jg_words.specs.declared.fun.frames.FramesFun.TheVariants.{PushLocalFrame, PopLocalFrame}
 use Rattle.jg_words.specs.declared.fun.exceptions.ExceptionsFun.{ExceptionsFun}
@@ -18,6 +18,8 @@ use Rattle.jg_words.specs.declared.fun.strings.StringsFun.{StringsFun}
 use Rattle.jg_words.specs.declared.fun.strings.StringsFun.TheVariants.{NewString, NewStringUTF, GetStringLength, GetStringUTFLength, GetStringRegion}
 use Rattle.jg_words.specs.declared.fun.arrays.ArraysFun.{ArraysFun}
 use Rattle.jg_words.specs.declared.fun.arrays.ArraysFun.TheVariants.{NewArray, GetArrayLength, GetArrayRegion, SetArrayRegion, NewObjectArray, GetObjectArrayElement, SetObjectArrayElement}
+use Rattle.jg_words.specs.declared.fun.monitors.MonitorsFun.{MonitorsFun}
+use Rattle.jg_words.specs.declared.fun.monitors.MonitorsFun.TheVariants.{MonitorEnter, MonitorExit}
 
 abbrev pub vm_name : VmFun → List ℕ
 vm_name AttachCurrentThread = codes "AttachCurrentThread"
@@ -28,10 +30,15 @@ vm_name NativeLeave = codes "NativeLeave"
 vm_name LoadLibrary = codes "LoadLibrary"
 vm_name RegisterNatives = codes "RegisterNatives"
 vm_name UnregisterNatives = codes "UnregisterNatives"
+vm_name Collect = codes "Collect"
 
 abbrev pub refs_name : RefsFun → List ℕ
 refs_name NewLocalRef = codes "NewLocalRef"
+refs_name NewGlobalRef = codes "NewGlobalRef"
+refs_name NewWeakGlobalRef = codes "NewWeakGlobalRef"
 refs_name DeleteLocalRef = codes "DeleteLocalRef"
+refs_name DeleteGlobalRef = codes "DeleteGlobalRef"
+refs_name DeleteWeakGlobalRef = codes "DeleteWeakGlobalRef"
 refs_name IsSameObject = codes "IsSameObject"
 refs_name GetObjectRefType = codes "GetObjectRefType"
 
@@ -98,6 +105,10 @@ arrays_name NewObjectArray = codes "NewObjectArray"
 arrays_name GetObjectArrayElement = codes "GetObjectArrayElement"
 arrays_name SetObjectArrayElement = codes "SetObjectArrayElement"
 
+abbrev pub monitors_name : MonitorsFun → List ℕ
+monitors_name MonitorEnter = codes "MonitorEnter"
+monitors_name MonitorExit = codes "MonitorExit"
+
 abbrev pub name_of : Fun → List ℕ
 name_of (Vm fun) = vm_name fun
 name_of (Refs fun) = refs_name fun
@@ -106,8 +117,10 @@ name_of (Exceptions fun) = exceptions_name fun
 name_of (Objects fun) = objects_name fun
 name_of (Strings fun) = strings_name fun
 name_of (Arrays fun) = arrays_name fun
+name_of (Monitors fun) = monitors_name fun
 
--- the first three are no functions of a JNIEnv (JNI Specification, chapter 5, "Invocation API Functions")
+-- the first three are no functions of a JNIEnv (JNI Specification, chapter 5, "Invocation API Functions"); the virtual
+-- machine itself collects
 abbrev pub vm_needs_env : VmFun → Bool
 vm_needs_env AttachCurrentThread = false
 vm_needs_env DetachCurrentThread = false
@@ -117,6 +130,7 @@ vm_needs_env NativeLeave = true
 vm_needs_env LoadLibrary = true
 vm_needs_env RegisterNatives = true
 vm_needs_env UnregisterNatives = true
+vm_needs_env Collect = false
 
 -- the function takes an environment
 abbrev pub needs_env : Fun → Bool
@@ -127,12 +141,14 @@ needs_env (Exceptions fun) = true
 needs_env (Objects fun) = true
 needs_env (Strings fun) = true
 needs_env (Arrays fun) = true
+needs_env (Monitors fun) = true
 
 abbrev pub all : List Fun
 all =
     Vm AttachCurrentThread ∷ Vm DetachCurrentThread ∷ Vm GetEnv ∷ Vm NativeEnter ∷ Vm NativeLeave
-    ∷ Vm LoadLibrary ∷ Vm RegisterNatives ∷ Vm UnregisterNatives
-    ∷ Refs NewLocalRef ∷ Refs DeleteLocalRef ∷ Refs IsSameObject ∷ Refs GetObjectRefType
+    ∷ Vm LoadLibrary ∷ Vm RegisterNatives ∷ Vm UnregisterNatives ∷ Vm Collect
+    ∷ Refs NewLocalRef ∷ Refs NewGlobalRef ∷ Refs NewWeakGlobalRef ∷ Refs DeleteLocalRef ∷ Refs DeleteGlobalRef
+    ∷ Refs DeleteWeakGlobalRef ∷ Refs IsSameObject ∷ Refs GetObjectRefType
     ∷ Frames PushLocalFrame ∷ Frames PopLocalFrame
     ∷ Exceptions Throw ∷ Exceptions ExceptionOccurred ∷ Exceptions ExceptionDescribe
     ∷ Exceptions ExceptionClear ∷ Exceptions ExceptionCheck
@@ -150,6 +166,7 @@ all =
     ∷ Arrays (SetArrayRegion Byte) ∷ Arrays (SetArrayRegion Char) ∷ Arrays (SetArrayRegion Short)
     ∷ Arrays (SetArrayRegion Int) ∷ Arrays (SetArrayRegion Long) ∷ Arrays NewObjectArray
     ∷ Arrays GetObjectArrayElement ∷ Arrays SetObjectArrayElement
+    ∷ Monitors MonitorEnter ∷ Monitors MonitorExit
     ∷ []
 
 -- the function of that name

@@ -6,6 +6,7 @@ ghost use Rattle.jg_words.specs.Call.{fun_of};
 pub mod arrays;
 pub mod exceptions;
 pub mod frames;
+pub mod monitors;
 pub mod objects;
 pub mod refs;
 pub mod strings;
@@ -15,6 +16,7 @@ use crate::fun::Fun;
 use arrays::ArraysCall;
 use exceptions::ExceptionsCall;
 use frames::FramesCall;
+use monitors::MonitorsCall;
 use objects::ObjectsCall;
 use refs::RefsCall;
 use std::alloc::AllocError;
@@ -32,6 +34,7 @@ pub enum Call {
     Objects(ObjectsCall),
     Strings(StringsCall),
     Arrays(ArraysCall),
+    Monitors(MonitorsCall),
 }
 
 impl Call {
@@ -47,6 +50,7 @@ impl Call {
             Call::Objects(call) => Fun::Objects(call.fun()),
             Call::Strings(call) => Fun::Strings(call.fun()),
             Call::Arrays(call) => Fun::Arrays(call.fun()),
+            Call::Monitors(call) => Fun::Monitors(call.fun()),
         }
     }
 
@@ -62,6 +66,7 @@ impl Call {
             Call::Objects(call) => Ok(Call::Objects(call.try_copy()?)),
             Call::Strings(call) => Ok(Call::Strings(call.try_copy()?)),
             Call::Arrays(call) => Ok(Call::Arrays(call.try_copy()?)),
+            Call::Monitors(call) => Ok(Call::Monitors(call.copy())),
         }
     }
 }

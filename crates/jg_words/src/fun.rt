@@ -7,6 +7,7 @@ ghost use Rattle.jg_words.specs.declared.fun.Fun.{Fun as FunOf};
 pub mod arrays;
 pub mod exceptions;
 pub mod frames;
+pub mod monitors;
 pub mod objects;
 pub mod refs;
 pub mod strings;
@@ -16,6 +17,7 @@ use crate::object::Primitive;
 use arrays::ArraysFun;
 use exceptions::ExceptionsFun;
 use frames::FramesFun;
+use monitors::MonitorsFun;
 use objects::ObjectsFun;
 use refs::RefsFun;
 use strings::StringsFun;
@@ -31,11 +33,12 @@ pub enum Fun {
     Objects(ObjectsFun),
     Strings(StringsFun),
     Arrays(ArraysFun),
+    Monitors(MonitorsFun),
 }
 
 impl Fun {
     /// All functions, by group.
-    pub const ALL: [Fun; 65] = [
+    pub const ALL: [Fun; 72] = [
         Fun::Vm(VmFun::AttachCurrentThread),
         Fun::Vm(VmFun::DetachCurrentThread),
         Fun::Vm(VmFun::GetEnv),
@@ -44,8 +47,13 @@ impl Fun {
         Fun::Vm(VmFun::LoadLibrary),
         Fun::Vm(VmFun::RegisterNatives),
         Fun::Vm(VmFun::UnregisterNatives),
+        Fun::Vm(VmFun::Collect),
         Fun::Refs(RefsFun::NewLocalRef),
+        Fun::Refs(RefsFun::NewGlobalRef),
+        Fun::Refs(RefsFun::NewWeakGlobalRef),
         Fun::Refs(RefsFun::DeleteLocalRef),
+        Fun::Refs(RefsFun::DeleteGlobalRef),
+        Fun::Refs(RefsFun::DeleteWeakGlobalRef),
         Fun::Refs(RefsFun::IsSameObject),
         Fun::Refs(RefsFun::GetObjectRefType),
         Fun::Frames(FramesFun::PushLocalFrame),
@@ -101,6 +109,8 @@ impl Fun {
         Fun::Arrays(ArraysFun::NewObjectArray),
         Fun::Arrays(ArraysFun::GetObjectArrayElement),
         Fun::Arrays(ArraysFun::SetObjectArrayElement),
+        Fun::Monitors(MonitorsFun::MonitorEnter),
+        Fun::Monitors(MonitorsFun::MonitorExit),
     ];
 
     /// Its name, as scripts and journals spell it.
@@ -115,6 +125,7 @@ impl Fun {
             Fun::Objects(fun) => fun.name(),
             Fun::Strings(fun) => fun.name(),
             Fun::Arrays(fun) => fun.name(),
+            Fun::Monitors(fun) => fun.name(),
         }
     }
 
@@ -130,6 +141,7 @@ impl Fun {
             Fun::Objects(_) => true,
             Fun::Strings(_) => true,
             Fun::Arrays(_) => true,
+            Fun::Monitors(_) => true,
         }
     }
 

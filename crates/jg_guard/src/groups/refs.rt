@@ -44,7 +44,15 @@ pub(crate) fn answer_refs<A: Allocator + Clone>(
         RefsCall::NewLocalRef { of } => {
             handing_out(view, tid, Kind::Local, object_named(view, tid, *of))
         }
+        RefsCall::NewGlobalRef { of } => {
+            handing_out(view, tid, Kind::Global, object_named(view, tid, *of))
+        }
+        RefsCall::NewWeakGlobalRef { of } => {
+            handing_out(view, tid, Kind::Weak, object_named(view, tid, *of))
+        }
         RefsCall::DeleteLocalRef { .. } => plain(Value::Ok),
+        RefsCall::DeleteGlobalRef { .. } => plain(Value::Ok),
+        RefsCall::DeleteWeakGlobalRef { .. } => plain(Value::Ok),
         RefsCall::IsSameObject { first, second } => plain(Value::Truth(
             object_named(view, tid, *first) == object_named(view, tid, *second),
         )),
@@ -68,7 +76,11 @@ pub(crate) fn perform_refs<A: Allocator + Clone>(
 {
     match call {
         RefsCall::NewLocalRef { .. } => {}
+        RefsCall::NewGlobalRef { .. } => {}
+        RefsCall::NewWeakGlobalRef { .. } => {}
         RefsCall::DeleteLocalRef { of } => delete_local(tables, tid, *of),
+        RefsCall::DeleteGlobalRef { of } => tables.globals.delete(*of),
+        RefsCall::DeleteWeakGlobalRef { of } => tables.globals.delete(*of),
         RefsCall::IsSameObject { .. } => {}
         RefsCall::GetObjectRefType { .. } => {}
     }

@@ -1,4 +1,4 @@
-ghost use Rattle.std.specs.Prelude.{◌≡◌, ◌<◌, ◌≤◌, IfSome, OnOk, OnErr};
+ghost use Rattle.std.specs.Prelude.{◌≡◌, ◌<◌, ◌≤◌, length, IfOk, IfSome, OnOk, OnErr};
 ghost use Rattle.std.specs.Option.{option_map};
 ghost use Rattle.jg_words.specs.declared.call.Call.TheVariants.{Vm};
 ghost use Rattle.jg_words.specs.declared.call.vm.VmCall.TheVariants.{RegisterNatives, UnregisterNatives};
@@ -12,11 +12,13 @@ ghost use Rattle.jg_rules.specs.View.{ViewStands, rows_in};
 ghost use Rattle.jg_rules.specs.Names as names_of;
 ghost use Rattle.jg_rules.specs.Names.{pending, object_named as object_of};
 ghost use Rattle.jg_rules.specs.Answers as answers;
-ghost use Rattle.jg_rules.specs.Answers.{vm_answer, handed, unless_pending, registered};
+ghost use Rattle.jg_rules.specs.Holding.{going};
+ghost use Rattle.jg_rules.specs.Answers.{vm_answer, amount, handed, unless_pending, registered};
 ghost use Rattle.jg_guard.specs.Tables.{rows_of, IsDue, IsEffective, KeepsRoom};
 ghost use Rattle.jg_rules.specs.Effects.{done_by};
 ghost use Rattle.jg_guard.specs.Settled.{linked_on, unlinked_on};
 
+use crate::collect::{collect, marks_of_held};
 use crate::settle::{admitted, handing_out, plain, throwing};
 use crate::tables::Tables;
 use jg_policy::Setup;
@@ -81,29 +83,54 @@ fn answer_register<A: Allocator + Clone>(
     }
 }
 
-/// What a call of the group answers, where it breaks no rule.
-pub(crate) fn answer_vm<A: Allocator + Clone>(view: &View<'_, A>, tid: Tid, call: &VmCall) -> Answer
+fn answer_env<A: Allocator + Clone>(view: &View<'_, A>, tid: Tid) -> Answer
+    ensures { (p : Parts) → ViewStands view.now p
+        → result ≡ answers.plain (answers.present_env tid (names_of.session p tid.0)) }
+{
+    match view.threads.env_of(tid) {
+        None => plain(Value::Detached),
+        Some(env) => plain(Value::Environment(env)),
+    }
+}
+
+fn answer_collect<A: Allocator + Clone>(view: &View<'_, A>, alloc: A) -> Result<Answer, AllocError>
+    ensures { IfOk result (λ given. (p : Parts) → ViewStands view.now p
+        → given ≡ amount (length (going view.now.setup.now p))) }
+{
+    let (_, unheld) = marks_of_held(view, alloc)?;
+    Ok(plain(Value::Number(unheld as i64)))
+}
+
+/// What a call of the group answers, where it breaks no rule. `alloc` is for the collector's marks.
+pub(crate) fn answer_vm<A: Allocator + Clone>(
+    view: &View<'_, A>,
+    alloc: A,
+    tid: Tid,
+    call: &VmCall,
+) -> Result<Answer, AllocError>
     requires { IsDue view.now.setup.now (rows_in view.now) tid.0 (Vm call.now) }
-    ensures { (p : Parts) → ViewStands view.now p → result ≡ vm_answer view.now.setup.now p tid call.now }
+    ensures { IfOk result (λ given. (p : Parts) → ViewStands view.now p
+        → given ≡ vm_answer view.now.setup.now p tid call.now) }
 {
     match call {
-        VmCall::AttachCurrentThread => {
-            plain(Value::Environment(view.threads.env_once_attached(tid)))
-        }
-        VmCall::DetachCurrentThread => plain(Value::Ok),
-        VmCall::GetEnv => match view.threads.env_of(tid) {
-            None => plain(Value::Detached),
-            Some(env) => plain(Value::Environment(env)),
-        },
-        VmCall::NativeEnter { class, .. } => answer_enter(view, tid, class),
-        VmCall::NativeLeave { kept } => answer_leave(view, tid, *kept),
-        VmCall::LoadLibrary { class, .. } => answer_load(view, class),
+        VmCall::AttachCurrentThread => Ok(plain(Value::Environment(
+            view.threads.env_once_attached(tid),
+        ))),
+        VmCall::DetachCurrentThread => Ok(plain(Value::Ok)),
+        VmCall::GetEnv => Ok(answer_env(view, tid)),
+        VmCall::NativeEnter { class, .. } => Ok(answer_enter(view, tid, class)),
+        VmCall::NativeLeave { kept } => Ok(answer_leave(view, tid, *kept)),
+        VmCall::LoadLibrary { class, .. } => Ok(answer_load(view, class)),
         VmCall::RegisterNatives {
             class,
             method,
             signature,
-        } => answer_register(view, class_meant(view, tid, *class), method, signature),
-        VmCall::UnregisterNatives { .. } => plain(Value::Ok),
+        } => {
+            let class = class_meant(view, tid, *class);
+            Ok(answer_register(view, class, method, signature))
+        }
+        VmCall::UnregisterNatives { .. } => Ok(plain(Value::Ok)),
+        VmCall::Collect => answer_collect(view, alloc),
     }
 }
 
@@ -229,6 +256,10 @@ pub(crate) fn perform_vm<A: Allocator + Clone>(
         }
         VmCall::UnregisterNatives { class } => {
             unregister(tables, setup, tid, *class);
+            Ok(())
+        }
+        VmCall::Collect => {
+            collect(tables, setup)?;
             Ok(())
         }
     }

@@ -5,7 +5,7 @@ ghost use Rattle.std.specs.Prelude.{◌≡◌, ◌∷◌, [], ◌&&◌, nat_le};
 ghost use Rattle.jg_heap.specs.Making as making;
 ghost use Rattle.jg_rules.specs.Parts.{Parts};
 ghost use Rattle.jg_rules.specs.Operands.{is_of, is_plain, listed, operands};
-ghost use Rattle.jg_rules.specs.Rules.{is_foreign, is_not_local, is_wrong, operands_verdict, refs_wrong_kind, wrong_kind};
+ghost use Rattle.jg_rules.specs.Rules.{is_foreign, is_not, is_wrong, operands_verdict, refs_wrong_kind, wrong_kind};
 ghost use Rattle.jg_rules.specs.View.{ViewStands};
 
 use crate::named::{Named, look_up};
@@ -98,18 +98,22 @@ fn deletes_another_kind(call: &RefsCall) -> bool
 {
     match call {
         RefsCall::NewLocalRef { .. } => false,
-        RefsCall::DeleteLocalRef { of } => is_of_another_kind(*of),
+        RefsCall::NewGlobalRef { .. } => false,
+        RefsCall::NewWeakGlobalRef { .. } => false,
+        RefsCall::DeleteLocalRef { of } => is_of_another_kind(*of, Kind::Local),
+        RefsCall::DeleteGlobalRef { of } => is_of_another_kind(*of, Kind::Global),
+        RefsCall::DeleteWeakGlobalRef { of } => is_of_another_kind(*of, Kind::Weak),
         RefsCall::IsSameObject { .. } => false,
         RefsCall::GetObjectRefType { .. } => false,
     }
 }
 
-fn is_of_another_kind(reference: Ref) -> bool
-    ensures { result ≡ is_not_local reference }
+fn is_of_another_kind(reference: Ref, wanted: Kind) -> bool
+    ensures { result ≡ is_not wanted reference }
 {
     match reference {
         Ref::Null => false,
-        Ref::To { kind, .. } => kind != Kind::Local,
+        Ref::To { kind, .. } => kind != wanted,
     }
 }
 
@@ -125,6 +129,7 @@ fn is_wrong_kind(call: &Call) -> bool
         Call::Objects(_) => false,
         Call::Strings(_) => false,
         Call::Arrays(_) => false,
+        Call::Monitors(_) => false,
     }
 }
 

@@ -89,5 +89,6 @@ pub(crate) fn judge_vm<A: Allocator + Clone>(
             }
         }
         VmCall::UnregisterNatives { .. } => None,
+        VmCall::Collect => None,
     }
 }

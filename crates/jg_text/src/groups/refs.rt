@@ -19,7 +19,11 @@ pub fn arity(fun: RefsFun) -> usize
 {
     match fun {
         RefsFun::NewLocalRef => 1,
+        RefsFun::NewGlobalRef => 1,
+        RefsFun::NewWeakGlobalRef => 1,
         RefsFun::DeleteLocalRef => 1,
+        RefsFun::DeleteGlobalRef => 1,
+        RefsFun::DeleteWeakGlobalRef => 1,
         RefsFun::IsSameObject => 2,
         RefsFun::GetObjectRefType => 1,
     }
@@ -38,9 +42,25 @@ pub fn read(alloc: Global, fun: RefsFun, rest: Option<&[u8]>) -> Result<RefsCall
             let of = read_one(alloc, rest)?;
             Ok(RefsCall::NewLocalRef { of })
         }
+        RefsFun::NewGlobalRef => {
+            let of = read_one(alloc, rest)?;
+            Ok(RefsCall::NewGlobalRef { of })
+        }
+        RefsFun::NewWeakGlobalRef => {
+            let of = read_one(alloc, rest)?;
+            Ok(RefsCall::NewWeakGlobalRef { of })
+        }
         RefsFun::DeleteLocalRef => {
             let of = read_one(alloc, rest)?;
             Ok(RefsCall::DeleteLocalRef { of })
+        }
+        RefsFun::DeleteGlobalRef => {
+            let of = read_one(alloc, rest)?;
+            Ok(RefsCall::DeleteGlobalRef { of })
+        }
+        RefsFun::DeleteWeakGlobalRef => {
+            let of = read_one(alloc, rest)?;
+            Ok(RefsCall::DeleteWeakGlobalRef { of })
         }
         RefsFun::IsSameObject => {
             let (first, second) = read_two(alloc, rest)?;
@@ -60,7 +80,11 @@ pub fn write(out: &mut String, call: &RefsCall) -> Result<(), AllocError>
 {
     match call {
         RefsCall::NewLocalRef { of } => write_one(out, of),
+        RefsCall::NewGlobalRef { of } => write_one(out, of),
+        RefsCall::NewWeakGlobalRef { of } => write_one(out, of),
         RefsCall::DeleteLocalRef { of } => write_one(out, of),
+        RefsCall::DeleteGlobalRef { of } => write_one(out, of),
+        RefsCall::DeleteWeakGlobalRef { of } => write_one(out, of),
         RefsCall::IsSameObject { first, second } => write_two(out, first, second),
         RefsCall::GetObjectRefType { of } => write_one(out, of),
     }

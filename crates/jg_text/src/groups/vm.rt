@@ -1,4 +1,5 @@
-//! The operands of calls of this group: attachment, environments and native methods.
+//! The operands of calls of this group: attachment, environments, native methods and the
+//! collector.
 
 ghost use Rattle.std.specs.Prelude.{◌≡◌, ◌++◌, length, map, IfOk, IfErr, OnOk, string_bytes};
 ghost use Rattle.std.specs.List.{AllByRecursion};
@@ -26,6 +27,7 @@ pub fn arity(fun: VmFun) -> usize
         VmFun::LoadLibrary => 2,
         VmFun::RegisterNatives => 3,
         VmFun::UnregisterNatives => 1,
+        VmFun::Collect => 0,
     }
 }
 
@@ -69,6 +71,7 @@ pub fn read(alloc: Global, fun: VmFun, rest: Option<&[u8]>) -> Result<VmCall, Sc
             let class = read_one(alloc, rest)?;
             Ok(VmCall::UnregisterNatives { class })
         }
+        VmFun::Collect => Ok(VmCall::Collect),
     }
 }
 
@@ -94,5 +97,6 @@ pub fn write(out: &mut String, call: &VmCall) -> Result<(), AllocError>
             signature,
         } => write_three(out, class, method, signature),
         VmCall::UnregisterNatives { class } => write_one(out, class),
+        VmCall::Collect => Ok(()),
     }
 }

@@ -65,6 +65,17 @@ const GROWING: [(&str, &str); 14] = [
     ("T1 E1.1 NewLocalRef L1.1", "T2 - AttachCurrentThread"),
 ];
 
+/// The same for what outlives a call.
+const LASTING: [(&str, &str); 4] = [
+    ("T1 E1.1 NewGlobalRef L1.1", "T1 E1.1 NewGlobalRef L1.1"),
+    (
+        "T1 E1.1 NewWeakGlobalRef L1.1",
+        "T1 E1.1 NewWeakGlobalRef L1.1",
+    ),
+    ("T1 E1.1 NewLocalRef L1.1", "T1 E1.1 MonitorEnter L1.1"),
+    ("T1 E1.1 AllocObject L1.1", "T0 - Collect"),
+];
+
 fn spelt(alloc: Global, line: &str) -> Result<(Tid, Option<EnvId>, Call), Fail> {
     match read_call(alloc, line.as_bytes()) {
         Ok(spelt) => Ok(spelt),
@@ -181,19 +192,34 @@ fn refusals(alloc: Global, growth: Growth) -> Result<u32, Fail> {
     Err(Fail::from("never answered"))
 }
 
+/// The same after up to five of the earlier calls.
+fn refusals_of(alloc: Global, earlier: &'static str, call: &'static str) -> Result<u32, Fail> {
+    let mut count = 0u32;
+    for times in 0..6u32 {
+        let growth = Growth {
+            earlier,
+            times,
+            call,
+        };
+        count = count.saturating_add(refusals(alloc, growth)?);
+    }
+    Ok(count)
+}
+
 /// A refused call changes nothing, and is answered later as if it had never been refused.
 #[test]
 fn every_growth_is_refused_in_turn(rt: HostRuntime) -> Result<(), Fail> {
     for (earlier, call) in GROWING {
-        let mut count = 0u32;
-        for times in 0..6u32 {
-            let growth = Growth {
-                earlier,
-                times,
-                call,
-            };
-            count = count.saturating_add(refusals(rt.alloc(), growth)?);
-        }
+        let count = refusals_of(rt.alloc(), earlier, call)?;
+        assert!(rt; count > 0, "`{call}` is never refused");
+    }
+    Ok(())
+}
+
+#[test]
+fn every_growth_of_what_lasts_is_refused_in_turn(rt: HostRuntime) -> Result<(), Fail> {
+    for (earlier, call) in LASTING {
+        let count = refusals_of(rt.alloc(), earlier, call)?;
         assert!(rt; count > 0, "`{call}` is never refused");
     }
     Ok(())

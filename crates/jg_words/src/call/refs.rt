@@ -8,7 +8,11 @@ use crate::reference::Ref;
 #[derive(Debug, PartialEq, Eq, Drop)]
 pub enum RefsCall {
     NewLocalRef { of: Ref },
+    NewGlobalRef { of: Ref },
+    NewWeakGlobalRef { of: Ref },
     DeleteLocalRef { of: Ref },
+    DeleteGlobalRef { of: Ref },
+    DeleteWeakGlobalRef { of: Ref },
     IsSameObject { first: Ref, second: Ref },
     GetObjectRefType { of: Ref },
 }
@@ -20,7 +24,11 @@ impl RefsCall {
     {
         match self {
             RefsCall::NewLocalRef { .. } => RefsFun::NewLocalRef,
+            RefsCall::NewGlobalRef { .. } => RefsFun::NewGlobalRef,
+            RefsCall::NewWeakGlobalRef { .. } => RefsFun::NewWeakGlobalRef,
             RefsCall::DeleteLocalRef { .. } => RefsFun::DeleteLocalRef,
+            RefsCall::DeleteGlobalRef { .. } => RefsFun::DeleteGlobalRef,
+            RefsCall::DeleteWeakGlobalRef { .. } => RefsFun::DeleteWeakGlobalRef,
             RefsCall::IsSameObject { .. } => RefsFun::IsSameObject,
             RefsCall::GetObjectRefType { .. } => RefsFun::GetObjectRefType,
         }
@@ -32,7 +40,11 @@ impl RefsCall {
     {
         match self {
             RefsCall::NewLocalRef { of } => RefsCall::NewLocalRef { of: *of },
+            RefsCall::NewGlobalRef { of } => RefsCall::NewGlobalRef { of: *of },
+            RefsCall::NewWeakGlobalRef { of } => RefsCall::NewWeakGlobalRef { of: *of },
             RefsCall::DeleteLocalRef { of } => RefsCall::DeleteLocalRef { of: *of },
+            RefsCall::DeleteGlobalRef { of } => RefsCall::DeleteGlobalRef { of: *of },
+            RefsCall::DeleteWeakGlobalRef { of } => RefsCall::DeleteWeakGlobalRef { of: *of },
             RefsCall::IsSameObject { first, second } => RefsCall::IsSameObject {
                 first: *first,
                 second: *second,

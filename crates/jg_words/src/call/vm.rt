@@ -8,7 +8,8 @@ use std::alloc::AllocError;
 
 /// Attachment and environments (JNI Specification, chapter 5); native methods, and the libraries
 /// that have them (chapter 4, "Registering Native Methods"; JEP 472). A native method is named by
-/// its class, its own name and its type, as `app/Main`, `run` and `()V`.
+/// its class, its own name and its type, as `app/Main`, `run` and `()V`. The collector runs on no
+/// thread of its own: its calls come from thread 0.
 #[derive(Debug, PartialEq, Eq, Drop)]
 pub enum VmCall {
     AttachCurrentThread,
@@ -37,6 +38,8 @@ pub enum VmCall {
     UnregisterNatives {
         class: Ref,
     },
+    /// What nothing holds goes.
+    Collect,
 }
 
 impl VmCall {
@@ -53,6 +56,7 @@ impl VmCall {
             VmCall::LoadLibrary { .. } => VmFun::LoadLibrary,
             VmCall::RegisterNatives { .. } => VmFun::RegisterNatives,
             VmCall::UnregisterNatives { .. } => VmFun::UnregisterNatives,
+            VmCall::Collect => VmFun::Collect,
         }
     }
 
@@ -88,6 +92,7 @@ impl VmCall {
                 signature: signature.try_copy()?,
             }),
             VmCall::UnregisterNatives { class } => Ok(VmCall::UnregisterNatives { class: *class }),
+            VmCall::Collect => Ok(VmCall::Collect),
         }
     }
 }

@@ -5,7 +5,11 @@ ghost use Rattle.jg_words.specs.Fun.{refs_name};
 #[derive(Clone, Copy, Debug, PartialEq, Eq)]
 pub enum RefsFun {
     NewLocalRef,
+    NewGlobalRef,
+    NewWeakGlobalRef,
     DeleteLocalRef,
+    DeleteGlobalRef,
+    DeleteWeakGlobalRef,
     IsSameObject,
     GetObjectRefType,
 }
@@ -17,7 +21,11 @@ impl RefsFun {
     {
         match self {
             RefsFun::NewLocalRef => "NewLocalRef",
+            RefsFun::NewGlobalRef => "NewGlobalRef",
+            RefsFun::NewWeakGlobalRef => "NewWeakGlobalRef",
             RefsFun::DeleteLocalRef => "DeleteLocalRef",
+            RefsFun::DeleteGlobalRef => "DeleteGlobalRef",
+            RefsFun::DeleteWeakGlobalRef => "DeleteWeakGlobalRef",
             RefsFun::IsSameObject => "IsSameObject",
             RefsFun::GetObjectRefType => "GetObjectRefType",
         }

@@ -2,7 +2,7 @@ ghost use Rattle.std.specs.Prelude.{◌≡◌};
 ghost use Rattle.jg_words.specs.Fun.{vm_name, vm_needs_env};
 
 /// Attachment and environments (JNI Specification, chapter 5); native methods, and the libraries
-/// that have them (chapter 4, "Registering Native Methods"; JEP 472).
+/// that have them (chapter 4, "Registering Native Methods"; JEP 472); the collector.
 #[derive(Clone, Copy, Debug, PartialEq, Eq)]
 pub enum VmFun {
     AttachCurrentThread,
@@ -13,6 +13,7 @@ pub enum VmFun {
     LoadLibrary,
     RegisterNatives,
     UnregisterNatives,
+    Collect,
 }
 
 impl VmFun {
@@ -29,6 +30,7 @@ impl VmFun {
             VmFun::LoadLibrary => "LoadLibrary",
             VmFun::RegisterNatives => "RegisterNatives",
             VmFun::UnregisterNatives => "UnregisterNatives",
+            VmFun::Collect => "Collect",
         }
     }
 
@@ -45,6 +47,7 @@ impl VmFun {
             VmFun::LoadLibrary => true,
             VmFun::RegisterNatives => true,
             VmFun::UnregisterNatives => true,
+            VmFun::Collect => false,
         }
     }
 }

@@ -23,9 +23,9 @@ perform-requires g c =
     let state : State = record { setup = c.self.inside.setup; limit = c.self.inside.limit; journal = reverse c.self.inside.journal.items } in
     let none : verdict state.setup (parts state.setup state.journal) c.args.tid.0 c.args.env c.args.call ≡ None =
     subst (λ (s : State). verdict s.setup (parts s.setup s.journal) c.args.tid.0 c.args.env c.args.call ≡ None) (sym c.self.view_is) c.requires.passed in
-    let told = c.in-Ok.ensures (parts state.setup state.journal) (stand_at state.setup _ (rows_of c.self.inside.tables) _ _ c.view-view.ensures.setup c.view-view.ensures.rows c.self.invariant.tables)
+    let told = c.in-Ok-answer_to.ensures (parts state.setup state.journal) (stand_at state.setup _ (rows_of c.self.inside.tables) _ _ c.view-view.ensures.setup c.view-view.ensures.rows c.self.invariant.tables)
     in
-    let given : Answer = c.in-Ok.given in
+    let given : Answer = c.in-Ok-answer_to.given in
     let is : given ≡ answer state.setup (parts state.setup state.journal) c.args.tid c.args.call =
     answered_at state.setup c.view-view.result.setup.now (parts state.setup state.journal) c.args.tid c.args.call given c.view-view.ensures.setup told in
     answered_due state (rows_of c.self.inside.tables) c.args.tid c.args.env c.args.call given _ c.self.invariant none is refl refl refl
@@ -36,9 +36,9 @@ invariant_of-self-2 g c =
     let room : length state.journal < state.limit = subst (λ (s : State). length s.journal < s.limit) (sym c.self.view_is) c.requires.room in
     let none : verdict state.setup (parts state.setup state.journal) c.args.tid.0 c.args.env c.args.call ≡ None =
     subst (λ (s : State). verdict s.setup (parts s.setup s.journal) c.args.tid.0 c.args.env c.args.call ≡ None) (sym c.self.view_is) c.requires.passed in
-    let told = c.in-Ok.ensures (parts state.setup state.journal) (stand_at state.setup _ (rows_of c.self.inside.tables) _ _ c.view-view.ensures.setup c.view-view.ensures.rows c.self.invariant.tables)
+    let told = c.in-Ok-answer_to.ensures (parts state.setup state.journal) (stand_at state.setup _ (rows_of c.self.inside.tables) _ _ c.view-view.ensures.setup c.view-view.ensures.rows c.self.invariant.tables)
     in
-    let given : Answer = c.in-Ok.given in
+    let given : Answer = c.in-Ok-answer_to.given in
     let is : given ≡ answer state.setup (parts state.setup state.journal) c.args.tid c.args.call =
     answered_at state.setup c.view-view.result.setup.now (parts state.setup state.journal) c.args.tid c.args.call given c.view-view.ensures.setup told in
     let x : Entry = passed_entry c.args.tid c.args.env c.args.call given in
@@ -52,9 +52,9 @@ returns-clause-ok g c =
     let state : State = record { setup = c.self.inside.setup; limit = c.self.inside.limit; journal = reverse c.self.inside.journal.items } in
     let none : verdict state.setup (parts state.setup state.journal) c.args.tid.0 c.args.env c.args.call ≡ None =
     subst (λ (s : State). verdict s.setup (parts s.setup s.journal) c.args.tid.0 c.args.env c.args.call ≡ None) (sym c.self.view_is) c.requires.passed in
-    let told = c.in-Ok.ensures (parts state.setup state.journal) (stand_at state.setup _ (rows_of c.self.inside.tables) _ _ c.view-view.ensures.setup c.view-view.ensures.rows c.self.invariant.tables)
+    let told = c.in-Ok-answer_to.ensures (parts state.setup state.journal) (stand_at state.setup _ (rows_of c.self.inside.tables) _ _ c.view-view.ensures.setup c.view-view.ensures.rows c.self.invariant.tables)
     in
-    let given : Answer = c.in-Ok.given in
+    let given : Answer = c.in-Ok-answer_to.given in
     let is : given ≡ answer state.setup (parts state.setup state.journal) c.args.tid c.args.call =
     answered_at state.setup c.view-view.result.setup.now (parts state.setup state.journal) c.args.tid c.args.call given c.view-view.ensures.setup told in
     let x : Entry = passed_entry c.args.tid c.args.env c.args.call given in

@@ -1,0 +1,122 @@
+//! The collector: each table marks what it holds, once; the store marks what stands in a slot; what
+//! isn't marked then goes, and weak references to it are cleared.
+
+ghost use Rattle.std.specs.Prelude.{◌≡◌, ◌==◌, ◌<◌, ◌≤◌, ◌^◌, ◌++◌, ℕ, false, List, length, map, slice_get, slice_index_or, Some, IfOk, OnOk, OnErr};
+ghost use Rattle.std.specs.List.{list_any};
+ghost use Rattle.jg_lists.specs.Marks.{Marks};
+ghost use Rattle.jg_globals.specs.History as globals_of;
+ghost use Rattle.jg_globals.specs.Standing as globals_standing;
+ghost use Rattle.jg_heap.specs.History as heap_of;
+ghost use Rattle.jg_heap.specs.Rows.{count_in};
+ghost use Rattle.jg_heap.specs.Standing as heap_standing;
+ghost use Rattle.jg_heap.specs.Standing.{MarksHeld};
+ghost use Rattle.jg_rules.specs.Parts.{Parts, TablesStand};
+ghost use Rattle.jg_rules.specs.Holding.{is_root, roots, going};
+ghost use Rattle.jg_rules.specs.View.{ViewStands};
+ghost use Rattle.jg_guard.specs.Tables.{rows_of};
+ghost use Rattle.jg_guard.specs.Settled.{collected_on};
+
+use crate::tables::Tables;
+use jg_globals::Globals;
+use jg_heap::Heap;
+use jg_policy::Setup;
+use jg_rules::View;
+use jg_words::ObjId;
+use std::alloc::{AllocError, Allocator};
+
+/// Marks each object that something outside the store holds.
+fn mark_roots<A: Allocator + Clone>(view: &View<'_, A>, marks: &mut [bool])
+    ensures { (p : Parts) → ViewStands view.now p → Marks (is_root p) marks.old marks.new }
+{
+    view.locals.mark_held(marks);
+    view.globals.mark_held(marks);
+    view.threads.mark_held(marks);
+    view.buffers.mark_held(marks);
+    view.monitors.mark_held(marks);
+}
+
+/// Marks all that something holds, and says how many objects nothing holds. No object is marked
+/// before; there is a mark for each.
+fn mark_held<A: Allocator + Clone>(view: &View<'_, A>, marks: &mut [bool]) -> u64
+    requires len { count_in view.now.heap.now ≤ length marks.old }
+    requires unset { (o : ℕ) → o < count_in view.now.heap.now → slice_get marks.old o ≡ Some false }
+    ensures marks { (p : Parts) → ViewStands view.now p
+        → MarksHeld view.now.heap.now.classes (roots view.now.setup.now p) p.heap marks.new }
+    ensures count { (p : Parts) → ViewStands view.now p → result ≡ length (going view.now.setup.now p) }
+    ensures fits { result < 2 ^ 63 }
+{
+    mark_roots(view, marks);
+    view.heap.count_unheld(marks)
+}
+
+/// A mark for each object, set where something holds it, and how many nothing holds.
+pub(crate) fn marks_of_held<A: Allocator + Clone>(
+    view: &View<'_, A>,
+    alloc: A,
+) -> Result<(Vec<bool, A>, u64), AllocError>
+    ensures len { IfOk result (λ held. count_in view.now.heap.now ≤ length held.0.items) }
+    ensures marks { IfOk result (λ held. (p : Parts) → ViewStands view.now p
+        → MarksHeld view.now.heap.now.classes (roots view.now.setup.now p) p.heap held.0.items) }
+    ensures count { IfOk result (λ held. (p : Parts) → ViewStands view.now p
+        → held.1 ≡ length (going view.now.setup.now p)) }
+    ensures fits { IfOk result (λ held. held.1 < 2 ^ 63) }
+{
+    let mut marks = vec![in alloc; false; view.heap.len() as usize]?;
+    let unheld = mark_held(view, &mut marks);
+    Ok((marks, unheld))
+}
+
+/// Whether the object is marked.
+fn is_marked(marks: &[bool], object: ObjId) -> bool
+    ensures { result ≡ slice_index_or marks.now object.0 false }
+{
+    marks.get(object.0 as usize).copied().unwrap_or(false)
+}
+
+/// Whether the object goes now: it was made, isn't gone, and isn't marked.
+fn is_going<A: Allocator>(heap: &Heap<A>, marks: &[bool], object: ObjId) -> bool
+    ensures { (e : List heap_of.Event) (held : List ℕ) → heap_standing.Stands heap.now e
+        → MarksHeld heap.now.classes held e marks.now
+        → result ≡ list_any (λ o. o == object.0) (heap_of.going heap.now.classes held e) }
+{
+    if object.0 < heap.len() {
+        !heap.is_gone(object) && !is_marked(marks, object)
+    } else {
+        false
+    }
+}
+
+/// Clears the weak references to what goes.
+fn clear_going<A: Allocator + Clone>(heap: &Heap<A>, globals: &mut Globals<A>, marks: &[bool])
+    ensures { (e : List heap_of.Event) (g : List globals_of.Event) (held : List ℕ)
+        → heap_standing.Stands heap.now e → globals_standing.Stands globals.old g
+        → MarksHeld heap.now.classes held e marks.now
+        → globals_standing.Stands globals.new
+        (map (λ o. globals_of.Clear o) (heap_of.going heap.now.classes held e) ++ g) }
+{
+    globals.clear_weak_where(
+        |object: ObjId| -> bool
+            ensures { (e : List heap_of.Event) (held : List ℕ) → heap_standing.Stands heap.entry.now e
+                → MarksHeld heap.entry.now.classes held e marks.entry.now
+                → result ≡ list_any (λ o. o == object.0) (heap_of.going heap.entry.now.classes held e) }
+        { is_going(heap, marks, object) },
+    );
+}
+
+/// Lets go of what nothing holds, all judged at once. An `Err` leaves all rows as they were.
+pub(crate) fn collect<A: Allocator + Clone>(
+    tables: &mut Tables<A>,
+    setup: &Setup,
+) -> Result<(), AllocError>
+    ensures stands { OnOk result ((p : Parts) → TablesStand setup.now (rows_of tables.old) p
+        → TablesStand setup.now (rows_of tables.new) (collected_on setup.now p)) }
+    ensures locals { tables.new.locals ≡ tables.old.locals }
+    ensures links { tables.new.links ≡ tables.old.links }
+    ensures err { OnErr result (rows_of tables.new ≡ rows_of tables.old) }
+{
+    let alloc = tables.alloc.clone()?;
+    let (marks, _) = marks_of_held(&tables.view(setup), alloc)?;
+    clear_going(&tables.heap, &mut tables.globals, &marks);
+    tables.heap.sweep(&marks);
+    Ok(())
+}

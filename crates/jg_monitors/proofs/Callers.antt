@@ -1,0 +1,11 @@
+-- What other crates rest on: facts of owners, and laws of specs/Laws.
+pub use Rattle.jg_monitors.proofs.Counting.{one_owner, owner_has, all_free}
+use Rattle.jg_monitors.specs.Laws.{CountIsBounded, RowsTell}
+use Rattle.jg_monitors.proofs.Lookups.{rows_law}
+use Rattle.jg_monitors.proofs.Splits.{bounded}
+
+pub rows_tell_law : RowsTell
+rows_tell_law rows e o stands = rows_law rows e o stands
+
+pub bounded_law : CountIsBounded
+bounded_law e o = bounded e o
