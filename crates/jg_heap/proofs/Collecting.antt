@@ -12,7 +12,7 @@ use Rattle.jg_heap.specs.Rows.{Row, Rows, row_in, no_row, count_in}
 use Rattle.jg_heap.specs.Kept.{row_of, swept_row, ended_row, row_points_at, slot_of_row_holds, live_in}
 use Rattle.jg_heap.specs.Rows.{row_of_making}
 use Rattle.jg_heap.specs.History.{Event, Collected, count_of, gone_at, held_at, points_at, going}
-use Rattle.jg_heap.specs.Standing.{Stands, standing, row_at, slots_at, MarksRoots, MarksHeld, MarksNone}
+use Rattle.jg_heap.specs.Standing.{Stands, standing, row_at, slots_at, MarksRoots, MarksHeld}
 use Rattle.jg_heap.proofs.Lists.{any_filter, any_agree, filter_filter, keep_agree, kept_any, or_swapped, goes_alike, gone_alike, length-filter-le}
 use Rattle.jg_heap.proofs.Pointing.{points_slots}
 use Rattle.jg_heap.proofs.Sweeping.{goes_now}
@@ -83,17 +83,6 @@ standing_swept k roots e marks new len held ended =
     fill_by_all (row_at k (Collected roots ∷ e)) new (count_of k e) no_row len (λ o h. ended o ∙ row_swept k roots e marks held o h)
     ∙ sym (standing_is k (Collected roots ∷ e))
 
--- unset marks
-pub marks_none : (k : ℕ) (e : List Event) (old new : List Bool) → count_of k e ≤ length old → length new ≡ length old
-    → ((o : ℕ) → get_or new o false ≡ (get_or old o false && not (list_any (λ p. eqb p o) (live_in (standing k e)))))
-    → MarksNone k e new
-marks_none k e old new room len unset o h there =
-    let rows : List Row = standing k e in
-    slice_get-get_or new o false (omega arith)
-    ∙ ap Some (unset o
-    ∙ ap (λ b. get_or old o false && not b) (kept_any (λ p. not (row_in rows p).gone) (length rows) o (omega (arith, length-standing k e)) ∙ ap not (gone_there k e o h ∙ there))
-    ∙ and_right (get_or old o false) false refl)
-
 -- ---- the same, from what the store keeps
 
 live_is : {A : Type 0} (items : List (Object A)) (live kept : List ℕ) (rows : Rows) (k : ℕ) (e : List Event) → live ≡ kept → kept ≡ live_in (map row_of items)
@@ -131,14 +120,6 @@ unmarked_bound items live kept rows k count p same keeps view is =
     let a : length (filter p live) ≤ length live = length-filter-le p live in
     let b : length (live_in rows.objects) ≤ length (range_with_len 0 (count_in rows)) = length-filter-le (λ o. not (row_in rows.objects o).gone) (range_with_len 0 (count_in rows)) in
     omega arith
-
-pub none_of : {A : Type 0} (items : List (Object A)) (live kept : List ℕ) (rows : Rows) (k : ℕ) (e : List Event) (old new : List Bool) → live ≡ kept → kept ≡ live_in (map row_of items)
-    → record { classes = k; objects = map row_of items } ≡ rows → Stands rows e
-    → count_in rows ≤ length old → length new ≡ length old → ((o : ℕ) → get_or new o false ≡ (get_or old o false && not (list_any (λ p. eqb p o) live))) → MarksNone rows.classes e new
-none_of items live kept rows k e old new same keeps view stands room len unset =
-    let many : count_in rows ≡ count_of rows.classes e = count_stands rows e stands in
-    marks_none rows.classes e old new (omega arith) len
-    (λ o. unset o ∙ ap (λ (os : List ℕ). get_or old o false && not (list_any (λ p. eqb p o) os)) (live_is items live kept rows k e same keeps view stands))
 
 pub rows_swept : {A : Type 0} (items before new : List (Object A)) (live kept : List ℕ) (rows : Rows) (k : ℕ) (e : List Event) (roots : List ℕ) (marks : List Bool)
     → before ≡ items → live ≡ kept → kept ≡ live_in (map row_of items) → record { classes = k; objects = map row_of items } ≡ rows → Stands rows e → length new ≡ length before

@@ -106,15 +106,6 @@ stays_alike true marked = refl
 stays_alike false true = refl
 stays_alike false false = refl
 
-not_or : (a b : Bool) → (not a && not b) ≡ not (a || b)
-not_or true b = refl
-not_or false b = refl
-
--- one more that is unset
-pub unset_more : (first before last all now next : Bool) → now ≡ (first && not before) → next ≡ (now && not last) → all ≡ (before || last) → next ≡ (first && not all)
-unset_more true before last all now next h g is = g ∙ ap (λ b. b && not last) h ∙ not_or before last ∙ ap not (sym is)
-unset_more false before last all now next h g is = g ∙ ap (λ b. b && not last) h
-
 pub or_both : (a b c : Bool) → ((a || b) || c) ≡ (a || (b || c))
 or_both true b c = refl
 or_both false b c = refl

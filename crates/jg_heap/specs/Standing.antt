@@ -40,7 +40,3 @@ MarksRoots k roots e marks = (o : ℕ) → o < count_of k e → gone_at k e o �
 abbrev pub MarksHeld : ℕ → List ℕ → List Event → List Bool → Type 0
 MarksHeld k roots e marks = (o : ℕ) → o < count_of k e → gone_at k e o ≡ false
     → slice_get marks o ≡ Some (held_at k roots e o)
-
--- the mark of each object that isn't gone is unset
-abbrev pub MarksNone : ℕ → List Event → List Bool → Type 0
-MarksNone k e marks = (o : ℕ) → o < count_of k e → gone_at k e o ≡ false → slice_get marks o ≡ Some false

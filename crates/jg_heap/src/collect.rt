@@ -19,25 +19,6 @@ fn is_marked(marks: &[bool], object: u64) -> bool
     marks.get(object as usize).copied().unwrap_or(false)
 }
 
-/// Unsets the mark of an object.
-fn unset(marks: &mut [bool], object: u64)
-    ensures { (o : ℕ) → slice_index_or marks.new o false ≡ (slice_index_or marks.old o false && not (object == o)) }
-{
-    if object < marks.len() as u64 {
-        marks[object as usize] = false;
-    }
-}
-
-/// Unsets the marks of these objects.
-pub(crate) fn unmark(marks: &mut [bool], objects: &[u64])
-    ensures { (o : ℕ) → slice_index_or marks.new o false
-        ≡ (slice_index_or marks.old o false && not (list_any (λ p. p == o) objects.now)) }
-{
-    for object in objects {
-        unset(marks, *object);
-    }
-}
-
 /// Marks the object that is named, if one is.
 fn mark_target(marks: &mut [bool], target: Option<ObjId>)
     ensures { Marks (λ o. holds o (ToObject target)) marks.old marks.new }

@@ -4,10 +4,10 @@ ghost use Rattle.jg_heap.specs.declared.object.Slot.TheVariants.{Number};
 ghost use Rattle.jg_heap.specs.Making.{making_of, class_in, units_in, length_in, CanMake, HasFields, IsArrayClass, IsPrimitiveArray, TakesItem};
 ghost use Rattle.jg_heap.specs.History.{Event, Event.Made as Made, Event.Wrote as Wrote, Event.Collected as Collected, count_of, making_at, value_at, gone_at, going, region_writes};
 ghost use Rattle.jg_heap.specs.Rows.{count_in, class_at, length_at, units_at, slot_at, class_rows, row_of_making, KeepsShapes};
-ghost use Rattle.jg_heap.specs.Standing.{Stands, MarksNone, MarksRoots, MarksHeld};
+ghost use Rattle.jg_heap.specs.Standing.{Stands, MarksRoots, MarksHeld};
 
 use crate::body::{Body, Object, object_of};
-use crate::collect::{count_unmarked, keep_marked, let_go, mark_classes, mark_pointed, unmark};
+use crate::collect::{count_unmarked, keep_marked, let_go, mark_classes, mark_pointed};
 use crate::object::{Shape, Slot};
 use jg_words::ObjId;
 use std::alloc::{AllocError, Allocator, Global};
@@ -225,15 +225,6 @@ impl<A: Allocator> Heap<A> {
         ensures { (e : List Event) → Stands self.now e → result ≡ gone_at self.now.classes e object.0 }
     {
         self.objects[object.0 as usize].gone
-    }
-
-    /// Unsets the mark of each object that isn't gone, before the roots mark theirs. There is a
-    /// mark for each object ([`Heap::len`]).
-    pub fn unmark(&self, marks: &mut [bool])
-        requires { count_in self.now ≤ length marks.old }
-        ensures { (e : List Event) → Stands self.now e → MarksNone self.now.classes e marks.new }
-    {
-        unmark(marks, &self.live);
     }
 
     /// How many objects nothing holds (chapter 2, "Global and Local References"), where the roots

@@ -30,11 +30,10 @@ fn item_count(heap: &Heap, array: ObjId) -> i64
     heap.items(array).len() as i64
 }
 
-/// How many objects go at a collection.
+/// How many objects go at a collection; no object is marked before.
 fn going(heap: &Heap, marks: &mut [bool]) -> i64
     requires { count_in heap.now ≤ length marks.old }
 {
-    heap.unmark(marks);
     heap.count_unheld(marks) as i64
 }
 

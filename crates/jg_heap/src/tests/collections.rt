@@ -4,12 +4,11 @@ use std::test::Fail;
 
 /// What goes at a collection with these objects as roots.
 fn collect(heap: &mut Heap, roots: &[u64]) -> Option<u64> {
-    let mut room = [true; 32];
+    let mut room = [false; 32];
     let marks = &mut room;
     if heap.len() > 32 {
         return None;
     }
-    heap.unmark(marks);
     for root in roots {
         if *root < 32 {
             marks[*root as usize] = true;

@@ -129,12 +129,11 @@ fn fill(heap: &mut Heap) -> Result<(), Fail> {
     Ok(())
 }
 
-/// How many of the objects go at a collection without roots.
+/// How many of the objects go at a collection without roots; no object is marked before.
 fn unheld(heap: &Heap, marks: &mut [bool]) -> Option<u64> {
     if heap.len() != marks.len() as u64 {
         return None;
     }
-    heap.unmark(marks);
     Some(heap.count_unheld(marks))
 }
 
