@@ -10,7 +10,7 @@ const DEFAULTS: Asked<'static> = Asked {
 };
 
 const STATUSES: &str =
-    "Exit status: 0 done, 2 faulty script, setup or arguments, 3 limit met or no memory, \
+    "Exit status: 0 done, 1 another journal, 2 faulty script, setup or arguments, 3 limit met or no memory, \
     4 reading or writing failed.";
 
 #[test]
@@ -65,7 +65,7 @@ fn words_are_refused(rt: HostRuntime) -> Result<(), Fail> {
         &["play"],
         &["play", "two", "--turns", "0"],
         &["--turns", "5"],
-        &["verify", "--help"],
+        &["play", "two", "--help"],
         &["check", "--version"],
     ];
     for words in refused {
@@ -80,13 +80,15 @@ fn words_are_refused(rt: HostRuntime) -> Result<(), Fail> {
 
 #[test]
 fn texts_are_asked_for(rt: HostRuntime) -> Result<(), Fail> {
-    let texts: [(&[&str], &str); 7] = [
+    let texts: [(&[&str], &str); 9] = [
         (&["--help"], "Usage: jg [OPTIONS] [COMMAND]"),
         (&["check", "--help"], "Usage: jg check [OPTIONS]"),
         (&["--help"], "--setup <FILE>"),
         (&["check", "--help"], "--setup <FILE>"),
         (&["--help"], STATUSES),
         (&["check", "-h"], STATUSES),
+        (&["verify", "--help"], "Usage: jg verify [OPTIONS]"),
+        (&["verify", "-h"], STATUSES),
         (&["--version"], "jg 0.1.0\n"),
     ];
     for (words, part) in texts {

@@ -13,7 +13,7 @@ const DEFAULT_TURNS: u32 = 1000;
 const VERSION: &str = "0.1.0";
 
 const STATUSES: &str =
-    "Exit status: 0 done, 2 faulty script, setup or arguments, 3 limit met or no memory, 4 reading or writing failed.";
+    "Exit status: 0 done, 1 another journal, 2 faulty script, setup or arguments, 3 limit met or no memory, 4 reading or writing failed.";
 
 fn setup_arg<'a>(alloc: Global) -> Arg<'a> {
     Arg::new(alloc, "setup")
@@ -55,9 +55,8 @@ fn command<'a>(alloc: Global) -> Result<Command<'a>, AllocError> {
         .arg(limit_arg(alloc))?
         .arg(leaks_arg(alloc))?;
     let verify = Command::new(alloc, "verify")
-        .about("tests the journal on standard input")
-        .hide(true)
-        .disable_help_flag(true)
+        .about("tests whether standard input is the journal of a legal history")
+        .after_help(STATUSES)
         .arg(setup_arg(alloc))?
         .arg(limit_arg(alloc))?;
     let play = Command::new(alloc, "play")

@@ -1,3 +1,4 @@
+pub mod Callers
 pub mod Calls
 pub mod Counts
 pub mod Lists

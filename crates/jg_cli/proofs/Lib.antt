@@ -2,3 +2,4 @@ pub mod Closed
 pub mod Flushing
 pub mod Reading
 pub mod Refusing
+pub mod Saying

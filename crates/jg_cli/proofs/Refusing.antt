@@ -4,6 +4,7 @@ use Rattle.std.proofs.lemmas.Bool.{false≢true}
 use Rattle.std.proofs.KnownBytes.{Keeps-refl}
 use Rattle.jg_cli.specs.declared.stop.Stop.{Stop}
 use Rattle.jg_cli.specs.declared.stop.Stop.TheVariants.{Arguments, Setup, SetupRead, Run}
+use Rattle.jg_cli.specs.declared.program.Job.{Job}
 use Rattle.jg_cli.specs.StatedBy.{IsRefused}
 use Rattle.jg_cli.specs.Ended.{EndsUnder}
 
@@ -21,10 +22,10 @@ refused_by_setup known told stop (bytes, gives, inl (inr (inr (inl (long, by))))
 refused_by_setup known told stop (bytes, gives, inl (inr (inr (inr (no_text, low, short, not_utf8))))) = ap is_of_setup no_text
 refused_by_setup known told stop (bytes, gives, inr (fault, is, low, short, first)) = ap is_of_setup is
 
-pub ends_refused : (known : Option (List ℕ)) (told : ℕ) (input bytes : Option (List ℕ)) (limit : ℕ) (stop : Stop) → IsRefused known told stop
-    → EndsUnder known told input input bytes bytes limit (Err stop)
+pub ends_refused : (job : Job) (known : Option (List ℕ)) (told : ℕ) (input bytes : Option (List ℕ)) (limit : ℕ) (stop : Stop) → IsRefused known told stop
+    → EndsUnder job known told input input bytes bytes limit (Err stop)
 unfolding is_of_setup
-ends_refused known told input bytes limit (Setup fault) refused = (refused, Keeps-refl input, Keeps-refl bytes)
-ends_refused known told input bytes limit SetupRead refused = (Keeps-refl input, Keeps-refl bytes)
-ends_refused known told input bytes limit (Run fault) refused = absurd (false≢true (refused_by_setup known told (Run fault) refused))
-ends_refused known told input bytes limit (Arguments fault) refused = absurd (false≢true (refused_by_setup known told (Arguments fault) refused))
+ends_refused job known told input bytes limit (Setup fault) refused = (refused, Keeps-refl input, Keeps-refl bytes)
+ends_refused job known told input bytes limit SetupRead refused = (Keeps-refl input, Keeps-refl bytes)
+ends_refused job known told input bytes limit (Run fault) refused = absurd (false≢true (refused_by_setup known told (Run fault) refused))
+ends_refused job known told input bytes limit (Arguments fault) refused = absurd (false≢true (refused_by_setup known told (Arguments fault) refused))

@@ -1,49 +1,98 @@
--- How the program ended with a script, and what it did with the bytes.
-use Rattle.std.specs.Prelude.{ℕ, Bool, true, List, length, Option, Result, Ok, Err, ◌⊎◌, ◌≡◌}
-use Rattle.std.specs.Io.KnownBytes.{Keeps}
+-- How the program ended with a script or a journal, and what it did with the bytes.
+use Rattle.std.specs.Prelude.{ℕ, Bool, true, List, ◌∷◌, ◌++◌, [], length, codes, Option, Result, Ok, Err, ◌⊎◌, ◌≡◌}
+use Rattle.std.specs.Fmt.{decimal}
+use Rattle.std.specs.Io.KnownBytes.{Keeps, Appends}
 use Rattle.jg_words.specs.declared.entry.Entry.{Entry}
 use Rattle.jg_policy.specs.declared.fault.SetupFault.TheVariants.{NoMemory as NoRoom}
 use Rattle.jg_policy.specs.Stated.{StatedSetup}
 use Rattle.jg_rules.specs.Legal.{Legal}
 use Rattle.jg_script.specs.declared.run_fault.RunFault.TheVariants.{Script, Limit, NoMemory, Read, Write}
+use Rattle.jg_script.specs.declared.replay.Verdict.{Verdict}
+use Rattle.jg_script.specs.declared.replay.Verdict.TheVariants as verdict
 use Rattle.jg_script.specs.Checked.{Checks}
+use Rattle.jg_script.specs.Replayed.{Verifies}
+use Rattle.jg_cli.specs.declared.program.Job.{Job}
+use Rattle.jg_cli.specs.declared.program.Job.TheVariants.{Check, Verify}
+use Rattle.jg_cli.specs.declared.stop.Status.{Status}
+use Rattle.jg_cli.specs.declared.stop.Status.TheVariants.{Done, Differs}
 use Rattle.jg_cli.specs.declared.stop.Stop.{Stop}
 use Rattle.jg_cli.specs.declared.stop.Stop.TheVariants.{Arguments, Setup, SetupRead, Run}
-use Rattle.jg_cli.specs.StatedBy.{IsStated, IsRefused}
+use Rattle.jg_cli.specs.StatedBy.{base_setup, IsStated, IsRefused}
 
 -- how the answering of a script under this setup ended, and what it did to the bytes of the reader
 -- and of the writer
-abbrev pub Ends : StatedSetup → Option (List ℕ) → Option (List ℕ) → Option (List ℕ) → Option (List ℕ) → ℕ
-    → Result (Unit {0}) Stop → Type 0
+abbrev pub EndsScript : StatedSetup → Option (List ℕ) → Option (List ℕ) → Option (List ℕ) → Option (List ℕ) → ℕ
+    → Result Status Stop → Type 0
 -- all that the reader held are the calls of a legal history, and the text of that history was written
-Ends setup input input' bytes bytes' limit (Ok done) =
-    (h : List Entry) × Legal setup h × Checks input input' bytes bytes' limit h (Ok (length h))
+EndsScript setup input input' bytes bytes' limit (Ok status) =
+    (status ≡ Done) × ((h : List Entry) × Legal setup h × Checks input input' bytes bytes' limit h (Ok (length h)))
 -- the check of the script ended so; or what it wrote couldn't be handed on
-Ends setup input input' bytes bytes' limit (Err (Run fault)) =
+EndsScript setup input input' bytes bytes' limit (Err (Run fault)) =
     ((h : List Entry) × Legal setup h × Checks input input' bytes bytes' limit h (Err fault))
     ⊎ ((line : ℕ) × (fault ≡ Write line))
 -- no guard could be made, so nothing was read or written
-Ends setup input input' bytes bytes' limit (Err (Setup fault)) =
+EndsScript setup input input' bytes bytes' limit (Err (Setup fault)) =
     (fault ≡ NoRoom) × Keeps input input' × Keeps bytes bytes'
-Ends setup input input' bytes bytes' limit (Err SetupRead) = ⊥
-Ends setup input input' bytes bytes' limit (Err (Arguments fault)) = ⊥
+EndsScript setup input input' bytes bytes' limit (Err SetupRead) = ⊥
+EndsScript setup input input' bytes bytes' limit (Err (Arguments fault)) = ⊥
+
+-- what is said of a journal
+abbrev pub verdict_text : Verdict → List ℕ
+verdict_text verdict.Legal = codes "legal" ++ 10 ∷ []
+verdict_text (verdict.Differs line) = codes "differs at line " ++ decimal line ++ 10 ∷ []
+
+abbrev pub verdict_status : Verdict → Status
+verdict_status verdict.Legal = Done
+verdict_status (verdict.Differs line) = Differs
+
+-- how the test of a journal under this setup ended
+abbrev pub EndsJournal : StatedSetup → Option (List ℕ) → Option (List ℕ) → Option (List ℕ) → Option (List ℕ) → ℕ
+    → Result Status Stop → Type 0
+-- the journal is so, and that was written
+EndsJournal setup input input' bytes bytes' limit (Ok status) =
+    (v : Verdict) × (status ≡ verdict_status v) × Verifies input input' setup limit (Ok v)
+    × Appends bytes bytes' (verdict_text v)
+-- the test ended so, and nothing was written; or what is to be said couldn't be written or handed on
+EndsJournal setup input input' bytes bytes' limit (Err (Run fault)) =
+    (Verifies input input' setup limit (Err fault) × Keeps bytes bytes') ⊎ (fault ≡ Write 1)
+EndsJournal setup input input' bytes bytes' limit (Err (Setup fault)) = ⊥
+EndsJournal setup input input' bytes bytes' limit (Err SetupRead) = ⊥
+EndsJournal setup input input' bytes bytes' limit (Err (Arguments fault)) = ⊥
+
+-- whichever was asked for
+abbrev pub Ends : Job → StatedSetup → Option (List ℕ) → Option (List ℕ) → Option (List ℕ) → Option (List ℕ) → ℕ
+    → Result Status Stop → Type 0
+Ends Check setup input input' bytes bytes' limit result = EndsScript setup input input' bytes bytes' limit result
+Ends Verify setup input input' bytes bytes' limit result = EndsJournal setup input input' bytes bytes' limit result
+
+-- the same under the setup where none is given, or memory ran out before that was read
+abbrev pub EndsClosed : Job → Option (List ℕ) → Option (List ℕ) → Option (List ℕ) → Option (List ℕ) → ℕ
+    → Result Status Stop → Type 0
+EndsClosed job input input' bytes bytes' limit (Ok status) =
+    Ends job base_setup input input' bytes bytes' limit (Ok status)
+EndsClosed job input input' bytes bytes' limit (Err (Run fault)) =
+    Ends job base_setup input input' bytes bytes' limit (Err (Run fault))
+EndsClosed job input input' bytes bytes' limit (Err (Setup fault)) =
+    (fault ≡ NoRoom) × Keeps input input' × Keeps bytes bytes'
+EndsClosed job input input' bytes bytes' limit (Err SetupRead) = ⊥
+EndsClosed job input input' bytes bytes' limit (Err (Arguments fault)) = ⊥
 
 -- the same under the setup that a file states, of which the bytes may be known and a length was told
-abbrev pub EndsUnder : Option (List ℕ) → ℕ → Option (List ℕ) → Option (List ℕ) → Option (List ℕ) → Option (List ℕ) → ℕ
-    → Result (Unit {0}) Stop → Type 0
-EndsUnder known told input input' bytes bytes' limit (Ok done) =
-    (setup : StatedSetup) × IsStated known setup × Ends setup input input' bytes bytes' limit (Ok done)
-EndsUnder known told input input' bytes bytes' limit (Err (Run fault)) =
-    (setup : StatedSetup) × IsStated known setup × Ends setup input input' bytes bytes' limit (Err (Run fault))
+abbrev pub EndsUnder : Job → Option (List ℕ) → ℕ → Option (List ℕ) → Option (List ℕ) → Option (List ℕ)
+    → Option (List ℕ) → ℕ → Result Status Stop → Type 0
+EndsUnder job known told input input' bytes bytes' limit (Ok status) =
+    (setup : StatedSetup) × IsStated known setup × Ends job setup input input' bytes bytes' limit (Ok status)
+EndsUnder job known told input input' bytes bytes' limit (Err (Run fault)) =
+    (setup : StatedSetup) × IsStated known setup × Ends job setup input input' bytes bytes' limit (Err (Run fault))
 -- the file was refused, or no guard could be made, and nothing was read or written
-EndsUnder known told input input' bytes bytes' limit (Err (Setup fault)) =
+EndsUnder job known told input input' bytes bytes' limit (Err (Setup fault)) =
     IsRefused known told (Setup fault) × Keeps input input' × Keeps bytes bytes'
-EndsUnder known told input input' bytes bytes' limit (Err SetupRead) = Keeps input input' × Keeps bytes bytes'
-EndsUnder known told input input' bytes bytes' limit (Err (Arguments fault)) = ⊥
+EndsUnder job known told input input' bytes bytes' limit (Err SetupRead) = Keeps input input' × Keeps bytes bytes'
+EndsUnder job known told input input' bytes bytes' limit (Err (Arguments fault)) = ⊥
 
 -- the writer holds nothing back at the end, or it failed and that is told
-abbrev pub IsHandedOn : Type 0 → Bool → Result (Unit {0}) Stop → Type 0
-IsHandedOn holds_nothing failed (Ok done) = holds_nothing
+abbrev pub IsHandedOn : Type 0 → Bool → Result Status Stop → Type 0
+IsHandedOn holds_nothing failed (Ok status) = holds_nothing
 IsHandedOn holds_nothing failed (Err (Run (Write line))) = failed ≡ true
 IsHandedOn holds_nothing failed (Err (Run (Script line fault))) = holds_nothing
 IsHandedOn holds_nothing failed (Err (Run (Limit line))) = holds_nothing

@@ -1,6 +1,8 @@
-//! The program `jg`: it answers a script on standard input, under a setup, with its journal on standard output.
+//! The program `jg`: under a setup, it answers a script on standard input with its journal on standard output, or tests a
+//! journal.
 #![tactic(auto)]
 
+mod journal;
 mod program;
 mod setup_file;
 #[cfg(test)]

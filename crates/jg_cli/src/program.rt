@@ -1,9 +1,10 @@
 //! What the program does, over any words, reader and writers.
 
-ghost use Rattle.std.specs.Prelude.{OnOk};
-ghost use Rattle.jg_cli.specs.StatedBy.{base_setup};
-ghost use Rattle.jg_cli.specs.Ended.{Ends, EndsUnder, IsHandedOn};
+ghost use Rattle.std.specs.Prelude.{IfOk, ◌≡◌};
+ghost use Rattle.jg_cli.specs.declared.stop.Status.TheVariants.{Done};
+ghost use Rattle.jg_cli.specs.Ended.{Ends, EndsClosed, EndsScript, EndsUnder, IsHandedOn};
 
+use crate::journal::test_journal;
 use crate::setup_file::{SetupFiles, closed_setup, read_setup, stop_of};
 use crate::stop::{Status, Stop, tell};
 use jg_args::{ArgsFault, Asked, Task, help_text, read_words};
@@ -12,6 +13,15 @@ use jg_policy::{Setup, SetupFault};
 use jg_script::{HandsOn, RunFault, Watched, check};
 use std::alloc::Global;
 use std::io::{BufRead, Read, Write};
+
+/// What is done with the bytes on standard input.
+#[derive(Clone, Copy, Debug, PartialEq, Eq)]
+pub enum Job {
+    /// They are a script, which is answered.
+    Check,
+    /// They are a journal, which is tested.
+    Verify,
+}
 
 /// Answers the script that the reader holds, under this setup. What is still buffered is handed on
 /// before it ends, also where it ends by a fault; a failure of that counts as a failed write of the
@@ -22,8 +32,8 @@ fn answer_script<R: BufRead, W: HandsOn>(
     limit: u32,
     reader: &mut Watched<R>,
     out: &mut Watched<W>,
-) -> Result<(), Stop>
-    ensures ends { Ends setup (R.remaining reader.old.device) (R.remaining reader.new.device)
+) -> Result<Status, Stop>
+    ensures ends { EndsScript setup (R.remaining reader.old.device) (R.remaining reader.new.device)
         (W.contents out.old.device) (W.contents out.new.device) limit result }
     ensures handed_on { IsHandedOn (W.holds_nothing out.new.device) out.new.failed result }
 {
@@ -36,51 +46,72 @@ fn answer_script<R: BufRead, W: HandsOn>(
         return Err(Stop::Run(RunFault::Write { line }));
     };
     match checked {
-        Ok(_) => Ok(()),
+        Ok(_) => Ok(Status::Done),
         Err(fault) => Err(Stop::Run(fault)),
     }
 }
 
-/// Answers the script under the setup where none is given.
-fn answer_closed<R: BufRead, W: HandsOn>(
+/// Does what is asked for with the bytes of the reader, under this setup.
+fn work<R: BufRead, W: HandsOn>(
     alloc: Global,
+    job: Job,
+    setup: Setup,
     limit: u32,
     reader: &mut Watched<R>,
     out: &mut Watched<W>,
-) -> Result<(), Stop>
-    ensures ends { Ends base_setup (R.remaining reader.old.device) (R.remaining reader.new.device)
+) -> Result<Status, Stop>
+    ensures ends { Ends job setup (R.remaining reader.old.device) (R.remaining reader.new.device)
+        (W.contents out.old.device) (W.contents out.new.device) limit result }
+    ensures handed_on { IsHandedOn (W.holds_nothing out.new.device) out.new.failed result }
+{
+    match job {
+        Job::Check => answer_script(alloc, setup, limit, reader, out),
+        Job::Verify => test_journal(alloc, setup, limit, reader, out),
+    }
+}
+
+/// Does it under the setup where none is given.
+fn work_closed<R: BufRead, W: HandsOn>(
+    alloc: Global,
+    job: Job,
+    limit: u32,
+    reader: &mut Watched<R>,
+    out: &mut Watched<W>,
+) -> Result<Status, Stop>
+    ensures ends { EndsClosed job (R.remaining reader.old.device) (R.remaining reader.new.device)
         (W.contents out.old.device) (W.contents out.new.device) limit result }
     ensures handed_on { IsHandedOn (W.holds_nothing out.new.device) out.new.failed result }
 {
     match closed_setup(alloc) {
-        Ok(setup) => answer_script(alloc, setup, limit, reader, out),
+        Ok(setup) => work(alloc, job, setup, limit, reader, out),
         Err(fault) => Err(Stop::Setup(fault)),
     }
 }
 
-/// Answers the script under the setup that a file states, of which the system told the length. The
-/// file is read before the script's first byte.
-fn answer_under<F: Read, R: BufRead, W: HandsOn>(
+/// Does it under the setup that a file states, of which the system told the length. The file is
+/// read before the reader's first byte.
+fn work_under<F: Read, R: BufRead, W: HandsOn>(
     alloc: Global,
+    job: Job,
     file: &mut F,
     told: u64,
     limit: u32,
     reader: &mut Watched<R>,
     out: &mut Watched<W>,
-) -> Result<(), Stop>
-    ensures ends { EndsUnder (F.remaining file.old) told (R.remaining reader.old.device) (R.remaining reader.new.device)
-        (W.contents out.old.device) (W.contents out.new.device) limit result }
+) -> Result<Status, Stop>
+    ensures ends { EndsUnder job (F.remaining file.old) told (R.remaining reader.old.device)
+        (R.remaining reader.new.device) (W.contents out.old.device) (W.contents out.new.device) limit result }
     ensures handed_on { IsHandedOn (W.holds_nothing out.new.device) out.new.failed result }
 {
     match read_setup(alloc, file, told) {
-        Ok(setup) => answer_script(alloc, setup, limit, reader, out),
+        Ok(setup) => work(alloc, job, setup, limit, reader, out),
         Err(stop) => Err(stop),
     }
 }
 
 /// Writes the help or the version, whichever the words ask for.
-fn print_help<W: HandsOn>(alloc: Global, words: &[&str], out: &mut W) -> Result<(), Stop>
-    ensures { OnOk result (W.holds_nothing out.new) }
+fn print_help<W: HandsOn>(alloc: Global, words: &[&str], out: &mut W) -> Result<Status, Stop>
+    ensures { IfOk result (λ status. (status ≡ Done) × W.holds_nothing out.new) }
 {
     let Ok(text) = help_text(alloc, words) else {
         return Err(Stop::NO_MEMORY);
@@ -89,35 +120,45 @@ fn print_help<W: HandsOn>(alloc: Global, words: &[&str], out: &mut W) -> Result<
         return Err(Stop::Run(RunFault::Write { line: 1 }));
     };
     match out.hand_on() {
-        Ok(()) => Ok(()),
+        Ok(()) => Ok(Status::Done),
         Err(_) => Err(Stop::Run(RunFault::Write { line: 1 })),
     }
 }
 
-/// Does what is asked for, as far as the program can: it answers scripts.
+/// The job that the words ask for, or none where the program can't do it yet.
+fn job_of(task: Task<'_>) -> Option<Job> {
+    match task {
+        Task::Check => Some(Job::Check),
+        Task::Verify => Some(Job::Verify),
+        Task::Play(_) => None,
+    }
+}
+
+/// Does what is asked for, as far as the program can: it answers scripts and tests journals.
 fn serve<S: SetupFiles, R: BufRead + Drop, W: HandsOn + Drop>(
     alloc: Global,
     asked: Asked<'_>,
     files: &S,
     reader: R,
     out: W,
-) -> Result<(), Stop> {
-    let Asked {
-        task: Task::Check,
-        setup,
-        limit,
-        turns: _,
-        leaks: false,
-    } = asked
-    else {
+) -> Result<Status, Stop> {
+    let (Some(job), false) = (job_of(asked.task), asked.leaks) else {
         return Err(Stop::REFUSED);
     };
     let (mut reader, mut out) = (Watched::new(reader), Watched::new(out));
-    let Some(path) = setup else {
-        return answer_closed(alloc, limit, &mut reader, &mut out);
+    let Some(path) = asked.setup else {
+        return work_closed(alloc, job, asked.limit, &mut reader, &mut out);
     };
     match files.open(path) {
-        Ok((mut file, told)) => answer_under(alloc, &mut file, told, limit, &mut reader, &mut out),
+        Ok((mut file, told)) => work_under(
+            alloc,
+            job,
+            &mut file,
+            told,
+            asked.limit,
+            &mut reader,
+            &mut out,
+        ),
         Err(error) => Err(stop_of(&error)),
     }
 }
@@ -137,7 +178,7 @@ pub fn run<S: SetupFiles, R: BufRead + Drop, W: HandsOn + Drop, E: Write>(
         Err(fault) => Err(Stop::Arguments(fault)),
     };
     match done {
-        Ok(()) => Status::Done,
+        Ok(status) => status,
         Err(stop) => tell(stop, err),
     }
 }

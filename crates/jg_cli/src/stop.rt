@@ -6,12 +6,13 @@ use jg_script::RunFault;
 use std::io::Write;
 use thiserror::Error;
 
-/// The status that the program ends with. A journal that differs is 1, once the program tests
-/// journals.
+/// The status that the program ends with.
 #[derive(Clone, Copy, Debug, PartialEq, Eq)]
 pub enum Status {
     /// All was done.
     Done = 0,
+    /// The journal that was tested is none of a legal history.
+    Differs = 1,
     /// The script, the setup or the arguments are faulty.
     Faulty = 2,
     /// The limit was met, or memory ran out.

@@ -71,6 +71,11 @@ T1 E1.1 GetStringLength L1.1
 T1 E1.1 DeleteLocalRef L1.1
 ";
 
+const ANOTHER_LENGTH: &str = "T1 - AttachCurrentThread = E1.1
+T1 E1.1 NewString [1] = L1.1
+T1 E1.1 GetStringLength L1.1 = 2
+";
+
 const FAULTY_FOURTH: &str = "T1 - AttachCurrentThread
 T1 E1.1 NewString [1]
 T1 E1.1 GetStringLength L1.1
@@ -132,14 +137,96 @@ fn each_end_has_its_status_and_its_text(rt: HostRuntime) -> Result<(), Fail> {
 }
 
 #[test]
+fn journals_are_tested(rt: HostRuntime) -> Result<(), Fail> {
+    let cut = &THREE_ANSWERED[..THREE_ANSWERED.len() - 1];
+    let runs: [(&[&str], &str, Status, &str, &str); 9] = [
+        (&["verify"], "", Status::Done, "legal\n", ""),
+        (&["verify"], THREE_ANSWERED, Status::Done, "legal\n", ""),
+        (
+            &["verify", "--limit", "3"],
+            THREE_ANSWERED,
+            Status::Done,
+            "legal\n",
+            "",
+        ),
+        (
+            &["verify"],
+            ANOTHER_LENGTH,
+            Status::Differs,
+            "differs at line 3\n",
+            "",
+        ),
+        (&["verify"], cut, Status::Differs, "differs at line 3\n", ""),
+        (
+            &["verify"],
+            THREE_LINES,
+            Status::Differs,
+            "differs at line 1\n",
+            "",
+        ),
+        (
+            &["verify", "--limit", "2"],
+            ANOTHER_LENGTH,
+            Status::Exhausted,
+            "",
+            "line 3: limit\n",
+        ),
+        (
+            &["verify", "--limit", "0"],
+            THREE_LINES,
+            Status::Differs,
+            "differs at line 1\n",
+            "",
+        ),
+        (
+            &["verify", "--setup", "no/such/file"],
+            THREE_ANSWERED,
+            Status::Device,
+            "",
+            "setup: read failed\n",
+        ),
+    ];
+    for (words, journal, status, text, said) in runs {
+        let mut out = Vec::new(rt.alloc());
+        let mut err = Vec::new(rt.alloc());
+        let writer = BufWriter::new(rt.alloc(), &mut out)?;
+        let ended = run(rt.alloc(), words, &rt, journal.as_bytes(), writer, &mut err);
+        assert_eq!(rt; ended, status, "at {words:?}: {said}");
+        assert!(rt; out.as_slice() == text.as_bytes(), "at {words:?}: {text}");
+        assert!(rt; err.as_slice() == said.as_bytes(), "at {words:?}: {said}");
+    }
+    Ok(())
+}
+
+#[test]
+fn failing_devices_end_a_test_of_a_journal(rt: HostRuntime) -> Result<(), Fail> {
+    let mut out = Vec::new(rt.alloc());
+    let mut err = Vec::new(rt.alloc());
+    let reader = BufReader::new(rt.alloc(), Broken)?;
+    let writer = BufWriter::new(rt.alloc(), &mut out)?;
+    let ended = run(rt.alloc(), &["verify"], &rt, reader, writer, &mut err);
+    assert_eq!(rt; ended, Status::Device);
+    assert!(rt; err.as_slice() == b"line 1: read failed\n".as_slice());
+    err.clear();
+    let journal = THREE_ANSWERED.as_bytes();
+    let ended = run(rt.alloc(), &["verify"], &rt, journal, Broken, &mut err);
+    assert_eq!(rt; ended, Status::Device);
+    assert!(rt; err.as_slice() == b"line 1: write failed\n".as_slice());
+    err.clear();
+    let ended = run(rt.alloc(), &["verify"], &rt, journal, Unflushed, &mut err);
+    assert_eq!(rt; ended, Status::Device);
+    assert!(rt; err.as_slice() == b"line 1: write failed\n".as_slice());
+    Ok(())
+}
+
+#[test]
 fn what_the_program_cannot_do_is_refused(rt: HostRuntime) -> Result<(), Fail> {
-    let refused: [&[&str]; 9] = [
+    let refused: [&[&str]; 8] = [
         &["--fly"],
         &["fly"],
         &["--limit", "1000001"],
-        &["verify"],
         &["play", "two"],
-        &["verify", "--setup", "app.toml"],
+        &["verify", "--leaks"],
         &["--setup", "app.toml", "--leaks"],
         &["--leaks"],
         &["--turns", "3"],

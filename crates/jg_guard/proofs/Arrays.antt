@@ -50,7 +50,7 @@ is_primitive Long = (omega arith, omega arith)
 
 -- ---- the array
 
-primitive_there : (s : StatedSetup) (rows : TableRows) (p : Parts) (element : Primitive) (named : Named) → TablesStand s rows p → (is_nothing named || false) ≡ false
+pub primitive_there : (s : StatedSetup) (rows : TableRows) (p : Parts) (element : Primitive) (named : Named) → TablesStand s rows p → (is_nothing named || false) ≡ false
     → ((true && is_null named) || false) ≡ false → (is_wrong s p (ArrayOf element) named || false) ≡ false
     → IsThere s rows p (unwrap_or (object_in named) 0) (array_class element)
 primitive_there s rows p element named stand alive there right =

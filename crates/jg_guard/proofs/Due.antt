@@ -13,6 +13,7 @@ use Rattle.jg_words.specs.declared.reference.Kind.TheVariants.{Local, Global, We
 use Rattle.jg_words.specs.declared.value.Value.{Value}
 use Rattle.jg_words.specs.declared.value.Value.TheVariants.{Reference, Buffer as Lent, Busy, Throw as Threw}
 use Rattle.jg_words.specs.declared.call.Call.{Call}
+use Rattle.jg_words.specs.declared.call.Call.TheVariants.{Vm, Refs, Frames, Exceptions, Objects, Strings, Arrays, Monitors, Buffers}
 use Rattle.jg_policy.specs.Stated.{StatedSetup}
 use Rattle.jg_threads.specs.History as threads
 use Rattle.jg_threads.specs.declared.row.Row.{Row}
@@ -23,14 +24,17 @@ use Rattle.jg_locals.specs.Rows.{Rows, HasFrame, pushed, entered, top, spare}
 use Rattle.jg_locals.specs.Standing as local_standing
 use Rattle.jg_locals.proofs.Callers.{has_frame_law, above_law, pushed_law, entered_law, top_is}
 use Rattle.jg_globals.proofs.Callers.{above_law as global_above_law}
+use Rattle.jg_buffers.specs.Rows as buffer_rows
+use Rattle.jg_buffers.specs.Standing as buffer_standing
+use Rattle.jg_buffers.proofs.Callers.{above_law as buffer_above_law}
 use Rattle.jg_monitors.specs.History as monitors
 use Rattle.jg_monitors.specs.Rows as monitor_rows
 use Rattle.jg_monitors.specs.Standing as monitor_standing
 use Rattle.jg_monitors.proofs.Callers.{rows_tell_law, bounded_law}
 use Rattle.jg_rules.specs.Parts.{Parts, TableRows, TablesStand}
-use Rattle.jg_rules.specs.Names.{next_ref, open_frames, object_in, depth as depth_of}
+use Rattle.jg_rules.specs.Names.{next_ref, next_buffer, open_frames, object_in, depth as depth_of}
 use Rattle.std.specs.Option.{unwrap_or}
-use Rattle.jg_rules.specs.Effects.{done_by, done_if, is_effective, settled, passed_on, call_threads}
+use Rattle.jg_rules.specs.Effects.{done_by, done_if, is_effective, settled, passed_on, call_threads, call_buffers}
 use Rattle.jg_rules.specs.Access.{native_class, home_of}
 use Rattle.jg_rules.specs.declared.named.Named.{Named}
 use Rattle.jg_rules.specs.declared.named.Named.TheVariants.{Nothing, Null as NamesNull, Object}
@@ -39,7 +43,7 @@ use Rattle.jg_rules.specs.Unbroken.{Unbroken}
 use Rattle.jg_rules.specs.Answers.{answer}
 use Rattle.jg_rules.specs.declared.answer.Answer.{Answer}
 use Rattle.jg_laws.specs.Laws.{AgreeInNatives}
-use Rattle.jg_laws.specs.Proper.{IsProper, ProperAnswer}
+use Rattle.jg_laws.specs.Proper.{IsProper, ProperAnswer, opens_one}
 use Rattle.jg_laws.proofs.Proper.{proper}
 use Rattle.jg_laws.proofs.Acts.{attached_caller, attached_done, next_done}
 use Rattle.jg_laws.proofs.Steps.{each_done}
@@ -127,14 +131,19 @@ owns p rows t Nothing a b stands alive there own = absurd cc
 owns p rows t NamesNull a b stands alive there own = absurd cc
 owns p rows t (Object x) a b stands alive there own = (rows_tell_law rows p.monitors x.0 stands).owner ∙ owned_by (monitors.owner p.monitors x.0) t own
 
+-- t's next buffer may be opened
+pub can_open : (p : Parts) (rows : buffer_rows.Rows) (t n : ℕ) → IsOrdinary p → buffer_standing.Stands rows p.buffers → n ≡ next_buffer p t → buffer_rows.IsAbove t n rows
+can_open p rows t n o stands is = rw is (buffer_above_law rows p.buffers t (next_buffer p t) stands (o.buffers_below t))
+
 -- ---- where the tables still stand
 
-pub due_still : (s : StatedSetup) (old new : TableRows) (t : ℕ) (call : Call) (due : IsDue s old t call) → TablesStand s new due.events → IsDue s new t call
+abbrev pub due_still : (s : StatedSetup) (old new : TableRows) (t : ℕ) (call : Call) (due : IsDue s old t call) → TablesStand s new due.events → IsDue s new t call
 due_still s old new t call due stand = record {
   events = due.events;
   env = due.env;
   ordinary = due.ordinary;
   stated = due.stated;
+  lent = due.lent;
   stand = stand;
   unbroken = due.unbroken;
   counts = counts due.events new.threads t due.ordinary stand.threads;
@@ -151,14 +160,29 @@ pub record After (q : Parts) (t : ℕ) : Type 0 where
   pub agree : AgreeInNatives (threads.acts_of t q.threads) (acts_of t q.locals)
   pub below : IsMadeBelow (next_ref q t) (acts_of t q.locals)
 
-pub after_done : (s : StatedSetup) (p : Parts) (t : ℕ) (env : Option EnvId) (call : Call) → Unbroken s p t env call → IsOrdinary p → After (done_by s t call p) t
-after_done s p t env call kept o =
+threads_few : (s : StatedSetup) (p : Parts) (t : ℕ) (call : Call) → IsOrdinary p → length (map (threads.by t) (call_threads s p t call) ++ p.threads) < 2 ^ 63
+threads_few s p t call o =
     let few : length (map (threads.by t) (call_threads s p t call) ++ p.threads) ≤ length p.threads + 1 = simp (length-append, length-map) (omega (arith, call_threads-le s p t call)) in
-    record {
-      few = omega (arith, few, o.few_threads);
-      agree = each_done (λ q. (u : ℕ) → Agreed (threads.acts_of u q.threads) (acts_of u q.locals)) s (agree_steps s) p t env call kept o.agree t;
-      below = each_done Below s (below_steps s) p t env call kept o.below t;
-    }
+    omega (arith, few, o.few_threads)
+
+-- of a call that opens no buffer
+after_other : (s : StatedSetup) (p : Parts) (t : ℕ) (env : Option EnvId) (call : Call) → Unbroken s p t env call → opens_one (call_buffers s p t call) ≡ false → IsOrdinary p → After (done_by s t call p) t
+after_other s p t env call kept none o = record {
+  few = threads_few s p t call o;
+  agree = each_done (λ q. (u : ℕ) → Agreed (threads.acts_of u q.threads) (acts_of u q.locals)) s (agree_steps s) p t env call kept none o.agree t;
+  below = each_done Below s (below_steps s) p t env call kept none o.below t;
+}
+
+pub after_done : (s : StatedSetup) (p : Parts) (t : ℕ) (env : Option EnvId) (call : Call) → Unbroken s p t env call → IsOrdinary p → After (done_by s t call p) t
+after_done s p t env (Vm call) kept o = after_other s p t env (Vm call) kept refl o
+after_done s p t env (Refs call) kept o = after_other s p t env (Refs call) kept refl o
+after_done s p t env (Frames call) kept o = after_other s p t env (Frames call) kept refl o
+after_done s p t env (Exceptions call) kept o = after_other s p t env (Exceptions call) kept refl o
+after_done s p t env (Objects call) kept o = after_other s p t env (Objects call) kept refl o
+after_done s p t env (Strings call) kept o = after_other s p t env (Strings call) kept refl o
+after_done s p t env (Arrays call) kept o = after_other s p t env (Arrays call) kept refl o
+after_done s p t env (Monitors call) kept o = after_other s p t env (Monitors call) kept refl o
+after_done s p t env (Buffers call) kept o = record { few = threads_few s p t (Buffers call) o; agree = o.agree t; below = o.below t }
 
 -- an attached thread whose tables stand for a call's own events may be handed out its next local
 pub can_hand_out : {A : Type 0} (s : StatedSetup) (p : Parts) (tables : Tables A) (t : ℕ) (n : ℕ) (env : Option EnvId) (call : Call) → After (done_by s t call p) t

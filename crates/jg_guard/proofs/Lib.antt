@@ -1,6 +1,7 @@
 pub mod Due
 pub mod Passing
 pub mod Arrays
+pub mod Buffers
 pub mod Fields
 pub mod Slots
 pub mod Linking

@@ -12,6 +12,7 @@ use Rattle.jg_rules.specs.Answers.{answer}
 use Rattle.jg_rules.specs.Legal.{entry_at, entry_by}
 use Rattle.jg_laws.proofs.Kept.{agreed, below, globals_below}
 use Rattle.jg_laws.proofs.Natives.{all_stated}
+use Rattle.jg_laws.proofs.Lending.{lent_below_next, buffers_fit}
 use Rattle.jg_laws.proofs.Sizes.{small}
 use Rattle.jg_words.specs.declared.rule.Rule.{Rule}
 use Rattle.jg_words.specs.declared.entry.Outcome.TheVariants.{Passed, Denied}
@@ -32,6 +33,7 @@ ordinary state rows s =
       agree = agreed state.setup state.journal s.legal;
       below = below state.setup state.journal s.legal;
       globals_below = globals_below state.setup state.journal s.legal;
+      buffers_below = lent_below_next state.setup state.journal s.legal;
       few_threads = omega (arith, sizes.threads, s.bounded, s.small);
       few_locals = omega (arith, sizes.locals, s.bounded, s.small);
       few_monitors = omega (arith, sizes.monitors, s.bounded, s.small);
@@ -57,6 +59,7 @@ due_of state rows t env call s none =
       env = env;
       ordinary = ordinary state rows s;
       stated = all_stated state.setup state.journal s.legal;
+      lent = λ maker n b is. buffers_fit state.setup state.journal maker n b s.legal is;
       stand = s.tables;
       unbroken = unbroken state.setup p t.0 env call none;
       counts = counts p rows.threads t.0 (ordinary state rows s) s.tables.threads;

@@ -1,5 +1,5 @@
 -- The events of what an answer makes.
-use Rattle.std.specs.Prelude.{ℕ, Bool, false, [], ◌∷◌, ◌++◌, Option}
+use Rattle.std.specs.Prelude.{ℕ, Bool, false, List, [], ◌∷◌, ◌++◌, Option}
 use Rattle.jg_words.specs.declared.object.ObjId.{ObjId}
 use Rattle.jg_words.specs.declared.value.Value.{Value}
 use Rattle.jg_words.specs.declared.value.Thrown.{Thrown}
@@ -10,6 +10,7 @@ use Rattle.jg_globals.specs.History as globals
 use Rattle.jg_heap.specs.History as heap
 use Rattle.jg_heap.specs.Making.{Plain}
 use Rattle.jg_rules.specs.Parts.{Parts}
+use Rattle.jg_buffers.specs.History as buffers
 use Rattle.jg_rules.specs.Effects.{class_thrown, warning, deletes_local, linking, unlinking}
 use Rattle.jg_rules.specs.Holding.{roots, going}
 use Rattle.jg_policy.specs.Stated.{StatedSetup}
@@ -69,3 +70,11 @@ collected_on s p = record p {
   globals = map (λ o. globals.Clear o) (going s p) ++ p.globals;
   heap = heap.Collected (roots s p) ∷ p.heap;
 }
+
+-- buffers were opened, written or closed
+abbrev pub buffers_on : List buffers.Event → Parts → Parts
+buffers_on e p = record p { buffers = e ++ p.buffers }
+
+-- what was written was written into the store
+abbrev pub heap_on : List heap.Event → Parts → Parts
+heap_on e p = record p { heap = e ++ p.heap }

@@ -12,20 +12,22 @@ use Rattle.jg_words.specs.declared.value.Value.{Value}
 use Rattle.jg_words.specs.declared.value.Value.TheVariants.{Reference, Buffer as Lent, Busy, Throw as Threw}
 use Rattle.jg_words.specs.declared.entry.Reply.{Reply}
 use Rattle.jg_words.specs.declared.call.Call.{Call}
-use Rattle.jg_policy.specs.Stated.{StatedSetup}
+use Rattle.jg_policy.specs.Stated.{StatedSetup, class_count}
 use Rattle.jg_threads.specs.History as threads
 use Rattle.jg_threads.specs.Rows.{row_of, CanCount}
 use Rattle.jg_locals.specs.History as locals
 use Rattle.jg_locals.specs.Rows.{HasFrame, spare}
 use Rattle.jg_globals.specs.Rows.{IsAbove}
 use Rattle.jg_globals.specs.Laws as global_laws
+use Rattle.jg_buffers.specs.Laws as buffer_laws
+use Rattle.jg_buffers.specs.History as buffers
 use Rattle.jg_rules.specs.Parts.{Parts, TableRows, TablesStand}
-use Rattle.jg_rules.specs.Names.{next_ref}
+use Rattle.jg_rules.specs.Names.{next_ref, next_buffer}
 use Rattle.jg_rules.specs.Effects.{is_effective}
 use Rattle.jg_rules.specs.Unbroken.{Unbroken}
 use Rattle.jg_rules.specs.Answers.{answer}
 use Rattle.jg_rules.specs.declared.answer.Answer.{Answer}
-use Rattle.jg_laws.specs.Laws.{AgreeInNatives, MakesStated}
+use Rattle.jg_laws.specs.Laws.{AgreeInNatives, MakesStated, FitsObject}
 use Rattle.jg_guard.specs.declared.tables.Tables.{Tables}
 
 -- what the tables keep
@@ -49,17 +51,24 @@ pub record IsOrdinary (p : Parts) : Type 0 where
   pub agree : (t : ℕ) → AgreeInNatives (threads.acts_of t p.threads) (locals.acts_of t p.locals)
   pub below : (t : ℕ) → locals.IsMadeBelow (next_ref p t) (locals.acts_of t p.locals)
   pub globals_below : (t : ℕ) → global_laws.IsMadeBelow t (next_ref p t) p.globals
+  pub buffers_below : (t : ℕ) → buffer_laws.IsOpenedBelow t (next_buffer p t) p.buffers
   pub few_threads : length p.threads < 2 ^ 62
   pub few_locals : length p.locals < 2 ^ 62
   pub few_monitors : length p.monitors < 2 ^ 62
 
--- the tables stand for such events, which make objects with the fields that the setup states, and a call of t that
--- breaks no rule finds there what it needs
+-- each open buffer has as many items as its object, which is of the family's type
+abbrev pub AllFit : StatedSetup → Parts → Type 0
+AllFit s p = (maker n : ℕ) (b : buffers.Buffer) → buffers.opened p.buffers maker n ≡ Some b
+    → FitsObject (class_count s) p.heap b
+
+-- the tables stand for such events, which make objects with the fields that the setup states and lend buffers that fit
+-- them, and a call of t that breaks no rule finds there what it needs
 pub record IsDue (setup : StatedSetup) (rows : TableRows) (t : ℕ) (call : Call) : Type 0 where
   pub events : Parts
   pub env : Option EnvId
   pub ordinary : IsOrdinary events
   pub stated : AllByRecursion (MakesStated setup) events.heap
+  pub lent : AllFit setup events
   pub stand : TablesStand setup rows events
   pub unbroken : Unbroken setup events t env call
   pub counts : CanCount rows.threads t

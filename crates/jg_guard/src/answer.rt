@@ -7,6 +7,7 @@ ghost use Rattle.jg_rules.specs.Answers.{answer};
 ghost use Rattle.jg_guard.specs.Tables.{IsDue};
 
 use crate::groups::arrays::answer_arrays;
+use crate::groups::buffers::answer_buffers;
 use crate::groups::exceptions::answer_exceptions;
 use crate::groups::frames::answer_frames;
 use crate::groups::monitors::answer_monitors;
@@ -40,5 +41,6 @@ pub(crate) fn answer_to<A: Allocator + Clone>(
         Call::Strings(call) => answer_strings(view, lists, tid, call),
         Call::Arrays(call) => answer_arrays(view, lists, tid, call),
         Call::Monitors(call) => Ok(answer_monitors(view, tid, call)),
+        Call::Buffers(call) => Ok(answer_buffers(view, tid, call)),
     }
 }

@@ -1,6 +1,7 @@
 //! For each group of calls: what a call answers, and what it does.
 
 pub(crate) mod arrays;
+pub(crate) mod buffers;
 pub(crate) mod exceptions;
 pub(crate) mod frames;
 pub(crate) mod monitors;

@@ -13,6 +13,7 @@ ghost use Rattle.jg_guard.specs.Tables as tables_of;
 ghost use Rattle.jg_guard.specs.Tables.{rows_of, StillStand, IsAnswered, IsEffective, KeepsRoom};
 
 use crate::groups::arrays::perform_arrays;
+use crate::groups::buffers::perform_buffers;
 use crate::groups::exceptions::perform_exceptions;
 use crate::groups::frames::perform_frames;
 use crate::groups::monitors::perform_monitors;
@@ -123,6 +124,10 @@ fn do_call<A: Allocator + Clone>(
         }
         Call::Monitors(call) => {
             perform_monitors(tables, setup, tid, call)?;
+            Ok(())
+        }
+        Call::Buffers(call) => {
+            perform_buffers(tables, setup, tid, call)?;
             Ok(())
         }
     }

@@ -6,11 +6,11 @@ use Rattle.jg_words.specs.Call.{fun_of}
 use Rattle.jg_words.specs.Fun.{needs_env}
 use Rattle.jg_words.specs.declared.thread.EnvId.{EnvId}
 use Rattle.jg_words.specs.declared.call.Call.{Call}
-use Rattle.jg_words.specs.declared.call.Call.TheVariants.{Vm, Refs, Frames, Exceptions, Objects, Strings, Arrays, Monitors}
+use Rattle.jg_words.specs.declared.call.Call.TheVariants.{Vm, Refs, Frames, Exceptions, Objects, Strings, Arrays, Monitors, Buffers}
 use Rattle.jg_words.specs.declared.call.vm.VmCall.TheVariants.{AttachCurrentThread, DetachCurrentThread, GetEnv, NativeEnter, NativeLeave, LoadLibrary, RegisterNatives, UnregisterNatives, Collect}
 use Rattle.jg_words.specs.declared.call.exceptions.ExceptionsCall.TheVariants.{Throw, ExceptionOccurred, ExceptionDescribe, ExceptionClear, ExceptionCheck}
 use Rattle.jg_policy.specs.Stated.{StatedSetup}
-use Rattle.jg_threads.specs.History.{Act, Attach, Detach, Enter, Leave, Raise, Calm, CountRef, CountBuffer, Event, by, acts_of, attached, refs, is_count_ref}
+use Rattle.jg_threads.specs.History.{Act, Attach, Detach, Enter, Leave, Raise, Calm, CountRef, CountBuffer, Event, by, acts_of, how_many, attached, refs, is_count_ref, buffers, is_count_buffer}
 use Rattle.jg_locals.proofs.Callers.{each_thread}
 use Rattle.jg_rules.specs.Parts.{Parts}
 use Rattle.jg_rules.specs.Names.{next_ref}
@@ -23,13 +23,20 @@ did_more u a te = grind (arith, nat_tests)
 pub did_same : (t u : ℕ) (a : Act) (te : List Event) → t ≢ u → acts_of t (by u a ∷ te) ≡ acts_of t te
 did_same t u a te differ = grind (arith, nat_tests)
 
--- an act that hands out nothing leaves each thread's next number
-pub refs_same : (te : List Event) (u : ℕ) (a : Act) → is_count_ref a ≡ false → (t : ℕ) → refs (acts_of t (by u a ∷ te)) ≡ refs (acts_of t te)
-refs_same te u a quiet t =
-    each_thread (λ v. refs (acts_of v (by u a ∷ te)) ≡ refs (acts_of v te)) u
-    (ap refs (did_more u a te) ∙ grind (arith, nat_tests, quiet))
-    (λ v differ. ap refs (did_same v u a te differ))
+-- an act that isn't of the kind leaves each thread's count of them
+count_same : (kind : Act → Bool) (te : List Event) (u : ℕ) (a : Act) → kind a ≡ false → (t : ℕ) → how_many kind (acts_of t (by u a ∷ te)) ≡ how_many kind (acts_of t te)
+count_same kind te u a quiet t =
+    each_thread (λ v. how_many kind (acts_of v (by u a ∷ te)) ≡ how_many kind (acts_of v te)) u
+    (ap (how_many kind) (did_more u a te) ∙ grind (arith, nat_tests, quiet))
+    (λ v differ. ap (how_many kind) (did_same v u a te differ))
     t
+
+-- so one that hands out nothing leaves each thread's next number
+pub refs_same : (te : List Event) (u : ℕ) (a : Act) → is_count_ref a ≡ false → (t : ℕ) → refs (acts_of t (by u a ∷ te)) ≡ refs (acts_of t te)
+refs_same te u a quiet t = count_same is_count_ref te u a quiet t
+
+pub buffers_same : (te : List Event) (u : ℕ) (a : Act) → is_count_buffer a ≡ false → (t : ℕ) → buffers (acts_of t (by u a ∷ te)) ≡ buffers (acts_of t te)
+buffers_same te u a quiet t = count_same is_count_buffer te u a quiet t
 
 -- none of the acts hands out a reference
 abbrev pub are_quiet : List Act → Bool
@@ -67,6 +74,7 @@ call_quiet s p t (Objects call) = refl
 call_quiet s p t (Strings call) = refl
 call_quiet s p t (Arrays call) = refl
 call_quiet s p t (Monitors call) = refl
+call_quiet s p t (Buffers call) = refl
 
 pub next_done : (s : StatedSetup) (p : Parts) (t : ℕ) (call : Call) (u : ℕ) → next_ref (done_by s t call p) u ≡ next_ref p u
 next_done s p t call u = ap (λ n. n + 1) (refs_quiet p.threads t (call_threads s p t call) (call_quiet s p t call) u)
@@ -119,6 +127,7 @@ call_stays s p t (Objects call) env = refl
 call_stays s p t (Strings call) env = refl
 call_stays s p t (Arrays call) env = refl
 call_stays s p t (Monitors call) env = refl
+call_stays s p t (Buffers call) env = refl
 
 pub attached_done : (s : StatedSetup) (p : Parts) (t : ℕ) (call : Call) → needs_env (fun_of call) ≡ true → attached (acts_of t p.threads) ≡ true
     → attached (acts_of t (done_by s t call p).threads) ≡ true

@@ -176,14 +176,14 @@ gone_steps s t n =
       enters = λ p u on old. (counts.enters p u on old.0, gone_same p.locals u Enter t n (λ acts. gone_after Enter n (making n acts)) old.1);
       leaves = λ p u on deep old. (counts.leaves p u on deep old.0, gone_same p.locals u Leave t n (λ acts. gone_after Leave n (making n acts)) old.1);
       to_globals = λ p e none old. old;
-      to_buffers = λ p e old. old;
+      to_buffers = λ p e none old. old;
       to_monitors = λ p e old. old;
       to_heap = λ p e all old. old;
       to_links = λ p e old. old;
       hands = λ p u k o is old. (counts.hands p u k o is old.0, gone_made p u k o t n is old);
       hands_strong = λ p u k o is old. (counts.hands_strong p u k o is old.0, old.1);
       hands_weak = λ p u k o is old. (counts.hands_weak p u k o is old.0, old.1);
-      lends = λ p u old. (counts.lends p u old.0, old.1);
+      lends = λ p u b own old. (counts.lends p u b own old.0, old.1);
       raises = λ p u o old. (counts.raises p u o old.0, old.1);
       calms = λ p u old. (counts.calms p u old.0, old.1);
       deletes = λ p u k old. (old.0, gone_same p.locals u (Delete k) t n (λ acts. gone_after (Delete k) n (making n acts)) old.1);
@@ -285,7 +285,7 @@ kind_none kind (globals.Clear o ∷ e) g maker n none gone = kind_still kind (gl
 abbrev pub Ended : Kind → ℕ → ℕ → Parts → Type 0
 Ended kind t n p = (n + 1 ≤ next_ref p t) × (target_object (kind_target kind p.globals t n) ≡ None)
 
-not_same : (p : Parts) (u k t n : ℕ) → k ≡ next_ref p u → n + 1 ≤ next_ref p t → globals.is_same t n u k ≡ false
+pub not_same : (p : Parts) (u k t n : ℕ) → k ≡ next_ref p u → n + 1 ≤ next_ref p t → globals.is_same t n u k ≡ false
 not_same p u k t n is old =
     each_thread (λ v. n + 1 ≤ next_ref p v → globals.is_same v n u k ≡ false) u
     (λ below. let other : (k == n) ≡ false = grind (arith, nat_tests, is, below) in rw other grind (arith, nat_tests))
@@ -305,14 +305,14 @@ ended_steps s kind t n =
       pushes = λ p u old. old;
       pops = λ p u some old. old;
       to_globals = λ p e none old. (old.0, kind_none kind e p.globals t n none old.1);
-      to_buffers = λ p e old. old;
+      to_buffers = λ p e none old. old;
       to_monitors = λ p e old. old;
       to_heap = λ p e all old. old;
       to_links = λ p e old. old;
       hands = λ p u k o is old. (counts.hands p u k o is old.0, old.1);
       hands_strong = λ p u k o is old. (counts.hands_strong p u k o is old.0, kind_still kind (globals.MakeStrong u k o) p.globals t n (not_same p u k t n is old.0) old.1);
       hands_weak = λ p u k o is old. (counts.hands_weak p u k o is old.0, kind_still kind (globals.MakeWeak u k o) p.globals t n (not_same p u k t n is old.0) old.1);
-      lends = λ p u old. (counts.lends p u old.0, old.1);
+      lends = λ p u b own old. (counts.lends p u b own old.0, old.1);
       raises = λ p u o old. (counts.raises p u o old.0, old.1);
       calms = λ p u old. (counts.calms p u old.0, old.1);
     }
@@ -361,7 +361,7 @@ weak_below : (e : List globals.Event) (m t n o : ℕ) (found : Option ℕ) → g
 weak_below e m t n o None eq below is = absurd cc
 weak_below e m t n o (Some p) eq below is = weak_made e m t n p below eq
 
-kind_below : (kind : Kind) (e : List globals.Event) (m t n o : ℕ) → global_laws.IsMadeBelow t m e → target_object (kind_target kind e t n) ≡ Some o → n < m
+pub kind_below : (kind : Kind) (e : List globals.Event) (m t n o : ℕ) → global_laws.IsMadeBelow t m e → target_object (kind_target kind e t n) ≡ Some o → n < m
 kind_below Local e m t n o below is = absurd cc
 kind_below Global e m t n o below is = strong_below e m t n o below is
 kind_below Weak e m t n o below is = weak_below e m t n o (globals.weak e t n) refl below is

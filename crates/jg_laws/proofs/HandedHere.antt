@@ -1,9 +1,9 @@
 -- What a call hands out a reference for was made and isn't gone; so no legal history has a live reference to what is gone.
-use Rattle.std.proofs.Common.{ℕ, ℤ, pos, ◌≡◌, ◌+◌, ◌-◌, ◌<◌, ◌≤◌, ◌++◌, ◌∙◌, Bool, true, false, List, [], ◌∷◌, map, length, Option, Some, None, refl, ap, sym, subst, arith, length-append}
-use Rattle.std.specs.Prelude.{◌==◌, ◌&&◌, ◌||◌, not, nat_lt, int_lt, if◌then◌else◌}
-use Rattle.std.specs.List.{AllByRecursion, position}
+use Rattle.std.proofs.Common.{ℕ, ℤ, pos, ◌≡◌, ◌+◌, ◌<◌, ◌≤◌, ◌++◌, ◌∙◌, Bool, true, false, List, [], ◌∷◌, map, length, Option, Some, None, refl, ap, sym, subst, arith, length-append}
+use Rattle.std.specs.Prelude.{◌==◌, ◌&&◌, ◌||◌, not, nat_lt, int_lt}
+use Rattle.std.specs.List.{AllByRecursion}
 use Rattle.std.specs.Str.{bytes_eq}
-use Rattle.std.specs.Option.{option_map, unwrap_or}
+use Rattle.std.specs.Option.{unwrap_or}
 use Rattle.std.proofs.lemmas.List.{length-map}
 use Rattle.std.proofs.lemmas.Bool.Decides.{nat_tests}
 use Rattle.jg_words.specs.declared.thread.Tid.{Tid}
@@ -21,7 +21,7 @@ use Rattle.jg_words.specs.declared.value.Thrown.TheVariants.{ArrayIndexOutOfBoun
 use Rattle.jg_words.specs.declared.rule.Rule.{Rule}
 use Rattle.jg_words.specs.declared.entry.Entry.{Entry}
 use Rattle.jg_words.specs.declared.call.Call.{Call}
-use Rattle.jg_words.specs.declared.call.Call.TheVariants.{Vm, Refs, Frames, Exceptions, Objects, Strings, Arrays, Monitors}
+use Rattle.jg_words.specs.declared.call.Call.TheVariants.{Vm, Refs, Frames, Exceptions, Objects, Strings, Arrays, Monitors, Buffers}
 use Rattle.jg_words.specs.declared.call.vm.VmCall.TheVariants.{AttachCurrentThread, DetachCurrentThread, GetEnv, NativeEnter, NativeLeave, LoadLibrary, RegisterNatives, UnregisterNatives, Collect}
 use Rattle.jg_words.specs.declared.call.refs.RefsCall.TheVariants.{NewLocalRef, NewGlobalRef, NewWeakGlobalRef, DeleteLocalRef, DeleteGlobalRef, DeleteWeakGlobalRef, IsSameObject, GetObjectRefType}
 use Rattle.jg_words.specs.declared.call.frames.FramesCall.TheVariants.{PushLocalFrame, PopLocalFrame}
@@ -29,6 +29,7 @@ use Rattle.jg_words.specs.declared.call.exceptions.ExceptionsCall.TheVariants.{T
 use Rattle.jg_words.specs.declared.call.objects.ObjectsCall.TheVariants.{FindClass, GetObjectClass, IsInstanceOf, AllocObject, GetFieldID, GetField, GetObjectField, SetField, SetObjectField}
 use Rattle.jg_words.specs.declared.call.strings.StringsCall.TheVariants.{NewString, NewStringUTF, GetStringLength, GetStringUTFLength, GetStringRegion}
 use Rattle.jg_words.specs.declared.call.arrays.ArraysCall.TheVariants.{NewArray, GetArrayLength, GetArrayRegion, SetArrayRegion, NewObjectArray, GetObjectArrayElement, SetObjectArrayElement}
+use Rattle.jg_words.specs.declared.call.buffers.BuffersCall.TheVariants.{GetArrayElements, ReleaseArrayElements, GetStringChars, ReleaseStringChars, GetStringUTFChars, ReleaseStringUTFChars, GetPrimitiveArrayCritical, ReleasePrimitiveArrayCritical, GetStringCritical, ReleaseStringCritical, BufferRead, BufferWrite}
 use Rattle.jg_words.specs.declared.call.monitors.MonitorsCall.TheVariants.{MonitorEnter, MonitorExit}
 use Rattle.jg_policy.specs.BaseClasses.{base_names}
 use Rattle.jg_policy.specs.Stated.{StatedSetup, class_count, class_names}
@@ -36,7 +37,6 @@ use Rattle.jg_policy.specs.Classes.{class_named, class_at, fields_in, field_type
 use Rattle.jg_policy.proofs.Places.{position-within}
 use Rattle.jg_globals.specs.History as globals
 use Rattle.jg_threads.specs.History as threads
-use Rattle.jg_locals.specs.History as locals
 use Rattle.jg_monitors.specs.History as monitors
 use Rattle.jg_monitors.specs.declared.entering.Entering.{Entering}
 use Rattle.jg_monitors.specs.declared.entering.Entering.TheVariants.{Entered, Busy as KeptOut}
@@ -50,13 +50,13 @@ use Rattle.jg_rules.specs.declared.answer.Answer.{Answer}
 use Rattle.jg_rules.specs.declared.named.Named.{Named}
 use Rattle.jg_rules.specs.declared.named.Named.TheVariants.{Nothing, Null as NamesNull, Object}
 use Rattle.jg_rules.specs.declared.operand.ObjectType.TheVariants.{ObjectArray}
-use Rattle.jg_rules.specs.Parts.{Parts, nothing_yet}
-use Rattle.jg_rules.specs.Names.{names, object_in, object_named, the_object, object_count, class_of, length_of, units_of, items_of, slot_of, slot_place, target_in, pending, session, class_meant, native_meant, field_meant}
+use Rattle.jg_rules.specs.Parts.{Parts}
+use Rattle.jg_rules.specs.Names.{names, object_in, object_named, the_object, class_of, length_of, units_of, items_of, slot_of, slot_place, target_in, pending, session, class_meant, native_meant, field_meant}
 use Rattle.jg_rules.specs.Access.{native_class, home_of}
-use Rattle.jg_rules.specs.Effects.{parts, after, call_heap, done_if, if_effective, is_effective, class_thrown, settled, warning, first_value, pointer}
+use Rattle.jg_rules.specs.Effects.{parts, after, call_heap, done_if, if_effective, is_effective, class_thrown, settled, first_value, pointer}
 use Rattle.jg_rules.specs.Rules.{verdict, is_stated_as, is_of_class}
-use Rattle.jg_rules.specs.Answers.{answer, handed, thrown, plain, entered, present_env, class_found, field_found, registered, admitted, unless_pending, or_outside, is_outside, field_value, region}
-use Rattle.jg_rules.specs.Legal.{Legal, answered, entry_by}
+use Rattle.jg_rules.specs.Answers.{answer, handed, plain, entered, present_env, class_found, field_found, registered, admitted, unless_pending, or_outside, is_outside, field_value, region}
+use Rattle.jg_rules.specs.Legal.{Legal, entry_by}
 use Rattle.jg_rules.specs.Unbroken.{Unbroken}
 use Rattle.jg_rules.proofs.Kept.{unbroken}
 use Rattle.jg_rules.proofs.Objects.{first_is_of}
@@ -65,7 +65,7 @@ use Rattle.jg_laws.proofs.Makings.{stated_at, stated_length}
 use Rattle.jg_laws.proofs.Natives.{all_stated}
 use Rattle.jg_laws.proofs.StatedFields.{IsStatedField, stated_field, both_true, same_number}
 use Rattle.jg_laws.proofs.Steps.{Steps, each_since}
-use Rattle.jg_laws.proofs.Here.{Here, SlotsMeet, AreKnown, here_made, here_new, known_made, slots_made}
+use Rattle.jg_laws.proofs.Here.{Here, here_made, here_new, known_made, slots_made}
 use Rattle.jg_laws.proofs.Referring.{RaisesMeet, locals_made, pending_more, strong_more, weak_more}
 use Rattle.jg_laws.proofs.NothingGone.{AllHere, named_here}
 use Rattle.jg_laws.proofs.HandsHere.{the_named, done_here}
@@ -271,6 +271,18 @@ answer_here s p t env (Arrays (GetObjectArrayElement r index)) kept stated all =
 answer_here s p t env (Arrays (SetObjectArrayElement r index value)) kept stated all = written_here s p (is_outside index (pos 1) (length_of s p (the_object p t.0 r))) _
 answer_here s p t env (Monitors (MonitorEnter r)) kept stated all = reads (class_count s) p.heap (answer s p t (Monitors (MonitorEnter r))) (enter_here (class_count s) p.heap (monitors.entering t.0 (monitors.owner p.monitors (the_object p t.0 r))))
 answer_here s p t env (Monitors (MonitorExit r)) kept stated all = tt
+answer_here s p t env (Buffers (GetArrayElements element r)) kept stated all = tt
+answer_here s p t env (Buffers (ReleaseArrayElements element r b mode)) kept stated all = tt
+answer_here s p t env (Buffers (GetStringChars r)) kept stated all = tt
+answer_here s p t env (Buffers (ReleaseStringChars r b)) kept stated all = tt
+answer_here s p t env (Buffers (GetStringUTFChars r)) kept stated all = tt
+answer_here s p t env (Buffers (ReleaseStringUTFChars r b)) kept stated all = tt
+answer_here s p t env (Buffers (GetPrimitiveArrayCritical r)) kept stated all = tt
+answer_here s p t env (Buffers (ReleasePrimitiveArrayCritical r b mode)) kept stated all = tt
+answer_here s p t env (Buffers (GetStringCritical r)) kept stated all = tt
+answer_here s p t env (Buffers (ReleaseStringCritical r b)) kept stated all = tt
+answer_here s p t env (Buffers (BufferRead b index)) kept stated all = tt
+answer_here s p t env (Buffers (BufferWrite b index value)) kept stated all = tt
 
 -- ---- what is done with it
 
@@ -409,14 +421,14 @@ gone_steps s o = record {
   pushes = λ p u old. old;
   pops = λ p u some old. old;
   to_globals = λ p e none old. old;
-  to_buffers = λ p e old. old;
+  to_buffers = λ p e none old. old;
   to_monitors = λ p e old. old;
   to_heap = λ p e stated old. gone_law (class_count s) e p.heap o old;
   to_links = λ p e old. old;
   hands = λ p u n x is old. old;
   hands_strong = λ p u n x is old. old;
   hands_weak = λ p u n x is old. old;
-  lends = λ p u old. old;
+  lends = λ p u b own old. old;
   raises = λ p u x old. old;
   calms = λ p u old. old;
 }

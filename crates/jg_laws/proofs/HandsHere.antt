@@ -1,24 +1,15 @@
 -- One call more: what it makes, writes, raises and hands out was made and isn't gone.
-use Rattle.std.proofs.Common.{ℕ, ℤ, pos, ◌≡◌, ◌+◌, ◌-◌, ◌<◌, ◌≤◌, ◌++◌, ◌∙◌, Bool, true, false, zero, suc, List, [], ◌∷◌, map, length, Option, Some, None, refl, ap, sym, subst, arith, length-append, eqb-true}
-use Rattle.std.specs.Prelude.{◌==◌, ◌&&◌, ◌||◌, not, nat_lt, nat_le, int_lt, if◌then◌else◌, slice_index_or}
-use Rattle.std.specs.List.{AllByRecursion, position}
-use Rattle.std.specs.Str.{bytes_eq}
-use Rattle.std.specs.Option.{option_map, unwrap_or}
-use Rattle.std.proofs.lemmas.List.{length-map}
+use Rattle.std.proofs.Common.{ℕ, ℤ, pos, ◌≡◌, ◌+◌, ◌<◌, ◌++◌, Bool, true, false, zero, suc, List, [], ◌∷◌, map, length, Option, Some, None, refl, arith, eqb-true}
+use Rattle.std.specs.Prelude.{◌==◌, ◌&&◌, ◌||◌, nat_lt, nat_le, if◌then◌else◌, slice_index_or}
+use Rattle.std.specs.Option.{unwrap_or}
 use Rattle.std.proofs.lemmas.Bool.Decides.{nat_tests}
-use Rattle.jg_words.specs.declared.thread.Tid.{Tid}
 use Rattle.jg_words.specs.declared.thread.EnvId.{EnvId}
 use Rattle.jg_words.specs.declared.object.ObjId.{ObjId}
 use Rattle.jg_words.specs.declared.reference.Ref.{Ref}
 use Rattle.jg_words.specs.declared.reference.Ref.TheVariants.{Null, To}
-use Rattle.jg_words.specs.declared.reference.Kind.{Kind}
 use Rattle.jg_words.specs.declared.reference.Kind.TheVariants.{Local, Global, Weak}
-use Rattle.jg_words.specs.declared.value.Value.{Value}
-use Rattle.jg_words.specs.declared.value.Value.TheVariants.{Ok as Done, Number as Amount, Truth, Null as NullAnswer, Reference, Buffer as Lent, Field, Environment, List as Listed, Busy, Detached as NotAttached, Throw as Threw}
-use Rattle.jg_words.specs.declared.value.Thrown.{Thrown}
-use Rattle.jg_words.specs.declared.entry.Reply.{Reply}
 use Rattle.jg_words.specs.declared.call.Call.{Call}
-use Rattle.jg_words.specs.declared.call.Call.TheVariants.{Vm, Refs, Frames, Exceptions, Objects, Strings, Arrays, Monitors}
+use Rattle.jg_words.specs.declared.call.Call.TheVariants.{Vm, Refs, Frames, Exceptions, Objects, Strings, Arrays, Monitors, Buffers}
 use Rattle.jg_words.specs.declared.call.vm.VmCall.TheVariants.{AttachCurrentThread, DetachCurrentThread, GetEnv, NativeEnter, NativeLeave, LoadLibrary, RegisterNatives, UnregisterNatives, Collect}
 use Rattle.jg_words.specs.declared.call.refs.RefsCall.TheVariants.{NewLocalRef, NewGlobalRef, NewWeakGlobalRef, DeleteLocalRef, DeleteGlobalRef, DeleteWeakGlobalRef, IsSameObject, GetObjectRefType}
 use Rattle.jg_words.specs.declared.call.frames.FramesCall.TheVariants.{PushLocalFrame, PopLocalFrame}
@@ -26,21 +17,24 @@ use Rattle.jg_words.specs.declared.call.exceptions.ExceptionsCall.TheVariants.{T
 use Rattle.jg_words.specs.declared.call.objects.ObjectsCall.TheVariants.{FindClass, GetObjectClass, IsInstanceOf, AllocObject, GetFieldID, GetField, GetObjectField, SetField, SetObjectField}
 use Rattle.jg_words.specs.declared.call.strings.StringsCall.TheVariants.{NewString, NewStringUTF, GetStringLength, GetStringUTFLength, GetStringRegion}
 use Rattle.jg_words.specs.declared.call.arrays.ArraysCall.TheVariants.{NewArray, GetArrayLength, GetArrayRegion, SetArrayRegion, NewObjectArray, GetObjectArrayElement, SetObjectArrayElement}
+use Rattle.jg_words.specs.declared.call.buffers.BuffersCall.TheVariants.{GetArrayElements, ReleaseArrayElements, GetStringChars, ReleaseStringChars, GetStringUTFChars, ReleaseStringUTFChars, GetPrimitiveArrayCritical, ReleasePrimitiveArrayCritical, GetStringCritical, ReleaseStringCritical, BufferRead, BufferWrite}
+use Rattle.jg_buffers.specs.declared.info.Info.{Info}
+use Rattle.jg_buffers.specs.History as buffers
 use Rattle.jg_policy.specs.Stated.{StatedSetup, StatedMember, class_count}
 use Rattle.jg_policy.specs.Classes.{is_class_type}
 use Rattle.jg_globals.specs.History as globals
 use Rattle.jg_threads.specs.History as threads
-use Rattle.jg_locals.specs.History as locals
 use Rattle.jg_heap.specs.declared.object.Slot.{Slot}
 use Rattle.jg_heap.specs.declared.object.Slot.TheVariants.{Number, Object as Pointer}
-use Rattle.jg_heap.specs.Making.{Making, Plain, Text, Filled, class_in, slots_in, slot_in, array_class}
+use Rattle.jg_heap.specs.Making.{Making, Filled, class_in, array_class}
 use Rattle.jg_heap.specs.Reading.{natural}
 use Rattle.jg_heap.specs.History as heap
 use Rattle.jg_rules.specs.declared.named.Named.{Named}
 use Rattle.jg_rules.specs.declared.named.Named.TheVariants.{Nothing, Null as NamesNull, Object}
 use Rattle.jg_rules.specs.Parts.{Parts}
 use Rattle.jg_rules.specs.Names.{names, object_in, object_named, the_object}
-use Rattle.jg_rules.specs.Effects.{call_threads, call_locals, call_globals, call_heap, done_by, started, deletes_local, pointer, first_value}
+use Rattle.jg_rules.specs.Effects.{call_threads, call_locals, call_globals, call_heap, done_by, started, deletes_local, pointer, first_value, wrote_pinned}
+use Rattle.jg_rules.specs.Buffers.{buffer_named, is_abort}
 use Rattle.jg_rules.specs.Rules.{is_nothing, is_null, is_machine}
 use Rattle.jg_rules.specs.Unbroken.{Unbroken}
 use Rattle.jg_rules.specs.Operands.{is_plain}
@@ -49,7 +43,7 @@ use Rattle.jg_rules.proofs.Objects.{first_is_of}
 use Rattle.jg_words.specs.declared.object.Primitive.{Primitive}
 use Rattle.jg_laws.proofs.Makings.{array_class-le}
 use Rattle.jg_laws.proofs.Here.{Here, SlotsMeet, PointsHere, Still, here_made, known_made, slots_made, slots_wrote, region_still, number_no}
-use Rattle.jg_laws.proofs.Referring.{LocalsMeet, PendingMeets, StrongMeets, WeakMeets, RaisesMeet, MakesMeet, make_none, locals_still, pending_more, strong_more, weak_more}
+use Rattle.jg_laws.proofs.Referring.{RaisesMeet, MakesMeet, make_none, locals_still, pending_more, strong_more, weak_more}
 use Rattle.jg_laws.proofs.NothingGone.{AllHere, named_here, collected_here}
 
 -- ---- the store's events
@@ -93,6 +87,19 @@ plain_below s o is = plain_if (o == 0) (nat_lt o (class_count s)) o (length s.cl
 array_below : (s : StatedSetup) (element : Primitive) → array_class element < class_count s
 array_below s element = omega (arith, array_class-le element)
 
+-- numbers name nothing
+back_still : (b : Bool) (k o : ℕ) (values : List ℤ) (e : List heap.Event) → SlotsMeet k e → Still k e ((if b then [] else heap.region_writes o 0 values) ++ e)
+back_still true k o values e slots = unmoved k e slots
+back_still false k o values e slots = region_still k o values 0 e slots
+
+pinned_if : (b : Bool) (k o index : ℕ) (v : ℤ) (e : List heap.Event) → SlotsMeet k e → Still k e ((if b then heap.Wrote o index (Number v) ∷ [] else []) ++ e)
+pinned_if true k o index v e slots = wrote_still k e o index (Number v) slots (λ x is. absurd (number_no v x is))
+pinned_if false k o index v e slots = unmoved k e slots
+
+pinned_still : (k index : ℕ) (v : ℤ) (found : Option Info) (e : List heap.Event) → SlotsMeet k e → Still k e (wrote_pinned index v found ++ e)
+pinned_still k index v None e slots = unmoved k e slots
+pinned_still k index v (Some info) e slots = pinned_if (buffers.is_critical info.family) k info.object.0 index v e slots
+
 heap_done : (s : StatedSetup) (p : Parts) (t : ℕ) (env : Option EnvId) (call : Call) → Unbroken s p t env call → is_machine call ≡ false → AllHere s p → Still (class_count s) p.heap (call_heap s p t call ++ p.heap)
 heap_done s p t env (Vm AttachCurrentThread) kept own all = unmoved (class_count s) p.heap all.slots
 heap_done s p t env (Vm DetachCurrentThread) kept own all = unmoved (class_count s) p.heap all.slots
@@ -131,6 +138,18 @@ heap_done s p t env (Arrays (GetObjectArrayElement r index)) kept own all = unmo
 heap_done s p t env (Arrays (SetObjectArrayElement r index value)) kept own all =
     wrote_still (class_count s) p.heap _ _ (pointer (object_named p t value)) all.slots (λ o is. named_here s p t o.0 value all (pointer_is (object_named p t value) o is))
 heap_done s p t env (Monitors call) kept own all = unmoved (class_count s) p.heap all.slots
+heap_done s p t env (Buffers (GetArrayElements element r)) kept own all = unmoved (class_count s) p.heap all.slots
+heap_done s p t env (Buffers (ReleaseArrayElements element r b mode)) kept own all = back_still (is_abort mode) (class_count s) (the_object p t r) (buffers.contents p.buffers b.maker.0 b.n) p.heap all.slots
+heap_done s p t env (Buffers (GetStringChars r)) kept own all = unmoved (class_count s) p.heap all.slots
+heap_done s p t env (Buffers (ReleaseStringChars r b)) kept own all = unmoved (class_count s) p.heap all.slots
+heap_done s p t env (Buffers (GetStringUTFChars r)) kept own all = unmoved (class_count s) p.heap all.slots
+heap_done s p t env (Buffers (ReleaseStringUTFChars r b)) kept own all = unmoved (class_count s) p.heap all.slots
+heap_done s p t env (Buffers (GetPrimitiveArrayCritical r)) kept own all = unmoved (class_count s) p.heap all.slots
+heap_done s p t env (Buffers (ReleasePrimitiveArrayCritical r b mode)) kept own all = unmoved (class_count s) p.heap all.slots
+heap_done s p t env (Buffers (GetStringCritical r)) kept own all = unmoved (class_count s) p.heap all.slots
+heap_done s p t env (Buffers (ReleaseStringCritical r b)) kept own all = unmoved (class_count s) p.heap all.slots
+heap_done s p t env (Buffers (BufferRead b index)) kept own all = unmoved (class_count s) p.heap all.slots
+heap_done s p t env (Buffers (BufferWrite b index value)) kept own all = pinned_still (class_count s) (natural index) value (buffer_named p b) p.heap all.slots
 
 -- ---- the other tables' events
 
@@ -169,6 +188,7 @@ call_makes_none s p t (Objects call) = refl
 call_makes_none s p t (Strings call) = refl
 call_makes_none s p t (Arrays call) = refl
 call_makes_none s p t (Monitors call) = refl
+call_makes_none s p t (Buffers call) = refl
 
 -- an operand that must name an object names one
 pub the_named : (named : Named) (a b : Bool) → (is_nothing named || a) ≡ false → ((true && is_null named) || b) ≡ false → object_in named ≡ Some (unwrap_or (object_in named) 0)
@@ -198,6 +218,7 @@ call_raises H s p t env (Objects call) kept named = tt
 call_raises H s p t env (Strings call) kept named = tt
 call_raises H s p t env (Arrays call) kept named = tt
 call_raises H s p t env (Monitors call) kept named = tt
+call_raises H s p t env (Buffers call) kept named = tt
 
 deletion_makes : (H : ℕ → Type 0) (r : Ref) → MakesMeet H (globals.deletion r)
 deletion_makes H Null = tt
@@ -229,6 +250,7 @@ call_makes H s p t (Objects call) own = tt
 call_makes H s p t (Strings call) own = tt
 call_makes H s p t (Arrays call) own = tt
 call_makes H s p t (Monitors call) own = tt
+call_makes H s p t (Buffers call) own = tt
 
 -- ---- all that a call does of its own
 
@@ -264,6 +286,7 @@ collects (Objects call) is = absurd cc
 collects (Strings call) is = absurd cc
 collects (Arrays call) is = absurd cc
 collects (Monitors call) is = absurd cc
+collects (Buffers call) is = absurd cc
 
 done_by_kind : (b : Bool) (s : StatedSetup) (p : Parts) (t : ℕ) (env : Option EnvId) (call : Call) → is_machine call ≡ b → Unbroken s p t env call → AllHere s p → AllHere s (done_by s t call p)
 done_by_kind true s p t env call is kept all = rw (collects call is) (collected_here s p all)

@@ -1,12 +1,14 @@
 pub mod Acts
 pub mod Proper
 pub mod Makings
+pub mod Lent
 pub mod Steps
 pub mod Kept
 pub mod Sizes
 pub mod WithoutDenied
 pub mod Replays
 pub mod Fresh
+pub mod Lending
 pub mod Natives
 pub mod Owners
 pub mod Referring
@@ -15,3 +17,4 @@ pub mod NothingGone
 pub mod HandsHere
 pub mod StatedFields
 pub mod HandedHere
+pub mod Pinning

@@ -1,5 +1,5 @@
 -- Each object that a call makes has the fields that the setup states for its class.
-use Rattle.std.proofs.Common.{ℕ, ℤ, ◌≡◌, ◌≤◌, ◌+◌, ◌++◌, Bool, true, false, List, [], ◌∷◌, length, refl, arith}
+use Rattle.std.proofs.Common.{ℕ, ℤ, ◌≡◌, ◌≤◌, ◌+◌, ◌++◌, Bool, true, false, List, [], ◌∷◌, length, Option, Some, None, refl, arith}
 use Rattle.std.specs.Prelude.{◌==◌, if◌then◌else◌}
 use Rattle.std.specs.List.{AllByRecursion}
 use Rattle.std.proofs.lemmas.List.{length-map}
@@ -9,11 +9,14 @@ use Rattle.jg_words.specs.declared.value.Value.TheVariants.{Throw as Threw}
 use Rattle.jg_words.specs.declared.value.Thrown.{Thrown}
 use Rattle.jg_words.specs.declared.value.Thrown.TheVariants.{ArrayIndexOutOfBounds, StringIndexOutOfBounds, NoClassDefFound, NoSuchField, NoSuchMethod}
 use Rattle.jg_words.specs.declared.call.Call.{Call}
-use Rattle.jg_words.specs.declared.call.Call.TheVariants.{Vm, Refs, Frames, Exceptions, Objects, Strings, Arrays, Monitors}
+use Rattle.jg_words.specs.declared.call.Call.TheVariants.{Vm, Refs, Frames, Exceptions, Objects, Strings, Arrays, Monitors, Buffers}
 use Rattle.jg_words.specs.declared.call.vm.VmCall.TheVariants.{AttachCurrentThread, DetachCurrentThread, GetEnv, NativeEnter, NativeLeave, LoadLibrary, RegisterNatives, UnregisterNatives, Collect}
 use Rattle.jg_words.specs.declared.call.objects.ObjectsCall.TheVariants.{FindClass, GetObjectClass, IsInstanceOf, AllocObject, GetFieldID, GetField, GetObjectField, SetField, SetObjectField}
 use Rattle.jg_words.specs.declared.call.strings.StringsCall.TheVariants.{NewString, NewStringUTF, GetStringLength, GetStringUTFLength, GetStringRegion}
 use Rattle.jg_words.specs.declared.call.arrays.ArraysCall.TheVariants.{NewArray, GetArrayLength, GetArrayRegion, SetArrayRegion, NewObjectArray, GetObjectArrayElement, SetObjectArrayElement}
+use Rattle.jg_words.specs.declared.call.buffers.BuffersCall.TheVariants.{GetArrayElements, ReleaseArrayElements, GetStringChars, ReleaseStringChars, GetStringUTFChars, ReleaseStringUTFChars, GetPrimitiveArrayCritical, ReleasePrimitiveArrayCritical, GetStringCritical, ReleaseStringCritical, BufferRead, BufferWrite}
+use Rattle.jg_buffers.specs.declared.info.Info.{Info}
+use Rattle.jg_buffers.specs.History as buffers
 use Rattle.jg_policy.specs.Stated.{StatedSetup}
 use Rattle.jg_policy.specs.Classes.{class_at, fields_in}
 use Rattle.jg_heap.specs.History.{Event, Made, Wrote, Collected, count_of, making_at, region_writes}
@@ -21,7 +24,8 @@ use Rattle.jg_heap.specs.Making.{Making, Plain, Text, Filled, array_class, class
 use Rattle.jg_heap.specs.Reading.{natural}
 use Rattle.jg_rules.specs.Parts.{Parts}
 use Rattle.jg_rules.specs.Names.{the_object}
-use Rattle.jg_rules.specs.Effects.{call_heap, value_heap, first_value}
+use Rattle.jg_rules.specs.Buffers.{buffer_named, is_abort}
+use Rattle.jg_rules.specs.Effects.{call_heap, value_heap, first_value, wrote_pinned}
 use Rattle.jg_laws.specs.Laws.{IsStatedMaking, MakesStated}
 
 pub all_append : {X : Type 0} (P : X → Type 0) (xs ys : List X) → AllByRecursion P xs → AllByRecursion P ys → AllByRecursion P (xs ++ ys)
@@ -39,6 +43,18 @@ array_class-le Long = omega arith
 region_stated : (s : StatedSetup) (o j : ℕ) (values : List ℤ) → AllByRecursion (MakesStated s) (region_writes o j values)
 region_stated s o j [] = tt
 region_stated s o j (v ∷ values) = all_append (MakesStated s) (region_writes o (j + 1) values) _ (region_stated s o (j + 1) values) (tt, tt)
+
+back_stated : (s : StatedSetup) (o : ℕ) (values : List ℤ) (b : Bool) → AllByRecursion (MakesStated s) (if b then [] else region_writes o 0 values)
+back_stated s o values true = tt
+back_stated s o values false = region_stated s o 0 values
+
+pin_if : (b : Bool) (s : StatedSetup) (ev : Event) → MakesStated s ev → AllByRecursion (MakesStated s) (if b then ev ∷ [] else [])
+pin_if true s ev is = (is, tt)
+pin_if false s ev is = tt
+
+pin_stated : (s : StatedSetup) (index : ℕ) (v : ℤ) (found : Option Info) → AllByRecursion (MakesStated s) (wrote_pinned index v found)
+pin_stated s index v None = tt
+pin_stated s index v (Some info) = pin_if (buffers.is_critical info.family) s _ tt
 
 pub call_stated : (s : StatedSetup) (p : Parts) (t : ℕ) (call : Call) → AllByRecursion (MakesStated s) (call_heap s p t call)
 call_stated s p t (Vm AttachCurrentThread) = tt
@@ -75,6 +91,18 @@ call_stated s p t (Arrays (NewObjectArray n class fill)) = (omega arith, tt)
 call_stated s p t (Arrays (GetObjectArrayElement r index)) = tt
 call_stated s p t (Arrays (SetObjectArrayElement r index value)) = (tt, tt)
 call_stated s p t (Monitors call) = tt
+call_stated s p t (Buffers (GetArrayElements element r)) = tt
+call_stated s p t (Buffers (ReleaseArrayElements element r b mode)) = back_stated s (the_object p t r) (buffers.contents p.buffers b.maker.0 b.n) (is_abort mode)
+call_stated s p t (Buffers (GetStringChars r)) = tt
+call_stated s p t (Buffers (ReleaseStringChars r b)) = tt
+call_stated s p t (Buffers (GetStringUTFChars r)) = tt
+call_stated s p t (Buffers (ReleaseStringUTFChars r b)) = tt
+call_stated s p t (Buffers (GetPrimitiveArrayCritical r)) = tt
+call_stated s p t (Buffers (ReleasePrimitiveArrayCritical r b mode)) = tt
+call_stated s p t (Buffers (GetStringCritical r)) = tt
+call_stated s p t (Buffers (ReleaseStringCritical r b)) = tt
+call_stated s p t (Buffers (BufferRead b index)) = tt
+call_stated s p t (Buffers (BufferWrite b index value)) = pin_stated s (natural index) value (buffer_named p b)
 
 pub thrown_stated : (s : StatedSetup) (kind : Thrown) → AllByRecursion (MakesStated s) (value_heap (Threw kind))
 thrown_stated s ArrayIndexOutOfBounds = (refl, tt)

@@ -40,14 +40,14 @@ stated_steps s = record {
   pushes = λ p u old. old;
   pops = λ p u some old. old;
   to_globals = λ p e none old. old;
-  to_buffers = λ p e old. old;
+  to_buffers = λ p e none old. old;
   to_monitors = λ p e old. old;
   to_heap = λ p e all old. all_append (MakesStated s) e p.heap all old;
   to_links = λ p e old. old;
   hands = λ p u n o is old. old;
   hands_strong = λ p u n o is old. old;
   hands_weak = λ p u n o is old. old;
-  lends = λ p u old. old;
+  lends = λ p u b own old. old;
   raises = λ p u o old. old;
   calms = λ p u old. old;
 }

@@ -1,13 +1,7 @@
 -- What a live reference names, in every legal history, isn't gone.
-use Rattle.std.proofs.Common.{ℕ, ℤ, pos, ◌≡◌, ◌+◌, ◌-◌, ◌<◌, ◌≤◌, ◌++◌, ◌∙◌, Bool, true, false, zero, suc, List, [], ◌∷◌, map, length, Option, Some, None, refl, ap, sym, subst, arith}
-use Rattle.std.specs.Prelude.{◌==◌, ◌&&◌, ◌||◌, not, nat_lt, int_lt, if◌then◌else◌, slice_index_or, codes}
-use Rattle.std.specs.List.{AllByRecursion}
-use Rattle.std.specs.Option.{option_map, unwrap_or}
-use Rattle.std.proofs.lemmas.Bool.Decides.{nat_tests}
-use Rattle.jg_words.specs.declared.thread.Tid.{Tid}
-use Rattle.jg_words.specs.declared.thread.EnvId.{EnvId}
+use Rattle.std.proofs.Common.{ℕ, ◌≡◌, ◌++◌, Bool, true, false, List, [], ◌∷◌, map, Option, Some, None, refl, subst}
+use Rattle.std.specs.Prelude.{◌==◌, ◌||◌, if◌then◌else◌}
 use Rattle.jg_words.specs.declared.object.ObjId.{ObjId}
-use Rattle.jg_words.specs.declared.object.FieldId.{FieldId}
 use Rattle.jg_words.specs.declared.reference.Ref.{Ref}
 use Rattle.jg_words.specs.declared.reference.Ref.TheVariants.{Null, To}
 use Rattle.jg_words.specs.declared.reference.Kind.TheVariants.{Local, Global, Weak}
@@ -19,21 +13,14 @@ use Rattle.jg_threads.specs.History as threads
 use Rattle.jg_threads.proofs.Callers.{is_pending_law}
 use Rattle.jg_locals.specs.History as locals
 use Rattle.jg_locals.proofs.Callers.{held_law as local_held_law}
-use Rattle.jg_heap.specs.declared.object.Slot.{Slot}
-use Rattle.jg_heap.specs.declared.object.Slot.TheVariants.{Number, Object as Pointer}
-use Rattle.jg_heap.specs.Making.{Making, Plain, Text, Filled, class_in, length_in, slots_in}
 use Rattle.jg_heap.specs.History as heap
 use Rattle.jg_buffers.specs.History as buffers
 use Rattle.jg_monitors.specs.History as monitors
-use Rattle.jg_heap.proofs.Callers.{classes_law}
-use Rattle.jg_policy.specs.Stated.{StatedSetup, StatedMember, class_count}
-use Rattle.jg_policy.specs.Classes.{class_named, is_class_type}
-use Rattle.jg_rules.specs.declared.named.Named.{Named}
-use Rattle.jg_rules.specs.declared.named.Named.TheVariants.{Nothing, Null as NamesNull, Object}
-use Rattle.jg_rules.specs.Parts.{Parts, nothing_yet}
-use Rattle.jg_rules.specs.Names.{named_by, named_by_target, names, object_in, object_named}
+use Rattle.jg_policy.specs.Stated.{StatedSetup, class_count}
+use Rattle.jg_rules.specs.declared.named.Named.TheVariants.{Nothing}
+use Rattle.jg_rules.specs.Parts.{Parts}
+use Rattle.jg_rules.specs.Names.{named_by, named_by_target, object_in, object_named}
 use Rattle.jg_rules.specs.Holding.{is_root, roots, going}
-use Rattle.jg_rules.specs.Effects.{pointer, first_value}
 use Rattle.jg_laws.proofs.Here.{Here, SlotsMeet, AreKnown, here_rooted, here_kept, slots_collected}
 use Rattle.jg_laws.proofs.Referring.{LocalsMeet, PendingMeets, StrongMeets, WeakMeets, spared}
 

@@ -1,5 +1,5 @@
 -- What a legal history does to monitors was allowed at its time, so that none has two owners.
-use Rattle.std.proofs.Common.{ℕ, zero, suc, ◌≡◌, ◌≢◌, ◌<◌, ◌∙◌, ◌++◌, Bool, true, false, List, [], ◌∷◌, map, Option, Some, None, refl, sym, subst, ap, arith, eqb-true}
+use Rattle.std.proofs.Common.{ℕ, zero, suc, ◌≡◌, ◌≢◌, ◌<◌, ◌∙◌, ◌++◌, Bool, true, false, List, [], ◌∷◌, map, Option, Some, None, refl, ap, arith, eqb-true}
 use Rattle.std.specs.Prelude.{◌==◌, ◌||◌, ◌&&◌, not, if◌then◌else◌}
 use Rattle.std.specs.Option.{unwrap_or}
 use Rattle.std.proofs.lemmas.Bool.Decides.{nat_tests}
@@ -8,13 +8,13 @@ use Rattle.jg_words.specs.declared.thread.EnvId.{EnvId}
 use Rattle.jg_words.specs.declared.rule.Rule.{Rule}
 use Rattle.jg_words.specs.declared.entry.Entry.{Entry}
 use Rattle.jg_words.specs.declared.call.Call.{Call}
-use Rattle.jg_words.specs.declared.call.Call.TheVariants.{Vm, Refs, Frames, Exceptions, Objects, Strings, Arrays, Monitors}
+use Rattle.jg_words.specs.declared.call.Call.TheVariants.{Vm, Refs, Frames, Exceptions, Objects, Strings, Arrays, Monitors, Buffers}
 use Rattle.jg_words.specs.declared.call.vm.VmCall.TheVariants.{AttachCurrentThread, DetachCurrentThread, GetEnv, NativeEnter, NativeLeave, LoadLibrary, RegisterNatives, UnregisterNatives, Collect}
 use Rattle.jg_words.specs.declared.call.monitors.MonitorsCall.TheVariants.{MonitorEnter, MonitorExit}
 use Rattle.jg_policy.specs.Stated.{StatedSetup}
 use Rattle.jg_monitors.specs.declared.entering.Entering.{Entering}
 use Rattle.jg_monitors.specs.declared.entering.Entering.TheVariants.{Entered, Busy}
-use Rattle.jg_monitors.specs.History.{Event, by, Enter, Exit, count, owner, entering}
+use Rattle.jg_monitors.specs.History.{Event, by, Enter, count, owner, entering}
 use Rattle.jg_monitors.specs.Standing.{IsAllowed, AllAllowed}
 use Rattle.jg_monitors.proofs.Callers.{one_owner as one_owner_of, owner_has, all_free}
 use Rattle.jg_rules.specs.declared.named.Named.{Named}
@@ -87,6 +87,7 @@ done_allowed s p t env (Exceptions call) kept done old = old
 done_allowed s p t env (Objects call) kept done old = old
 done_allowed s p t env (Strings call) kept done old = old
 done_allowed s p t env (Arrays call) kept done old = old
+done_allowed s p t env (Buffers call) kept done old = old
 done_allowed s p t env (Monitors (MonitorEnter r)) kept done old =
     let o : ℕ = the_object p t.0 r in
     (old, alone p.monitors t.0 o (owner p.monitors o) refl old (entered_is (entering t.0 (owner p.monitors o)) done))

@@ -5,7 +5,7 @@ use Rattle.jg_words.specs.declared.object.FieldId.{FieldId}
 use Rattle.jg_words.specs.declared.reference.Kind.TheVariants.{Local, Global, Weak}
 use Rattle.jg_words.specs.declared.value.Thrown.{Thrown}
 use Rattle.jg_words.specs.declared.call.Call.{Call}
-use Rattle.jg_words.specs.declared.call.Call.TheVariants.{Vm, Refs, Frames, Exceptions, Objects, Strings, Arrays, Monitors}
+use Rattle.jg_words.specs.declared.call.Call.TheVariants.{Vm, Refs, Frames, Exceptions, Objects, Strings, Arrays, Monitors, Buffers}
 use Rattle.jg_words.specs.declared.call.vm.VmCall.TheVariants.{AttachCurrentThread, DetachCurrentThread, GetEnv, NativeEnter, NativeLeave, LoadLibrary, RegisterNatives, UnregisterNatives, Collect}
 use Rattle.jg_words.specs.declared.call.refs.RefsCall.TheVariants.{NewLocalRef, NewGlobalRef, NewWeakGlobalRef, DeleteLocalRef, DeleteGlobalRef, DeleteWeakGlobalRef, IsSameObject, GetObjectRefType}
 use Rattle.jg_words.specs.declared.call.frames.FramesCall.TheVariants.{PushLocalFrame, PopLocalFrame}
@@ -16,6 +16,7 @@ use Rattle.jg_words.specs.declared.call.arrays.ArraysCall.TheVariants.{NewArray,
 use Rattle.jg_words.specs.declared.call.monitors.MonitorsCall.TheVariants.{MonitorEnter, MonitorExit}
 use Rattle.jg_words.specs.Call.{fun_of}
 use Rattle.jg_words.specs.Fun.{needs_env}
+use Rattle.jg_words.specs.declared.call.buffers.BuffersCall.TheVariants.{GetArrayElements, ReleaseArrayElements, GetStringChars, ReleaseStringChars, GetStringUTFChars, ReleaseStringUTFChars, GetPrimitiveArrayCritical, ReleasePrimitiveArrayCritical, GetStringCritical, ReleaseStringCritical, BufferRead, BufferWrite}
 use Rattle.jg_policy.specs.Stated.{StatedSetup}
 use Rattle.jg_rules.specs.declared.answer.Answer.{Answer}
 use Rattle.jg_rules.specs.Parts.{Parts}
@@ -134,3 +135,15 @@ proper s p t (Arrays (SetObjectArrayElement r index value)) =
     outside_proper s p t (Arrays (SetObjectArrayElement r index value)) ArrayIndexOutOfBounds (is_outside index (pos 1) (length_of s p (the_object p t.0 r))) _ refl tt
 proper s p t (Monitors (MonitorEnter r)) = enter_proper s p t (Monitors (MonitorEnter r)) (monitors.entering t.0 (monitors.owner p.monitors (the_object p t.0 r))) refl
 proper s p t (Monitors (MonitorExit r)) = tt
+proper s p t (Buffers (GetArrayElements element r)) = (refl, refl, refl, refl)
+proper s p t (Buffers (ReleaseArrayElements element r b mode)) = tt
+proper s p t (Buffers (GetStringChars r)) = (refl, refl, refl, refl)
+proper s p t (Buffers (ReleaseStringChars r b)) = tt
+proper s p t (Buffers (GetStringUTFChars r)) = (refl, refl, refl, refl)
+proper s p t (Buffers (ReleaseStringUTFChars r b)) = tt
+proper s p t (Buffers (GetPrimitiveArrayCritical r)) = (refl, refl, refl, refl)
+proper s p t (Buffers (ReleasePrimitiveArrayCritical r b mode)) = tt
+proper s p t (Buffers (GetStringCritical r)) = (refl, refl, refl, refl)
+proper s p t (Buffers (ReleaseStringCritical r b)) = tt
+proper s p t (Buffers (BufferRead b index)) = tt
+proper s p t (Buffers (BufferWrite b index value)) = tt

@@ -12,7 +12,7 @@ use Rattle.jg_words.specs.declared.entry.Outcome.{Outcome}
 use Rattle.jg_words.specs.declared.entry.Outcome.TheVariants.{Passed, Denied}
 use Rattle.jg_words.specs.declared.entry.Entry.{Entry}
 use Rattle.jg_words.specs.declared.call.Call.{Call}
-use Rattle.jg_words.specs.declared.call.Call.TheVariants.{Vm, Refs, Frames, Exceptions, Objects, Strings, Arrays, Monitors}
+use Rattle.jg_words.specs.declared.call.Call.TheVariants.{Vm, Refs, Frames, Exceptions, Objects, Strings, Arrays, Monitors, Buffers}
 use Rattle.jg_words.specs.declared.call.vm.VmCall.TheVariants.{AttachCurrentThread, DetachCurrentThread, GetEnv, NativeEnter, NativeLeave, LoadLibrary, RegisterNatives, UnregisterNatives, Collect}
 use Rattle.jg_words.specs.declared.call.refs.RefsCall.TheVariants.{NewLocalRef, NewGlobalRef, NewWeakGlobalRef, DeleteLocalRef, DeleteGlobalRef, DeleteWeakGlobalRef, IsSameObject, GetObjectRefType}
 use Rattle.jg_words.specs.declared.call.frames.FramesCall.TheVariants.{PushLocalFrame, PopLocalFrame}
@@ -52,6 +52,7 @@ call_threads-le s p t (Objects call) = omega arith
 call_threads-le s p t (Strings call) = omega arith
 call_threads-le s p t (Arrays call) = omega arith
 call_threads-le s p t (Monitors call) = omega arith
+call_threads-le s p t (Buffers call) = omega arith
 
 value_threads-le : (value : Value) (o : Option ObjId) → length (value_threads value o) ≤ 1
 value_threads-le (Reference r) o = omega arith
@@ -94,6 +95,7 @@ call_locals-le s p t (Objects call) = omega arith
 call_locals-le s p t (Strings call) = omega arith
 call_locals-le s p t (Arrays call) = omega arith
 call_locals-le s p t (Monitors call) = omega arith
+call_locals-le s p t (Buffers call) = omega arith
 
 value_locals-le : (value : Value) (o : Option ObjId) → length (value_locals value o) ≤ 1
 value_locals-le (Reference (To Local maker n)) (Some o) = omega arith
@@ -117,6 +119,7 @@ call_monitors-le s p t (Strings call) = omega arith
 call_monitors-le s p t (Arrays call) = omega arith
 call_monitors-le s p t (Monitors (MonitorEnter r)) = omega arith
 call_monitors-le s p t (Monitors (MonitorExit r)) = omega arith
+call_monitors-le s p t (Buffers call) = omega arith
 
 -- two short lists in front of a third
 in_front : {X Y : Type 0} (f : X → Y) (xs ys : List X) (zs : List Y) → length xs ≤ 1 → length ys ≤ 1 → length (map f xs ++ (map f ys ++ zs)) ≤ length zs + 2

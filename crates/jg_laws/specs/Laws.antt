@@ -15,6 +15,11 @@ use Rattle.jg_threads.specs.History as threads
 use Rattle.jg_locals.specs.History as locals
 use Rattle.jg_heap.specs.History as heap
 use Rattle.jg_heap.specs.Making.{Making, Plain, Text, Filled}
+use Rattle.jg_heap.specs.Making.{array_class, class_in, units_in, length_in, IsPrimitiveArray}
+use Rattle.jg_heap.specs.Spelling.{spelt}
+use Rattle.jg_buffers.specs.History as buffers
+use Rattle.jg_buffers.specs.declared.family.Family.{Family}
+use Rattle.jg_buffers.specs.declared.family.Family.TheVariants.{Elements, Chars, UtfChars, ArrayCritical, StringCritical}
 use Rattle.jg_monitors.specs.History as monitors
 use Rattle.jg_rules.specs.Names.{object_named, next_ref, class_of, length_of, native_meant}
 use Rattle.jg_rules.specs.Access.{refuses}
@@ -107,3 +112,26 @@ StaysGone = (s : StatedSetup) (later before : List Entry) (o : ℕ) → Legal s 
 abbrev pub LiveIsNotGone : Type 0
 LiveIsNotGone = (s : StatedSetup) (h : List Entry) (t o : ℕ) (r : Ref) → Legal s h
     → object_named (parts s h) t r ≡ Some o → is_gone s h o ≡ false
+
+-- an object that was made so has an item for each of so many of a buffer
+abbrev pub FitsMaking : Family → Making → ℕ → Type 0
+FitsMaking (Elements element) m n = (class_in m ≡ array_class element) × (n ≡ length_in m)
+FitsMaking Chars m n = (class_in m ≡ 2) × (n ≡ length (units_in m))
+FitsMaking UtfChars m n = (class_in m ≡ 2) × (n ≡ length (spelt (units_in m)))
+FitsMaking ArrayCritical m n = IsPrimitiveArray (class_in m) × (n ≡ length_in m)
+FitsMaking StringCritical m n = (class_in m ≡ 2) × (n ≡ length (units_in m))
+
+-- the buffer's object was made, is of the family's type, and is as long as the buffer
+abbrev pub FitsObject : ℕ → List heap.Event → buffers.Buffer → Type 0
+FitsObject k e b = (b.object < heap.count_of k e) × FitsMaking b.family (heap.making_at k e b.object) b.length
+
+-- an open buffer has as many items as its object, which is of the family's type
+abbrev pub BuffersFit : Type 0
+BuffersFit = (s : StatedSetup) (h : List Entry) (maker n : ℕ) (b : buffers.Buffer) → Legal s h
+    → buffers.opened (parts s h).buffers maker n ≡ Some b → FitsObject (class_count s) (parts s h).heap b
+
+-- the reference through which an open critical buffer was made names the buffer's object for its maker
+abbrev pub PinsAreLive : Type 0
+PinsAreLive = (s : StatedSetup) (h : List Entry) (maker n : ℕ) (b : buffers.Buffer) → Legal s h
+    → buffers.opened (parts s h).buffers maker n ≡ Some b → buffers.is_critical b.family ≡ true
+    → object_named (parts s h) b.maker b.via ≡ Some b.object

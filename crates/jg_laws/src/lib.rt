@@ -2,7 +2,7 @@
 //! journal can be any legal history within its limit, so each is a law of the guard.
 #![tactic(auto)]
 
-ghost use Rattle.jg_laws.specs.Laws.{ReferencesCounted, NoReferenceTwice, NoReferenceRevived, DeniedEntriesDoNothing, OneHistoryForTheCalls, DepthsAgree, FieldsAreStated, EnteredWasLinked, OneOwner, StaysGone, LiveIsNotGone};
+ghost use Rattle.jg_laws.specs.Laws.{ReferencesCounted, NoReferenceTwice, NoReferenceRevived, DeniedEntriesDoNothing, OneHistoryForTheCalls, DepthsAgree, FieldsAreStated, EnteredWasLinked, OneOwner, StaysGone, LiveIsNotGone, BuffersFit, PinsAreLive};
 
 /// The number of a reference that was handed out is below the number of its maker's next one.
 pub fn references_are_counted()
@@ -57,4 +57,15 @@ pub fn gone_stays_gone()
 /// An object that a live reference names isn't gone.
 pub fn live_is_not_gone()
     ensures { LiveIsNotGone }
+{}
+
+/// An open buffer has as many items as its object, which is of the type that its function asks for.
+pub fn buffers_fit()
+    ensures { BuffersFit }
+{}
+
+/// The reference through which an open critical buffer was made names the buffer's object for the
+/// thread that it was lent to.
+pub fn pins_are_live()
+    ensures { PinsAreLive }
 {}

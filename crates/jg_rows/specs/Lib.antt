@@ -13,3 +13,8 @@ pub mod Access
 pub mod Globals
 pub mod Collections
 pub mod Monitors
+pub mod Buffers
+pub mod Releases
+pub mod BufferItems
+pub mod CriticalRegions
+pub mod Rules

@@ -6,6 +6,7 @@ use Rattle.jg_words.specs.declared.reference.Ref.TheVariants.{To}
 use Rattle.jg_words.specs.declared.reference.Kind.TheVariants.{Local, Global, Weak}
 use Rattle.jg_words.specs.declared.object.ObjId.{ObjId}
 use Rattle.jg_words.specs.declared.object.FieldId.{FieldId}
+use Rattle.jg_words.specs.declared.buffer.BufId.{BufId}
 use Rattle.jg_words.specs.declared.rule.Rule.{Rule}
 use Rattle.jg_words.specs.declared.value.Value.{Value}
 use Rattle.jg_words.specs.declared.value.Value.TheVariants.{Ok as Done, Reference, Throw as Threw}
@@ -71,6 +72,10 @@ global t n = To Global (record { 0 = t }) n
 
 abbrev pub weak : ℕ → ℕ → Ref
 weak t n = To Weak (record { 0 = t }) n
+
+-- `B1.2`: the second buffer that thread 1 was lent
+abbrev pub buffer : ℕ → ℕ → BufId
+buffer t n = record { maker = record { 0 = t }; n = n }
 
 -- `F15.1`: the first field of class 15
 abbrev pub field : ℕ → ℕ → FieldId

@@ -4,7 +4,7 @@ use Rattle.jg_words.specs.declared.reference.Ref.TheVariants.{Null}
 use Rattle.jg_words.specs.declared.value.Value.TheVariants.{Ok as Done, Number as Amount, Environment, Detached as NotAttached}
 use Rattle.jg_words.specs.declared.rule.Rule.TheVariants.{WrongThread, Detached, DeadReference, BadFrame}
 use Rattle.jg_words.specs.declared.call.Call.TheVariants.{Vm, Refs, Frames, Strings, Exceptions}
-use Rattle.jg_words.specs.declared.call.vm.VmCall.TheVariants.{AttachCurrentThread, DetachCurrentThread, GetEnv, NativeEnter, NativeLeave, LoadLibrary, RegisterNatives, UnregisterNatives, Collect}
+use Rattle.jg_words.specs.declared.call.vm.VmCall.TheVariants.{AttachCurrentThread, DetachCurrentThread, GetEnv, Collect}
 use Rattle.jg_words.specs.declared.call.refs.RefsCall.TheVariants.{NewLocalRef, GetObjectRefType}
 use Rattle.jg_words.specs.declared.call.frames.FramesCall.TheVariants.{PushLocalFrame, PopLocalFrame}
 use Rattle.jg_words.specs.declared.call.strings.StringsCall.TheVariants.{NewString}

@@ -2,7 +2,7 @@
 use Rattle.std.specs.Prelude.{[], ◌∷◌, true, false, codes}
 use Rattle.jg_policy.specs.declared.mode.Mode.{Mode}
 use Rattle.jg_policy.specs.declared.mode.Mode.TheVariants.{Deny}
-use Rattle.jg_policy.specs.Stated.{StatedSetup, StatedClass, StatedMember}
+use Rattle.jg_policy.specs.Stated.{StatedSetup, StatedClass}
 
 abbrev pub main_class : StatedClass
 main_class = record {

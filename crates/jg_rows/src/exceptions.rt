@@ -13,8 +13,11 @@ pub fn pending()
 /// The journal of `pending`.
 pub const PENDING: &str = "T1 - AttachCurrentThread = E1.1
 T1 E1.1 NewIntArray 3 = L1.1
+T1 E1.1 GetIntArrayElements L1.1 = B1.1
 T1 E1.1 GetIntArrayRegion L1.1 2 2 = throw java/lang/ArrayIndexOutOfBoundsException
 T1 E1.1 NewString [65] = deny 4 Pending
+T1 E1.1 GetPrimitiveArrayCritical L1.1 = deny 4 Pending
+T1 E1.1 ReleaseIntArrayElements L1.1 B1.1 0 = ok
 T1 E1.1 ExceptionOccurred = L1.2
 T1 E1.1 ExceptionClear = ok
 T1 E1.1 GetIntArrayRegion L1.1 1 2 = [0,0]

@@ -7,7 +7,10 @@
 
 pub mod access;
 pub mod arrays;
+pub mod buffer_items;
+pub mod buffers;
 pub mod collections;
+pub mod critical_regions;
 pub mod exceptions;
 pub mod frames;
 pub mod globals;
@@ -16,6 +19,8 @@ pub mod object_fields;
 pub mod objects;
 pub mod owners;
 pub mod references;
+pub mod releases;
+pub mod rules;
 pub mod sessions;
 pub mod strings;
 #[cfg(test)]

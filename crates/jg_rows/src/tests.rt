@@ -2,15 +2,21 @@
 
 mod access;
 mod arrays;
+mod buffer_items;
+mod buffers;
 mod collections;
+mod critical_regions;
 mod exceptions;
 mod frames;
+mod functions;
 mod globals;
 mod natives;
 mod object_fields;
 mod objects;
 mod owners;
 mod references;
+mod releases;
+mod rules;
 mod scripts;
 mod sessions;
 mod strings;

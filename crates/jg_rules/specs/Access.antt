@@ -1,7 +1,7 @@
 -- Native access (JEP 472): the class that a call asks for it with, and what the setup says of its module.
 use Rattle.std.specs.Prelude.{ℕ, ◌&&◌, Bool, true, false, not, Option, Some, None, option_and_then}
 use Rattle.jg_words.specs.declared.call.Call.{Call}
-use Rattle.jg_words.specs.declared.call.Call.TheVariants.{Vm, Refs, Frames, Exceptions, Objects, Strings, Arrays, Monitors}
+use Rattle.jg_words.specs.declared.call.Call.TheVariants.{Vm, Refs, Frames, Exceptions, Objects, Strings, Arrays, Monitors, Buffers}
 use Rattle.jg_words.specs.declared.call.vm.VmCall.{VmCall}
 use Rattle.jg_words.specs.declared.call.vm.VmCall.TheVariants.{AttachCurrentThread, DetachCurrentThread, GetEnv, NativeEnter, NativeLeave, LoadLibrary, RegisterNatives, UnregisterNatives, Collect}
 use Rattle.jg_policy.specs.declared.access.Access.{Access}
@@ -35,6 +35,7 @@ native_class s p t (Objects call) = None
 native_class s p t (Strings call) = None
 native_class s p t (Arrays call) = None
 native_class s p t (Monitors call) = None
+native_class s p t (Buffers call) = None
 
 -- the number of the class's module
 abbrev pub home_of : StatedSetup → Option ℕ → Option ℕ

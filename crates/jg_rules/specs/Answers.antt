@@ -9,11 +9,11 @@ use Rattle.jg_words.specs.declared.reference.Kind.TheVariants.{Local, Global, We
 use Rattle.jg_words.specs.declared.reference.Ref.{Ref}
 use Rattle.jg_words.specs.declared.reference.Ref.TheVariants.{Null, To}
 use Rattle.jg_words.specs.declared.value.Value.{Value}
-use Rattle.jg_words.specs.declared.value.Value.TheVariants.{Ok as Done, Number as Amount, Truth, Null as NullAnswer, Reference, Field, Environment, List as Listed, Busy, Detached as NotAttached, Throw as Threw}
+use Rattle.jg_words.specs.declared.value.Value.TheVariants.{Ok as Done, Number as Amount, Truth, Null as NullAnswer, Reference, Buffer as Lent, Field, Environment, List as Listed, Busy, Detached as NotAttached, Throw as Threw}
 use Rattle.jg_words.specs.declared.value.Thrown.{Thrown}
 use Rattle.jg_words.specs.declared.value.Thrown.TheVariants.{ArrayIndexOutOfBounds, StringIndexOutOfBounds, NoClassDefFound, NoSuchField, NoSuchMethod}
 use Rattle.jg_words.specs.declared.call.Call.{Call}
-use Rattle.jg_words.specs.declared.call.Call.TheVariants.{Vm, Refs, Frames, Exceptions, Objects, Strings, Arrays, Monitors}
+use Rattle.jg_words.specs.declared.call.Call.TheVariants.{Vm, Refs, Frames, Exceptions, Objects, Strings, Arrays, Monitors, Buffers}
 use Rattle.jg_words.specs.declared.call.vm.VmCall.{VmCall}
 use Rattle.jg_words.specs.declared.call.vm.VmCall.TheVariants.{AttachCurrentThread, DetachCurrentThread, GetEnv, NativeEnter, NativeLeave, LoadLibrary, RegisterNatives, UnregisterNatives, Collect}
 use Rattle.jg_words.specs.declared.call.refs.RefsCall.{RefsCall}
@@ -30,6 +30,8 @@ use Rattle.jg_words.specs.declared.call.arrays.ArraysCall.{ArraysCall}
 use Rattle.jg_words.specs.declared.call.arrays.ArraysCall.TheVariants.{NewArray, GetArrayLength, GetArrayRegion, SetArrayRegion, NewObjectArray, GetObjectArrayElement, SetObjectArrayElement}
 use Rattle.jg_words.specs.declared.call.monitors.MonitorsCall.{MonitorsCall}
 use Rattle.jg_words.specs.declared.call.monitors.MonitorsCall.TheVariants.{MonitorEnter, MonitorExit}
+use Rattle.jg_words.specs.declared.call.buffers.BuffersCall.{BuffersCall}
+use Rattle.jg_words.specs.declared.call.buffers.BuffersCall.TheVariants.{GetArrayElements, ReleaseArrayElements, GetStringChars, ReleaseStringChars, GetStringUTFChars, ReleaseStringUTFChars, GetPrimitiveArrayCritical, ReleasePrimitiveArrayCritical, GetStringCritical, ReleaseStringCritical, BufferRead, BufferWrite}
 use Rattle.jg_policy.specs.Stated.{StatedSetup}
 use Rattle.jg_policy.specs.Classes.{class_named}
 use Rattle.jg_heap.specs.Reading.{natural}
@@ -45,7 +47,8 @@ use Rattle.jg_rules.specs.declared.named.Named.TheVariants.{Nothing}
 use Rattle.jg_rules.specs.Parts.{Parts}
 use Rattle.jg_rules.specs.Access.{warns}
 use Rattle.jg_rules.specs.Holding.{going}
-use Rattle.jg_rules.specs.Names.{names, object_named, the_object, object_count, class_of, length_of, units_of, slot_of, slot_place, number_in, target_in, items_of, session, next_ref, pending, class_meant, native_meant, field_meant}
+use Rattle.jg_rules.specs.Buffers.{buffer_named, item_read}
+use Rattle.jg_rules.specs.Names.{names, object_named, the_object, object_count, class_of, length_of, units_of, slot_of, slot_place, number_in, target_in, items_of, session, next_ref, next_buffer, pending, class_meant, native_meant, field_meant}
 
 abbrev pub saying : Value → Option ObjId → Answer
 saying value object = record { reply = record { value = value; warned = false }; object = object }
@@ -229,6 +232,26 @@ monitors_answer p t (MonitorEnter r) =
     plain (entered (monitors.entering t.0 (monitors.owner p.monitors (the_object p t.0 r))))
 monitors_answer p t (MonitorExit r) = plain Done
 
+-- the thread's next buffer
+abbrev pub lent : Parts → Tid → Answer
+lent p t = plain (Lent (record { maker = t; n = next_buffer p t.0 }))
+
+-- (JNI Specification, chapter 4, "String Operations", "Array Operations"). That buffers are read and written by calls is
+-- this guard's own
+abbrev pub buffers_answer : StatedSetup → Parts → Tid → BuffersCall → Answer
+buffers_answer s p t (GetArrayElements element r) = lent p t
+buffers_answer s p t (ReleaseArrayElements element r b mode) = plain Done
+buffers_answer s p t (GetStringChars r) = lent p t
+buffers_answer s p t (ReleaseStringChars r b) = plain Done
+buffers_answer s p t (GetStringUTFChars r) = lent p t
+buffers_answer s p t (ReleaseStringUTFChars r b) = plain Done
+buffers_answer s p t (GetPrimitiveArrayCritical r) = lent p t
+buffers_answer s p t (ReleasePrimitiveArrayCritical r b mode) = plain Done
+buffers_answer s p t (GetStringCritical r) = lent p t
+buffers_answer s p t (ReleaseStringCritical r b) = plain Done
+buffers_answer s p t (BufferRead b index) = plain (Amount (item_read s p b (natural index) (buffer_named p b)))
+buffers_answer s p t (BufferWrite b index value) = plain Done
+
 abbrev pub answer : StatedSetup → Parts → Tid → Call → Answer
 answer s p t (Vm call) = vm_answer s p t call
 answer s p t (Refs call) = refs_answer p t call
@@ -238,3 +261,4 @@ answer s p t (Objects call) = objects_answer s p t call
 answer s p t (Strings call) = strings_answer s p t call
 answer s p t (Arrays call) = arrays_answer s p t call
 answer s p t (Monitors call) = monitors_answer p t call
+answer s p t (Buffers call) = buffers_answer s p t call

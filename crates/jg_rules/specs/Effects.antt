@@ -1,5 +1,5 @@
 -- What the entries of a history are to each table, the newest event first. Every effect is read off the state before.
-use Rattle.std.specs.Prelude.{ℕ, pos, Bool, true, false, if◌then◌else◌, List, [], ◌∷◌, ◌++◌, map, Option, Some, None}
+use Rattle.std.specs.Prelude.{ℕ, ℤ, pos, Bool, true, false, if◌then◌else◌, List, [], ◌∷◌, ◌++◌, map, length, Option, Some, None}
 use Rattle.std.specs.Option.{option_map, unwrap_or}
 use Rattle.jg_words.specs.declared.object.ObjId.{ObjId}
 use Rattle.jg_words.specs.declared.reference.Ref.{Ref}
@@ -14,7 +14,7 @@ use Rattle.jg_words.specs.declared.entry.Outcome.{Outcome}
 use Rattle.jg_words.specs.declared.entry.Outcome.TheVariants.{Passed, Denied}
 use Rattle.jg_words.specs.declared.entry.Entry.{Entry}
 use Rattle.jg_words.specs.declared.call.Call.{Call}
-use Rattle.jg_words.specs.declared.call.Call.TheVariants.{Vm, Refs, Frames, Exceptions, Objects, Strings, Arrays, Monitors}
+use Rattle.jg_words.specs.declared.call.Call.TheVariants.{Vm, Refs, Frames, Exceptions, Objects, Strings, Arrays, Monitors, Buffers}
 use Rattle.jg_words.specs.declared.call.vm.VmCall.{VmCall}
 use Rattle.jg_words.specs.declared.call.vm.VmCall.TheVariants.{AttachCurrentThread, DetachCurrentThread, GetEnv, NativeEnter, NativeLeave, LoadLibrary, RegisterNatives, UnregisterNatives, Collect}
 use Rattle.jg_words.specs.declared.call.refs.RefsCall.{RefsCall}
@@ -31,6 +31,12 @@ use Rattle.jg_words.specs.declared.call.arrays.ArraysCall.{ArraysCall}
 use Rattle.jg_words.specs.declared.call.arrays.ArraysCall.TheVariants.{NewArray, GetArrayLength, GetArrayRegion, SetArrayRegion, NewObjectArray, GetObjectArrayElement, SetObjectArrayElement}
 use Rattle.jg_words.specs.declared.call.monitors.MonitorsCall.{MonitorsCall}
 use Rattle.jg_words.specs.declared.call.monitors.MonitorsCall.TheVariants.{MonitorEnter, MonitorExit}
+use Rattle.jg_words.specs.declared.call.buffers.BuffersCall.{BuffersCall}
+use Rattle.jg_words.specs.declared.call.buffers.BuffersCall.TheVariants.{GetArrayElements, ReleaseArrayElements, GetStringChars, ReleaseStringChars, GetStringUTFChars, ReleaseStringUTFChars, GetPrimitiveArrayCritical, ReleasePrimitiveArrayCritical, GetStringCritical, ReleaseStringCritical, BufferRead, BufferWrite}
+use Rattle.jg_words.specs.declared.buffer.BufId.{BufId}
+use Rattle.jg_buffers.specs.declared.family.Family.{Family}
+use Rattle.jg_buffers.specs.declared.family.Family.TheVariants.{Elements, Chars, UtfChars, ArrayCritical, StringCritical}
+use Rattle.jg_buffers.specs.declared.info.Info.{Info}
 use Rattle.jg_policy.specs.Stated.{StatedSetup, StatedMember}
 use Rattle.jg_policy.specs.Classes.{class_at, fields_in, is_class_type}
 use Rattle.jg_policy.specs.Links as links
@@ -42,12 +48,14 @@ use Rattle.jg_monitors.specs.History as monitors
 use Rattle.jg_heap.specs.History as heap
 use Rattle.jg_heap.specs.Making.{Text, Plain, Filled, array_class}
 use Rattle.jg_heap.specs.Reading.{natural, decoded}
+use Rattle.jg_heap.specs.Spelling.{spelt}
 use Rattle.jg_heap.specs.declared.object.Slot.{Slot}
 use Rattle.jg_heap.specs.declared.object.Slot.TheVariants.{Number, Object as Pointer}
-use Rattle.jg_rules.specs.Names.{the_object, object_named, class_meant, native_meant, slot_place}
+use Rattle.jg_rules.specs.Names.{the_object, object_named, class_meant, native_meant, slot_place, next_buffer, length_of, units_of, items_of}
 use Rattle.jg_rules.specs.Parts.{Parts, nothing_yet}
 use Rattle.jg_rules.specs.Access.{native_class, home_of}
 use Rattle.jg_rules.specs.Holding.{roots, going}
+use Rattle.jg_rules.specs.Buffers.{buffer_named, is_commit, is_abort}
 
 -- ---- a call's own events
 
@@ -78,6 +86,7 @@ call_threads s p t (Objects call) = []
 call_threads s p t (Strings call) = []
 call_threads s p t (Arrays call) = []
 call_threads s p t (Monitors call) = []
+call_threads s p t (Buffers call) = []
 
 -- a session begins only where the thread has none
 abbrev pub started : Bool → List locals.Act
@@ -124,6 +133,7 @@ call_locals s p t (Objects call) = []
 call_locals s p t (Strings call) = []
 call_locals s p t (Arrays call) = []
 call_locals s p t (Monitors call) = []
+call_locals s p t (Buffers call) = []
 
 -- what goes leaves its weak references cleared (JNI Specification, chapter 4, "Weak Global References")
 abbrev pub vm_globals : StatedSetup → Parts → VmCall → List globals.Event
@@ -156,6 +166,47 @@ call_globals s p t (Objects call) = []
 call_globals s p t (Strings call) = []
 call_globals s p t (Arrays call) = []
 call_globals s p t (Monitors call) = []
+call_globals s p t (Buffers call) = []
+
+-- t is lent a copy of these items, as its next buffer; or a pinned buffer of so many, through the reference
+abbrev pub lent_copy : Parts → ℕ → ℕ → Family → List ℤ → List buffers.Event
+lent_copy p t o family items = buffers.Opened (buffers.copy_with t (next_buffer p t) o family items) ∷ []
+
+abbrev pub lent_pin : Parts → ℕ → ℕ → Family → Ref → ℕ → List buffers.Event
+lent_pin p t o family r n = buffers.Opened (buffers.pin_through t (next_buffer p t) o family r n) ∷ []
+
+abbrev pub closed : BufId → List buffers.Event
+closed b = buffers.Closed b.maker.0 b.n ∷ []
+
+-- JNI_COMMIT doesn't close it
+abbrev pub closed_by : ℤ → BufId → List buffers.Event
+closed_by mode b = if is_commit mode then [] else closed b
+
+-- into a copy itself
+abbrev pub wrote_copy : BufId → ℕ → ℤ → Option Info → List buffers.Event
+wrote_copy b index v None = []
+wrote_copy b index v (Some info) =
+    if buffers.is_critical info.family then [] else buffers.Wrote b.maker.0 b.n index v ∷ []
+
+-- (JNI Specification, chapter 4, "String Operations", "Array Operations")
+abbrev pub buffers_buffers : StatedSetup → Parts → ℕ → BuffersCall → List buffers.Event
+buffers_buffers s p t (GetArrayElements element r) =
+    lent_copy p t (the_object p t r) (Elements element) (items_of s p (the_object p t r))
+buffers_buffers s p t (ReleaseArrayElements element r b mode) = closed_by mode b
+buffers_buffers s p t (GetStringChars r) =
+    lent_copy p t (the_object p t r) Chars (map pos (units_of s p (the_object p t r)))
+buffers_buffers s p t (ReleaseStringChars r b) = closed b
+buffers_buffers s p t (GetStringUTFChars r) =
+    lent_copy p t (the_object p t r) UtfChars (map pos (spelt (units_of s p (the_object p t r))))
+buffers_buffers s p t (ReleaseStringUTFChars r b) = closed b
+buffers_buffers s p t (GetPrimitiveArrayCritical r) =
+    lent_pin p t (the_object p t r) ArrayCritical r (length_of s p (the_object p t r))
+buffers_buffers s p t (ReleasePrimitiveArrayCritical r b mode) = closed_by mode b
+buffers_buffers s p t (GetStringCritical r) =
+    lent_pin p t (the_object p t r) StringCritical r (length (units_of s p (the_object p t r)))
+buffers_buffers s p t (ReleaseStringCritical r b) = closed b
+buffers_buffers s p t (BufferRead b index) = []
+buffers_buffers s p t (BufferWrite b index value) = wrote_copy b (natural index) value (buffer_named p b)
 
 abbrev pub call_buffers : StatedSetup → Parts → ℕ → Call → List buffers.Event
 call_buffers s p t (Vm call) = []
@@ -166,6 +217,7 @@ call_buffers s p t (Objects call) = []
 call_buffers s p t (Strings call) = []
 call_buffers s p t (Arrays call) = []
 call_buffers s p t (Monitors call) = []
+call_buffers s p t (Buffers call) = buffers_buffers s p t call
 
 abbrev pub vm_monitors : VmCall → List monitors.Act
 vm_monitors AttachCurrentThread = []
@@ -191,6 +243,7 @@ call_monitors s p t (Objects call) = []
 call_monitors s p t (Strings call) = []
 call_monitors s p t (Arrays call) = []
 call_monitors s p t (Monitors call) = monitors_monitors p t call
+call_monitors s p t (Buffers call) = []
 
 -- a field holds 0, or null where its type is a class
 abbrev pub first_value : StatedMember → Slot
@@ -242,6 +295,31 @@ arrays_heap p t (GetObjectArrayElement r index) = []
 arrays_heap p t (SetObjectArrayElement r index value) =
     heap.Wrote (the_object p t r) (natural index) (pointer (object_named p t value)) ∷ []
 
+-- the items of a copy are written back, except by JNI_ABORT
+abbrev pub copied_back : Parts → ℕ → BufId → ℤ → List heap.Event
+copied_back p o b mode =
+    if is_abort mode then [] else heap.region_writes o 0 (buffers.contents p.buffers b.maker.0 b.n)
+
+-- into the object of a pinned buffer
+abbrev pub wrote_pinned : ℕ → ℤ → Option Info → List heap.Event
+wrote_pinned index v None = []
+wrote_pinned index v (Some info) =
+    if buffers.is_critical info.family then heap.Wrote info.object.0 index (Number v) ∷ [] else []
+
+abbrev pub buffers_heap : Parts → ℕ → BuffersCall → List heap.Event
+buffers_heap p t (GetArrayElements element r) = []
+buffers_heap p t (ReleaseArrayElements element r b mode) = copied_back p (the_object p t r) b mode
+buffers_heap p t (GetStringChars r) = []
+buffers_heap p t (ReleaseStringChars r b) = []
+buffers_heap p t (GetStringUTFChars r) = []
+buffers_heap p t (ReleaseStringUTFChars r b) = []
+buffers_heap p t (GetPrimitiveArrayCritical r) = []
+buffers_heap p t (ReleasePrimitiveArrayCritical r b mode) = []
+buffers_heap p t (GetStringCritical r) = []
+buffers_heap p t (ReleaseStringCritical r b) = []
+buffers_heap p t (BufferRead b index) = []
+buffers_heap p t (BufferWrite b index value) = wrote_pinned (natural index) value (buffer_named p b)
+
 abbrev pub call_heap : StatedSetup → Parts → ℕ → Call → List heap.Event
 call_heap s p t (Vm call) = vm_heap s p call
 call_heap s p t (Refs call) = []
@@ -251,6 +329,7 @@ call_heap s p t (Objects call) = objects_heap s p t call
 call_heap s p t (Strings call) = strings_heap call
 call_heap s p t (Arrays call) = arrays_heap p t call
 call_heap s p t (Monitors call) = []
+call_heap s p t (Buffers call) = buffers_heap p t call
 
 -- the class's native method is linked, again if it was
 abbrev pub linking : Option ℕ → Option ℕ → List links.Event
@@ -283,6 +362,7 @@ call_links s p t (Objects call) = []
 call_links s p t (Strings call) = []
 call_links s p t (Arrays call) = []
 call_links s p t (Monitors call) = []
+call_links s p t (Buffers call) = []
 
 -- the parts with them in front
 abbrev pub done_by : StatedSetup → ℕ → Call → Parts → Parts

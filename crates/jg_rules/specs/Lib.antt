@@ -1,6 +1,7 @@
 pub mod Numbers
 pub mod Parts
 pub mod Names
+pub mod Buffers
 pub mod Access
 pub mod Passing
 pub mod Operands

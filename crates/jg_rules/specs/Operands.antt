@@ -2,7 +2,7 @@
 use Rattle.std.specs.Prelude.{ℕ, ◌==◌, ◌&&◌, ◌||◌, Bool, true, false, nat_le, nat_lt, List, [], ◌∷◌}
 use Rattle.jg_words.specs.declared.reference.Ref.{Ref}
 use Rattle.jg_words.specs.declared.call.Call.{Call}
-use Rattle.jg_words.specs.declared.call.Call.TheVariants.{Vm, Refs, Frames, Exceptions, Objects, Strings, Arrays, Monitors}
+use Rattle.jg_words.specs.declared.call.Call.TheVariants.{Vm, Refs, Frames, Exceptions, Objects, Strings, Arrays, Monitors, Buffers}
 use Rattle.jg_words.specs.declared.call.vm.VmCall.{VmCall}
 use Rattle.jg_words.specs.declared.call.vm.VmCall.TheVariants.{AttachCurrentThread, DetachCurrentThread, GetEnv, NativeEnter, NativeLeave, LoadLibrary, RegisterNatives, UnregisterNatives, Collect}
 use Rattle.jg_words.specs.declared.call.refs.RefsCall.{RefsCall}
@@ -19,11 +19,13 @@ use Rattle.jg_words.specs.declared.call.arrays.ArraysCall.{ArraysCall}
 use Rattle.jg_words.specs.declared.call.arrays.ArraysCall.TheVariants.{NewArray, GetArrayLength, GetArrayRegion, SetArrayRegion, NewObjectArray, GetObjectArrayElement, SetObjectArrayElement}
 use Rattle.jg_words.specs.declared.call.monitors.MonitorsCall.{MonitorsCall}
 use Rattle.jg_words.specs.declared.call.monitors.MonitorsCall.TheVariants.{MonitorEnter, MonitorExit}
+use Rattle.jg_words.specs.declared.call.buffers.BuffersCall.{BuffersCall}
+use Rattle.jg_words.specs.declared.call.buffers.BuffersCall.TheVariants.{GetArrayElements, ReleaseArrayElements, GetStringChars, ReleaseStringChars, GetStringUTFChars, ReleaseStringUTFChars, GetPrimitiveArrayCritical, ReleasePrimitiveArrayCritical, GetStringCritical, ReleaseStringCritical, BufferRead, BufferWrite}
 use Rattle.jg_policy.specs.Stated.{StatedSetup, class_count}
 use Rattle.jg_policy.specs.Classes.{is_throwable}
 use Rattle.jg_heap.specs.Making.{array_class}
 use Rattle.jg_rules.specs.declared.operand.ObjectType.{ObjectType}
-use Rattle.jg_rules.specs.declared.operand.ObjectType.TheVariants.{AnyObject, ClassObject, PlainClass, ThrowableObject, StringObject, AnyArray, ArrayOf, ObjectArray}
+use Rattle.jg_rules.specs.declared.operand.ObjectType.TheVariants.{AnyObject, ClassObject, PlainClass, ThrowableObject, StringObject, AnyArray, PrimitiveArray, ArrayOf, ObjectArray}
 use Rattle.jg_rules.specs.declared.operand.Operand.{Operand}
 use Rattle.jg_rules.specs.declared.operand.Operands.{Operands}
 use Rattle.jg_rules.specs.declared.operand.Operands.TheVariants.{Nil, One, Two}
@@ -106,6 +108,20 @@ abbrev pub monitors_operands : MonitorsCall → List Operand
 monitors_operands (MonitorEnter r) = required r AnyObject ∷ []
 monitors_operands (MonitorExit r) = required r AnyObject ∷ []
 
+abbrev pub buffers_operands : BuffersCall → List Operand
+buffers_operands (GetArrayElements element r) = required r (ArrayOf element) ∷ []
+buffers_operands (ReleaseArrayElements element r b mode) = required r (ArrayOf element) ∷ []
+buffers_operands (GetStringChars r) = required r StringObject ∷ []
+buffers_operands (ReleaseStringChars r b) = required r StringObject ∷ []
+buffers_operands (GetStringUTFChars r) = required r StringObject ∷ []
+buffers_operands (ReleaseStringUTFChars r b) = required r StringObject ∷ []
+buffers_operands (GetPrimitiveArrayCritical r) = required r PrimitiveArray ∷ []
+buffers_operands (ReleasePrimitiveArrayCritical r b mode) = required r PrimitiveArray ∷ []
+buffers_operands (GetStringCritical r) = required r StringObject ∷ []
+buffers_operands (ReleaseStringCritical r b) = required r StringObject ∷ []
+buffers_operands (BufferRead b index) = []
+buffers_operands (BufferWrite b index value) = []
+
 abbrev pub operands : Call → List Operand
 operands (Vm call) = vm_operands call
 operands (Refs call) = refs_operands call
@@ -115,6 +131,7 @@ operands (Objects call) = objects_operands call
 operands (Strings call) = strings_operands call
 operands (Arrays call) = arrays_operands call
 operands (Monitors call) = monitors_operands call
+operands (Buffers call) = buffers_operands call
 
 -- the object is a class object whose class has instances that can be made without a constructor's arguments: neither
 -- java/lang/Class, nor java/lang/String, nor a class of arrays. A class object has the number of its class
@@ -130,5 +147,6 @@ is_of s p PlainClass o = is_plain s o
 is_of s p ThrowableObject o = is_throwable s (class_of s p o)
 is_of s p StringObject o = class_of s p o == 2
 is_of s p AnyArray o = nat_le 3 (class_of s p o) && nat_le (class_of s p o) 9
+is_of s p PrimitiveArray o = nat_le 4 (class_of s p o) && nat_le (class_of s p o) 9
 is_of s p (ArrayOf element) o = class_of s p o == array_class element
 is_of s p ObjectArray o = class_of s p o == 3

@@ -1,7 +1,7 @@
 -- Which functions may be called inside a critical region, and which with an exception pending.
 use Rattle.std.specs.Prelude.{Bool, true, false}
 use Rattle.jg_words.specs.declared.fun.Fun.{Fun}
-use Rattle.jg_words.specs.declared.fun.Fun.TheVariants.{Vm, Refs, Frames, Exceptions, Objects, Strings, Arrays, Monitors}
+use Rattle.jg_words.specs.declared.fun.Fun.TheVariants.{Vm, Refs, Frames, Exceptions, Objects, Strings, Arrays, Monitors, Buffers}
 use Rattle.jg_words.specs.declared.fun.vm.VmFun.{VmFun}
 use Rattle.jg_words.specs.declared.fun.vm.VmFun.TheVariants.{AttachCurrentThread, DetachCurrentThread, GetEnv, NativeEnter, NativeLeave, LoadLibrary, RegisterNatives, UnregisterNatives, Collect}
 use Rattle.jg_words.specs.declared.fun.exceptions.ExceptionsFun.{ExceptionsFun}
@@ -10,8 +10,25 @@ use Rattle.jg_words.specs.declared.fun.refs.RefsFun.{RefsFun}
 use Rattle.jg_words.specs.declared.fun.refs.RefsFun.TheVariants.{NewLocalRef, NewGlobalRef, NewWeakGlobalRef, DeleteLocalRef, DeleteGlobalRef, DeleteWeakGlobalRef, IsSameObject, GetObjectRefType}
 use Rattle.jg_words.specs.declared.fun.monitors.MonitorsFun.{MonitorsFun}
 use Rattle.jg_words.specs.declared.fun.monitors.MonitorsFun.TheVariants.{MonitorEnter, MonitorExit}
+use Rattle.jg_words.specs.declared.fun.buffers.BuffersFun.{BuffersFun}
+use Rattle.jg_words.specs.declared.fun.buffers.BuffersFun.TheVariants.{GetArrayElements, ReleaseArrayElements, GetStringChars, ReleaseStringChars, GetStringUTFChars, ReleaseStringUTFChars, GetPrimitiveArrayCritical, ReleasePrimitiveArrayCritical, GetStringCritical, ReleaseStringCritical, BufferRead, BufferWrite}
 
--- inside a critical region none of these (JNI Specification, chapter 4, GetPrimitiveArrayCritical)
+abbrev pub buffers_passes_critical : BuffersFun → Bool
+buffers_passes_critical (GetArrayElements element) = false
+buffers_passes_critical (ReleaseArrayElements element) = false
+buffers_passes_critical GetStringChars = false
+buffers_passes_critical ReleaseStringChars = false
+buffers_passes_critical GetStringUTFChars = false
+buffers_passes_critical ReleaseStringUTFChars = false
+buffers_passes_critical GetPrimitiveArrayCritical = true
+buffers_passes_critical ReleasePrimitiveArrayCritical = true
+buffers_passes_critical GetStringCritical = true
+buffers_passes_critical ReleaseStringCritical = true
+buffers_passes_critical BufferRead = true
+buffers_passes_critical BufferWrite = true
+
+-- inside a critical region the four critical functions, which may be nested, and what reads and writes a buffer (JNI
+-- Specification, chapter 4, GetPrimitiveArrayCritical)
 abbrev pub passes_critical : Fun → Bool
 passes_critical (Vm fun) = false
 passes_critical (Refs fun) = false
@@ -21,6 +38,7 @@ passes_critical (Objects fun) = false
 passes_critical (Strings fun) = false
 passes_critical (Arrays fun) = false
 passes_critical (Monitors fun) = false
+passes_critical (Buffers fun) = buffers_passes_critical fun
 
 abbrev pub vm_passes_pending : VmFun → Bool
 vm_passes_pending AttachCurrentThread = true
@@ -54,6 +72,20 @@ abbrev pub monitors_passes_pending : MonitorsFun → Bool
 monitors_passes_pending MonitorEnter = false
 monitors_passes_pending MonitorExit = true
 
+abbrev pub buffers_passes_pending : BuffersFun → Bool
+buffers_passes_pending (GetArrayElements element) = false
+buffers_passes_pending (ReleaseArrayElements element) = true
+buffers_passes_pending GetStringChars = false
+buffers_passes_pending ReleaseStringChars = true
+buffers_passes_pending GetStringUTFChars = false
+buffers_passes_pending ReleaseStringUTFChars = true
+buffers_passes_pending GetPrimitiveArrayCritical = false
+buffers_passes_pending ReleasePrimitiveArrayCritical = true
+buffers_passes_pending GetStringCritical = false
+buffers_passes_pending ReleaseStringCritical = true
+buffers_passes_pending BufferRead = true
+buffers_passes_pending BufferWrite = true
+
 -- with an exception pending (JNI Specification, chapter 2, "Exceptions and Error Codes")
 abbrev pub passes_pending : Fun → Bool
 passes_pending (Vm fun) = vm_passes_pending fun
@@ -64,3 +96,4 @@ passes_pending (Objects fun) = false
 passes_pending (Strings fun) = false
 passes_pending (Arrays fun) = false
 passes_pending (Monitors fun) = monitors_passes_pending fun
+passes_pending (Buffers fun) = buffers_passes_pending fun

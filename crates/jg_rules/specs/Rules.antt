@@ -11,7 +11,7 @@ use Rattle.jg_words.specs.declared.reference.Ref.TheVariants.{Null, To}
 use Rattle.jg_words.specs.declared.rule.Rule.{Rule}
 use Rattle.jg_words.specs.declared.rule.Rule.TheVariants.{WrongThread, Detached, InCritical, Pending, ForeignLocal, DeadReference, WrongRefKind, NullReference, WrongType, BadField, BadBuffer, BadArgument, Pinned, NotOwner, BadFrame, NoNativeAccess, NotLinked}
 use Rattle.jg_words.specs.declared.call.Call.{Call}
-use Rattle.jg_words.specs.declared.call.Call.TheVariants.{Vm, Refs, Frames, Exceptions, Objects, Strings, Arrays, Monitors}
+use Rattle.jg_words.specs.declared.call.Call.TheVariants.{Vm, Refs, Frames, Exceptions, Objects, Strings, Arrays, Monitors, Buffers}
 use Rattle.jg_words.specs.declared.call.vm.VmCall.{VmCall}
 use Rattle.jg_words.specs.declared.call.vm.VmCall.TheVariants.{AttachCurrentThread, DetachCurrentThread, GetEnv, NativeEnter, NativeLeave, LoadLibrary, RegisterNatives, UnregisterNatives, Collect}
 use Rattle.jg_words.specs.declared.call.refs.RefsCall.{RefsCall}
@@ -26,6 +26,12 @@ use Rattle.jg_words.specs.declared.call.arrays.ArraysCall.{ArraysCall}
 use Rattle.jg_words.specs.declared.call.arrays.ArraysCall.TheVariants.{NewArray, GetArrayLength, GetArrayRegion, SetArrayRegion, NewObjectArray, GetObjectArrayElement, SetObjectArrayElement}
 use Rattle.jg_words.specs.declared.call.monitors.MonitorsCall.{MonitorsCall}
 use Rattle.jg_words.specs.declared.call.monitors.MonitorsCall.TheVariants.{MonitorEnter, MonitorExit}
+use Rattle.jg_words.specs.declared.call.buffers.BuffersCall.{BuffersCall}
+use Rattle.jg_words.specs.declared.call.buffers.BuffersCall.TheVariants.{GetArrayElements, ReleaseArrayElements, GetStringChars, ReleaseStringChars, GetStringUTFChars, ReleaseStringUTFChars, GetPrimitiveArrayCritical, ReleasePrimitiveArrayCritical, GetStringCritical, ReleaseStringCritical, BufferRead, BufferWrite}
+use Rattle.jg_words.specs.declared.buffer.BufId.{BufId}
+use Rattle.jg_buffers.specs.declared.family.Family.{Family}
+use Rattle.jg_buffers.specs.declared.family.Family.TheVariants.{Elements, Chars, UtfChars, ArrayCritical, StringCritical}
+use Rattle.jg_buffers.specs.declared.info.Info.{Info}
 use Rattle.jg_policy.specs.Stated.{StatedSetup}
 use Rattle.jg_policy.specs.Classes.{class_named, field_type, is_class_type}
 use Rattle.jg_policy.specs.Links as links
@@ -47,6 +53,7 @@ use Rattle.jg_rules.specs.Access.{native_class, refuses}
 use Rattle.jg_rules.specs.Passing.{passes_critical, passes_pending}
 use Rattle.jg_rules.specs.Names.{names, session, depth, open_frames, pending, class_of, native_meant, object_named}
 use Rattle.jg_rules.specs.Operands.{operands, is_of}
+use Rattle.jg_rules.specs.Buffers.{buffer_named, is_open_and, is_of_family, is_of_object, is_anothers, is_of_array, is_mode, is_place, item_type, is_value_of_type}
 
 abbrev pub of_another : ℕ → Option EnvId → Bool
 of_another t None = false
@@ -74,6 +81,7 @@ is_machine (Objects call) = false
 is_machine (Strings call) = false
 is_machine (Arrays call) = false
 is_machine (Monitors call) = false
+is_machine (Buffers call) = false
 
 -- thread 0 stands for the virtual machine itself
 abbrev pub wrong_caller : ℕ → Bool → Bool
@@ -153,6 +161,7 @@ wrong_kind (Objects call) = false
 wrong_kind (Strings call) = false
 wrong_kind (Arrays call) = false
 wrong_kind (Monitors call) = false
+wrong_kind (Buffers call) = false
 
 abbrev pub is_null : Named → Bool
 is_null Nothing = false
@@ -224,17 +233,47 @@ bad_field s p t (Objects call) = objects_bad_field s p t call
 bad_field s p t (Strings call) = false
 bad_field s p t (Arrays call) = false
 bad_field s p t (Monitors call) = false
+bad_field s p t (Buffers call) = false
 
--- 11: a buffer that isn't the call's (JNI Specification, chapter 4, "Array Operations"). No function takes one yet
-abbrev pub bad_buffer : Call → Bool
-bad_buffer (Vm call) = false
-bad_buffer (Refs call) = false
-bad_buffer (Frames call) = false
-bad_buffer (Exceptions call) = false
-bad_buffer (Objects call) = false
-bad_buffer (Strings call) = false
-bad_buffer (Arrays call) = false
-bad_buffer (Monitors call) = false
+-- the buffer is open, of the function's family and of the reference's object, and no critical one of another thread
+abbrev pub is_releasable : Parts → ℕ → Family → Ref → BufId → Bool
+is_releasable p t family r b =
+    is_open_and (λ x. is_of_family family x && (is_of_object (object_named p t r) x && not (is_anothers t x)))
+    (buffer_named p b)
+
+abbrev pub is_readable : Parts → ℕ → BufId → Bool
+is_readable p t b = is_open_and (λ x. not (is_anothers t x)) (buffer_named p b)
+
+abbrev pub is_writable : Parts → ℕ → BufId → Bool
+is_writable p t b = is_open_and (λ x. is_of_array x.family && not (is_anothers t x)) (buffer_named p b)
+
+abbrev pub buffers_bad_buffer : Parts → ℕ → BuffersCall → Bool
+buffers_bad_buffer p t (GetArrayElements element r) = false
+buffers_bad_buffer p t (ReleaseArrayElements element r b mode) = not (is_releasable p t (Elements element) r b)
+buffers_bad_buffer p t (GetStringChars r) = false
+buffers_bad_buffer p t (ReleaseStringChars r b) = not (is_releasable p t Chars r b)
+buffers_bad_buffer p t (GetStringUTFChars r) = false
+buffers_bad_buffer p t (ReleaseStringUTFChars r b) = not (is_releasable p t UtfChars r b)
+buffers_bad_buffer p t (GetPrimitiveArrayCritical r) = false
+buffers_bad_buffer p t (ReleasePrimitiveArrayCritical r b mode) = not (is_releasable p t ArrayCritical r b)
+buffers_bad_buffer p t (GetStringCritical r) = false
+buffers_bad_buffer p t (ReleaseStringCritical r b) = not (is_releasable p t StringCritical r b)
+buffers_bad_buffer p t (BufferRead b index) = not (is_readable p t b)
+buffers_bad_buffer p t (BufferWrite b index value) = not (is_writable p t b)
+
+-- 11: a buffer that isn't open, or isn't the call's: released by another function than its own, with another object, or,
+-- being critical, used by another thread; or a string's buffer that is written (JNI Specification, chapter 4, "String
+-- Operations", "Array Operations")
+abbrev pub bad_buffer : Parts → ℕ → Call → Bool
+bad_buffer p t (Vm call) = false
+bad_buffer p t (Refs call) = false
+bad_buffer p t (Frames call) = false
+bad_buffer p t (Exceptions call) = false
+bad_buffer p t (Objects call) = false
+bad_buffer p t (Strings call) = false
+bad_buffer p t (Arrays call) = false
+bad_buffer p t (Monitors call) = false
+bad_buffer p t (Buffers call) = buffers_bad_buffer p t call
 
 abbrev pub vm_bad_argument : StatedSetup → VmCall → Bool
 vm_bad_argument s AttachCurrentThread = false
@@ -286,30 +325,67 @@ arrays_bad_argument (NewObjectArray n class fill) = not (is_size n)
 arrays_bad_argument (GetObjectArrayElement r index) = false
 arrays_bad_argument (SetObjectArrayElement r index value) = false
 
+abbrev pub is_outside_of : ℤ → Option Info → Bool
+is_outside_of index None = false
+is_outside_of index (Some info) = not (is_place index info.length)
+
+-- the buffer has no such place, or can't hold the number
+abbrev pub is_wrong_item : StatedSetup → Parts → ℤ → ℤ → Option Info → Bool
+is_wrong_item s p index v None = false
+is_wrong_item s p index v (Some info) =
+    not (is_place index info.length && is_value_of_type (item_type s p info info.family) v)
+
+abbrev pub buffers_bad_argument : StatedSetup → Parts → BuffersCall → Bool
+buffers_bad_argument s p (GetArrayElements element r) = false
+buffers_bad_argument s p (ReleaseArrayElements element r b mode) = not (is_mode mode)
+buffers_bad_argument s p (GetStringChars r) = false
+buffers_bad_argument s p (ReleaseStringChars r b) = false
+buffers_bad_argument s p (GetStringUTFChars r) = false
+buffers_bad_argument s p (ReleaseStringUTFChars r b) = false
+buffers_bad_argument s p (GetPrimitiveArrayCritical r) = false
+buffers_bad_argument s p (ReleasePrimitiveArrayCritical r b mode) = not (is_mode mode)
+buffers_bad_argument s p (GetStringCritical r) = false
+buffers_bad_argument s p (ReleaseStringCritical r b) = false
+buffers_bad_argument s p (BufferRead b index) = is_outside_of index (buffer_named p b)
+buffers_bad_argument s p (BufferWrite b index value) = is_wrong_item s p index value (buffer_named p b)
+
 -- 12: a capacity below 0 or above 65,535; an array's length below 0 or above 1,000,000; a region of more than 1,000
 -- items; a unit, an item or a field's value that isn't of its type; bytes that are no modified UTF-8; the name of no
--- class where a native method is entered or a library loaded (JNI Specification, chapter 4, PushLocalFrame, "Accessing
--- Fields of Objects", "String Operations", "Array Operations"; chapter 3, "Modified UTF-8 Strings")
-abbrev pub bad_argument : StatedSetup → Call → Bool
-bad_argument s (Vm call) = vm_bad_argument s call
-bad_argument s (Refs call) = false
-bad_argument s (Frames call) = frames_bad_argument call
-bad_argument s (Exceptions call) = false
-bad_argument s (Objects call) = objects_bad_argument call
-bad_argument s (Strings call) = strings_bad_argument call
-bad_argument s (Arrays call) = arrays_bad_argument call
-bad_argument s (Monitors call) = false
+-- class where a native method is entered or a library loaded; another mode of a release than its three; a place that a
+-- buffer doesn't have (JNI Specification, chapter 4, PushLocalFrame, "Accessing Fields of Objects", "String
+-- Operations", "Array Operations"; chapter 3, "Modified UTF-8 Strings")
+abbrev pub bad_argument : StatedSetup → Parts → Call → Bool
+bad_argument s p (Vm call) = vm_bad_argument s call
+bad_argument s p (Refs call) = false
+bad_argument s p (Frames call) = frames_bad_argument call
+bad_argument s p (Exceptions call) = false
+bad_argument s p (Objects call) = objects_bad_argument call
+bad_argument s p (Strings call) = strings_bad_argument call
+bad_argument s p (Arrays call) = arrays_bad_argument call
+bad_argument s p (Monitors call) = false
+bad_argument s p (Buffers call) = buffers_bad_argument s p call
 
--- 13: a reference deleted through which a critical buffer is open. None can be pinned yet
-abbrev pub pinned : Call → Bool
-pinned (Vm call) = false
-pinned (Refs call) = false
-pinned (Frames call) = false
-pinned (Exceptions call) = false
-pinned (Objects call) = false
-pinned (Strings call) = false
-pinned (Arrays call) = false
-pinned (Monitors call) = false
+abbrev pub refs_pinned : Parts → RefsCall → Bool
+refs_pinned p (NewLocalRef r) = false
+refs_pinned p (NewGlobalRef r) = false
+refs_pinned p (NewWeakGlobalRef r) = false
+refs_pinned p (DeleteLocalRef r) = false
+refs_pinned p (DeleteGlobalRef r) = buffers.pinned_by p.buffers r
+refs_pinned p (DeleteWeakGlobalRef r) = buffers.pinned_by p.buffers r
+refs_pinned p (IsSameObject r u) = false
+refs_pinned p (GetObjectRefType r) = false
+
+-- 13: a global or weak reference deleted through which a critical buffer is open
+abbrev pub pinned : Parts → Call → Bool
+pinned p (Vm call) = false
+pinned p (Refs call) = refs_pinned p call
+pinned p (Frames call) = false
+pinned p (Exceptions call) = false
+pinned p (Objects call) = false
+pinned p (Strings call) = false
+pinned p (Arrays call) = false
+pinned p (Monitors call) = false
+pinned p (Buffers call) = false
 
 abbrev pub is_by : ℕ → Option ℕ → Bool
 is_by t None = false
@@ -334,6 +410,7 @@ not_owner p t (Objects call) = false
 not_owner p t (Strings call) = false
 not_owner p t (Arrays call) = false
 not_owner p t (Monitors call) = monitors_not_owner p t call
+not_owner p t (Buffers call) = false
 
 abbrev pub vm_bad_frame : Parts → ℕ → VmCall → Bool
 vm_bad_frame p t AttachCurrentThread = false
@@ -361,6 +438,7 @@ bad_frame p t (Objects call) = false
 bad_frame p t (Strings call) = false
 bad_frame p t (Arrays call) = false
 bad_frame p t (Monitors call) = false
+bad_frame p t (Buffers call) = false
 
 -- 16: refused native access (JEP 472)
 abbrev pub no_access : StatedSetup → Parts → ℕ → Call → Bool
@@ -394,6 +472,7 @@ not_linked s p (Objects call) = false
 not_linked s p (Strings call) = false
 not_linked s p (Arrays call) = false
 not_linked s p (Monitors call) = false
+not_linked s p (Buffers call) = false
 
 -- the call breaks the rule
 abbrev pub broken : Rule → StatedSetup → Parts → ℕ → Option EnvId → Call → Bool
@@ -407,9 +486,9 @@ broken WrongRefKind s p t env call = wrong_kind call
 broken NullReference s p t env call = null_reference p t call
 broken WrongType s p t env call = wrong_type s p t call
 broken BadField s p t env call = bad_field s p t call
-broken BadBuffer s p t env call = bad_buffer call
-broken BadArgument s p t env call = bad_argument s call
-broken Pinned s p t env call = pinned call
+broken BadBuffer s p t env call = bad_buffer p t call
+broken BadArgument s p t env call = bad_argument s p call
+broken Pinned s p t env call = pinned p call
 broken NotOwner s p t env call = not_owner p t call
 broken BadFrame s p t env call = bad_frame p t call
 broken NoNativeAccess s p t env call = no_access s p t call

@@ -45,6 +45,7 @@ fn class_asked<A: Allocator + Clone>(view: &View<'_, A>, tid: Tid, call: &Call) 
         Call::Strings(_) => None,
         Call::Arrays(_) => None,
         Call::Monitors(_) => None,
+        Call::Buffers(_) => None,
     }
 }
 

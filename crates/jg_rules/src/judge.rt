@@ -6,10 +6,12 @@ ghost use Rattle.jg_rules.specs.Rules.{verdict, own_verdict, is_machine, wrong_c
 ghost use Rattle.jg_rules.specs.View.{ViewStands};
 
 mod arrays;
+mod buffers;
 mod frames;
 mod monitors;
 mod numbers;
 mod objects;
+mod pinned;
 mod references;
 mod strings;
 mod vm;
@@ -17,10 +19,12 @@ mod vm;
 use crate::passing::{passes_critical_region, passes_pending_exception};
 use crate::view::View;
 use arrays::judge_arrays;
+use buffers::judge_buffers;
 use frames::judge_frames;
 use jg_words::{Call, EnvId, Rule, Tid, VmCall};
 use monitors::judge_monitors;
 use objects::judge_objects;
+use pinned::judge_refs;
 use references::judge_references;
 use std::alloc::Allocator;
 use strings::judge_strings;
@@ -60,13 +64,14 @@ fn judge_group<A: Allocator + Clone>(view: &View<'_, A>, tid: Tid, call: &Call) 
 {
     match call {
         Call::Vm(call) => judge_vm(view, tid, call),
-        Call::Refs(_) => None,
+        Call::Refs(call) => judge_refs(view, tid, call),
         Call::Frames(call) => judge_frames(view, tid, call),
         Call::Exceptions(_) => None,
         Call::Objects(call) => judge_objects(view, tid, call),
         Call::Strings(call) => judge_strings(call),
         Call::Arrays(call) => judge_arrays(call),
         Call::Monitors(call) => judge_monitors(view, tid, call),
+        Call::Buffers(call) => judge_buffers(view, tid, call),
     }
 }
 

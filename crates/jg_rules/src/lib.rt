@@ -4,6 +4,7 @@
 
 mod access;
 mod answer;
+mod buffer;
 mod judge;
 mod named;
 mod object;
@@ -13,6 +14,7 @@ mod view;
 
 pub use access::{home_named, is_warned_use};
 pub use answer::Answer;
+pub use buffer::buffer_named;
 pub use judge::first_broken;
 pub use named::{Named, class_meant, field_meant, look_up, native_meant, object_named, the_object};
 pub use object::{class_of, field_of, items_of, length_of, slot_of, slot_place_of, units_of};

@@ -1,11 +1,11 @@
 //! The references among a call's operands, each with the type that its object must have.
 
 ghost use Rattle.std.specs.Prelude.{◌≡◌, ◌∷◌, []};
-ghost use Rattle.jg_rules.specs.Operands.{required as required_operand, listed, operands, vm_operands, refs_operands, frames_operands, exceptions_operands, objects_operands, strings_operands, arrays_operands, monitors_operands};
+ghost use Rattle.jg_rules.specs.Operands.{required as required_operand, listed, operands, vm_operands, refs_operands, frames_operands, exceptions_operands, objects_operands, strings_operands, arrays_operands, monitors_operands, buffers_operands};
 
 use jg_words::{
-    ArraysCall, Call, ExceptionsCall, FramesCall, MonitorsCall, ObjectsCall, Primitive, Ref,
-    RefsCall, StringsCall, VmCall,
+    ArraysCall, BuffersCall, Call, ExceptionsCall, FramesCall, MonitorsCall, ObjectsCall,
+    Primitive, Ref, RefsCall, StringsCall, VmCall,
 };
 
 /// The type that a function declares for an operand (JNI Specification, chapter 3, "Reference
@@ -19,6 +19,7 @@ pub enum ObjectType {
     ThrowableObject,
     StringObject,
     AnyArray,
+    PrimitiveArray,
     ArrayOf(Primitive),
     ObjectArray,
 }
@@ -190,6 +191,39 @@ fn of_monitors(call: &MonitorsCall) -> Operands
     }
 }
 
+fn of_buffers(call: &BuffersCall) -> Operands
+    ensures { listed result ≡ buffers_operands call.now }
+{
+    match call {
+        BuffersCall::GetArrayElements { element, array } => {
+            required(*array, ObjectType::ArrayOf(*element))
+        }
+        BuffersCall::ReleaseArrayElements { element, array, .. } => {
+            required(*array, ObjectType::ArrayOf(*element))
+        }
+        BuffersCall::GetStringChars { string } => required(*string, ObjectType::StringObject),
+        BuffersCall::ReleaseStringChars { string, .. } => {
+            required(*string, ObjectType::StringObject)
+        }
+        BuffersCall::GetStringUTFChars { string } => required(*string, ObjectType::StringObject),
+        BuffersCall::ReleaseStringUTFChars { string, .. } => {
+            required(*string, ObjectType::StringObject)
+        }
+        BuffersCall::GetPrimitiveArrayCritical { array } => {
+            required(*array, ObjectType::PrimitiveArray)
+        }
+        BuffersCall::ReleasePrimitiveArrayCritical { array, .. } => {
+            required(*array, ObjectType::PrimitiveArray)
+        }
+        BuffersCall::GetStringCritical { string } => required(*string, ObjectType::StringObject),
+        BuffersCall::ReleaseStringCritical { string, .. } => {
+            required(*string, ObjectType::StringObject)
+        }
+        BuffersCall::BufferRead { .. } => Operands::Nil,
+        BuffersCall::BufferWrite { .. } => Operands::Nil,
+    }
+}
+
 /// One operand that must name an object of the type.
 fn required(reference: Ref, object_type: ObjectType) -> Operands
     ensures { listed result ≡ required_operand reference object_type ∷ [] }
@@ -210,5 +244,6 @@ pub fn operands_of(call: &Call) -> Operands
         Call::Strings(call) => of_strings(call),
         Call::Arrays(call) => of_arrays(call),
         Call::Monitors(call) => of_monitors(call),
+        Call::Buffers(call) => of_buffers(call),
     }
 }

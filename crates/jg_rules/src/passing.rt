@@ -1,7 +1,26 @@
 ghost use Rattle.std.specs.Prelude.{◌≡◌};
-ghost use Rattle.jg_rules.specs.Passing.{passes_critical, vm_passes_pending, refs_passes_pending, exceptions_passes_pending, monitors_passes_pending, passes_pending};
+ghost use Rattle.jg_rules.specs.Passing.{passes_critical, vm_passes_pending, refs_passes_pending, exceptions_passes_pending, monitors_passes_pending, buffers_passes_critical, buffers_passes_pending, passes_pending};
 
-use jg_words::{ExceptionsFun, Fun, MonitorsFun, RefsFun, VmFun};
+use jg_words::{BuffersFun, ExceptionsFun, Fun, MonitorsFun, RefsFun, VmFun};
+
+fn buffers_passes_critical_region(fun: BuffersFun) -> bool
+    ensures { result ≡ buffers_passes_critical fun }
+{
+    match fun {
+        BuffersFun::GetArrayElements(_) => false,
+        BuffersFun::ReleaseArrayElements(_) => false,
+        BuffersFun::GetStringChars => false,
+        BuffersFun::ReleaseStringChars => false,
+        BuffersFun::GetStringUTFChars => false,
+        BuffersFun::ReleaseStringUTFChars => false,
+        BuffersFun::GetPrimitiveArrayCritical => true,
+        BuffersFun::ReleasePrimitiveArrayCritical => true,
+        BuffersFun::GetStringCritical => true,
+        BuffersFun::ReleaseStringCritical => true,
+        BuffersFun::BufferRead => true,
+        BuffersFun::BufferWrite => true,
+    }
+}
 
 /// Whether the function may be called inside a critical region.
 pub(crate) fn passes_critical_region(fun: Fun) -> bool
@@ -16,6 +35,7 @@ pub(crate) fn passes_critical_region(fun: Fun) -> bool
         Fun::Strings(_) => false,
         Fun::Arrays(_) => false,
         Fun::Monitors(_) => false,
+        Fun::Buffers(fun) => buffers_passes_critical_region(fun),
     }
 }
 
@@ -71,6 +91,25 @@ fn monitors_passes(fun: MonitorsFun) -> bool
     }
 }
 
+fn buffers_passes(fun: BuffersFun) -> bool
+    ensures { result ≡ buffers_passes_pending fun }
+{
+    match fun {
+        BuffersFun::GetArrayElements(_) => false,
+        BuffersFun::ReleaseArrayElements(_) => true,
+        BuffersFun::GetStringChars => false,
+        BuffersFun::ReleaseStringChars => true,
+        BuffersFun::GetStringUTFChars => false,
+        BuffersFun::ReleaseStringUTFChars => true,
+        BuffersFun::GetPrimitiveArrayCritical => false,
+        BuffersFun::ReleasePrimitiveArrayCritical => true,
+        BuffersFun::GetStringCritical => false,
+        BuffersFun::ReleaseStringCritical => true,
+        BuffersFun::BufferRead => true,
+        BuffersFun::BufferWrite => true,
+    }
+}
+
 /// Whether the function may be called with an exception pending.
 pub(crate) fn passes_pending_exception(fun: Fun) -> bool
     ensures { result ≡ passes_pending fun }
@@ -84,5 +123,6 @@ pub(crate) fn passes_pending_exception(fun: Fun) -> bool
         Fun::Strings(_) => false,
         Fun::Arrays(_) => false,
         Fun::Monitors(fun) => monitors_passes(fun),
+        Fun::Buffers(fun) => buffers_passes(fun),
     }
 }

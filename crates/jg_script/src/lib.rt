@@ -12,6 +12,7 @@ mod watched;
 
 pub use handing::HandsOn;
 pub use jg_text::{ScriptFault, read_call, write_entry};
+pub use line::write_text;
 pub use replay::{Verdict, verify};
 pub use run::check;
 pub use run_fault::RunFault;

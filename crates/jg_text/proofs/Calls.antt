@@ -19,8 +19,10 @@ use Rattle.jg_words.specs.declared.fun.arrays.ArraysFun.{ArraysFun}
 use Rattle.jg_words.specs.declared.fun.arrays.ArraysFun.TheVariants as arrays
 use Rattle.jg_words.specs.declared.fun.monitors.MonitorsFun.{MonitorsFun}
 use Rattle.jg_words.specs.declared.fun.monitors.MonitorsFun.TheVariants as monitors
+use Rattle.jg_words.specs.declared.fun.buffers.BuffersFun.{BuffersFun}
+use Rattle.jg_words.specs.declared.fun.buffers.BuffersFun.TheVariants as buffers
 use Rattle.jg_words.specs.declared.call.Call.{Call}
-use Rattle.jg_words.specs.declared.call.Call.TheVariants.{Vm, Refs, Frames, Exceptions, Objects, Strings, Arrays, Monitors}
+use Rattle.jg_words.specs.declared.call.Call.TheVariants.{Vm, Refs, Frames, Exceptions, Objects, Strings, Arrays, Monitors, Buffers}
 use Rattle.jg_words.specs.declared.call.vm.VmCall.{VmCall}
 use Rattle.jg_words.specs.declared.call.vm.VmCall.TheVariants.{AttachCurrentThread, DetachCurrentThread, GetEnv, NativeEnter, NativeLeave, LoadLibrary, RegisterNatives, UnregisterNatives, Collect}
 use Rattle.jg_words.specs.declared.call.refs.RefsCall.{RefsCall}
@@ -37,10 +39,12 @@ use Rattle.jg_words.specs.declared.call.arrays.ArraysCall.{ArraysCall}
 use Rattle.jg_words.specs.declared.call.arrays.ArraysCall.TheVariants.{NewArray, GetArrayLength, GetArrayRegion, SetArrayRegion, NewObjectArray, GetObjectArrayElement, SetObjectArrayElement}
 use Rattle.jg_words.specs.declared.call.monitors.MonitorsCall.{MonitorsCall}
 use Rattle.jg_words.specs.declared.call.monitors.MonitorsCall.TheVariants.{MonitorEnter, MonitorExit}
-use Rattle.jg_words.specs.Call.{fun_of, vm_fun, refs_fun, frames_fun, exceptions_fun, objects_fun, strings_fun, arrays_fun, monitors_fun}
-use Rattle.jg_text.specs.Kinds.{OperandKind, Reference, Number, LongNumber, Numbers, Name, Field}
+use Rattle.jg_words.specs.declared.call.buffers.BuffersCall.{BuffersCall}
+use Rattle.jg_words.specs.declared.call.buffers.BuffersCall.TheVariants.{GetArrayElements, ReleaseArrayElements, GetStringChars, ReleaseStringChars, GetStringUTFChars, ReleaseStringUTFChars, GetPrimitiveArrayCritical, ReleasePrimitiveArrayCritical, GetStringCritical, ReleaseStringCritical, BufferRead, BufferWrite}
+use Rattle.jg_words.specs.Call.{fun_of, vm_fun, refs_fun, frames_fun, exceptions_fun, objects_fun, strings_fun, arrays_fun, monitors_fun, buffers_fun}
+use Rattle.jg_text.specs.Kinds.{OperandKind, Reference, Number, LongNumber, Numbers, Name, Field, Buffer}
 use Rattle.jg_text.specs.Words.{kind_of}
-use Rattle.jg_text.specs.Operands.{operands, operand_kinds, vm_operands, vm_kinds, refs_operands, refs_kinds, frames_operands, frames_kinds, exceptions_operands, exceptions_kinds, objects_operands, objects_kinds, strings_operands, strings_kinds, arrays_operands, arrays_kinds, monitors_operands, monitors_kinds}
+use Rattle.jg_text.specs.Operands.{operands, operand_kinds, vm_operands, vm_kinds, refs_operands, refs_kinds, frames_operands, frames_kinds, exceptions_operands, exceptions_kinds, objects_operands, objects_kinds, strings_operands, strings_kinds, arrays_operands, arrays_kinds, monitors_operands, monitors_kinds, buffers_operands, buffers_kinds}
 
 -- how long an operand of the kind is at most
 abbrev pub longest : OperandKind → ℕ
@@ -50,6 +54,7 @@ longest LongNumber = 42
 longest Numbers = 21002
 longest Name = 255
 longest Field = 42
+longest Buffer = 42
 
 -- how long operands of these kinds are at most, with a space before each
 abbrev pub room : List OperandKind → ℕ
@@ -253,6 +258,49 @@ monitors_same_kinds : (c : MonitorsCall) → map kind_of (monitors_operands c) �
 monitors_same_kinds (MonitorEnter r) = refl
 monitors_same_kinds (MonitorExit r) = refl
 
+buffers_same : (c d : BuffersCall) → buffers_fun c ≡ buffers_fun d → buffers_operands c ≡ buffers_operands d → c ≡ d
+buffers_same (GetArrayElements a0 a1) (GetArrayElements b0 b1) e1 e2 = cc
+buffers_same (ReleaseArrayElements a0 a1 a2 a3) (ReleaseArrayElements b0 b1 b2 b3) e1 e2 = cc
+buffers_same (GetStringChars a0) (GetStringChars b0) e1 e2 = cc
+buffers_same (ReleaseStringChars a0 a1) (ReleaseStringChars b0 b1) e1 e2 = cc
+buffers_same (GetStringUTFChars a0) (GetStringUTFChars b0) e1 e2 = cc
+buffers_same (ReleaseStringUTFChars a0 a1) (ReleaseStringUTFChars b0 b1) e1 e2 = cc
+buffers_same (GetPrimitiveArrayCritical a0) (GetPrimitiveArrayCritical b0) e1 e2 = cc
+buffers_same (ReleasePrimitiveArrayCritical a0 a1 a2) (ReleasePrimitiveArrayCritical b0 b1 b2) e1 e2 = cc
+buffers_same (GetStringCritical a0) (GetStringCritical b0) e1 e2 = cc
+buffers_same (ReleaseStringCritical a0 a1) (ReleaseStringCritical b0 b1) e1 e2 = cc
+buffers_same (BufferRead a0 a1) (BufferRead b0 b1) e1 e2 = cc
+buffers_same (BufferWrite a0 a1 a2) (BufferWrite b0 b1 b2) e1 e2 = cc
+buffers_same _ _ e1 e2 = absurd (cc)
+
+buffers_few : (f : BuffersFun) → room (buffers_kinds f) ≤ 21600
+buffers_few (buffers.GetArrayElements element) = omega arith
+buffers_few (buffers.ReleaseArrayElements element) = omega arith
+buffers_few buffers.GetStringChars = omega arith
+buffers_few buffers.ReleaseStringChars = omega arith
+buffers_few buffers.GetStringUTFChars = omega arith
+buffers_few buffers.ReleaseStringUTFChars = omega arith
+buffers_few buffers.GetPrimitiveArrayCritical = omega arith
+buffers_few buffers.ReleasePrimitiveArrayCritical = omega arith
+buffers_few buffers.GetStringCritical = omega arith
+buffers_few buffers.ReleaseStringCritical = omega arith
+buffers_few buffers.BufferRead = omega arith
+buffers_few buffers.BufferWrite = omega arith
+
+buffers_same_kinds : (c : BuffersCall) → map kind_of (buffers_operands c) ≡ buffers_kinds (buffers_fun c)
+buffers_same_kinds (GetArrayElements element array) = refl
+buffers_same_kinds (ReleaseArrayElements element array buffer mode) = refl
+buffers_same_kinds (GetStringChars string) = refl
+buffers_same_kinds (ReleaseStringChars string buffer) = refl
+buffers_same_kinds (GetStringUTFChars string) = refl
+buffers_same_kinds (ReleaseStringUTFChars string buffer) = refl
+buffers_same_kinds (GetPrimitiveArrayCritical array) = refl
+buffers_same_kinds (ReleasePrimitiveArrayCritical array buffer mode) = refl
+buffers_same_kinds (GetStringCritical string) = refl
+buffers_same_kinds (ReleaseStringCritical string buffer) = refl
+buffers_same_kinds (BufferRead buffer index) = refl
+buffers_same_kinds (BufferWrite buffer index value) = refl
+
 pub same_call : (c d : Call) → fun_of c ≡ fun_of d → operands c ≡ operands d → c ≡ d
 same_call (Vm c) (Vm d) e1 e2 = ap Vm (vm_same c d (cc) e2)
 same_call (Refs c) (Refs d) e1 e2 = ap Refs (refs_same c d (cc) e2)
@@ -262,6 +310,7 @@ same_call (Objects c) (Objects d) e1 e2 = ap Objects (objects_same c d (cc) e2)
 same_call (Strings c) (Strings d) e1 e2 = ap Strings (strings_same c d (cc) e2)
 same_call (Arrays c) (Arrays d) e1 e2 = ap Arrays (arrays_same c d (cc) e2)
 same_call (Monitors c) (Monitors d) e1 e2 = ap Monitors (monitors_same c d (cc) e2)
+same_call (Buffers c) (Buffers d) e1 e2 = ap Buffers (buffers_same c d (cc) e2)
 same_call _ _ e1 e2 = absurd (cc)
 
 pub same_kinds : (c : Call) → map kind_of (operands c) ≡ operand_kinds (fun_of c)
@@ -273,6 +322,7 @@ same_kinds (Objects c) = objects_same_kinds c
 same_kinds (Strings c) = strings_same_kinds c
 same_kinds (Arrays c) = arrays_same_kinds c
 same_kinds (Monitors c) = monitors_same_kinds c
+same_kinds (Buffers c) = buffers_same_kinds c
 
 pub few_operands : (f : Fun) → room (operand_kinds f) ≤ 21600
 few_operands (fun.Vm f) = vm_few f
@@ -283,3 +333,4 @@ few_operands (fun.Objects f) = objects_few f
 few_operands (fun.Strings f) = strings_few f
 few_operands (fun.Arrays f) = arrays_few f
 few_operands (fun.Monitors f) = monitors_few f
+few_operands (fun.Buffers f) = buffers_few f

@@ -16,6 +16,7 @@ use Rattle.std.proofs.lemmas.List.Splits.{slice_split_none}
 use Rattle.jg_words.specs.declared.thread.Tid.{Tid}
 use Rattle.jg_words.specs.declared.thread.EnvId.{EnvId}
 use Rattle.jg_words.specs.declared.object.FieldId.{FieldId}
+use Rattle.jg_words.specs.declared.buffer.BufId.{BufId}
 use Rattle.jg_words.specs.declared.reference.Kind.{Kind}
 use Rattle.jg_words.specs.declared.reference.Kind.TheVariants.{Local, Global, Weak}
 use Rattle.jg_words.specs.declared.reference.Ref.{Ref}
@@ -26,7 +27,7 @@ use Rattle.jg_words.proofs.Names.{named-name_of}
 use Rattle.jg_words.specs.declared.call.Call.{Call}
 use Rattle.jg_words.specs.Call.{fun_of}
 use Rattle.jg_text.specs.Kinds.{OperandKind}
-use Rattle.jg_text.specs.Words.{SpellsOperand, SpellOperands, tid_text, env_text, ref_text, dotted_text, kind_letter, field_text, FitsTid, FitsEnv, FitsRef, FitsField, Word, of_ref, of_number, of_long_number, of_items, of_name, of_field, kind_of, text_of, FitsWord}
+use Rattle.jg_text.specs.Words.{SpellsOperand, SpellOperands, tid_text, env_text, ref_text, dotted_text, kind_letter, buf_text, field_text, FitsTid, FitsEnv, FitsRef, FitsBuf, FitsField, Word, of_ref, of_number, of_long_number, of_items, of_name, of_field, of_buffer, kind_of, text_of, FitsWord}
 use Rattle.jg_text.specs.Operands.{operands, operand_texts, operand_kinds, FitsCall}
 use Rattle.jg_text.specs.Spelling.{spelling, line_fields, Spells}
 use Rattle.jg_text.specs.Faults.{fields, HasFault}
@@ -115,6 +116,13 @@ field_ids_same f g h k e =
     ap (λ (m : ℕ). let v : FieldId = record { class = m; field = f.field } in v) same.0
     ∙ ap (λ (n : ℕ). let v : FieldId = record { class = g.class; field = n } in v) same.1
 
+buf_ids_same : (b c : BufId) → FitsBuf b → FitsBuf c → buf_text b ≡ buf_text c → b ≡ c
+buf_ids_same b c h k e =
+    let numbers : dotted_text b.maker.0 b.n ≡ dotted_text c.maker.0 c.n = cc in
+    let same = dotted_same b.maker.0 b.n c.maker.0 c.n (omega (arith, h.0)) h.1 (omega (arith, k.0)) k.1 numbers in
+    ap (λ (m : ℕ). let v : BufId = record { maker = record { 0 = m }; n = b.n } in v) same.0
+    ∙ ap (λ (n : ℕ). let v : BufId = record { maker = c.maker; n = n } in v) same.1
+
 numbers_same : (xs ys : List ℤ) → Fit xs → Fit ys → map signed_decimal xs ≡ map signed_decimal ys → xs ≡ ys
 numbers_same [] [] f g e = refl
 numbers_same [] (y ∷ ys) f g e = absurd (cc)
@@ -149,6 +157,7 @@ word_same (of_long_number i) (of_long_number j) e h k t = ap of_long_number (sig
 word_same (of_items xs) (of_items ys) e h k t = ap of_items (joined_same xs ys h.1 k.1 (same_inner _ _ t))
 word_same (of_name a) (of_name b) e h k t = ap of_name t
 word_same (of_field f) (of_field g) e h k t = ap of_field (field_ids_same f g h k t)
+word_same (of_buffer b) (of_buffer c) e h k t = ap of_buffer (buf_ids_same b c h k t)
 word_same _ _ e h k t = absurd (cc)
 
 words_same : (us vs : List Word) → map kind_of us ≡ map kind_of vs → AllByRecursion FitsWord us → AllByRecursion FitsWord vs → map text_of us ≡ map text_of vs → us ≡ vs
@@ -190,6 +199,7 @@ seen_word (of_items xs) h = seen_cons 91 (join_with_byte 44 (map signed_decimal 
     ++ 93 ∷ []) (omega arith) (seen_append (join_with_byte 44 (map signed_decimal xs)) (93 ∷ []) (seen_joined xs h.1) (seen_cons 93 [] (omega arith) (All-nil (λ b. IsInRange 33 126 b))))
 seen_word (of_name name) h = λ k d within. let v = h.2 k d within in omega (arith, v)
 seen_word (of_field f) h = seen_cons 70 (dotted_text f.class f.field) (omega arith) (seen_dotted f.class f.field (omega (arith, h.0)) (omega (arith, h.1)))
+seen_word (of_buffer b) h = seen_cons 66 (dotted_text b.maker.0 b.n) (omega arith) (seen_dotted b.maker.0 b.n (omega (arith, h.0)) h.1)
 
 seen_words : (us : List Word) → AllByRecursion FitsWord us → AllByRecursion IsVisible (map text_of us)
 seen_words [] h = tt
@@ -271,6 +281,7 @@ word_short (of_long_number i) h = omega (arith, signed_short i h)
 word_short (of_items xs) h = simp length-append (omega (arith, joined_short xs h.1, h.0))
 word_short (of_name name) h = omega (arith, h.1)
 word_short (of_field f) h = omega (arith, dotted_short f.class f.field (omega (arith, h.0)) (omega (arith, h.1)))
+word_short (of_buffer b) h = omega (arith, dotted_short b.maker.0 b.n (omega (arith, h.0)) h.1)
 
 words_short : (us : List Word) → AllByRecursion FitsWord us → length (after_spaces (map text_of us)) ≤ room (map kind_of us)
 words_short [] h = omega arith
@@ -325,6 +336,7 @@ word_spelt (of_long_number i) h = (i, h, refl)
 word_spelt (of_items xs) h = (xs, h, refl)
 word_spelt (of_name name) h = (name, h, refl)
 word_spelt (of_field f) h = (f, h, refl)
+word_spelt (of_buffer b) h = (b, h, refl)
 
 words_spelt : (us : List Word) → AllByRecursion FitsWord us → SpellOperands (map kind_of us) (map text_of us)
 words_spelt [] h = tt

@@ -12,3 +12,5 @@ pub data OperandKind : Type 0 where
   Name : OperandKind
   -- a field ID
   Field : OperandKind
+  -- a buffer
+  Buffer : OperandKind

@@ -19,8 +19,10 @@ use Rattle.jg_words.specs.declared.fun.arrays.ArraysFun.{ArraysFun}
 use Rattle.jg_words.specs.declared.fun.arrays.ArraysFun.TheVariants as arrays
 use Rattle.jg_words.specs.declared.fun.monitors.MonitorsFun.{MonitorsFun}
 use Rattle.jg_words.specs.declared.fun.monitors.MonitorsFun.TheVariants as monitors
+use Rattle.jg_words.specs.declared.fun.buffers.BuffersFun.{BuffersFun}
+use Rattle.jg_words.specs.declared.fun.buffers.BuffersFun.TheVariants as buffers
 use Rattle.jg_words.specs.declared.call.Call.{Call}
-use Rattle.jg_words.specs.declared.call.Call.TheVariants.{Vm, Refs, Frames, Exceptions, Objects, Strings, Arrays, Monitors}
+use Rattle.jg_words.specs.declared.call.Call.TheVariants.{Vm, Refs, Frames, Exceptions, Objects, Strings, Arrays, Monitors, Buffers}
 use Rattle.jg_words.specs.declared.call.vm.VmCall.{VmCall}
 use Rattle.jg_words.specs.declared.call.vm.VmCall.TheVariants.{AttachCurrentThread, DetachCurrentThread, GetEnv, NativeEnter, NativeLeave, LoadLibrary, RegisterNatives, UnregisterNatives, Collect}
 use Rattle.jg_words.specs.declared.call.refs.RefsCall.{RefsCall}
@@ -37,8 +39,10 @@ use Rattle.jg_words.specs.declared.call.arrays.ArraysCall.{ArraysCall}
 use Rattle.jg_words.specs.declared.call.arrays.ArraysCall.TheVariants.{NewArray, GetArrayLength, GetArrayRegion, SetArrayRegion, NewObjectArray, GetObjectArrayElement, SetObjectArrayElement}
 use Rattle.jg_words.specs.declared.call.monitors.MonitorsCall.{MonitorsCall}
 use Rattle.jg_words.specs.declared.call.monitors.MonitorsCall.TheVariants.{MonitorEnter, MonitorExit}
-use Rattle.jg_text.specs.Words.{Word, of_ref, of_number, of_long_number, of_items, of_name, of_field, text_of, FitsWord}
-use Rattle.jg_text.specs.Kinds.{OperandKind, Reference, Number, LongNumber, Numbers, Name, Field}
+use Rattle.jg_words.specs.declared.call.buffers.BuffersCall.{BuffersCall}
+use Rattle.jg_words.specs.declared.call.buffers.BuffersCall.TheVariants.{GetArrayElements, ReleaseArrayElements, GetStringChars, ReleaseStringChars, GetStringUTFChars, ReleaseStringUTFChars, GetPrimitiveArrayCritical, ReleasePrimitiveArrayCritical, GetStringCritical, ReleaseStringCritical, BufferRead, BufferWrite}
+use Rattle.jg_text.specs.Words.{Word, of_ref, of_number, of_long_number, of_items, of_name, of_field, of_buffer, text_of, FitsWord}
+use Rattle.jg_text.specs.Kinds.{OperandKind, Reference, Number, LongNumber, Numbers, Name, Field, Buffer}
 
 -- the operands of each function, from left to right; the type of a family over the primitive types is part of the
 -- function's name, and no operand
@@ -105,6 +109,20 @@ abbrev pub monitors_kinds : MonitorsFun → List OperandKind
 monitors_kinds monitors.MonitorEnter = Reference ∷ []
 monitors_kinds monitors.MonitorExit = Reference ∷ []
 
+abbrev pub buffers_kinds : BuffersFun → List OperandKind
+buffers_kinds (buffers.GetArrayElements element) = Reference ∷ []
+buffers_kinds (buffers.ReleaseArrayElements element) = Reference ∷ Buffer ∷ Number ∷ []
+buffers_kinds buffers.GetStringChars = Reference ∷ []
+buffers_kinds buffers.ReleaseStringChars = Reference ∷ Buffer ∷ []
+buffers_kinds buffers.GetStringUTFChars = Reference ∷ []
+buffers_kinds buffers.ReleaseStringUTFChars = Reference ∷ Buffer ∷ []
+buffers_kinds buffers.GetPrimitiveArrayCritical = Reference ∷ []
+buffers_kinds buffers.ReleasePrimitiveArrayCritical = Reference ∷ Buffer ∷ Number ∷ []
+buffers_kinds buffers.GetStringCritical = Reference ∷ []
+buffers_kinds buffers.ReleaseStringCritical = Reference ∷ Buffer ∷ []
+buffers_kinds buffers.BufferRead = Buffer ∷ Number ∷ []
+buffers_kinds buffers.BufferWrite = Buffer ∷ Number ∷ LongNumber ∷ []
+
 abbrev pub operand_kinds : Fun → List OperandKind
 operand_kinds (fun.Vm f) = vm_kinds f
 operand_kinds (fun.Refs f) = refs_kinds f
@@ -114,6 +132,7 @@ operand_kinds (fun.Objects f) = objects_kinds f
 operand_kinds (fun.Strings f) = strings_kinds f
 operand_kinds (fun.Arrays f) = arrays_kinds f
 operand_kinds (fun.Monitors f) = monitors_kinds f
+operand_kinds (fun.Buffers f) = buffers_kinds f
 
 -- the operands of a call, from left to right
 abbrev pub vm_operands : VmCall → List Word
@@ -179,6 +198,22 @@ abbrev pub monitors_operands : MonitorsCall → List Word
 monitors_operands (MonitorEnter r) = of_ref r ∷ []
 monitors_operands (MonitorExit r) = of_ref r ∷ []
 
+abbrev pub buffers_operands : BuffersCall → List Word
+buffers_operands (GetArrayElements element array) = of_ref array ∷ []
+buffers_operands (ReleaseArrayElements element array buffer mode) =
+    of_ref array ∷ of_buffer buffer ∷ of_number mode ∷ []
+buffers_operands (GetStringChars string) = of_ref string ∷ []
+buffers_operands (ReleaseStringChars string buffer) = of_ref string ∷ of_buffer buffer ∷ []
+buffers_operands (GetStringUTFChars string) = of_ref string ∷ []
+buffers_operands (ReleaseStringUTFChars string buffer) = of_ref string ∷ of_buffer buffer ∷ []
+buffers_operands (GetPrimitiveArrayCritical array) = of_ref array ∷ []
+buffers_operands (ReleasePrimitiveArrayCritical array buffer mode) =
+    of_ref array ∷ of_buffer buffer ∷ of_number mode ∷ []
+buffers_operands (GetStringCritical string) = of_ref string ∷ []
+buffers_operands (ReleaseStringCritical string buffer) = of_ref string ∷ of_buffer buffer ∷ []
+buffers_operands (BufferRead buffer index) = of_buffer buffer ∷ of_number index ∷ []
+buffers_operands (BufferWrite buffer index value) = of_buffer buffer ∷ of_number index ∷ of_long_number value ∷ []
+
 abbrev pub operands : Call → List Word
 operands (Vm c) = vm_operands c
 operands (Refs c) = refs_operands c
@@ -188,6 +223,7 @@ operands (Objects c) = objects_operands c
 operands (Strings c) = strings_operands c
 operands (Arrays c) = arrays_operands c
 operands (Monitors c) = monitors_operands c
+operands (Buffers c) = buffers_operands c
 
 -- how a call's operands are spelt
 abbrev pub operand_texts : Call → List (List ℕ)

@@ -13,7 +13,7 @@ use Rattle.jg_words.specs.declared.reference.Kind.{Kind}
 use Rattle.jg_words.specs.declared.reference.Kind.TheVariants.{Local, Global, Weak}
 use Rattle.jg_words.specs.declared.reference.Ref.{Ref}
 use Rattle.jg_words.specs.declared.reference.Ref.TheVariants.{Null, To}
-use Rattle.jg_text.specs.Kinds.{OperandKind, Reference, Number, LongNumber, Numbers, Name, Field}
+use Rattle.jg_text.specs.Kinds.{OperandKind, Reference, Number, LongNumber, Numbers, Name, Field, Buffer}
 
 -- `T` and its number
 abbrev pub tid_text : Tid → List ℕ
@@ -60,8 +60,8 @@ abbrev pub name_text : List ℕ → List ℕ
 name_text name = name
 
 -- which of them the program's types can hold: 16 bits for a thread, 64 for a session, a reference's
--- number and an item, 32 for a field's two numbers, and at most 1,000 items; a name's bytes are what
--- `IsName` says
+-- or a buffer's number and an item, 32 for a field's two numbers, and at most 1,000 items; a name's
+-- bytes are what `IsName` says
 abbrev pub FitsTid : Tid → Type 0
 FitsTid t = t.0 < 2 ^ 16
 
@@ -93,6 +93,7 @@ pub data Word : Type 0 where
   of_items : List ℤ → Word
   of_name : List ℕ → Word
   of_field : FieldId → Word
+  of_buffer : BufId → Word
 
 abbrev pub kind_of : Word → OperandKind
 kind_of (of_ref r) = Reference
@@ -101,6 +102,7 @@ kind_of (of_long_number i) = LongNumber
 kind_of (of_items xs) = Numbers
 kind_of (of_name name) = Name
 kind_of (of_field f) = Field
+kind_of (of_buffer b) = Buffer
 
 abbrev pub text_of : Word → List ℕ
 text_of (of_ref r) = ref_text r
@@ -109,6 +111,7 @@ text_of (of_long_number i) = signed_decimal i
 text_of (of_items xs) = items_text xs
 text_of (of_name name) = name_text name
 text_of (of_field f) = field_text f
+text_of (of_buffer b) = buf_text b
 
 abbrev pub FitsWord : Word → Type 0
 FitsWord (of_ref r) = FitsRef r
@@ -117,6 +120,7 @@ FitsWord (of_long_number i) = FitsSigned w64 i
 FitsWord (of_items xs) = FitsItems xs
 FitsWord (of_name name) = IsName name
 FitsWord (of_field f) = FitsField f
+FitsWord (of_buffer b) = FitsBuf b
 
 -- the text spells an operand of the kind
 abbrev pub SpellsOperand : OperandKind → List ℕ → Type 0
@@ -126,6 +130,7 @@ SpellsOperand LongNumber text = (i : ℤ) × FitsSigned w64 i × (text ≡ signe
 SpellsOperand Numbers text = (xs : List ℤ) × FitsItems xs × (text ≡ items_text xs)
 SpellsOperand Name text = (name : List ℕ) × IsName name × (text ≡ name_text name)
 SpellsOperand Field text = (f : FieldId) × FitsField f × (text ≡ field_text f)
+SpellsOperand Buffer text = (b : BufId) × FitsBuf b × (text ≡ buf_text b)
 
 -- each text spells an operand of the kind at its place, and there are as many texts as kinds
 abbrev pub SpellOperands : List OperandKind → List (List ℕ) → Type 0

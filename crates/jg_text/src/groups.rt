@@ -7,6 +7,7 @@ ghost use Rattle.jg_text.specs.Pieces.{SpellCall};
 ghost use Rattle.jg_text.specs.Pieces.{rest_fields, after_spaces, IsOperandFault};
 
 mod arrays;
+mod buffers;
 mod exceptions;
 mod frames;
 mod monitors;
@@ -32,6 +33,7 @@ pub fn arity(fun: Fun) -> usize
         Fun::Strings(fun) => strings::arity(fun),
         Fun::Arrays(fun) => arrays::arity(fun),
         Fun::Monitors(fun) => monitors::arity(fun),
+        Fun::Buffers(fun) => buffers::arity(fun),
     }
 }
 
@@ -50,6 +52,7 @@ pub fn read(alloc: Global, fun: Fun, rest: Option<&[u8]>) -> Result<Call, Script
         Fun::Strings(fun) => strings::read(alloc, fun, rest).map(Call::Strings),
         Fun::Arrays(fun) => arrays::read(alloc, fun, rest).map(Call::Arrays),
         Fun::Monitors(fun) => monitors::read(alloc, fun, rest).map(Call::Monitors),
+        Fun::Buffers(fun) => buffers::read(alloc, fun, rest).map(Call::Buffers),
     }
 }
 
@@ -66,5 +69,6 @@ pub fn write(out: &mut String, call: &Call) -> Result<(), AllocError>
         Call::Strings(call) => strings::write(out, call),
         Call::Arrays(call) => arrays::write(out, call),
         Call::Monitors(call) => monitors::write(out, call),
+        Call::Buffers(call) => buffers::write(out, call),
     }
 }

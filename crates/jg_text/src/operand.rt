@@ -12,8 +12,8 @@ use crate::fault::ScriptFault;
 use crate::list::{push_items, read_items};
 use crate::name::read_name;
 use crate::number::{cut_at, signed_number, small_signed_number};
-use crate::word::{push_field, push_ref, read_field, read_ref};
-use jg_words::{FieldId, Items, Name, Ref};
+use crate::word::{push_buf, push_field, push_ref, read_buf, read_field, read_ref};
+use jg_words::{BufId, FieldId, Items, Name, Ref};
 use std::alloc::{AllocError, Global};
 
 /// A value that stands as an operand in a line, with one spelling.
@@ -155,6 +155,25 @@ impl Operand for FieldId {
 
     fn write(&self, out: &mut String) -> Result<(), AllocError> {
         push_field(out, *self)
+    }
+}
+
+impl Operand for BufId {
+    ghost use Rattle.jg_text.specs.Kinds.{Buffer};
+    ghost use Rattle.jg_text.specs.Words.{buf_text, FitsBuf};
+
+    ghost kind = { Buffer };
+
+    ghost spelt = { buf_text };
+
+    ghost fits = { FitsBuf };
+
+    fn read(_alloc: Global, text: &[u8]) -> Result<Self, ScriptFault> {
+        read_buf(text).ok_or(ScriptFault::BadOperand)
+    }
+
+    fn write(&self, out: &mut String) -> Result<(), AllocError> {
+        push_buf(out, *self)
     }
 }
 

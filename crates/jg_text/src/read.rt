@@ -16,8 +16,8 @@ use crate::groups;
 use crate::operand::cut;
 use crate::word::{read_env, read_tid};
 use jg_words::{
-    ArraysFun, Call, EnvId, ExceptionsFun, FramesFun, Fun, MonitorsFun, ObjectsFun, Primitive,
-    RefsFun, StringsFun, Tid, VmFun,
+    ArraysFun, BuffersFun, Call, EnvId, ExceptionsFun, FramesFun, Fun, MonitorsFun, ObjectsFun,
+    Primitive, RefsFun, StringsFun, Tid, VmFun,
 };
 use std::alloc::Global;
 
@@ -56,7 +56,7 @@ fn count_fields(rest: Option<&[u8]>) -> usize
 }
 
 /// The functions whose names have so many bytes, at each length up to the longest.
-const BY_LENGTH: [&[Fun]; 22] = [
+const BY_LENGTH: [&[Fun]; 30] = [
     &[],
     &[],
     &[],
@@ -70,7 +70,10 @@ const BY_LENGTH: [&[Fun]; 22] = [
         Fun::Objects(ObjectsFun::FindClass),
         Fun::Strings(StringsFun::NewString),
     ],
-    &[Fun::Objects(ObjectsFun::GetFieldID)],
+    &[
+        Fun::Objects(ObjectsFun::GetFieldID),
+        Fun::Buffers(BuffersFun::BufferRead),
+    ],
     &[
         Fun::Vm(VmFun::NativeEnter),
         Fun::Vm(VmFun::NativeLeave),
@@ -81,6 +84,7 @@ const BY_LENGTH: [&[Fun]; 22] = [
         Fun::Objects(ObjectsFun::SetField(Primitive::Int)),
         Fun::Arrays(ArraysFun::NewArray(Primitive::Int)),
         Fun::Monitors(MonitorsFun::MonitorExit),
+        Fun::Buffers(BuffersFun::BufferWrite),
     ],
     &[
         Fun::Refs(RefsFun::NewGlobalRef),
@@ -114,6 +118,7 @@ const BY_LENGTH: [&[Fun]; 22] = [
         Fun::Objects(ObjectsFun::SetObjectField),
         Fun::Arrays(ArraysFun::GetArrayLength),
         Fun::Arrays(ArraysFun::NewObjectArray),
+        Fun::Buffers(BuffersFun::GetStringChars),
     ],
     &[
         Fun::Vm(VmFun::RegisterNatives),
@@ -134,6 +139,8 @@ const BY_LENGTH: [&[Fun]; 22] = [
         Fun::Exceptions(ExceptionsFun::ExceptionDescribe),
         Fun::Arrays(ArraysFun::GetArrayRegion(Primitive::Int)),
         Fun::Arrays(ArraysFun::SetArrayRegion(Primitive::Int)),
+        Fun::Buffers(BuffersFun::GetStringUTFChars),
+        Fun::Buffers(BuffersFun::GetStringCritical),
     ],
     &[
         Fun::Strings(StringsFun::GetStringUTFLength),
@@ -143,6 +150,7 @@ const BY_LENGTH: [&[Fun]; 22] = [
         Fun::Arrays(ArraysFun::SetArrayRegion(Primitive::Byte)),
         Fun::Arrays(ArraysFun::SetArrayRegion(Primitive::Char)),
         Fun::Arrays(ArraysFun::SetArrayRegion(Primitive::Long)),
+        Fun::Buffers(BuffersFun::ReleaseStringChars),
     ],
     &[
         Fun::Vm(VmFun::AttachCurrentThread),
@@ -150,14 +158,40 @@ const BY_LENGTH: [&[Fun]; 22] = [
         Fun::Refs(RefsFun::DeleteWeakGlobalRef),
         Fun::Arrays(ArraysFun::GetArrayRegion(Primitive::Short)),
         Fun::Arrays(ArraysFun::SetArrayRegion(Primitive::Short)),
+        Fun::Buffers(BuffersFun::GetArrayElements(Primitive::Int)),
     ],
-    &[],
+    &[
+        Fun::Buffers(BuffersFun::GetArrayElements(Primitive::Byte)),
+        Fun::Buffers(BuffersFun::GetArrayElements(Primitive::Char)),
+        Fun::Buffers(BuffersFun::GetArrayElements(Primitive::Long)),
+    ],
     &[
         Fun::Arrays(ArraysFun::GetArrayRegion(Primitive::Boolean)),
         Fun::Arrays(ArraysFun::SetArrayRegion(Primitive::Boolean)),
         Fun::Arrays(ArraysFun::GetObjectArrayElement),
         Fun::Arrays(ArraysFun::SetObjectArrayElement),
+        Fun::Buffers(BuffersFun::GetArrayElements(Primitive::Short)),
+        Fun::Buffers(BuffersFun::ReleaseStringUTFChars),
+        Fun::Buffers(BuffersFun::ReleaseStringCritical),
     ],
+    &[],
+    &[
+        Fun::Buffers(BuffersFun::GetArrayElements(Primitive::Boolean)),
+        Fun::Buffers(BuffersFun::ReleaseArrayElements(Primitive::Int)),
+    ],
+    &[
+        Fun::Buffers(BuffersFun::ReleaseArrayElements(Primitive::Byte)),
+        Fun::Buffers(BuffersFun::ReleaseArrayElements(Primitive::Char)),
+        Fun::Buffers(BuffersFun::ReleaseArrayElements(Primitive::Long)),
+    ],
+    &[
+        Fun::Buffers(BuffersFun::ReleaseArrayElements(Primitive::Short)),
+        Fun::Buffers(BuffersFun::GetPrimitiveArrayCritical),
+    ],
+    &[],
+    &[Fun::Buffers(BuffersFun::ReleaseArrayElements(Primitive::Boolean))],
+    &[],
+    &[Fun::Buffers(BuffersFun::ReleasePrimitiveArrayCritical)],
 ];
 
 /// The functions of the table among which those are whose names have so many bytes.

@@ -1,8 +1,8 @@
 use crate::{MAX_LINE, ScriptFault, read_call, write_entry};
 use jg_words::{
-    ArraysCall, BufId, Call, Entry, EnvId, ExceptionsCall, FieldId, FramesCall, Items, Kind, Name,
-    ObjectsCall, Outcome, Primitive, Ref, RefsCall, Reply, Rule, StringsCall, Thrown, Tid, Value,
-    VmCall,
+    ArraysCall, BufId, BuffersCall, Call, Entry, EnvId, ExceptionsCall, FieldId, FramesCall, Items,
+    Kind, MonitorsCall, Name, ObjectsCall, Outcome, Primitive, Ref, RefsCall, Reply, Rule,
+    StringsCall, Thrown, Tid, Value, VmCall,
 };
 use std::alloc::Global;
 use std::test::Fail;
@@ -16,6 +16,11 @@ const LOCAL: Ref = Ref::To {
     kind: Kind::Local,
     maker: Tid(1),
     n: 1,
+};
+
+const BUFFER: BufId = BufId {
+    maker: Tid(1),
+    n: 3,
 };
 
 fn named(alloc: Global, text: &str) -> Result<Name, Fail> {
@@ -109,6 +114,45 @@ fn the_first_fault_of_a_line_is_named(rt: HostRuntime) -> Result<(), Fail> {
         ("T1 E1.1 NewStringUTFs [72]", ScriptFault::UnknownFunction),
         (
             "T1 E1.1 GetFloatArrayRegion L1.1 0 1",
+            ScriptFault::UnknownFunction,
+        ),
+        ("T1 - BufferRead B1.1", ScriptFault::WrongCount),
+        ("T1 - BufferWrite B1.1 0", ScriptFault::WrongCount),
+        (
+            "T1 E1.1 ReleaseIntArrayElements L1.1 B1.1",
+            ScriptFault::WrongCount,
+        ),
+        (
+            "T1 E1.1 ReleaseStringChars L1.1 B1.1 0",
+            ScriptFault::WrongCount,
+        ),
+        ("T1 - BufferRead B1 0", ScriptFault::BadOperand),
+        ("T1 - BufferRead B1. 0", ScriptFault::BadOperand),
+        ("T1 - BufferRead B65536.1 0", ScriptFault::BadOperand),
+        (
+            "T1 - BufferRead B1.18446744073709551616 0",
+            ScriptFault::BadOperand,
+        ),
+        ("T1 - BufferRead B01.1 0", ScriptFault::BadOperand),
+        ("T1 - BufferRead b1.1 0", ScriptFault::BadOperand),
+        ("T1 - BufferRead L1.1 0", ScriptFault::BadOperand),
+        ("T1 - BufferRead null 0", ScriptFault::BadOperand),
+        ("T1 - BufferRead B1.1 2147483648", ScriptFault::BadOperand),
+        (
+            "T1 - BufferWrite B1.1 0 9223372036854775808",
+            ScriptFault::BadOperand,
+        ),
+        ("T1 E1.1 GetIntArrayElements B1.1", ScriptFault::BadOperand),
+        (
+            "T1 E1.1 ReleaseStringCritical B1.1 L1.1",
+            ScriptFault::BadOperand,
+        ),
+        (
+            "T1 E1.1 GetFloatArrayElements L1.1",
+            ScriptFault::UnknownFunction,
+        ),
+        (
+            "T1 E1.1 ReleasePrimitiveArrayCriticals L1.1 B1.1 0",
             ScriptFault::UnknownFunction,
         ),
         ("T1\t- GetEnv", ScriptFault::NotAscii),
@@ -227,6 +271,30 @@ fn a_call_of_each_group_is_read(rt: HostRuntime) -> Result<(), Fail> {
                 values
             })
         ),
+        (
+            "T1 E1.1 MonitorExit L1.1",
+            Some(ENV),
+            Call::Monitors(MonitorsCall::MonitorExit { of: LOCAL })
+        ),
+        (
+            "T1 E1.1 ReleaseShortArrayElements L1.1 B1.3 2",
+            Some(ENV),
+            Call::Buffers(BuffersCall::ReleaseArrayElements {
+                element: Primitive::Short,
+                array: LOCAL,
+                buffer: BUFFER,
+                mode: 2
+            })
+        ),
+        (
+            "T1 - BufferWrite B1.3 0 -7",
+            None,
+            Call::Buffers(BuffersCall::BufferWrite {
+                buffer: BUFFER,
+                index: 0,
+                value: -7
+            })
+        ),
     ]?;
     for (line, env, call) in lines {
         match read_call(rt.alloc(), line.as_bytes()) {
@@ -267,8 +335,13 @@ fn each_function_is_read_and_written_back(rt: HostRuntime) -> Result<(), Fail> {
         "T1 E1.1 LoadLibrary app/Main image",
         "T1 E1.1 RegisterNatives L1.1 run ()V",
         "T1 E1.1 UnregisterNatives L1.1",
+        "T0 - Collect",
         "T1 E1.1 NewLocalRef L1.1",
+        "T1 E1.1 NewGlobalRef L1.1",
+        "T1 E1.1 NewWeakGlobalRef L1.1",
         "T1 E1.1 DeleteLocalRef G2.3",
+        "T1 E1.1 DeleteGlobalRef G2.3",
+        "T1 E1.1 DeleteWeakGlobalRef W1.2",
         "T1 E1.1 IsSameObject L1.1 W1.2",
         "T1 E1.1 GetObjectRefType null",
         "T1 E1.1 PushLocalFrame 16",
@@ -294,6 +367,18 @@ fn each_function_is_read_and_written_back(rt: HostRuntime) -> Result<(), Fail> {
         "T1 E1.1 NewObjectArray 2 L1.2 null",
         "T1 E1.1 GetObjectArrayElement L1.1 1",
         "T1 E1.1 SetObjectArrayElement L1.1 1 L1.3",
+        "T1 E1.1 MonitorEnter L1.1",
+        "T1 E1.1 MonitorExit L1.1",
+        "T1 E1.1 GetStringChars L1.1",
+        "T1 E1.1 ReleaseStringChars L1.1 B1.1",
+        "T1 E1.1 GetStringUTFChars L1.1",
+        "T1 E1.1 ReleaseStringUTFChars null B65535.0",
+        "T1 E1.1 GetPrimitiveArrayCritical L1.1",
+        "T1 E1.1 ReleasePrimitiveArrayCritical L1.1 B1.2 0",
+        "T1 E1.1 GetStringCritical L1.1",
+        "T1 E1.1 ReleaseStringCritical L1.1 B0.18446744073709551615",
+        "T1 - BufferRead B1.1 -1",
+        "T1 - BufferWrite B1.1 3 -9223372036854775808",
     ];
     for line in lines {
         assert!(rt; comes_back(rt.alloc(), line)?, "at `{line}`");
@@ -310,6 +395,10 @@ fn each_function_of_a_family_is_read_and_written_back(rt: HostRuntime) -> Result
         assert!(rt; comes_back(rt.alloc(), &got)?, "at `{got}`");
         let set = format!(in rt.alloc(); "T1 E1.1 Set{element}ArrayRegion L1.1 -1 [0,-9]")?;
         assert!(rt; comes_back(rt.alloc(), &set)?, "at `{set}`");
+        let lent = format!(in rt.alloc(); "T1 E1.1 Get{element}ArrayElements L1.1")?;
+        assert!(rt; comes_back(rt.alloc(), &lent)?, "at `{lent}`");
+        let freed = format!(in rt.alloc(); "T1 E1.1 Release{element}ArrayElements L1.1 B1.1 1")?;
+        assert!(rt; comes_back(rt.alloc(), &freed)?, "at `{freed}`");
         let got = format!(in rt.alloc(); "T1 E1.1 Get{element}Field L1.1 F0.0")?;
         assert!(rt; comes_back(rt.alloc(), &got)?, "at `{got}`");
         let set = format!(in rt.alloc();
@@ -375,13 +464,7 @@ fn each_outcome_has_its_text(rt: HostRuntime) -> Result<(), Fail> {
         (Value::Reference(Ref::Null), "null"),
         (Value::Reference(LOCAL), "L1.1"),
         (Value::Reference(weak), "W65535.2"),
-        (
-            Value::Buffer(BufId {
-                maker: Tid(1),
-                n: 3
-            }),
-            "B1.3"
-        ),
+        (Value::Buffer(BUFFER), "B1.3"),
         (
             Value::Field(FieldId {
                 class: 15,

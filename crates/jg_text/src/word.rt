@@ -2,7 +2,7 @@
 
 ghost use Rattle.std.specs.Prelude.{◌≡◌, ◌≢◌, ℕ, ◌<◌, ◌^◌, ◌∷◌, ◌++◌, IfSome, IfNone, IfOk, IfErr, OnOk, string_bytes};
 ghost use Rattle.jg_text.specs.Words.{tid_text, env_text, ref_text, buf_text, field_text, FitsTid, FitsEnv, FitsRef, FitsBuf, FitsField, SpellsOperand};
-ghost use Rattle.jg_text.specs.Kinds.{OperandKind, Reference, Field};
+ghost use Rattle.jg_text.specs.Kinds.{OperandKind, Reference, Field, Buffer};
 ghost use Rattle.jg_text.specs.Pieces.{IsNoTid, IsNoEnv};
 
 use crate::digits::{push_dotted, push_number};
@@ -66,6 +66,22 @@ pub fn read_ref(text: &[u8]) -> Option<Ref>
     let (maker, n) = dotted(numbers)?;
     Some(Ref::To {
         kind,
+        maker: Tid(maker),
+        n,
+    })
+}
+
+/// The buffer that the text spells.
+pub fn read_buf(text: &[u8]) -> Option<BufId>
+    ensures some { IfSome result (λ b. text.now ≡ buf_text b) }
+    ensures fits { IfSome result FitsBuf }
+    ensures none { IfNone result (¬ SpellsOperand Buffer text.now) }
+{
+    let [b'B', numbers @ ..] = text else {
+        return None;
+    };
+    let (maker, n) = dotted(numbers)?;
+    Some(BufId {
         maker: Tid(maker),
         n,
     })

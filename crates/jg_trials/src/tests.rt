@@ -1,3 +1,4 @@
+mod buffers;
 mod devices;
 mod growths;
 mod guard;

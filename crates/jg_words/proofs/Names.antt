@@ -2,7 +2,7 @@
 use Rattle.std.proofs.Common.{◌≡◌, Some, refl}
 use Rattle.jg_words.specs.declared.object.Primitive.TheVariants.{Boolean, Byte, Char, Short, Int, Long}
 use Rattle.jg_words.specs.declared.fun.Fun.{Fun}
-use Rattle.jg_words.specs.declared.fun.Fun.TheVariants.{Vm, Refs, Frames, Exceptions, Objects, Strings, Arrays, Monitors}
+use Rattle.jg_words.specs.declared.fun.Fun.TheVariants.{Vm, Refs, Frames, Exceptions, Objects, Strings, Arrays, Monitors, Buffers}
 use Rattle.jg_words.specs.declared.fun.vm.VmFun.{VmFun}
 use Rattle.jg_words.specs.declared.fun.vm.VmFun.TheVariants.{AttachCurrentThread, DetachCurrentThread, GetEnv, NativeEnter, NativeLeave, LoadLibrary, RegisterNatives, UnregisterNatives, Collect}
 use Rattle.jg_words.specs.declared.fun.refs.RefsFun.{RefsFun}
@@ -19,6 +19,8 @@ use Rattle.jg_words.specs.declared.fun.arrays.ArraysFun.{ArraysFun}
 use Rattle.jg_words.specs.declared.fun.arrays.ArraysFun.TheVariants.{NewArray, GetArrayLength, GetArrayRegion, SetArrayRegion, NewObjectArray, GetObjectArrayElement, SetObjectArrayElement}
 use Rattle.jg_words.specs.declared.fun.monitors.MonitorsFun.{MonitorsFun}
 use Rattle.jg_words.specs.declared.fun.monitors.MonitorsFun.TheVariants.{MonitorEnter, MonitorExit}
+use Rattle.jg_words.specs.declared.fun.buffers.BuffersFun.{BuffersFun}
+use Rattle.jg_words.specs.declared.fun.buffers.BuffersFun.TheVariants.{GetArrayElements, ReleaseArrayElements, GetStringChars, ReleaseStringChars, GetStringUTFChars, ReleaseStringUTFChars, GetPrimitiveArrayCritical, ReleasePrimitiveArrayCritical, GetStringCritical, ReleaseStringCritical, BufferRead, BufferWrite}
 use Rattle.jg_words.specs.Fun.{name_of, named}
 
 pub named-name_of : (fun : Fun) → named (name_of fun) ≡ Some fun
@@ -94,3 +96,25 @@ named-name_of (Arrays GetObjectArrayElement) = refl
 named-name_of (Arrays SetObjectArrayElement) = refl
 named-name_of (Monitors MonitorEnter) = refl
 named-name_of (Monitors MonitorExit) = refl
+named-name_of (Buffers (GetArrayElements Boolean)) = refl
+named-name_of (Buffers (GetArrayElements Byte)) = refl
+named-name_of (Buffers (GetArrayElements Char)) = refl
+named-name_of (Buffers (GetArrayElements Short)) = refl
+named-name_of (Buffers (GetArrayElements Int)) = refl
+named-name_of (Buffers (GetArrayElements Long)) = refl
+named-name_of (Buffers (ReleaseArrayElements Boolean)) = refl
+named-name_of (Buffers (ReleaseArrayElements Byte)) = refl
+named-name_of (Buffers (ReleaseArrayElements Char)) = refl
+named-name_of (Buffers (ReleaseArrayElements Short)) = refl
+named-name_of (Buffers (ReleaseArrayElements Int)) = refl
+named-name_of (Buffers (ReleaseArrayElements Long)) = refl
+named-name_of (Buffers GetStringChars) = refl
+named-name_of (Buffers ReleaseStringChars) = refl
+named-name_of (Buffers GetStringUTFChars) = refl
+named-name_of (Buffers ReleaseStringUTFChars) = refl
+named-name_of (Buffers GetPrimitiveArrayCritical) = refl
+named-name_of (Buffers ReleasePrimitiveArrayCritical) = refl
+named-name_of (Buffers GetStringCritical) = refl
+named-name_of (Buffers ReleaseStringCritical) = refl
+named-name_of (Buffers BufferRead) = refl
+named-name_of (Buffers BufferWrite) = refl

@@ -17,8 +17,10 @@ use Rattle.jg_words.specs.declared.fun.arrays.ArraysFun.{ArraysFun}
 use Rattle.jg_words.specs.declared.fun.arrays.ArraysFun.TheVariants as arrays
 use Rattle.jg_words.specs.declared.fun.monitors.MonitorsFun.{MonitorsFun}
 use Rattle.jg_words.specs.declared.fun.monitors.MonitorsFun.TheVariants as monitors
+use Rattle.jg_words.specs.declared.fun.buffers.BuffersFun.{BuffersFun}
+use Rattle.jg_words.specs.declared.fun.buffers.BuffersFun.TheVariants as buffers
 use Rattle.jg_words.specs.declared.call.Call.{Call}
-use Rattle.jg_words.specs.declared.call.Call.TheVariants.{Vm, Refs, Frames, Exceptions, Objects, Strings, Arrays, Monitors}
+use Rattle.jg_words.specs.declared.call.Call.TheVariants.{Vm, Refs, Frames, Exceptions, Objects, Strings, Arrays, Monitors, Buffers}
 use Rattle.jg_words.specs.declared.call.vm.VmCall.{VmCall}
 use Rattle.jg_words.specs.declared.call.vm.VmCall.TheVariants.{AttachCurrentThread, DetachCurrentThread, GetEnv, NativeEnter, NativeLeave, LoadLibrary, RegisterNatives, UnregisterNatives, Collect}
 use Rattle.jg_words.specs.declared.call.refs.RefsCall.{RefsCall}
@@ -35,6 +37,8 @@ use Rattle.jg_words.specs.declared.call.arrays.ArraysCall.{ArraysCall}
 use Rattle.jg_words.specs.declared.call.arrays.ArraysCall.TheVariants.{NewArray, GetArrayLength, GetArrayRegion, SetArrayRegion, NewObjectArray, GetObjectArrayElement, SetObjectArrayElement}
 use Rattle.jg_words.specs.declared.call.monitors.MonitorsCall.{MonitorsCall}
 use Rattle.jg_words.specs.declared.call.monitors.MonitorsCall.TheVariants.{MonitorEnter, MonitorExit}
+use Rattle.jg_words.specs.declared.call.buffers.BuffersCall.{BuffersCall}
+use Rattle.jg_words.specs.declared.call.buffers.BuffersCall.TheVariants.{GetArrayElements, ReleaseArrayElements, GetStringChars, ReleaseStringChars, GetStringUTFChars, ReleaseStringUTFChars, GetPrimitiveArrayCritical, ReleasePrimitiveArrayCritical, GetStringCritical, ReleaseStringCritical, BufferRead, BufferWrite}
 
 abbrev pub vm_fun : VmCall → VmFun
 vm_fun AttachCurrentThread = vm.AttachCurrentThread
@@ -99,6 +103,20 @@ abbrev pub monitors_fun : MonitorsCall → MonitorsFun
 monitors_fun (MonitorEnter of) = monitors.MonitorEnter
 monitors_fun (MonitorExit of) = monitors.MonitorExit
 
+abbrev pub buffers_fun : BuffersCall → BuffersFun
+buffers_fun (GetArrayElements element array) = buffers.GetArrayElements element
+buffers_fun (ReleaseArrayElements element array buffer mode) = buffers.ReleaseArrayElements element
+buffers_fun (GetStringChars string) = buffers.GetStringChars
+buffers_fun (ReleaseStringChars string buffer) = buffers.ReleaseStringChars
+buffers_fun (GetStringUTFChars string) = buffers.GetStringUTFChars
+buffers_fun (ReleaseStringUTFChars string buffer) = buffers.ReleaseStringUTFChars
+buffers_fun (GetPrimitiveArrayCritical array) = buffers.GetPrimitiveArrayCritical
+buffers_fun (ReleasePrimitiveArrayCritical array buffer mode) = buffers.ReleasePrimitiveArrayCritical
+buffers_fun (GetStringCritical string) = buffers.GetStringCritical
+buffers_fun (ReleaseStringCritical string buffer) = buffers.ReleaseStringCritical
+buffers_fun (BufferRead buffer index) = buffers.BufferRead
+buffers_fun (BufferWrite buffer index value) = buffers.BufferWrite
+
 abbrev pub fun_of : Call → Fun
 fun_of (Vm call) = fun.Vm (vm_fun call)
 fun_of (Refs call) = fun.Refs (refs_fun call)
@@ -108,3 +126,4 @@ fun_of (Objects call) = fun.Objects (objects_fun call)
 fun_of (Strings call) = fun.Strings (strings_fun call)
 fun_of (Arrays call) = fun.Arrays (arrays_fun call)
 fun_of (Monitors call) = fun.Monitors (monitors_fun call)
+fun_of (Buffers call) = fun.Buffers (buffers_fun call)

@@ -3,7 +3,7 @@ use Rattle.std.specs.Prelude.{ℕ, List, [], ◌∷◌, Option, codes, find, nat
 use Rattle.std.specs.Cmp.Lexicographic.{pointwise}
 use Rattle.jg_words.specs.declared.object.Primitive.TheVariants.{Boolean, Byte, Char, Short, Int, Long}
 use Rattle.jg_words.specs.declared.fun.Fun.{Fun}
-use Rattle.jg_words.specs.declared.fun.Fun.TheVariants.{Vm, Refs, Frames, Exceptions, Objects, Strings, Arrays, Monitors}
+use Rattle.jg_words.specs.declared.fun.Fun.TheVariants.{Vm, Refs, Frames, Exceptions, Objects, Strings, Arrays, Monitors, Buffers}
 use Rattle.jg_words.specs.declared.fun.vm.VmFun.{VmFun}
 use Rattle.jg_words.specs.declared.fun.vm.VmFun.TheVariants.{AttachCurrentThread, DetachCurrentThread, GetEnv, NativeEnter, NativeLeave, LoadLibrary, RegisterNatives, UnregisterNatives, Collect}
 use Rattle.jg_words.specs.declared.fun.refs.RefsFun.{RefsFun}
@@ -20,6 +20,8 @@ use Rattle.jg_words.specs.declared.fun.arrays.ArraysFun.{ArraysFun}
 use Rattle.jg_words.specs.declared.fun.arrays.ArraysFun.TheVariants.{NewArray, GetArrayLength, GetArrayRegion, SetArrayRegion, NewObjectArray, GetObjectArrayElement, SetObjectArrayElement}
 use Rattle.jg_words.specs.declared.fun.monitors.MonitorsFun.{MonitorsFun}
 use Rattle.jg_words.specs.declared.fun.monitors.MonitorsFun.TheVariants.{MonitorEnter, MonitorExit}
+use Rattle.jg_words.specs.declared.fun.buffers.BuffersFun.{BuffersFun}
+use Rattle.jg_words.specs.declared.fun.buffers.BuffersFun.TheVariants.{GetArrayElements, ReleaseArrayElements, GetStringChars, ReleaseStringChars, GetStringUTFChars, ReleaseStringUTFChars, GetPrimitiveArrayCritical, ReleasePrimitiveArrayCritical, GetStringCritical, ReleaseStringCritical, BufferRead, BufferWrite}
 
 abbrev pub vm_name : VmFun → List ℕ
 vm_name AttachCurrentThread = codes "AttachCurrentThread"
@@ -109,6 +111,30 @@ abbrev pub monitors_name : MonitorsFun → List ℕ
 monitors_name MonitorEnter = codes "MonitorEnter"
 monitors_name MonitorExit = codes "MonitorExit"
 
+abbrev pub buffers_name : BuffersFun → List ℕ
+buffers_name (GetArrayElements Boolean) = codes "GetBooleanArrayElements"
+buffers_name (GetArrayElements Byte) = codes "GetByteArrayElements"
+buffers_name (GetArrayElements Char) = codes "GetCharArrayElements"
+buffers_name (GetArrayElements Short) = codes "GetShortArrayElements"
+buffers_name (GetArrayElements Int) = codes "GetIntArrayElements"
+buffers_name (GetArrayElements Long) = codes "GetLongArrayElements"
+buffers_name (ReleaseArrayElements Boolean) = codes "ReleaseBooleanArrayElements"
+buffers_name (ReleaseArrayElements Byte) = codes "ReleaseByteArrayElements"
+buffers_name (ReleaseArrayElements Char) = codes "ReleaseCharArrayElements"
+buffers_name (ReleaseArrayElements Short) = codes "ReleaseShortArrayElements"
+buffers_name (ReleaseArrayElements Int) = codes "ReleaseIntArrayElements"
+buffers_name (ReleaseArrayElements Long) = codes "ReleaseLongArrayElements"
+buffers_name GetStringChars = codes "GetStringChars"
+buffers_name ReleaseStringChars = codes "ReleaseStringChars"
+buffers_name GetStringUTFChars = codes "GetStringUTFChars"
+buffers_name ReleaseStringUTFChars = codes "ReleaseStringUTFChars"
+buffers_name GetPrimitiveArrayCritical = codes "GetPrimitiveArrayCritical"
+buffers_name ReleasePrimitiveArrayCritical = codes "ReleasePrimitiveArrayCritical"
+buffers_name GetStringCritical = codes "GetStringCritical"
+buffers_name ReleaseStringCritical = codes "ReleaseStringCritical"
+buffers_name BufferRead = codes "BufferRead"
+buffers_name BufferWrite = codes "BufferWrite"
+
 abbrev pub name_of : Fun → List ℕ
 name_of (Vm fun) = vm_name fun
 name_of (Refs fun) = refs_name fun
@@ -118,6 +144,7 @@ name_of (Objects fun) = objects_name fun
 name_of (Strings fun) = strings_name fun
 name_of (Arrays fun) = arrays_name fun
 name_of (Monitors fun) = monitors_name fun
+name_of (Buffers fun) = buffers_name fun
 
 -- the first three are no functions of a JNIEnv (JNI Specification, chapter 5, "Invocation API Functions"); the virtual
 -- machine itself collects
@@ -132,6 +159,21 @@ vm_needs_env RegisterNatives = true
 vm_needs_env UnregisterNatives = true
 vm_needs_env Collect = false
 
+-- the memory of a buffer is reached without a JNIEnv
+abbrev pub buffers_needs_env : BuffersFun → Bool
+buffers_needs_env (GetArrayElements element) = true
+buffers_needs_env (ReleaseArrayElements element) = true
+buffers_needs_env GetStringChars = true
+buffers_needs_env ReleaseStringChars = true
+buffers_needs_env GetStringUTFChars = true
+buffers_needs_env ReleaseStringUTFChars = true
+buffers_needs_env GetPrimitiveArrayCritical = true
+buffers_needs_env ReleasePrimitiveArrayCritical = true
+buffers_needs_env GetStringCritical = true
+buffers_needs_env ReleaseStringCritical = true
+buffers_needs_env BufferRead = false
+buffers_needs_env BufferWrite = false
+
 -- the function takes an environment
 abbrev pub needs_env : Fun → Bool
 needs_env (Vm fun) = vm_needs_env fun
@@ -142,6 +184,7 @@ needs_env (Objects fun) = true
 needs_env (Strings fun) = true
 needs_env (Arrays fun) = true
 needs_env (Monitors fun) = true
+needs_env (Buffers fun) = buffers_needs_env fun
 
 abbrev pub all : List Fun
 all =
@@ -167,6 +210,14 @@ all =
     ∷ Arrays (SetArrayRegion Int) ∷ Arrays (SetArrayRegion Long) ∷ Arrays NewObjectArray
     ∷ Arrays GetObjectArrayElement ∷ Arrays SetObjectArrayElement
     ∷ Monitors MonitorEnter ∷ Monitors MonitorExit
+    ∷ Buffers (GetArrayElements Boolean) ∷ Buffers (GetArrayElements Byte) ∷ Buffers (GetArrayElements Char)
+    ∷ Buffers (GetArrayElements Short) ∷ Buffers (GetArrayElements Int) ∷ Buffers (GetArrayElements Long)
+    ∷ Buffers (ReleaseArrayElements Boolean) ∷ Buffers (ReleaseArrayElements Byte)
+    ∷ Buffers (ReleaseArrayElements Char) ∷ Buffers (ReleaseArrayElements Short) ∷ Buffers (ReleaseArrayElements Int)
+    ∷ Buffers (ReleaseArrayElements Long) ∷ Buffers GetStringChars ∷ Buffers ReleaseStringChars
+    ∷ Buffers GetStringUTFChars ∷ Buffers ReleaseStringUTFChars ∷ Buffers GetPrimitiveArrayCritical
+    ∷ Buffers ReleasePrimitiveArrayCritical ∷ Buffers GetStringCritical ∷ Buffers ReleaseStringCritical
+    ∷ Buffers BufferRead ∷ Buffers BufferWrite
     ∷ []
 
 -- the function of that name

@@ -4,6 +4,7 @@ ghost use Rattle.std.specs.Prelude.{◌≡◌, IfOk};
 ghost use Rattle.jg_words.specs.Call.{fun_of};
 
 pub mod arrays;
+pub mod buffers;
 pub mod exceptions;
 pub mod frames;
 pub mod monitors;
@@ -14,6 +15,7 @@ pub mod vm;
 
 use crate::fun::Fun;
 use arrays::ArraysCall;
+use buffers::BuffersCall;
 use exceptions::ExceptionsCall;
 use frames::FramesCall;
 use monitors::MonitorsCall;
@@ -35,6 +37,7 @@ pub enum Call {
     Strings(StringsCall),
     Arrays(ArraysCall),
     Monitors(MonitorsCall),
+    Buffers(BuffersCall),
 }
 
 impl Call {
@@ -51,6 +54,7 @@ impl Call {
             Call::Strings(call) => Fun::Strings(call.fun()),
             Call::Arrays(call) => Fun::Arrays(call.fun()),
             Call::Monitors(call) => Fun::Monitors(call.fun()),
+            Call::Buffers(call) => Fun::Buffers(call.fun()),
         }
     }
 
@@ -67,6 +71,7 @@ impl Call {
             Call::Strings(call) => Ok(Call::Strings(call.try_copy()?)),
             Call::Arrays(call) => Ok(Call::Arrays(call.try_copy()?)),
             Call::Monitors(call) => Ok(Call::Monitors(call.copy())),
+            Call::Buffers(call) => Ok(Call::Buffers(call.copy())),
         }
     }
 }

@@ -5,6 +5,7 @@ ghost use Rattle.jg_words.specs.Fun.{name_of, needs_env, named};
 ghost use Rattle.jg_words.specs.declared.fun.Fun.{Fun as FunOf};
 
 pub mod arrays;
+pub mod buffers;
 pub mod exceptions;
 pub mod frames;
 pub mod monitors;
@@ -15,6 +16,7 @@ pub mod vm;
 
 use crate::object::Primitive;
 use arrays::ArraysFun;
+use buffers::BuffersFun;
 use exceptions::ExceptionsFun;
 use frames::FramesFun;
 use monitors::MonitorsFun;
@@ -34,11 +36,12 @@ pub enum Fun {
     Strings(StringsFun),
     Arrays(ArraysFun),
     Monitors(MonitorsFun),
+    Buffers(BuffersFun),
 }
 
 impl Fun {
     /// All functions, by group.
-    pub const ALL: [Fun; 72] = [
+    pub const ALL: [Fun; 94] = [
         Fun::Vm(VmFun::AttachCurrentThread),
         Fun::Vm(VmFun::DetachCurrentThread),
         Fun::Vm(VmFun::GetEnv),
@@ -111,6 +114,28 @@ impl Fun {
         Fun::Arrays(ArraysFun::SetObjectArrayElement),
         Fun::Monitors(MonitorsFun::MonitorEnter),
         Fun::Monitors(MonitorsFun::MonitorExit),
+        Fun::Buffers(BuffersFun::GetArrayElements(Primitive::Boolean)),
+        Fun::Buffers(BuffersFun::GetArrayElements(Primitive::Byte)),
+        Fun::Buffers(BuffersFun::GetArrayElements(Primitive::Char)),
+        Fun::Buffers(BuffersFun::GetArrayElements(Primitive::Short)),
+        Fun::Buffers(BuffersFun::GetArrayElements(Primitive::Int)),
+        Fun::Buffers(BuffersFun::GetArrayElements(Primitive::Long)),
+        Fun::Buffers(BuffersFun::ReleaseArrayElements(Primitive::Boolean)),
+        Fun::Buffers(BuffersFun::ReleaseArrayElements(Primitive::Byte)),
+        Fun::Buffers(BuffersFun::ReleaseArrayElements(Primitive::Char)),
+        Fun::Buffers(BuffersFun::ReleaseArrayElements(Primitive::Short)),
+        Fun::Buffers(BuffersFun::ReleaseArrayElements(Primitive::Int)),
+        Fun::Buffers(BuffersFun::ReleaseArrayElements(Primitive::Long)),
+        Fun::Buffers(BuffersFun::GetStringChars),
+        Fun::Buffers(BuffersFun::ReleaseStringChars),
+        Fun::Buffers(BuffersFun::GetStringUTFChars),
+        Fun::Buffers(BuffersFun::ReleaseStringUTFChars),
+        Fun::Buffers(BuffersFun::GetPrimitiveArrayCritical),
+        Fun::Buffers(BuffersFun::ReleasePrimitiveArrayCritical),
+        Fun::Buffers(BuffersFun::GetStringCritical),
+        Fun::Buffers(BuffersFun::ReleaseStringCritical),
+        Fun::Buffers(BuffersFun::BufferRead),
+        Fun::Buffers(BuffersFun::BufferWrite),
     ];
 
     /// Its name, as scripts and journals spell it.
@@ -126,6 +151,7 @@ impl Fun {
             Fun::Strings(fun) => fun.name(),
             Fun::Arrays(fun) => fun.name(),
             Fun::Monitors(fun) => fun.name(),
+            Fun::Buffers(fun) => fun.name(),
         }
     }
 
@@ -142,6 +168,7 @@ impl Fun {
             Fun::Strings(_) => true,
             Fun::Arrays(_) => true,
             Fun::Monitors(_) => true,
+            Fun::Buffers(fun) => fun.takes_env(),
         }
     }
 

@@ -47,6 +47,12 @@ fn is_array_class(class: u32) -> bool
     3 <= class && class <= 9
 }
 
+fn is_primitive_array_class(class: u32) -> bool
+    ensures { result ≡ (nat_le 4 class && nat_le class 9) }
+{
+    4 <= class && class <= 9
+}
+
 /// The number of the class of arrays of these items.
 fn array_class(element: Primitive) -> u32
     ensures { result ≡ making.array_class element }
@@ -75,6 +81,7 @@ fn is_object_of<A: Allocator + Clone>(
         ObjectType::ThrowableObject => view.setup.is_throwable(class_of(view, object)),
         ObjectType::StringObject => class_of(view, object) == STRING_CLASS,
         ObjectType::AnyArray => is_array_class(class_of(view, object)),
+        ObjectType::PrimitiveArray => is_primitive_array_class(class_of(view, object)),
         ObjectType::ArrayOf(element) => class_of(view, object) == array_class(element),
         ObjectType::ObjectArray => class_of(view, object) == OBJECT_ARRAY_CLASS,
     }
@@ -130,6 +137,7 @@ fn is_wrong_kind(call: &Call) -> bool
         Call::Strings(_) => false,
         Call::Arrays(_) => false,
         Call::Monitors(_) => false,
+        Call::Buffers(_) => false,
     }
 }
 

@@ -7,7 +7,7 @@ use std::alloc::{Allocator, Global};
 use std::test::Fail;
 
 /// Local 1.1 is to name its first class. The use of both modules is warned of.
-const SETUP: &str = "version = 1
+pub(super) const SETUP: &str = "version = 1
 illegal_native_access = \"warn\"
 [[class]]
 name = \"lib/Tool\"
@@ -24,12 +24,14 @@ const OPENING: [&str; 3] = [
     "T1 E1.1 RegisterNatives L1.1 go ()V",
 ];
 
-/// A call that takes memory, after so many others, which take up what the tables have in reserve.
+/// A call that takes memory, after so many others, which take up what the tables have in reserve;
+/// `opening` is what comes before both, line by line.
 #[derive(Clone, Copy)]
-struct Growth {
-    earlier: &'static str,
-    times: u32,
-    call: &'static str,
+pub(super) struct Growth {
+    pub(super) opening: &'static str,
+    pub(super) earlier: &'static str,
+    pub(super) times: u32,
+    pub(super) call: &'static str,
 }
 
 /// Earlier calls, and then the one whose growths are refused in turn.
@@ -76,7 +78,7 @@ const LASTING: [(&str, &str); 4] = [
     ("T1 E1.1 AllocObject L1.1", "T0 - Collect"),
 ];
 
-fn spelt(alloc: Global, line: &str) -> Result<(Tid, Option<EnvId>, Call), Fail> {
+pub(super) fn spelt(alloc: Global, line: &str) -> Result<(Tid, Option<EnvId>, Call), Fail> {
     match read_call(alloc, line.as_bytes()) {
         Ok(spelt) => Ok(spelt),
         Err(_) => Err(Fail::from("the line spells no call")),
@@ -94,12 +96,17 @@ fn goes_through<A: Allocator + Clone>(
 }
 
 /// Makes the calls before the one that grows, and says whether memory was enough.
-fn opens<A: Allocator + Clone>(
+pub(super) fn opens<A: Allocator + Clone>(
     guard: &mut Guard<A>,
     alloc: Global,
     growth: Growth,
 ) -> Result<bool, Fail> {
     for line in OPENING {
+        if !goes_through(guard, alloc, line)? {
+            return Ok(false);
+        }
+    }
+    for line in growth.opening.lines() {
         if !goes_through(guard, alloc, line)? {
             return Ok(false);
         }
@@ -163,7 +170,7 @@ fn over_a_heap(alloc: Global, room: usize, growth: Growth) -> Result<Met, Fail> 
 }
 
 /// How many bytes of a heap are in use before the call that grows.
-fn used_before(alloc: Global, growth: Growth) -> Result<usize, Fail> {
+pub(super) fn used_before(alloc: Global, growth: Growth) -> Result<usize, Fail> {
     let heap = LocalHeap::new(alloc, 100_000)?;
     let mut guard = Guard::new(&heap, alloc, setup(alloc, SETUP)?, 1000)?;
     if opens(&mut guard, alloc, growth)? {
@@ -193,10 +200,16 @@ fn refusals(alloc: Global, growth: Growth) -> Result<u32, Fail> {
 }
 
 /// The same after up to five of the earlier calls.
-fn refusals_of(alloc: Global, earlier: &'static str, call: &'static str) -> Result<u32, Fail> {
+pub(super) fn refusals_of(
+    alloc: Global,
+    opening: &'static str,
+    earlier: &'static str,
+    call: &'static str,
+) -> Result<u32, Fail> {
     let mut count = 0u32;
     for times in 0..6u32 {
         let growth = Growth {
+            opening,
             earlier,
             times,
             call,
@@ -210,7 +223,7 @@ fn refusals_of(alloc: Global, earlier: &'static str, call: &'static str) -> Resu
 #[test]
 fn every_growth_is_refused_in_turn(rt: HostRuntime) -> Result<(), Fail> {
     for (earlier, call) in GROWING {
-        let count = refusals_of(rt.alloc(), earlier, call)?;
+        let count = refusals_of(rt.alloc(), "", earlier, call)?;
         assert!(rt; count > 0, "`{call}` is never refused");
     }
     Ok(())
@@ -219,7 +232,7 @@ fn every_growth_is_refused_in_turn(rt: HostRuntime) -> Result<(), Fail> {
 #[test]
 fn every_growth_of_what_lasts_is_refused_in_turn(rt: HostRuntime) -> Result<(), Fail> {
     for (earlier, call) in LASTING {
-        let count = refusals_of(rt.alloc(), earlier, call)?;
+        let count = refusals_of(rt.alloc(), "", earlier, call)?;
         assert!(rt; count > 0, "`{call}` is never refused");
     }
     Ok(())

@@ -27,7 +27,7 @@ returns-in-Ok-checked-clause-ends g c =
     let within = subst (λ (l : ℕ). Checks (reads c.args.reader.now.device) (reads c.check-checked.new.reader.device) (holds c.args.out.now.device) (holds c.check-checked.new.writer.device) l h (Ok n))
     c.in-Ok.ensures.limit told in
     let kept = checks_kept _ _ _ _ (holds c.flush.new.self.device) c.args.limit h (Ok n) within c.flush.ensures.kept in
-    (h, legal, (kept.0, kept.1, kept.2, refl, kept.4))
+    (refl, (h, legal, (kept.0, kept.1, kept.2, refl, kept.4)))
 
 pub returns-in-Ok-checked-clause-handed_on : goal.returns-in-Ok-checked-clause-handed_on
 returns-in-Ok-checked-clause-handed_on g c = c.in-Ok-flush.ensures.reached

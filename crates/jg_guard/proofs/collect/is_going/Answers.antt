@@ -1,4 +1,4 @@
-use Rattle.std.proofs.Common.{◌∙◌, ap, sym, arith, subst, ◌<◌}
+use Rattle.std.proofs.Common.{◌∙◌, ap, sym, arith}
 use Rattle.std.specs.Prelude.{not}
 use Rattle.jg_guard.proofs.Collecting.{unmade_stays, gone_stays, unmarked_goes}
 use Rattle.jg_guard.proofs.collect.is_going.Goals as goal

@@ -3,7 +3,7 @@ use Rattle.jg_rules.specs.Parts.{Parts}
 use Rattle.jg_rules.specs.declared.answer.Answer.{Answer}
 use Rattle.jg_rules.specs.Effects.{is_effective}
 use Rattle.jg_policy.specs.Stated.{StatedSetup}
-use Rattle.jg_guard.proofs.Due.{counts, can_settle, after_done, own_proper, stand_done, stand_at}
+use Rattle.jg_guard.proofs.Due.{due_still, can_settle, after_done, own_proper, stand_done, stand_at}
 use Rattle.jg_guard.proofs.perform.do_and_settle.Goals as goal
 
 pub do_call-requires : goal.do_call-requires
@@ -11,15 +11,7 @@ do_call-requires g c =
     let due = c.requires.answered.due in
     let stand = c.in_ok-make_room.ensures.still c.args.setup.now due.events due.stand in
     record {
-      due = record {
-        events = due.events;
-        env = due.env;
-        ordinary = due.ordinary;
-        stated = due.stated;
-        stand = stand;
-        unbroken = due.unbroken;
-        counts = counts due.events _ c.args.tid.0 due.ordinary stand.threads;
-      };
+      due = due_still _ _ _ _ c.args.call.now due stand;
       effective = ap (λ (a : Answer). is_effective a.reply.value) (sym c.requires.answered.answered) ∙ c.requires.effective;
     }
 

@@ -1,0 +1,180 @@
+ghost use Rattle.std.specs.Prelude.{◌≡◌};
+ghost use Rattle.std.specs.Option.{option_map};
+ghost use Rattle.jg_words.specs.declared.call.Call.TheVariants.{Buffers};
+ghost use Rattle.jg_rules.specs.Buffers as buffers_of;
+ghost use Rattle.jg_rules.specs.Parts.{Parts};
+ghost use Rattle.jg_rules.specs.Rules as rules_of;
+ghost use Rattle.jg_rules.specs.Rules.{buffers_bad_buffer, buffers_bad_argument, own_verdict};
+ghost use Rattle.jg_rules.specs.View.{ViewStands};
+
+use super::numbers::fits;
+use crate::buffer::{buffer_named, family_number, is_anothers, is_of_array, is_place, item_type};
+use crate::named::object_named;
+use crate::view::View;
+use jg_buffers::{Family, Info};
+use jg_words::{BufId, BuffersCall, ObjId, Primitive, Ref, Rule, Tid};
+use std::alloc::Allocator;
+
+fn is_of_object(object: Option<ObjId>, info: Info) -> bool
+    ensures { result ≡ buffers_of.is_of_object (option_map (λ o. o.0) object) info }
+{
+    match object {
+        None => true,
+        Some(object) => info.object.0 == object.0,
+    }
+}
+
+fn is_releasable<A: Allocator + Clone>(
+    view: &View<'_, A>,
+    tid: Tid,
+    family: Family,
+    object: Ref,
+    buffer: BufId,
+) -> bool
+    ensures { (p : Parts) → ViewStands view.now p → result ≡ rules_of.is_releasable p tid.0 family object buffer }
+{
+    match buffer_named(view, buffer) {
+        None => false,
+        Some(info) => {
+            let is_own = is_of_object(object_named(view, tid, object), info);
+            family_number(info.family) == family_number(family) && is_own && !is_anothers(tid, info)
+        }
+    }
+}
+
+fn is_readable<A: Allocator + Clone>(view: &View<'_, A>, tid: Tid, buffer: BufId) -> bool
+    ensures { (p : Parts) → ViewStands view.now p → result ≡ rules_of.is_readable p tid.0 buffer }
+{
+    match buffer_named(view, buffer) {
+        None => false,
+        Some(info) => !is_anothers(tid, info),
+    }
+}
+
+fn is_writable<A: Allocator + Clone>(view: &View<'_, A>, tid: Tid, buffer: BufId) -> bool
+    ensures { (p : Parts) → ViewStands view.now p → result ≡ rules_of.is_writable p tid.0 buffer }
+{
+    match buffer_named(view, buffer) {
+        None => false,
+        Some(info) => is_of_array(info.family) && !is_anothers(tid, info),
+    }
+}
+
+/// Whether the call breaks rule 11.
+fn is_bad_buffer<A: Allocator + Clone>(view: &View<'_, A>, tid: Tid, call: &BuffersCall) -> bool
+    ensures { (p : Parts) → ViewStands view.now p → result ≡ buffers_bad_buffer p tid.0 call.now }
+{
+    match call {
+        BuffersCall::GetArrayElements { .. } => false,
+        BuffersCall::ReleaseArrayElements {
+            element,
+            array,
+            buffer,
+            ..
+        } => !is_releasable(view, tid, Family::Elements(*element), *array, *buffer),
+        BuffersCall::GetStringChars { .. } => false,
+        BuffersCall::ReleaseStringChars { string, buffer } => {
+            !is_releasable(view, tid, Family::Chars, *string, *buffer)
+        }
+        BuffersCall::GetStringUTFChars { .. } => false,
+        BuffersCall::ReleaseStringUTFChars { string, buffer } => {
+            !is_releasable(view, tid, Family::UtfChars, *string, *buffer)
+        }
+        BuffersCall::GetPrimitiveArrayCritical { .. } => false,
+        BuffersCall::ReleasePrimitiveArrayCritical { array, buffer, .. } => {
+            !is_releasable(view, tid, Family::ArrayCritical, *array, *buffer)
+        }
+        BuffersCall::GetStringCritical { .. } => false,
+        BuffersCall::ReleaseStringCritical { string, buffer } => {
+            !is_releasable(view, tid, Family::StringCritical, *string, *buffer)
+        }
+        BuffersCall::BufferRead { buffer, .. } => !is_readable(view, tid, *buffer),
+        BuffersCall::BufferWrite { buffer, .. } => !is_writable(view, tid, *buffer),
+    }
+}
+
+fn is_mode(mode: i32) -> bool
+    ensures { result ≡ buffers_of.is_mode mode }
+{
+    0 <= mode && mode <= 2
+}
+
+fn is_outside<A: Allocator + Clone>(view: &View<'_, A>, index: i32, buffer: BufId) -> bool
+    ensures { (p : Parts) → ViewStands view.now p
+        → result ≡ rules_of.is_outside_of index (buffers_of.buffer_named p buffer) }
+{
+    match buffer_named(view, buffer) {
+        None => false,
+        Some(info) => !is_place(index, info.length),
+    }
+}
+
+fn is_of_type(element: Option<Primitive>, value: i64) -> bool
+    ensures { result ≡ buffers_of.is_value_of_type element value }
+{
+    match element {
+        None => true,
+        Some(element) => fits(element, value),
+    }
+}
+
+fn is_wrong_item<A: Allocator + Clone>(
+    view: &View<'_, A>,
+    index: i32,
+    value: i64,
+    buffer: BufId,
+) -> bool
+    ensures { (p : Parts) → ViewStands view.now p → result
+        ≡ rules_of.is_wrong_item view.now.setup.now p index value (buffers_of.buffer_named p buffer) }
+{
+    match buffer_named(view, buffer) {
+        None => false,
+        Some(info) => {
+            let is_right = is_of_type(item_type(view, info), value);
+            !(is_place(index, info.length) && is_right)
+        }
+    }
+}
+
+/// Whether the call breaks rule 12.
+fn is_bad_argument<A: Allocator + Clone>(view: &View<'_, A>, call: &BuffersCall) -> bool
+    ensures { (p : Parts) → ViewStands view.now p
+        → result ≡ buffers_bad_argument view.now.setup.now p call.now }
+{
+    match call {
+        BuffersCall::GetArrayElements { .. } => false,
+        BuffersCall::ReleaseArrayElements { mode, .. } => !is_mode(*mode),
+        BuffersCall::GetStringChars { .. } => false,
+        BuffersCall::ReleaseStringChars { .. } => false,
+        BuffersCall::GetStringUTFChars { .. } => false,
+        BuffersCall::ReleaseStringUTFChars { .. } => false,
+        BuffersCall::GetPrimitiveArrayCritical { .. } => false,
+        BuffersCall::ReleasePrimitiveArrayCritical { mode, .. } => !is_mode(*mode),
+        BuffersCall::GetStringCritical { .. } => false,
+        BuffersCall::ReleaseStringCritical { .. } => false,
+        BuffersCall::BufferRead { buffer, index } => is_outside(view, *index, *buffer),
+        BuffersCall::BufferWrite {
+            buffer,
+            index,
+            value,
+        } => is_wrong_item(view, *index, *value, *buffer),
+    }
+}
+
+/// The first of rules 10 to 17 that a call of the group breaks.
+pub(crate) fn judge_buffers<A: Allocator + Clone>(
+    view: &View<'_, A>,
+    tid: Tid,
+    call: &BuffersCall,
+) -> Option<Rule>
+    ensures { (p : Parts) → ViewStands view.now p
+        → result ≡ own_verdict view.now.setup.now p tid.0 (Buffers call.now) }
+{
+    if is_bad_buffer(view, tid, call) {
+        Some(Rule::BadBuffer)
+    } else if is_bad_argument(view, call) {
+        Some(Rule::BadArgument)
+    } else {
+        None
+    }
+}

@@ -1,0 +1,43 @@
+//! Rule 13: what is deleted isn't what keeps a critical buffer open.
+
+ghost use Rattle.std.specs.Prelude.{◌≡◌};
+ghost use Rattle.jg_words.specs.declared.call.Call.TheVariants.{Refs};
+ghost use Rattle.jg_rules.specs.Parts.{Parts};
+ghost use Rattle.jg_rules.specs.Rules.{own_verdict, refs_pinned};
+ghost use Rattle.jg_rules.specs.View.{ViewStands};
+
+use crate::view::View;
+use jg_words::{RefsCall, Rule, Tid};
+use std::alloc::Allocator;
+
+fn is_pinned<A: Allocator + Clone>(view: &View<'_, A>, call: &RefsCall) -> bool
+    ensures { (p : Parts) → ViewStands view.now p → result ≡ refs_pinned p call.now }
+{
+    match call {
+        RefsCall::NewLocalRef { .. } => false,
+        RefsCall::NewGlobalRef { .. } => false,
+        RefsCall::NewWeakGlobalRef { .. } => false,
+        RefsCall::DeleteLocalRef { .. } => false,
+        RefsCall::DeleteGlobalRef { of } => view.buffers.pinned_by(*of),
+        RefsCall::DeleteWeakGlobalRef { of } => view.buffers.pinned_by(*of),
+        RefsCall::IsSameObject { .. } => false,
+        RefsCall::GetObjectRefType { .. } => false,
+    }
+}
+
+/// The first of rules 10 to 17 that a call of the group breaks.
+pub(crate) fn judge_refs<A: Allocator + Clone>(
+    view: &View<'_, A>,
+    tid: Tid,
+    call: &RefsCall,
+) -> Option<Rule>
+    ensures { (p : Parts) → ViewStands view.now p
+        → result ≡ own_verdict view.now.setup.now p tid.0 (Refs call.now) }
+{
+    let _tid = tid;
+    if is_pinned(view, call) {
+        Some(Rule::Pinned)
+    } else {
+        None
+    }
+}
