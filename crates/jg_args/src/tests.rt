@@ -80,11 +80,12 @@ fn words_are_refused(rt: HostRuntime) -> Result<(), Fail> {
 
 #[test]
 fn texts_are_asked_for(rt: HostRuntime) -> Result<(), Fail> {
-    let texts: [(&[&str], &str); 9] = [
+    let texts: [(&[&str], &str); 10] = [
         (&["--help"], "Usage: jg [OPTIONS] [COMMAND]"),
         (&["check", "--help"], "Usage: jg check [OPTIONS]"),
         (&["--help"], "--setup <FILE>"),
         (&["check", "--help"], "--setup <FILE>"),
+        (&["check", "--help"], "--leaks"),
         (&["--help"], STATUSES),
         (&["check", "-h"], STATUSES),
         (&["verify", "--help"], "Usage: jg verify [OPTIONS]"),

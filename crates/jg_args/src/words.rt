@@ -42,8 +42,7 @@ fn leaks_arg<'a>(alloc: Global) -> Arg<'a> {
     Arg::new(alloc, "leaks")
         .long("leaks")
         .action(ArgAction::SetTrue)
-        .help("lists what is left at the end")
-        .hide(true)
+        .help("lists what is left at the end on standard error")
 }
 
 /// The command line of `jg`.

@@ -18,7 +18,7 @@ use Rattle.jg_buffers.specs.Standing.{rows_of, Stands}
 use Rattle.jg_buffers.proofs.Maps.{at_pair, listed, Keyed, found_row, exact}
 use Rattle.jg_buffers.proofs.Numbers.{no_row, adds_number, keeps_numbers}
 use Rattle.jg_buffers.proofs.Lookups.{row_is, copies_free, pins_critical}
-use Rattle.jg_buffers.proofs.Lists.{first}
+use Rattle.jg_lists.proofs.Lists.{first}
 use Rattle.jg_buffers.proofs.Steps.{first_of, find_first, find_both, rows_elsewhere_opened, rows_elsewhere_closed, rows_elsewhere_wrote, rows_of_copy, rows_of_pin, rows_of_closed, rows_of_written, Agrees, tells, stands_by, nothing_there, closed_law, each_key}
 
 -- what the table sees of its two maps

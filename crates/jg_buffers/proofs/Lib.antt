@@ -1,7 +1,7 @@
 pub mod Callers
 pub mod Calls
 pub mod Counts
-pub mod Lists
+pub mod Listed
 pub mod Lookups
 pub mod Maps
 pub mod Means

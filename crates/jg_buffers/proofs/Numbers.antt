@@ -6,7 +6,7 @@ use Rattle.std.proofs.lemmas.Bool.Decides.{nat_tests}
 use Rattle.std.proofs.lemmas.List.Elements.{recursion_from_All, All-from_recursion}
 use Rattle.jg_buffers.specs.History.{Buffer, is_same}
 use Rattle.jg_buffers.specs.Rows.{Rows, is_buffer, row_of, IsAbove, AddsNumber, KeepsNumbers}
-use Rattle.jg_buffers.proofs.Lists.{Member}
+use Rattle.jg_lists.proofs.Lists.{Member}
 
 numbered : (k i n : ℕ) (rows : List Buffer) (b : Buffer) → AllByRecursion (λ row. row.maker ≡ k → row.n < i) rows → find (is_buffer k n) rows ≡ Some b → n < i
 numbered k i n [] b above found = cc

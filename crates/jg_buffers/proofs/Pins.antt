@@ -13,7 +13,7 @@ use Rattle.jg_buffers.specs.Keys.{pair_cmp}
 use Rattle.jg_buffers.specs.Rows.{is_buffer}
 use Rattle.jg_buffers.specs.Seen.{copy_seen, pin_seen}
 use Rattle.jg_buffers.specs.Standing.{rows_of, Stands}
-use Rattle.jg_buffers.proofs.Lists.{Member, any_member, any_of_filter, member_filter, both_ways, list_any-map}
+use Rattle.jg_lists.proofs.Lists.{Member, any_member, any_of_filter, member_filter, both_ways, list_any-map}
 use Rattle.jg_buffers.proofs.Maps.{listed, found_row}
 use Rattle.jg_buffers.proofs.Steps.{tells}
 use Rattle.jg_buffers.proofs.Lookups.{IsBlind, copies_free, pins_critical, still_open}

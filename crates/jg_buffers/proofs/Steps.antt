@@ -11,7 +11,7 @@ use Rattle.jg_buffers.specs.declared.family.Family.{Family}
 use Rattle.jg_buffers.specs.History.{Buffer, Event, Opened, Wrote, Closed, is_same, is_critical, opened, content, items_now, copy_with, pin_through}
 use Rattle.jg_buffers.specs.Rows.{Rows, is_buffer, row_of}
 use Rattle.jg_buffers.specs.Standing.{rows_of, Stands}
-use Rattle.jg_buffers.proofs.Lists.{first}
+use Rattle.jg_lists.proofs.Lists.{first}
 use Rattle.jg_buffers.proofs.Maps.{listed}
 
 -- ---- items

@@ -1,11 +1,16 @@
 -- The rows that the table keeps.
 use Rattle.std.specs.Prelude.{◌≡◌, ℕ, ℤ, ◌<◌, Bool, if◌then◌else◌, List, [], find, All, Option, Some, None}
 use Rattle.std.specs.Option.{option_map}
+use Rattle.jg_words.specs.declared.buffer.BufId.{BufId}
 use Rattle.jg_buffers.specs.History.{Buffer, is_same, is_critical, info_of}
 
 -- the open buffers, each with its items as they are now
 pub record Rows : Type 0 where
   pub lent : List Buffer
+
+-- the buffer as native code names it
+abbrev pub name_of : Buffer → BufId
+name_of row = record { maker = record { 0 = row.maker }; n = row.n }
 
 abbrev pub is_buffer : ℕ → ℕ → Buffer → Bool
 is_buffer maker n row = is_same maker n row.maker row.n

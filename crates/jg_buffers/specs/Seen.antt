@@ -1,5 +1,6 @@
 -- What contracts see of what the code keeps.
 use Rattle.std.specs.Prelude.{ℕ, ℤ, slice_set, [], length, option_map, Option, Some, None}
+use Rattle.jg_words.specs.declared.buffer.BufId.{BufId}
 use Rattle.jg_words.specs.declared.reference.Ref.{Ref}
 use Rattle.jg_words.specs.declared.reference.Ref.TheVariants.{Null, To}
 use Rattle.jg_words.specs.declared.reference.Kind.{Kind}
@@ -44,6 +45,10 @@ pin_seen e = record {
   length = e.1.length;
   items = [];
 }
+
+-- the buffer that a map has at a key
+abbrev pub key_name : ℕ × ℕ → BufId
+key_name key = record { maker = record { 0 = key.0 }; n = key.1 }
 
 abbrev pub kind_key : Kind → ℕ
 kind_key Local = 1

@@ -1,12 +1,13 @@
-ghost use Rattle.std.specs.Prelude.{◌≡◌, ℕ, ℤ, pos, true, false, ◌<◌, ◌||◌, List, [], ◌∷◌, length, OnOk, OnErr, option_map, slice_get, slice_index_or};
+ghost use Rattle.std.specs.Prelude.{◌≡◌, ℕ, ℤ, pos, true, false, ◌<◌, ◌||◌, ◌++◌, List, [], ◌∷◌, map, length, OnOk, OnErr, option_map, slice_get, slice_index_or};
 ghost use Rattle.jg_buffers.specs.History.{Event, Opened, Wrote, Closed, is_critical, copy_with, pin_through, opened, content, contents, in_critical, pinned_by, pins_object, info_of, is_null};
-ghost use Rattle.jg_buffers.specs.Rows.{AddsNumber, IsAbove, KeepsBuffers, KeepsNumbers, row_of, copy_length, items_in};
+ghost use Rattle.jg_buffers.specs.Rows.{AddsNumber, IsAbove, KeepsBuffers, KeepsNumbers, name_of, row_of, copy_length, items_in};
 ghost use Rattle.jg_buffers.specs.Standing.{Stands};
 ghost use Rattle.jg_lists.specs.Marks.{Marks};
 
 use crate::copied::{Copied, copy_kind, family_of_copy, item_at, set_item};
 use crate::family::Family;
 use crate::info::Info;
+use crate::listing::list_keys;
 use crate::pinned::{Pinned, ViaKey, family_of_pin, mark_objects, names_object, pin_kind, via_key};
 use crate::tally::{count_of, lower, make_room, raise};
 use jg_words::{BufId, ObjId, Ref, Tid};
@@ -235,5 +236,16 @@ impl<A: Allocator + Clone> Buffers<A> {
         ensures { (e : List Event) → Stands self.now e → Marks (pins_object e) marks.old marks.new }
     {
         mark_objects(&self.pins, marks);
+    }
+
+    /// Appends the open copies and then the open pinned buffers, each by thread and then by number.
+    /// Takes time by how many there are. Fails only for want of memory; the list then holds a part
+    /// of them.
+    pub fn list<B: Allocator>(&self, buffers: &mut Vec<BufId, B>) -> Result<(), AllocError>
+        ensures ok { OnOk result (buffers.new.items ≡ buffers.old.items ++ map name_of self.now.lent) }
+    {
+        list_keys(&self.copies, buffers)?;
+        list_keys(&self.pins, buffers)?;
+        Ok(())
     }
 }

@@ -7,6 +7,7 @@ mod buffers;
 mod copied;
 mod family;
 mod info;
+mod listing;
 mod meanings;
 mod pinned;
 mod tally;

@@ -100,6 +100,21 @@ fn marks_of_pins_alone(rt: HostRuntime) -> Result<(), Fail> {
     Ok(())
 }
 
+#[test]
+fn listed(rt: HostRuntime) -> Result<(), Fail> {
+    let mut table = Buffers::new(rt.alloc(), rt.alloc(), rt.alloc(), rt.alloc(), rt.alloc());
+    table.open_pin(T1, 1, ARRAY, Family::ArrayCritical, global(T1, 1), 1)?;
+    table.open_copy(T2, 1, ARRAY, INTS, &[5])?;
+    table.open_copy(T1, 2, ARRAY, INTS, &[5])?;
+    table.open_copy(T1, 3, ARRAY, INTS, &[])?;
+    table.close(buffer(T1, 2));
+    let mut buffers = Vec::new(rt.alloc());
+    table.list(&mut buffers)?;
+    let wanted = [buffer(T1, 3), buffer(T2, 1), buffer(T1, 1)];
+    assert_eq!(rt; buffers.as_slice(), wanted.as_slice());
+    Ok(())
+}
+
 /// Takes the largest block that the heap still has, so that nothing can grow.
 fn ballast<'a>(heap: &'a LocalHeap) -> Vec<u8, &'a LocalHeap> {
     let mut block = Vec::new(heap);

@@ -3,7 +3,7 @@ use Rattle.std.proofs.Common.{◌≡◌, ap, inl, inr, ℕ, Bool, true, false, L
 use Rattle.std.proofs.lemmas.Bool.{false≢true}
 use Rattle.std.proofs.KnownBytes.{Keeps-refl}
 use Rattle.jg_cli.specs.declared.stop.Stop.{Stop}
-use Rattle.jg_cli.specs.declared.stop.Stop.TheVariants.{Arguments, Setup, SetupRead, Run}
+use Rattle.jg_cli.specs.declared.stop.Stop.TheVariants.{Arguments, Setup, SetupRead, Run, Leaks}
 use Rattle.jg_cli.specs.declared.program.Job.{Job}
 use Rattle.jg_cli.specs.StatedBy.{IsRefused}
 use Rattle.jg_cli.specs.Ended.{EndsUnder}
@@ -13,6 +13,7 @@ is_of_setup (Setup fault) = true
 is_of_setup SetupRead = true
 is_of_setup (Run fault) = false
 is_of_setup (Arguments fault) = false
+is_of_setup Leaks = false
 
 refused_by_setup : (known : Option (List ℕ)) (told : ℕ) (stop : Stop) → IsRefused known told stop → is_of_setup stop ≡ true
 unfolding is_of_setup
@@ -29,3 +30,4 @@ ends_refused job known told input bytes limit (Setup fault) refused = (refused, 
 ends_refused job known told input bytes limit SetupRead refused = (Keeps-refl input, Keeps-refl bytes)
 ends_refused job known told input bytes limit (Run fault) refused = absurd (false≢true (refused_by_setup known told (Run fault) refused))
 ends_refused job known told input bytes limit (Arguments fault) refused = absurd (false≢true (refused_by_setup known told (Arguments fault) refused))
+ends_refused job known told input bytes limit Leaks refused = absurd (false≢true (refused_by_setup known told Leaks refused))

@@ -1,5 +1,5 @@
 -- What is said of a journal that differs is written in three parts.
-use Rattle.std.proofs.Common.{◌≡◌, subst, sym, ℕ, List, [], ◌∷◌, ◌++◌, Option, Result, Ok, Err, OnOk, codes}
+use Rattle.std.proofs.Common.{◌≡◌, subst, sym, ℕ, List, [], ◌∷◌, Option, Result, Ok, Err, OnOk, codes}
 use Rattle.std.proofs.KnownBytes.{Appends-trans}
 use Rattle.std.specs.Fmt.{decimal}
 use Rattle.std.specs.Io.KnownBytes.{Appends}

@@ -3,6 +3,7 @@
 #![tactic(auto)]
 
 mod journal;
+mod leaks;
 mod program;
 mod setup_file;
 #[cfg(test)]

@@ -5,8 +5,9 @@ ghost use Rattle.jg_cli.specs.declared.stop.Status.TheVariants.{Done};
 ghost use Rattle.jg_cli.specs.Ended.{Ends, EndsClosed, EndsScript, EndsUnder, IsHandedOn};
 
 use crate::journal::test_journal;
+use crate::leaks::leaks_of;
 use crate::setup_file::{SetupFiles, closed_setup, read_setup, stop_of};
-use crate::stop::{Status, Stop, tell};
+use crate::stop::{Ending, Status, Stop, quietly, tell};
 use jg_args::{ArgsFault, Asked, Task, help_text, read_words};
 use jg_guard::Guard;
 use jg_policy::{Setup, SetupFault};
@@ -17,8 +18,8 @@ use std::io::{BufRead, Read, Write};
 /// What is done with the bytes on standard input.
 #[derive(Clone, Copy, Debug, PartialEq, Eq)]
 pub enum Job {
-    /// They are a script, which is answered.
-    Check,
+    /// They are a script, which is answered; what it leaves behind is said, or not.
+    Check { leaks: bool },
     /// They are a journal, which is tested.
     Verify,
 }
@@ -28,12 +29,13 @@ pub enum Job {
 /// last line that the guard took.
 fn answer_script<R: BufRead, W: HandsOn>(
     alloc: Global,
+    leaks: bool,
     setup: Setup,
     limit: u32,
     reader: &mut Watched<R>,
     out: &mut Watched<W>,
-) -> Result<Status, Stop>
-    ensures ends { EndsScript setup (R.remaining reader.old.device) (R.remaining reader.new.device)
+) -> Result<Ending, Stop>
+    ensures ends { EndsScript leaks setup (R.remaining reader.old.device) (R.remaining reader.new.device)
         (W.contents out.old.device) (W.contents out.new.device) limit result }
     ensures handed_on { IsHandedOn (W.holds_nothing out.new.device) out.new.failed result }
 {
@@ -46,7 +48,13 @@ fn answer_script<R: BufRead, W: HandsOn>(
         return Err(Stop::Run(RunFault::Write { line }));
     };
     match checked {
-        Ok(_) => Ok(Status::Done),
+        Ok(_) => match leaks_of(alloc, leaks, &guard) {
+            Ok(said) => Ok(Ending {
+                status: Status::Done,
+                said,
+            }),
+            Err(_) => Err(Stop::Leaks),
+        },
         Err(fault) => Err(Stop::Run(fault)),
     }
 }
@@ -59,14 +67,14 @@ fn work<R: BufRead, W: HandsOn>(
     limit: u32,
     reader: &mut Watched<R>,
     out: &mut Watched<W>,
-) -> Result<Status, Stop>
+) -> Result<Ending, Stop>
     ensures ends { Ends job setup (R.remaining reader.old.device) (R.remaining reader.new.device)
         (W.contents out.old.device) (W.contents out.new.device) limit result }
     ensures handed_on { IsHandedOn (W.holds_nothing out.new.device) out.new.failed result }
 {
     match job {
-        Job::Check => answer_script(alloc, setup, limit, reader, out),
-        Job::Verify => test_journal(alloc, setup, limit, reader, out),
+        Job::Check { leaks } => answer_script(alloc, leaks, setup, limit, reader, out),
+        Job::Verify => quietly(alloc, test_journal(alloc, setup, limit, reader, out)),
     }
 }
 
@@ -77,7 +85,7 @@ fn work_closed<R: BufRead, W: HandsOn>(
     limit: u32,
     reader: &mut Watched<R>,
     out: &mut Watched<W>,
-) -> Result<Status, Stop>
+) -> Result<Ending, Stop>
     ensures ends { EndsClosed job (R.remaining reader.old.device) (R.remaining reader.new.device)
         (W.contents out.old.device) (W.contents out.new.device) limit result }
     ensures handed_on { IsHandedOn (W.holds_nothing out.new.device) out.new.failed result }
@@ -98,7 +106,7 @@ fn work_under<F: Read, R: BufRead, W: HandsOn>(
     limit: u32,
     reader: &mut Watched<R>,
     out: &mut Watched<W>,
-) -> Result<Status, Stop>
+) -> Result<Ending, Stop>
     ensures ends { EndsUnder job (F.remaining file.old) told (R.remaining reader.old.device)
         (R.remaining reader.new.device) (W.contents out.old.device) (W.contents out.new.device) limit result }
     ensures handed_on { IsHandedOn (W.holds_nothing out.new.device) out.new.failed result }
@@ -126,9 +134,9 @@ fn print_help<W: HandsOn>(alloc: Global, words: &[&str], out: &mut W) -> Result<
 }
 
 /// The job that the words ask for, or none where the program can't do it yet.
-fn job_of(task: Task<'_>) -> Option<Job> {
-    match task {
-        Task::Check => Some(Job::Check),
+fn job_of(asked: &Asked<'_>) -> Option<Job> {
+    match asked.task {
+        Task::Check => Some(Job::Check { leaks: asked.leaks }),
         Task::Verify => Some(Job::Verify),
         Task::Play(_) => None,
     }
@@ -141,8 +149,8 @@ fn serve<S: SetupFiles, R: BufRead + Drop, W: HandsOn + Drop>(
     files: &S,
     reader: R,
     out: W,
-) -> Result<Status, Stop> {
-    let (Some(job), false) = (job_of(asked.task), asked.leaks) else {
+) -> Result<Ending, Stop> {
+    let Some(job) = job_of(&asked) else {
         return Err(Stop::REFUSED);
     };
     let (mut reader, mut out) = (Watched::new(reader), Watched::new(out));
@@ -174,11 +182,14 @@ pub fn run<S: SetupFiles, R: BufRead + Drop, W: HandsOn + Drop, E: Write>(
 ) -> Status {
     let done = match read_words(alloc, words) {
         Ok(asked) => serve(alloc, asked, files, reader, out),
-        Err(ArgsFault::Help) => print_help(alloc, words, &mut out),
+        Err(ArgsFault::Help) => quietly(alloc, print_help(alloc, words, &mut out)),
         Err(fault) => Err(Stop::Arguments(fault)),
     };
     match done {
-        Ok(status) => status,
+        Ok(ending) => {
+            let _ = err.write_all(ending.said.as_bytes());
+            ending.status
+        }
         Err(stop) => tell(stop, err),
     }
 }

@@ -261,3 +261,42 @@ fn the_script_is_answered_under_the_setup(rt: HostRuntime) -> Result<(), Fail> {
     }
     Ok(())
 }
+
+const WITH_NEXT: &str = "version = 1
+illegal_native_access = \"deny\"
+[[class]]
+name = \"app/Main\"
+module = \"app\"
+fields = [{ name = \"count\", type = \"I\" }, { name = \"next\", type = \"Lapp/Main;\" }]
+";
+
+const CHAIN: &str = "T1 - AttachCurrentThread
+T1 E1.1 FindClass app/Main
+T1 E1.1 AllocObject L1.1
+T1 E1.1 AllocObject L1.1
+T1 E1.1 SetObjectField L1.2 F15.2 L1.3
+T1 E1.1 DeleteLocalRef L1.3
+T1 E1.1 DeleteLocalRef L1.2
+T0 - Collect
+T0 - Collect
+T0 - Collect
+T1 E1.1 MonitorEnter L1.1
+";
+
+/// What went at a collection isn't left; a class object's monitor may be.
+#[test]
+fn a_chain_leaves_its_class(rt: HostRuntime) -> Result<(), Fail> {
+    let mut out = Vec::new(rt.alloc());
+    let mut err = Vec::new(rt.alloc());
+    let ended = run(
+        rt.alloc(),
+        &["--setup", "app.toml", "--leaks"],
+        &Drawer::of(WITH_NEXT),
+        CHAIN.as_bytes(),
+        BufWriter::new(rt.alloc(), &mut out)?,
+        &mut err,
+    );
+    assert_eq!(rt; ended, Status::Done);
+    assert!(rt; err.as_slice() == b"leak L1.1\nleak M15 T1 1\n".as_slice());
+    Ok(())
+}

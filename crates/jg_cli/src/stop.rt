@@ -1,8 +1,11 @@
 //! How the program ends.
 
+ghost use Rattle.std.specs.Prelude.{◌≡◌, [], Ok, Err, IfOk, IfErr, string_bytes};
+
 use jg_args::ArgsFault;
 use jg_policy::SetupFault;
 use jg_script::RunFault;
+use std::alloc::Global;
 use std::io::Write;
 use thiserror::Error;
 
@@ -34,6 +37,9 @@ pub enum Stop {
     SetupRead,
     #[error("{0}")]
     Run(RunFault),
+    /// Memory ran out for what is left behind, after the script was answered.
+    #[error("leaks: no memory")]
+    Leaks,
 }
 
 impl Stop {
@@ -57,7 +63,29 @@ impl Stop {
             Stop::Run(RunFault::NoMemory { .. }) => Status::Exhausted,
             Stop::Run(RunFault::Read { .. }) => Status::Device,
             Stop::Run(RunFault::Write { .. }) => Status::Device,
+            Stop::Leaks => Status::Exhausted,
         }
+    }
+}
+
+/// How the program ends when its work is done: with this status, and with this text on standard error.
+#[derive(Debug, Drop)]
+pub struct Ending {
+    pub status: Status,
+    pub said: String,
+}
+
+/// The ending with nothing to say.
+pub fn quietly(alloc: Global, ended: Result<Status, Stop>) -> Result<Ending, Stop>
+    ensures ok { IfOk result (λ ending. (ended ≡ Ok ending.status) × (string_bytes ending.said ≡ [])) }
+    ensures err { IfErr result (λ stop. ended ≡ Err stop) }
+{
+    match ended {
+        Ok(status) => Ok(Ending {
+            status,
+            said: String::new(alloc),
+        }),
+        Err(stop) => Err(stop),
     }
 }
 

@@ -219,16 +219,117 @@ fn failing_devices_end_a_test_of_a_journal(rt: HostRuntime) -> Result<(), Fail> 
     Ok(())
 }
 
+const GLOBALS: &str = "T1 - AttachCurrentThread
+T1 E1.1 NewString []
+T1 E1.1 NewGlobalRef L1.1
+T1 E1.1 NewWeakGlobalRef G1.2
+T1 E1.1 DeleteLocalRef L1.1
+";
+
+const GLOBALS_AND_BUFFER: &str = "T1 - AttachCurrentThread
+T1 E1.1 NewString []
+T1 E1.1 NewGlobalRef L1.1
+T1 E1.1 NewWeakGlobalRef G1.2
+T1 E1.1 DeleteLocalRef L1.1
+T1 E1.1 GetStringChars G1.2
+";
+
+const CLEARED: &str = "T1 - AttachCurrentThread
+T1 E1.1 NewString []
+T1 E1.1 NewWeakGlobalRef L1.1
+T1 E1.1 DeleteLocalRef L1.1
+T0 - Collect
+";
+
+const OF_TWO_THREADS: &str = "T2 - AttachCurrentThread
+T1 - AttachCurrentThread
+T2 E2.1 NewString []
+T2 E2.1 NewGlobalRef L2.1
+T1 E1.1 NewString []
+T1 E1.1 NewWeakGlobalRef L1.1
+T1 E1.1 NewGlobalRef W1.2
+T2 E2.1 MonitorEnter G2.2
+T2 E2.1 MonitorEnter G2.2
+T1 E1.1 MonitorEnter L1.1
+T2 E2.1 GetStringChars L2.1
+T1 E1.1 GetStringCritical G1.3
+";
+
+const LEFT_BY_TWO: &str = "leak L1.1
+leak W1.2
+leak G1.3
+leak L2.1
+leak G2.2
+leak B1.1
+leak B2.1
+leak M15 T2 2
+leak M16 T1 1
+";
+
+/// What stays is said after the answers, in order, and only where it is asked for.
+#[test]
+fn leaks_are_said(rt: HostRuntime) -> Result<(), Fail> {
+    let runs: [(&[&str], &str, &str); 8] = [
+        (&["--leaks"], "", ""),
+        (&["--leaks"], THREE_LINES, "leak L1.1\n"),
+        (&["check"], THREE_LINES, ""),
+        (&["check", "--leaks"], FOUR_LINES, ""),
+        (&["--leaks"], GLOBALS, "leak G1.2\nleak W1.3\n"),
+        (
+            &["--leaks"],
+            GLOBALS_AND_BUFFER,
+            "leak G1.2\nleak W1.3\nleak B1.1\n",
+        ),
+        (&["--leaks"], CLEARED, "leak W1.2\n"),
+        (&["--leaks", "--limit", "12"], OF_TWO_THREADS, LEFT_BY_TWO),
+    ];
+    for (words, script, said) in runs {
+        let mut out = Vec::new(rt.alloc());
+        let mut err = Vec::new(rt.alloc());
+        let writer = BufWriter::new(rt.alloc(), &mut out)?;
+        let ended = run(rt.alloc(), words, &rt, script.as_bytes(), writer, &mut err);
+        assert_eq!(rt; ended, Status::Done, "at {words:?}: {said}");
+        assert!(rt; err.as_slice() == said.as_bytes(), "at {words:?}: {said}");
+    }
+    Ok(())
+}
+
+/// After a fault nothing is said of what stays; where standard error fails, the status is the same.
+#[test]
+fn leaks_change_no_status(rt: HostRuntime) -> Result<(), Fail> {
+    let words = ["--leaks", "--limit", "2"];
+    let script = THREE_LINES.as_bytes();
+    let mut err = Vec::new(rt.alloc());
+    let ended = run(
+        rt.alloc(),
+        &words,
+        &rt,
+        script,
+        Vec::new(rt.alloc()),
+        &mut err,
+    );
+    assert_eq!(rt; ended, Status::Exhausted);
+    assert!(rt; err.as_slice() == b"line 3: limit\n".as_slice());
+    let ended = run(
+        rt.alloc(),
+        &["--leaks"],
+        &rt,
+        script,
+        Vec::new(rt.alloc()),
+        &mut Broken,
+    );
+    assert_eq!(rt; ended, Status::Done);
+    Ok(())
+}
+
 #[test]
 fn what_the_program_cannot_do_is_refused(rt: HostRuntime) -> Result<(), Fail> {
-    let refused: [&[&str]; 8] = [
+    let refused: [&[&str]; 6] = [
         &["--fly"],
         &["fly"],
         &["--limit", "1000001"],
         &["play", "two"],
         &["verify", "--leaks"],
-        &["--setup", "app.toml", "--leaks"],
-        &["--leaks"],
         &["--turns", "3"],
     ];
     for words in refused {

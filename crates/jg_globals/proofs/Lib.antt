@@ -1,5 +1,6 @@
 pub mod Callers
 mod Ended
+mod Listed
 mod Lookups
 mod Means
 mod Numbers

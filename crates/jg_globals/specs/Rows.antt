@@ -1,5 +1,9 @@
 -- The rows that the table keeps.
 use Rattle.std.specs.Prelude.{◌≡◌, ℕ, ◌<◌, Bool, ◌==◌, ◌&&◌, List, All}
+use Rattle.jg_words.specs.declared.reference.Ref.{Ref}
+use Rattle.jg_words.specs.declared.reference.Ref.TheVariants.{To}
+use Rattle.jg_words.specs.declared.reference.Kind.TheVariants.{Global}
+use Rattle.jg_words.specs.declared.reference.Kind.TheVariants as kind
 use Rattle.jg_globals.specs.declared.target.Target.{Target}
 
 -- a global reference in being: number n of its maker, with its object
@@ -23,6 +27,13 @@ is_strong maker n row = (row.maker == maker) && (row.n == n)
 
 abbrev pub is_weak : ℕ → ℕ → Weak → Bool
 is_weak maker n row = (row.maker == maker) && (row.n == n)
+
+-- the reference as native code holds it
+abbrev pub strong_ref : Strong → Ref
+strong_ref row = To Global (record { 0 = row.maker }) row.n
+
+abbrev pub weak_ref : Weak → Ref
+weak_ref row = To kind.Weak (record { 0 = row.maker }) row.n
 
 -- the number is above each number of that maker in the rows, of both kinds
 pub record IsAbove (maker n : ℕ) (rows : Rows) : Type 0 where

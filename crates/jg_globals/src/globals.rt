@@ -1,12 +1,12 @@
 ghost use Rattle.std.specs.Prelude.{◌≡◌, ℕ, List, [], ◌∷◌, ◌++◌, map, OnOk, OnErr};
 ghost use Rattle.jg_globals.specs.History.{Event, MakeStrong, MakeWeak, Clear, strong_target, target_of, deletion, holds_object};
-ghost use Rattle.jg_globals.specs.Rows.{AddsNumber, IsAbove, KeepsNumbers};
+ghost use Rattle.jg_globals.specs.Rows.{AddsNumber, IsAbove, KeepsNumbers, strong_ref, weak_ref};
 ghost use Rattle.jg_globals.specs.Standing.{Stands, IsListOf};
 ghost use Rattle.jg_lists.specs.Marks.{Marks};
 
 use crate::row::{
-    StrongRow, WeakRow, clear_rows, end_strong, end_weak, mark_objects, names_object,
-    object_of_strong, target_of_weak,
+    StrongRow, WeakRow, clear_rows, end_strong, end_weak, list_strong, list_weak, mark_objects,
+    names_object, object_of_strong, target_of_weak,
 };
 use crate::target::Target;
 use jg_words::{Kind, ObjId, Ref, Tid};
@@ -147,6 +147,18 @@ impl<A: Allocator + Clone> Globals<A> {
         ensures { (e : List Event) → Stands self.now e → Marks (holds_object e) marks.old marks.new }
     {
         mark_objects(&self.strong, marks);
+    }
+
+    /// Appends the global references in being and then the weak ones, cleared ones too, each kind in
+    /// the order of making. Takes time by how many there are. Fails only for want of memory; the list
+    /// then holds a part of them.
+    pub fn list<B: Allocator>(&self, refs: &mut Vec<Ref, B>) -> Result<(), AllocError>
+        ensures ok { OnOk result (refs.new.items
+            ≡ refs.old.items ++ (map strong_ref self.now.strong ++ map weak_ref self.now.weak)) }
+    {
+        list_strong(&self.strong, refs)?;
+        list_weak(&self.weak, refs)?;
+        Ok(())
     }
 }
 

@@ -1,12 +1,14 @@
-ghost use Rattle.std.specs.Prelude.{◌≡◌, ◌==◌, ◌&&◌, not, filter, find, option_map};
+ghost use Rattle.std.specs.Prelude.{◌≡◌, ◌==◌, ◌&&◌, ◌++◌, OnOk, map, not, filter, find, option_map};
 ghost use Rattle.std.specs.List.{list_any};
 ghost use Rattle.jg_lists.specs.Marks.{Marks};
 ghost use Rattle.jg_globals.specs.Clearing.{IsCleared, EachCleared};
+ghost use Rattle.jg_globals.specs.Rows.{strong_ref, weak_ref};
+ghost use Rattle.jg_globals.specs.Seen.{strong_seen, weak_seen};
 
 use crate::target::Target;
 use jg_lists::mark;
-use jg_words::ObjId;
-use std::alloc::Allocator;
+use jg_words::{Kind, ObjId, Ref, Tid};
+use std::alloc::{AllocError, Allocator};
 
 /// A global reference in being.
 #[derive(Clone, Copy, Debug, PartialEq, Eq)]
@@ -90,4 +92,35 @@ fn unless_it_meets<F: Fn(ObjId) -> bool>(target: Target, test: &F) -> Target
             }
         }
     }
+}
+
+/// Appends the reference of each row.
+pub fn list_strong<B: Allocator>(
+    rows: &[StrongRow],
+    refs: &mut Vec<Ref, B>,
+) -> Result<(), AllocError>
+    ensures { OnOk result (refs.new.items ≡ refs.old.items ++ map (λ row. strong_ref (strong_seen row)) rows.now) }
+{
+    for row in rows {
+        refs.push(Ref::To {
+            kind: Kind::Global,
+            maker: Tid(row.maker),
+            n: row.n,
+        })?;
+    }
+    Ok(())
+}
+
+/// Appends the reference of each row.
+pub fn list_weak<B: Allocator>(rows: &[WeakRow], refs: &mut Vec<Ref, B>) -> Result<(), AllocError>
+    ensures { OnOk result (refs.new.items ≡ refs.old.items ++ map (λ row. weak_ref (weak_seen row)) rows.now) }
+{
+    for row in rows {
+        refs.push(Ref::To {
+            kind: Kind::Weak,
+            maker: Tid(row.maker),
+            n: row.n,
+        })?;
+    }
+    Ok(())
 }

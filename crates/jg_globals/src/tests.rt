@@ -74,6 +74,23 @@ fn collection(rt: HostRuntime) -> Result<(), Fail> {
     Ok(())
 }
 
+#[test]
+fn listed(rt: HostRuntime) -> Result<(), Fail> {
+    let mut table = Globals::new(rt.alloc(), rt.alloc());
+    table.make_weak(T1, 1, ObjId(1))?;
+    table.make_strong(T1, 2, TEXT)?;
+    table.make_strong(T2, 1, TEXT)?;
+    table.make_strong(T1, 3, ObjId(2))?;
+    table.clear_weak(ObjId(1));
+    table.delete(global(T1, 2));
+    let mut refs = Vec::new(rt.alloc());
+    refs.push(Ref::Null)?;
+    table.list(&mut refs)?;
+    let wanted = [Ref::Null, global(T2, 1), global(T1, 3), weak(T1, 1)];
+    assert_eq!(rt; refs.as_slice(), wanted.as_slice());
+    Ok(())
+}
+
 /// 65,535 threads make a global reference each, and none is refused.
 #[test]
 fn many_makers(rt: HostRuntime) -> Result<(), Fail> {

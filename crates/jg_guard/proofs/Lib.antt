@@ -6,3 +6,5 @@ pub mod Fields
 pub mod Slots
 pub mod Linking
 pub mod Collecting
+pub mod Listing
+pub mod Places

@@ -4,8 +4,12 @@ ghost use Rattle.jg_rules.specs.Legal.{Legal};
 ghost use Rattle.jg_rules.specs.Effects.{parts};
 ghost use Rattle.jg_rules.specs.Rules.{verdict};
 ghost use Rattle.jg_guard.specs.Guard.{Takes};
+ghost use Rattle.jg_guard.specs.Places.{TouchesByLiveReference, TouchesWhatIsThere, LiveIsThere, PinsLive, OwnersAreOne, ReferenceIsNew, DeadStaysDead, LegalWithoutDenied};
+ghost use Rattle.jg_guard.specs.Left.{ListsRefs, RefsAscend, ListsBuffers, BuffersAscend, ListsMonitors};
+ghost use Rattle.jg_monitors.specs.Rows.{Ascends};
 
 use crate::answer::answer_to;
+use crate::leaks::{Leaks, list_buffers, list_refs};
 use crate::perform::perform;
 use crate::tables::Tables;
 use jg_buffers::Buffers;
@@ -198,11 +202,44 @@ impl<A: Allocator + Clone> Guard<A> {
         self.journal.len()
     }
 
-    /// An entry of the journal, the oldest at 0; None past the end.
+    /// An entry of the journal, the oldest at 0; None past the end. Whatever the journal is, at each
+    /// place of it the laws of all legal histories hold: what the entry there touches, it reaches by
+    /// a live reference, and it isn't gone; the reference behind each open critical buffer is live;
+    /// no object has two owners; a reference that is handed out is new; what died stays dead; and
+    /// without the denied entries the journal is legal too.
     pub fn journal_entry(&self, index: usize) -> Option<&Entry>
-        ensures { option_copied result ≡ slice_get (reverse self.now.journal) index }
+        ensures entry { option_copied result ≡ slice_get (reverse self.now.journal) index }
+        ensures touches_live { TouchesByLiveReference self.now index }
+        ensures touches_nothing_gone { TouchesWhatIsThere self.now index }
+        ensures live_not_gone { LiveIsThere self.now index }
+        ensures pins_live { PinsLive self.now index }
+        ensures one_owner { OwnersAreOne self.now index }
+        ensures no_reference_twice { ReferenceIsNew self.now index }
+        ensures no_reference_revived { DeadStaysDead self.now index }
+        ensures without_denied { LegalWithoutDenied self.now index }
     {
         self.journal.get(index)
+    }
+
+    /// What the journal leaves behind: the references that live, the buffers that are open and the
+    /// monitors that are owned, each once, in order. Takes time and memory by how many these are.
+    /// Fails only for want of memory.
+    pub fn leaks(&self) -> Result<Leaks<A>, AllocError>
+        ensures refs { IfOk result (λ left. ListsRefs (parts self.now.setup self.now.journal) left.refs.items) }
+        ensures refs_ascend { IfOk result (λ left. RefsAscend left.refs.items) }
+        ensures buffers { IfOk result (λ left. ListsBuffers (parts self.now.setup self.now.journal)
+            left.buffers.items) }
+        ensures buffers_ascend { IfOk result (λ left. BuffersAscend left.buffers.items) }
+        ensures monitors { IfOk result (λ left. ListsMonitors (parts self.now.setup self.now.journal)
+            left.monitors.items) }
+        ensures monitors_ascend { IfOk result (λ left. Ascends left.monitors.items) }
+    {
+        let alloc = self.tables.alloc.clone()?;
+        Ok(Leaks {
+            refs: list_refs(&self.tables)?,
+            buffers: list_buffers(&self.tables)?,
+            monitors: self.tables.monitors.list(alloc)?,
+        })
     }
 }
 

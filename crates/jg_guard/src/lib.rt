@@ -6,9 +6,12 @@ mod answer;
 mod collect;
 mod groups;
 mod guard;
+mod leaks;
 mod perform;
 mod region;
 mod settle;
 mod tables;
 
 pub use guard::{Guard, Refusal};
+pub use jg_monitors::OwnedMonitor;
+pub use leaks::Leaks;

@@ -18,3 +18,4 @@ pub mod HandsHere
 pub mod StatedFields
 pub mod HandedHere
 pub mod Pinning
+pub mod Touching

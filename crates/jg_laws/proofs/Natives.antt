@@ -69,7 +69,7 @@ never_passed : (rule : Rule) (reply : Reply) → Denied rule ≡ Passed reply �
 never_passed rule reply is = cc
 
 -- a call that passed broke no rule
-passed_unbroken : (s : StatedSetup) (p : Parts) (v : Option Rule) (x : Entry) (reply : Reply) → verdict s p x.tid.0 x.env x.call ≡ v
+pub passed_unbroken : (s : StatedSetup) (p : Parts) (v : Option Rule) (x : Entry) (reply : Reply) → verdict s p x.tid.0 x.env x.call ≡ v
     → x ≡ entry_by v (answer s p x.tid x.call) x.tid x.env x.call → x.outcome ≡ Passed reply → Unbroken s p x.tid.0 x.env x.call
 passed_unbroken s p (Some rule) x reply denied is passed = absurd (never_passed rule reply (sym (ap (λ (y : Entry). y.outcome) is) ∙ passed))
 passed_unbroken s p None x reply none is passed = unbroken s p x.tid.0 x.env x.call none

@@ -1,5 +1,5 @@
 -- The laws of legal histories.
-use Rattle.std.specs.Prelude.{ℕ, ◌≡◌, ◌<◌, ◌≤◌, Bool, true, false, List, ◌∷◌, ◌++◌, length, Some, None}
+use Rattle.std.specs.Prelude.{ℕ, ◌≡◌, ◌<◌, ◌≤◌, ◌⊎◌, Bool, true, false, List, ◌∷◌, ◌++◌, length, Some, None}
 use Rattle.jg_words.specs.declared.thread.Tid.{Tid}
 use Rattle.jg_words.specs.declared.reference.Kind.{Kind}
 use Rattle.jg_words.specs.declared.reference.Ref.{Ref}
@@ -7,6 +7,7 @@ use Rattle.jg_words.specs.declared.reference.Ref.TheVariants.{To}
 use Rattle.jg_words.specs.declared.entry.Reply.{Reply}
 use Rattle.jg_words.specs.declared.entry.Outcome.TheVariants.{Passed}
 use Rattle.jg_words.specs.declared.entry.Entry.{Entry}
+use Rattle.jg_words.specs.declared.call.Call.{Call}
 use Rattle.jg_words.specs.declared.call.Call.TheVariants.{Vm}
 use Rattle.jg_words.specs.declared.call.vm.VmCall.TheVariants.{NativeEnter}
 use Rattle.jg_policy.specs.Stated.{StatedSetup, class_count}
@@ -18,15 +19,18 @@ use Rattle.jg_heap.specs.Making.{Making, Plain, Text, Filled}
 use Rattle.jg_heap.specs.Making.{array_class, class_in, units_in, length_in, IsPrimitiveArray}
 use Rattle.jg_heap.specs.Spelling.{spelt}
 use Rattle.jg_buffers.specs.History as buffers
+use Rattle.jg_buffers.specs.Laws.{CriticalBuffer}
 use Rattle.jg_buffers.specs.declared.family.Family.{Family}
 use Rattle.jg_buffers.specs.declared.family.Family.TheVariants.{Elements, Chars, UtfChars, ArrayCritical, StringCritical}
 use Rattle.jg_monitors.specs.History as monitors
+use Rattle.jg_rules.specs.Parts.{Parts}
 use Rattle.jg_rules.specs.Names.{object_named, next_ref, class_of, length_of, native_meant}
 use Rattle.jg_rules.specs.Access.{refuses}
 use Rattle.jg_rules.specs.Rules.{is_linked}
 use Rattle.jg_rules.specs.Effects.{parts}
 use Rattle.jg_rules.specs.Legal.{Legal, Asked, history_of}
 use Rattle.jg_laws.specs.Histories.{passed_only, reference_of, WasHandedOut, IsHistoryOf}
+use Rattle.jg_laws.specs.Touching.{NamesObject, Touches}
 
 abbrev pub ReferencesCounted : Type 0
 ReferencesCounted = (s : StatedSetup) (h : List Entry) (kind : Kind) (maker : Tid) (n : ℕ) → Legal s h
@@ -135,3 +139,21 @@ abbrev pub PinsAreLive : Type 0
 PinsAreLive = (s : StatedSetup) (h : List Entry) (maker n : ℕ) (b : buffers.Buffer) → Legal s h
     → buffers.opened (parts s h).buffers maker n ≡ Some b → buffers.is_critical b.family ≡ true
     → object_named (parts s h) b.maker b.via ≡ Some b.object
+
+-- t has an open critical buffer of the object, made through a reference that names the object for t
+abbrev pub HasPin : Parts → ℕ → ℕ → Type 0
+HasPin p t o = CriticalBuffer p.buffers (λ b. (b.maker ≡ t) × (b.object ≡ o) × (object_named p t b.via ≡ Some o))
+
+-- a live reference gives t's call the object: an operand of it, or the one behind an open critical buffer of t's own
+abbrev pub Reaches : Parts → ℕ → Call → ℕ → Type 0
+Reaches p t call o = NamesObject p t call o ⊎ HasPin p t o
+
+-- what an entry touches, it reaches by a live reference
+abbrev pub TouchesLive : Type 0
+TouchesLive = (s : StatedSetup) (later : List Entry) (x : Entry) (before : List Entry) (o : ℕ)
+    → Legal s (later ++ x ∷ before) → Touches s before x o → Reaches (parts s before) x.tid.0 x.call o
+
+-- what an entry touches isn't gone
+abbrev pub TouchesNothingGone : Type 0
+TouchesNothingGone = (s : StatedSetup) (later : List Entry) (x : Entry) (before : List Entry) (o : ℕ)
+    → Legal s (later ++ x ∷ before) → Touches s before x o → is_gone s before o ≡ false

@@ -2,7 +2,7 @@
 //! journal can be any legal history within its limit, so each is a law of the guard.
 #![tactic(auto)]
 
-ghost use Rattle.jg_laws.specs.Laws.{ReferencesCounted, NoReferenceTwice, NoReferenceRevived, DeniedEntriesDoNothing, OneHistoryForTheCalls, DepthsAgree, FieldsAreStated, EnteredWasLinked, OneOwner, StaysGone, LiveIsNotGone, BuffersFit, PinsAreLive};
+ghost use Rattle.jg_laws.specs.Laws.{ReferencesCounted, NoReferenceTwice, NoReferenceRevived, DeniedEntriesDoNothing, OneHistoryForTheCalls, DepthsAgree, FieldsAreStated, EnteredWasLinked, OneOwner, StaysGone, LiveIsNotGone, BuffersFit, PinsAreLive, TouchesLive, TouchesNothingGone};
 
 /// The number of a reference that was handed out is below the number of its maker's next one.
 pub fn references_are_counted()
@@ -68,4 +68,17 @@ pub fn buffers_fit()
 /// thread that it was lent to.
 pub fn pins_are_live()
     ensures { PinsAreLive }
+{}
+
+/// What a call that passed touches is named by a live reference: by an operand of the call, or by
+/// the reference through which an open critical buffer of the same thread was made. To touch an
+/// object is to name it by an operand, to write into it, to open a critical buffer of it, or to
+/// release, read or write one that is open.
+pub fn touches_are_live()
+    ensures { TouchesLive }
+{}
+
+/// What went at a collection is touched by no call that passes.
+pub fn nothing_gone_is_touched()
+    ensures { TouchesNothingGone }
 {}

@@ -6,6 +6,7 @@ mod FrameSteps
 mod Gathered
 mod Held
 mod Invariant
+mod Listed
 mod Lives
 mod LocalSteps
 mod Looking

@@ -3,6 +3,9 @@ use Rattle.std.specs.Prelude.{ℕ, Bool, ◌==◌, ◌&&◌, List, find, reverse
 use Rattle.std.specs.Map.{lookup}
 use Rattle.std.specs.Ordering.{nat_cmp}
 use Rattle.std.specs.BTreeMap.{is_at}
+use Rattle.jg_words.specs.declared.reference.Ref.{Ref}
+use Rattle.jg_words.specs.declared.reference.Ref.TheVariants.{To}
+use Rattle.jg_words.specs.declared.reference.Kind.TheVariants.{Local}
 
 -- a live local of a thread: its number and object, with the depth and the number of open frames just after its making
 pub record LocalRow : Type 0 where
@@ -11,6 +14,10 @@ pub record LocalRow : Type 0 where
   pub object : ℕ
   pub depth : ℕ
   pub frame : ℕ
+
+-- the local as native code holds it
+abbrev pub local_ref : LocalRow → Ref
+local_ref row = To Local (record { 0 = row.tid }) row.n
 
 -- an open frame of a thread: 0 for what an activation began with, and those pushed in it count from 1
 pub record FrameRow : Type 0 where

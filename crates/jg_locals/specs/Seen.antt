@@ -7,7 +7,8 @@ use Rattle.std.specs.Ordering.{nat_cmp}
 use Rattle.std.specs.BTreeMap.{BTreeMap, is_at}
 use Rattle.jg_locals.specs.declared.row.Slot.{Slot}
 use Rattle.jg_locals.specs.declared.row.Frame.{Frame}
-use Rattle.jg_locals.specs.Rows.{LocalRow, FrameRow, Rows, Room}
+use Rattle.jg_words.specs.declared.reference.Ref.{Ref}
+use Rattle.jg_locals.specs.Rows.{LocalRow, FrameRow, Rows, Room, local_ref}
 
 abbrev pub last : {X : Type 0} → List X → Option X
 last [] = None
@@ -105,6 +106,9 @@ stack_at t es = lookup (is_at (nat_cmp t)) es
 
 abbrev pub local_row : ℕ → Slot → LocalRow
 local_row t s = record { tid = t; n = s.n; object = s.object; depth = s.depth; frame = s.frame }
+
+abbrev pub slot_ref : ℕ → Slot → Ref
+slot_ref t s = local_ref (local_row t s)
 
 abbrev pub frame_row : ℕ → Frame → FrameRow
 frame_row t f = record { tid = t; depth = f.depth; frame = f.frame }

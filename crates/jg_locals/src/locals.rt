@@ -1,18 +1,18 @@
-ghost use Rattle.std.specs.Prelude.{◌≡◌, ℕ, ◌+◌, ◌<◌, ◌≤◌, ◌↔◌, ◌||◌, List, [], ◌∷◌, OnOk, OnErr, IsOk, IsNone, IsSome, IsTrue, All, false, length, slice_index_or};
+ghost use Rattle.std.specs.Prelude.{◌≡◌, ℕ, ◌+◌, ◌<◌, ◌≤◌, ◌↔◌, ◌||◌, ◌++◌, List, [], ◌∷◌, OnOk, OnErr, IsOk, IsNone, IsSome, IsTrue, All, false, map, length, slice_index_or};
 ghost use Rattle.std.specs.Option.{is_some, option_map};
 ghost use Rattle.jg_locals.specs.History.{Event, by, Start, Make, Push, Enter, Delete, Pop, Leave, End, acts_of, has_session, depth, frames, live, holds_object};
 ghost use Rattle.jg_lists.specs.Marks.{Marks};
 ghost use Rattle.jg_locals.specs.Standing.{Stands};
-ghost use Rattle.jg_locals.specs.Rows.{top, HasFrame, pushed, entered, frame_number, depth_number, spare, spare_starts};
+ghost use Rattle.jg_locals.specs.Rows.{top, local_ref, HasFrame, pushed, entered, frame_number, depth_number, spare, spare_starts};
 ghost use Rattle.jg_locals.specs.Seen.{frame_row};
 
 use crate::row::Frame;
 use crate::stack::Stack;
 use crate::stacks::{
-    add_stack, delete_at, drop_at, is_above_at, leave_at, make_at, mark_named_in, names_object_in,
-    object_at, open_at, pop_at, reserve_at, reserve_frame_at, top_at,
+    add_stack, delete_at, drop_at, is_above_at, leave_at, list_in, make_at, mark_named_in,
+    names_object_in, object_at, open_at, pop_at, reserve_at, reserve_frame_at, top_at,
 };
-use jg_words::{ObjId, Tid};
+use jg_words::{ObjId, Ref, Tid};
 use std::alloc::{AllocError, Allocator, Global};
 use std::collections::BTreeMap;
 use std::marker::Model;
@@ -260,6 +260,14 @@ impl<A: Allocator + Clone> Locals<A> {
         ensures { (e : List Event) → Stands self.now.rows e → Marks (holds_object e) marks.old marks.new }
     {
         mark_named_in(&self.stacks, marks);
+    }
+
+    /// Appends the live locals, by thread and then by number. Takes time by the locals and threads
+    /// that the table keeps. Fails only for want of memory; the list then holds a part of them.
+    pub fn list<B: Allocator>(&self, refs: &mut Vec<Ref, B>) -> Result<(), AllocError>
+        ensures ok { OnOk result (refs.new.items ≡ refs.old.items ++ map local_ref self.now.rows.locals) }
+    {
+        list_in(&self.stacks, refs)
     }
 }
 

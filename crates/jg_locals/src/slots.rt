@@ -1,15 +1,16 @@
 //! One thread's list of locals, which ascends by number, and its list of frames.
 
-ghost use Rattle.std.specs.Prelude.{◌≡◌, ◌≢◌, ◌≤◌, ◌<◌, ◌-◌, ◌&&◌, ◌==◌, ◌||◌, ◌↔◌, ℕ, IsTrue, List, All, Some, None, MatchOption, true, false, not, nat_le, filter, find, length, slice_index_or, vec_len, vec_capacity};
+ghost use Rattle.std.specs.Prelude.{◌≡◌, ◌≢◌, ◌≤◌, ◌<◌, ◌-◌, ◌&&◌, ◌==◌, ◌||◌, ◌++◌, ◌∷◌, ◌↔◌, ℕ, [], IsTrue, List, All, OnOk, map, Some, None, MatchOption, true, false, not, nat_le, filter, find, length, slice_index_or, vec_len, vec_capacity};
 ghost use Rattle.std.specs.Option.{option_map, option_to_list};
 ghost use Rattle.std.specs.List.{AllByRecursion, list_any};
 ghost use Rattle.jg_lists.specs.Marks.{Marks};
-ghost use Rattle.jg_locals.specs.Seen.{Chain, is_before, is_under, is_live, last, passes, stays, is_below, is_from, IsBelowAll, Sound};
+ghost use Rattle.jg_locals.specs.Seen.{Chain, is_before, is_under, is_live, last, passes, stays, is_below, is_from, IsBelowAll, Sound, slot_ref};
 ghost use Rattle.jg_locals.specs.declared.row.Frame.{Frame};
 
 use crate::row::{Frame, Slot};
 use jg_lists::mark;
-use std::alloc::Allocator;
+use jg_words::{Kind, Ref, Tid};
+use std::alloc::{AllocError, Allocator};
 
 /// Where the local `n` stands, live or dead.
 pub fn place_of(slots: &[Slot], n: u64) -> Option<usize>
@@ -217,4 +218,37 @@ fn mark_some(slots: &[Slot], marks: &mut [bool])
     for slot in slots {
         mark_if_live(slot, marks);
     }
+}
+
+/// Appends a reference to the slot's local, if the slot is live.
+fn list_if_live<B: Allocator>(
+    slot: &Slot,
+    tid: u16,
+    refs: &mut Vec<Ref, B>,
+) -> Result<(), AllocError>
+    ensures { OnOk result (refs.new.items
+        ≡ refs.old.items ++ map (slot_ref tid) (filter is_live (slot.now ∷ []))) }
+{
+    if slot.live {
+        refs.push(Ref::To {
+            kind: Kind::Local,
+            maker: Tid(tid),
+            n: slot.n,
+        })?;
+    }
+    Ok(())
+}
+
+/// Appends a reference to each live local of the thread.
+pub fn list_live<B: Allocator>(
+    slots: &[Slot],
+    tid: u16,
+    refs: &mut Vec<Ref, B>,
+) -> Result<(), AllocError>
+    ensures { OnOk result (refs.new.items ≡ refs.old.items ++ map (slot_ref tid) (filter is_live slots.now)) }
+{
+    for slot in slots {
+        list_if_live(slot, tid, refs)?;
+    }
+    Ok(())
 }

@@ -1,14 +1,15 @@
-ghost use Rattle.std.specs.Prelude.{◌≡◌, ◌≤◌, ◌<◌, ◌+◌, ◌&&◌, ◌==◌, ◌||◌, ◌++◌, ◌∷◌, ◌↔◌, ℕ, [], All, OnOk, OnErr, IsOk, IsTrue, Some, false, not, filter, find, length, slice_index_or};
+ghost use Rattle.std.specs.Prelude.{◌≡◌, ◌≤◌, ◌<◌, ◌+◌, ◌&&◌, ◌==◌, ◌||◌, ◌++◌, ◌∷◌, ◌↔◌, ℕ, [], All, OnOk, OnErr, IsOk, IsTrue, Some, false, not, filter, find, map, length, slice_index_or};
 ghost use Rattle.std.specs.Option.{option_map};
 ghost use Rattle.std.specs.List.{list_any};
 ghost use Rattle.jg_lists.specs.Marks.{Marks};
-ghost use Rattle.jg_locals.specs.Seen.{last, slot_made, IsNext};
+ghost use Rattle.jg_locals.specs.Seen.{last, slot_made, slot_ref, IsNext};
 
 use crate::row::{Frame, Slot};
 use crate::slots::{
-    close_from, close_up_if, cut, end_local, is_above_all, mark_named, names_object, newest_frame,
-    object_of,
+    close_from, close_up_if, cut, end_local, is_above_all, list_live, mark_named, names_object,
+    newest_frame, object_of,
 };
+use jg_words::Ref;
 use std::alloc::{AllocError, Allocator};
 use std::marker::Model;
 
@@ -178,5 +179,12 @@ impl<A: Allocator> Stack<A> {
         ensures { Marks (λ o. list_any (λ s. s.object == o) self.now.locals) marks.old marks.new }
     {
         mark_named(&self.slots, marks);
+    }
+
+    /// Appends a reference to each live local of the thread.
+    pub fn list<B: Allocator>(&self, tid: u16, refs: &mut Vec<Ref, B>) -> Result<(), AllocError>
+        ensures { OnOk result (refs.new.items ≡ refs.old.items ++ map (slot_ref tid) self.now.locals) }
+    {
+        list_live(&self.slots, tid, refs)
     }
 }

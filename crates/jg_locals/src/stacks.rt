@@ -1,15 +1,17 @@
 //! The stacks of all threads, by thread.
 
-ghost use Rattle.std.specs.Prelude.{◌≡◌, ◌≤◌, ◌<◌, ◌+◌, ◌&&◌, ◌==◌, ◌||◌, ◌++◌, ◌∷◌, ◌↔◌, ℕ, [], All, OnOk, OnErr, IsOk, IsSome, IsTrue, Some, false, not, filter, find, length, slice_index_or};
+ghost use Rattle.std.specs.Prelude.{◌≡◌, ◌≤◌, ◌<◌, ◌+◌, ◌&&◌, ◌==◌, ◌||◌, ◌++◌, ◌∷◌, ◌↔◌, ℕ, [], All, OnOk, OnErr, IsOk, IsSome, IsTrue, Some, false, not, filter, find, map, length, slice_index_or};
 ghost use Rattle.std.specs.Option.{option_map};
 ghost use Rattle.std.specs.BTreeMap.{values, IsOrdered};
 ghost use Rattle.std.specs.Ordering.{nat_cmp};
 ghost use Rattle.std.specs.List.{list_any};
 ghost use Rattle.jg_lists.specs.Marks.{Marks};
+ghost use Rattle.jg_locals.specs.Rows.{local_ref};
 ghost use Rattle.jg_locals.specs.Seen.{last, slot_made, IsNext, stack_at, slots_in, frames_in, room_seen, rows_seen, Changes};
 
 use crate::row::Frame;
 use crate::stack::Stack;
+use jg_words::Ref;
 use std::alloc::{AllocError, Allocator};
 use std::collections::BTreeMap;
 
@@ -209,4 +211,18 @@ pub fn mark_named_in<A: Allocator>(stacks: &BTreeMap<u16, Stack<A>, A>, marks: &
     for stack in stacks.values() {
         stack.mark_held(marks);
     }
+}
+
+/// Appends a reference to each live local, by thread and then by number.
+pub fn list_in<A: Allocator, B: Allocator>(
+    stacks: &BTreeMap<u16, Stack<A>, A>,
+    refs: &mut Vec<Ref, B>,
+) -> Result<(), AllocError>
+    ensures { OnOk result (refs.new.items
+        ≡ refs.old.items ++ map local_ref (rows_seen stacks.now.entries).locals) }
+{
+    for (tid, stack) in stacks.iter() {
+        stack.list(*tid, refs)?;
+    }
+    Ok(())
 }

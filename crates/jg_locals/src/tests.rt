@@ -1,5 +1,5 @@
 use crate::Locals;
-use jg_words::{ObjId, Tid};
+use jg_words::{Kind, ObjId, Ref, Tid};
 use linked_list_allocator::LocalHeap;
 use std::alloc::{AllocError, Allocator};
 use std::process::Abort;
@@ -122,6 +122,33 @@ fn deletions_close_up(rt: HostRuntime) -> Result<(), Fail> {
     make(&rt, &mut locals, 98)?;
     assert_eq!(rt; locals.get(T, 98), Some(ObjId(98)));
     assert_eq!(rt; locals.get(T, 99), None);
+    Ok(())
+}
+
+fn local(maker: Tid, n: u64) -> Ref {
+    Ref::To {
+        kind: Kind::Local,
+        maker,
+        n,
+    }
+}
+
+/// The live locals, by thread and then by number.
+#[test]
+fn listed(rt: HostRuntime) -> Result<(), Fail> {
+    let other = Tid(2);
+    let mut locals = Locals::new(rt.alloc(), rt.alloc());
+    start(&rt, &mut locals, other)?;
+    make_for(&rt, &mut locals, other, 1)?;
+    start(&rt, &mut locals, T)?;
+    make(&rt, &mut locals, 1)?;
+    make(&rt, &mut locals, 2)?;
+    make(&rt, &mut locals, 3)?;
+    locals.delete(T, 2);
+    let mut refs = Vec::new(rt.alloc());
+    locals.list(&mut refs)?;
+    let wanted = [local(T, 1), local(T, 3), local(other, 1)];
+    assert_eq!(rt; refs.as_slice(), wanted.as_slice());
     Ok(())
 }
 

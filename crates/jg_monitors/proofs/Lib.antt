@@ -1,5 +1,6 @@
 pub mod Callers
 mod Counting
+mod Listed
 mod Lookups
 mod Pairs
 mod Splits

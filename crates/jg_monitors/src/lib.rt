@@ -9,12 +9,14 @@ mod holdings;
 mod meanings;
 mod monitors;
 mod owned;
+mod owned_monitor;
 
 pub use entering::Entering;
 pub use meanings::{
     count_is_bounded, count_means, held_means, one_owner, owner_means, rows_tell, since_means,
 };
 pub use monitors::Monitors;
+pub use owned_monitor::OwnedMonitor;
 
 #[cfg(test)]
 mod tests;

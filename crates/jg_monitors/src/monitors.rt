@@ -1,12 +1,13 @@
-ghost use Rattle.std.specs.Prelude.{◌≡◌, ℕ, ◌+◌, ◌<◌, List, [], ◌∷◌, None, Some, IfOk, OnErr, option_map};
+ghost use Rattle.std.specs.Prelude.{◌≡◌, ℕ, ◌+◌, ◌<◌, List, [], ◌∷◌, None, Some, IfOk, OnErr, map, option_map};
 ghost use Rattle.jg_monitors.specs.History.{Event, by, Enter, Exit, ReleaseAll, owner, owner_count, held, entering};
-ghost use Rattle.jg_monitors.specs.Rows.{row_of, owner_in, count_in};
+ghost use Rattle.jg_monitors.specs.Rows.{Ascends, owned_monitor, row_of, owner_in, count_in};
 ghost use Rattle.jg_monitors.specs.Standing.{Stands};
 ghost use Rattle.jg_lists.specs.Marks.{Marks};
 
 use crate::entering::Entering;
 use crate::holdings::{lower, put, release};
-use crate::owned::{Owned, look, mark_keys, own_count};
+use crate::owned::{Owned, list_all, look, mark_keys, own_count};
+use crate::owned_monitor::OwnedMonitor;
 use jg_words::{ObjId, Tid};
 use std::alloc::{AllocError, Allocator, Global};
 use std::collections::BTreeMap;
@@ -131,5 +132,14 @@ impl<A: Allocator + Clone> Monitors<A> {
         ensures { (e : List Event) → Stands self.now e → Marks (held e) marks.old marks.new }
     {
         mark_keys(&self.owned, marks);
+    }
+
+    /// The owned monitors, ascending by object. Takes time by how many there are. Fails only for
+    /// want of memory.
+    pub fn list<B: Allocator>(&self, alloc: B) -> Result<Vec<OwnedMonitor, B>, AllocError>
+        ensures rows { IfOk result (λ found. found.items ≡ map owned_monitor self.now.owned) }
+        ensures ascending { IfOk result (λ found. Ascends found.items) }
+    {
+        list_all(&self.owned, alloc)
     }
 }

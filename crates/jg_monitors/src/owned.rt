@@ -1,11 +1,14 @@
-ghost use Rattle.std.specs.Prelude.{◌≡◌, ℕ, ◌==◌, if◌then◌else◌, None, Some, OnOk, OnErr};
+ghost use Rattle.std.specs.Prelude.{◌≡◌, ℕ, ◌==◌, if◌then◌else◌, None, Some, IfOk, OnOk, OnErr, map};
 ghost use Rattle.std.specs.Ordering.{nat_cmp};
 ghost use Rattle.std.specs.List.{list_any};
-ghost use Rattle.jg_monitors.specs.Seen.{count_by_owner, lowered};
+ghost use Rattle.jg_monitors.specs.Rows.{owned_monitor};
+ghost use Rattle.jg_monitors.specs.Seen.{count_by_owner, lowered, seen};
 ghost use Rattle.std.specs.BTreeMap.{get, keys, IsOrdered};
 ghost use Rattle.jg_lists.specs.Marks.{Marks};
 
+use crate::owned_monitor::OwnedMonitor;
 use jg_lists::mark;
+use jg_words::{ObjId, Tid};
 use std::alloc::{AllocError, Allocator};
 use std::collections::BTreeMap;
 
@@ -82,4 +85,22 @@ pub fn mark_keys<A: Allocator>(map: &BTreeMap<u64, Owned, A>, marks: &mut [bool]
     for object in map.keys() {
         mark(marks, *object);
     }
+}
+
+/// The owned monitors, ascending by object.
+pub fn list_all<A: Allocator, B: Allocator>(
+    owned: &BTreeMap<u64, Owned, A>,
+    alloc: B,
+) -> Result<Vec<OwnedMonitor, B>, AllocError>
+    ensures { IfOk result (λ found. found.items ≡ map owned_monitor (map seen owned.now.entries)) }
+{
+    let mut found = Vec::new(alloc);
+    for (object, row) in owned.iter() {
+        found.push(OwnedMonitor {
+            object: ObjId(*object),
+            owner: Tid(row.tid),
+            count: row.count,
+        })?;
+    }
+    Ok(found)
 }

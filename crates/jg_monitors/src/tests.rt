@@ -1,4 +1,4 @@
-use crate::{Entering, Monitors};
+use crate::{Entering, Monitors, OwnedMonitor};
 use jg_words::{ObjId, Tid};
 use linked_list_allocator::LocalHeap;
 use std::process::Abort;
@@ -51,6 +51,36 @@ fn released_with_the_session(rt: HostRuntime) -> Result<(), Fail> {
     assert_eq!(rt; table.owner(ObjId(1)), None);
     assert_eq!(rt; table.owner(ObjId(2)), Some(T2));
     assert_eq!(rt; table.owner(ObjId(9)), None);
+    Ok(())
+}
+
+#[test]
+fn listed(rt: HostRuntime) -> Result<(), Fail> {
+    let mut table = Monitors::new(rt.alloc(), rt.alloc());
+    assert!(rt; table.count(ObjId(9)) < u64::MAX);
+    assert_eq!(rt; table.enter(T1, ObjId(9))?, Entering::Entered);
+    assert!(rt; table.count(ObjId(9)) < u64::MAX);
+    assert_eq!(rt; table.enter(T1, ObjId(9))?, Entering::Entered);
+    assert!(rt; table.count(ObjId(2)) < u64::MAX);
+    assert_eq!(rt; table.enter(T2, ObjId(2))?, Entering::Entered);
+    assert!(rt; table.count(TEXT) < u64::MAX);
+    assert_eq!(rt; table.enter(T2, TEXT)?, Entering::Entered);
+    assert_eq!(rt; table.owner(TEXT), Some(T2));
+    table.exit(T2, TEXT);
+    let owned = table.list(rt.alloc())?;
+    let wanted = [
+        OwnedMonitor {
+            object: ObjId(2),
+            owner: T2,
+            count: 1,
+        },
+        OwnedMonitor {
+            object: ObjId(9),
+            owner: T1,
+            count: 2,
+        },
+    ];
+    assert_eq!(rt; owned.as_slice(), wanted.as_slice());
     Ok(())
 }
 

@@ -23,7 +23,7 @@ mod strings;
 
 use jg_guard::Guard;
 use jg_policy::Setup;
-use jg_script::{RunFault, Watched, check};
+use jg_script::{RunFault, Verdict, Watched, check, verify};
 use jg_text::front_of_call;
 use std::alloc::Global;
 use std::test::Fail;
@@ -101,11 +101,67 @@ fn script_of(alloc: Global, text: &str) -> Result<Vec<u8>, Fail> {
     Ok(script)
 }
 
-/// The calls of the row's text are answered by this very text, under this setup.
+/// The text, read as a journal under this setup, is found to be so.
+fn is_found(alloc: Global, setup: &str, text: &[u8], verdict: Verdict) -> Result<(), Fail> {
+    let Ok(setup) = Setup::read(alloc, setup) else {
+        return Err(Fail::from("the setup isn't one"));
+    };
+    let mut reader = Watched::new(text);
+    if verify(alloc, alloc, setup, 100, &mut reader) != Ok(verdict) {
+        return Err(Fail::from("the text is found to be otherwise"));
+    }
+    Ok(())
+}
+
+/// The text with another outcome in one line, which `at` counts from 0.
+fn altered(alloc: Global, text: &str, at: usize, outcome: &str) -> Result<Vec<u8>, Fail> {
+    let mut changed = Vec::new(alloc);
+    for (place, line) in text.lines().enumerate() {
+        let Some(call) = front_of_call(line.as_bytes()) else {
+            return Err(Fail::from("a line has no call"));
+        };
+        if place != at {
+            changed.extend_from_slice(line.as_bytes())?;
+        } else {
+            changed.extend_from_slice(call)?;
+            changed.extend_from_slice(b" = ".as_slice())?;
+            changed.extend_from_slice(outcome.as_bytes())?;
+        }
+        changed.push(b'\n')?;
+    }
+    Ok(changed)
+}
+
+/// The text is the journal of a legal history; with an outcome altered it isn't from that line on,
+/// and without its last line feed not from the last.
+fn is_read_back(alloc: Global, setup: &str, text: &str) -> Result<(), Fail> {
+    is_found(alloc, setup, text.as_bytes(), Verdict::Legal)?;
+    for (at, line) in text.lines().enumerate() {
+        let outcome = if line.ends_with(" = ok") {
+            "null"
+        } else {
+            "ok"
+        };
+        let changed = altered(alloc, text, at, outcome)?;
+        let verdict = Verdict::Differs((at as u64).saturating_add(1));
+        is_found(alloc, setup, &changed, verdict)?;
+    }
+    match text.as_bytes() {
+        [] => Ok(()),
+        [cut @ .., _feed] => {
+            let verdict = Verdict::Differs(text.lines().count() as u64);
+            is_found(alloc, setup, cut, verdict)
+        }
+    }
+}
+
+/// The calls of the row's text are answered by this very text, under this setup, and it is read
+/// back.
 fn comes_out_under(alloc: Global, setup: &str, text: &str) -> Result<(), Fail> {
     let script = script_of(alloc, text)?;
     let count = text.lines().count() as u64;
-    answers(alloc, setup, 100, &script, text, Ok(count))
+    answers(alloc, setup, 100, &script, text, Ok(count))?;
+    is_read_back(alloc, setup, text)
 }
 
 /// The same under the setup that states no class.

@@ -5,3 +5,4 @@ pub mod Fronts
 pub mod Pieces
 pub mod Replaying
 pub mod Reread
+pub mod Leaking

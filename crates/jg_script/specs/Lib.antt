@@ -5,3 +5,4 @@ pub mod Devices
 pub mod Answered
 pub mod Replayed
 pub mod Entries
+pub mod Leaks

@@ -3,6 +3,7 @@
 
 mod answer;
 mod handing;
+mod leaks;
 mod line;
 mod piece;
 mod replay;
@@ -12,6 +13,7 @@ mod watched;
 
 pub use handing::HandsOn;
 pub use jg_text::{ScriptFault, read_call, write_entry};
+pub use leaks::write_leaks;
 pub use line::write_text;
 pub use replay::{Verdict, verify};
 pub use run::check;

@@ -16,11 +16,13 @@ mod word;
 mod write;
 
 pub use begun::{front_of_call, read_begun};
+pub use digits::push_number;
 pub use fault::ScriptFault;
 pub use meanings::{
     begins_with_one_call, call_is_short, entry_is_one_line, spelt_at_most_once, spelt_has_no_fault,
 };
 pub use read::{MAX_LINE, read_call};
+pub use word::{push_buf, push_ref, push_tid};
 pub use write::{push_entry, write_entry};
 
 #[cfg(test)]

@@ -3,6 +3,7 @@ mod devices;
 mod growths;
 mod guard;
 mod journals;
+mod leaks;
 mod scripts;
 
 use jg_policy::Setup;

@@ -23,6 +23,28 @@ T1 E1.1 NewString [] = L1.1
 T1 E1.1 NewString [] = L1.1
 ";
 
+// Two calls that don't commute, in the other order; a reference made twice.
+const SWAPPED: &str = "T1 - AttachCurrentThread = E1.1
+T1 E1.1 GetStringLength L1.1 = 2
+T1 E1.1 NewString [72,105] = L1.1
+";
+
+const TWICE: &str = "T1 - AttachCurrentThread = E1.1
+T1 E1.1 NewString [72,105] = L1.1
+T1 E1.1 NewString [72,105] = L1.1
+";
+
+// Past the limit no more is asked of a line than that it begins with a call.
+const FAULTY_PAST: &str = "T1 - AttachCurrentThread = E1.1
+T1 E1.1 NewString [72,105] = L1.1
+T1 E1.1 GetStringLength L1.1 = nonsense
+";
+
+const FAULTY_CALL_PAST: &str = "T1 - AttachCurrentThread = E1.1
+T1 E1.1 NewString [72,105] = L1.1
+T1 E1.1 GetStringLength L1 = 2
+";
+
 #[test]
 fn journals_are_read_back(rt: HostRuntime) -> Result<(), Fail> {
     let altered = "T1 - AttachCurrentThread = E1.1\nT1 E1.1 NewString [72,105] = L1.2\n";
@@ -32,6 +54,11 @@ fn journals_are_read_back(rt: HostRuntime) -> Result<(), Fail> {
         (FIRST_PATH_ANSWERED, 6, Ok(Verdict::Legal)),
         (altered, 10, Ok(Verdict::Differs(2))),
         (DOUBLED, 10, Ok(Verdict::Differs(4))),
+        (SWAPPED, 10, Ok(Verdict::Differs(2))),
+        (TWICE, 10, Ok(Verdict::Differs(3))),
+        (FAULTY_PAST, 2, Err(RunFault::Limit { line: 3 })),
+        (FAULTY_PAST, 3, Ok(Verdict::Differs(3))),
+        (FAULTY_CALL_PAST, 2, Ok(Verdict::Differs(3))),
         (cut, 10, Ok(Verdict::Differs(6))),
         (FIRST_PATH_ANSWERED, 5, Err(RunFault::Limit { line: 6 })),
         (cut, 5, Err(RunFault::Limit { line: 6 })),
@@ -108,5 +135,38 @@ fn a_refused_growth_ends_a_reading(rt: HostRuntime) -> Result<(), Fail> {
         _ => assert!(rt; false, "no growth is refused"),
     }
     assert!(rt; !reader.has_failed());
+    Ok(())
+}
+
+/// Over heaps of growing sizes a reading ends for want of memory at no earlier line, and is done at
+/// last.
+#[test]
+fn every_growth_of_a_reading_is_refused_in_turn(rt: HostRuntime) -> Result<(), Fail> {
+    let mut last = 0u64;
+    let mut count = 0u32;
+    let mut done = false;
+    for room in 0..1000usize {
+        let Ok(heap) = LocalHeap::new(rt.alloc(), room.saturating_mul(16)) else {
+            continue;
+        };
+        let mut reader = Watched::new(FIRST_PATH_ANSWERED.as_bytes());
+        match verify(
+            rt.alloc(),
+            &heap,
+            setup(rt.alloc(), CLOSED)?,
+            10,
+            &mut reader,
+        ) {
+            Err(RunFault::NoMemory { line }) => {
+                assert!(rt; line >= last && !done, "at {room}");
+                last = line;
+                count = count.saturating_add(1);
+            }
+            Ok(Verdict::Legal) => done = true,
+            _ => assert!(rt; false, "at {room}"),
+        }
+    }
+    assert!(rt; count > 0 && last > 1, "never refused");
+    assert!(rt; done, "never done");
     Ok(())
 }
