@@ -24,7 +24,7 @@ pub enum Task<'a> {
     Check,
     /// Tests the journal text on standard input.
     Verify,
-    /// Plays the scripts of a file, each thread's lines by a worker.
+    /// Plays the scripts of a file, the lines of each thread by a thread of its own.
     Play(&'a str),
 }
 

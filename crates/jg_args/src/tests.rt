@@ -10,7 +10,7 @@ const DEFAULTS: Asked<'static> = Asked {
 };
 
 const STATUSES: &str =
-    "Exit status: 0 done, 1 another journal, 2 faulty script, setup or arguments, 3 limit met or no memory, \
+    "Exit status: 0 done, 1 the journal differs, 2 faulty script, setup or arguments, 3 limit met or no memory, \
     4 reading or writing failed.";
 
 #[test]
@@ -65,7 +65,7 @@ fn words_are_refused(rt: HostRuntime) -> Result<(), Fail> {
         &["play"],
         &["play", "two", "--turns", "0"],
         &["--turns", "5"],
-        &["play", "two", "--help"],
+        &["play", "two", "--leaks"],
         &["check", "--version"],
     ];
     for words in refused {
@@ -80,7 +80,7 @@ fn words_are_refused(rt: HostRuntime) -> Result<(), Fail> {
 
 #[test]
 fn texts_are_asked_for(rt: HostRuntime) -> Result<(), Fail> {
-    let texts: [(&[&str], &str); 10] = [
+    let texts: [(&[&str], &str); 11] = [
         (&["--help"], "Usage: jg [OPTIONS] [COMMAND]"),
         (&["check", "--help"], "Usage: jg check [OPTIONS]"),
         (&["--help"], "--setup <FILE>"),
@@ -90,6 +90,7 @@ fn texts_are_asked_for(rt: HostRuntime) -> Result<(), Fail> {
         (&["check", "-h"], STATUSES),
         (&["verify", "--help"], "Usage: jg verify [OPTIONS]"),
         (&["verify", "-h"], STATUSES),
+        (&["play", "--help"], "Usage: jg play [OPTIONS] <FILE>"),
         (&["--version"], "jg 0.1.0\n"),
     ];
     for (words, part) in texts {

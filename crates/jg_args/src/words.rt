@@ -1,5 +1,4 @@
-//! The words after the program's name, by `clap`. What the program can't do yet is read here all
-//! the same, refused where it runs, and left out of the help.
+//! The words after the program's name, by `clap`.
 
 ghost use Rattle.std.specs.Prelude.{◌≤◌, IfOk};
 
@@ -13,7 +12,7 @@ const DEFAULT_TURNS: u32 = 1000;
 const VERSION: &str = "0.1.0";
 
 const STATUSES: &str =
-    "Exit status: 0 done, 1 another journal, 2 faulty script, setup or arguments, 3 limit met or no memory, 4 reading or writing failed.";
+    "Exit status: 0 done, 1 the journal differs, 2 faulty script, setup or arguments, 3 limit met or no memory, 4 reading or writing failed.";
 
 fn setup_arg<'a>(alloc: Global) -> Arg<'a> {
     Arg::new(alloc, "setup")
@@ -59,9 +58,8 @@ fn command<'a>(alloc: Global) -> Result<Command<'a>, AllocError> {
         .arg(setup_arg(alloc))?
         .arg(limit_arg(alloc))?;
     let play = Command::new(alloc, "play")
-        .about("plays the scripts of FILE, each thread's lines by a worker")
-        .hide(true)
-        .disable_help_flag(true)
+        .about("plays the scripts of FILE, the lines of each thread by a thread of its own")
+        .after_help(STATUSES)
         .arg(Arg::new(alloc, "file").value_name("FILE").required(true))?
         .arg(setup_arg(alloc))?
         .arg(limit_arg(alloc))?

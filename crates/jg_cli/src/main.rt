@@ -1,25 +1,27 @@
-//! The program `jg`: under a setup, it answers a script on standard input with its journal on standard output, or tests a
-//! journal.
+//! The program `jg`: under a setup, it answers a script on standard input with its journal on standard output, tests a
+//! journal, or plays the scripts of several threads.
 #![tactic(auto)]
 
-mod journal;
-mod leaks;
-mod program;
-mod setup_file;
+#[cfg(test)]
+mod play_tests;
 #[cfg(test)]
 mod setup_tests;
-mod stop;
 #[cfg(test)]
 mod tests;
 
-use program::run;
+use jg_program::{Status, Stop, run, tell};
 use std::env;
 use std::io::{BufReader, BufWriter, ErrorKind};
 use std::process::ExitCode;
-use stop::{Status, Stop, tell};
+use std::sync::Wait;
+use std::thread::Threads;
 
-/// Runs the program on its words and the standard streams, which are buffered.
-fn start(rt: &HostRuntime) -> Result<Status, Stop> {
+/// The most bytes that are read, and that are written, at once.
+const BUFFER: usize = 65_536;
+
+/// Runs the program on its words and the standard streams, which are buffered. The threads of a play
+/// are made by `threads`.
+fn start<T: Threads + Wait + Sync>(rt: &HostRuntime, threads: &T) -> Result<Status, Stop> {
     let alloc = rt.alloc();
     let args = match env::args(rt) {
         Ok(args) => args,
@@ -35,17 +37,17 @@ fn start(rt: &HostRuntime) -> Result<Status, Stop> {
             return Err(Stop::NO_MEMORY);
         };
     }
-    let Ok(reader) = BufReader::with_capacity(alloc, 4096, rt.stdin()) else {
+    let Ok(reader) = BufReader::with_capacity(alloc, BUFFER, rt.stdin()) else {
         return Err(Stop::NO_MEMORY);
     };
-    let Ok(out) = BufWriter::new(alloc, rt.stdout()) else {
+    let Ok(out) = BufWriter::with_capacity(alloc, BUFFER, rt.stdout()) else {
         return Err(Stop::NO_MEMORY);
     };
-    Ok(run(alloc, &words, rt, reader, out, &mut rt.stderr()))
+    Ok(run(threads, alloc, &words, rt, reader, out, &mut rt.stderr()))
 }
 
 fn main(rt: HostRuntime) -> ExitCode {
-    let status = match start(&rt) {
+    let status = match start(&rt, &rt) {
         Ok(status) => status,
         Err(stop) => tell(stop, &mut rt.stderr()),
     };

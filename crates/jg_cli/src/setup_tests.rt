@@ -1,10 +1,10 @@
-use crate::program::run;
-use crate::setup_file::SetupFiles;
-use crate::stop::Status;
+use jg_program::{Files, Status, run};
 use std::alloc::{AllocError, Global};
 use std::io;
 use std::io::{BufWriter, ErrorKind, Read};
+use std::sync::Wait;
 use std::test::Fail;
+use std::thread::Threads;
 
 /// What a file does after its bytes.
 #[derive(Clone, Copy)]
@@ -63,7 +63,7 @@ impl<'a> Drawer<'a> {
     }
 }
 
-impl<'a> SetupFiles for Drawer<'a> {
+impl<'a> Files for Drawer<'a> {
     type File = Held<'a>;
 
     fn open(&self, path: &str) -> io::Result<(Held<'a>, u64)> {
@@ -98,7 +98,8 @@ module = \"app\"
 
 /// Runs the script with these words and files, and tells how that ended, what it wrote and what it
 /// said.
-fn answer<S: SetupFiles>(
+fn answer<T: Threads + Wait + Sync, S: Files>(
+    rt: &T,
     alloc: Global,
     words: &[&str],
     files: &S,
@@ -106,7 +107,7 @@ fn answer<S: SetupFiles>(
     let mut out = Vec::new(alloc);
     let mut err = Vec::new(alloc);
     let writer = BufWriter::new(alloc, &mut out)?;
-    let status = run(alloc, words, files, SCRIPT.as_bytes(), writer, &mut err);
+    let status = run(rt, alloc, words, files, SCRIPT.as_bytes(), writer, &mut err);
     Ok((status, out, err))
 }
 
@@ -150,7 +151,12 @@ fn each_faulty_setup_has_its_text(rt: HostRuntime) -> Result<(), Fail> {
         (many.as_str(), "TooMany"),
     ];
     for (text, fault) in texts {
-        let (status, out, err) = answer(rt.alloc(), &["--setup", "app.toml"], &Drawer::of(text))?;
+        let (status, out, err) = answer(
+            &rt,
+            rt.alloc(),
+            &["--setup", "app.toml"],
+            &Drawer::of(text),
+        )?;
         let said = format!(in rt.alloc(); "setup: {fault}\n")?;
         assert_eq!(rt; status, Status::Faulty, "at {fault}");
         assert!(rt; out.is_empty(), "at {fault}");
@@ -223,7 +229,7 @@ fn each_unread_file_has_its_text(rt: HostRuntime) -> Result<(), Fail> {
             file: Held { bytes, then },
             told,
         };
-        let (ended, out, err) = answer(rt.alloc(), &["check", "--setup=app.toml"], &drawer)?;
+        let (ended, out, err) = answer(&rt, rt.alloc(), &["check", "--setup=app.toml"], &drawer)?;
         assert_eq!(rt; ended, status, "at {said} for {told}");
         assert!(rt; out.is_empty(), "at {said} for {told}");
         assert!(rt; err.as_slice() == said.as_bytes(), "at {said} for {told}");
@@ -233,9 +239,14 @@ fn each_unread_file_has_its_text(rt: HostRuntime) -> Result<(), Fail> {
 
 #[test]
 fn files_that_are_not_there_cannot_be_read(rt: HostRuntime) -> Result<(), Fail> {
-    let in_memory = answer(rt.alloc(), &["--setup", "lib.toml"], &Drawer::of(CLOSED))?;
-    let of_the_system = answer(rt.alloc(), &["--setup", "no/such/file"], &rt)?;
-    let a_folder = answer(rt.alloc(), &["--setup", "/"], &rt)?;
+    let in_memory = answer(
+        &rt,
+        rt.alloc(),
+        &["--setup", "lib.toml"],
+        &Drawer::of(CLOSED),
+    )?;
+    let of_the_system = answer(&rt, rt.alloc(), &["--setup", "no/such/file"], &rt)?;
+    let a_folder = answer(&rt, rt.alloc(), &["--setup", "/"], &rt)?;
     for (status, out, err) in [in_memory, of_the_system, a_folder] {
         assert_eq!(rt; status, Status::Device);
         assert!(rt; out.is_empty());
@@ -254,7 +265,7 @@ fn the_script_is_answered_under_the_setup(rt: HostRuntime) -> Result<(), Fail> {
         (&[], WITH_MAIN, NOT_FOUND),
     ];
     for (words, setup, written) in setups {
-        let (status, out, err) = answer(rt.alloc(), words, &Drawer::of(setup))?;
+        let (status, out, err) = answer(&rt, rt.alloc(), words, &Drawer::of(setup))?;
         assert_eq!(rt; status, Status::Done, "at {words:?}");
         assert!(rt; out.as_slice() == written.as_bytes(), "at {words:?}");
         assert!(rt; err.is_empty(), "at {words:?}");
@@ -289,6 +300,7 @@ fn a_chain_leaves_its_class(rt: HostRuntime) -> Result<(), Fail> {
     let mut out = Vec::new(rt.alloc());
     let mut err = Vec::new(rt.alloc());
     let ended = run(
+        &rt,
         rt.alloc(),
         &["--setup", "app.toml", "--leaks"],
         &Drawer::of(WITH_NEXT),

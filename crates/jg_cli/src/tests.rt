@@ -1,5 +1,4 @@
-use crate::program::run;
-use crate::stop::Status;
+use jg_program::{Status, run};
 use jg_script::HandsOn;
 use std::io;
 use std::io::{BufReader, BufWriter, ErrorKind, Read, Write};
@@ -128,7 +127,15 @@ fn each_end_has_its_status_and_its_text(rt: HostRuntime) -> Result<(), Fail> {
         let mut out = Vec::new(rt.alloc());
         let mut err = Vec::new(rt.alloc());
         let writer = BufWriter::new(rt.alloc(), &mut out)?;
-        let ended = run(rt.alloc(), words, &rt, script.as_bytes(), writer, &mut err);
+        let ended = run(
+            &rt,
+            rt.alloc(),
+            words,
+            &rt,
+            script.as_bytes(),
+            writer,
+            &mut err,
+        );
         assert_eq!(rt; ended, status, "at {words:?}");
         assert!(rt; out.as_slice() == text.as_bytes(), "at {words:?}");
         assert!(rt; err.as_slice() == said.as_bytes(), "at {words:?}");
@@ -190,7 +197,15 @@ fn journals_are_tested(rt: HostRuntime) -> Result<(), Fail> {
         let mut out = Vec::new(rt.alloc());
         let mut err = Vec::new(rt.alloc());
         let writer = BufWriter::new(rt.alloc(), &mut out)?;
-        let ended = run(rt.alloc(), words, &rt, journal.as_bytes(), writer, &mut err);
+        let ended = run(
+            &rt,
+            rt.alloc(),
+            words,
+            &rt,
+            journal.as_bytes(),
+            writer,
+            &mut err,
+        );
         assert_eq!(rt; ended, status, "at {words:?}: {said}");
         assert!(rt; out.as_slice() == text.as_bytes(), "at {words:?}: {text}");
         assert!(rt; err.as_slice() == said.as_bytes(), "at {words:?}: {said}");
@@ -204,16 +219,24 @@ fn failing_devices_end_a_test_of_a_journal(rt: HostRuntime) -> Result<(), Fail> 
     let mut err = Vec::new(rt.alloc());
     let reader = BufReader::new(rt.alloc(), Broken)?;
     let writer = BufWriter::new(rt.alloc(), &mut out)?;
-    let ended = run(rt.alloc(), &["verify"], &rt, reader, writer, &mut err);
+    let ended = run(&rt, rt.alloc(), &["verify"], &rt, reader, writer, &mut err);
     assert_eq!(rt; ended, Status::Device);
     assert!(rt; err.as_slice() == b"line 1: read failed\n".as_slice());
     err.clear();
     let journal = THREE_ANSWERED.as_bytes();
-    let ended = run(rt.alloc(), &["verify"], &rt, journal, Broken, &mut err);
+    let ended = run(&rt, rt.alloc(), &["verify"], &rt, journal, Broken, &mut err);
     assert_eq!(rt; ended, Status::Device);
     assert!(rt; err.as_slice() == b"line 1: write failed\n".as_slice());
     err.clear();
-    let ended = run(rt.alloc(), &["verify"], &rt, journal, Unflushed, &mut err);
+    let ended = run(
+        &rt,
+        rt.alloc(),
+        &["verify"],
+        &rt,
+        journal,
+        Unflushed,
+        &mut err,
+    );
     assert_eq!(rt; ended, Status::Device);
     assert!(rt; err.as_slice() == b"line 1: write failed\n".as_slice());
     Ok(())
@@ -287,7 +310,15 @@ fn leaks_are_said(rt: HostRuntime) -> Result<(), Fail> {
         let mut out = Vec::new(rt.alloc());
         let mut err = Vec::new(rt.alloc());
         let writer = BufWriter::new(rt.alloc(), &mut out)?;
-        let ended = run(rt.alloc(), words, &rt, script.as_bytes(), writer, &mut err);
+        let ended = run(
+            &rt,
+            rt.alloc(),
+            words,
+            &rt,
+            script.as_bytes(),
+            writer,
+            &mut err,
+        );
         assert_eq!(rt; ended, Status::Done, "at {words:?}: {said}");
         assert!(rt; err.as_slice() == said.as_bytes(), "at {words:?}: {said}");
     }
@@ -301,6 +332,7 @@ fn leaks_change_no_status(rt: HostRuntime) -> Result<(), Fail> {
     let script = THREE_LINES.as_bytes();
     let mut err = Vec::new(rt.alloc());
     let ended = run(
+        &rt,
         rt.alloc(),
         &words,
         &rt,
@@ -311,6 +343,7 @@ fn leaks_change_no_status(rt: HostRuntime) -> Result<(), Fail> {
     assert_eq!(rt; ended, Status::Exhausted);
     assert!(rt; err.as_slice() == b"line 3: limit\n".as_slice());
     let ended = run(
+        &rt,
         rt.alloc(),
         &["--leaks"],
         &rt,
@@ -328,7 +361,7 @@ fn what_the_program_cannot_do_is_refused(rt: HostRuntime) -> Result<(), Fail> {
         &["--fly"],
         &["fly"],
         &["--limit", "1000001"],
-        &["play", "two"],
+        &["play"],
         &["verify", "--leaks"],
         &["--turns", "3"],
     ];
@@ -337,6 +370,7 @@ fn what_the_program_cannot_do_is_refused(rt: HostRuntime) -> Result<(), Fail> {
         let mut err = Vec::new(rt.alloc());
         let writer = BufWriter::new(rt.alloc(), &mut out)?;
         let ended = run(
+            &rt,
             rt.alloc(),
             words,
             &rt,
@@ -360,6 +394,7 @@ fn failing_devices_have_their_texts(rt: HostRuntime) -> Result<(), Fail> {
     let mut err = Vec::new(rt.alloc());
     assert_eq!(rt;
         run(
+            &rt,
             rt.alloc(),
             &[],
             &rt,
@@ -373,6 +408,7 @@ fn failing_devices_have_their_texts(rt: HostRuntime) -> Result<(), Fail> {
     err.clear();
     assert_eq!(rt;
         run(
+            &rt,
             rt.alloc(),
             &[],
             &rt,
@@ -386,6 +422,7 @@ fn failing_devices_have_their_texts(rt: HostRuntime) -> Result<(), Fail> {
     err.clear();
     assert_eq!(rt;
         run(
+            &rt,
             rt.alloc(),
             &[],
             &rt,
@@ -399,6 +436,7 @@ fn failing_devices_have_their_texts(rt: HostRuntime) -> Result<(), Fail> {
     err.clear();
     assert_eq!(rt;
         run(
+            &rt,
             rt.alloc(),
             &["--help"],
             &rt,
@@ -411,6 +449,7 @@ fn failing_devices_have_their_texts(rt: HostRuntime) -> Result<(), Fail> {
     assert!(rt; err.as_slice() == b"line 1: write failed\n".as_slice());
     assert_eq!(rt;
         run(
+            &rt,
             rt.alloc(),
             &["--fly"],
             &rt,
@@ -436,7 +475,7 @@ fn the_help_goes_to_the_output(rt: HostRuntime) -> Result<(), Fail> {
         let reader = BufReader::new(rt.alloc(), Broken)?;
         let writer = BufWriter::new(rt.alloc(), &mut out)?;
         assert_eq!(rt;
-            run(rt.alloc(), words, &rt, reader, writer, &mut err),
+            run(&rt, rt.alloc(), words, &rt, reader, writer, &mut err),
             Status::Done,
             "at {words:?}"
         );

@@ -3,5 +3,6 @@ mod Ended
 mod Listed
 mod Lookups
 mod Means
+mod Named
 mod Numbers
 mod Steps

@@ -1,45 +1,53 @@
 -- What the look-ups answer where the rows stand.
 use Rattle.std.proofs.Common.{◌≡◌, ℕ, Bool, true, false, List, [], ◌∷◌, Option, Some, None, refl, ◌∙◌, ap, sym, subst, arith, inl, inr, eqb-true}
-use Rattle.std.specs.Prelude.{◌==◌, ◌&&◌, ◌||◌, if◌then◌else◌, find, map}
+use Rattle.std.specs.Prelude.{◌==◌, ◌||◌, if◌then◌else◌, filter, map}
 use Rattle.std.specs.List.{list_any}
+use Rattle.std.specs.Map.{lookup, values_of}
 use Rattle.std.specs.Option.{option_map}
 use Rattle.std.proofs.lemmas.Bool.Decides.{nat_tests}
+use Rattle.jg_words.specs.declared.object.ObjId.{ObjId}
+use Rattle.jg_globals.specs.declared.name.Name.{Name}
 use Rattle.jg_globals.specs.declared.target.Target.{Target}
-use Rattle.jg_globals.specs.declared.row.StrongRow.{StrongRow}
-use Rattle.jg_globals.specs.declared.row.WeakRow.{WeakRow}
 use Rattle.jg_globals.specs.History.{Event, MakeStrong, MakeWeak, DeleteStrong, DeleteWeak, Clear, is_same, strong, weak_target, is_now, made_and_held, holds_object}
 use Rattle.jg_globals.specs.Rows.{Rows, Strong, is_strong, is_weak, IsAbove}
 use Rattle.jg_globals.specs.Seen.{strong_seen, weak_seen}
 use Rattle.jg_globals.specs.Standing.{Stands, strong_rows, weak_rows}
-use Rattle.jg_lists.proofs.Lists.{first, find-map, list_any-map, Member, any_member, member_filter, any_of_filter, both_ways}
+use Rattle.jg_globals.proofs.Named.{name, same_name, first_named}
+use Rattle.jg_lists.proofs.Lists.{first, Member, any_member, member_filter, any_of_filter, both_ways}
 
-object_seen : (row : Option StrongRow) → option_map (λ row. row.object) row ≡ option_map (λ row. row.object) (option_map strong_seen row)
-object_seen None = refl
-object_seen (Some row) = refl
+pub strong_tests : (m n : ℕ) (e : Name × ObjId) → is_strong m n (strong_seen e) ≡ same_name (name m n) e.0
+strong_tests m n e = grind (arith, nat_tests)
 
-object_of_first : (m n : ℕ) (was : Option ℕ) → option_map (λ row. row.object) (first (strong_rows m n was)) ≡ was
-object_of_first m n None = refl
-object_of_first m n (Some o) = refl
+pub weak_tests : (m n : ℕ) (e : Name × Target) → is_weak m n (weak_seen e) ≡ same_name (name m n) e.0
+weak_tests m n e = grind (arith, nat_tests)
 
-pub get_strong_law : (rows : Rows) (e : List Event) (items : List StrongRow) (m n : ℕ) → rows.strong ≡ map strong_seen items → Stands rows e
-    → option_map (λ row. row.object) (find (λ row. row.maker == m && row.n == n) items) ≡ strong e m n
-get_strong_law rows e items m n seen stands =
-    object_seen (find (λ row. row.maker == m && row.n == n) items)
-    ∙ rw (find-map strong_seen (λ row. row.maker == m && row.n == n) (is_strong m n) (λ row. refl) items, sym seen, stands.strong m n) (object_of_first m n (strong e m n))
+pub no_value : {X Y : Type 0} (f : X → Y) (found : Option X) → option_map f found ≡ None → found ≡ None
+no_value f None none = refl
+no_value f (Some x) none = cc
 
-target_seen : (row : Option WeakRow) → option_map (λ row. row.target) row ≡ option_map (λ row. row.target) (option_map weak_seen row)
-target_seen None = refl
-target_seen (Some row) = refl
+object_of_first : (m n : ℕ) (found : Option ObjId) (was : Option ℕ) → option_map (λ o. strong_seen (name m n, o)) found ≡ first (strong_rows m n was) → option_map (λ o. o.0) found ≡ was
+object_of_first m n None None is = refl
+object_of_first m n None (Some p) is = cc
+object_of_first m n (Some o) None is = cc
+object_of_first m n (Some o) (Some p) is = ap (option_map (λ row. row.object)) is
 
-target_of_first : (m n : ℕ) (was : Option Target) → option_map (λ row. row.target) (first (weak_rows m n was)) ≡ was
-target_of_first m n None = refl
-target_of_first m n (Some t) = refl
+pub get_strong_law : (rows : Rows) (e : List Event) (es : List (Name × ObjId)) (m n : ℕ) → rows.strong ≡ map strong_seen es → Stands rows e
+    → option_map (λ o. o.0) (lookup (same_name (name m n)) es) ≡ strong e m n
+get_strong_law rows e es m n seen stands =
+    object_of_first m n (lookup (same_name (name m n)) es) (strong e m n)
+    (sym (first_named strong_seen (is_strong m n) (name m n) (strong_tests m n) es) ∙ ap (λ l. first (filter (is_strong m n) l)) (sym seen) ∙ ap first (stands.strong m n))
 
-pub get_weak_law : (rows : Rows) (e : List Event) (items : List WeakRow) (m n : ℕ) → rows.weak ≡ map weak_seen items → Stands rows e
-    → option_map (λ row. row.target) (find (λ row. row.maker == m && row.n == n) items) ≡ weak_target e m n
-get_weak_law rows e items m n seen stands =
-    target_seen (find (λ row. row.maker == m && row.n == n) items)
-    ∙ rw (find-map weak_seen (λ row. row.maker == m && row.n == n) (is_weak m n) (λ row. refl) items, sym seen, stands.weak m n) (target_of_first m n (weak_target e m n))
+target_of_first : (m n : ℕ) (found was : Option Target) → option_map (λ t. weak_seen (name m n, t)) found ≡ first (weak_rows m n was) → found ≡ was
+target_of_first m n None None is = refl
+target_of_first m n None (Some p) is = cc
+target_of_first m n (Some t) None is = cc
+target_of_first m n (Some t) (Some p) is = ap (option_map (λ row. row.target)) is
+
+pub get_weak_law : (rows : Rows) (e : List Event) (es : List (Name × Target)) (m n : ℕ) → rows.weak ≡ map weak_seen es → Stands rows e
+    → lookup (same_name (name m n)) es ≡ weak_target e m n
+get_weak_law rows e es m n seen stands =
+    target_of_first m n (lookup (same_name (name m n)) es) (weak_target e m n)
+    (sym (first_named weak_seen (is_weak m n) (name m n) (weak_tests m n) es) ∙ ap (λ l. first (filter (is_weak m n) l)) (sym seen) ∙ ap first (stands.weak m n))
 
 -- a reference in being was made
 made_here : (all e : List Event) (m n o k i p : ℕ) (b : Bool) → is_same m n k i ≡ b → strong all m n ≡ Some o → (strong e m n ≡ Some o → list_any (made_and_held all o) e ≡ true)
@@ -110,9 +118,13 @@ held_row rows e o stands is =
     let here = any_of_strong found.0 found.1.0 o (strong e found.0 found.1.0) found.1.1 in
     any_of_filter (λ row. row.object == o) (is_strong found.0 found.1.0) rows.strong (rw (stands.strong found.0 found.1.0) here)
 
-pub holds_law : (rows : Rows) (e : List Event) (items : List StrongRow) (o : ℕ) → rows.strong ≡ map strong_seen items → Stands rows e → list_any (λ row. row.object == o) items ≡ holds_object e o
-holds_law rows e items o seen stands =
-    list_any-map strong_seen (λ row. row.object == o) (λ row. row.object == o) (λ row. refl) items
+values_any : (es : List (Name × ObjId)) (o : ℕ) → list_any (λ p. p.0 == o) (values_of es) ≡ list_any (λ row. row.object == o) (map strong_seen es)
+values_any [] o = refl
+values_any (e ∷ es) o = ap (λ b. (e.1.0 == o) || b) (values_any es o)
+
+pub holds_law : (rows : Rows) (e : List Event) (es : List (Name × ObjId)) (o : ℕ) → rows.strong ≡ map strong_seen es → Stands rows e → list_any (λ p. p.0 == o) (values_of es) ≡ holds_object e o
+holds_law rows e es o seen stands =
+    values_any es o
     ∙ (ap (list_any (λ row. row.object == o)) (sym seen)
     ∙ both_ways (list_any (λ row. row.object == o) rows.strong) (holds_object e o) (row_holds rows e o stands) (held_row rows e o stands))
 

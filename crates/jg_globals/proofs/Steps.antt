@@ -1,22 +1,25 @@
 -- How the rows stand after one more event.
-use Rattle.std.proofs.Common.{◌≡◌, ℕ, ◌+◌, ◌<◌, length, get_or, take, drop, add-one, add-zero, Bool, true, false, List, [], ◌∷◌, ◌++◌, Option, Some, None, refl, ◌∙◌, ap, sym, subst, arith}
-use Rattle.std.specs.Prelude.{◌==◌, ◌||◌, not, if◌then◌else◌, filter, map}
-use Rattle.std.specs.List.{list_any, AllByRecursion}
+use Rattle.std.proofs.Common.{◌≡◌, ℕ, zero, suc, ◌<◌, ◌≤◌, take, drop, length, Bool, true, false, cond, List, [], ◌∷◌, ◌++◌, Option, Some, None, refl, ◌∙◌, ap, sym, subst, arith}
+use Rattle.std.specs.Prelude.{◌==◌, ◌||◌, if◌then◌else◌, filter, map, slice_get, All}
+use Rattle.std.specs.List.{list_any, AllByRecursion, IsDistinct}
+use Rattle.std.specs.Map.{keys_of, values_of, lookup}
+use Rattle.std.specs.Option.{option_map, option_to_list}
 use Rattle.std.proofs.lemmas.Bool.Decides.{nat_tests}
 use Rattle.std.proofs.lemmas.List.Elements.{filter-append, recursion_from_All}
-use Rattle.std.proofs.lemmas.List.{append-nil, get_or-drop, drop-drop, drop-set-lt}
-use Rattle.std.proofs.Math.ListN.{set}
-use Rattle.std.proofs.Math.Seq.{take-suc, take-suc-set}
+use Rattle.std.proofs.lemmas.List.{append-nil, take_all}
+use Rattle.indexmap.specs.Layout.{set_value_at}
 use Rattle.jg_words.specs.declared.object.ObjId.{ObjId}
+use Rattle.jg_globals.specs.declared.name.Name.{Name}
 use Rattle.jg_globals.specs.declared.target.Target.{Target}
 use Rattle.jg_globals.specs.declared.target.Target.TheVariants.{Object, Cleared}
-use Rattle.jg_globals.specs.declared.row.WeakRow.{WeakRow}
 use Rattle.jg_globals.specs.History.{Event, MakeStrong, MakeWeak, DeleteStrong, DeleteWeak, Clear, is_same, strong, weak, after_making, clears, unless_cleared, weak_target}
 use Rattle.jg_globals.specs.Rows.{Rows, Strong, Weak, is_strong, is_weak, IsAbove}
-use Rattle.jg_globals.specs.Seen.{weak_seen}
+use Rattle.jg_globals.specs.Seen.{strong_seen, weak_seen}
 use Rattle.jg_globals.specs.Standing.{Stands, strong_rows, weak_rows, IsListOf}
 use Rattle.jg_globals.specs.Clearing.{IsCleared, EachCleared}
-use Rattle.jg_lists.proofs.Lists.{filter_swap}
+use Rattle.jg_lists.proofs.Lists.{first}
+use Rattle.jg_globals.proofs.Named.{name, same_name, first_named, rows_named}
+use Rattle.jg_globals.proofs.Lookups.{strong_tests, weak_tests, no_value, get_strong_law, get_weak_law}
 
 -- what an event that isn't about weak references does to what they name: nothing
 quiet : (maker n : ℕ) (later : List Event) (ev : Event) (found : Option ℕ) → ((o : ℕ) → clears o ev ≡ false) → unless_cleared (ev ∷ later) found ≡ unless_cleared later found
@@ -83,19 +86,31 @@ make_weak_law rows e k i o above stands = record {
       (weak_above k i rows.weak (recursion_from_All _ _ above.weak) m n));
 }
 
--- a deletion takes the row of its own reference alone
-strong_dropped : (m n k i : ℕ) (was : Option ℕ) → filter (λ row. not (is_strong k i row)) (strong_rows m n was) ≡ strong_rows m n (if is_same m n k i then None else was)
-strong_dropped m n k i None = elim (is_same m n k i) as (λ b. [] ≡ strong_rows m n (if b then None else None)) [ true ↦ refl | false ↦ refl ]
-strong_dropped m n k i (Some o) = grind (arith, nat_tests)
+-- the row of a reference that is deleted goes, and no other does
+strong_left : (m n : ℕ) (b : Bool) (found : Option ObjId) (was : Option ℕ) → option_map (λ o. o.0) found ≡ was
+    → option_to_list (option_map (λ o. strong_seen (name m n, o)) (cond b None found)) ≡ strong_rows m n (if b then None else was)
+strong_left m n true found was is = refl
+strong_left m n false None was is = ap (strong_rows m n) is
+strong_left m n false (Some o) was is = ap (strong_rows m n) is
 
-weak_dropped : (m n k i : ℕ) (was : Option Target) → filter (λ row. not (is_weak k i row)) (weak_rows m n was) ≡ weak_rows m n (if is_same m n k i then None else was)
-weak_dropped m n k i None = elim (is_same m n k i) as (λ b. [] ≡ weak_rows m n (if b then None else None)) [ true ↦ refl | false ↦ refl ]
-weak_dropped m n k i (Some o) = grind (arith, nat_tests)
+weak_left : (m n : ℕ) (b : Bool) (found was : Option Target) → found ≡ was
+    → option_to_list (option_map (λ t. weak_seen (name m n, t)) (cond b None found)) ≡ weak_rows m n (if b then None else was)
+weak_left m n true found was is = refl
+weak_left m n false None was is = ap (weak_rows m n) is
+weak_left m n false (Some t) was is = ap (weak_rows m n) is
 
-pub delete_strong_law : (rows : Rows) (e : List Event) (k i : ℕ) → Stands rows e
-    → Stands (record { strong = filter (λ row. not (is_strong k i row)) rows.strong; weak = rows.weak }) (DeleteStrong k i ∷ e)
-delete_strong_law rows e k i stands = record {
-  strong = λ m n. rw (filter_swap (is_strong m n), stands.strong m n) (strong_dropped m n k i (strong e m n));
+-- each name but that one is found as before
+abbrev pub Drops : {V : Type 0} → Name → List (Name × V) → List (Name × V) → Type 0
+Drops gone es news = (q : Name) → lookup (same_name q) news ≡ cond (same_name gone q) None (lookup (same_name q) es)
+
+pub delete_strong_law : (rows : Rows) (e : List Event) (k i : ℕ) (es news : List (Name × ObjId)) → rows.strong ≡ map strong_seen es → IsDistinct same_name (keys_of news)
+    → Drops (name k i) es news → Stands rows e
+    → Stands (record { strong = map strong_seen news; weak = rows.weak }) (DeleteStrong k i ∷ e)
+delete_strong_law rows e k i es news seen distinct drops stands = record {
+  strong = λ m n.
+      rows_named strong_seen (is_strong m n) (name m n) (strong_tests m n) news distinct
+      ∙ ap (λ found. option_to_list (option_map (λ o. strong_seen (name m n, o)) found)) (drops (name m n))
+      ∙ strong_left m n (is_same m n k i) (lookup (same_name (name m n)) es) (strong e m n) (get_strong_law rows e es m n seen stands);
   weak = λ m n. stands.weak m n ∙ ap (weak_rows m n) (sym (quiet m n (after_making m n e) (DeleteStrong k i) (weak e m n) (λ p. refl)));
 }
 
@@ -104,12 +119,29 @@ weak_target-delete : (m n k i : ℕ) (e : List Event) (b : Bool)
 weak_target-delete m n k i e true = refl
 weak_target-delete m n k i e false = quiet m n (after_making m n e) (DeleteWeak k i) (weak e m n) (λ p. refl)
 
-pub delete_weak_law : (rows : Rows) (e : List Event) (k i : ℕ) → Stands rows e
-    → Stands (record { strong = rows.strong; weak = filter (λ row. not (is_weak k i row)) rows.weak }) (DeleteWeak k i ∷ e)
-delete_weak_law rows e k i stands = record {
+pub delete_weak_law : (rows : Rows) (e : List Event) (k i : ℕ) (es news : List (Name × Target)) → rows.weak ≡ map weak_seen es → IsDistinct same_name (keys_of news)
+    → Drops (name k i) es news → Stands rows e
+    → Stands (record { strong = rows.strong; weak = map weak_seen news }) (DeleteWeak k i ∷ e)
+delete_weak_law rows e k i es news seen distinct drops stands = record {
   strong = stands.strong;
-  weak = λ m n. rw (weak_target-delete m n k i e (is_same m n k i), filter_swap (is_weak m n), stands.weak m n) (weak_dropped m n k i (weak_target e m n));
+  weak = λ m n. rw (weak_target-delete m n k i e (is_same m n k i))
+      (rows_named weak_seen (is_weak m n) (name m n) (weak_tests m n) news distinct
+      ∙ ap (λ found. option_to_list (option_map (λ t. weak_seen (name m n, t)) found)) (drops (name m n))
+      ∙ weak_left m n (is_same m n k i) (lookup (same_name (name m n)) es) (weak_target e m n) (get_weak_law rows e es m n seen stands));
 }
+
+-- a number above all of the maker's is no name yet
+pub strong_absent : (k i : ℕ) (es : List (Name × ObjId)) → All (λ row. row.maker ≡ k → row.n < i) (map strong_seen es) → lookup (same_name (name k i)) es ≡ None
+strong_absent k i es above =
+    let own : is_same k i k i ≡ true = grind (arith, nat_tests) in
+    let none = strong_above k i (map strong_seen es) (recursion_from_All _ _ above) k i own in
+    no_value (λ o. strong_seen (name k i, o)) (lookup (same_name (name k i)) es) (sym (first_named strong_seen (is_strong k i) (name k i) (strong_tests k i) es) ∙ ap first none)
+
+pub weak_absent : (k i : ℕ) (es : List (Name × Target)) → All (λ row. row.maker ≡ k → row.n < i) (map weak_seen es) → lookup (same_name (name k i)) es ≡ None
+weak_absent k i es above =
+    let own : is_same k i k i ≡ true = grind (arith, nat_tests) in
+    let none = weak_above k i (map weak_seen es) (recursion_from_All _ _ above) k i own in
+    no_value (λ t. weak_seen (name k i, t)) (lookup (same_name (name k i)) es) (sym (first_named weak_seen (is_weak k i) (name k i) (weak_tests k i) es) ∙ ap first none)
 
 -- what a reference names once each of the objects was cleared
 abbrev pub cleared_by : List ℕ → Option Target → Option Target
@@ -167,30 +199,30 @@ abbrev tail_of : List Weak → List Weak
 tail_of [] = []
 tail_of (row ∷ rows) = rows
 
-one_cleared : (test : ObjId → Bool → Type 0) (m n : ℕ) (objects : List ℕ) (row new : WeakRow) (rest rest' : List Weak) (found : Option Target)
-    → is_weak m n (weak_seen row) ≡ true → new.maker ≡ row.maker → new.n ≡ row.n → IsCleared test row.target new.target → Listed test objects found
+one_cleared : (test : ObjId → Bool → Type 0) (m n : ℕ) (objects : List ℕ) (row new : Name × Target) (rest rest' : List Weak) (found : Option Target)
+    → is_weak m n (weak_seen row) ≡ true → new.0 ≡ row.0 → IsCleared test row.1 new.1 → Listed test objects found
     → (rest ≡ [] → rest' ≡ []) → weak_seen row ∷ rest ≡ weak_rows m n found → weak_seen new ∷ rest' ≡ weak_rows m n (cleared_by objects found)
-one_cleared test m n objects row new rest rest' None mine maker number cleared listed others stands = cc
-one_cleared test m n objects row new rest rest' (Some t) mine maker number cleared listed others stands =
+one_cleared test m n objects row new rest rest' None mine named cleared listed others stands = cc
+one_cleared test m n objects row new rest rest' (Some t) mine named cleared listed others stands =
     let none : rest' ≡ [] = others (ap tail_of stands) in
-    let named : Some row.target ≡ Some t = ap head_target stands in
-    let same : row.target ≡ t = cc in
-    let own : Listed test objects (Some row.target) = λ o answer is. listed o answer (ap Some (sym same) ∙ is) in
-    let now : cleared_by objects (Some t) ≡ Some new.target = ap (λ u. cleared_by objects (Some u)) (sym same) ∙ target_cleared test objects row.target new.target own cleared in
-    let its_maker : new.maker ≡ m = grind (arith, nat_tests) in
-    let its_number : new.n ≡ n = grind (arith, nat_tests) in
+    let names : Some row.1 ≡ Some t = ap head_target stands in
+    let same : row.1 ≡ t = cc in
+    let own : Listed test objects (Some row.1) = λ o answer is. listed o answer (ap Some (sym same) ∙ is) in
+    let now : cleared_by objects (Some t) ≡ Some new.1 = ap (λ u. cleared_by objects (Some u)) (sym same) ∙ target_cleared test objects row.1 new.1 own cleared in
+    let its_maker : new.0.maker ≡ m = ap (λ k. k.maker) named ∙ grind (arith, nat_tests) in
+    let its_number : new.0.n ≡ n = ap (λ k. k.n) named ∙ grind (arith, nat_tests) in
     rw (now, none, its_maker, its_number) refl
 
-head_cleared : (test : ObjId → Bool → Type 0) (m n : ℕ) (objects : List ℕ) (row new : WeakRow) (rest rest' : List Weak) (found : Option Target) (b : Bool)
-    → is_weak m n (weak_seen row) ≡ b → new.maker ≡ row.maker → new.n ≡ row.n → IsCleared test row.target new.target → Listed test objects found
+head_cleared : (test : ObjId → Bool → Type 0) (m n : ℕ) (objects : List ℕ) (row new : Name × Target) (rest rest' : List Weak) (found : Option Target) (b : Bool)
+    → is_weak m n (weak_seen row) ≡ b → new.0 ≡ row.0 → IsCleared test row.1 new.1 → Listed test objects found
     → ((was : Option Target) → Listed test objects was → rest ≡ weak_rows m n was → rest' ≡ weak_rows m n (cleared_by objects was))
     → (if b then weak_seen row ∷ rest else rest) ≡ weak_rows m n found → (if b then weak_seen new ∷ rest' else rest') ≡ weak_rows m n (cleared_by objects found)
-head_cleared test m n objects row new rest rest' found true is maker number cleared listed tail stands =
-    one_cleared test m n objects row new rest rest' found is maker number cleared listed (tail None (λ o answer none. cc)) stands
-head_cleared test m n objects row new rest rest' found false is maker number cleared listed tail stands = tail found listed stands
+head_cleared test m n objects row new rest rest' found true is named cleared listed tail stands =
+    one_cleared test m n objects row new rest rest' found is named cleared listed (tail None (λ o answer none. cc)) stands
+head_cleared test m n objects row new rest rest' found false is named cleared listed tail stands = tail found listed stands
 
 -- the rows of one weak reference, cleared
-rows_cleared : (test : ObjId → Bool → Type 0) (m n : ℕ) (objects : List ℕ) (olds news : List WeakRow) (found : Option Target) → Listed test objects found
+rows_cleared : (test : ObjId → Bool → Type 0) (m n : ℕ) (objects : List ℕ) (olds news : List (Name × Target)) (found : Option Target) → Listed test objects found
     → EachCleared test olds news → filter (is_weak m n) (map weak_seen olds) ≡ weak_rows m n found
     → filter (is_weak m n) (map weak_seen news) ≡ weak_rows m n (cleared_by objects found)
 rows_cleared test m n objects [] news None listed cleared stands = rw cleared refl
@@ -199,12 +231,12 @@ rows_cleared test m n objects (row ∷ olds) [] found listed cleared stands = ab
 rows_cleared test m n objects (row ∷ olds) (new ∷ news) found listed cleared stands =
     let news_rest : List Weak = filter (is_weak m n) (map weak_seen news) in
     let P : Bool → Type 0 = λ b. (if b then weak_seen new ∷ news_rest else news_rest) ≡ weak_rows m n (cleared_by objects found) in
-    let same : is_weak m n (weak_seen new) ≡ is_weak m n (weak_seen row) = rw (cleared.0.0, cleared.0.1.0) refl in
+    let same : is_weak m n (weak_seen new) ≡ is_weak m n (weak_seen row) = rw cleared.0.0 refl in
     subst P (sym same)
-    (head_cleared test m n objects row new (filter (is_weak m n) (map weak_seen olds)) news_rest found (is_weak m n (weak_seen row)) refl cleared.0.0 cleared.0.1.0 cleared.0.1.1 listed
+    (head_cleared test m n objects row new (filter (is_weak m n) (map weak_seen olds)) news_rest found (is_weak m n (weak_seen row)) refl cleared.0.0 cleared.0.1 listed
     (λ was own is. rows_cleared test m n objects olds news was own cleared.1 is) stands)
 
-pub clear_law : (test : ObjId → Bool → Type 0) (rows : Rows) (olds news : List WeakRow) (e : List Event) (objects : List ℕ) → rows.weak ≡ map weak_seen olds → EachCleared test olds news
+pub clear_law : (test : ObjId → Bool → Type 0) (rows : Rows) (olds news : List (Name × Target)) (e : List Event) (objects : List ℕ) → rows.weak ≡ map weak_seen olds → EachCleared test olds news
     → IsListOf test e objects → Stands rows e
     → Stands (record { strong = rows.strong; weak = map weak_seen news }) (map (λ o. Clear o) objects ++ e)
 clear_law test rows olds news e objects seen cleared listed stands = record {
@@ -212,33 +244,34 @@ clear_law test rows olds news e objects seen cleared listed stands = record {
   weak = λ m n. rw (weak_target-clear m n objects e) (rows_cleared test m n objects olds news (weak_target e m n) (λ o answer. listed m n o answer) cleared (rw (sym seen) (stands.weak m n)));
 }
 
--- one more row cleared
-EachCleared-append : (test : ObjId → Bool → Type 0) (olds news : List WeakRow) (row new : WeakRow) → EachCleared test olds news → new.maker ≡ row.maker → new.n ≡ row.n
-    → IsCleared test row.target new.target → EachCleared test (olds ++ row ∷ []) (news ++ new ∷ [])
-EachCleared-append test [] [] row new done maker number cleared = ((maker, (number, cleared)), refl)
-EachCleared-append test [] (x ∷ news) row new done maker number cleared = cc
-EachCleared-append test (x ∷ olds) [] row new done maker number cleared = absurd done
-EachCleared-append test (x ∷ olds) (y ∷ news) row new done maker number cleared = (done.0, EachCleared-append test olds news row new done.1 maker number cleared)
+-- with one more row cleared, the rows so far are cleared, and the others are as they were
+pub record ClearedSoFar (test : ObjId → Bool → Type 0) (olds rows : List (Name × Target)) (i : ℕ) : Type 0 where
+  pub done : EachCleared test (take i olds) (take i rows)
+  pub rest : drop i rows ≡ drop i olds
+  pub long : length rows ≡ length olds
 
-same_row : (olds rows : List WeakRow) (i : ℕ) (d : WeakRow) → drop i rows ≡ drop i olds → get_or rows i d ≡ get_or olds i d
-same_row olds rows i d rest =
-    let there : get_or (drop i rows) 0 d ≡ get_or (drop i olds) 0 d = ap (λ l. get_or l 0 d) rest in
-    let before : get_or (drop i rows) 0 d ≡ get_or rows i d = rw get_or-drop (ap (λ k. get_or rows k d) (add-zero i)) in
-    let after : get_or (drop i olds) 0 d ≡ get_or olds i d = rw get_or-drop (ap (λ k. get_or olds k d) (add-zero i)) in
-    sym before ∙ (there ∙ after)
+pub one_more : (test : ObjId → Bool → Type 0) (olds rows : List (Name × Target)) (i : ℕ) (was now : Target) → ClearedSoFar test olds rows i
+    → slice_get (values_of rows) i ≡ Some was → IsCleared test was now → ClearedSoFar test olds (set_value_at rows i now) (suc i)
+one_more test [] [] zero was now so is cleared = cc
+one_more test (old ∷ olds) [] zero was now so is cleared = cc
+one_more test [] (row ∷ rows) zero was now so is cleared = cc
+one_more test (old ∷ olds) (row ∷ rows) zero was now so is cleared =
+    let same : row ∷ rows ≡ old ∷ olds = so.rest in
+    let head : row ≡ old = cc in
+    let tail : rows ≡ olds = cc in
+    let there : was ≡ row.1 = cc in
+    let P : Target → Type 0 = λ t. IsCleared test t now in
+    record { done = ((ap (λ e. e.0) head, subst P (there ∙ ap (λ e. e.1) head) cleared), refl); rest = tail; long = so.long }
+one_more test [] [] (suc i) was now so is cleared = cc
+one_more test (old ∷ olds) [] (suc i) was now so is cleared = cc
+one_more test [] (row ∷ rows) (suc i) was now so is cleared = cc
+one_more test (old ∷ olds) (row ∷ rows) (suc i) was now so is cleared =
+    let more = one_more test olds rows i was now (record { done = so.done.1; rest = so.rest; long = omega arith }) is cleared in
+    record { done = (so.done.0, more.done); rest = more.rest; long = ap suc more.long }
 
-pub cleared_so_far : (test : ObjId → Bool → Type 0) (olds rows : List WeakRow) (i : ℕ) (d new : WeakRow) → i < length olds → length rows ≡ length olds → EachCleared test (take i olds) (take i rows)
-    → drop i rows ≡ drop i olds
-    → new.maker ≡ (get_or rows i d).maker → new.n ≡ (get_or rows i d).n → IsCleared test (get_or rows i d).target new.target
-    → EachCleared test (take (i + 1) olds) (take (i + 1) (set rows i new))
-cleared_so_far test olds rows i d new within long done rest maker number cleared =
-    let inside : i < length rows = omega arith in
-    let is : get_or rows i d ≡ get_or olds i d = same_row olds rows i d rest in
-    let P : WeakRow → Type 0 = λ row. EachCleared test (take i olds ++ row ∷ []) (take i rows ++ new ∷ []) in
-    rw (add-one, take-suc-set rows i new inside, take-suc olds i d within)
-    (subst P is (EachCleared-append test (take i olds) (take i rows) (get_or rows i d) new done maker number cleared))
-
-pub rest_as_it_was : (olds rows : List WeakRow) (i : ℕ) (new : WeakRow) → drop i rows ≡ drop i olds → drop (i + 1) (set rows i new) ≡ drop (i + 1) olds
-rest_as_it_was olds rows i new rest =
-    let next : drop 1 (drop i rows) ≡ drop 1 (drop i olds) = ap (drop 1) rest in
-    rw (drop-set-lt (i + 1) rows i new (omega arith)) (sym (drop-drop 1 i rows) ∙ (next ∙ drop-drop 1 i olds))
+pub all_cleared : (test : ObjId → Bool → Type 0) (olds rows : List (Name × Target)) (i : ℕ) → ClearedSoFar test olds rows i → length olds ≤ i → EachCleared test olds rows
+all_cleared test olds rows i so reached =
+    let P : List (Name × Target) → Type 0 = λ l. EachCleared test l rows in
+    let Q : List (Name × Target) → Type 0 = λ l. EachCleared test (take i olds) l in
+    let long = so.long in
+    subst P (take_all i olds reached) (subst Q (take_all i rows (omega arith)) so.done)

@@ -1,7 +1,7 @@
 -- What clearing by a test does to the rows that the code keeps.
 use Rattle.std.specs.Prelude.{◌≡◌, Bool, if◌then◌else◌, List, [], ◌∷◌}
 use Rattle.jg_words.specs.declared.object.ObjId.{ObjId}
-use Rattle.jg_globals.specs.declared.row.WeakRow.{WeakRow}
+use Rattle.jg_globals.specs.declared.name.Name.{Name}
 use Rattle.jg_globals.specs.declared.target.Target.{Target}
 use Rattle.jg_globals.specs.declared.target.Target.TheVariants.{Object, Cleared}
 
@@ -11,8 +11,8 @@ IsCleared test Cleared now = now ≡ Cleared
 IsCleared test (Object o) now = (answer : Bool) × (test o answer × (now ≡ (if answer then Cleared else Object o)))
 
 -- each row keeps its name, and its target is cleared by the test
-abbrev pub EachCleared : (ObjId → Bool → Type 0) → List WeakRow → List WeakRow → Type 0
+abbrev pub EachCleared : (ObjId → Bool → Type 0) → List (Name × Target) → List (Name × Target) → Type 0
 EachCleared test [] rows = rows ≡ []
 EachCleared test (row ∷ rows) [] = ⊥
 EachCleared test (row ∷ rows) (new ∷ news) =
-    ((new.maker ≡ row.maker) × ((new.n ≡ row.n) × IsCleared test row.target new.target)) × EachCleared test rows news
+    ((new.0 ≡ row.0) × IsCleared test row.1 new.1) × EachCleared test rows news

@@ -1,10 +1,18 @@
--- What contracts see of the rows that the code keeps.
-use Rattle.jg_globals.specs.declared.row.StrongRow.{StrongRow}
-use Rattle.jg_globals.specs.declared.row.WeakRow.{WeakRow}
+-- What contracts see of the maps that the code keeps.
+use Rattle.jg_words.specs.declared.object.ObjId.{ObjId}
+use Rattle.jg_words.specs.declared.reference.Ref.{Ref}
+use Rattle.jg_words.specs.declared.reference.Ref.TheVariants.{To}
+use Rattle.jg_words.specs.declared.reference.Kind.{Kind}
+use Rattle.jg_globals.specs.declared.name.Name.{Name}
+use Rattle.jg_globals.specs.declared.target.Target.{Target}
 use Rattle.jg_globals.specs.Rows.{Strong, Weak}
 
-abbrev pub strong_seen : StrongRow → Strong
-strong_seen row = record { maker = row.maker; n = row.n; object = row.object }
+abbrev pub strong_seen : Name × ObjId → Strong
+strong_seen entry = record { maker = entry.0.maker; n = entry.0.n; object = entry.1.0 }
 
-abbrev pub weak_seen : WeakRow → Weak
-weak_seen row = record { maker = row.maker; n = row.n; target = row.target }
+abbrev pub weak_seen : Name × Target → Weak
+weak_seen entry = record { maker = entry.0.maker; n = entry.0.n; target = entry.1 }
+
+-- the reference of that kind and name
+abbrev pub ref_named : Kind → Name → Ref
+ref_named kind name = To kind (record { 0 = name.maker }) name.n

@@ -1,14 +1,14 @@
 ghost use Rattle.std.specs.Prelude.{◌≡◌, ℕ, List, [], ◌∷◌, ◌++◌, map, OnOk, OnErr};
+ghost use Rattle.std.specs.Option.{option_map};
 ghost use Rattle.jg_globals.specs.History.{Event, MakeStrong, MakeWeak, Clear, strong_target, target_of, deletion, holds_object};
 ghost use Rattle.jg_globals.specs.Rows.{AddsNumber, IsAbove, KeepsNumbers, strong_ref, weak_ref};
 ghost use Rattle.jg_globals.specs.Standing.{Stands, IsListOf};
 ghost use Rattle.jg_lists.specs.Marks.{Marks};
 
-use crate::row::{
-    StrongRow, WeakRow, clear_rows, end_strong, end_weak, list_strong, list_weak, mark_objects,
-    names_object, object_of_strong, target_of_weak,
-};
+use crate::by_name::{ByName, clear_rows, list_names, mark_objects, names_object};
+use crate::name::Name;
 use crate::target::Target;
+use indexmap::IndexMap;
 use jg_words::{Kind, ObjId, Ref, Tid};
 use std::alloc::{AllocError, Allocator, Global};
 use std::marker::Model;
@@ -16,8 +16,8 @@ use std::marker::Model;
 /// The global and weak global references in being. Contracts see the rows.
 #[derive(Drop)]
 pub struct Globals<A: Allocator = Global> {
-    strong: Vec<StrongRow, A>,
-    weak: Vec<WeakRow, A>,
+    strong: ByName<ObjId, A>,
+    weak: ByName<Target, A>,
 }
 
 impl<A: Allocator> Model for Globals<A> {
@@ -27,22 +27,24 @@ impl<A: Allocator> Model for Globals<A> {
 
     ghost Value = { Rows };
 
-    ghost view = { λ a. record { strong = map strong_seen a.strong.items; weak = map weak_seen a.weak.items } };
+    ghost view = { λ a. record { strong = map strong_seen a.strong.entries; weak = map weak_seen a.weak.entries } };
 }
 
-impl<A: Allocator + Clone> Globals<A> {
-    /// No reference is in being. Takes no memory; the two lists grow from the two handles.
+impl<A: Allocator + Copy> Globals<A> {
+    /// No reference is in being. Takes no memory; the two maps grow from the two handles.
     pub fn new(strong: A, weak: A) -> Globals<A>
         ensures stands { Stands result [] }
         ensures rows { result ≡ record { strong = []; weak = [] } }
         ensures numbers { (k i : ℕ) → IsAbove k i result }
     {
         Globals {
-            strong: Vec::new(strong),
-            weak: Vec::new(weak),
+            strong: IndexMap::new(strong),
+            weak: IndexMap::new(weak),
         }
     }
+}
 
+impl<A: Allocator> Globals<A> {
     /// Makes global reference `n` of `maker`, which names the object (chapter 4, `NewGlobalRef`).
     /// Asks that `n` is above each number of the maker's references in being, of both kinds: who
     /// counts them knows it (`new_number_is_above`). Fails only for want of memory, and then leaves
@@ -54,11 +56,8 @@ impl<A: Allocator + Clone> Globals<A> {
         ensures err { OnErr result (self.new ≡ self.old) }
         ensures numbers { AddsNumber maker.0 n self.old self.new }
     {
-        self.strong.push(StrongRow {
-            maker: maker.0,
-            n,
-            object: object.0,
-        })?;
+        let name = Name { maker: maker.0, n };
+        self.strong.insert(name, object)?;
         Ok(())
     }
 
@@ -72,11 +71,8 @@ impl<A: Allocator + Clone> Globals<A> {
         ensures err { OnErr result (self.new ≡ self.old) }
         ensures numbers { AddsNumber maker.0 n self.old self.new }
     {
-        self.weak.push(WeakRow {
-            maker: maker.0,
-            n,
-            target: Target::Object(object),
-        })?;
+        let name = Name { maker: maker.0, n };
+        self.weak.insert(name, Target::Object(object))?;
         Ok(())
     }
 
@@ -89,11 +85,18 @@ impl<A: Allocator + Clone> Globals<A> {
     {
         match reference {
             Ref::Null => {}
-            Ref::To { kind, maker, n } => match kind {
-                Kind::Local => {}
-                Kind::Global => end_strong(&mut self.strong, maker.0, n),
-                Kind::Weak => end_weak(&mut self.weak, maker.0, n),
-            },
+            Ref::To { kind, maker, n } => {
+                let name = Name { maker: maker.0, n };
+                match kind {
+                    Kind::Local => {}
+                    Kind::Global => {
+                        self.strong.swap_remove(&name);
+                    }
+                    Kind::Weak => {
+                        self.weak.swap_remove(&name);
+                    }
+                }
+            }
         }
     }
 
@@ -104,11 +107,14 @@ impl<A: Allocator + Clone> Globals<A> {
     {
         match reference {
             Ref::Null => None,
-            Ref::To { kind, maker, n } => match kind {
-                Kind::Local => None,
-                Kind::Global => object_target(object_of_strong(&self.strong, maker.0, n)),
-                Kind::Weak => target_of_weak(&self.weak, maker.0, n),
-            },
+            Ref::To { kind, maker, n } => {
+                let name = Name { maker: maker.0, n };
+                match kind {
+                    Kind::Local => None,
+                    Kind::Global => object_target(self.strong.get(&name).copied()),
+                    Kind::Weak => self.weak.get(&name).copied(),
+                }
+            }
         }
     }
 
@@ -138,7 +144,7 @@ impl<A: Allocator + Clone> Globals<A> {
     pub fn holds_object(&self, object: ObjId) -> bool
         ensures { (e : List Event) → Stands self.now e → result ≡ holds_object e object.0 }
     {
-        names_object(&self.strong, object.0)
+        names_object(&self.strong, object)
     }
 
     /// Sets the mark of each object that a global reference names and leaves the other marks. An
@@ -150,23 +156,22 @@ impl<A: Allocator + Clone> Globals<A> {
     }
 
     /// Appends the global references in being and then the weak ones, cleared ones too, each kind in
-    /// the order of making. Takes time by how many there are. Fails only for want of memory; the list
-    /// then holds a part of them.
+    /// no order that means anything. Takes time by how many there are. Fails only for want of memory;
+    /// the list then holds a part of them.
     pub fn list<B: Allocator>(&self, refs: &mut Vec<Ref, B>) -> Result<(), AllocError>
         ensures ok { OnOk result (refs.new.items
             ≡ refs.old.items ++ (map strong_ref self.now.strong ++ map weak_ref self.now.weak)) }
     {
-        list_strong(&self.strong, refs)?;
-        list_weak(&self.weak, refs)?;
-        Ok(())
+        list_names(&self.strong, Kind::Global, refs)?;
+        list_names(&self.weak, Kind::Weak, refs)
     }
 }
 
-fn object_target(object: Option<u64>) -> Option<Target>
-    ensures { result ≡ strong_target object }
+fn object_target(object: Option<ObjId>) -> Option<Target>
+    ensures { result ≡ strong_target (option_map (λ o. o.0) object) }
 {
     match object {
         None => None,
-        Some(object) => Some(Target::Object(ObjId(object))),
+        Some(object) => Some(Target::Object(object)),
     }
 }

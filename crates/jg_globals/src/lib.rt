@@ -4,9 +4,10 @@
 //! Specification's.
 #![tactic(auto)]
 
+mod by_name;
 mod globals;
 mod meanings;
-mod row;
+mod name;
 mod target;
 
 pub use globals::Globals;

@@ -86,8 +86,30 @@ fn listed(rt: HostRuntime) -> Result<(), Fail> {
     let mut refs = Vec::new(rt.alloc());
     refs.push(Ref::Null)?;
     table.list(&mut refs)?;
-    let wanted = [Ref::Null, global(T2, 1), global(T1, 3), weak(T1, 1)];
+    let wanted = [Ref::Null, global(T1, 3), global(T2, 1), weak(T1, 1)];
     assert_eq!(rt; refs.as_slice(), wanted.as_slice());
+    Ok(())
+}
+
+/// Deletions from the front, from the back and here and there leave just what a plain list keeps.
+#[test]
+fn deletions_in_any_order(rt: HostRuntime) -> Result<(), Fail> {
+    for step in [1u64, 100, 37] {
+        let mut table = Globals::new(rt.alloc(), rt.alloc());
+        let mut kept = Vec::new(rt.alloc());
+        for n in 1..101u64 {
+            table.make_strong(T1, n, ObjId(n))?;
+            kept.push(n)?;
+        }
+        for turn in 1..101u64 {
+            let gone = turn.saturating_mul(step) % 101;
+            table.delete(global(T1, gone));
+            kept.retain(|n| *n != gone);
+            for n in 1..101u64 {
+                assert_eq!(rt; table.get(global(T1, n)).is_some(), kept.contains(&n));
+            }
+        }
+    }
     Ok(())
 }
 

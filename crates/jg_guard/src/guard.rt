@@ -1,4 +1,4 @@
-ghost use Rattle.std.specs.Prelude.{◌≡◌, ◌<◌, ◌≤◌, ◌⊎◌, ◌↔◌, [], ◌∷◌, length, reverse, IfOk, IfErr, OnErr, None, Some, Err, slice_get, vec_len, vec_capacity};
+ghost use Rattle.std.specs.Prelude.{◌≡◌, ◌<◌, ◌≤◌, ◌⊎◌, ◌↔◌, [], ◌∷◌, length, reverse, IfOk, IfErr, OnErr, None, Some, Err, slice_get};
 ghost use Rattle.std.specs.Option.{option_copied};
 ghost use Rattle.jg_rules.specs.Legal.{Legal};
 ghost use Rattle.jg_rules.specs.Effects.{parts};
@@ -12,6 +12,7 @@ use crate::answer::answer_to;
 use crate::leaks::{Leaks, list_buffers, list_refs};
 use crate::perform::perform;
 use crate::tables::Tables;
+use jg_blocks::Blocks;
 use jg_buffers::Buffers;
 use jg_globals::Globals;
 use jg_heap::Heap;
@@ -39,7 +40,7 @@ pub enum Refusal {
 pub struct Guard<A: Allocator = Global> {
     setup: Setup,
     limit: u32,
-    journal: Vec<Entry, A>,
+    journal: Blocks<Entry, A>,
     tables: Tables<A>,
 }
 
@@ -56,7 +57,7 @@ impl<A: Allocator> Model for Guard<A> {
         (rows_of g.tables) };
 }
 
-impl<A: Allocator + Clone> Guard<A> {
+impl<A: Allocator + Copy> Guard<A> {
     /// A guard with an empty journal of at most `limit` entries. `lists` is for the items of list
     /// answers. Fails only for want of memory.
     pub fn new(alloc: A, lists: Global, setup: Setup, limit: u32) -> Result<Guard<A>, AllocError>
@@ -64,20 +65,14 @@ impl<A: Allocator + Clone> Guard<A> {
         ensures limit { IfOk result (λ guard. guard.limit ≡ limit) }
         ensures journal { IfOk result (λ guard. guard.journal ≡ []) }
     {
-        let threads = Threads::new(alloc.clone()?);
-        let locals = Locals::new(alloc.clone()?, alloc.clone()?);
-        let globals = Globals::new(alloc.clone()?, alloc.clone()?);
-        let buffers = Buffers::new(
-            alloc.clone()?,
-            alloc.clone()?,
-            alloc.clone()?,
-            alloc.clone()?,
-            alloc.clone()?,
-        );
-        let monitors = Monitors::new(alloc.clone()?, alloc.clone()?);
-        let links = Links::new(alloc.clone()?, alloc.clone()?);
-        let heap = Heap::new(alloc.clone()?, u64::from(setup.class_count()))?;
-        let journal = Vec::new(alloc.clone()?);
+        let threads = Threads::new(alloc);
+        let locals = Locals::new(alloc, alloc);
+        let globals = Globals::new(alloc, alloc);
+        let buffers = Buffers::new(alloc, alloc, alloc, alloc, alloc);
+        let monitors = Monitors::new(alloc, alloc);
+        let links = Links::new(alloc, alloc);
+        let heap = Heap::new(alloc, u64::from(setup.class_count()))?;
+        let journal = Blocks::new(alloc, alloc);
         let tables = Tables {
             alloc,
             lists,
@@ -96,7 +91,9 @@ impl<A: Allocator + Clone> Guard<A> {
             tables,
         })
     }
+}
 
+impl<A: Allocator + Clone> Guard<A> {
     /// The first rule that the call breaks as the journal is now, which `call` would deny it by;
     /// None where it breaks none.
     pub fn judge(&self, tid: Tid, env: Option<EnvId>, call: &Call) -> Option<Rule>
@@ -136,7 +133,7 @@ impl<A: Allocator + Clone> Guard<A> {
         ensures err { OnErr result (self.new ≡ self.old) }
         ensures back { IfErr result (λ refusal. refusal ≡ Refusal.NoMemory call) }
     {
-        if self.journal.try_reserve(1).is_err() {
+        if self.journal.reserve(1).is_err() {
             return Err(Refusal::NoMemory(call));
         }
         let entry = Entry {
@@ -168,7 +165,7 @@ impl<A: Allocator + Clone> Guard<A> {
         let Ok(value) = given.reply.value.try_copy() else {
             return Err(Refusal::NoMemory(call));
         };
-        let Ok(()) = self.journal.try_reserve(1) else {
+        let Ok(()) = self.journal.reserve(1) else {
             return Err(Refusal::NoMemory(call));
         };
         let Ok(()) = perform(&mut self.tables, &self.setup, tid, &call, &given) else {
@@ -243,12 +240,9 @@ impl<A: Allocator + Clone> Guard<A> {
     }
 }
 
-fn push_reserved<A: Allocator>(journal: &mut Vec<Entry, A>, entry: Entry)
-    requires { vec_len journal.old < vec_capacity journal.old }
+fn push_reserved<A: Allocator + Clone>(journal: &mut Blocks<Entry, A>, entry: Entry)
+    requires { 0 < journal.old.spare }
     ensures { reverse journal.new.items ≡ entry ∷ reverse journal.old.items }
 {
-    match journal.push(entry) {
-        Ok(()) => {}
-        Err(_) => unreachable!(),
-    }
+    journal.push(entry);
 }

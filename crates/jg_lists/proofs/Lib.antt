@@ -1,3 +1,4 @@
 pub mod Acts
 pub mod Lists
 pub mod Marks
+pub mod Oldest

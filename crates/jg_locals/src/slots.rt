@@ -1,6 +1,6 @@
 //! One thread's list of locals, which ascends by number, and its list of frames.
 
-ghost use Rattle.std.specs.Prelude.{◌≡◌, ◌≢◌, ◌≤◌, ◌<◌, ◌-◌, ◌&&◌, ◌==◌, ◌||◌, ◌++◌, ◌∷◌, ◌↔◌, ℕ, [], IsTrue, List, All, OnOk, map, Some, None, MatchOption, true, false, not, nat_le, filter, find, length, slice_index_or, vec_len, vec_capacity};
+ghost use Rattle.std.specs.Prelude.{◌≡◌, ◌≢◌, ◌≤◌, ◌<◌, ◌-◌, ◌&&◌, ◌==◌, ◌||◌, ◌++◌, ◌∷◌, ◌↔◌, ℕ, [], IfSome, IsTrue, List, All, OnOk, map, Some, None, MatchOption, true, false, not, nat_le, filter, find, length, slice_index_or, vec_len, vec_capacity};
 ghost use Rattle.std.specs.Option.{option_map, option_to_list};
 ghost use Rattle.std.specs.List.{AllByRecursion, list_any};
 ghost use Rattle.jg_lists.specs.Marks.{Marks};
@@ -12,12 +12,24 @@ use jg_lists::mark;
 use jg_words::{Kind, Ref, Tid};
 use std::alloc::{AllocError, Allocator};
 
+/// Where the local `n` stands, if none is missing from the oldest up to it.
+fn place_in_row(slots: &[Slot], n: u64) -> Option<usize>
+    ensures { IfSome result (λ i. (i < length slots.now) × ((s : Slot) → (slice_index_or slots.now i s).n ≡ n)) }
+{
+    let i = n.checked_sub(slots.first()?.n)? as usize;
+    if slots.get(i)?.n == n { Some(i) } else { None }
+}
+
 /// Where the local `n` stands, live or dead.
 pub fn place_of(slots: &[Slot], n: u64) -> Option<usize>
     requires { Chain is_before slots.now }
     ensures { MatchOption result (AllByRecursion (λ s. (s.n == n) ≡ false) slots.now) (λ i. (i < length slots.now)
         × ((s : Slot) → (slice_index_or slots.now i s).n ≡ n)) }
 {
+    // Most lists have a local of each number, and then no search is needed.
+    if let Some(i) = place_in_row(slots, n) {
+        return Some(i);
+    }
     match slots.binary_search_by_key(&n, |slot| slot.n) {
         Ok(i) => Some(i),
         Err(_place) => None,

@@ -125,6 +125,79 @@ fn deletions_close_up(rt: HostRuntime) -> Result<(), Fail> {
     Ok(())
 }
 
+/// Deletions from the front, from the back and here and there leave just what a plain list keeps.
+#[test]
+fn deletions_in_any_order(rt: HostRuntime) -> Result<(), Fail> {
+    for step in [1u64, 100, 37] {
+        let mut locals = Locals::new(rt.alloc(), rt.alloc());
+        let mut kept = Vec::new(rt.alloc());
+        start(&rt, &mut locals, T)?;
+        for n in 1..101u64 {
+            make(&rt, &mut locals, n)?;
+            kept.push(n)?;
+        }
+        for turn in 1..101u64 {
+            let gone = turn.saturating_mul(step) % 101;
+            locals.delete(T, gone);
+            kept.retain(|n| *n != gone);
+            for n in 1..101u64 {
+                assert_eq!(rt; locals.get(T, n).is_some(), kept.contains(&n));
+            }
+        }
+    }
+    Ok(())
+}
+
+/// The last local of a frame below the newest is deleted, then all of the newest, which is popped.
+#[test]
+fn dead_ends(rt: HostRuntime) -> Result<(), Fail> {
+    let mut locals = Locals::new(rt.alloc(), rt.alloc());
+    start(&rt, &mut locals, T)?;
+    make(&rt, &mut locals, 1)?;
+    make(&rt, &mut locals, 2)?;
+    push(&rt, &mut locals)?;
+    make(&rt, &mut locals, 3)?;
+    make(&rt, &mut locals, 4)?;
+    locals.delete(T, 2);
+    assert_eq!(rt; locals.get(T, 2), None);
+    assert_eq!(rt; locals.get(T, 3), Some(ObjId(3)));
+    locals.delete(T, 3);
+    locals.delete(T, 4);
+    pop(&rt, &mut locals);
+    assert_eq!(rt; locals.get(T, 1), Some(ObjId(1)));
+    assert!(rt; !locals.can_pop(T));
+    make(&rt, &mut locals, 2)?;
+    assert_eq!(rt; locals.get(T, 2), Some(ObjId(2)));
+    Ok(())
+}
+
+/// 100,000 locals in 1,000 frames; each second local is deleted and all frames but the first are
+/// popped: the 50 that are left of the first are found, and no other.
+#[test]
+fn a_thousand_frames(rt: HostRuntime) -> Result<(), Fail> {
+    let mut locals = Locals::new(rt.alloc(), rt.alloc());
+    start(&rt, &mut locals, T)?;
+    for n in 0..100_000u64 {
+        if n % 100 == 0 {
+            push(&rt, &mut locals)?;
+        }
+        make(&rt, &mut locals, n)?;
+    }
+    for n in 0..100_000u64 {
+        if n % 2 == 0 {
+            locals.delete(T, n);
+        }
+    }
+    for _frame in 1..1_000u64 {
+        pop(&rt, &mut locals);
+    }
+    for n in 0..100_000u64 {
+        assert_eq!(rt; locals.get(T, n).is_some(), n < 100 && n % 2 == 1);
+    }
+    assert_eq!(rt; locals.pushed(T), 1);
+    Ok(())
+}
+
 fn local(maker: Tid, n: u64) -> Ref {
     Ref::To {
         kind: Kind::Local,

@@ -14,6 +14,7 @@ mod natives;
 mod object_fields;
 mod objects;
 mod owners;
+mod played;
 mod references;
 mod releases;
 mod rules;

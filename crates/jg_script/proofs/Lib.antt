@@ -1,4 +1,4 @@
-pub mod Lines
+pub mod TextLines
 pub mod Taking
 pub mod Runs
 pub mod Fronts
@@ -6,3 +6,7 @@ pub mod Pieces
 pub mod Replaying
 pub mod Reread
 pub mod Leaking
+pub mod Threads
+pub mod Filing
+pub mod Writing
+mod Unread

@@ -19,7 +19,7 @@ use Rattle.jg_script.specs.Checked.{IsScript, ReaderFails}
 use Rattle.jg_script.specs.Devices.{IsOneLine, TakesBytes, TakesFront}
 use Rattle.jg_script.specs.Entries.{IsCut, Replays, IsPast}
 use Rattle.jg_script.specs.Replayed.{IsHistory, GoesOn, IsDifferent, IsTextThen, Verifies}
-use Rattle.jg_script.specs.Lines.{ReadsOneMore}
+use Rattle.jg_script.specs.TextLines.{ReadsOneMore}
 use Rattle.jg_script.proofs.Replaying.{call_in, call_goes_on, ends_with_feed}
 
 -- what a reading knows before a line: what was read is the text of the guard's journal, a legal

@@ -1,7 +1,6 @@
 -- What the lines taken so far, and the answer to the next one, say of the whole.
-use Rattle.std.proofs.Common.{◌≡◌, ◌≢◌, ℕ, ◌+◌, ◌≤◌, List, [], ◌∷◌, ◌++◌, length, Option, Some, None, IfSome, Ok, Err, ap, sym, ◌∙◌, subst, append_assoc, refl, arith, inl, inr, ◌⊎◌}
-use Rattle.std.specs.Io.KnownBytes.{Appends, Consumes, IsAtEnd}
-use Rattle.std.proofs.lemmas.List.{append-nil}
+use Rattle.std.proofs.Common.{◌≡◌, ◌≢◌, ℕ, ◌+◌, ◌≤◌, List, [], ◌∷◌, ◌++◌, length, Option, Some, None, Ok, Err, ap, sym, ◌∙◌, subst, refl, arith, inl, inr, ◌⊎◌}
+use Rattle.std.specs.Io.KnownBytes.{Appends, Consumes, Keeps}
 use Rattle.jg_words.specs.declared.entry.Entry.{Entry}
 use Rattle.jg_text.specs.declared.fault.ScriptFault.TheVariants.{LineTooLong}
 use Rattle.jg_text.specs.Faults.{IsFirstFault}
@@ -10,38 +9,11 @@ use Rattle.jg_guard.specs.Guard.{State}
 use Rattle.jg_script.specs.declared.run_fault.RunFault.{RunFault}
 use Rattle.jg_script.specs.declared.run_fault.RunFault.TheVariants.{Script, Limit, NoMemory, Read, Write}
 use Rattle.jg_script.specs.Answered.{Answers, Journals}
-use Rattle.jg_script.specs.Checked.{Checks, Reads, script_text, IsWellFormed, IsFollowedBy, TakesOneMore, WritesAll, BeginsWith, IsScript}
-use Rattle.jg_script.specs.Lines.{lines_of, LinesTaken, BeginsTooLong, ReadsOneMore}
+use Rattle.jg_script.specs.Checked.{Checks, Reads, script_text, IsWellFormed, WritesAll, IsScript}
+use Rattle.jg_script.specs.TextLines.{lines_of, LinesTaken, BeginsTooLong, BeginsWith, AreFollowedBy, TakesOneMore, ReadsOneMore}
 use Rattle.jg_script.specs.Devices.{TakesFront}
-use Rattle.std.proofs.KnownBytes.{Appends-trans, Consumes-trans}
-
-followed : (a c : Option (List ℕ)) (xs : List (List ℕ)) (line : List ℕ) (P : List ℕ → Type 0) → LinesTaken a c (xs ++ line ∷ []) → P line
-    → IfSome a (λ text. (next : List ℕ) × (more : List (List ℕ)) × (lines_of text ≡ xs ++ next ∷ more) × P next)
-followed None c xs line P e p = tt
-followed (Some text) None xs line P e p = absurd e
-followed (Some text) (Some rest) xs line P e p = (line, lines_of rest, e ∙ append_assoc xs (line ∷ []) (lines_of rest), p)
-
-begun : (a c : Option (List ℕ)) (xs : List (List ℕ)) → LinesTaken a c xs → IfSome a (λ text. (more : List (List ℕ)) × (lines_of text ≡ xs ++ more))
-begun None c xs e = tt
-begun (Some text) None xs e = absurd e
-begun (Some text) (Some rest) xs e = (lines_of rest, e)
-
-begun_before : (a c : Option (List ℕ)) (xs : List (List ℕ)) (line : List ℕ) → LinesTaken a c (xs ++ line ∷ []) → IfSome a (λ text. (more : List (List ℕ)) × (lines_of text ≡ xs ++ more))
-begun_before None c xs line e = tt
-begun_before (Some text) None xs line e = absurd e
-begun_before (Some text) (Some rest) xs line e = (line ∷ lines_of rest, e ∙ append_assoc xs (line ∷ []) (lines_of rest))
-
-pub ended : (a c : Option (List ℕ)) (xs : List (List ℕ)) → LinesTaken a c xs → IsAtEnd c → IfSome a (λ text. lines_of text ≡ xs)
-ended None c xs e done = tt
-ended (Some text) None xs e done = absurd e
-ended (Some text) (Some rest) xs e done = e ∙ ap (λ r. xs ++ lines_of r) done ∙ append-nil xs
-
--- the line that comes next is too long
-too_long : (a b : Option (List ℕ)) (h : List Entry) → LinesTaken a b (call_lines h) → BeginsTooLong b → IsFollowedBy a h (λ next. IsFirstFault next LineTooLong)
-too_long None b h e long = tt
-too_long (Some text) None h e long = absurd e
-too_long (Some text) (Some rest) h e (bad, more, split, long) =
-    (bad, more, e ∙ ap (λ ls. call_lines h ++ ls) split, record { fault = long; first = λ g low. absurd (omega (arith, low)) })
+use Rattle.jg_script.proofs.TextLines.{followed, followed_by_long, begun, begun_before, one_more}
+use Rattle.std.proofs.KnownBytes.{Appends-nil, Appends-kept, Appends-trans, Consumes-nil, Consumes-trans}
 
 -- the lines of the longer history
 lines_of_calls : (a c : Option (List ℕ)) (old new : State) (text : List ℕ) (e : Entry) → Journals old new text e → LinesTaken a c (call_lines old.journal ++ text ∷ [])
@@ -57,9 +29,30 @@ pub record HasChecked (input input' bytes bytes' : Option (List ℕ)) (limit lin
   pub counted : line ≡ length guard.journal + 1
   pub limited : guard.limit ≡ limit
 
+-- what is held back may be handed on
+pub still_checked : (input mid bytes part part' : Option (List ℕ)) (limit line : ℕ) (guard : State) → HasChecked input mid bytes part limit line guard → Keeps part part'
+    → HasChecked input mid bytes part' limit line guard
+still_checked input mid bytes part part' limit line guard h kept = record {
+  read = h.read;
+  written = Appends-kept _ _ _ _ h.written kept;
+  counted = h.counted;
+  limited = h.limited;
+}
+
+-- where nothing is read and the journal is empty
+begins : (input : Option (List ℕ)) → BeginsWith input []
+begins None = tt
+begins (Some text) = (lines_of text, refl)
+
+pub none_checked : (input bytes : Option (List ℕ)) (limit : ℕ) (h : List Entry) → h ≡ [] → Checks input input bytes bytes limit h (Err (NoMemory 1))
+none_checked input bytes limit h none = (subst (λ (g : List Entry). BeginsWith input (call_lines g)) (sym none) (begins input), ([], inl none, Appends-nil bytes, refl))
+
+pub none_read : (input : Option (List ℕ)) (h : List Entry) → h ≡ [] → Reads input input h (Err (NoMemory 1))
+none_read input h none = ([], inl none, refl, one_more input input input [] (Consumes-nil input) ([], ([], (λ k d below. absurd (omega (arith, below))), inl refl, omega arith), Consumes-nil input))
+
 pub long_answered : (input mid input' bytes bytes' : Option (List ℕ)) (limit line : ℕ) (guard : State) → HasChecked input mid bytes bytes' limit line guard → length guard.journal ≤ limit
     → BeginsTooLong mid → Checks input input' bytes bytes' limit guard.journal (Err (Script line LineTooLong))
-long_answered input mid input' bytes bytes' limit line guard h within long = (too_long input mid guard.journal h.read long, (λ other. absurd (other refl)), h.written, h.counted, within)
+long_answered input mid input' bytes bytes' limit line guard h within long = (followed_by_long input mid (call_lines guard.journal) h.read long, (λ other. absurd (other refl)), h.written, h.counted, within)
 
 module _ (input mid input' bytes part bytes' : Option (List ℕ)) (limit line : ℕ) (old new : State) (text : List ℕ) where
   -- one more line is taken, and answered
@@ -84,19 +77,19 @@ module _ (input mid input' bytes part bytes' : Option (List ℕ)) (limit line : 
       → Answers part bytes' old new text line (Err fault)
       → Checks input input' bytes bytes' limit new.journal (Err fault)
   answered_err (Script l f) h within taken (device, same, first, is) =
-      let P : State → Type 0 = λ k. IsFollowedBy input k.journal (λ next. IsFirstFault next f) × (f ≢ LineTooLong → TakesOneMore input input' k.journal) × WritesAll bytes bytes' k.journal
+      let P : State → Type 0 = λ k. AreFollowedBy input (call_lines k.journal) (λ next. IsFirstFault next f) × (f ≢ LineTooLong → TakesOneMore input input' (call_lines k.journal)) × WritesAll bytes bytes' k.journal
       × (l ≡ length k.journal + 1) × (length k.journal ≤ limit) in
       let Q : Option (List ℕ) → Type 0 = λ d. WritesAll bytes d old.journal in
       subst P (sym same) (followed _ _ _ text (λ next. IsFirstFault next f) taken first, (λ _. (text, taken)), subst Q (sym device) h.written, is ∙ h.counted, within)
   answered_err (Limit l) h within taken (device, same, well, full, is) =
-      let P : State → Type 0 = λ k. IsFollowedBy input k.journal IsWellFormed × TakesOneMore input input' k.journal × WritesAll bytes bytes' k.journal × (l ≡ limit + 1) × (length k.journal ≡ limit) in
+      let P : State → Type 0 = λ k. AreFollowedBy input (call_lines k.journal) IsWellFormed × TakesOneMore input input' (call_lines k.journal) × WritesAll bytes bytes' k.journal × (l ≡ limit + 1) × (length k.journal ≡ limit) in
       let Q : Option (List ℕ) → Type 0 = λ d. WritesAll bytes d old.journal in
       let limited = h.limited in
       let counted = h.counted in
       subst P (sym same) (followed _ _ _ text IsWellFormed taken well, (text, taken), subst Q (sym device) h.written, omega arith, full ∙ h.limited)
   answered_err (NoMemory l) h within taken (device, inl same, is) =
       let Q : Option (List ℕ) → Type 0 = λ d. WritesAll bytes d old.journal in
-      let P : State → Type 0 = λ k. BeginsWith input k.journal × ((g : List Entry) × ((k.journal ≡ g) ⊎ ((e : Entry) × (k.journal ≡ e ∷ g))) × WritesAll bytes bytes' g × (l ≡ length g + 1)) in
+      let P : State → Type 0 = λ k. BeginsWith input (call_lines k.journal) × ((g : List Entry) × ((k.journal ≡ g) ⊎ ((e : Entry) × (k.journal ≡ e ∷ g))) × WritesAll bytes bytes' g × (l ≡ length g + 1)) in
       subst P (sym same) (begun_before _ _ _ text taken, (old.journal, inl refl, subst Q (sym device) h.written, is ∙ h.counted))
   answered_err (NoMemory l) h within taken (device, inr (e, j), is) =
       let Q : Option (List ℕ) → Type 0 = λ d. WritesAll bytes d old.journal in
@@ -108,9 +101,6 @@ module _ (input mid input' bytes part bytes' : Option (List ℕ)) (limit line : 
       (begun _ _ _ (lines_of_calls _ _ old new text e j taken), (e, old.journal, j.journal, (part, h.written, front)), omega arith)
 
 -- what was read
-one_more : (input mid input' : Option (List ℕ)) (text : List ℕ) → Consumes input mid text → TakesFront mid input' → ReadsOneMore input input' text
-one_more input mid input' text e (bytes, front, taken) = (bytes, front, Consumes-trans input mid input' text bytes e taken)
-
 pub reads_front : (input mid input' : Option (List ℕ)) (g : List Entry) → Consumes input mid (script_text g) → TakesFront mid input' → ReadsOneMore input input' (script_text g)
 reads_front input mid input' g e front = one_more input mid input' (script_text g) e front
 

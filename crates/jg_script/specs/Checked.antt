@@ -13,28 +13,11 @@ use Rattle.jg_text.specs.Faults.{IsFirstFault}
 use Rattle.jg_text.specs.Journal.{call_line, call_lines, entry_text, journal_text}
 use Rattle.jg_script.specs.declared.run_fault.RunFault.{RunFault}
 use Rattle.jg_script.specs.declared.run_fault.RunFault.TheVariants.{Script, Limit, NoMemory, Read, Write}
-use Rattle.jg_script.specs.Lines.{lines_of, LinesTaken, ReadsOneMore}
+use Rattle.jg_script.specs.TextLines.{HoldsLines, BeginsWith, AreFollowedBy, TakesOneMore, ReadsOneMore}
 
 -- a line that spells some call
 abbrev pub IsWellFormed : List ℕ → Type 0
 IsWellFormed text = (t : Tid) × (e : Option EnvId) × (c : Call) × Spells text t e c
-
--- the lines that the reader held are those of the history's calls, the oldest first
-abbrev pub IsAllOf : Option (List ℕ) → List Entry → Type 0
-IsAllOf input h = IfSome input (λ text. lines_of text ≡ call_lines h)
-
--- they begin with those
-abbrev pub BeginsWith : Option (List ℕ) → List Entry → Type 0
-BeginsWith input h = IfSome input (λ text. (more : List (List ℕ)) × (lines_of text ≡ call_lines h ++ more))
-
--- they begin with those, and the next line is such
-abbrev pub IsFollowedBy : Option (List ℕ) → List Entry → (List ℕ → Type 0) → Type 0
-IsFollowedBy input h P = IfSome input (λ text. (next : List ℕ) × (more : List (List ℕ))
-    × (lines_of text ≡ call_lines h ++ next ∷ more) × P next)
-
--- no more lines were taken than those and one
-abbrev pub TakesOneMore : Option (List ℕ) → Option (List ℕ) → List Entry → Type 0
-TakesOneMore input input' h = (next : List ℕ) × LinesTaken input input' (call_lines h ++ next ∷ [])
 
 -- the writer got just the text of the history
 abbrev pub WritesAll : Option (List ℕ) → Option (List ℕ) → List Entry → Type 0
@@ -50,27 +33,27 @@ abbrev pub Checks : Option (List ℕ) → Option (List ℕ) → Option (List ℕ
     → Result ℕ RunFault → Type 0
 -- all was read, all of it are the lines of n calls, and the text of their entries was written
 Checks input input' bytes bytes' limit h (Ok n) =
-    IsAllOf input h × IsAtEnd input' × WritesAll bytes bytes' h × (n ≡ length h) × (length h ≤ limit)
+    HoldsLines input (call_lines h) × IsAtEnd input' × WritesAll bytes bytes' h × (n ≡ length h) × (length h ≤ limit)
 -- the first faulty line, after which nothing was read, and its first fault; the text of the lines
 -- before was written
 Checks input input' bytes bytes' limit h (Err (Script line fault)) =
-    IsFollowedBy input h (λ next. IsFirstFault next fault) × (fault ≢ LineTooLong → TakesOneMore input input' h)
+    AreFollowedBy input (call_lines h) (λ next. IsFirstFault next fault) × (fault ≢ LineTooLong → TakesOneMore input input' (call_lines h))
     × WritesAll bytes bytes' h × (line ≡ length h + 1) × (length h ≤ limit)
 -- the line after the last that the limit allows, which is well formed; nothing was read after it,
 -- and the text of the lines before was written
 Checks input input' bytes bytes' limit h (Err (Limit line)) =
-    IsFollowedBy input h IsWellFormed × TakesOneMore input input' h × WritesAll bytes bytes' h × (line ≡ limit + 1)
+    AreFollowedBy input (call_lines h) IsWellFormed × TakesOneMore input input' (call_lines h) × WritesAll bytes bytes' h × (line ≡ limit + 1)
     × (length h ≡ limit)
 -- the text of the lines before was written, and the guard may have taken this line's call
 Checks input input' bytes bytes' limit h (Err (NoMemory line)) =
-    BeginsWith input h × ((g : List Entry) × ((h ≡ g) ⊎ ((e : Entry) × (h ≡ e ∷ g))) × WritesAll bytes bytes' g
+    BeginsWith input (call_lines h) × ((g : List Entry) × ((h ≡ g) ⊎ ((e : Entry) × (h ≡ e ∷ g))) × WritesAll bytes bytes' g
     × (line ≡ length g + 1))
 -- the text of the lines before was written
 Checks input input' bytes bytes' limit h (Err (Read line)) =
-    BeginsWith input h × WritesAll bytes bytes' h × (line ≡ length h + 1)
+    BeginsWith input (call_lines h) × WritesAll bytes bytes' h × (line ≡ length h + 1)
 -- the text of the lines before was written, and a front of this line's
 Checks input input' bytes bytes' limit h (Err (Write line)) =
-    BeginsWith input h × ((e : Entry) × (g : List Entry) × (h ≡ e ∷ g)
+    BeginsWith input (call_lines h) × ((e : Entry) × (g : List Entry) × (h ≡ e ∷ g)
     × ((mid : Option (List ℕ)) × WritesAll bytes mid g × WritesFront mid bytes' e)) × (line ≡ length h)
 
 -- the lines of a history's calls, each with its line feed

@@ -1,8 +1,11 @@
 pub mod Seen
-pub mod Lines
+pub mod TextLines
 pub mod Checked
 pub mod Devices
 pub mod Answered
 pub mod Replayed
 pub mod Entries
 pub mod Leaks
+pub mod ScriptFile
+pub mod Threads
+pub mod Written

@@ -2,20 +2,26 @@
 #![tactic(auto)]
 
 mod answer;
+mod faulty;
 mod handing;
+mod journal;
 mod leaks;
 mod line;
 mod piece;
 mod replay;
 mod run;
 mod run_fault;
+mod scripts;
 mod watched;
 
+pub use faulty::Faulty;
 pub use handing::HandsOn;
 pub use jg_text::{ScriptFault, read_call, write_entry};
+pub use journal::write_journal;
 pub use leaks::write_leaks;
 pub use line::write_text;
 pub use replay::{Verdict, verify};
 pub use run::check;
 pub use run_fault::RunFault;
+pub use scripts::{Line, Lines, MAX_LINES, MAX_THREADS, Scripts, read_scripts};
 pub use watched::{DeviceFailed, Watched};

@@ -30,7 +30,7 @@ fn read_line<R: BufRead>(reader: &mut Watched<R>, line: &mut Vec<u8>) -> Result<
     while line.len() <= MAX_LINE {
         match reader.take_piece(MAX_LINE + 1 - line.len(), line) {
             Err(fault) => return Err(fault),
-            Ok(Piece::Feed) => return Ok(Ending::Feed),
+            Ok(Piece::Feed { .. }) => return Ok(Ending::Feed),
             Ok(Piece::More) => {}
             Ok(Piece::Nothing) => match reader.read_byte() {
                 Err(_) => return Err(LineFault::Read),

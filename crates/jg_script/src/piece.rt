@@ -14,11 +14,11 @@ pub enum LineFault {
     Read,
 }
 
-/// How a piece ended: at a line feed, or within its line. `Nothing` is no piece, since the device
-/// shows nothing.
+/// How a piece ended: at a line feed, after which the device shows another whole line or not, or
+/// within its line. `Nothing` is no piece, since the device shows nothing.
 #[derive(Clone, Copy, Debug, PartialEq, Eq)]
 pub enum Piece {
-    Feed,
+    Feed { another: bool },
     More,
     Nothing,
 }
@@ -48,8 +48,9 @@ pub fn take_piece<B: BufRead>(
             if line.extend_from_slice(&shown[..i]).is_err() {
                 return Err(LineFault::NoMemory);
             }
+            let another = memchr(b'\n', &shown[i + 1..]).is_some();
             device.consume(i + 1);
-            Ok(Piece::Feed)
+            Ok(Piece::Feed { another })
         }
         None => {
             if line.extend_from_slice(&shown[..most]).is_err() {

@@ -13,7 +13,7 @@ use crate::run_fault::RunFault;
 use crate::watched::Watched;
 use jg_guard::Guard;
 use jg_policy::Setup;
-use jg_text::read_begun;
+use jg_text::{MAX_LINE, read_begun};
 use std::alloc::{Allocator, Global};
 use std::io::BufRead;
 
@@ -86,7 +86,9 @@ fn replay_lines<A: Allocator + Clone, R: BufRead>(
     ensures reader { ReaderFails reader.old.failed reader.new.failed result }
 {
     let limit = u64::from(guard.limit());
-    let mut text = Vec::new(alloc);
+    let Ok(mut text) = Vec::with_capacity(alloc, MAX_LINE + 1) else {
+        return Err(RunFault::NoMemory { line: 1 });
+    };
     let mut out = String::new(alloc);
     for line in 1..limit + 2 {
         let taken = match next_line(reader, &mut text) {
@@ -117,7 +119,7 @@ fn replay_lines<A: Allocator + Clone, R: BufRead>(
 /// `Limit`, whatever follows. At most one line more than the limit is read, and nothing after the
 /// line at which the answer is known. `Script` and `Write` aren't answered. The tables and the
 /// journal of the guard that makes the calls again stand in `tables`.
-pub fn verify<A: Allocator + Clone, R: BufRead>(
+pub fn verify<A: Allocator + Copy, R: BufRead>(
     alloc: Global,
     tables: A,
     setup: Setup,

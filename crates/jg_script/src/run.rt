@@ -1,6 +1,7 @@
 //! A script is answered line by line.
 
 ghost use Rattle.std.specs.Prelude.{◌≡◌, []};
+ghost use Rattle.std.specs.Io.KnownBytes.{Keeps};
 ghost use Rattle.jg_rules.specs.Legal.{Legal};
 ghost use Rattle.jg_script.specs.Checked.{Checks, Reads, IsScript, ReaderFails, WriterFails};
 
@@ -10,9 +11,20 @@ use crate::piece::LineFault;
 use crate::run_fault::RunFault;
 use crate::watched::Watched;
 use jg_guard::Guard;
-use jg_text::ScriptFault;
+use jg_text::{MAX_LINE, ScriptFault};
 use std::alloc::{Allocator, Global};
 use std::io::{BufRead, Write};
+
+/// Hands on what was answered, unless the next line is there already: whoever sends a line and waits
+/// has its answer before more is asked for.
+fn hand_over<R: BufRead, W: Write>(reader: &Watched<R>, writer: &mut Watched<W>)
+    ensures kept { Keeps (W.contents writer.old.device) (W.contents writer.new.device) }
+    ensures failed { writer.new.failed ≡ writer.old.failed }
+{
+    if !reader.shows_line() {
+        writer.pass_on();
+    }
+}
 
 /// Answers the lines of a script, each before the next is read, and gives their number. The guard's
 /// journal is empty before (`Guard::journal_len`). What was written before a fault stays written, and
@@ -37,9 +49,12 @@ pub fn check<A: Allocator + Clone, R: BufRead, W: Write>(
     ensures writer { WriterFails writer.old.failed writer.new.failed result }
 {
     let limit = u64::from(guard.limit());
-    let mut text = Vec::new(alloc);
+    let Ok(mut text) = Vec::with_capacity(alloc, MAX_LINE + 1) else {
+        return Err(RunFault::NoMemory { line: 1 });
+    };
     let mut out = String::new(alloc);
     for line in 1..limit + 2 {
+        hand_over(reader, writer);
         let taken = match next_line(reader, &mut text) {
             Ok(taken) => taken,
             Err(LineFault::Read) => return Err(RunFault::Read { line }),

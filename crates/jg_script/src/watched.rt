@@ -15,6 +15,9 @@ use std::marker::Model;
 pub struct Watched<D> {
     device: D,
     failed: bool,
+    /// Whether a reader is known to show another whole line, so that the next one can be had without
+    /// waiting.
+    shows_line: bool,
 }
 
 impl<D> Model for Watched<D> {
@@ -38,6 +41,7 @@ impl<D> Watched<D> {
         Watched {
             device,
             failed: false,
+            shows_line: false,
         }
     }
 
@@ -45,7 +49,7 @@ impl<D> Watched<D> {
     pub fn into_inner(self) -> D
         ensures { result ≡ self.device }
     {
-        let Watched { device, failed: _ } = self;
+        let Watched { device, .. } = self;
         device
     }
 
@@ -58,6 +62,11 @@ impl<D> Watched<D> {
 }
 
 impl<R: BufRead> Watched<R> {
+    /// Whether the next line can be had without waiting for the device, as far as is known.
+    pub fn shows_line(&self) -> bool {
+        self.shows_line
+    }
+
     /// Takes a piece of a line: all up to the next line feed that one look at the device shows, and
     /// at most `room` bytes. They go to the line's end, without the line feed. After an error the
     /// reader is marked as failed.
@@ -70,8 +79,14 @@ impl<R: BufRead> Watched<R> {
         ensures sound { OnOk result (self.new.failed ≡ self.old.failed) }
         ensures fault { IfErr result (FailsLine self.old.failed self.new.failed) }
     {
+        self.shows_line = false;
         match take_piece(&mut self.device, room, line) {
-            Ok(piece) => Ok(piece),
+            Ok(piece) => {
+                if let Piece::Feed { another } = piece {
+                    self.shows_line = another;
+                }
+                Ok(piece)
+            }
             Err(LineFault::NoMemory) => Err(LineFault::NoMemory),
             Err(LineFault::Read) => {
                 self.failed = true;
@@ -122,6 +137,17 @@ impl<W: Write> Watched<W> {
             }
             Ok(n) => Ok(n),
         }
+    }
+}
+
+impl<W: Write> Watched<W> {
+    /// Hands on what the device itself holds back, if it can. A failure marks nothing: what couldn't
+    /// be handed on is still held, and the next write or flush fails.
+    pub fn pass_on(&mut self)
+        ensures kept { Keeps (W.contents self.old.device) (W.contents self.new.device) }
+        ensures failed { self.new.failed ≡ self.old.failed }
+    {
+        let _ = self.device.flush();
     }
 }
 

@@ -6,7 +6,7 @@ use Rattle.jg_words.specs.declared.thread.EnvId.{EnvId}
 use Rattle.jg_words.specs.declared.fun.Fun.{Fun}
 use Rattle.jg_words.specs.Fun.{name_of}
 use Rattle.jg_text.specs.declared.fault.ScriptFault.{ScriptFault}
-use Rattle.jg_text.specs.declared.fault.ScriptFault.TheVariants.{NoThread, NoEnv, UnknownFunction, BadOperand, WrongCount, LineTooLong, NotAscii, NoMemory}
+use Rattle.jg_text.specs.declared.fault.ScriptFault.TheVariants.{NoThread, NoEnv, UnknownFunction, BadOperand, WrongCount, LineTooLong, NotAscii, NoMemory, TooManyThreads}
 use Rattle.jg_text.specs.Words.{tid_text, env_text, FitsTid, FitsEnv, SpellOperands}
 use Rattle.jg_text.specs.Operands.{operand_kinds}
 use Rattle.jg_text.specs.Faults.{fields, HasFault, rank, IsFirstFault}
@@ -29,6 +29,7 @@ no_early line t e f rest h UnknownFunction low = λ bad. bad f (ap (λ fs. slice
 no_early line t e f rest h WrongCount low = absurd (omega (arith, low))
 no_early line t e f rest h BadOperand low = absurd (omega (arith, low))
 no_early line t e f rest h NoMemory low = absurd (omega (arith, low))
+no_early line t e f rest h TooManyThreads low = absurd (omega (arith, low))
 
 same_fun : (line : List ℕ) (t : Tid) (e : Option EnvId) (f g : Fun) (rest : List (List ℕ)) → HasHead line t e f rest → slice_get (fields line) 2 ≡ Some (name_of g) → f ≡ g
 same_fun line t e f g rest h found =
@@ -55,6 +56,7 @@ no_count line t e f rest h count UnknownFunction low = no_early line t e f rest 
 no_count line t e f rest h count WrongCount low = λ bad. bad f (ap (λ fs. slice_get fs 2) h.split) (ap length (operands_are line t e f rest h) ∙ count)
 no_count line t e f rest h count BadOperand low = absurd (omega (arith, low))
 no_count line t e f rest h count NoMemory low = absurd (omega (arith, low))
+no_count line t e f rest h count TooManyThreads low = absurd (omega (arith, low))
 
 pub bad_operand : (line : List ℕ) (t : Tid) (e : Option EnvId) (f : Fun) (rest : List (List ℕ)) (g : ScriptFault) → HasHead line t e f rest → length rest ≡ length (operand_kinds f) → g ≡ BadOperand
     → ¬ SpellOperands (operand_kinds f) rest → IsFirstFault line g
@@ -78,3 +80,4 @@ no_fault line t e f rest h count spelt WrongCount = no_count line t e f rest h c
 no_fault line t e f rest h count spelt BadOperand = λ bad. bad f (ap (λ fs. slice_get fs 2) h.split)
     (subst (λ (fs : List (List ℕ)). SpellOperands (operand_kinds f) fs) (sym (operands_are line t e f rest h)) spelt)
 no_fault line t e f rest h count spelt NoMemory = λ bad. bad
+no_fault line t e f rest h count spelt TooManyThreads = λ bad. bad

@@ -7,7 +7,7 @@ use Rattle.jg_words.specs.declared.thread.EnvId.{EnvId}
 use Rattle.jg_words.specs.declared.fun.Fun.{Fun}
 use Rattle.jg_words.specs.Fun.{name_of}
 use Rattle.jg_text.specs.declared.fault.ScriptFault.{ScriptFault}
-use Rattle.jg_text.specs.declared.fault.ScriptFault.TheVariants.{NoThread, NoEnv, UnknownFunction, BadOperand, WrongCount, LineTooLong, NotAscii, NoMemory}
+use Rattle.jg_text.specs.declared.fault.ScriptFault.TheVariants.{NoThread, NoEnv, UnknownFunction, BadOperand, WrongCount, LineTooLong, NotAscii, NoMemory, TooManyThreads}
 use Rattle.jg_text.specs.Words.{tid_text, env_text, FitsTid, FitsEnv, SpellOperands}
 use Rattle.jg_text.specs.Operands.{operand_kinds}
 
@@ -33,6 +33,7 @@ HasFault WrongCount line = (f : Fun) → slice_get (fields line) 2 ≡ Some (nam
 HasFault BadOperand line = (f : Fun) → slice_get (fields line) 2 ≡ Some (name_of f)
     → ¬ SpellOperands (operand_kinds f) (drop 3 (fields line))
 HasFault NoMemory line = ⊥
+HasFault TooManyThreads line = ⊥
 
 -- the order in which faults are named
 abbrev pub rank : ScriptFault → ℕ
@@ -44,6 +45,7 @@ rank UnknownFunction = 4
 rank WrongCount = 5
 rank BadOperand = 6
 rank NoMemory = 7
+rank TooManyThreads = 8
 
 -- the line has the fault, and none that is named before it
 pub record IsFirstFault (line : List ℕ) (f : ScriptFault) : Type 0 where

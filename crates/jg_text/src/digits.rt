@@ -19,8 +19,8 @@ pub fn push_number(out: &mut String, n: u64) -> Result<(), AllocError>
 pub fn push_signed(out: &mut String, n: i64) -> Result<(), AllocError>
     ensures { OnOk result (string_bytes out.new ≡ string_bytes out.old ++ signed_decimal n) }
 {
-    let mut buffer = Buffer::new();
-    out.push_str(buffer.format(n))
+    let mut digits = Buffer::new();
+    out.push_str(digits.format(n))
 }
 
 /// Writes two numbers with a full stop between them.

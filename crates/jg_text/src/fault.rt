@@ -27,4 +27,8 @@ pub enum ScriptFault {
     /// Memory ran out. This comes in the place of any answer, and says nothing of the line.
     #[error("NoMemory")]
     NoMemory,
+    /// The line is a call, of one thread more than a file of scripts may have. No line has this of
+    /// itself: it comes only where the scripts of several threads are read.
+    #[error("TooManyThreads")]
+    TooManyThreads,
 }

@@ -1,13 +1,17 @@
 mod buffers;
-mod devices;
 mod growths;
 mod guard;
 mod journals;
 mod leaks;
 mod scripts;
+mod sessions;
 
+use jg_guard::Guard;
 use jg_policy::Setup;
-use std::alloc::Global;
+use jg_script::{Faulty, RunFault, Watched, check};
+use linked_list_allocator::LocalHeap;
+use std::alloc::{AllocError, Allocator, Global};
+use std::io::{BufRead, Write};
 use std::test::Fail;
 
 /// The text of the setup that denies native access and states nothing else.
@@ -18,6 +22,85 @@ fn setup(alloc: Global, text: &str) -> Result<Setup, Fail> {
         Ok(setup) => Ok(setup),
         Err(_) => Err(Fail::from("the text is no setup")),
     }
+}
+
+/// A device that holds this text and passes so many calls, of at most `most` bytes each.
+fn faulty(alloc: Global, text: &str, passes: u32, most: usize) -> Result<Faulty, AllocError> {
+    let mut bytes = Vec::new(alloc);
+    bytes.extend_from_slice(text.as_bytes())?;
+    Ok(Faulty::new(bytes, passes, most.max(1)))
+}
+
+/// So many lines of this text.
+fn repeated(alloc: Global, line: &str, count: u32) -> Result<String, AllocError> {
+    let mut text = String::new(alloc);
+    for _ in 0..count {
+        text.push_str(line)?;
+    }
+    Ok(text)
+}
+
+/// What `act` gives over a new guard under this setup, or nothing where there is no memory for one.
+/// No other function here owns a guard: each that does takes minutes to prove.
+fn over_a_guard<A, T, F>(
+    tables: A,
+    alloc: Global,
+    setup: Setup,
+    limit: u32,
+    act: F,
+) -> Result<Option<T>, Fail>
+where
+    A: Allocator + Copy,
+    F: FnOnce(&mut Guard<A>) -> Result<T, Fail> + Drop,
+    requires { F.IsAlwaysCallable act }
+{
+    let Ok(mut guard) = Guard::new(tables, alloc, setup, limit) else {
+        return Ok(None);
+    };
+    match act(&mut guard) {
+        Ok(done) => Ok(Some(done)),
+        Err(fail) => Err(fail),
+    }
+}
+
+/// The same where there is memory.
+fn with_guard<A, T, F>(tables: A, alloc: Global, text: &str, limit: u32, act: F) -> Result<T, Fail>
+where
+    A: Allocator + Copy,
+    F: FnOnce(&mut Guard<A>) -> Result<T, Fail> + Drop,
+    requires { F.IsAlwaysCallable act }
+{
+    match over_a_guard(tables, alloc, setup(alloc, text)?, limit, act)? {
+        Some(done) => Ok(done),
+        None => Err(Fail::from("no memory for a guard")),
+    }
+}
+
+/// What `check` answers with this guard, which is a new one.
+fn check_with<A: Allocator + Clone, R: BufRead, W: Write>(
+    guard: &mut Guard<A>,
+    alloc: Global,
+    reader: &mut Watched<R>,
+    writer: &mut Watched<W>,
+) -> Result<Result<u64, RunFault>, Fail> {
+    if guard.journal_len() == 0 {
+        Ok(check(alloc, guard, reader, writer))
+    } else {
+        Err(Fail::from("a new guard's journal isn't empty"))
+    }
+}
+
+/// How many bytes of a heap a guard takes for its first block of entries.
+fn first_block(alloc: Global) -> Result<usize, Fail> {
+    let heap = LocalHeap::new(alloc, 1_000_000)?;
+    with_guard(&heap, alloc, CLOSED, 1, |guard| {
+        let before = heap.used();
+        if growths::goes_through(guard, alloc, "T1 - GetEnv")? {
+            Ok(heap.used().saturating_sub(before))
+        } else {
+            Err(Fail::from("a large heap isn't enough"))
+        }
+    })
 }
 
 const FIRST_PATH: &str = "T1 - AttachCurrentThread

@@ -1,7 +1,7 @@
 //! The growths of calls on buffers, refused in turn.
 
-use super::growths::{Growth, SETUP, opens, refusals_of, spelt, used_before};
-use super::setup;
+use super::growths::{Growth, SETUP, opens, refusals_of, spelt};
+use super::with_guard;
 use jg_guard::{Guard, Refusal};
 use jg_words::Outcome;
 use linked_list_allocator::LocalHeap;
@@ -50,7 +50,7 @@ const LENT: [(&str, &str, &str); 5] = [
     ),
 ];
 
-/// The same for releases.
+/// What is there before, a call that shows what is lent, and a release.
 const RELEASED: [(&str, &str, &str); 9] = [
     (
         COPIED_ARRAY,
@@ -132,24 +132,6 @@ fn every_growth_of_a_lending_is_refused_in_turn(rt: HostRuntime) -> Result<(), F
     Ok(())
 }
 
-#[test]
-fn every_growth_of_a_release_is_refused_in_turn(rt: HostRuntime) -> Result<(), Fail> {
-    for (opening, earlier, call) in RELEASED {
-        let count = refusals_of(rt.alloc(), opening, earlier, call)?;
-        assert!(rt; count > 0, "`{call}` is never refused");
-    }
-    Ok(())
-}
-
-#[test]
-fn every_growth_of_an_access_is_refused_in_turn(rt: HostRuntime) -> Result<(), Fail> {
-    for (opening, earlier, call) in REACHED {
-        let count = refusals_of(rt.alloc(), opening, earlier, call)?;
-        assert!(rt; count > 0, "`{call}` is never refused");
-    }
-    Ok(())
-}
-
 /// What is there before, a question, and a call that changes its answer.
 const CHANGES: [(&str, &str, &str); 4] = [
     (
@@ -174,6 +156,26 @@ const CHANGES: [(&str, &str, &str); 4] = [
     ),
 ];
 
+/// The same of calls that take memory for the journal alone.
+const OTHERS: [(&str, &str, &str); 4] = [
+    ("", "T1 E1.1 ExceptionCheck", "T1 E1.1 FindClass no/Such"),
+    (
+        "T1 E1.1 PushLocalFrame 1",
+        "T1 E1.1 GetObjectRefType L1.1",
+        "T1 E1.1 PopLocalFrame L1.1",
+    ),
+    (
+        "",
+        "T1 E1.1 GetObjectRefType L1.1",
+        "T1 E1.1 RegisterNatives L1.1 stop ()V",
+    ),
+    (
+        "",
+        "T1 E1.1 GetObjectRefType L1.1",
+        "T1 E1.1 LoadLibrary other/Tool tool",
+    ),
+];
+
 /// What the line is answered.
 fn answer_to<A: Allocator + Clone>(
     guard: &mut Guard<A>,
@@ -194,14 +196,13 @@ struct Change {
     after: Outcome,
 }
 
-fn change_of(alloc: Global, growth: Growth) -> Result<Change, Fail> {
-    let mut guard = Guard::new(alloc, alloc, setup(alloc, SETUP)?, 1000)?;
-    if !opens(&mut guard, alloc, growth)? {
+fn changes(guard: &mut Guard, alloc: Global, growth: Growth) -> Result<Change, Fail> {
+    if !opens(guard, alloc, growth)? {
         return Err(Fail::from("a large heap isn't enough"));
     }
-    let before = answer_to(&mut guard, alloc, growth.earlier)?;
-    drop(answer_to(&mut guard, alloc, growth.call)?);
-    let after = answer_to(&mut guard, alloc, growth.earlier)?;
+    let before = answer_to(guard, alloc, growth.earlier)?;
+    drop(answer_to(guard, alloc, growth.call)?);
+    let after = answer_to(guard, alloc, growth.earlier)?;
     Ok(Change { before, after })
 }
 
@@ -219,88 +220,79 @@ fn finds<A: Allocator + Clone>(
     }
 }
 
-/// Makes the calls before the one that changes something, and then that one; `kept` is memory to
-/// give back. Whether it was refused, or None where memory ran out before it.
-fn changes<A: Allocator + Clone>(
-    guard: &mut Guard<A>,
-    kept: Vec<u8, A>,
+/// Takes the largest block that the heap still has, to within a thousand bytes.
+fn ballast<'a>(heap: &'a LocalHeap) -> Vec<u8, &'a LocalHeap> {
+    let mut block = Vec::new(heap);
+    for thousands in (0..1000usize).rev() {
+        if block.try_reserve(thousands.saturating_mul(1000)).is_ok() {
+            break;
+        }
+    }
+    block
+}
+
+/// Fills the journal up to the end of its first block, by calls that need nothing else.
+fn fill<A: Allocator + Clone>(guard: &mut Guard<A>, alloc: Global) -> Result<(), Fail> {
+    for _ in guard.journal_len()..1024 {
+        drop(answer_to(guard, alloc, "T9 - GetEnv")?);
+    }
+    Ok(())
+}
+
+/// The call finds the journal's block full and no memory for another: it is refused and changes
+/// nothing. Once there is memory it does what it does for a guard that was never refused.
+fn finds_its_block_full(
+    guard: &mut Guard<&LocalHeap>,
+    heap: &LocalHeap,
     alloc: Global,
     growth: Growth,
     change: &Change,
-) -> Result<Option<bool>, Fail> {
+) -> Result<(), Fail> {
     if !opens(guard, alloc, growth)? {
-        return Ok(None);
+        return Err(Fail::from("a large heap isn't enough"));
     }
+    fill(guard, alloc)?;
+    let kept = ballast(heap);
     let (tid, env, call) = spelt(alloc, growth.call)?;
-    match guard.call(tid, env, call) {
-        Ok(_outcome) => {
-            drop(kept);
-            finds(guard, alloc, growth, &change.after)?;
-            Ok(Some(false))
-        }
-        Err(Refusal::Limit(_)) => Err(Fail::from("the limit is met")),
-        Err(Refusal::NoMemory(call)) => {
-            drop(kept);
-            finds(guard, alloc, growth, &change.before)?;
-            if guard.call(tid, env, call).is_err() {
-                return Err(Fail::from("refused again"));
-            }
-            finds(guard, alloc, growth, &change.after)?;
-            Ok(Some(true))
-        }
+    let Err(Refusal::NoMemory(call)) = guard.call(tid, env, call) else {
+        return Err(Fail::from("the call isn't refused"));
+    };
+    if guard.journal_len() != 1024 {
+        return Err(Fail::from("a refused call is journaled"));
     }
+    drop(kept);
+    finds(guard, alloc, growth, &change.before)?;
+    if guard.call(tid, env, call).is_err() {
+        return Err(Fail::from("refused again"));
+    }
+    finds(guard, alloc, growth, &change.after)
 }
 
-/// The same of a new guard over a heap with room for so many bytes beside those to give back.
-fn changes_over_a_heap(
-    alloc: Global,
-    room: usize,
-    growth: Growth,
-    change: &Change,
-) -> Result<Option<bool>, Fail> {
-    let heap = LocalHeap::new(alloc, room.saturating_add(9_000))?;
-    let mut kept: Vec<u8, &LocalHeap> = Vec::new(&heap);
-    kept.try_reserve(9_000)?;
-    match Guard::new(&heap, alloc, setup(alloc, SETUP)?, 1000) {
-        Ok(mut guard) => changes(&mut guard, kept, alloc, growth, change),
-        Err(_) => Ok(None),
-    }
+fn meets_a_full_block(alloc: Global, growth: Growth) -> Result<(), Fail> {
+    let change = with_guard(alloc, alloc, SETUP, 1000, |guard| {
+        changes(guard, alloc, growth)
+    })?;
+    let heap = LocalHeap::new(alloc, 1_000_000)?;
+    with_guard(&heap, alloc, SETUP, 10_000, |guard| {
+        finds_its_block_full(guard, &heap, alloc, growth, &change)
+    })
 }
 
-/// How often the call is refused over heaps of growing sizes.
-fn refused_changes(alloc: Global, growth: Growth) -> Result<u32, Fail> {
-    let change = change_of(alloc, growth)?;
-    if change.before == change.after {
-        return Err(Fail::from("the call changes nothing"));
-    }
-    let used = used_before(alloc, growth)?;
-    let mut count = 0u32;
-    for more in 0..1000usize {
-        let room = used.saturating_add(more.saturating_mul(16));
-        match changes_over_a_heap(alloc, room, growth, &change)? {
-            None => {}
-            Some(true) => count = count.saturating_add(1),
-            Some(false) => return Ok(count),
-        }
-    }
-    Err(Fail::from("never answered"))
-}
-
-/// A refused release copies nothing back, a refused write writes nothing; answered, all is done.
 #[test]
-fn what_is_refused_changes_no_item(rt: HostRuntime) -> Result<(), Fail> {
-    for (opening, earlier, call) in CHANGES {
-        let mut count = 0u32;
-        for times in 1..7u32 {
+fn a_full_block_refuses_each_call(rt: HostRuntime) -> Result<(), Fail> {
+    let lists: [&[(&'static str, &'static str, &'static str)]; 4] = [
+        &RELEASED, &REACHED, &CHANGES, &OTHERS,
+    ];
+    for list in lists {
+        for (opening, earlier, call) in list {
             let growth = Growth {
                 opening,
                 earlier,
-                times,
+                times: 0,
                 call,
             };
-            count = count.saturating_add(refused_changes(rt.alloc(), growth)?);
+            meets_a_full_block(rt.alloc(), growth)?;
         }
-        assert!(rt; count > 0, "`{call}` is never refused");
     }
     Ok(())
 }

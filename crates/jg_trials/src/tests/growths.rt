@@ -1,4 +1,4 @@
-use super::setup;
+use super::{over_a_guard, setup, with_guard};
 use jg_guard::{Guard, Refusal};
 use jg_script::read_call;
 use jg_words::{Call, EnvId, Outcome, Tid};
@@ -35,7 +35,7 @@ pub(super) struct Growth {
 }
 
 /// Earlier calls, and then the one whose growths are refused in turn.
-const GROWING: [(&str, &str); 14] = [
+const GROWING: [(&str, &str); 10] = [
     ("T1 E1.1 NewString [72,105]", "T1 E1.1 NewString [72,105]"),
     ("T1 E1.1 NewLocalRef L1.1", "T1 E1.1 NewStringUTF [72,105]"),
     ("T1 E1.1 NewIntArray 3", "T1 E1.1 NewIntArray 3"),
@@ -45,9 +45,7 @@ const GROWING: [(&str, &str); 14] = [
     ),
     ("T1 E1.1 AllocObject L1.1", "T1 E1.1 AllocObject L1.1"),
     ("T1 E1.1 NewLocalRef L1.1", "T1 E1.1 GetObjectClass L1.1"),
-    ("T1 E1.1 AllocObject L1.1", "T1 E1.1 FindClass no/Such"),
     ("T1 E1.1 PushLocalFrame 1", "T1 E1.1 PushLocalFrame 1"),
-    ("T1 E1.1 PushLocalFrame 1", "T1 E1.1 PopLocalFrame L1.1"),
     (
         "T1 E1.1 NativeEnter lib/Tool go ()V",
         "T1 E1.1 NativeEnter lib/Tool go ()V",
@@ -55,14 +53,6 @@ const GROWING: [(&str, &str); 14] = [
     (
         "T1 E1.1 NativeEnter lib/Tool go ()V",
         "T1 E1.1 NativeLeave L1.2",
-    ),
-    (
-        "T1 E1.1 NewLocalRef L1.1",
-        "T1 E1.1 RegisterNatives L1.1 stop ()V",
-    ),
-    (
-        "T1 E1.1 NewLocalRef L1.1",
-        "T1 E1.1 LoadLibrary other/Tool tool",
     ),
     ("T1 E1.1 NewLocalRef L1.1", "T2 - AttachCurrentThread"),
 ];
@@ -86,7 +76,7 @@ pub(super) fn spelt(alloc: Global, line: &str) -> Result<(Tid, Option<EnvId>, Ca
 }
 
 /// Makes the call, and says whether memory was enough.
-fn goes_through<A: Allocator + Clone>(
+pub(super) fn goes_through<A: Allocator + Clone>(
     guard: &mut Guard<A>,
     alloc: Global,
     line: &str,
@@ -163,27 +153,31 @@ fn over_a_heap(alloc: Global, room: usize, growth: Growth) -> Result<Met, Fail> 
     let heap = LocalHeap::new(alloc, room.saturating_add(9_000))?;
     let mut kept: Vec<u8, &LocalHeap> = Vec::new(&heap);
     kept.try_reserve(9_000)?;
-    match Guard::new(&heap, alloc, setup(alloc, SETUP)?, 1000) {
-        Ok(mut guard) => meets(&mut guard, kept, alloc, growth),
-        Err(_) => Ok(Met::Unopened),
+    let setup = setup(alloc, SETUP)?;
+    match over_a_guard(&heap, alloc, setup, 1000, |guard| {
+        meets(guard, kept, alloc, growth)
+    })? {
+        Some(met) => Ok(met),
+        None => Ok(Met::Unopened),
     }
 }
 
 /// How many bytes of a heap are in use before the call that grows.
 pub(super) fn used_before(alloc: Global, growth: Growth) -> Result<usize, Fail> {
-    let heap = LocalHeap::new(alloc, 100_000)?;
-    let mut guard = Guard::new(&heap, alloc, setup(alloc, SETUP)?, 1000)?;
-    if opens(&mut guard, alloc, growth)? {
-        Ok(heap.used())
-    } else {
-        Err(Fail::from("a large heap isn't enough"))
-    }
+    let heap = LocalHeap::new(alloc, 1_000_000)?;
+    with_guard(&heap, alloc, SETUP, 1000, |guard| {
+        if opens(guard, alloc, growth)? {
+            Ok(heap.used())
+        } else {
+            Err(Fail::from("a large heap isn't enough"))
+        }
+    })
 }
 
 /// How often the call is refused over heaps of growing sizes, from too small for the calls before it
 /// up to one over which it is answered. Each answer is to be the one that a large heap gives.
 fn refusals(alloc: Global, growth: Growth) -> Result<u32, Fail> {
-    let Met::Answered(wanted) = over_a_heap(alloc, 100_000, growth)? else {
+    let Met::Answered(wanted) = over_a_heap(alloc, 1_000_000, growth)? else {
         return Err(Fail::from("a large heap isn't enough"));
     };
     let used = used_before(alloc, growth)?;

@@ -1,4 +1,4 @@
-use super::{CLOSED, setup};
+use super::{CLOSED, setup, with_guard};
 use jg_guard::{Guard, Refusal};
 use jg_words::{Call, EnvId, FramesCall, Outcome, Rule, Tid, Value, VmCall};
 use linked_list_allocator::LocalHeap;
@@ -76,13 +76,16 @@ fn has_journaled(guard: &Guard) -> bool {
 /// What `judge` says is what `call` denies by; the journal has both entries.
 #[test]
 fn judges_answers_and_journals(rt: HostRuntime) -> Result<(), Fail> {
-    let setup = setup(rt.alloc(), CLOSED)?;
-    let mut guard = Guard::new(rt.alloc(), rt.alloc(), setup, 3)?;
-    assert_eq!(rt; guard.limit(), 3);
-    assert!(rt; denies_the_detached(&mut guard));
-    assert!(rt; attaches(&mut guard));
-    assert!(rt; stops_at_its_limit(&mut guard));
-    assert!(rt; has_journaled(&guard));
+    let found = with_guard(rt.alloc(), rt.alloc(), CLOSED, 3, |guard| {
+        Ok([
+            guard.limit() == 3,
+            denies_the_detached(guard),
+            attaches(guard),
+            stops_at_its_limit(guard),
+            has_journaled(guard),
+        ])
+    })?;
+    assert_eq!(rt; found, [true; 5]);
     Ok(())
 }
 

@@ -1,5 +1,4 @@
-use super::devices::{Broken, Slow};
-use super::{CLOSED, FIRST_PATH, FIRST_PATH_ANSWERED, setup};
+use super::{CLOSED, FIRST_PATH, FIRST_PATH_ANSWERED, faulty, first_block, repeated, setup};
 use jg_script::{RunFault, Verdict, Watched, verify};
 use linked_list_allocator::LocalHeap;
 use std::alloc::Global;
@@ -82,8 +81,8 @@ fn journals_are_read_back(rt: HostRuntime) -> Result<(), Fail> {
 #[test]
 fn a_slow_journal_is_read_back(rt: HostRuntime) -> Result<(), Fail> {
     for capacity in [0, 1, 7] {
-        let bytes = FIRST_PATH_ANSWERED.as_bytes();
-        let reader = BufReader::with_capacity(rt.alloc(), capacity, Slow { bytes })?;
+        let device = faulty(rt.alloc(), FIRST_PATH_ANSWERED, u32::MAX, 1)?;
+        let reader = BufReader::with_capacity(rt.alloc(), capacity, device)?;
         let answer = read_back(rt.alloc(), reader, 10)?;
         assert_eq!(rt; answer, (Ok(Verdict::Legal), false), "at {capacity}");
     }
@@ -109,31 +108,27 @@ fn a_long_line_past_the_limit_is_past_the_limit(rt: HostRuntime) -> Result<(), F
 
 #[test]
 fn a_journal_cannot_be_read(rt: HostRuntime) -> Result<(), Fail> {
-    let bytes = b"T1 - GetEnv = detached\nT1 - G".as_slice();
+    let text = "T1 - GetEnv = detached\nT1 - GetEnv = detached\n";
     let unread = Err(RunFault::Read { line: 2 });
-    let reader = BufReader::with_capacity(rt.alloc(), 7, Broken { bytes })?;
+    let reader = BufReader::with_capacity(rt.alloc(), 7, faulty(rt.alloc(), text, 4, 7)?)?;
     assert_eq!(rt; read_back(rt.alloc(), reader, 10)?, (unread, true));
     Ok(())
 }
 
 #[test]
 fn a_refused_growth_ends_a_reading(rt: HostRuntime) -> Result<(), Fail> {
-    let mut text = Vec::new(rt.alloc());
-    for _ in 0..1000u32 {
-        text.extend_from_slice(b"T1 - GetEnv = detached\n".as_slice())?;
-    }
-    let heap = LocalHeap::new(rt.alloc(), 20_000)?;
-    let mut reader = Watched::new(text.as_slice());
-    match verify(
+    let text = repeated(rt.alloc(), "T1 - GetEnv = detached\n", 1500)?;
+    let block = first_block(rt.alloc())?;
+    let heap = LocalHeap::new(rt.alloc(), block.saturating_add(block / 2))?;
+    let mut reader = Watched::new(text.as_bytes());
+    let answer = verify(
         rt.alloc(),
         &heap,
         setup(rt.alloc(), CLOSED)?,
-        1000,
+        10_000,
         &mut reader,
-    ) {
-        Err(RunFault::NoMemory { line }) => assert!(rt; line > 1),
-        _ => assert!(rt; false, "no growth is refused"),
-    }
+    );
+    assert_eq!(rt; answer, Err(RunFault::NoMemory { line: 1025 }));
     assert!(rt; !reader.has_failed());
     Ok(())
 }
@@ -145,16 +140,23 @@ fn every_growth_of_a_reading_is_refused_in_turn(rt: HostRuntime) -> Result<(), F
     let mut last = 0u64;
     let mut count = 0u32;
     let mut done = false;
+    let block = first_block(rt.alloc())?;
+    let mut text = String::from_str(rt.alloc(), "T1 - AttachCurrentThread = E1.1\n")?;
+    for n in 1..40u32 {
+        let line = format!(in rt.alloc(); "T1 E1.1 NewString [72,105] = L1.{n}\n")?;
+        text.push_str(line.as_str())?;
+    }
     for room in 0..1000usize {
-        let Ok(heap) = LocalHeap::new(rt.alloc(), room.saturating_mul(16)) else {
+        let Ok(heap) = LocalHeap::new(rt.alloc(), block.saturating_add(room.saturating_mul(16)))
+        else {
             continue;
         };
-        let mut reader = Watched::new(FIRST_PATH_ANSWERED.as_bytes());
+        let mut reader = Watched::new(text.as_bytes());
         match verify(
             rt.alloc(),
             &heap,
             setup(rt.alloc(), CLOSED)?,
-            10,
+            100,
             &mut reader,
         ) {
             Err(RunFault::NoMemory { line }) => {
@@ -166,7 +168,7 @@ fn every_growth_of_a_reading_is_refused_in_turn(rt: HostRuntime) -> Result<(), F
             _ => assert!(rt; false, "at {room}"),
         }
     }
-    assert!(rt; count > 0 && last > 1, "never refused");
     assert!(rt; done, "never done");
+    assert!(rt; count > 0 && last > 1, "never refused after line {last}");
     Ok(())
 }

@@ -1,5 +1,5 @@
 use super::growths::{Growth, SETUP, opens, used_before};
-use super::setup;
+use super::{over_a_guard, setup};
 use jg_guard::{Guard, Leaks};
 use jg_script::write_leaks;
 use linked_list_allocator::LocalHeap;
@@ -90,9 +90,10 @@ fn over_a_heap(alloc: Global, room: usize) -> Result<Met, Fail> {
     let heap = LocalHeap::new(alloc, room.saturating_add(9_000))?;
     let mut kept: Vec<u8, &LocalHeap> = Vec::new(&heap);
     kept.try_reserve(9_000)?;
-    match Guard::new(&heap, alloc, setup(alloc, SETUP)?, 1000) {
-        Ok(mut guard) => lists(&mut guard, kept, alloc),
-        Err(_) => Ok(Met::Unopened),
+    let setup = setup(alloc, SETUP)?;
+    match over_a_guard(&heap, alloc, setup, 1000, |guard| lists(guard, kept, alloc))? {
+        Some(met) => Ok(met),
+        None => Ok(Met::Unopened),
     }
 }
 

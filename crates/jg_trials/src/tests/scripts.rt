@@ -1,13 +1,16 @@
-use super::devices::{Broken, Slow, Trickle};
-use super::{CLOSED, FIRST_PATH, FIRST_PATH_ANSWERED, setup};
+use super::{
+    CLOSED, FIRST_PATH, FIRST_PATH_ANSWERED, check_with, faulty, first_block, repeated, setup,
+    with_guard,
+};
 use jg_guard::Guard;
-use jg_script::{RunFault, ScriptFault, Watched, check};
+use jg_script::{RunFault, ScriptFault, Verdict, Watched, verify};
 use linked_list_allocator::LocalHeap;
 use std::alloc::Global;
 use std::io::{BufRead, BufReader, BufWriter, Write};
 use std::test::Fail;
 
-/// What `check` answers to the script, what it wrote, and whether the reader and the writer failed.
+/// What `check` answers to the script, what it wrote, byte by byte, and whether the reader and the
+/// writer failed.
 #[derive(Drop)]
 struct Done {
     result: Result<u64, RunFault>,
@@ -16,23 +19,17 @@ struct Done {
     writer_failed: bool,
 }
 
-fn run<R: BufRead + Drop>(alloc: Global, script: R, limit: u32, room: usize) -> Result<Done, Fail> {
-    let setup = setup(alloc, CLOSED)?;
-    let mut guard = Guard::new(alloc, alloc, setup, limit)?;
+fn run<R: BufRead + Drop>(alloc: Global, script: R, limit: u32, room: u32) -> Result<Done, Fail> {
     let mut reader = Watched::new(script);
-    let mut writer = Watched::new(Trickle {
-        bytes: Vec::new(alloc),
-        room,
-    });
-    if guard.journal_len() != 0 {
-        return Err(Fail::from("a new guard's journal isn't empty"));
-    }
-    let result = check(alloc, &mut guard, &mut reader, &mut writer);
+    let mut writer = Watched::new(faulty(alloc, "", room, 1)?);
+    let result = with_guard(alloc, alloc, CLOSED, limit, |guard| {
+        check_with(guard, alloc, &mut reader, &mut writer)
+    })?;
     let reader_failed = reader.has_failed();
     let writer_failed = writer.has_failed();
     Ok(Done {
         result,
-        written: writer.into_inner().bytes,
+        written: writer.into_inner().into_bytes(),
         reader_failed,
         writer_failed,
     })
@@ -90,8 +87,8 @@ fn scripts_are_answered(rt: HostRuntime) -> Result<(), Fail> {
 #[test]
 fn a_slow_reader_does_not_fail(rt: HostRuntime) -> Result<(), Fail> {
     for capacity in [0, 1, 7] {
-        let bytes = FIRST_PATH.as_bytes();
-        let reader = BufReader::with_capacity(rt.alloc(), capacity, Slow { bytes })?;
+        let device = faulty(rt.alloc(), FIRST_PATH, u32::MAX, 1)?;
+        let reader = BufReader::with_capacity(rt.alloc(), capacity, device)?;
         let done = run(rt.alloc(), reader, 10, 1000)?;
         assert_eq!(rt; done.result, Ok(6), "at {capacity}");
         assert!(rt;
@@ -137,14 +134,10 @@ fn answers_the_first_path<W: Write + Drop>(
     alloc: Global,
     writer: &mut Watched<W>,
 ) -> Result<Result<u64, RunFault>, Fail> {
-    let setup = setup(alloc, CLOSED)?;
-    let mut guard = Guard::new(alloc, alloc, setup, 10)?;
     let mut reader = Watched::new(FIRST_PATH.as_bytes());
-    if guard.journal_len() == 0 {
-        Ok(check(alloc, &mut guard, &mut reader, writer))
-    } else {
-        Err(Fail::from("a new guard's journal isn't empty"))
-    }
+    with_guard(alloc, alloc, CLOSED, 10, |guard| {
+        check_with(guard, alloc, &mut reader, writer)
+    })
 }
 
 #[test]
@@ -159,26 +152,48 @@ fn a_flush_reaches_the_device(rt: HostRuntime) -> Result<(), Fail> {
 
 #[test]
 fn a_flush_fails_where_the_device_does(rt: HostRuntime) -> Result<(), Fail> {
-    let full = Trickle {
-        bytes: Vec::new(rt.alloc()),
-        room: 0,
-    };
+    let full = faulty(rt.alloc(), "", 0, 1)?;
     let mut writer = Watched::new(BufWriter::new(rt.alloc(), full)?);
     assert_eq!(rt; answers_the_first_path(rt.alloc(), &mut writer)?, Ok(6));
     assert!(rt; writer.flush().is_err() && writer.has_failed());
     Ok(())
 }
 
+/// The first two lines of the first path, and then a failure.
 #[test]
-fn a_reader_fails_after_two_lines(rt: HostRuntime) -> Result<(), Fail> {
-    let bytes = b"T1 - GetEnv\nT2 - GetEnv\nT3 - Get".as_slice();
-    let reader = BufReader::with_capacity(rt.alloc(), 7, Broken { bytes })?;
-    let done = run(rt.alloc(), reader, 10, 1000)?;
-    assert_eq!(rt; done.result, Err(RunFault::Read { line: 3 }));
-    assert!(rt;
-        done.written.as_slice() == b"T1 - GetEnv = detached\nT2 - GetEnv = detached\n".as_slice()
-    );
-    assert!(rt; done.reader_failed && !done.writer_failed);
+fn reader_fails_after_two(rt: HostRuntime) -> Result<(), Fail> {
+    for (reads, most) in [(52u32, 1usize), (8, 7), (1, 52)] {
+        let device = faulty(rt.alloc(), FIRST_PATH, reads, most)?;
+        let reader = BufReader::with_capacity(rt.alloc(), 100, device)?;
+        let done = run(rt.alloc(), reader, 10, 1000)?;
+        assert_eq!(rt; done.result, Err(RunFault::Read { line: 3 }), "at {most}");
+        assert!(rt;
+            done.written.as_slice()
+                == b"T1 - AttachCurrentThread = E1.1\nT1 E1.1 NewString [72,105] = L1.1\n".as_slice()
+        );
+        assert!(rt; done.reader_failed && !done.writer_failed);
+    }
+    Ok(())
+}
+
+const QUESTION: &str = "T1 - GetEnv\n";
+
+const ANSWER: &str = "T1 - GetEnv = detached\n";
+
+/// Lines are cut anywhere by reads of these sizes: with 11 bytes a line feed is the first byte that
+/// is read, with 12 the last.
+#[test]
+fn three_thousand_lines(rt: HostRuntime) -> Result<(), Fail> {
+    let script = repeated(rt.alloc(), QUESTION, 3000)?;
+    let answers = repeated(rt.alloc(), ANSWER, 3000)?;
+    for most in [1usize, 7, 11, 12, 13, 4096] {
+        let device = faulty(rt.alloc(), script.as_str(), u32::MAX, most)?;
+        let reader = BufReader::with_capacity(rt.alloc(), most, device)?;
+        let done = run(rt.alloc(), reader, 10_000, 100_000)?;
+        assert_eq!(rt; done.result, Ok(3000), "at {most}");
+        assert!(rt; done.written.as_slice() == answers.as_bytes(), "at {most}");
+        assert!(rt; !done.reader_failed && !done.writer_failed, "at {most}");
+    }
     Ok(())
 }
 
@@ -192,22 +207,31 @@ fn a_writer_fails_within_a_line(rt: HostRuntime) -> Result<(), Fail> {
     Ok(())
 }
 
+/// What `check` answers to one line of so many spaces, with or without a line feed, in reads of 4,096
+/// bytes.
+fn fault_of_spaces(alloc: Global, count: usize, feed: bool) -> Result<Result<u64, RunFault>, Fail> {
+    let mut script = vec![in alloc; b' '; count]?;
+    if feed {
+        script.push(b'\n')?;
+    }
+    let reader = BufReader::with_capacity(alloc, 4096, script.as_slice())?;
+    Ok(run(alloc, reader, 10, 10)?.result)
+}
+
 #[test]
 fn a_line_is_too_long(rt: HostRuntime) -> Result<(), Fail> {
-    let mut script = vec![in rt.alloc(); b' '; 65_536]?;
     let faulty = Err(RunFault::Script {
         line: 1,
         fault: ScriptFault::NoThread,
     });
-    assert_eq!(rt; run(rt.alloc(), script.as_slice(), 10, 10)?.result, faulty);
-    script.push(b'\n')?;
-    assert_eq!(rt; run(rt.alloc(), script.as_slice(), 10, 10)?.result, faulty);
-    script[65_536] = b' ';
     let long = Err(RunFault::Script {
         line: 1,
         fault: ScriptFault::LineTooLong,
     });
-    assert_eq!(rt; run(rt.alloc(), script.as_slice(), 10, 10)?.result, long);
+    assert_eq!(rt; fault_of_spaces(rt.alloc(), 65_536, false)?, faulty);
+    assert_eq!(rt; fault_of_spaces(rt.alloc(), 65_536, true)?, faulty);
+    assert_eq!(rt; fault_of_spaces(rt.alloc(), 65_537, false)?, long);
+    assert_eq!(rt; fault_of_spaces(rt.alloc(), 65_537, true)?, long);
     Ok(())
 }
 
@@ -240,32 +264,58 @@ fn answers_over(
     script: &[u8],
     written: &mut Vec<u8>,
 ) -> Result<(Result<u64, RunFault>, usize), Fail> {
-    let setup = setup(alloc, CLOSED)?;
-    let mut guard = Guard::new(heap, alloc, setup, 1000)?;
     let mut reader = Watched::new(script);
     let mut writer = Watched::new(written);
-    if guard.journal_len() == 0 {
-        let result = check(alloc, &mut guard, &mut reader, &mut writer);
+    with_guard(heap, alloc, CLOSED, 10_000, |guard| {
+        let result = check_with(guard, alloc, &mut reader, &mut writer)?;
         Ok((result, guard.journal_len()))
-    } else {
-        Err(Fail::from("a new guard's journal isn't empty"))
-    }
+    })
 }
 
+/// With room for one block of the journal and not for two the line past it is refused.
 #[test]
 fn a_refused_growth_names_its_line(rt: HostRuntime) -> Result<(), Fail> {
-    let answer = b"T1 - GetEnv = detached\n".as_slice();
-    let mut script = Vec::new(rt.alloc());
-    for _ in 0..1000u32 {
-        script.extend_from_slice(b"T1 - GetEnv\n".as_slice())?;
-    }
-    let heap = LocalHeap::new(rt.alloc(), 20_000)?;
+    let script = repeated(rt.alloc(), QUESTION, 1500)?;
+    let answers = repeated(rt.alloc(), ANSWER, 1024)?;
+    let block = first_block(rt.alloc())?;
+    let heap = LocalHeap::new(rt.alloc(), block.saturating_add(block / 2))?;
     let mut written = Vec::new(rt.alloc());
-    let (result, count) = answers_over(rt.alloc(), &heap, &script, &mut written)?;
-    let line = (count as u64).saturating_add(1);
-    assert!(rt; count > 0);
-    assert_eq!(rt; result, Err(RunFault::NoMemory { line }));
-    assert_eq!(rt; written.len(), count.saturating_mul(answer.len()));
-    assert!(rt; written.starts_with(answer) && written.ends_with(answer));
+    let (result, count) = answers_over(rt.alloc(), &heap, script.as_bytes(), &mut written)?;
+    assert_eq!(rt; result, Err(RunFault::NoMemory { line: 1025 }));
+    assert_eq!(rt; count, 1024);
+    assert!(rt; written.as_slice() == answers.as_bytes());
+    Ok(())
+}
+
+/// Whether the guard has just so many entries, each at its place.
+fn has_entries(guard: &Guard, count: usize) -> bool {
+    (0..3000usize).all(|place| guard.journal_entry(place).is_some() == (place < count))
+        && guard.journal_len() == count
+}
+
+/// A journal of so many entries has one at each place, and none past them.
+#[test]
+fn journals_of_blocks(rt: HostRuntime) -> Result<(), Fail> {
+    for count in [1023u32, 1024, 1025, 2049] {
+        let script = repeated(rt.alloc(), QUESTION, count)?;
+        let mut reader = Watched::new(script.as_bytes());
+        let mut writer = Watched::new(Vec::new(rt.alloc()));
+        let (done, is_whole) = with_guard(rt.alloc(), rt.alloc(), CLOSED, 10_000, |guard| {
+            let done = check_with(guard, rt.alloc(), &mut reader, &mut writer)?;
+            Ok((done, has_entries(guard, count as usize)))
+        })?;
+        assert_eq!(rt; done, Ok(count as u64));
+        assert!(rt; is_whole, "at {count}");
+        let text = writer.into_inner();
+        let mut reader = Watched::new(text.as_slice());
+        let read_back = verify(
+            rt.alloc(),
+            rt.alloc(),
+            setup(rt.alloc(), CLOSED)?,
+            10_000,
+            &mut reader,
+        );
+        assert_eq!(rt; read_back, Ok(Verdict::Legal));
+    }
     Ok(())
 }

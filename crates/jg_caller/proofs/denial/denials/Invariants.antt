@@ -1,6 +1,6 @@
 use Rattle.std.proofs.Common.{◌≡◌}
 use Rattle.jg_caller.specs.Denied.{denials_in}
-use Rattle.jg_caller.proofs.Listing.{oldest}
+use Rattle.jg_lists.proofs.Oldest.{oldest}
 use Rattle.jg_caller.proofs.denial.denials.Given as goal
 
 abbrev pub invariant-loop-place : goal.invariant-loop-place

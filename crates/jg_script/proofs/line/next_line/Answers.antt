@@ -1,5 +1,5 @@
 use Rattle.std.proofs.Common.{◌<◌, length, rules}
-use Rattle.jg_script.proofs.Lines.{line_taken, last_taken, too_long}
+use Rattle.jg_script.proofs.TextLines.{line_taken, last_taken, too_long}
 use Rattle.jg_script.proofs.line.next_line.Goals as goal
 
 pub returns-in-Ok-Feed-clause-taken : goal.returns-in-Ok-Feed-clause-taken

@@ -1,24 +1,44 @@
-use Rattle.std.proofs.Common.{◌∙◌, arith}
-use Rattle.jg_script.proofs.Lines.{lines_more}
-use Rattle.jg_script.proofs.Runs.{line_reads, answered_reads, goes_on, answered_err, long_answered, ended}
+use Rattle.std.proofs.Common.{◌∙◌, arith, inl, refl}
+use Rattle.jg_script.proofs.TextLines.{lines_more, begun, ended}
+use Rattle.jg_script.proofs.Runs.{none_checked, none_read, still_checked, line_reads, answered_reads, goes_on, answered_err, long_answered}
 use Rattle.jg_script.proofs.run.check.Goals as goal
 use Rattle.jg_script.proofs.run.check.Goals.{in-Ok-answer_line, in-Err-answer_line}
+
+pub returns-in_default-clause-checks : goal.returns-in_default-clause-checks
+returns-in_default-clause-checks g c =
+    none_checked (g.R.Read.remaining c.args.reader.now.device) (g.W.Write.contents c.args.writer.now.device) c.args.guard.now.limit c.args.guard.now.journal c.requires
+
+pub returns-in_default-clause-reads : goal.returns-in_default-clause-reads
+returns-in_default-clause-reads g c = none_read (g.R.Read.remaining c.args.reader.now.device) c.args.guard.now.journal c.requires
+
+pub returns-in-Err-Read-clause-checks : goal.returns-in-Err-Read-clause-checks
+returns-in-Err-Read-clause-checks g c =
+    let reads = g.R.Read.remaining in
+    let h = still_checked _ _ _ _ _ _ _ _ c.loop-line.invariant.checked c.hand_over.ensures.kept in
+    (begun (reads c.args.reader.now.device) (reads c.loop-line.reader.device) _ h.read, h.written, h.counted)
+
+pub returns-in-Err-NoMemory-clause-checks : goal.returns-in-Err-NoMemory-clause-checks
+returns-in-Err-NoMemory-clause-checks g c =
+    let reads = g.R.Read.remaining in
+    let h = still_checked _ _ _ _ _ _ _ _ c.loop-line.invariant.checked c.hand_over.ensures.kept in
+    (begun (reads c.args.reader.now.device) (reads c.loop-line.reader.device) _ h.read, (c.loop-line.guard.journal, inl refl, h.written, h.counted))
 
 pub returns-in-TooLong-clause-checks : goal.returns-in-TooLong-clause-checks
 returns-in-TooLong-clause-checks g c =
     let reads = g.R.Read.remaining in
     let holds = g.W.Write.contents in
-    let long = rw c.in-TooLong.is at c.in-Ok.ensures.taken in
-    long_answered (reads c.args.reader.now.device) (reads c.loop-line.reader.device) (reads c.next_line.new.reader.device) (holds c.args.writer.now.device) (holds c.loop-line.writer.device)
-    c.args.guard.now.limit c.loop-line.line c.loop-line.guard c.loop-line.invariant.checked c.loop-line.invariant.within long
+    let h = still_checked _ _ _ _ _ _ _ _ c.loop-line.invariant.checked c.hand_over.ensures.kept in
+    let long = rw c.in-TooLong.is at c.in-Ok-next_line.ensures.taken in
+    long_answered (reads c.args.reader.now.device) (reads c.loop-line.reader.device) (reads c.next_line.new.reader.device) (holds c.args.writer.now.device) (holds c.hand_over.new.writer.device)
+    c.args.guard.now.limit c.loop-line.line c.loop-line.guard h c.loop-line.invariant.within long
 
 pub returns-in-Err-clause-checks : goal.returns-in-Err-clause-checks
 returns-in-Err-clause-checks g c =
     let reads = g.R.Read.remaining in
     let holds = g.W.Write.contents in
-    let h = c.loop-line.invariant.checked in
-    let line = rw c.in-Line.is at c.in-Ok.ensures.taken in
-    answered_err (reads c.args.reader.now.device) (reads c.loop-line.reader.device) (reads c.next_line.new.reader.device) (holds c.args.writer.now.device) (holds c.loop-line.writer.device)
+    let h = still_checked _ _ _ _ _ _ _ _ c.loop-line.invariant.checked c.hand_over.ensures.kept in
+    let line = rw c.in-Line.is at c.in-Ok-next_line.ensures.taken in
+    answered_err (reads c.args.reader.now.device) (reads c.loop-line.reader.device) (reads c.next_line.new.reader.device) (holds c.args.writer.now.device) (holds c.hand_over.new.writer.device)
     (holds c.answer_line.new.writer.device)
     c.args.guard.now.limit c.loop-line.line c.loop-line.guard c.answer_line.new.guard c.deref.result.now c.in-Err.fault
     h c.loop-line.invariant.within (rw c.deref.ensures.value (lines_more _ _ _ _ _ h.read line)) c.in-Err.ensures.answers
@@ -27,20 +47,20 @@ pub returns-in-LastLine-clause-checks : goal.returns-in-LastLine-clause-checks
 returns-in-LastLine-clause-checks g c =
     let reads = g.R.Read.remaining in
     let holds = g.W.Write.contents in
-    let h = c.loop-line.invariant.checked in
-    let line = rw c.in-LastLine.is at c.in-Ok.ensures.taken in
+    let h = still_checked _ _ _ _ _ _ _ _ c.loop-line.invariant.checked c.hand_over.ensures.kept in
+    let line = rw c.in-LastLine.is at c.in-Ok-next_line.ensures.taken in
     let a = c.answer_line-in-LastLine in
     let d = c.deref-in-LastLine in
     elim c.match-answer_line-2.branch [
       | in-Ok-answer_line w ↦ (
-          let more = goes_on (reads c.args.reader.now.device) (reads c.loop-line.reader.device) (reads c.next_line.new.reader.device) (holds c.args.writer.now.device) (holds c.loop-line.writer.device)
+          let more = goes_on (reads c.args.reader.now.device) (reads c.loop-line.reader.device) (reads c.next_line.new.reader.device) (holds c.args.writer.now.device) (holds c.hand_over.new.writer.device)
           (holds a.new.writer.device)
           c.args.guard.now.limit c.loop-line.line c.loop-line.guard a.new.guard d.result.now h (rw d.ensures.value (lines_more _ _ _ _ _ h.read line.0)) a.ensures.limit
           w.in-Ok-answer_line.ensures.answers in
           let counted = more.0.counted in
           rw w.result-is (ended _ _ _ more.0.read line.1, line.1, more.0.written, omega arith, more.1))
       | in-Err-answer_line w ↦ rw w.result-is (answered_err (reads c.args.reader.now.device) (reads c.loop-line.reader.device) (reads c.next_line.new.reader.device) (holds c.args.writer.now.device)
-          (holds c.loop-line.writer.device) (holds a.new.writer.device)
+          (holds c.hand_over.new.writer.device) (holds a.new.writer.device)
           c.args.guard.now.limit c.loop-line.line c.loop-line.guard a.new.guard d.result.now w.in-Err-answer_line.fault
           h c.loop-line.invariant.within (rw d.ensures.value (lines_more _ _ _ _ _ h.read line.0)) w.in-Err-answer_line.ensures.answers)
     ]
@@ -50,22 +70,24 @@ returns-in-Err-clause-reads g c =
     let reads = g.R.Read.remaining in
     let holds = g.W.Write.contents in
     let inv = c.loop-line.invariant in
-    answered_reads (reads c.args.reader.now.device) (reads c.loop-line.reader.device) (reads c.next_line.new.reader.device) (holds c.args.writer.now.device) (holds c.loop-line.writer.device)
+    let h = still_checked _ _ _ _ _ _ _ _ c.loop-line.invariant.checked c.hand_over.ensures.kept in
+    answered_reads (reads c.args.reader.now.device) (reads c.loop-line.reader.device) (reads c.next_line.new.reader.device) (holds c.args.writer.now.device) (holds c.hand_over.new.writer.device)
     (holds c.answer_line.new.writer.device)
-    c.args.guard.now.limit c.loop-line.line c.loop-line.guard c.answer_line.new.guard c.deref.result.now c.in-Err.fault inv.checked inv.taken c.in-Ok.ensures.front c.in-Err.ensures.answers
+    c.args.guard.now.limit c.loop-line.line c.loop-line.guard c.answer_line.new.guard c.deref.result.now c.in-Err.fault h inv.taken c.in-Ok-next_line.ensures.front c.in-Err.ensures.answers
 
 pub returns-in-LastLine-clause-reads : goal.returns-in-LastLine-clause-reads
 returns-in-LastLine-clause-reads g c =
     let reads = g.R.Read.remaining in
     let holds = g.W.Write.contents in
     let inv = c.loop-line.invariant in
-    let last = rw c.in-LastLine.is at c.in-Ok.ensures.bytes in
+    let h = still_checked _ _ _ _ _ _ _ _ c.loop-line.invariant.checked c.hand_over.ensures.kept in
+    let last = rw c.in-LastLine.is at c.in-Ok-next_line.ensures.bytes in
     let a = c.answer_line-in-LastLine in
     elim c.match-answer_line-2.branch [
       | in-Ok-answer_line w ↦ rw w.result-is last.1
       | in-Err-answer_line w ↦ rw w.result-is (answered_reads (reads c.args.reader.now.device) (reads c.loop-line.reader.device) (reads c.next_line.new.reader.device) (holds c.args.writer.now.device)
-          (holds c.loop-line.writer.device) (holds a.new.writer.device)
-          c.args.guard.now.limit c.loop-line.line c.loop-line.guard a.new.guard c.deref-in-LastLine.result.now w.in-Err-answer_line.fault inv.checked inv.taken c.in-Ok.ensures.front
+          (holds c.hand_over.new.writer.device) (holds a.new.writer.device)
+          c.args.guard.now.limit c.loop-line.line c.loop-line.guard a.new.guard c.deref-in-LastLine.result.now w.in-Err-answer_line.fault h inv.taken c.in-Ok-next_line.ensures.front
           w.in-Err-answer_line.ensures.answers)
     ]
 
@@ -74,14 +96,14 @@ loop-line-preserved g c =
     let reads = g.R.Read.remaining in
     let holds = g.W.Write.contents in
     let inv = c.loop-line.invariant in
-    let h = inv.checked in
-    let line = rw c.in-Line.is at c.in-Ok.ensures.taken in
-    let more = goes_on (reads c.args.reader.now.device) (reads c.loop-line.reader.device) (reads c.next_line.new.reader.device) (holds c.args.writer.now.device) (holds c.loop-line.writer.device)
+    let h = still_checked _ _ _ _ _ _ _ _ c.loop-line.invariant.checked c.hand_over.ensures.kept in
+    let line = rw c.in-Line.is at c.in-Ok-next_line.ensures.taken in
+    let more = goes_on (reads c.args.reader.now.device) (reads c.loop-line.reader.device) (reads c.next_line.new.reader.device) (holds c.args.writer.now.device) (holds c.hand_over.new.writer.device)
     (holds c.answer_line.new.writer.device)
     c.args.guard.now.limit c.loop-line.line c.loop-line.guard c.answer_line.new.guard c.deref.result.now h (rw c.deref.ensures.value (lines_more _ _ _ _ _ h.read line)) c.answer_line.ensures.limit
-    c.in_default.ensures.answers in
-    let bytes = rw c.in-Line.is at c.in-Ok.ensures.bytes in
-    let answered = c.in_default.ensures.answers in
+    c.in_default-answer_line.ensures.answers in
+    let bytes = rw c.in-Line.is at c.in-Ok-next_line.ensures.bytes in
+    let answered = c.in_default-answer_line.ensures.answers in
     let journals = rw c.deref.ensures.value at answered.1 in
     record {
       checked = more.0;
@@ -91,6 +113,6 @@ loop-line-preserved g c =
       legal = c.answer_line.ensures.legal inv.legal;
       script = more.2 inv.script;
       setup = c.answer_line.ensures.setup ∙ inv.setup;
-      reads = c.in-Ok.ensures.sound ∙ inv.reads;
-      writes = c.in_default.ensures.device ∙ inv.writes;
+      reads = c.in-Ok-next_line.ensures.sound ∙ inv.reads;
+      writes = c.in_default-answer_line.ensures.device ∙ (c.hand_over.ensures.failed ∙ inv.writes);
     }

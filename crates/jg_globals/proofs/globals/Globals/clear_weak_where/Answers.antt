@@ -1,6 +1,5 @@
-use Rattle.std.proofs.Common.{◌≡◌, length, arith, ap, sym}
+use Rattle.std.proofs.Common.{refl}
 use Rattle.std.specs.Prelude.{map}
-use Rattle.std.proofs.lemmas.List.{with_items_is}
 use Rattle.jg_globals.specs.Standing.{Stands}
 use Rattle.jg_globals.specs.Seen.{strong_seen, weak_seen}
 use Rattle.jg_globals.proofs.Lookups.{reopened, above_in}
@@ -11,15 +10,10 @@ use Rattle.jg_globals.proofs.globals.Globals.clear_weak_where.Goals as goal
 -- the objects that meet the test are cleared
 pub returns-clause-stands : goal.returns-clause-stands
 returns-clause-stands g c = λ e objects stands listed.
-    let was : Stands (record { strong = map strong_seen c.self.inside.strong.items; weak = map weak_seen c.self.inside.weak.items }) e = reopened _ _ e c.self.view_is stands in
-    let len : length c.clear_rows.new.rows ≡ c.self.inside.weak.len = omega arith in
-    rw (with_items_is c.self.inside.weak c.clear_rows.new.rows len)
-    (clear_law _ _ c.deref_mut.result.now _ e objects (ap (map weak_seen) (sym c.deref_mut.ensures.value)) c.clear_rows.ensures listed was)
+    let was : Stands (record { strong = map strong_seen c.self.inside.strong.entries; weak = map weak_seen c.self.inside.weak.entries }) e = reopened _ _ e c.self.view_is stands in
+    clear_law _ _ c.self.inside.weak.entries c.clear_rows.new.rows.entries e objects refl c.clear_rows.ensures listed was
 
 -- no other number is there
 pub returns-clause-numbers : goal.returns-clause-numbers
 returns-clause-numbers g c = λ k i above.
-    let was = above_in _ _ k i c.self.view_is above in
-    let len : length c.clear_rows.new.rows ≡ c.self.inside.weak.len = omega arith in
-    rw (with_items_is c.self.inside.weak c.clear_rows.new.rows len)
-    (cleared_kept _ _ c.deref_mut.result.now c.clear_rows.new.rows k i (ap (map weak_seen) (sym c.deref_mut.ensures.value)) c.clear_rows.ensures was)
+    cleared_kept _ _ c.self.inside.weak.entries c.clear_rows.new.rows.entries k i refl c.clear_rows.ensures (above_in _ _ k i c.self.view_is above)

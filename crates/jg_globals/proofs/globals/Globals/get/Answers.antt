@@ -8,12 +8,12 @@ use Rattle.jg_globals.proofs.globals.Globals.get.Goals as goal
 
 pub returns-in-Global : goal.returns-in-Global
 returns-in-Global g c = λ e stands.
-    let was : Stands (record { strong = map strong_seen c.self.inside.strong.items; weak = map weak_seen c.self.inside.weak.items }) e = reopened _ _ e c.self.view_is stands in
-    rw (c.in-To.is, c.in-Global.is, c.object_target.ensures, c.object_of_strong.ensures, c.deref.ensures.value)
-    (ap strong_target (get_strong_law _ e c.self.inside.strong.items c.in-To.maker.0 c.in-To.n refl was))
+    let was : Stands (record { strong = map strong_seen c.self.inside.strong.entries; weak = map weak_seen c.self.inside.weak.entries }) e = reopened _ _ e c.self.view_is stands in
+    rw (c.in-To.is, c.in-Global.is, c.object_target.ensures, c.copied.ensures, c.get.ensures.value)
+    (ap strong_target (get_strong_law _ e c.self.inside.strong.entries c.in-To.maker.0 c.in-To.n refl was))
 
 pub returns-in-Weak : goal.returns-in-Weak
 returns-in-Weak g c = λ e stands.
-    let was : Stands (record { strong = map strong_seen c.self.inside.strong.items; weak = map weak_seen c.self.inside.weak.items }) e = reopened _ _ e c.self.view_is stands in
-    rw (c.in-To.is, c.in-Weak.is, c.target_of_weak.ensures, c.deref-in-Weak.ensures.value)
-    (get_weak_law _ e c.self.inside.weak.items c.in-To.maker.0 c.in-To.n refl was)
+    let was : Stands (record { strong = map strong_seen c.self.inside.strong.entries; weak = map weak_seen c.self.inside.weak.entries }) e = reopened _ _ e c.self.view_is stands in
+    rw (c.in-To.is, c.in-Weak.is, c.copied-in-Weak.ensures, c.get-in-Weak.ensures.value)
+    (get_weak_law _ e c.self.inside.weak.entries c.in-To.maker.0 c.in-To.n refl was)

@@ -1,13 +1,15 @@
-use Rattle.std.proofs.Common.{◌≡◌}
-use Rattle.std.specs.Prelude.{map}
-use Rattle.jg_globals.specs.Rows.{Rows}
-use Rattle.jg_globals.specs.Seen.{strong_seen, weak_seen}
+use Rattle.std.proofs.lemmas.Result.{on_ok_weaker}
 use Rattle.jg_globals.proofs.Listed.{listed_law}
 use Rattle.jg_globals.proofs.globals.Globals.list.Goals as goal
 
 -- the references of both kinds are appended
 pub returns : goal.returns
 returns g c =
-    let rows : Rows = record { strong = map strong_seen c.deref.result.now; weak = map weak_seen c.deref-2.result.now } in
-    let seen : rows ≡ c.args.self.now = rw (c.deref.ensures.value, c.deref-2.ensures.value) c.self.view_is in
-    record { ok = listed_law c.args.self.now c.deref.result.now c.deref-2.result.now _ _ _ seen c.in_ok-list_strong.ensures c.in_ok-list_weak.ensures }
+    let strong = c.self.inside.strong.entries in
+    let weak = c.self.inside.weak.entries in
+    let refs = c.list_names-2.new.refs.items in
+    record {
+      ok = on_ok_weaker c.list_names-2.result
+          (listed_law c.args.self.now strong weak c.args.refs.now.items c.list_names.new.refs.items refs c.self.view_is c.in_ok-list_names.ensures)
+          c.list_names-2.ensures;
+    }

@@ -7,5 +7,5 @@ use Rattle.jg_globals.proofs.globals.Globals.mark_held.Goals as goal
 
 pub returns : goal.returns
 returns g c = λ e stands o.
-    let was : Stands (record { strong = map strong_seen c.self.inside.strong.items; weak = map weak_seen c.self.inside.weak.items }) e = reopened _ _ e c.self.view_is stands in
-    rw (c.mark_objects.ensures o, c.deref.ensures.value, holds_law _ e c.self.inside.strong.items o refl was) refl
+    let was : Stands (record { strong = map strong_seen c.self.inside.strong.entries; weak = map weak_seen c.self.inside.weak.entries }) e = reopened _ _ e c.self.view_is stands in
+    rw (c.mark_objects.ensures o, holds_law _ e c.self.inside.strong.entries o refl was) refl

@@ -30,6 +30,15 @@ perform-requires g c =
     answered_at state.setup c.view-view.result.setup.now (parts state.setup state.journal) c.args.tid c.args.call given c.view-view.ensures.setup told in
     answered_due state (rows_of c.self.inside.tables) c.args.tid c.args.env c.args.call given _ c.self.invariant none is refl refl refl
 
+pub invariant_of-self-in_default-perform : goal.invariant_of-self-in_default-perform
+invariant_of-self-in_default-perform g c =
+    rw c.reserve.ensures.items (record {
+      legal = c.self.invariant.legal;
+      small = c.self.invariant.small;
+      bounded = c.self.invariant.bounded;
+      tables = c.in_default-perform.ensures.err _ c.self.invariant.tables;
+    })
+
 pub invariant_of-self-2 : goal.invariant_of-self-2
 invariant_of-self-2 g c =
     let state : State = record { setup = c.self.inside.setup; limit = c.self.inside.limit; journal = reverse c.self.inside.journal.items } in

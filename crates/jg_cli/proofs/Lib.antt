@@ -1,5 +1,0 @@
-pub mod Closed
-pub mod Flushing
-pub mod Reading
-pub mod Refusing
-pub mod Saying

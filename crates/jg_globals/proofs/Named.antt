@@ -1,0 +1,91 @@
+-- What a map by name has of one reference: the rows that contracts see, and its numbers.
+use Rattle.std.proofs.Common.{◌≡◌, ℕ, Bool, true, false, cond, List, [], ◌∷◌, Some, refl, ◌∙◌, ap, sym, subst, arith}
+use Rattle.std.specs.Prelude.{◌==◌, ◌&&◌, if◌then◌else◌, filter, map, All}
+use Rattle.std.specs.Cmp.{IsEquivalence}
+use Rattle.std.specs.List.{AllByRecursion, IsDistinct}
+use Rattle.std.specs.Map.{keys_of, lookup}
+use Rattle.std.specs.Option.{option_map, option_to_list, IsSome}
+use Rattle.std.proofs.lemmas.Bool.Decides.{nat_tests}
+use Rattle.std.proofs.lemmas.Cmp.{and_equiv, on_equiv, nat_eq_equiv}
+use Rattle.std.proofs.lemmas.List.Elements.{recursion_from_All, All-from_recursion, All-contains}
+use Rattle.std.proofs.lemmas.Map.Views.{All-keys_from_lookup, Contains-keys_from_lookup}
+use Rattle.std.proofs.lemmas.Map.Keys.{IsDistinct-head, IsDistinct-tail}
+use Rattle.jg_globals.specs.declared.name.Name.{Name}
+use Rattle.jg_lists.proofs.Lists.{first}
+
+abbrev pub name : ℕ → ℕ → Name
+name maker n = record { maker = maker; n = n }
+
+-- the test by which the maps find a name
+abbrev pub same_name : Name → Name → Bool
+same_name a b = (a.maker == b.maker) && (a.n == b.n)
+
+pub name_laws : IsEquivalence same_name
+name_laws = and_equiv (on_equiv (λ a. a.maker) nat_eq_equiv) (on_equiv (λ a. a.n) nat_eq_equiv)
+
+pub equal_names : (a b : Name) → same_name a b ≡ true → a ≡ b
+equal_names a b is =
+    let maker : a.maker ≡ b.maker = grind (arith, nat_tests) in
+    let n : a.n ≡ b.n = grind (arith, nat_tests) in
+    (λ j. record { maker = maker j; n = n j })
+
+module _ {V R : Type 0} (seen : Name × V → R) (test : R → Bool) (q : Name) (tests : (e : Name × V) → test (seen e) ≡ same_name q e.0) where
+  entry_seen : (e : Name × V) → same_name q e.0 ≡ true → seen e ≡ seen (q, e.1)
+  entry_seen e is =
+      let named : q ≡ e.0 = equal_names q e.0 is in
+      ap (λ k. seen (k, e.1)) (sym named)
+
+  -- the first row that passes the test is that of the name
+  pub first_named : (es : List (Name × V)) → first (filter test (map seen es)) ≡ option_map (λ v. seen (q, v)) (lookup (same_name q) es)
+  first_named [] = refl
+  first_named (e ∷ es) =
+      let P : Bool → Type 0 = λ b. first (if b then seen e ∷ filter test (map seen es) else filter test (map seen es)) ≡ option_map (λ v. seen (q, v)) (lookup (same_name q) (e ∷ es)) in
+      subst P (sym (tests e)) (by (same_name q e.0) refl (first_named es))
+    where
+      by : (b : Bool) → same_name q e.0 ≡ b → first (filter test (map seen es)) ≡ option_map (λ v. seen (q, v)) (lookup (same_name q) es)
+          → first (if b then seen e ∷ filter test (map seen es) else filter test (map seen es)) ≡ option_map (λ v. seen (q, v)) (cond b (Some e.1) (lookup (same_name q) es))
+      by true is rest = ap Some (entry_seen e is)
+      by false is rest = rest
+
+  none_named : (es : List (Name × V)) → AllByRecursion (λ k. same_name q k ≡ false) (keys_of es) → filter test (map seen es) ≡ []
+  none_named [] none = refl
+  none_named (e ∷ es) none = rw (tests e, none.0) (none_named es none.1)
+
+  others : (k : Name) (ks : List Name) → same_name q k ≡ true → AllByRecursion (λ other. same_name k other ≡ false) ks → AllByRecursion (λ other. same_name q other ≡ false) ks
+  others k [] is none = tt
+  others k (other ∷ ks) is none = (name_laws.congr q k other is ∙ none.0, others k ks is none.1)
+
+  -- the rows that pass the test are that of the name, where it is in the map
+  pub rows_named : (es : List (Name × V)) → IsDistinct same_name (keys_of es)
+      → filter test (map seen es) ≡ option_to_list (option_map (λ v. seen (q, v)) (lookup (same_name q) es))
+  rows_named [] distinct = refl
+  rows_named (e ∷ es) distinct =
+      let P : Bool → Type 0 = λ b. (if b then seen e ∷ filter test (map seen es) else filter test (map seen es)) ≡ option_to_list (option_map (λ v. seen (q, v)) (lookup (same_name q) (e ∷ es))) in
+      subst P (sym (tests e)) (by (same_name q e.0) refl (rows_named es (IsDistinct-tail same_name e.0 (keys_of es) distinct)))
+    where
+      by : (b : Bool) → same_name q e.0 ≡ b → filter test (map seen es) ≡ option_to_list (option_map (λ v. seen (q, v)) (lookup (same_name q) es))
+          → (if b then seen e ∷ filter test (map seen es) else filter test (map seen es)) ≡ option_to_list (option_map (λ v. seen (q, v)) (cond b (Some e.1) (lookup (same_name q) es)))
+      by true is rest = rw (none_named es (others e.0 (keys_of es) is (IsDistinct-head same_name e.0 (keys_of es) distinct))) (ap (λ row. row ∷ []) (entry_seen e is))
+      by false is rest = rest
+
+-- a map in which only names of another are found has only names of it
+pub names_kept : {V W : Type 0} (P : Name → Type 0) (es : List (Name × V)) (news : List (Name × W))
+    → ((q : Name) → IsSome (lookup (same_name q) news) → IsSome (lookup (same_name q) es)) → All P (keys_of es) → All P (keys_of news)
+names_kept P es news known all = All-keys_from_lookup name_laws P news (λ q found.
+    All-contains P (keys_of es) q all (Contains-keys_from_lookup equal_names q es (known q found)))
+
+module _ {V R : Type 0} (seen : Name × V → R) (P : Name → Type 0) (Q : R → Type 0) where
+  keys_by : ((e : Name × V) → Q (seen e) → P e.0) → (es : List (Name × V)) → AllByRecursion Q (map seen es) → AllByRecursion P (keys_of es)
+  keys_by says [] all = tt
+  keys_by says (e ∷ es) all = (says e all.0, keys_by says es all.1)
+
+  rows_by : ((e : Name × V) → P e.0 → Q (seen e)) → (es : List (Name × V)) → AllByRecursion P (keys_of es) → AllByRecursion Q (map seen es)
+  rows_by says [] all = tt
+  rows_by says (e ∷ es) all = (says e all.0, rows_by says es all.1)
+
+  -- what holds of each row holds of each name, and the other way
+  pub all_keys : ((e : Name × V) → Q (seen e) → P e.0) → (es : List (Name × V)) → All Q (map seen es) → All P (keys_of es)
+  all_keys says es all = All-from_recursion _ _ (keys_by says es (recursion_from_All _ _ all))
+
+  pub all_rows : ((e : Name × V) → P e.0 → Q (seen e)) → (es : List (Name × V)) → All P (keys_of es) → All Q (map seen es)
+  all_rows says es all = All-from_recursion _ _ (rows_by says es (recursion_from_All _ _ all))

@@ -1,0 +1,47 @@
+-- What the end of a play says of the whole where receipts and journal differ.
+use Rattle.std.proofs.Common.{◌≡◌, ℕ, List, Option, Result, Ok, Err, ◌⊎◌, sym, subst}
+use Rattle.jg_words.specs.declared.thread.Tid.{Tid}
+use Rattle.jg_rules.specs.Legal.{Legal}
+use Rattle.jg_guard.specs.Guard.{State}
+use Rattle.jg_shell.specs.declared.settle.FinishFault.{FinishFault}
+use Rattle.jg_shell.specs.declared.settle.FinishFault.TheVariants.{Differs}
+use Rattle.jg_shell.specs.declared.settle.Finished.{Finished}
+use Rattle.jg_shell.specs.Difference.{back_of, IsFirstDifference}
+use Rattle.jg_shell.specs.Finish.{IsWrongReceipt, IsUntoldEntry}
+use Rattle.jg_shell.specs.Work.{Work}
+use Rattle.jg_program.specs.declared.stop.Status.{Status}
+use Rattle.jg_program.specs.declared.stop.Stop.{Stop}
+use Rattle.jg_program.specs.declared.stop.Stop.TheVariants.{Arguments, Setup, SetupRead, Run, Leaks, Mismatch, Worker}
+use Rattle.jg_program.specs.Plays.{HandsOut, Settles, TellsDifference}
+
+-- the journal wasn't written
+pub unwritten : (tid : Tid) (at : ℕ) (guard : State) (bytes bytes' : Option (List ℕ)) (stop : Stop) → HandsOut bytes bytes' guard (Err stop)
+    → TellsDifference tid at guard bytes bytes' (Err stop)
+unwritten tid at guard bytes bytes' (Run fault) handed = handed
+unwritten tid at guard bytes bytes' (Setup fault) handed = absurd handed
+unwritten tid at guard bytes bytes' SetupRead handed = absurd handed
+unwritten tid at guard bytes bytes' (Arguments fault) handed = absurd handed
+unwritten tid at guard bytes bytes' Leaks handed = absurd handed
+unwritten tid at guard bytes bytes' (Mismatch thread place) handed = absurd handed
+unwritten tid at guard bytes bytes' (Worker other) handed = absurd handed
+
+-- the difference is a true one
+pub settled : (workers : List Work) (tid : Tid) (at : ℕ) (guard : State) (bytes bytes' : Option (List ℕ)) (result : Result Status Stop) → Legal guard.setup guard.journal
+    → IsWrongReceipt guard.journal workers tid at ⊎ IsUntoldEntry guard.journal workers tid at → TellsDifference tid at guard bytes bytes' result → Settles workers bytes bytes' result
+settled workers tid at guard bytes bytes' (Ok status) legal differs told = absurd told
+settled workers tid at guard bytes bytes' (Err (Run fault)) legal differs told = (guard, legal, told)
+settled workers tid at guard bytes bytes' (Err (Setup fault)) legal differs told = absurd told
+settled workers tid at guard bytes bytes' (Err SetupRead) legal differs told = absurd told
+settled workers tid at guard bytes bytes' (Err (Arguments fault)) legal differs told = absurd told
+settled workers tid at guard bytes bytes' (Err Leaks) legal differs told = absurd told
+settled workers tid at guard bytes bytes' (Err (Worker other)) legal differs told = absurd told
+settled workers tid at guard bytes bytes' (Err (Mismatch thread place)) legal differs told =
+    (guard, tid, told.0, legal, subst (λ (p : ℕ). IsWrongReceipt guard.journal workers tid p ⊎ IsUntoldEntry guard.journal workers tid p) (sym told.1) differs, told.2)
+
+-- the same of what the comparison answered
+pub settled_by : {L : Type 0} (workers : List Work) (fault : FinishFault L) (tid : Tid) (at : ℕ) (back : Finished L) (bytes bytes' : Option (List ℕ)) (result : Result Status Stop)
+    → fault ≡ Differs tid at back → Legal (back_of fault).guard.setup (back_of fault).guard.journal → IsFirstDifference workers fault → TellsDifference tid at back.guard bytes bytes' result
+    → Settles workers bytes bytes' result
+settled_by {L} workers fault tid at back bytes bytes' result is legal differs told =
+    settled workers tid at back.guard bytes bytes' result (subst (λ (f : FinishFault L). Legal (back_of f).guard.setup (back_of f).guard.journal) is legal)
+    (subst (λ (f : FinishFault L). IsFirstDifference workers f) is differs) told

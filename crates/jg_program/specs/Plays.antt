@@ -1,0 +1,95 @@
+-- How playing the scripts of a file ended.
+use Rattle.std.specs.Prelude.{◌≡◌, ◌<◌, ◌⊎◌, ℕ, List, [], ◌∷◌, Option, None, Some, Result, Ok, Err, length, All, slice_index_or}
+use Rattle.std.specs.Option.{option_or}
+use Rattle.std.specs.Io.KnownBytes.{Keeps}
+use Rattle.jg_words.specs.declared.thread.Tid.{Tid}
+use Rattle.jg_policy.specs.declared.fault.SetupFault.TheVariants.{NoMemory as NoRoom}
+use Rattle.jg_rules.specs.Legal.{Legal}
+use Rattle.jg_guard.specs.Guard.{State}
+use Rattle.jg_script.specs.declared.run_fault.RunFault.{RunFault}
+use Rattle.jg_script.specs.declared.run_fault.RunFault.TheVariants.{NoMemory, Write}
+use Rattle.jg_script.specs.declared.scripts.Lines.{Lines}
+use Rattle.jg_script.specs.Checked.{WritesAll}
+use Rattle.jg_script.specs.ScriptFile.{ReadsScripts}
+use Rattle.jg_script.specs.Written.{WritesJournal}
+use Rattle.jg_shell.specs.declared.account.Stop.{Stop as WorkerStop}
+use Rattle.jg_shell.specs.Finish.{IsWrongReceipt, IsUntoldEntry}
+use Rattle.jg_shell.specs.Played.{Ran}
+use Rattle.jg_shell.specs.Settled.{IsOwnEntries, IsOfSome}
+use Rattle.jg_shell.specs.Work.{Work, fresh}
+use Rattle.jg_program.specs.declared.stop.Status.{Status}
+use Rattle.jg_program.specs.declared.stop.Status.TheVariants.{Done}
+use Rattle.jg_program.specs.declared.stop.Stop.{Stop}
+use Rattle.jg_program.specs.declared.stop.Stop.TheVariants.{Arguments, Setup, SetupRead, Run, Leaks, Mismatch, Worker}
+
+-- the workers have run the scripts, one for each, in their order
+abbrev pub HaveRun : ℕ → List Lines → List Work → Type 0
+HaveRun turns scripts workers = (i : ℕ) (script : Lines) (worker : Work) → i < length scripts
+    → Ran turns (fresh (slice_index_or scripts i script)) (slice_index_or workers i worker)
+
+-- the guard's journal is a legal history for the setup that it keeps, and is just these workers' receipts
+pub record AreReceipts (guard : State) (workers : List Work) : Type 0 where
+  pub legal : Legal guard.setup guard.journal
+  pub own : All (IsOwnEntries guard.journal) workers
+  pub known : All (IsOfSome workers) guard.journal
+
+-- why the first of the workers that stopped did so
+abbrev pub first_stop_of : List Work → Option WorkerStop
+first_stop_of [] = None
+first_stop_of (worker ∷ later) = option_or worker.stopped (first_stop_of later)
+
+-- what writing this guard's journal and handing it on ended by
+abbrev pub HandsOut : Option (List ℕ) → Option (List ℕ) → State → Result (Unit {0}) Stop → Type 0
+HandsOut bytes bytes' guard (Ok done) = WritesAll bytes bytes' guard.journal
+HandsOut bytes bytes' guard (Err (Run fault)) = WritesJournal bytes bytes' guard.journal (Err fault)
+    ⊎ ((line : ℕ) × (fault ≡ Write line))
+HandsOut bytes bytes' guard (Err (Setup fault)) = ⊥
+HandsOut bytes bytes' guard (Err SetupRead) = ⊥
+HandsOut bytes bytes' guard (Err (Arguments fault)) = ⊥
+HandsOut bytes bytes' guard (Err Leaks) = ⊥
+HandsOut bytes bytes' guard (Err (Mismatch thread place)) = ⊥
+HandsOut bytes bytes' guard (Err (Worker stop)) = ⊥
+
+-- a difference between receipts and the guard's journal is told, of this thread at this place, and the journal written
+abbrev pub TellsDifference : Tid → ℕ → State → Option (List ℕ) → Option (List ℕ) → Result Status Stop → Type 0
+TellsDifference tid at guard bytes bytes' (Err (Mismatch thread place)) =
+    (thread ≡ tid.0) × (place ≡ at) × WritesAll bytes bytes' guard.journal
+TellsDifference tid at guard bytes bytes' (Err (Run fault)) = HandsOut bytes bytes' guard (Err (Run fault))
+TellsDifference tid at guard bytes bytes' result = ⊥
+
+-- what workers that have run ended by, and what that did to the bytes of the writer
+abbrev pub Settles : List Work → Option (List ℕ) → Option (List ℕ) → Result Status Stop → Type 0
+-- none of them stopped, and the journal's text was written
+Settles workers bytes bytes' (Ok status) = (status ≡ Done) × (first_stop_of workers ≡ None)
+    × ((guard : State) × AreReceipts guard workers × WritesAll bytes bytes' guard.journal)
+-- one of them stopped, and the journal's text was written
+Settles workers bytes bytes' (Err (Worker stop)) = (first_stop_of workers ≡ Some stop)
+    × ((guard : State) × AreReceipts guard workers × WritesAll bytes bytes' guard.journal)
+-- a receipt isn't in the journal, or an entry is no worker's receipt; the journal's text was written
+Settles workers bytes bytes' (Err (Mismatch thread place)) = (guard : State) × (tid : Tid) × (thread ≡ tid.0)
+    × Legal guard.setup guard.journal
+    × (IsWrongReceipt guard.journal workers tid place ⊎ IsUntoldEntry guard.journal workers tid place)
+    × WritesAll bytes bytes' guard.journal
+-- the journal couldn't be written to its end
+Settles workers bytes bytes' (Err (Run fault)) = (guard : State) × Legal guard.setup guard.journal
+    × HandsOut bytes bytes' guard (Err (Run fault))
+Settles workers bytes bytes' (Err (Setup fault)) = ⊥
+Settles workers bytes bytes' (Err SetupRead) = ⊥
+Settles workers bytes bytes' (Err (Arguments fault)) = ⊥
+Settles workers bytes bytes' (Err Leaks) = ⊥
+
+-- how playing these scripts ended: workers ran them, and ended so; or no guard could be made
+abbrev pub PlaysOut : ℕ → List Lines → Option (List ℕ) → Option (List ℕ) → Result Status Stop → Type 0
+PlaysOut turns scripts bytes bytes' result = ((workers : List Work) × HaveRun turns scripts workers
+    × Settles workers bytes bytes' result) ⊎ ((result ≡ Err (Setup NoRoom)) × Keeps bytes bytes')
+
+-- what reading the scripts of a file did, of which the bytes may be known, or memory ran out before its first byte
+abbrev pub ReadsFile : Option (List ℕ) → Result (List Lines) RunFault → Type 0
+ReadsFile known result = ((rest : Option (List ℕ)) × ReadsScripts known rest result) ⊎ (result ≡ Err (NoMemory 1))
+
+-- how playing the scripts of a file ended: they were read and then played; or they weren't read to their end, and nothing
+-- was written
+abbrev pub EndsPlay : ℕ → Option (List ℕ) → Option (List ℕ) → Option (List ℕ) → Result Status Stop → Type 0
+EndsPlay turns known bytes bytes' result =
+    ((scripts : List Lines) × ReadsFile known (Ok scripts) × PlaysOut turns scripts bytes bytes' result)
+    ⊎ ((fault : RunFault) × (result ≡ Err (Run fault)) × Keeps bytes bytes' × ReadsFile known (Err fault))

@@ -1,0 +1,15 @@
+//! What the program `jg` does, over any words, files, reader and writers. It is a library, so that
+//! each of its wrong bodies is tried without the program around it.
+#![tactic(auto)]
+
+mod files;
+mod journal;
+mod leaks;
+mod playing;
+mod program;
+mod setup_file;
+mod stop;
+
+pub use files::Files;
+pub use program::run;
+pub use stop::{Status, Stop, tell};

@@ -1,0 +1,189 @@
+//! The scripts of a file are played, each thread's by a worker, and the journal is written.
+
+ghost use Rattle.std.specs.Prelude.{◌≡◌, ◌≤◌};
+ghost use Rattle.jg_program.specs.Ended.{IsHandedOn};
+ghost use Rattle.jg_shell.specs.declared.settle.FinishFault.TheVariants.{Differs};
+ghost use Rattle.jg_shell.specs.Work.{AreApart};
+ghost use Rattle.jg_program.specs.Plays.{AreReceipts, EndsPlay, HandsOut, PlaysOut, ReadsFile, Settles, TellsDifference, first_stop_of};
+
+use crate::stop::{Status, Stop};
+use jg_guard::Guard;
+use jg_policy::{Setup, SetupFault};
+use jg_script::{HandsOn, RunFault, Scripts, Watched, read_scripts, write_journal};
+use jg_shell::{FinishFault, Finished, OpenGate, SharedGuard, Worker, finish, play};
+use jg_words::Tid;
+use std::alloc::Global;
+use std::io;
+use std::io::{BufReader, ErrorKind, Read};
+use std::marker::Brand;
+use std::sync::Wait;
+use std::sync::ledger::{Blank, Ledger};
+use std::thread::Threads;
+
+/// The most bytes of a file of scripts that are read at once.
+const BUFFER: usize = 65_536;
+
+/// What ends the program where a file of scripts can't be opened.
+pub fn script_stop_of(error: &io::Error) -> Stop {
+    match error.kind() {
+        ErrorKind::OutOfMemory => Stop::Run(RunFault::NoMemory { line: 1 }),
+        _ => Stop::Run(RunFault::Read { line: 1 }),
+    }
+}
+
+/// Why the first worker that stopped did so.
+fn first_stop<L: Ledger>(workers: &[Worker<L>]) -> Option<jg_shell::Stop>
+    ensures { result ≡ first_stop_of workers.now }
+{
+    for worker in workers {
+        if let Some(stop) = worker.stopped() {
+            return Some(stop);
+        }
+    }
+    None
+}
+
+/// Writes the guard's journal, and hands on what is still buffered; a failure of that counts as a
+/// failed write of the last line.
+fn hand_out<W: HandsOn>(alloc: Global, guard: &Guard, out: &mut Watched<W>) -> Result<(), Stop>
+    ensures written { HandsOut (W.contents out.old.device) (W.contents out.new.device) guard.now result }
+    ensures handed_on { IsHandedOn (W.holds_nothing out.new.device) out.new.failed result }
+{
+    let written = write_journal(alloc, guard, out);
+    let Ok(()) = out.flush() else {
+        let line = guard.journal_len().max(1) as u64;
+        return Err(Stop::Run(RunFault::Write { line }));
+    };
+    match written {
+        Ok(()) => Ok(()),
+        Err(fault) => Err(Stop::Run(fault)),
+    }
+}
+
+/// Ends a play whose journal is just what its threads were told.
+fn end_told<L: Ledger, W: HandsOn>(
+    alloc: Global,
+    finished: Finished<L>,
+    out: &mut Watched<W>,
+) -> Result<Status, Stop>
+    requires { AreReceipts finished.guard finished.workers.items }
+    ensures settles { Settles finished.workers.items (W.contents out.old.device) (W.contents out.new.device) result }
+    ensures handed_on { IsHandedOn (W.holds_nothing out.new.device) out.new.failed result }
+{
+    if let Err(stop) = hand_out(alloc, &finished.guard, out) {
+        return Err(stop);
+    }
+    match first_stop(finished.workers.as_slice()) {
+        Some(stop) => Err(Stop::Worker(stop)),
+        None => Ok(Status::Done),
+    }
+}
+
+/// The thread and the place of the first difference, and what is handed back.
+fn parts_of<L: Ledger>(fault: FinishFault<L>) -> (Tid, usize, Finished<L>)
+    ensures { fault ≡ Differs result.0 result.1 result.2 }
+{
+    let FinishFault::Differs { tid, place, back } = fault;
+    (tid, place, back)
+}
+
+/// Ends a play whose journal isn't what its threads were told: it is the first difference that is
+/// handed in, of this thread at this place.
+fn end_different<L: Ledger, W: HandsOn>(
+    alloc: Global,
+    tid: Tid,
+    place: usize,
+    back: Finished<L>,
+    out: &mut Watched<W>,
+) -> Result<Status, Stop>
+    ensures tells { TellsDifference tid place back.guard (W.contents out.old.device) (W.contents out.new.device) result }
+    ensures handed_on { IsHandedOn (W.holds_nothing out.new.device) out.new.failed result }
+{
+    if let Err(stop) = hand_out(alloc, &back.guard, out) {
+        return Err(stop);
+    }
+    Err(Stop::Mismatch {
+        thread: tid.0,
+        place: place as u64,
+    })
+}
+
+/// Takes the guard out of its lock once its workers have run, and writes its journal.
+fn settle<L: Ledger, W: HandsOn>(
+    alloc: Global,
+    shared: SharedGuard<L>,
+    workers: Vec<Worker<L>>,
+    out: &mut Watched<W>,
+) -> Result<Status, Stop>
+    requires { AreApart workers.items }
+    ensures settles { Settles workers.items (W.contents out.old.device) (W.contents out.new.device) result }
+    ensures handed_on { IsHandedOn (W.holds_nothing out.new.device) out.new.failed result }
+{
+    match finish(shared, workers) {
+        Ok(finished) => end_told(alloc, finished, out),
+        Err(fault) => {
+            let (tid, place, back) = parts_of(fault);
+            end_different(alloc, tid, place, back, out)
+        }
+    }
+}
+
+/// Plays the scripts under this setup by a thread each, and writes the journal. A busy monitor is
+/// tried `turns` times at most. The shares of the ledger `L` count the calls.
+fn play_scripts<L: Ledger + Send + Sync, T: Threads + Wait + Sync, W: HandsOn>(
+    rt: &T,
+    alloc: Global,
+    blank: Blank,
+    setup: Setup,
+    limit: u32,
+    turns: u32,
+    scripts: Scripts,
+    out: &mut Watched<W>,
+) -> Result<Status, Stop>
+    requires name { blank.name ≡ L.name }
+    requires parts { blank.parts ≡ L.parts }
+    requires enough { 64 ≤ blank.parts }
+    requires turns { 1 ≤ turns }
+    ensures plays { PlaysOut turns scripts (W.contents out.old.device) (W.contents out.new.device) result }
+    ensures handed_on { IsHandedOn (W.holds_nothing out.new.device) out.new.failed result }
+{
+    let Ok((shared, mut workers)) = SharedGuard::<L>::new(alloc, setup, limit, scripts, blank)
+    else {
+        return Err(Stop::Setup(SetupFault::NoMemory));
+    };
+    play(rt, &shared, workers.as_mut_slice(), turns, &OpenGate);
+    settle(alloc, shared, workers, out)
+}
+
+/// The scripts of a file.
+fn scripts_in<F: Read + Drop>(alloc: Global, file: F) -> Result<Scripts, RunFault>
+    ensures { ReadsFile (F.remaining file) result }
+{
+    let Ok(reader) = BufReader::with_capacity(alloc, BUFFER, file) else {
+        return Err(RunFault::NoMemory { line: 1 });
+    };
+    read_scripts(alloc, &mut Watched::new(reader))
+}
+
+/// Plays the scripts of the file under this setup, and writes the journal. A busy monitor is tried
+/// `turns` times at most.
+pub fn play_file<T: Threads + Wait + Sync, F: Read + Drop, W: HandsOn>(
+    rt: &T,
+    alloc: Global,
+    setup: Setup,
+    limit: u32,
+    turns: u32,
+    file: F,
+    out: &mut Watched<W>,
+) -> Result<Status, Stop>
+    requires { 1 ≤ turns }
+    ensures ends { EndsPlay turns (F.remaining file) (W.contents out.old.device) (W.contents out.new.device) result }
+{
+    match scripts_in(alloc, file) {
+        Ok(scripts) => {
+            let blank = Blank::new(64);
+            play_scripts::<Brand, _, _>(rt, alloc, blank, setup, limit, turns, scripts, out)
+        }
+        Err(fault) => Err(Stop::Run(fault)),
+    }
+}

@@ -1,0 +1,253 @@
+//! What the program does, over any words, reader and writers.
+
+ghost use Rattle.std.specs.Prelude.{IfOk, ◌≡◌, ◌≤◌};
+ghost use Rattle.jg_program.specs.declared.stop.Status.TheVariants.{Done};
+ghost use Rattle.jg_program.specs.Ended.{Ends, EndsClosed, EndsScript, EndsUnder, IsHandedOn};
+
+use crate::files::Files;
+use crate::journal::test_journal;
+use crate::leaks::leaks_of;
+use crate::playing::{play_file, script_stop_of};
+use crate::setup_file::{closed_setup, read_setup, stop_of};
+use crate::stop::{Ending, Status, Stop, quietly, tell};
+use jg_args::{ArgsFault, Asked, Task, help_text, read_words};
+use jg_guard::Guard;
+use jg_policy::{Setup, SetupFault};
+use jg_script::{HandsOn, RunFault, Watched, check};
+use std::alloc::Global;
+use std::io::{BufRead, Read, Write};
+use std::sync::Wait;
+use std::thread::Threads;
+
+/// What is done with the bytes on standard input.
+#[derive(Clone, Copy, Debug, PartialEq, Eq)]
+pub enum Job {
+    /// They are a script, which is answered; what it leaves behind is said, or not.
+    Check { leaks: bool },
+    /// They are a journal, which is tested.
+    Verify,
+}
+
+/// Answers the script that the reader holds, under this setup. What is still buffered is handed on
+/// before it ends, also where it ends by a fault; a failure of that counts as a failed write of the
+/// last line that the guard took.
+fn answer_script<R: BufRead, W: HandsOn>(
+    alloc: Global,
+    leaks: bool,
+    setup: Setup,
+    limit: u32,
+    reader: &mut Watched<R>,
+    out: &mut Watched<W>,
+) -> Result<Ending, Stop>
+    ensures ends { EndsScript leaks setup (R.remaining reader.old.device) (R.remaining reader.new.device)
+        (W.contents out.old.device) (W.contents out.new.device) limit result }
+    ensures handed_on { IsHandedOn (W.holds_nothing out.new.device) out.new.failed result }
+{
+    let Ok(mut guard) = Guard::new(alloc, alloc, setup, limit) else {
+        return Err(Stop::Setup(SetupFault::NoMemory));
+    };
+    let checked = check(alloc, &mut guard, reader, out);
+    let Ok(()) = out.flush() else {
+        let line = guard.journal_len().max(1) as u64;
+        return Err(Stop::Run(RunFault::Write { line }));
+    };
+    match checked {
+        Ok(_) => match leaks_of(alloc, leaks, &guard) {
+            Ok(said) => Ok(Ending {
+                status: Status::Done,
+                said,
+            }),
+            Err(_) => Err(Stop::Leaks),
+        },
+        Err(fault) => Err(Stop::Run(fault)),
+    }
+}
+
+/// Does what is asked for with the bytes of the reader, under this setup.
+fn work<R: BufRead, W: HandsOn>(
+    alloc: Global,
+    job: Job,
+    setup: Setup,
+    limit: u32,
+    reader: &mut Watched<R>,
+    out: &mut Watched<W>,
+) -> Result<Ending, Stop>
+    ensures ends { Ends job setup (R.remaining reader.old.device) (R.remaining reader.new.device)
+        (W.contents out.old.device) (W.contents out.new.device) limit result }
+    ensures handed_on { IsHandedOn (W.holds_nothing out.new.device) out.new.failed result }
+{
+    match job {
+        Job::Check { leaks } => answer_script(alloc, leaks, setup, limit, reader, out),
+        Job::Verify => quietly(alloc, test_journal(alloc, setup, limit, reader, out)),
+    }
+}
+
+/// Does it under the setup where none is given.
+fn work_closed<R: BufRead, W: HandsOn>(
+    alloc: Global,
+    job: Job,
+    limit: u32,
+    reader: &mut Watched<R>,
+    out: &mut Watched<W>,
+) -> Result<Ending, Stop>
+    ensures ends { EndsClosed job (R.remaining reader.old.device) (R.remaining reader.new.device)
+        (W.contents out.old.device) (W.contents out.new.device) limit result }
+    ensures handed_on { IsHandedOn (W.holds_nothing out.new.device) out.new.failed result }
+{
+    match closed_setup(alloc) {
+        Ok(setup) => work(alloc, job, setup, limit, reader, out),
+        Err(fault) => Err(Stop::Setup(fault)),
+    }
+}
+
+/// Does it under the setup that a file states, of which the system told the length. The file is
+/// read before the reader's first byte.
+fn work_under<F: Read, R: BufRead, W: HandsOn>(
+    alloc: Global,
+    job: Job,
+    file: &mut F,
+    told: u64,
+    limit: u32,
+    reader: &mut Watched<R>,
+    out: &mut Watched<W>,
+) -> Result<Ending, Stop>
+    ensures ends { EndsUnder job (F.remaining file.old) told (R.remaining reader.old.device)
+        (R.remaining reader.new.device) (W.contents out.old.device) (W.contents out.new.device) limit result }
+    ensures handed_on { IsHandedOn (W.holds_nothing out.new.device) out.new.failed result }
+{
+    match read_setup(alloc, file, told) {
+        Ok(setup) => work(alloc, job, setup, limit, reader, out),
+        Err(stop) => Err(stop),
+    }
+}
+
+/// Writes the help or the version, whichever the words ask for.
+fn print_help<W: HandsOn>(alloc: Global, words: &[&str], out: &mut W) -> Result<Status, Stop>
+    ensures { IfOk result (λ status. (status ≡ Done) × W.holds_nothing out.new) }
+{
+    let Ok(text) = help_text(alloc, words) else {
+        return Err(Stop::NO_MEMORY);
+    };
+    let Ok(()) = out.write_all(text.as_bytes()) else {
+        return Err(Stop::Run(RunFault::Write { line: 1 }));
+    };
+    match out.hand_on() {
+        Ok(()) => Ok(Status::Done),
+        Err(_) => Err(Stop::Run(RunFault::Write { line: 1 })),
+    }
+}
+
+/// The setup of the file at this path, or the one where none is named.
+fn setup_at<S: Files>(alloc: Global, files: &S, path: Option<&str>) -> Result<Setup, Stop> {
+    let Some(path) = path else {
+        return match closed_setup(alloc) {
+            Ok(setup) => Ok(setup),
+            Err(fault) => Err(Stop::Setup(fault)),
+        };
+    };
+    match files.open(path) {
+        Ok((mut file, told)) => read_setup(alloc, &mut file, told),
+        Err(error) => Err(stop_of(&error)),
+    }
+}
+
+/// Answers a script or tests a journal on standard input.
+fn serve<S: Files, R: BufRead + Drop, W: HandsOn + Drop>(
+    alloc: Global,
+    job: Job,
+    asked: Asked<'_>,
+    files: &S,
+    reader: R,
+    out: W,
+) -> Result<Ending, Stop> {
+    let (mut reader, mut out) = (Watched::new(reader), Watched::new(out));
+    let Some(path) = asked.setup else {
+        return work_closed(alloc, job, asked.limit, &mut reader, &mut out);
+    };
+    match files.open(path) {
+        Ok((mut file, told)) => work_under(
+            alloc,
+            job,
+            &mut file,
+            told,
+            asked.limit,
+            &mut reader,
+            &mut out,
+        ),
+        Err(error) => Err(stop_of(&error)),
+    }
+}
+
+/// Plays the scripts of the file at this path. The setup is read first.
+fn serve_play<T: Threads + Wait + Sync, S: Files, W: HandsOn + Drop>(
+    rt: &T,
+    alloc: Global,
+    path: &str,
+    asked: Asked<'_>,
+    files: &S,
+    out: W,
+) -> Result<Ending, Stop>
+    requires { 1 ≤ asked.turns }
+{
+    let setup = match setup_at(alloc, files, asked.setup) {
+        Ok(setup) => setup,
+        Err(stop) => return Err(stop),
+    };
+    match files.open(path) {
+        Ok((file, _)) => {
+            let mut out = Watched::new(out);
+            let turns = asked.turns;
+            quietly(
+                alloc,
+                play_file(rt, alloc, setup, asked.limit, turns, file, &mut out),
+            )
+        }
+        Err(error) => Err(script_stop_of(&error)),
+    }
+}
+
+/// Does what is asked for.
+fn do_asked<T: Threads + Wait + Sync, S: Files, R: BufRead + Drop, W: HandsOn + Drop>(
+    rt: &T,
+    alloc: Global,
+    asked: Asked<'_>,
+    files: &S,
+    reader: R,
+    out: W,
+) -> Result<Ending, Stop>
+    requires { 1 ≤ asked.turns }
+{
+    match asked.task {
+        Task::Check => {
+            let job = Job::Check { leaks: asked.leaks };
+            serve(alloc, job, asked, files, reader, out)
+        }
+        Task::Verify => serve(alloc, Job::Verify, asked, files, reader, out),
+        Task::Play(path) => serve_play(rt, alloc, path, asked, files, out),
+    }
+}
+
+/// Runs the program on the words after its name, with the files that they may name. The threads of
+/// a play are made by `rt`.
+pub fn run<T: Threads + Wait + Sync, S: Files, R: BufRead + Drop, W: HandsOn + Drop, E: Write>(
+    rt: &T,
+    alloc: Global,
+    words: &[&str],
+    files: &S,
+    reader: R,
+    mut out: W,
+    err: &mut E,
+) -> Status {
+    let done = match read_words(alloc, words) {
+        Ok(asked) => do_asked(rt, alloc, asked, files, reader, out),
+        Err(ArgsFault::Help) => quietly(alloc, print_help(alloc, words, &mut out)),
+        Err(fault) => Err(Stop::Arguments(fault)),
+    };
+    match done {
+        Ok(ending) => {
+            let _ = err.write_all(ending.said.as_bytes());
+            ending.status
+        }
+        Err(stop) => tell(stop, err),
+    }
+}

@@ -1,0 +1,106 @@
+//! How the program ends.
+
+ghost use Rattle.std.specs.Prelude.{◌≡◌, [], Ok, Err, IfOk, IfErr, string_bytes};
+
+use jg_args::ArgsFault;
+use jg_policy::SetupFault;
+use jg_script::RunFault;
+use std::alloc::Global;
+use std::io::Write;
+use thiserror::Error;
+
+/// The status that the program ends with.
+#[derive(Clone, Copy, Debug, PartialEq, Eq)]
+pub enum Status {
+    /// All was done.
+    Done = 0,
+    /// The journal that was tested is none of a legal history; or after a play, journal and receipts
+    /// differ.
+    Differs = 1,
+    /// The script, the setup or the arguments are faulty.
+    Faulty = 2,
+    /// The limit was met, or memory ran out.
+    Exhausted = 3,
+    /// A device failed.
+    Device = 4,
+}
+
+/// Why the program ends before its work is done. Each prints as its line on standard error.
+#[derive(Clone, Copy, Debug, PartialEq, Eq, Error)]
+pub enum Stop {
+    #[error("{0}")]
+    Arguments(ArgsFault),
+    /// The setup is faulty, or memory ran out before the script was begun.
+    #[error("setup: {0}")]
+    Setup(SetupFault),
+    /// The setup file can't be opened or read.
+    #[error("setup: read failed")]
+    SetupRead,
+    #[error("{0}")]
+    Run(RunFault),
+    /// Memory ran out for what is left behind, after the script was answered.
+    #[error("leaks: no memory")]
+    Leaks,
+    /// After a play, the receipt or the entry of this thread at this place of the journal, from 0, is
+    /// the first that has no equal on the other side.
+    #[error("differs at T{thread} place {place}")]
+    Mismatch { thread: u16, place: u64 },
+    /// A worker stopped before the end of its script.
+    #[error("{0}")]
+    Worker(jg_shell::Stop),
+}
+
+impl Stop {
+    /// The words are no command line, or ask for what the program can't do.
+    pub const REFUSED: Stop = Stop::Arguments(ArgsFault::Refused);
+
+    /// Memory ran out before the words were read, or for the text that they ask for.
+    pub const NO_MEMORY: Stop = Stop::Arguments(ArgsFault::NoMemory);
+
+    /// The status that it ends with.
+    pub fn status(self) -> Status {
+        match self {
+            Stop::Arguments(ArgsFault::Help) => Status::Done,
+            Stop::Arguments(ArgsFault::Refused) => Status::Faulty,
+            Stop::Arguments(ArgsFault::NoMemory) => Status::Exhausted,
+            Stop::Setup(SetupFault::NoMemory) => Status::Exhausted,
+            Stop::Setup(_) => Status::Faulty,
+            Stop::SetupRead => Status::Device,
+            Stop::Run(RunFault::Script { .. }) => Status::Faulty,
+            Stop::Run(RunFault::Limit { .. }) => Status::Exhausted,
+            Stop::Run(RunFault::NoMemory { .. }) => Status::Exhausted,
+            Stop::Run(RunFault::Read { .. }) => Status::Device,
+            Stop::Run(RunFault::Write { .. }) => Status::Device,
+            Stop::Leaks => Status::Exhausted,
+            Stop::Mismatch { .. } => Status::Differs,
+            Stop::Worker(_) => Status::Exhausted,
+        }
+    }
+}
+
+/// How the program ends when its work is done: with this status, and with this text on standard error.
+#[derive(Debug, Drop)]
+pub struct Ending {
+    pub status: Status,
+    pub said: String,
+}
+
+/// The ending with nothing to say.
+pub fn quietly(alloc: Global, ended: Result<Status, Stop>) -> Result<Ending, Stop>
+    ensures ok { IfOk result (λ ending. (ended ≡ Ok ending.status) × (string_bytes ending.said ≡ [])) }
+    ensures err { IfErr result (λ stop. ended ≡ Err stop) }
+{
+    match ended {
+        Ok(status) => Ok(Ending {
+            status,
+            said: String::new(alloc),
+        }),
+        Err(stop) => Err(stop),
+    }
+}
+
+/// Says why the program ends. A failed write of that changes nothing.
+pub fn tell<E: Write>(stop: Stop, err: &mut E) -> Status {
+    let _ = writeln!(err, "{stop}");
+    stop.status()
+}

@@ -1,0 +1,10 @@
+pub mod Apart
+pub mod Counts
+pub mod Cuts
+pub mod Equal
+pub mod Places
+pub mod Right
+pub mod Runs
+pub mod Search
+pub mod Settled
+pub mod Turns

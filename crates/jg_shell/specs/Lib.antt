@@ -1,0 +1,7 @@
+pub mod Busy
+pub mod Difference
+pub mod Finish
+pub mod Played
+pub mod Receipts
+pub mod Settled
+pub mod Work

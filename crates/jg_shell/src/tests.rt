@@ -1,0 +1,347 @@
+ghost use Rattle.std.specs.Prelude.{◌≡◌, ◌≤◌};
+
+use super::*;
+use jg_guard::{Guard, Refusal};
+use jg_policy::Setup;
+use jg_script::{Verdict, Watched, read_scripts, verify, write_journal};
+use jg_words::{Call, Entry, Outcome, Reply, Tid, Value, VmCall};
+use std::alloc::{AllocError, Global};
+use std::marker::Brand;
+use std::sync::atomic::{AtomicBool, AtomicU64, Ordering};
+use std::sync::ledger::{Blank, Ledger};
+use std::sync::{Mutex, Wait};
+use std::test::Fail;
+use std::thread;
+use std::thread::Threads;
+
+/// How often a gate looks before it gives up. After each look it yields.
+const LOOKS: u32 = 10_000_000;
+
+fn setup(alloc: Global) -> Result<Setup, Fail> {
+    match Setup::read(alloc, "version = 1\nillegal_native_access = \"deny\"\n") {
+        Ok(setup) => Ok(setup),
+        Err(_) => Err(Fail::from("the text is no setup")),
+    }
+}
+
+fn attach() -> Call {
+    Call::Vm(VmCall::AttachCurrentThread)
+}
+
+fn scripts_of(alloc: Global, text: &str) -> Result<Scripts, Fail> {
+    match read_scripts(alloc, &mut Watched::new(text.as_bytes())) {
+        Ok(scripts) => Ok(scripts),
+        Err(_) => Err(Fail::from("a line is refused")),
+    }
+}
+
+/// 64 threads, each of which asks 1,000 times for its environment, in turn.
+fn most_threads(alloc: Global) -> Result<String, AllocError> {
+    let mut text = String::new(alloc);
+    for _ in 0..1000 {
+        for number in 1..65 {
+            let line = format!(in alloc; "T{number} - GetEnv\n")?;
+            text.push_str(&line)?;
+        }
+    }
+    Ok(text)
+}
+
+/// What became of a run: how many entries there are, where they agree with the receipts and are read
+/// back as legal, how many receipts, and how many of them were busy.
+#[derive(Clone, Copy, Debug, PartialEq, Eq)]
+struct Tally {
+    entries: Option<usize>,
+    receipts: usize,
+    busy: usize,
+}
+
+fn is_busy(receipt: &Receipt) -> bool {
+    matches!(
+        receipt.outcome,
+        Outcome::Passed(Reply {
+            value: Value::Busy,
+            ..
+        })
+    )
+}
+
+/// Whether the text of the guard's journal is found to be legal.
+fn is_read_back(alloc: Global, guard: &Guard) -> Result<bool, Fail> {
+    let mut writer = Watched::new(Vec::new(alloc));
+    if write_journal(alloc, guard, &mut writer).is_err() {
+        return Ok(false);
+    }
+    let text = writer.into_inner();
+    let mut reader = Watched::new(text.as_slice());
+    Ok(verify(alloc, alloc, setup(alloc)?, 100_000, &mut reader) == Ok(Verdict::Legal))
+}
+
+/// How many entries the journal has, where it agrees with the receipts and is legal.
+fn entries_if_told<L: Ledger>(
+    alloc: Global,
+    answer: Result<Finished<L>, FinishFault<L>>,
+) -> Result<Option<usize>, Fail> {
+    let Ok(finished) = answer else {
+        return Ok(None);
+    };
+    if is_read_back(alloc, &finished.guard)? {
+        Ok(Some(finished.guard.journal_len()))
+    } else {
+        Ok(None)
+    }
+}
+
+fn played<L: Ledger + Send + Sync, R: Threads + Wait + Sync, G: Gate>(
+    rt: &R,
+    alloc: Global,
+    blank: Blank,
+    scripts: Scripts,
+    gate: &G,
+) -> Result<Tally, Fail>
+    requires name { blank.name ≡ L.name }
+    requires parts { blank.parts ≡ L.parts }
+    requires enough { 64 ≤ blank.parts }
+{
+    let setup = setup(alloc)?;
+    let (shared, mut workers) = SharedGuard::<L>::new(alloc, setup, 100_000, scripts, blank)?;
+    play(rt, &shared, workers.as_mut_slice(), 3, gate);
+    let mut receipts: usize = 0;
+    let mut busy: usize = 0;
+    for worker in &workers {
+        receipts = receipts.saturating_add(worker.receipts().len());
+        busy = busy.saturating_add(worker.receipts().iter().filter(|r| is_busy(r)).count());
+    }
+    let entries = entries_if_told(alloc, finish(shared, workers))?;
+    Ok(Tally {
+        entries,
+        receipts,
+        busy,
+    })
+}
+
+/// A gate at which each of two workers waits, before its second line, until the other one is there.
+#[derive(Drop)]
+struct Meeting {
+    first: AtomicBool,
+    second: AtomicBool,
+    gave_up: AtomicBool,
+}
+
+impl Gate for Meeting {
+    fn before(&self, tid: Tid, line: usize, _turn: u32) {
+        if line != 2 {
+            return;
+        }
+        let (mine, theirs) = if tid == Tid(1) {
+            (&self.first, &self.second)
+        } else {
+            (&self.second, &self.first)
+        };
+        mine.store(true, Ordering::SeqCst);
+        for _ in 0..LOOKS {
+            if theirs.load(Ordering::SeqCst) {
+                return;
+            }
+            thread::yield_now();
+        }
+        self.gave_up.store(true, Ordering::SeqCst);
+    }
+
+    fn after(&self, _receipt: &Receipt) {}
+}
+
+const TWO: &str = "T1 - AttachCurrentThread
+T2 - AttachCurrentThread
+T1 E1.1 NewString [1]
+T2 E2.1 NewString [2]
+";
+
+/// Workers run at once: neither gets past its second line without the other.
+#[test]
+fn workers_meet(rt: HostRuntime) -> Result<(), Fail> {
+    let gate = Meeting {
+        first: AtomicBool::new(false),
+        second: AtomicBool::new(false),
+        gave_up: AtomicBool::new(false),
+    };
+    let scripts = scripts_of(rt.alloc(), TWO)?;
+    let met = played::<Brand, _, _>(&rt, rt.alloc(), Blank::new(64), scripts, &gate)?;
+    let wanted = Tally {
+        entries: Some(4),
+        receipts: 4,
+        busy: 0,
+    };
+    assert_eq!(rt; met, wanted);
+    assert!(rt; !gate.gave_up.load(Ordering::SeqCst));
+    Ok(())
+}
+
+/// A gate that counts each thread's receipts. The second thread's second line waits for the first's
+/// fourth receipt, and the first's fifth line for the second's fourth receipt.
+#[derive(Drop)]
+struct Turns {
+    first: AtomicU64,
+    second: AtomicU64,
+    gave_up: AtomicBool,
+}
+
+impl Turns {
+    fn wait_for_four(&self, count: &AtomicU64) {
+        for _ in 0..LOOKS {
+            if count.load(Ordering::SeqCst) >= 4 {
+                return;
+            }
+            thread::yield_now();
+        }
+        self.gave_up.store(true, Ordering::SeqCst);
+    }
+}
+
+impl Gate for Turns {
+    fn before(&self, tid: Tid, line: usize, _turn: u32) {
+        if tid == Tid(2) && line == 2 {
+            self.wait_for_four(&self.first);
+        }
+        if tid == Tid(1) && line == 5 {
+            self.wait_for_four(&self.second);
+        }
+    }
+
+    fn after(&self, receipt: &Receipt) {
+        if receipt.tid == Tid(1) {
+            self.first.fetch_add(1, Ordering::SeqCst);
+        } else {
+            self.second.fetch_add(1, Ordering::SeqCst);
+        }
+    }
+}
+
+const OWNED: &str = "T1 - AttachCurrentThread
+T1 E1.1 NewString []
+T1 E1.1 NewGlobalRef L1.1
+T1 E1.1 MonitorEnter G1.2
+T1 E1.1 MonitorExit G1.2
+T2 - AttachCurrentThread
+T2 E2.1 MonitorEnter G1.2
+T2 - GetEnv
+";
+
+/// A monitor that stays another thread's is asked for as often as there are turns, here 3, and then
+/// the worker goes on with its next line.
+#[test]
+fn a_busy_monitor_is_tried_three_times(rt: HostRuntime) -> Result<(), Fail> {
+    let gate = Turns {
+        first: AtomicU64::new(0),
+        second: AtomicU64::new(0),
+        gave_up: AtomicBool::new(false),
+    };
+    let scripts = scripts_of(rt.alloc(), OWNED)?;
+    let tried = played::<Brand, _, _>(&rt, rt.alloc(), Blank::new(64), scripts, &gate)?;
+    let wanted = Tally {
+        entries: Some(10),
+        receipts: 10,
+        busy: 3,
+    };
+    assert_eq!(rt; tried, wanted);
+    assert!(rt; !gate.gave_up.load(Ordering::SeqCst));
+    Ok(())
+}
+
+#[test]
+fn sixty_four_workers_play_a_thousand_lines_each(rt: HostRuntime) -> Result<(), Fail> {
+    let text = most_threads(rt.alloc())?;
+    let scripts = scripts_of(rt.alloc(), &text)?;
+    let all = played::<Brand, _, _>(&rt, rt.alloc(), Blank::new(64), scripts, &OpenGate)?;
+    let wanted = Tally {
+        entries: Some(64_000),
+        receipts: 64_000,
+        busy: 0,
+    };
+    assert_eq!(rt; all, wanted);
+    Ok(())
+}
+
+#[test]
+fn two_workers_agree_two_hundred_times(rt: HostRuntime) -> Result<(), Fail> {
+    let mut agreed: u32 = 0;
+    for _ in 0..200 {
+        let scripts = scripts_of(rt.alloc(), TWO)?;
+        let each = played::<Brand, _, _>(&rt, rt.alloc(), Blank::new(64), scripts, &OpenGate)?;
+        if each.entries == Some(4) {
+            agreed = agreed.saturating_add(1);
+        }
+    }
+    assert_eq!(rt; agreed, 200);
+    Ok(())
+}
+
+fn is_receipt_of(receipt: &Receipt, entry: Option<&Entry>) -> bool {
+    match entry {
+        Some(entry) => {
+            receipt.tid == entry.tid
+                && receipt.env == entry.env
+                && receipt.call == entry.call
+                && receipt.outcome == entry.outcome
+        }
+        None => false,
+    }
+}
+
+fn hands_back(answer: Result<Receipt, Refusal>, call: &Call) -> bool {
+    match answer {
+        Ok(_) => false,
+        Err(Refusal::Limit(back)) => back == *call,
+        Err(Refusal::NoMemory(_)) => false,
+    }
+}
+
+/// Whether the receipt is the journal's one entry.
+fn is_first_entry(answer: Result<Receipt, Refusal>, guard: &Guard) -> bool {
+    match answer {
+        Ok(receipt) => receipt.place == 0 && is_receipt_of(&receipt, guard.journal_entry(0)),
+        Err(_) => false,
+    }
+}
+
+/// Two calls by the lent value of the lock, where the limit is 1.
+fn lent<L: Ledger>(alloc: Global, blank: Blank) -> Result<bool, Fail>
+    requires name { blank.name ≡ L.name }
+    requires parts { blank.parts ≡ L.parts }
+    requires enough { 1 ≤ blank.parts }
+{
+    let (calls, mut share) = blank.open::<L>();
+    let guard = Guard::new(alloc, alloc, setup(alloc)?, 1)?;
+    let mut held = Held::new(guard, calls);
+    let first = held.call(&mut share, Tid(1), None, attach());
+    let second = held.call(&mut share, Tid(1), None, attach());
+    let guard = held.into_guard();
+    let is_told = is_first_entry(first, &guard);
+    let is_back = hands_back(second, &attach());
+    Ok(is_told && is_back)
+}
+
+/// The same two calls by the lock.
+fn locked<L: Ledger, R: Wait>(rt: &R, alloc: Global, blank: Blank) -> Result<bool, Fail>
+    requires name { blank.name ≡ L.name }
+    requires parts { blank.parts ≡ L.parts }
+    requires enough { 1 ≤ blank.parts }
+{
+    let (calls, mut share) = blank.open::<L>();
+    let guard = Guard::new(alloc, alloc, setup(alloc)?, 1)?;
+    let held = Mutex::new(Held::new(guard, calls));
+    let shared = SharedGuard { held };
+    let first = shared.call(rt, &mut share, Tid(1), None, attach());
+    let second = shared.call(rt, &mut share, Tid(1), None, attach());
+    let guard = shared.into_guard();
+    let is_told = is_first_entry(first, &guard);
+    let is_back = hands_back(second, &attach());
+    Ok(is_told && is_back)
+}
+
+#[test]
+fn a_receipt_is_the_entry_and_a_refusal_hands_the_call_back(rt: HostRuntime) -> Result<(), Fail> {
+    assert!(rt; lent::<Brand>(rt.alloc(), Blank::new(1))?);
+    assert!(rt; locked::<Brand, _>(&rt, rt.alloc(), Blank::new(1))?);
+    Ok(())
+}

@@ -1,0 +1,84 @@
+use super::{CLOSED, FIRST_PATH, check_with, with_guard};
+use jg_script::Watched;
+use std::cell::Cell;
+use std::io;
+use std::io::{BufReader, BufWriter, ErrorKind, Read, Write};
+use std::test::Fail;
+
+/// Somebody who hands out a text in pieces of so many bytes, and hands out no more as long as a line
+/// of it isn't answered.
+#[derive(Drop)]
+struct Asking<'a> {
+    text: &'a [u8],
+    most: usize,
+    asked: u32,
+    answered: &'a Cell<u32>,
+}
+
+impl Read for Asking<'_> {
+    fn read(&mut self, buf: &mut [u8]) -> io::Result<usize> {
+        if self.answered.get() != self.asked {
+            return Err(io::Error::from(ErrorKind::Other));
+        }
+        let n = buf.len().min(self.most).min(self.text.len());
+        let (given, rest) = self.text.split_at(n);
+        buf[..n].copy_from_slice(given);
+        self.text = rest;
+        self.asked = self.asked.saturating_add(lines_in(given));
+        Ok(n)
+    }
+}
+
+/// What reaches them: so many lines.
+#[derive(Drop)]
+struct Hearing<'a> {
+    answered: &'a Cell<u32>,
+}
+
+impl Write for Hearing<'_> {
+    fn write(&mut self, buf: &[u8]) -> io::Result<usize> {
+        let heard = self.answered.get().saturating_add(lines_in(buf));
+        self.answered.set(heard);
+        Ok(buf.len())
+    }
+
+    fn flush(&mut self) -> io::Result<()> {
+        Ok(())
+    }
+}
+
+fn lines_in(bytes: &[u8]) -> u32 {
+    let mut count = 0u32;
+    for byte in bytes {
+        if *byte == b'\n' {
+            count = count.saturating_add(1);
+        }
+    }
+    count
+}
+
+/// Whoever sends a line and waits has its answer before more is read, also where the answers are
+/// buffered, and wherever reads cut the lines.
+#[test]
+fn each_answer_comes_before_more_is_read(rt: HostRuntime) -> Result<(), Fail> {
+    for most in [1usize, 7, 25, 26, 60, 1000] {
+        let answered = Cell::new(0u32);
+        let asking = Asking {
+            text: FIRST_PATH.as_bytes(),
+            most,
+            asked: 0,
+            answered: &answered,
+        };
+        let hearing = Hearing {
+            answered: &answered,
+        };
+        let mut reader = Watched::new(BufReader::with_capacity(rt.alloc(), 100, asking)?);
+        let mut writer = Watched::new(BufWriter::with_capacity(rt.alloc(), 1000, hearing)?);
+        let done = with_guard(rt.alloc(), rt.alloc(), CLOSED, 10, |guard| {
+            check_with(guard, rt.alloc(), &mut reader, &mut writer)
+        })?;
+        assert_eq!(rt; done, Ok(6), "at {most}");
+        assert_eq!(rt; answered.get(), 6, "at {most}");
+    }
+    Ok(())
+}
