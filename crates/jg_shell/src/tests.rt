@@ -66,15 +66,30 @@ fn is_busy(receipt: &Receipt) -> bool {
     )
 }
 
+/// The text of the guard's journal.
+fn journal_of(alloc: Global, guard: &Guard) -> Result<Vec<u8>, Fail> {
+    let mut writer = Watched::new(Vec::new(alloc));
+    match write_journal(alloc, guard, &mut writer) {
+        Ok(()) => Ok(writer.into_inner()),
+        Err(_) => Err(Fail::from("the journal can't be written")),
+    }
+}
+
+/// Whether the text is that of a legal history.
+fn is_legal(alloc: Global, setup: Setup, text: &[u8]) -> bool {
+    let mut reader = Watched::new(text);
+    match verify(alloc, alloc, setup, 100_000, &mut reader) {
+        Ok(Verdict::Legal) => true,
+        Ok(Verdict::Differs(_)) => false,
+        Err(_) => false,
+    }
+}
+
 /// Whether the text of the guard's journal is found to be legal.
 fn is_read_back(alloc: Global, guard: &Guard) -> Result<bool, Fail> {
-    let mut writer = Watched::new(Vec::new(alloc));
-    if write_journal(alloc, guard, &mut writer).is_err() {
-        return Ok(false);
-    }
-    let text = writer.into_inner();
-    let mut reader = Watched::new(text.as_slice());
-    Ok(verify(alloc, alloc, setup(alloc)?, 100_000, &mut reader) == Ok(Verdict::Legal))
+    let setup = setup(alloc)?;
+    let text = journal_of(alloc, guard)?;
+    Ok(is_legal(alloc, setup, &text))
 }
 
 /// How many entries the journal has, where it agrees with the receipts and is legal.
@@ -310,8 +325,8 @@ fn lent<L: Ledger>(alloc: Global, blank: Blank) -> Result<bool, Fail>
     requires parts { blank.parts ≡ L.parts }
     requires enough { 1 ≤ blank.parts }
 {
-    let (calls, mut share) = blank.open::<L>();
     let guard = Guard::new(alloc, alloc, setup(alloc)?, 1)?;
+    let (calls, mut share) = blank.open::<L>();
     let mut held = Held::new(guard, calls);
     let first = held.call(&mut share, Tid(1), None, attach());
     let second = held.call(&mut share, Tid(1), None, attach());
@@ -327,8 +342,8 @@ fn locked<L: Ledger, R: Wait>(rt: &R, alloc: Global, blank: Blank) -> Result<boo
     requires parts { blank.parts ≡ L.parts }
     requires enough { 1 ≤ blank.parts }
 {
-    let (calls, mut share) = blank.open::<L>();
     let guard = Guard::new(alloc, alloc, setup(alloc)?, 1)?;
+    let (calls, mut share) = blank.open::<L>();
     let held = Mutex::new(Held::new(guard, calls));
     let shared = SharedGuard { held };
     let first = shared.call(rt, &mut share, Tid(1), None, attach());

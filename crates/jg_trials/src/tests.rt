@@ -40,40 +40,23 @@ fn repeated(alloc: Global, line: &str, count: u32) -> Result<String, AllocError>
     Ok(text)
 }
 
-/// What `act` gives over a new guard under this setup, or nothing where there is no memory for one.
-/// No other function here owns a guard: each that does takes minutes to prove.
-fn over_a_guard<A, T, F>(
-    tables: A,
-    alloc: Global,
-    setup: Setup,
-    limit: u32,
-    act: F,
-) -> Result<Option<T>, Fail>
-where
-    A: Allocator + Copy,
-    F: FnOnce(&mut Guard<A>) -> Result<T, Fail> + Drop,
+/// What `act` gives over this value, which is let go then. A guard is owned by this function and by
+/// those that make it, for it takes minutes to prove each that has one and many ways out.
+fn lend<V: Drop, T, F: FnOnce(&mut V) -> T>(mut value: V, act: F) -> T
     requires { F.IsAlwaysCallable act }
 {
-    let Ok(mut guard) = Guard::new(tables, alloc, setup, limit) else {
-        return Ok(None);
-    };
-    match act(&mut guard) {
-        Ok(done) => Ok(Some(done)),
-        Err(fail) => Err(fail),
-    }
+    act(&mut value)
 }
 
-/// The same where there is memory.
-fn with_guard<A, T, F>(tables: A, alloc: Global, text: &str, limit: u32, act: F) -> Result<T, Fail>
-where
-    A: Allocator + Copy,
-    F: FnOnce(&mut Guard<A>) -> Result<T, Fail> + Drop,
-    requires { F.IsAlwaysCallable act }
-{
-    match over_a_guard(tables, alloc, setup(alloc, text)?, limit, act)? {
-        Some(done) => Ok(done),
-        None => Err(Fail::from("no memory for a guard")),
-    }
+/// A guard under the setup of this text.
+fn guarded<A: Allocator + Copy>(
+    tables: A,
+    alloc: Global,
+    text: &str,
+    limit: u32,
+) -> Result<Guard<A>, Fail> {
+    let setup = setup(alloc, text)?;
+    Ok(Guard::new(tables, alloc, setup, limit)?)
 }
 
 /// What `check` answers with this guard, which is a new one.
@@ -93,7 +76,7 @@ fn check_with<A: Allocator + Clone, R: BufRead, W: Write>(
 /// How many bytes of a heap a guard takes for its first block of entries.
 fn first_block(alloc: Global) -> Result<usize, Fail> {
     let heap = LocalHeap::new(alloc, 1_000_000)?;
-    with_guard(&heap, alloc, CLOSED, 1, |guard| {
+    lend(guarded(&heap, alloc, CLOSED, 1)?, |guard| {
         let before = heap.used();
         if growths::goes_through(guard, alloc, "T1 - GetEnv")? {
             Ok(heap.used().saturating_sub(before))

@@ -1,7 +1,7 @@
 //! The growths of calls on buffers, refused in turn.
 
 use super::growths::{Growth, SETUP, opens, refusals_of, spelt};
-use super::with_guard;
+use super::{guarded, lend};
 use jg_guard::{Guard, Refusal};
 use jg_words::Outcome;
 use linked_list_allocator::LocalHeap;
@@ -269,11 +269,11 @@ fn finds_its_block_full(
 }
 
 fn meets_a_full_block(alloc: Global, growth: Growth) -> Result<(), Fail> {
-    let change = with_guard(alloc, alloc, SETUP, 1000, |guard| {
+    let change = lend(guarded(alloc, alloc, SETUP, 1000)?, |guard| {
         changes(guard, alloc, growth)
     })?;
     let heap = LocalHeap::new(alloc, 1_000_000)?;
-    with_guard(&heap, alloc, SETUP, 10_000, |guard| {
+    lend(guarded(&heap, alloc, SETUP, 10_000)?, |guard| {
         finds_its_block_full(guard, &heap, alloc, growth, &change)
     })
 }

@@ -1,4 +1,4 @@
-use super::{over_a_guard, setup, with_guard};
+use super::{guarded, lend, setup};
 use jg_guard::{Guard, Refusal};
 use jg_script::read_call;
 use jg_words::{Call, EnvId, Outcome, Tid};
@@ -148,24 +148,27 @@ fn meets<A: Allocator + Clone>(
     }
 }
 
-/// The same of a new guard over a heap with room for so many bytes beside those to give back.
+/// The same of a new guard with 9,000 bytes to give back.
+fn meets_anew<A: Allocator + Copy>(tables: A, alloc: Global, growth: Growth) -> Result<Met, Fail> {
+    let setup = setup(alloc, SETUP)?;
+    let mut kept: Vec<u8, A> = Vec::new(tables);
+    kept.try_reserve(9_000)?;
+    match Guard::new(tables, alloc, setup, 1000) {
+        Ok(guard) => lend(guard, |guard| meets(guard, kept, alloc, growth)),
+        Err(_) => Ok(Met::Unopened),
+    }
+}
+
+/// The same over a heap with room for so many bytes beside those to give back.
 fn over_a_heap(alloc: Global, room: usize, growth: Growth) -> Result<Met, Fail> {
     let heap = LocalHeap::new(alloc, room.saturating_add(9_000))?;
-    let mut kept: Vec<u8, &LocalHeap> = Vec::new(&heap);
-    kept.try_reserve(9_000)?;
-    let setup = setup(alloc, SETUP)?;
-    match over_a_guard(&heap, alloc, setup, 1000, |guard| {
-        meets(guard, kept, alloc, growth)
-    })? {
-        Some(met) => Ok(met),
-        None => Ok(Met::Unopened),
-    }
+    meets_anew(&heap, alloc, growth)
 }
 
 /// How many bytes of a heap are in use before the call that grows.
 pub(super) fn used_before(alloc: Global, growth: Growth) -> Result<usize, Fail> {
     let heap = LocalHeap::new(alloc, 1_000_000)?;
-    with_guard(&heap, alloc, SETUP, 1000, |guard| {
+    lend(guarded(&heap, alloc, SETUP, 1000)?, |guard| {
         if opens(guard, alloc, growth)? {
             Ok(heap.used())
         } else {

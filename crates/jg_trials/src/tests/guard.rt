@@ -1,4 +1,4 @@
-use super::{CLOSED, setup, with_guard};
+use super::{CLOSED, guarded, lend, setup};
 use jg_guard::{Guard, Refusal};
 use jg_words::{Call, EnvId, FramesCall, Outcome, Rule, Tid, Value, VmCall};
 use linked_list_allocator::LocalHeap;
@@ -76,15 +76,15 @@ fn has_journaled(guard: &Guard) -> bool {
 /// What `judge` says is what `call` denies by; the journal has both entries.
 #[test]
 fn judges_answers_and_journals(rt: HostRuntime) -> Result<(), Fail> {
-    let found = with_guard(rt.alloc(), rt.alloc(), CLOSED, 3, |guard| {
-        Ok([
+    let found = lend(guarded(rt.alloc(), rt.alloc(), CLOSED, 3)?, |guard| {
+        [
             guard.limit() == 3,
             denies_the_detached(guard),
             attaches(guard),
             stops_at_its_limit(guard),
             has_journaled(guard),
-        ])
-    })?;
+        ]
+    });
     assert_eq!(rt; found, [true; 5]);
     Ok(())
 }

@@ -1,5 +1,5 @@
 use super::growths::{Growth, SETUP, opens, used_before};
-use super::{over_a_guard, setup};
+use super::{lend, setup};
 use jg_guard::{Guard, Leaks};
 use jg_script::write_leaks;
 use linked_list_allocator::LocalHeap;
@@ -85,16 +85,21 @@ fn lists<A: Allocator + Clone>(
     }
 }
 
-/// The same of a new guard over a heap with room for so many bytes beside those to give back.
+/// The same of a new guard with 9,000 bytes to give back.
+fn lists_anew<A: Allocator + Copy>(tables: A, alloc: Global) -> Result<Met, Fail> {
+    let setup = setup(alloc, SETUP)?;
+    let mut kept: Vec<u8, A> = Vec::new(tables);
+    kept.try_reserve(9_000)?;
+    match Guard::new(tables, alloc, setup, 1000) {
+        Ok(guard) => lend(guard, |guard| lists(guard, kept, alloc)),
+        Err(_) => Ok(Met::Unopened),
+    }
+}
+
+/// The same over a heap with room for so many bytes beside those to give back.
 fn over_a_heap(alloc: Global, room: usize) -> Result<Met, Fail> {
     let heap = LocalHeap::new(alloc, room.saturating_add(9_000))?;
-    let mut kept: Vec<u8, &LocalHeap> = Vec::new(&heap);
-    kept.try_reserve(9_000)?;
-    let setup = setup(alloc, SETUP)?;
-    match over_a_guard(&heap, alloc, setup, 1000, |guard| lists(guard, kept, alloc))? {
-        Some(met) => Ok(met),
-        None => Ok(Met::Unopened),
-    }
+    lists_anew(&heap, alloc)
 }
 
 /// A refused list changes nothing, and is whole later.

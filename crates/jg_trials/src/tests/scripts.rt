@@ -1,6 +1,6 @@
 use super::{
-    CLOSED, FIRST_PATH, FIRST_PATH_ANSWERED, check_with, faulty, first_block, repeated, setup,
-    with_guard,
+    CLOSED, FIRST_PATH, FIRST_PATH_ANSWERED, check_with, faulty, first_block, guarded, lend,
+    repeated, setup,
 };
 use jg_guard::Guard;
 use jg_script::{RunFault, ScriptFault, Verdict, Watched, verify};
@@ -22,7 +22,7 @@ struct Done {
 fn run<R: BufRead + Drop>(alloc: Global, script: R, limit: u32, room: u32) -> Result<Done, Fail> {
     let mut reader = Watched::new(script);
     let mut writer = Watched::new(faulty(alloc, "", room, 1)?);
-    let result = with_guard(alloc, alloc, CLOSED, limit, |guard| {
+    let result = lend(guarded(alloc, alloc, CLOSED, limit)?, |guard| {
         check_with(guard, alloc, &mut reader, &mut writer)
     })?;
     let reader_failed = reader.has_failed();
@@ -135,7 +135,7 @@ fn answers_the_first_path<W: Write + Drop>(
     writer: &mut Watched<W>,
 ) -> Result<Result<u64, RunFault>, Fail> {
     let mut reader = Watched::new(FIRST_PATH.as_bytes());
-    with_guard(alloc, alloc, CLOSED, 10, |guard| {
+    lend(guarded(alloc, alloc, CLOSED, 10)?, |guard| {
         check_with(guard, alloc, &mut reader, writer)
     })
 }
@@ -266,7 +266,7 @@ fn answers_over(
 ) -> Result<(Result<u64, RunFault>, usize), Fail> {
     let mut reader = Watched::new(script);
     let mut writer = Watched::new(written);
-    with_guard(heap, alloc, CLOSED, 10_000, |guard| {
+    lend(guarded(heap, alloc, CLOSED, 10_000)?, |guard| {
         let result = check_with(guard, alloc, &mut reader, &mut writer)?;
         Ok((result, guard.journal_len()))
     })
@@ -300,7 +300,8 @@ fn journals_of_blocks(rt: HostRuntime) -> Result<(), Fail> {
         let script = repeated(rt.alloc(), QUESTION, count)?;
         let mut reader = Watched::new(script.as_bytes());
         let mut writer = Watched::new(Vec::new(rt.alloc()));
-        let (done, is_whole) = with_guard(rt.alloc(), rt.alloc(), CLOSED, 10_000, |guard| {
+        let guard = guarded(rt.alloc(), rt.alloc(), CLOSED, 10_000)?;
+        let (done, is_whole) = lend(guard, |guard| -> Result<_, Fail> {
             let done = check_with(guard, rt.alloc(), &mut reader, &mut writer)?;
             Ok((done, has_entries(guard, count as usize)))
         })?;

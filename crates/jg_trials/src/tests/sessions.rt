@@ -1,4 +1,4 @@
-use super::{CLOSED, FIRST_PATH, check_with, with_guard};
+use super::{CLOSED, FIRST_PATH, check_with, guarded, lend};
 use jg_script::Watched;
 use std::cell::Cell;
 use std::io;
@@ -74,7 +74,7 @@ fn each_answer_comes_before_more_is_read(rt: HostRuntime) -> Result<(), Fail> {
         };
         let mut reader = Watched::new(BufReader::with_capacity(rt.alloc(), 100, asking)?);
         let mut writer = Watched::new(BufWriter::with_capacity(rt.alloc(), 1000, hearing)?);
-        let done = with_guard(rt.alloc(), rt.alloc(), CLOSED, 10, |guard| {
+        let done = lend(guarded(rt.alloc(), rt.alloc(), CLOSED, 10)?, |guard| {
             check_with(guard, rt.alloc(), &mut reader, &mut writer)
         })?;
         assert_eq!(rt; done, Ok(6), "at {most}");
