@@ -55,7 +55,7 @@ impl Faulty {
 }
 
 impl Read for Faulty {
-    ghost use Rattle.std.specs.Prelude.{◌≡◌, ◌≤◌, ◌+◌, IfOk, IsErr, OnOk, Some};
+    ghost use Rattle.std.specs.Prelude.{◌≡◌, ◌<◌, ◌≤◌, ◌+◌, IfOk, IsOk, IsErr, OnOk, OnErr, Some};
     ghost use Rattle.std.specs.Io.{ReadsAtMost};
     ghost use Rattle.std.specs.Io.KnownBytes.{ReadConsumes};
 
@@ -65,8 +65,11 @@ impl Read for Faulty {
         ensures bound { ReadsAtMost result buf.new }
         ensures unread { ReadConsumes (Some self.old.unread) (Some self.new.unread) result buf.new }
         ensures fails { self.old.passes ≡ 0 → IsErr result }
+        ensures gives { 0 < self.old.passes → IsOk result }
         ensures passes { OnOk result (self.new.passes + 1 ≡ self.old.passes) }
+        ensures unpassed { OnErr result (self.new.passes ≡ self.old.passes) }
         ensures few { IfOk result (λ n. n ≤ self.old.most) }
+        ensures most { self.new.most ≡ self.old.most }
         ensures bytes { self.new.bytes ≡ self.old.bytes }
     {
         if self.passes == 0 {
@@ -81,7 +84,7 @@ impl Read for Faulty {
 }
 
 impl Write for Faulty {
-    ghost use Rattle.std.specs.Prelude.{◌≡◌, ◌≤◌, ◌+◌, IfOk, IsErr, OnOk, Some};
+    ghost use Rattle.std.specs.Prelude.{◌≡◌, ◌≤◌, ◌+◌, IfOk, IsErr, OnOk, OnErr, Some};
     ghost use Rattle.std.specs.Io.{WritesAtMost};
     ghost use Rattle.std.specs.Io.KnownBytes.{WriteAppends};
 
@@ -92,7 +95,9 @@ impl Write for Faulty {
         ensures bytes { WriteAppends (Some self.old.bytes) (Some self.new.bytes) result buf.now }
         ensures fails { self.old.passes ≡ 0 → IsErr result }
         ensures passes { OnOk result (self.new.passes + 1 ≡ self.old.passes) }
+        ensures unpassed { OnErr result (self.new.passes ≡ self.old.passes) }
         ensures few { IfOk result (λ n. n ≤ self.old.most) }
+        ensures most { self.new.most ≡ self.old.most }
     {
         if self.passes == 0 {
             return Err(io::Error::from(ErrorKind::Other));
