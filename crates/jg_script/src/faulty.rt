@@ -55,7 +55,7 @@ impl Faulty {
 }
 
 impl Read for Faulty {
-    ghost use Rattle.std.specs.Prelude.{◌≡◌, ◌<◌, ◌≤◌, ◌+◌, IfOk, IsOk, IsErr, OnOk, OnErr, Some};
+    ghost use Rattle.std.specs.Prelude.{◌≡◌, ◌<◌, ◌≤◌, ◌+◌, length, min, IfOk, IsOk, IsErr, OnOk, OnErr, Some};
     ghost use Rattle.std.specs.Io.{ReadsAtMost};
     ghost use Rattle.std.specs.Io.KnownBytes.{ReadConsumes};
 
@@ -68,7 +68,7 @@ impl Read for Faulty {
         ensures gives { 0 < self.old.passes → IsOk result }
         ensures passes { OnOk result (self.new.passes + 1 ≡ self.old.passes) }
         ensures unpassed { OnErr result (self.new.passes ≡ self.old.passes) }
-        ensures few { IfOk result (λ n. n ≤ self.old.most) }
+        ensures many { IfOk result (λ n. n ≡ min (length buf.new) (min self.old.most (length self.old.unread))) }
         ensures most { self.new.most ≡ self.old.most }
         ensures bytes { self.new.bytes ≡ self.old.bytes }
     {
@@ -84,7 +84,7 @@ impl Read for Faulty {
 }
 
 impl Write for Faulty {
-    ghost use Rattle.std.specs.Prelude.{◌≡◌, ◌≤◌, ◌+◌, IfOk, IsErr, OnOk, OnErr, Some};
+    ghost use Rattle.std.specs.Prelude.{◌≡◌, ◌≤◌, ◌+◌, length, min, IfOk, IsErr, OnOk, OnErr, Some};
     ghost use Rattle.std.specs.Io.{WritesAtMost};
     ghost use Rattle.std.specs.Io.KnownBytes.{WriteAppends};
 
@@ -96,7 +96,7 @@ impl Write for Faulty {
         ensures fails { self.old.passes ≡ 0 → IsErr result }
         ensures passes { OnOk result (self.new.passes + 1 ≡ self.old.passes) }
         ensures unpassed { OnErr result (self.new.passes ≡ self.old.passes) }
-        ensures few { IfOk result (λ n. n ≤ self.old.most) }
+        ensures many { IfOk result (λ n. n ≡ min (length buf.now) self.old.most) }
         ensures most { self.new.most ≡ self.old.most }
     {
         if self.passes == 0 {
