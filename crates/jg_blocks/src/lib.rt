@@ -41,7 +41,8 @@ impl<T, A: Allocator + Clone> Blocks<T, A> {
     /// No items, and room for none. Takes no memory; the blocks grow from clones of the second
     /// handle.
     pub fn new(blocks: A, alloc: A) -> Blocks<T, A>
-        ensures { result.items ≡ [] }
+        ensures items { result.items ≡ [] }
+        ensures spare { result.spare ≡ 0 }
     {
         Blocks {
             blocks: Vec::new(blocks),
@@ -88,10 +89,12 @@ impl<T, A: Allocator + Clone> Blocks<T, A> {
         Ok(())
     }
 
-    /// Makes room for this many items more, so that as many calls of `push` can't fail. Fails only
-    /// for want of memory; no item changes or moves either way, and no room is lost.
+    /// Makes room for this many items more, so that as many calls of `push` can't fail. Takes no
+    /// memory where there is the room. Fails only for want of memory; no item changes or moves either
+    /// way, and no room is lost.
     pub fn reserve(&mut self, additional: usize) -> Result<(), AllocError>
         ensures ok { OnOk result (additional ≤ self.new.spare) }
+        ensures wants { OnErr result (self.old.spare < additional) }
         ensures items { self.new.items ≡ self.old.items }
         ensures spare { self.old.spare ≤ self.new.spare }
     {

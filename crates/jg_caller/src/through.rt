@@ -3,7 +3,7 @@
 ghost use Rattle.std.specs.Prelude.{◌≡◌, ◌<◌, ◌⊎◌, ◌↔◌, List, ◌∷◌, length, slice_get, None, Some, Err, IfOk, IfErr, OnOk, OnErr};
 ghost use Rattle.jg_words.specs.declared.entry.Entry.{Entry};
 ghost use Rattle.jg_words.specs.declared.rule.Rule.{Rule};
-ghost use Rattle.jg_guard.specs.Guard.{Takes};
+ghost use Rattle.jg_guard.specs.Guard.{Takes, Unchanged};
 ghost use Rattle.jg_caller.specs.Passed.{judged, next_entry, passed_in};
 
 use crate::machine::Machine;
@@ -38,7 +38,7 @@ pub fn let_through<A: Allocator + Clone, M: Machine>(
     ensures denied { (rule : Rule) → judged guard.old tid env call ≡ Some rule → machine.new ≡ machine.old }
     ensures in_step { M.stands machine.old (passed_in guard.old.journal)
         → M.stands machine.new (passed_in guard.new.journal) }
-    ensures guard_kept { OnErr result (guard.new ≡ guard.old) }
+    ensures guard_kept { OnErr result (Unchanged guard.old guard.new) }
     ensures machine_kept { OnErr result (machine.new ≡ machine.old) }
     ensures back { IfErr result (λ refusal. (refusal ≡ Refusal.Limit call) ⊎ (refusal ≡ Refusal.NoMemory call)) }
     ensures limit { (result ≡ Err (Refusal.Limit call)) ↔ (length guard.old.journal ≡ guard.old.limit) }

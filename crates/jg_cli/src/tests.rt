@@ -1,5 +1,5 @@
 use jg_program::{Status, run};
-use jg_script::HandsOn;
+use jg_script::{Faulty, HandsOn};
 use std::io;
 use std::io::{BufReader, BufWriter, ErrorKind, Read, Write};
 use std::test::Fail;
@@ -459,6 +459,30 @@ fn failing_devices_have_their_texts(rt: HostRuntime) -> Result<(), Fail> {
         ),
         Status::Faulty
     );
+    Ok(())
+}
+
+const TWO_LINES: &str = "T1 - AttachCurrentThread
+T1 E1.1 NewString [72,105]
+";
+
+const TWO_ANSWERED: &str = "T1 - AttachCurrentThread = E1.1
+T1 E1.1 NewString [72,105] = L1.1
+";
+
+/// The first two lines of the first path are read at once, and the next read fails.
+#[test]
+fn the_reader_fails_after_two(rt: HostRuntime) -> Result<(), Fail> {
+    let mut out = Vec::new(rt.alloc());
+    let mut err = Vec::new(rt.alloc());
+    let mut script = Vec::new(rt.alloc());
+    script.extend_from_slice(TWO_LINES.as_bytes())?;
+    let reader = BufReader::new(rt.alloc(), Faulty::new(script, 1, 100))?;
+    let writer = BufWriter::new(rt.alloc(), &mut out)?;
+    let ended = run(&rt, rt.alloc(), &[], &rt, reader, writer, &mut err);
+    assert_eq!(rt; ended, Status::Device);
+    assert!(rt; out.as_slice() == TWO_ANSWERED.as_bytes());
+    assert!(rt; err.as_slice() == b"line 3: read failed\n".as_slice());
     Ok(())
 }
 

@@ -1,5 +1,6 @@
 pub mod Due
 pub mod Passing
+pub mod Cleaning
 pub mod Arrays
 pub mod Buffers
 pub mod Fields

@@ -1,5 +1,5 @@
 -- What a sound guard knows of a call that passes, and that it stays sound.
-use Rattle.std.proofs.Common.{◌≡◌, ◌<◌, List, ◌∷◌, length, Option, Some, None, refl, ap, ◌∙◌, arith}
+use Rattle.std.proofs.Common.{ℕ, ◌≡◌, ◌<◌, List, ◌∷◌, length, Option, Some, None, refl, ap, ◌∙◌, arith}
 use Rattle.jg_words.specs.declared.thread.EnvId.{EnvId}
 use Rattle.jg_words.specs.declared.thread.Tid.{Tid}
 use Rattle.jg_words.specs.declared.call.Call.{Call}
@@ -43,11 +43,11 @@ pub entry_passed : (s : StatedSetup) (p : Parts) (t : Tid) (env : Option EnvId) 
 entry_passed s p t env call none = rw none refl
 
 -- one entry more keeps a guard sound
-pub sound_after : (state : State) (journal : List Entry) (x : Entry) (rows rows' : TableRows)
+pub sound_after : (state : State) (journal : List Entry) (spare : ℕ) (x : Entry) (rows rows' : TableRows)
     → IsSound state rows → length state.journal < state.limit → journal ≡ x ∷ state.journal → x ≡ entry_at state.setup (parts state.setup state.journal) x.tid x.env x.call
     → TablesStand state.setup rows' (parts state.setup (x ∷ state.journal))
-    → IsSound (record state { journal = journal }) rows'
-sound_after state journal x rows rows' s room is legal stands =
+    → IsSound (record state { journal = journal; spare = spare }) rows'
+sound_after state journal spare x rows rows' s room is legal stands =
     record { legal = rw is (legal, s.legal); small = s.small; bounded = rw is (omega arith); tables = rw is stands }
 
 abbrev pub due_of : (state : State) (rows : TableRows) (t : Tid) (env : Option EnvId) (call : Call) → IsSound state rows → verdict state.setup (parts state.setup state.journal) t.0 env call ≡ None
@@ -82,10 +82,10 @@ pub entry_given : (s : StatedSetup) (p : Parts) (t : Tid) (env : Option EnvId) (
 entry_given s p t env call given none is = rw (none, is) refl
 
 -- the guard took the entry
-pub takes_entry : (old : State) (rows : TableRows) (x : Entry) (journal : List Entry) → IsSound old rows → journal ≡ x ∷ old.journal
+pub takes_entry : (old : State) (rows : TableRows) (x : Entry) (journal : List Entry) (spare : ℕ) → IsSound old rows → journal ≡ x ∷ old.journal
     → x ≡ entry_at old.setup (parts old.setup old.journal) x.tid x.env x.call
-    → Takes old (record old { journal = journal }) x.tid x.env x.call x.outcome
-takes_entry old rows x journal s is legal = record {
+    → Takes old (record old { journal = journal; spare = spare }) x.tid x.env x.call x.outcome
+takes_entry old rows x journal spare s is legal = record {
   setup = refl;
   limit = refl;
   journal = is ∙ ap (λ (y : Entry). y ∷ old.journal) legal;
@@ -93,10 +93,10 @@ takes_entry old rows x journal s is legal = record {
   legal = rw is (legal, s.legal);
 }
 
-pub denied_sound : (state : State) (journal : List Entry) (rows : TableRows) (t : Tid) (env : Option EnvId) (call : Call) (rule : Rule) → IsSound state rows → length state.journal < state.limit
-    → verdict state.setup (parts state.setup state.journal) t.0 env call ≡ Some rule → journal ≡ denied_entry t env call rule ∷ state.journal → IsSound (record state { journal = journal }) rows
-denied_sound state journal rows t env call rule s room denied is =
-    sound_after state journal (denied_entry t env call rule) rows rows s room is (entry_denied state.setup (parts state.setup state.journal) t env call rule denied) s.tables
+pub denied_sound : (state : State) (journal : List Entry) (spare : ℕ) (rows : TableRows) (t : Tid) (env : Option EnvId) (call : Call) (rule : Rule) → IsSound state rows → length state.journal < state.limit
+    → verdict state.setup (parts state.setup state.journal) t.0 env call ≡ Some rule → journal ≡ denied_entry t env call rule ∷ state.journal → IsSound (record state { journal = journal; spare = spare }) rows
+denied_sound state journal spare rows t env call rule s room denied is =
+    sound_after state journal spare (denied_entry t env call rule) rows rows s room is (entry_denied state.setup (parts state.setup state.journal) t env call rule denied) s.tables
 
 pub answered_at : (s s' : StatedSetup) (p : Parts) (t : Tid) (call : Call) (given : Answer) → s' ≡ s → given ≡ answer s' p t call → given ≡ answer s p t call
 answered_at s s' p t call given same is = is ∙ ap (λ (r : StatedSetup). answer r p t call) same

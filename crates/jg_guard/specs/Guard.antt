@@ -10,11 +10,19 @@ use Rattle.jg_rules.specs.Parts.{TableRows, TablesStand}
 use Rattle.jg_rules.specs.Effects.{parts}
 use Rattle.jg_rules.specs.Legal.{Legal, entry_at}
 
--- what its setup states, the journal's limit, and the journal with its newest entry first
+-- what its setup states, the journal's limit, the journal with its newest entry first, and for how many entries more
+-- there is room without more memory
 pub record State : Type 0 where
   pub setup : StatedSetup
   pub limit : ℕ
   pub journal : List Entry
+  pub spare : ℕ
+
+-- nothing is changed but perhaps the room
+pub record Unchanged (old new : State) : Type 0 where
+  pub setup : new.setup ≡ old.setup
+  pub limit : new.limit ≡ old.limit
+  pub journal : new.journal ≡ old.journal
 
 -- what every guard keeps: its journal is a legal history within its limit, and the tables stand for it
 pub record IsSound (state : State) (rows : TableRows) : Type 0 where

@@ -1,9 +1,10 @@
 //! What a call answers, group by group: it only reads.
 
-ghost use Rattle.std.specs.Prelude.{◌≡◌, IfOk};
+ghost use Rattle.std.specs.Prelude.{◌≡◌, false, IfOk, OnErr};
 ghost use Rattle.jg_rules.specs.Parts.{Parts};
 ghost use Rattle.jg_rules.specs.View.{ViewStands, rows_in};
 ghost use Rattle.jg_rules.specs.Answers.{answer};
+ghost use Rattle.jg_guard.specs.Cleaning.{cleans_up};
 ghost use Rattle.jg_guard.specs.Tables.{IsDue};
 
 use crate::groups::arrays::answer_arrays;
@@ -23,14 +24,15 @@ use std::alloc::{AllocError, Allocator, Global};
 /// the items of a list answer.
 pub(crate) fn answer_to<A: Allocator + Clone>(
     view: &View<'_, A>,
-    alloc: A,
+    alloc: &A,
     lists: Global,
     tid: Tid,
     call: &Call,
 ) -> Result<Answer, AllocError>
     requires { IsDue view.now.setup.now (rows_in view.now) tid.0 call.now }
-    ensures { IfOk result (λ given. (p : Parts) → ViewStands view.now p
+    ensures given { IfOk result (λ given. (p : Parts) → ViewStands view.now p
         → given ≡ answer view.now.setup.now p tid call.now) }
+    ensures wants { OnErr result (cleans_up call.now ≡ false) }
 {
     match call {
         Call::Vm(call) => answer_vm(view, alloc, tid, call),

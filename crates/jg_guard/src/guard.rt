@@ -1,9 +1,10 @@
-ghost use Rattle.std.specs.Prelude.{◌≡◌, ◌<◌, ◌≤◌, ◌⊎◌, ◌↔◌, [], ◌∷◌, length, reverse, IfOk, IfErr, OnErr, None, Some, Err, slice_get};
+ghost use Rattle.std.specs.Prelude.{◌≡◌, ◌+◌, ◌<◌, ◌≤◌, ◌⊎◌, ◌↔◌, [], ◌∷◌, false, length, reverse, IfOk, IfErr, OnOk, OnErr, None, Some, Err, slice_get};
 ghost use Rattle.std.specs.Option.{option_copied};
 ghost use Rattle.jg_rules.specs.Legal.{Legal};
 ghost use Rattle.jg_rules.specs.Effects.{parts};
 ghost use Rattle.jg_rules.specs.Rules.{verdict};
-ghost use Rattle.jg_guard.specs.Guard.{Takes};
+ghost use Rattle.jg_guard.specs.Cleaning.{MayWant, cleans_up};
+ghost use Rattle.jg_guard.specs.Guard.{Takes, Unchanged};
 ghost use Rattle.jg_guard.specs.Places.{TouchesByLiveReference, TouchesWhatIsThere, LiveIsThere, PinsLive, OwnersAreOne, ReferenceIsNew, DeadStaysDead, LegalWithoutDenied};
 ghost use Rattle.jg_guard.specs.Left.{ListsRefs, RefsAscend, ListsBuffers, BuffersAscend, ListsMonitors};
 ghost use Rattle.jg_monitors.specs.Rows.{Ascends};
@@ -34,8 +35,13 @@ pub enum Refusal {
     NoMemory(Call),
 }
 
-/// A guard. Contracts see its setup, its limit and its journal, the newest entry first; its type
-/// keeps that the journal is a legal history, no longer than the limit.
+/// Memory ran out.
+#[derive(Clone, Copy, Debug, PartialEq, Eq)]
+pub struct NoMemory;
+
+/// A guard. Contracts see its setup, its limit, its journal, the newest entry first, and `spare`, for
+/// how many entries more there is room; its type keeps that the journal is a legal history, no longer
+/// than the limit.
 #[derive(Drop)]
 pub struct Guard<A: Allocator = Global> {
     setup: Setup,
@@ -51,9 +57,9 @@ impl<A: Allocator> Model for Guard<A> {
 
     ghost Value = { State };
 
-    ghost view = { λ g. record { setup = g.setup; limit = g.limit; journal = reverse g.journal.items } };
+    ghost view = { λ g. record { setup = g.setup; limit = g.limit; journal = reverse g.journal.items; spare = g.journal.spare } };
 
-    ghost invariant = { λ g. IsSound (record { setup = g.setup; limit = g.limit; journal = reverse g.journal.items })
+    ghost invariant = { λ g. IsSound (record { setup = g.setup; limit = g.limit; journal = reverse g.journal.items; spare = g.journal.spare })
         (rows_of g.tables) };
 }
 
@@ -104,12 +110,18 @@ impl<A: Allocator + Clone> Guard<A> {
 
     /// Judges the call, does it if it breaks no rule, and journals it. `tid` is the thread that
     /// makes it, `env` the environment that it hands in. A refusal changes nothing: the journal is
-    /// full, or memory ran out, in that order.
+    /// full, or memory ran out, in that order. While there is room for an entry (`reserve`), memory
+    /// can't run out on a call that is denied, nor on one that gives something back: a deletion of a
+    /// reference, a release of a buffer, MonitorExit, ExceptionClear, ExceptionDescribe,
+    /// DetachCurrentThread, and PopLocalFrame or NativeLeave that keep nothing.
     pub fn call(&mut self, tid: Tid, env: Option<EnvId>, call: Call) -> Result<Outcome, Refusal>
         ensures ok { IfOk result (λ outcome. Takes self.old self.new tid env call outcome) }
-        ensures err { OnErr result (self.new ≡ self.old) }
+        ensures err { OnErr result (Unchanged self.old self.new) }
         ensures back { IfErr result (λ refusal. (refusal ≡ Refusal.Limit call) ⊎ (refusal ≡ Refusal.NoMemory call)) }
         ensures limit { (result ≡ Err (Refusal.Limit call)) ↔ (length self.old.journal ≡ self.old.limit) }
+        ensures wants { result ≡ Err (Refusal.NoMemory call) → MayWant self.old tid env call }
+        ensures one_place { OnOk result (self.old.spare ≤ self.new.spare + 1) }
+        ensures no_place { OnErr result (self.old.spare ≤ self.new.spare) }
     {
         if self.journal.len() >= self.limit as usize {
             return Err(Refusal::Limit(call));
@@ -130,8 +142,11 @@ impl<A: Allocator + Clone> Guard<A> {
         requires room { length self.old.journal < self.old.limit }
         requires denied { verdict self.old.setup (parts self.old.setup self.old.journal) tid.0 env call ≡ Some rule }
         ensures ok { IfOk result (λ outcome. Takes self.old self.new tid env call outcome) }
-        ensures err { OnErr result (self.new ≡ self.old) }
+        ensures err { OnErr result (Unchanged self.old self.new) }
         ensures back { IfErr result (λ refusal. refusal ≡ Refusal.NoMemory call) }
+        ensures wants { OnErr result (self.old.spare < 1) }
+        ensures one_place { OnOk result (self.old.spare ≤ self.new.spare + 1) }
+        ensures no_place { OnErr result (self.old.spare ≤ self.new.spare) }
     {
         if self.journal.reserve(1).is_err() {
             return Err(Refusal::NoMemory(call));
@@ -152,14 +167,14 @@ impl<A: Allocator + Clone> Guard<A> {
         requires room { length self.old.journal < self.old.limit }
         requires passed { verdict self.old.setup (parts self.old.setup self.old.journal) tid.0 env call ≡ None }
         ensures ok { IfOk result (λ outcome. Takes self.old self.new tid env call outcome) }
-        ensures err { OnErr result (self.new ≡ self.old) }
+        ensures err { OnErr result (Unchanged self.old self.new) }
         ensures back { IfErr result (λ refusal. refusal ≡ Refusal.NoMemory call) }
+        ensures wants { OnErr result (0 < self.old.spare → cleans_up call ≡ false) }
+        ensures one_place { OnOk result (self.old.spare ≤ self.new.spare + 1) }
+        ensures no_place { OnErr result (self.old.spare ≤ self.new.spare) }
     {
-        let Ok(alloc) = self.tables.alloc.clone() else {
-            return Err(Refusal::NoMemory(call));
-        };
-        let view = self.tables.view(&self.setup);
-        let Ok(given) = answer_to(&view, alloc, self.tables.lists, tid, &call) else {
+        let (view, tables) = (self.tables.view(&self.setup), &self.tables);
+        let Ok(given) = answer_to(&view, &tables.alloc, tables.lists, tid, &call) else {
             return Err(Refusal::NoMemory(call));
         };
         let Ok(value) = given.reply.value.try_copy() else {
@@ -181,6 +196,20 @@ impl<A: Allocator + Clone> Guard<A> {
         };
         push_reserved(&mut self.journal, entry);
         Ok(Outcome::Passed(Reply { value, warned }))
+    }
+
+    /// Makes room for `n` entries more, so that as many calls can be taken that are denied or give
+    /// something back, whatever memory is left then (`call`). Fails only for want of memory; nothing
+    /// but the room changes either way, and none is lost.
+    pub fn reserve(&mut self, n: u32) -> Result<(), NoMemory>
+        ensures ok { OnOk result (n ≤ self.new.spare) }
+        ensures unchanged { Unchanged self.old self.new }
+        ensures none_lost { self.old.spare ≤ self.new.spare }
+    {
+        match self.journal.reserve(n as usize) {
+            Ok(()) => Ok(()),
+            Err(_) => Err(NoMemory),
+        }
     }
 
     /// The most entries that the journal may have.
@@ -242,7 +271,8 @@ impl<A: Allocator + Clone> Guard<A> {
 
 fn push_reserved<A: Allocator + Clone>(journal: &mut Blocks<Entry, A>, entry: Entry)
     requires { 0 < journal.old.spare }
-    ensures { reverse journal.new.items ≡ entry ∷ reverse journal.old.items }
+    ensures items { reverse journal.new.items ≡ entry ∷ reverse journal.old.items }
+    ensures spare { journal.new.spare + 1 ≡ journal.old.spare }
 {
     journal.push(entry);
 }

@@ -12,6 +12,6 @@ mod region;
 mod settle;
 mod tables;
 
-pub use guard::{Guard, Refusal};
+pub use guard::{Guard, NoMemory, Refusal};
 pub use jg_monitors::OwnedMonitor;
 pub use leaks::Leaks;

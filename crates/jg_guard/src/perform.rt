@@ -9,6 +9,7 @@ ghost use Rattle.jg_rules.specs.Answers.{answer};
 ghost use Rattle.jg_rules.specs.Effects as effects;
 ghost use Rattle.jg_rules.specs.Effects.{passed_on, done_by};
 ghost use Rattle.jg_rules.specs.View.{ViewStands};
+ghost use Rattle.jg_guard.specs.Cleaning.{cleans_up};
 ghost use Rattle.jg_guard.specs.Tables as tables_of;
 ghost use Rattle.jg_guard.specs.Tables.{rows_of, StillStand, IsAnswered, IsEffective, KeepsRoom};
 
@@ -45,6 +46,7 @@ pub(crate) fn perform<A: Allocator + Clone>(
         → TablesStand setup.now (rows_of tables.new)
         (passed_on setup.now tid.0 call.now given.now.reply given.now.object p)) }
     ensures err { OnErr result (StillStand setup.now (rows_of tables.old) (rows_of tables.new)) }
+    ensures wants { OnErr result (cleans_up call.now ≡ false) }
 {
     if !is_effective(&given.reply.value) {
         throw_if(tables, tid, given)?;
@@ -72,6 +74,7 @@ fn do_and_settle<A: Allocator + Clone>(
         → TablesStand setup.now (rows_of tables.new)
         (passed_on setup.now tid.0 call.now given.now.reply given.now.object p)) }
     ensures err { OnErr result (StillStand setup.now (rows_of tables.old) (rows_of tables.new)) }
+    ensures wants { OnErr result (cleans_up call.now ≡ false) }
 {
     make_room(tables, tid, &given.reply)?;
     let home = home_named(&tables.view(setup), tid, call);
@@ -92,6 +95,7 @@ fn do_call<A: Allocator + Clone>(
         → TablesStand setup.now (rows_of tables.new) (done_by setup.now tid.0 call.now p)) }
     ensures room { OnOk result (KeepsRoom tables.old tables.new tid.0 call.now) }
     ensures err { OnErr result (rows_of tables.new ≡ rows_of tables.old) }
+    ensures wants { OnErr result (cleans_up call.now ≡ false) }
 {
     match call {
         Call::Vm(call) => {

@@ -1,7 +1,7 @@
 //! What an answer makes, whichever call it was: a reference, a buffer's number, an exception, a
 //! warning.
 
-ghost use Rattle.std.specs.Prelude.{◌≡◌, ◌<◌, ◌∷◌, true, false, None, OnOk, OnErr, IsTrue};
+ghost use Rattle.std.specs.Prelude.{◌≡◌, ◌<◌, ◌∷◌, ◌⊎◌, true, false, None, OnOk, OnErr, IsTrue};
 ghost use Rattle.std.specs.Option.{option_map};
 ghost use Rattle.jg_words.specs.declared.call.Call.{Call};
 ghost use Rattle.jg_policy.specs.Stated.{StatedSetup};
@@ -151,6 +151,7 @@ pub(crate) fn make_room<A: Allocator + Clone>(
     reply: &Reply,
 ) -> Result<(), AllocError>
     ensures ok { OnOk result (HasRoom tables.new tid.0 reply.now) }
+    ensures wants { OnErr result ((reply.now.warned ≡ true) ⊎ (tables_of.makes_local reply.now.value ≡ true)) }
     ensures still { (setup : StatedSetup) → StillStand setup (rows_of tables.old) (rows_of tables.new) }
     ensures threads { tables.new.threads ≡ tables.old.threads }
 {

@@ -22,6 +22,7 @@ pub mod references;
 pub mod releases;
 pub mod rules;
 pub mod sessions;
+pub mod setups;
 pub mod strings;
 #[cfg(test)]
 mod tests;

@@ -10,6 +10,7 @@ mod exceptions;
 mod frames;
 mod functions;
 mod globals;
+mod hostile;
 mod natives;
 mod object_fields;
 mod objects;
@@ -22,6 +23,7 @@ mod scripts;
 mod sessions;
 mod strings;
 
+use crate::setups::{CLOSED, TWO_MODULES};
 use jg_guard::Guard;
 use jg_policy::Setup;
 use jg_script::{RunFault, Verdict, Watched, check, verify};
@@ -37,28 +39,6 @@ struct Ended {
     text: &'static str,
     result: Result<u64, RunFault>,
 }
-
-/// The setup that denies native access and states nothing else.
-const CLOSED: &str = "version = 1
-illegal_native_access = \"deny\"
-";
-
-/// What a setup of two modules states after its mode. Its classes are 15 to 17.
-const TWO_MODULES: &str = "enable_native_access = [\"app\"]
-[[class]]
-name = \"app/Main\"
-module = \"app\"
-fields = [{ name = \"count\", type = \"I\" }, { name = \"next\", type = \"Lapp/Main;\" }]
-natives = [{ name = \"run\", type = \"()V\" }]
-[[class]]
-name = \"lib/Tool\"
-module = \"lib\"
-natives = [{ name = \"go\", type = \"()V\" }]
-[[class]]
-name = \"app/Fault\"
-module = \"app\"
-throwable = true
-";
 
 /// The text of the setup of two modules, with this mode.
 fn two_modules(alloc: Global, mode: &str) -> Result<String, Fail> {

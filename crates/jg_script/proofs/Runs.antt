@@ -77,19 +77,19 @@ module _ (input mid input' bytes part bytes' : Option (List ℕ)) (limit line : 
       → Answers part bytes' old new text line (Err fault)
       → Checks input input' bytes bytes' limit new.journal (Err fault)
   answered_err (Script l f) h within taken (device, same, first, is) =
-      let P : State → Type 0 = λ k. AreFollowedBy input (call_lines k.journal) (λ next. IsFirstFault next f) × (f ≢ LineTooLong → TakesOneMore input input' (call_lines k.journal)) × WritesAll bytes bytes' k.journal
-      × (l ≡ length k.journal + 1) × (length k.journal ≤ limit) in
+      let P : List Entry → Type 0 = λ k. AreFollowedBy input (call_lines k) (λ next. IsFirstFault next f) × (f ≢ LineTooLong → TakesOneMore input input' (call_lines k)) × WritesAll bytes bytes' k
+      × (l ≡ length k + 1) × (length k ≤ limit) in
       let Q : Option (List ℕ) → Type 0 = λ d. WritesAll bytes d old.journal in
       subst P (sym same) (followed _ _ _ text (λ next. IsFirstFault next f) taken first, (λ _. (text, taken)), subst Q (sym device) h.written, is ∙ h.counted, within)
   answered_err (Limit l) h within taken (device, same, well, full, is) =
-      let P : State → Type 0 = λ k. AreFollowedBy input (call_lines k.journal) IsWellFormed × TakesOneMore input input' (call_lines k.journal) × WritesAll bytes bytes' k.journal × (l ≡ limit + 1) × (length k.journal ≡ limit) in
+      let P : List Entry → Type 0 = λ k. AreFollowedBy input (call_lines k) IsWellFormed × TakesOneMore input input' (call_lines k) × WritesAll bytes bytes' k × (l ≡ limit + 1) × (length k ≡ limit) in
       let Q : Option (List ℕ) → Type 0 = λ d. WritesAll bytes d old.journal in
       let limited = h.limited in
       let counted = h.counted in
       subst P (sym same) (followed _ _ _ text IsWellFormed taken well, (text, taken), subst Q (sym device) h.written, omega arith, full ∙ h.limited)
   answered_err (NoMemory l) h within taken (device, inl same, is) =
       let Q : Option (List ℕ) → Type 0 = λ d. WritesAll bytes d old.journal in
-      let P : State → Type 0 = λ k. BeginsWith input (call_lines k.journal) × ((g : List Entry) × ((k.journal ≡ g) ⊎ ((e : Entry) × (k.journal ≡ e ∷ g))) × WritesAll bytes bytes' g × (l ≡ length g + 1)) in
+      let P : List Entry → Type 0 = λ k. BeginsWith input (call_lines k) × ((g : List Entry) × ((k ≡ g) ⊎ ((e : Entry) × (k ≡ e ∷ g))) × WritesAll bytes bytes' g × (l ≡ length g + 1)) in
       subst P (sym same) (begun_before _ _ _ text taken, (old.journal, inl refl, subst Q (sym device) h.written, is ∙ h.counted))
   answered_err (NoMemory l) h within taken (device, inr (e, j), is) =
       let Q : Option (List ℕ) → Type 0 = λ d. WritesAll bytes d old.journal in
@@ -117,11 +117,11 @@ line_reads input mid input' old new text e before taken j =
 pub answered_reads : (input mid input' bytes part bytes' : Option (List ℕ)) (limit line : ℕ) (old new : State) (text : List ℕ) (fault : RunFault) → HasChecked input mid bytes part limit line old
     → Consumes input mid (script_text old.journal) → TakesFront mid input' → Answers part bytes' old new text line (Err fault) → Reads input input' new.journal (Err fault)
 answered_reads input mid input' bytes part bytes' limit line old new text (Script l f) h e front (device, same, first, is) =
-    subst (λ (k : State). ReadsOneMore input input' (script_text k.journal)) (sym same) (one_more input mid input' (script_text old.journal) e front)
+    subst (λ (k : List Entry). ReadsOneMore input input' (script_text k)) (sym same) (one_more input mid input' (script_text old.journal) e front)
 answered_reads input mid input' bytes part bytes' limit line old new text (Limit l) h e front (device, same, well, full, is) =
-    subst (λ (k : State). ReadsOneMore input input' (script_text k.journal)) (sym same) (one_more input mid input' (script_text old.journal) e front)
+    subst (λ (k : List Entry). ReadsOneMore input input' (script_text k)) (sym same) (one_more input mid input' (script_text old.journal) e front)
 answered_reads input mid input' bytes part bytes' limit line old new text (NoMemory l) h e front (device, inl same, is) =
-    (old.journal, inl (ap (λ (k : State). k.journal) same), is ∙ h.counted, one_more input mid input' (script_text old.journal) e front)
+    (old.journal, inl same, is ∙ h.counted, one_more input mid input' (script_text old.journal) e front)
 answered_reads input mid input' bytes part bytes' limit line old new text (NoMemory l) h e front (device, inr (x, j), is) =
     (old.journal, inr (x, j.journal), is ∙ h.counted, one_more input mid input' (script_text old.journal) e front)
 answered_reads input mid input' bytes part bytes' limit line old new text (Read l) h e front none = absurd none

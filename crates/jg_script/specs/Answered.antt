@@ -22,11 +22,11 @@ abbrev pub Answers : Option (List ℕ) → Option (List ℕ) → State → State
 Answers bytes bytes' old new text n (Ok done) =
     (e : Entry) × Journals old new text e × Appends bytes bytes' (entry_text e)
 Answers bytes bytes' old new text n (Err (Script line fault)) =
-    (bytes' ≡ bytes) × (new ≡ old) × IsFirstFault text fault × (line ≡ n)
+    (bytes' ≡ bytes) × (new.journal ≡ old.journal) × IsFirstFault text fault × (line ≡ n)
 Answers bytes bytes' old new text n (Err (Limit line)) =
-    (bytes' ≡ bytes) × (new ≡ old) × IsWellFormed text × (length old.journal ≡ old.limit) × (line ≡ n)
+    (bytes' ≡ bytes) × (new.journal ≡ old.journal) × IsWellFormed text × (length old.journal ≡ old.limit) × (line ≡ n)
 Answers bytes bytes' old new text n (Err (NoMemory line)) =
-    (bytes' ≡ bytes) × ((new ≡ old) ⊎ ((e : Entry) × Journals old new text e)) × (line ≡ n)
+    (bytes' ≡ bytes) × ((new.journal ≡ old.journal) ⊎ ((e : Entry) × Journals old new text e)) × (line ≡ n)
 Answers bytes bytes' old new text n (Err (Read line)) = ⊥
 Answers bytes bytes' old new text n (Err (Write line)) =
     ((e : Entry) × Journals old new text e × WritesFront bytes bytes' e) × (line ≡ n)

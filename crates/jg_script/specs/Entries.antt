@@ -29,8 +29,8 @@ pub record Took (old new : State) (e : Entry) : Type 0 where
 
 -- why line n's call isn't answered: it isn't taken, or its entry's line can't be had
 abbrev pub FailsCall : State → State → Entry → ℕ → RunFault → Type 0
-FailsCall old new e n (Limit line) = (new ≡ old) × (length old.journal ≡ old.limit) × (line ≡ n)
-FailsCall old new e n (NoMemory line) = ((new ≡ old) ⊎ Took old new e) × (line ≡ n)
+FailsCall old new e n (Limit line) = (new.journal ≡ old.journal) × (length old.journal ≡ old.limit) × (line ≡ n)
+FailsCall old new e n (NoMemory line) = ((new.journal ≡ old.journal) ⊎ Took old new e) × (line ≡ n)
 FailsCall old new e n (Script line fault) = ⊥
 FailsCall old new e n (Read line) = ⊥
 FailsCall old new e n (Write line) = ⊥

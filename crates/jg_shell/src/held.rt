@@ -1,7 +1,7 @@
 //! What lies under the lock.
 
 ghost use Rattle.std.specs.Prelude.{◌≡◌, ◌<◌, ◌+◌, ◌⊎◌, length, Some, Err, IsErr, IfOk, IfErr, OnOk, OnErr};
-ghost use Rattle.jg_guard.specs.Guard.{Takes};
+ghost use Rattle.jg_guard.specs.Guard.{Takes, Unchanged};
 ghost use Rattle.jg_shell.specs.Receipts.{IsReceiptOf, told_at, told_by};
 
 use crate::receipt::Receipt;
@@ -66,7 +66,7 @@ impl<L: Ledger> Held<L> {
         ensures parts { share.new.parts ≡ share.old.parts }
 
         // A refusal changes nothing and hands the call back.
-        ensures unchanged { OnErr result (self.new ≡ self.old) }
+        ensures unchanged { OnErr result (Unchanged self.old self.new) }
         ensures uncounted { OnErr result (share.new.amount ≡ share.old.amount) }
         ensures back { IfErr result (λ refusal. (refusal ≡ Refusal.Limit call) ⊎ (refusal ≡ Refusal.NoMemory call)) }
         ensures limit { result ≡ Err (Refusal.Limit call) → length self.old.journal ≡ self.old.limit }
@@ -94,7 +94,7 @@ impl<L: Ledger> Held<L> {
         ensures receipt { IfOk result (IsReceiptOf tid env call) }
         ensures counted { OnOk result (share.new.amount ≡ share.old.amount + 1) }
         ensures parts { share.new.parts ≡ share.old.parts }
-        ensures unchanged { OnErr result (self.new ≡ self.old) }
+        ensures unchanged { OnErr result (Unchanged self.old self.new) }
         ensures uncounted { OnErr result (share.new.amount ≡ share.old.amount) }
         ensures back { IfErr result (λ refusal. (refusal ≡ Refusal.Limit call) ⊎ (refusal ≡ Refusal.NoMemory call)) }
         ensures limit { result ≡ Err (Refusal.Limit call) → length self.old.journal ≡ self.old.limit }

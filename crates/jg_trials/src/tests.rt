@@ -1,8 +1,10 @@
 mod buffers;
+mod cleaning;
 mod growths;
 mod guard;
 mod journals;
 mod leaks;
+mod rows;
 mod scripts;
 mod sessions;
 

@@ -1,4 +1,5 @@
-ghost use Rattle.std.specs.Prelude.{◌≡◌, IfOk};
+ghost use Rattle.std.specs.Prelude.{◌≡◌, true, IfOk, OnErr};
+ghost use Rattle.jg_words.specs.Value.{is_list};
 
 use crate::buffer::BufId;
 use crate::items::Items;
@@ -38,9 +39,10 @@ pub enum Value {
 }
 
 impl Value {
-    /// An equal value. Fails only for want of memory.
+    /// An equal value. Only that of a list takes memory, and fails only for want of it.
     pub fn try_copy(&self) -> Result<Value, AllocError>
-        ensures { IfOk result (λ copy. copy ≡ self.now) }
+        ensures copy { IfOk result (λ copy. copy ≡ self.now) }
+        ensures wants { OnErr result (is_list self.now ≡ true) }
     {
         match self {
             Value::Ok => Ok(Value::Ok),

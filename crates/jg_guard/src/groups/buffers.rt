@@ -1,4 +1,4 @@
-ghost use Rattle.std.specs.Prelude.{◌≡◌, ◌≤◌, ℤ, map, pos, slice_index_or, true, IfOk, OnOk, OnErr};
+ghost use Rattle.std.specs.Prelude.{◌≡◌, false, ◌≤◌, ℤ, map, pos, slice_index_or, true, IfOk, OnOk, OnErr};
 ghost use Rattle.jg_words.specs.declared.call.Call.TheVariants.{Buffers};
 ghost use Rattle.jg_words.specs.declared.call.buffers.BuffersCall.TheVariants.{GetArrayElements, ReleaseArrayElements, GetStringChars, GetStringUTFChars, GetPrimitiveArrayCritical, GetStringCritical, BufferRead, BufferWrite};
 ghost use Rattle.jg_policy.specs.Stated.{StatedSetup};
@@ -10,6 +10,7 @@ ghost use Rattle.jg_rules.specs.Names as names_of;
 ghost use Rattle.jg_rules.specs.Buffers as buffers_of;
 ghost use Rattle.jg_rules.specs.Answers.{lent, buffers_answer};
 ghost use Rattle.jg_rules.specs.Effects.{done_by, closed, closed_by, copied_back};
+ghost use Rattle.jg_guard.specs.Cleaning.{cleans_up};
 ghost use Rattle.jg_guard.specs.Tables.{rows_of, IsDue, IsEffective, KeepsRoom};
 ghost use Rattle.jg_guard.specs.Settled.{buffers_on, heap_on};
 
@@ -336,6 +337,7 @@ pub(crate) fn perform_buffers<A: Allocator + Clone>(
         → TablesStand setup.now (rows_of tables.new) (done_by setup.now tid.0 (Buffers call.now) p)) }
     ensures room { OnOk result (KeepsRoom tables.old tables.new tid.0 (Buffers call.now)) }
     ensures err { OnErr result (rows_of tables.new ≡ rows_of tables.old) }
+    ensures wants { OnErr result (cleans_up (Buffers call.now) ≡ false) }
 {
     match call {
         BuffersCall::GetArrayElements { element, array } => {

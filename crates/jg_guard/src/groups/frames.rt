@@ -1,9 +1,10 @@
-ghost use Rattle.std.specs.Prelude.{◌≡◌, ◌≤◌, OnOk, OnErr};
+ghost use Rattle.std.specs.Prelude.{◌≡◌, false, ◌≤◌, OnOk, OnErr};
 ghost use Rattle.jg_words.specs.declared.call.Call.TheVariants.{Frames};
 ghost use Rattle.jg_policy.specs.Stated.{StatedSetup};
 ghost use Rattle.jg_rules.specs.Parts.{Parts, TablesStand};
 ghost use Rattle.jg_rules.specs.View.{ViewStands, rows_in};
 ghost use Rattle.jg_rules.specs.Answers.{frames_answer};
+ghost use Rattle.jg_guard.specs.Cleaning.{cleans_up};
 ghost use Rattle.jg_guard.specs.Tables.{rows_of, IsDue, IsEffective, KeepsRoom};
 ghost use Rattle.jg_rules.specs.Effects.{done_by};
 
@@ -44,6 +45,7 @@ pub(crate) fn perform_frames<A: Allocator + Clone>(
         → TablesStand setup.now (rows_of tables.new) (done_by setup.now tid.0 (Frames call.now) p)) }
     ensures room { OnOk result (KeepsRoom tables.old tables.new tid.0 (Frames call.now)) }
     ensures err { OnErr result (rows_of tables.new ≡ rows_of tables.old) }
+    ensures wants { OnErr result (cleans_up (Frames call.now) ≡ false) }
 {
     match call {
         FramesCall::PushLocalFrame { .. } => tables.locals.push(tid),

@@ -1,4 +1,4 @@
-ghost use Rattle.std.specs.Prelude.{◌≡◌, ◌≤◌, OnOk, OnErr};
+ghost use Rattle.std.specs.Prelude.{◌≡◌, false, ◌≤◌, OnOk, OnErr};
 ghost use Rattle.jg_words.specs.declared.call.Call.TheVariants.{Monitors};
 ghost use Rattle.jg_words.specs.declared.call.monitors.MonitorsCall.TheVariants.{MonitorEnter, MonitorExit};
 ghost use Rattle.jg_monitors.specs.History.{entering, owner};
@@ -6,6 +6,7 @@ ghost use Rattle.jg_rules.specs.Parts.{Parts, TablesStand};
 ghost use Rattle.jg_rules.specs.View.{ViewStands, rows_in};
 ghost use Rattle.jg_rules.specs.Answers.{entered, monitors_answer};
 ghost use Rattle.jg_rules.specs.Effects.{done_by};
+ghost use Rattle.jg_guard.specs.Cleaning.{cleans_up};
 ghost use Rattle.jg_guard.specs.Tables.{rows_of, IsDue, IsEffective, KeepsRoom};
 
 use crate::settle::plain;
@@ -93,6 +94,7 @@ pub(crate) fn perform_monitors<A: Allocator + Clone>(
         → TablesStand setup.now (rows_of tables.new) (done_by setup.now tid.0 (Monitors call.now) p)) }
     ensures room { OnOk result (KeepsRoom tables.old tables.new tid.0 (Monitors call.now)) }
     ensures err { OnErr result (rows_of tables.new ≡ rows_of tables.old) }
+    ensures wants { OnErr result (cleans_up (Monitors call.now) ≡ false) }
 {
     match call {
         MonitorsCall::MonitorEnter { of } => {

@@ -1,4 +1,4 @@
-ghost use Rattle.std.specs.Prelude.{◌≡◌, ◌<◌, ◌≤◌, length, IfOk, IfSome, OnOk, OnErr};
+ghost use Rattle.std.specs.Prelude.{◌≡◌, ◌<◌, ◌≤◌, false, length, IfOk, IfSome, OnOk, OnErr};
 ghost use Rattle.std.specs.Option.{option_map};
 ghost use Rattle.jg_words.specs.declared.call.Call.TheVariants.{Vm};
 ghost use Rattle.jg_words.specs.declared.call.vm.VmCall.TheVariants.{RegisterNatives, UnregisterNatives};
@@ -14,6 +14,7 @@ ghost use Rattle.jg_rules.specs.Names.{pending, object_named as object_of};
 ghost use Rattle.jg_rules.specs.Answers as answers;
 ghost use Rattle.jg_rules.specs.Holding.{going};
 ghost use Rattle.jg_rules.specs.Answers.{vm_answer, amount, handed, unless_pending, registered};
+ghost use Rattle.jg_guard.specs.Cleaning.{cleans_up};
 ghost use Rattle.jg_guard.specs.Tables.{rows_of, IsDue, IsEffective, KeepsRoom};
 ghost use Rattle.jg_rules.specs.Effects.{done_by};
 ghost use Rattle.jg_guard.specs.Settled.{linked_on, unlinked_on};
@@ -93,24 +94,25 @@ fn answer_env<A: Allocator + Clone>(view: &View<'_, A>, tid: Tid) -> Answer
     }
 }
 
-fn answer_collect<A: Allocator + Clone>(view: &View<'_, A>, alloc: A) -> Result<Answer, AllocError>
+fn answer_collect<A: Allocator + Clone>(view: &View<'_, A>, alloc: &A) -> Result<Answer, AllocError>
     ensures { IfOk result (λ given. (p : Parts) → ViewStands view.now p
         → given ≡ amount (length (going view.now.setup.now p))) }
 {
-    let (_, unheld) = marks_of_held(view, alloc)?;
+    let (_, unheld) = marks_of_held(view, alloc.clone()?)?;
     Ok(plain(Value::Number(unheld as i64)))
 }
 
 /// What a call of the group answers, where it breaks no rule. `alloc` is for the collector's marks.
 pub(crate) fn answer_vm<A: Allocator + Clone>(
     view: &View<'_, A>,
-    alloc: A,
+    alloc: &A,
     tid: Tid,
     call: &VmCall,
 ) -> Result<Answer, AllocError>
     requires { IsDue view.now.setup.now (rows_in view.now) tid.0 (Vm call.now) }
-    ensures { IfOk result (λ given. (p : Parts) → ViewStands view.now p
+    ensures given { IfOk result (λ given. (p : Parts) → ViewStands view.now p
         → given ≡ vm_answer view.now.setup.now p tid call.now) }
+    ensures wants { OnErr result (cleans_up (Vm call.now) ≡ false) }
 {
     match call {
         VmCall::AttachCurrentThread => Ok(plain(Value::Environment(
@@ -213,6 +215,7 @@ pub(crate) fn perform_vm<A: Allocator + Clone>(
         → TablesStand setup.now (rows_of tables.new) (done_by setup.now tid.0 (Vm call.now) p)) }
     ensures room { OnOk result (KeepsRoom tables.old tables.new tid.0 (Vm call.now)) }
     ensures err { OnErr result (rows_of tables.new ≡ rows_of tables.old) }
+    ensures wants { OnErr result (cleans_up (Vm call.now) ≡ false) }
 {
     match call {
         VmCall::AttachCurrentThread => {

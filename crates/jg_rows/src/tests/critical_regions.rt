@@ -4,7 +4,8 @@ use crate::critical_regions::{
     A_PIN_IS_ITS_MAKERS, CALLS_IN_A_REGION, HELD_BY_A_PIN, NESTED_CRITICAL, OTHER_THREADS_GO_ON,
     PIN_THROUGH_GLOBAL, PIN_THROUGH_WEAK, THE_PINNING_REFERENCE_STAYS,
 };
-use crate::tests::{CLOSED, altered, comes_out, is_found};
+use crate::setups::CLOSED;
+use crate::tests::{altered, comes_out, is_found};
 use jg_script::Verdict;
 use std::test::Fail;
 

@@ -3,8 +3,9 @@
 ghost use Rattle.std.specs.Prelude.{◌≡◌, ◌≤◌};
 
 use crate::object_fields::FIELDS;
+use crate::setups::CLOSED;
 use crate::strings::FIRST_PATH;
-use crate::tests::{CLOSED, script_of, two_modules};
+use crate::tests::{script_of, two_modules};
 use jg_guard::Guard;
 use jg_policy::Setup;
 use jg_script::{Scripts, Watched, read_scripts, write_journal};

@@ -1,6 +1,6 @@
 //! The growths of calls on buffers, refused in turn.
 
-use super::growths::{Growth, SETUP, opens, refusals_of, spelt};
+use super::growths::{Growth, OPENING, SETUP, opens, refusals_of, spelt};
 use super::{guarded, lend};
 use jg_guard::{Guard, Refusal};
 use jg_words::Outcome;
@@ -196,7 +196,7 @@ struct Change {
     after: Outcome,
 }
 
-fn changes(guard: &mut Guard, alloc: Global, growth: Growth) -> Result<Change, Fail> {
+fn changes(guard: &mut Guard, alloc: Global, growth: Growth<'_>) -> Result<Change, Fail> {
     if !opens(guard, alloc, growth)? {
         return Err(Fail::from("a large heap isn't enough"));
     }
@@ -210,7 +210,7 @@ fn changes(guard: &mut Guard, alloc: Global, growth: Growth) -> Result<Change, F
 fn finds<A: Allocator + Clone>(
     guard: &mut Guard<A>,
     alloc: Global,
-    growth: Growth,
+    growth: Growth<'_>,
     wanted: &Outcome,
 ) -> Result<(), Fail> {
     if answer_to(guard, alloc, growth.earlier)? == *wanted {
@@ -245,7 +245,7 @@ fn finds_its_block_full(
     guard: &mut Guard<&LocalHeap>,
     heap: &LocalHeap,
     alloc: Global,
-    growth: Growth,
+    growth: Growth<'_>,
     change: &Change,
 ) -> Result<(), Fail> {
     if !opens(guard, alloc, growth)? {
@@ -268,7 +268,7 @@ fn finds_its_block_full(
     finds(guard, alloc, growth, &change.after)
 }
 
-fn meets_a_full_block(alloc: Global, growth: Growth) -> Result<(), Fail> {
+fn meets_a_full_block(alloc: Global, growth: Growth<'_>) -> Result<(), Fail> {
     let change = lend(guarded(alloc, alloc, SETUP, 1000)?, |guard| {
         changes(guard, alloc, growth)
     })?;
@@ -286,7 +286,9 @@ fn a_full_block_refuses_each_call(rt: HostRuntime) -> Result<(), Fail> {
     for list in lists {
         for (opening, earlier, call) in list {
             let growth = Growth {
-                opening,
+                setup: SETUP,
+                opening: OPENING,
+                further: opening,
                 earlier,
                 times: 0,
                 call,

@@ -1,7 +1,7 @@
 use super::{guarded, lend, setup};
 use jg_guard::{Guard, Refusal};
 use jg_script::read_call;
-use jg_words::{Call, EnvId, Outcome, Tid};
+use jg_words::{Call, EnvId, Tid};
 use linked_list_allocator::LocalHeap;
 use std::alloc::{Allocator, Global};
 use std::test::Fail;
@@ -18,20 +18,21 @@ name = \"other/Tool\"
 module = \"other\"
 ";
 
-const OPENING: [&str; 3] = [
-    "T1 - AttachCurrentThread",
-    "T1 E1.1 FindClass lib/Tool",
-    "T1 E1.1 RegisterNatives L1.1 go ()V",
-];
+pub(super) const OPENING: &str = "T1 - AttachCurrentThread
+T1 E1.1 FindClass lib/Tool
+T1 E1.1 RegisterNatives L1.1 go ()V
+";
 
 /// A call that takes memory, after so many others, which take up what the tables have in reserve;
-/// `opening` is what comes before both, line by line.
+/// `opening` and `further` are what comes before both, line by line.
 #[derive(Clone, Copy)]
-pub(super) struct Growth {
-    pub(super) opening: &'static str,
-    pub(super) earlier: &'static str,
+pub(super) struct Growth<'a> {
+    pub(super) setup: &'a str,
+    pub(super) opening: &'a str,
+    pub(super) further: &'a str,
+    pub(super) earlier: &'a str,
     pub(super) times: u32,
-    pub(super) call: &'static str,
+    pub(super) call: &'a str,
 }
 
 /// Earlier calls, and then the one whose growths are refused in turn.
@@ -85,21 +86,34 @@ pub(super) fn goes_through<A: Allocator + Clone>(
     Ok(guard.call(tid, env, call).is_ok())
 }
 
-/// Makes the calls before the one that grows, and says whether memory was enough.
-pub(super) fn opens<A: Allocator + Clone>(
+/// Makes the calls of the lines, and says whether memory was enough.
+fn goes_through_all<A: Allocator + Clone>(
     guard: &mut Guard<A>,
     alloc: Global,
-    growth: Growth,
+    lines: &str,
 ) -> Result<bool, Fail> {
-    for line in OPENING {
+    for line in lines.lines() {
         if !goes_through(guard, alloc, line)? {
             return Ok(false);
         }
     }
-    for line in growth.opening.lines() {
-        if !goes_through(guard, alloc, line)? {
-            return Ok(false);
-        }
+    Ok(true)
+}
+
+/// Makes room for the entries and makes the calls before the one that grows, and says whether memory
+/// was enough.
+pub(super) fn opens<A: Allocator + Clone>(
+    guard: &mut Guard<A>,
+    alloc: Global,
+    growth: Growth<'_>,
+) -> Result<bool, Fail> {
+    if guard.reserve(100).is_err() {
+        return Ok(false);
+    }
+    if !goes_through_all(guard, alloc, growth.opening)?
+        || !goes_through_all(guard, alloc, growth.further)?
+    {
+        return Ok(false);
     }
     for _ in 0..growth.times {
         if !goes_through(guard, alloc, growth.earlier)? {
@@ -109,66 +123,122 @@ pub(super) fn opens<A: Allocator + Clone>(
     Ok(true)
 }
 
-/// What came of a call.
-#[derive(Debug, PartialEq, Eq, Drop)]
-enum Met {
-    /// Memory ran out before it.
-    Unopened,
-    /// It was refused, changed nothing, and was answered so once memory was given back.
-    Refused(Outcome),
-    /// It was answered at once.
-    Answered(Outcome),
+/// The guards have equal journals and leave equal things behind.
+fn are_equal<A: Allocator + Clone>(guard: &Guard<A>, twin: &Guard) -> Result<bool, Fail> {
+    for index in 0..guard.journal_len() {
+        if guard.journal_entry(index) != twin.journal_entry(index) {
+            return Ok(false);
+        }
+    }
+    let (left, same) = (guard.leaks()?, twin.leaks()?);
+    Ok(
+        guard.journal_len() == twin.journal_len()
+            && left.refs.as_slice() == same.refs.as_slice()
+            && left.buffers.as_slice() == same.buffers.as_slice()
+            && left.monitors.as_slice() == same.monitors.as_slice(),
+    )
 }
 
-/// Makes the calls before the one that grows, and then that one; `kept` is memory to give back.
+/// What came of a call.
+#[derive(Clone, Copy, Debug, PartialEq, Eq)]
+pub(super) enum Met {
+    /// Memory ran out before it.
+    Unopened,
+    /// It was refused, changed nothing, and was answered once memory was given back.
+    Refused,
+    /// It was answered at once.
+    Answered,
+}
+
+/// A refused call came back, and changed nothing. Once `kept` is given back it is answered.
+fn answers_later<A: Allocator + Clone>(
+    guard: &mut Guard<A>,
+    twin: &Guard,
+    kept: Vec<u8, A>,
+    back: Call,
+    (tid, env, call): (Tid, Option<EnvId>, Call),
+) -> Result<Met, Fail> {
+    drop(kept);
+    if back != call || !are_equal(guard, twin)? {
+        return Err(Fail::from("a refused call changed something"));
+    }
+    match guard.call(tid, env, call) {
+        Ok(_) => Ok(Met::Refused),
+        Err(_) => Err(Fail::from("refused again")),
+    }
+}
+
+/// Makes the calls before the one that grows, and then that one; `kept` is memory to give back. The
+/// twin has all memory and makes the same calls.
 fn meets<A: Allocator + Clone>(
     guard: &mut Guard<A>,
+    twin: &mut Guard,
     kept: Vec<u8, A>,
     alloc: Global,
-    growth: Growth,
+    growth: Growth<'_>,
 ) -> Result<Met, Fail> {
     if !opens(guard, alloc, growth)? {
         return Ok(Met::Unopened);
     }
+    if !opens(twin, alloc, growth)? {
+        return Err(Fail::from("memory ran out"));
+    }
     let (tid, env, call) = spelt(alloc, growth.call)?;
-    let before = guard.journal_len();
-    match guard.call(tid, env, call) {
-        Ok(outcome) => Ok(Met::Answered(outcome)),
-        Err(Refusal::Limit(_)) => Err(Fail::from("the limit is met")),
-        Err(Refusal::NoMemory(call)) => {
-            if guard.journal_len() != before || guard.judge(tid, env, &call).is_some() {
-                return Err(Fail::from("a refused call changed something"));
-            }
+    let met = match guard.call(tid, env, call) {
+        Ok(_outcome) => {
             drop(kept);
-            match guard.call(tid, env, call) {
-                Ok(outcome) => Ok(Met::Refused(outcome)),
-                Err(_) => Err(Fail::from("refused again")),
-            }
+            Met::Answered
         }
+        Err(Refusal::Limit(_call)) => return Err(Fail::from("the limit is met")),
+        Err(Refusal::NoMemory(back)) => {
+            answers_later(guard, twin, kept, back, spelt(alloc, growth.call)?)?
+        }
+    };
+    if goes_through(twin, alloc, growth.call)? && are_equal(guard, twin)? {
+        Ok(met)
+    } else {
+        Err(Fail::from("another outcome"))
     }
 }
 
+/// The same beside a new twin.
+fn meets_beside_a_twin<A: Allocator + Clone>(
+    guard: &mut Guard<A>,
+    kept: Vec<u8, A>,
+    alloc: Global,
+    growth: Growth<'_>,
+) -> Result<Met, Fail> {
+    let twin = guarded(alloc, alloc, growth.setup, 1000)?;
+    lend(twin, |twin| meets(guard, twin, kept, alloc, growth))
+}
+
 /// The same of a new guard with 9,000 bytes to give back.
-fn meets_anew<A: Allocator + Copy>(tables: A, alloc: Global, growth: Growth) -> Result<Met, Fail> {
-    let setup = setup(alloc, SETUP)?;
+fn meets_anew<A: Allocator + Copy>(
+    tables: A,
+    alloc: Global,
+    growth: Growth<'_>,
+) -> Result<Met, Fail> {
+    let setup = setup(alloc, growth.setup)?;
     let mut kept: Vec<u8, A> = Vec::new(tables);
     kept.try_reserve(9_000)?;
     match Guard::new(tables, alloc, setup, 1000) {
-        Ok(guard) => lend(guard, |guard| meets(guard, kept, alloc, growth)),
+        Ok(guard) => lend(guard, |guard| {
+            meets_beside_a_twin(guard, kept, alloc, growth)
+        }),
         Err(_) => Ok(Met::Unopened),
     }
 }
 
 /// The same over a heap with room for so many bytes beside those to give back.
-fn over_a_heap(alloc: Global, room: usize, growth: Growth) -> Result<Met, Fail> {
+fn over_a_heap(alloc: Global, room: usize, growth: Growth<'_>) -> Result<Met, Fail> {
     let heap = LocalHeap::new(alloc, room.saturating_add(9_000))?;
     meets_anew(&heap, alloc, growth)
 }
 
 /// How many bytes of a heap are in use before the call that grows.
-pub(super) fn used_before(alloc: Global, growth: Growth) -> Result<usize, Fail> {
+pub(super) fn used_before(alloc: Global, growth: Growth<'_>) -> Result<usize, Fail> {
     let heap = LocalHeap::new(alloc, 1_000_000)?;
-    lend(guarded(&heap, alloc, SETUP, 1000)?, |guard| {
+    lend(guarded(&heap, alloc, growth.setup, 1000)?, |guard| {
         if opens(guard, alloc, growth)? {
             Ok(heap.used())
         } else {
@@ -178,35 +248,33 @@ pub(super) fn used_before(alloc: Global, growth: Growth) -> Result<usize, Fail> 
 }
 
 /// How often the call is refused over heaps of growing sizes, from too small for the calls before it
-/// up to one over which it is answered. Each answer is to be the one that a large heap gives.
-fn refusals(alloc: Global, growth: Growth) -> Result<u32, Fail> {
-    let Met::Answered(wanted) = over_a_heap(alloc, 1_000_000, growth)? else {
-        return Err(Fail::from("a large heap isn't enough"));
-    };
+/// up to one over which it is answered.
+pub(super) fn refusals(alloc: Global, growth: Growth<'_>) -> Result<u32, Fail> {
     let used = used_before(alloc, growth)?;
     let mut count = 0u32;
     for more in 0..1000usize {
         match over_a_heap(alloc, used.saturating_add(more.saturating_mul(16)), growth)? {
             Met::Unopened => {}
-            Met::Refused(outcome) if outcome == wanted => count = count.saturating_add(1),
-            Met::Answered(outcome) if outcome == wanted => return Ok(count),
-            _ => return Err(Fail::from("another outcome")),
+            Met::Refused => count = count.saturating_add(1),
+            Met::Answered => return Ok(count),
         }
     }
     Err(Fail::from("never answered"))
 }
 
 /// The same after up to five of the earlier calls.
-pub(super) fn refusals_of(
+pub(super) fn refusals_of<'a>(
     alloc: Global,
-    opening: &'static str,
-    earlier: &'static str,
-    call: &'static str,
+    opening: &'a str,
+    earlier: &'a str,
+    call: &'a str,
 ) -> Result<u32, Fail> {
     let mut count = 0u32;
     for times in 0..6u32 {
         let growth = Growth {
-            opening,
+            setup: SETUP,
+            opening: OPENING,
+            further: opening,
             earlier,
             times,
             call,

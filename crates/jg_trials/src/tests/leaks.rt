@@ -1,4 +1,4 @@
-use super::growths::{Growth, SETUP, opens, used_before};
+use super::growths::{Growth, OPENING, SETUP, opens, used_before};
 use super::{lend, setup};
 use jg_guard::{Guard, Leaks};
 use jg_script::write_leaks;
@@ -30,8 +30,10 @@ leak M15 T1 1
 leak M17 T1 1
 ";
 
-const GROWTH: Growth = Growth {
-    opening: LEAVING,
+const GROWTH: Growth<'static> = Growth {
+    setup: SETUP,
+    opening: OPENING,
+    further: LEAVING,
     earlier: "T1 E1.1 NewLocalRef L1.1",
     times: 3,
     call: "",

@@ -1,5 +1,6 @@
-use Rattle.std.proofs.Common.{rules, ◌≡◌, ◌<◌, length, reverse, None, subst, sym, refl, ◌∷◌}
+use Rattle.std.proofs.Common.{ap, ◌∙◌, rules, ◌≡◌, ◌<◌, length, reverse, None, subst, sym, refl, ◌∷◌}
 use Rattle.jg_words.specs.declared.entry.Entry.{Entry}
+use Rattle.jg_words.specs.Value.{is_list}
 use Rattle.jg_rules.specs.declared.answer.Answer.{Answer}
 use Rattle.jg_rules.specs.Answers.{answer}
 use Rattle.jg_rules.specs.Effects.{parts}
@@ -7,12 +8,13 @@ use Rattle.jg_rules.specs.Rules.{verdict}
 use Rattle.jg_guard.specs.Guard.{State, Takes}
 use Rattle.jg_guard.specs.Tables.{rows_of}
 use Rattle.jg_guard.proofs.Passing.{due_of, passed_entry, entry_given, takes_entry, sound_after, answered_at, answered_due}
+use Rattle.jg_guard.proofs.Cleaning.{listed}
 use Rattle.jg_guard.proofs.Due.{stand_at, due_at}
 use Rattle.jg_guard.proofs.guard.Guard.pass.Goals as goal
 
 pub answer_to-requires : goal.answer_to-requires
 answer_to-requires g c =
-    let state : State = record { setup = c.self.inside.setup; limit = c.self.inside.limit; journal = reverse c.self.inside.journal.items } in
+    let state : State = record { setup = c.self.inside.setup; limit = c.self.inside.limit; journal = reverse c.self.inside.journal.items; spare = c.self.inside.journal.spare } in
     let none : verdict state.setup (parts state.setup state.journal) c.args.tid.0 c.args.env c.args.call ≡ None =
     subst (λ (s : State). verdict s.setup (parts s.setup s.journal) c.args.tid.0 c.args.env c.args.call ≡ None) (sym c.self.view_is) c.requires.passed in
     due_at state.setup _ (rows_of c.self.inside.tables) _ c.args.tid.0 c.args.call c.view-view.ensures.setup c.view-view.ensures.rows
@@ -20,15 +22,26 @@ answer_to-requires g c =
 
 pub perform-requires : goal.perform-requires
 perform-requires g c =
-    let state : State = record { setup = c.self.inside.setup; limit = c.self.inside.limit; journal = reverse c.self.inside.journal.items } in
+    let state : State = record { setup = c.self.inside.setup; limit = c.self.inside.limit; journal = reverse c.self.inside.journal.items; spare = c.self.inside.journal.spare } in
     let none : verdict state.setup (parts state.setup state.journal) c.args.tid.0 c.args.env c.args.call ≡ None =
     subst (λ (s : State). verdict s.setup (parts s.setup s.journal) c.args.tid.0 c.args.env c.args.call ≡ None) (sym c.self.view_is) c.requires.passed in
-    let told = c.in-Ok-answer_to.ensures (parts state.setup state.journal) (stand_at state.setup _ (rows_of c.self.inside.tables) _ _ c.view-view.ensures.setup c.view-view.ensures.rows c.self.invariant.tables)
+    let told = c.in-Ok.ensures.given (parts state.setup state.journal) (stand_at state.setup _ (rows_of c.self.inside.tables) _ _ c.view-view.ensures.setup c.view-view.ensures.rows c.self.invariant.tables)
     in
-    let given : Answer = c.in-Ok-answer_to.given in
+    let given : Answer = c.in-Ok.given in
     let is : given ≡ answer state.setup (parts state.setup state.journal) c.args.tid c.args.call =
     answered_at state.setup c.view-view.result.setup.now (parts state.setup state.journal) c.args.tid c.args.call given c.view-view.ensures.setup told in
     answered_due state (rows_of c.self.inside.tables) c.args.tid c.args.env c.args.call given _ c.self.invariant none is refl refl refl
+
+-- what gives something back answers no list, so its answer is copied without memory
+pub returns-in_default-try_copy-clause-wants : goal.returns-in_default-try_copy-clause-wants
+returns-in_default-try_copy-clause-wants g c = λ room.
+    let state : State = record { setup = c.self.inside.setup; limit = c.self.inside.limit; journal = reverse c.self.inside.journal.items; spare = c.self.inside.journal.spare } in
+    let told = c.in-Ok.ensures.given (parts state.setup state.journal) (stand_at state.setup _ (rows_of c.self.inside.tables) _ _ c.view-view.ensures.setup c.view-view.ensures.rows c.self.invariant.tables)
+    in
+    let given : Answer = c.in-Ok.given in
+    let is : given ≡ answer state.setup (parts state.setup state.journal) c.args.tid c.args.call =
+    answered_at state.setup c.view-view.result.setup.now (parts state.setup state.journal) c.args.tid c.args.call given c.view-view.ensures.setup told in
+    listed state.setup (parts state.setup state.journal) c.args.tid c.args.call (ap (λ (a : Answer). is_list a.reply.value) (sym is) ∙ c.in_default-try_copy.ensures.wants)
 
 pub invariant_of-self-in_default-perform : goal.invariant_of-self-in_default-perform
 invariant_of-self-in_default-perform g c =
@@ -41,35 +54,35 @@ invariant_of-self-in_default-perform g c =
 
 pub invariant_of-self-2 : goal.invariant_of-self-2
 invariant_of-self-2 g c =
-    let state : State = record { setup = c.self.inside.setup; limit = c.self.inside.limit; journal = reverse c.self.inside.journal.items } in
+    let state : State = record { setup = c.self.inside.setup; limit = c.self.inside.limit; journal = reverse c.self.inside.journal.items; spare = c.self.inside.journal.spare } in
     let room : length state.journal < state.limit = subst (λ (s : State). length s.journal < s.limit) (sym c.self.view_is) c.requires.room in
     let none : verdict state.setup (parts state.setup state.journal) c.args.tid.0 c.args.env c.args.call ≡ None =
     subst (λ (s : State). verdict s.setup (parts s.setup s.journal) c.args.tid.0 c.args.env c.args.call ≡ None) (sym c.self.view_is) c.requires.passed in
-    let told = c.in-Ok-answer_to.ensures (parts state.setup state.journal) (stand_at state.setup _ (rows_of c.self.inside.tables) _ _ c.view-view.ensures.setup c.view-view.ensures.rows c.self.invariant.tables)
+    let told = c.in-Ok.ensures.given (parts state.setup state.journal) (stand_at state.setup _ (rows_of c.self.inside.tables) _ _ c.view-view.ensures.setup c.view-view.ensures.rows c.self.invariant.tables)
     in
-    let given : Answer = c.in-Ok-answer_to.given in
+    let given : Answer = c.in-Ok.given in
     let is : given ≡ answer state.setup (parts state.setup state.journal) c.args.tid c.args.call =
     answered_at state.setup c.view-view.result.setup.now (parts state.setup state.journal) c.args.tid c.args.call given c.view-view.ensures.setup told in
     let x : Entry = passed_entry c.args.tid c.args.env c.args.call given in
     let journal : reverse c.push_reserved.new.journal.items ≡ x ∷ state.journal = search rules in
-    sound_after state _ x (rows_of c.self.inside.tables) (rows_of c.perform.new.tables) c.self.invariant room journal
+    sound_after state _ _ x (rows_of c.self.inside.tables) (rows_of c.perform.new.tables) c.self.invariant room journal
     (entry_given state.setup (parts state.setup state.journal) c.args.tid c.args.env c.args.call given none is)
     (c.in-Ok-perform.ensures.stands (parts state.setup state.journal) c.self.invariant.tables is)
 
 pub returns-clause-ok : goal.returns-clause-ok
 returns-clause-ok g c =
-    let state : State = record { setup = c.self.inside.setup; limit = c.self.inside.limit; journal = reverse c.self.inside.journal.items } in
+    let state : State = record { setup = c.self.inside.setup; limit = c.self.inside.limit; journal = reverse c.self.inside.journal.items; spare = c.self.inside.journal.spare } in
     let none : verdict state.setup (parts state.setup state.journal) c.args.tid.0 c.args.env c.args.call ≡ None =
     subst (λ (s : State). verdict s.setup (parts s.setup s.journal) c.args.tid.0 c.args.env c.args.call ≡ None) (sym c.self.view_is) c.requires.passed in
-    let told = c.in-Ok-answer_to.ensures (parts state.setup state.journal) (stand_at state.setup _ (rows_of c.self.inside.tables) _ _ c.view-view.ensures.setup c.view-view.ensures.rows c.self.invariant.tables)
+    let told = c.in-Ok.ensures.given (parts state.setup state.journal) (stand_at state.setup _ (rows_of c.self.inside.tables) _ _ c.view-view.ensures.setup c.view-view.ensures.rows c.self.invariant.tables)
     in
-    let given : Answer = c.in-Ok-answer_to.given in
+    let given : Answer = c.in-Ok.given in
     let is : given ≡ answer state.setup (parts state.setup state.journal) c.args.tid c.args.call =
     answered_at state.setup c.view-view.result.setup.now (parts state.setup state.journal) c.args.tid c.args.call given c.view-view.ensures.setup told in
     let x : Entry = passed_entry c.args.tid c.args.env c.args.call given in
     let journal : reverse c.push_reserved.new.journal.items ≡ x ∷ state.journal = search rules in
-    let copied : c.in-Ok-try_copy.value ≡ given.reply.value = c.in-Ok-try_copy.ensures in
-    rw copied (subst (λ (s : State). Takes s (record { setup = c.self.inside.setup; limit = c.self.inside.limit; journal = reverse c.push_reserved.new.journal.items }) x.tid x.env x.call x.outcome)
+    let copied : c.in-Ok-try_copy.value ≡ given.reply.value = c.in-Ok-try_copy.ensures.copy in
+    rw copied (subst (λ (s : State). Takes s (record { setup = c.self.inside.setup; limit = c.self.inside.limit; journal = reverse c.push_reserved.new.journal.items; spare = c.push_reserved.new.journal.spare }) x.tid x.env x.call x.outcome)
     c.self.view_is
-    (takes_entry state (rows_of c.self.inside.tables) x (reverse c.push_reserved.new.journal.items) c.self.invariant journal
+    (takes_entry state (rows_of c.self.inside.tables) x (reverse c.push_reserved.new.journal.items) c.push_reserved.new.journal.spare c.self.invariant journal
     (entry_given state.setup (parts state.setup state.journal) c.args.tid c.args.env c.args.call given none is)))

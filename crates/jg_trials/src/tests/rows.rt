@@ -1,0 +1,86 @@
+use super::growths::{Growth, refusals};
+use jg_rows::setups::{CLOSED, TWO_MODULES};
+use jg_rows::{
+    access, collections, critical_regions, exceptions, frames, globals, natives, object_fields,
+    owners, releases, sessions, strings,
+};
+use std::alloc::Global;
+use std::test::Fail;
+
+/// The rows whose history is under the setup that states no class.
+const UNDER_NO_SETUP: [(&str, &str); 13] = [
+    ("attach_no_ops", sessions::ATTACH_NO_OPS),
+    ("first_two_rules", sessions::FIRST_TWO_RULES),
+    ("local_against_global", globals::LOCAL_AGAINST_GLOBAL),
+    ("result_out_of_frame", frames::RESULT_OUT_OF_FRAME),
+    ("pending", exceptions::PENDING),
+    ("nested_critical", critical_regions::NESTED_CRITICAL),
+    ("release_modes", releases::RELEASE_MODES),
+    ("pin_through_global", critical_regions::PIN_THROUGH_GLOBAL),
+    ("weak_cleared", collections::WEAK_CLEARED),
+    ("monitors", owners::MONITORS),
+    ("modified_utf8", strings::MODIFIED_UTF8),
+    ("first_path", strings::FIRST_PATH),
+    ("pin_through_weak", critical_regions::PIN_THROUGH_WEAK),
+];
+
+/// The rows whose history is under the setup of two modules, with its mode.
+const UNDER_TWO_MODULES: [(&str, &str, &str); 7] = [
+    (
+        "frame_of_other_activation",
+        "deny",
+        natives::FRAME_OF_OTHER_ACTIVATION,
+    ),
+    ("leave_cuts_frames", "deny", natives::LEAVE_CUTS_FRAMES),
+    ("access", "deny", access::ACCESS_DENIED),
+    ("access", "warn", access::ACCESS_WARNED),
+    ("access", "allow", access::ACCESS_ALLOWED),
+    ("fields", "deny", object_fields::FIELDS),
+    ("chain_and_leaks", "deny", collections::CHAIN_AND_LEAKS),
+];
+
+/// How often the calls of the row's text are refused where the growths of each are refused in turn.
+/// Each is answered later as if it had never been refused.
+fn refusals_in<'a>(alloc: Global, setup: &'a str, text: &'a str) -> Result<u32, Fail> {
+    let mut opening = String::new(alloc);
+    let mut count = 0u32;
+    for line in text.lines() {
+        let Some((call, _)) = line.split_once(" = ") else {
+            return Err(Fail::from("a line has no outcome"));
+        };
+        let growth = Growth {
+            setup,
+            opening: opening.as_str(),
+            further: "",
+            earlier: "",
+            times: 0,
+            call,
+        };
+        count = count.saturating_add(refusals(alloc, growth)?);
+        opening.push_str(call)?;
+        opening.push_str("\n")?;
+    }
+    Ok(count)
+}
+
+#[test]
+fn every_growth_in_the_rows_is_refused_in_turn(rt: HostRuntime) -> Result<(), Fail> {
+    for (name, text) in UNDER_NO_SETUP {
+        assert!(rt; refusals_in(rt.alloc(), CLOSED, text)? > 0, "in {name}");
+    }
+    Ok(())
+}
+
+#[test]
+fn every_growth_in_the_rows_of_a_setup_is_refused_in_turn(rt: HostRuntime) -> Result<(), Fail> {
+    for (name, mode, text) in UNDER_TWO_MODULES {
+        let setup = format!(in rt.alloc();
+            "version = 1\nillegal_native_access = \"{mode}\"\n{TWO_MODULES}"
+        )?;
+        assert!(rt;
+            refusals_in(rt.alloc(), setup.as_str(), text)? > 0,
+            "in {name}"
+        );
+    }
+    Ok(())
+}
