@@ -49,10 +49,11 @@ def stuffed():
 
 
 @contextlib.contextmanager
-def silent():
-    """A pipe that doesn't wait, and that nobody writes."""
+def silent(given=b''):
+    """A pipe that doesn't wait, and that nobody writes after these bytes."""
     reader, writer = os.pipe()
     os.set_blocking(reader, False)
+    os.write(writer, given)
     yield reader
     os.close(reader)
     os.close(writer)
@@ -136,10 +137,11 @@ class Outputs(Cases):
         for how, device in {'full': full, 'gone': gone, 'stuffed': stuffed}.items():
             self.add_over('a fault, error ' + how, faulty, [], device, 'stderr', FAULTY)
             self.add_over('arguments, error ' + how, (2, rb'', rb''), ['--fly'], device, 'stderr')
-            self.add_over('leaks, error ' + how, (0, rb'.*', rb''), ['--leaks'], device, 'stderr', FAULTY[:12])
+            self.add_over('leaks, error ' + how, (0, rb'T1 - GetEnv = detached\n', rb''), ['--leaks'], device, 'stderr', FAULTY[:12])
         self.add('a fault, error closed', faulty, [], FAULTY, preexec_fn=closing(2))
         self.add('all closed', (4, rb'', rb''), [], preexec_fn=closing(0, 1, 2))
-        self.add('a setup, all closed', (4, rb'', rb''), ['--setup', self.setup], preexec_fn=closing(0, 1, 2))
+        # The setup's file gets the number of the closed input, which is then at its end.
+        self.add('a setup, all closed', (0, rb'', rb''), ['--setup', self.setup], preexec_fn=closing(0, 1, 2))
 
 
 class Inputs(Cases):
@@ -163,10 +165,16 @@ class Inputs(Cases):
         zeros = lambda: opened('/dev/zero', os.O_RDONLY)
         unreadable = lambda: opened('/dev/null', os.O_WRONLY)
         for what, words in {'a script': [], 'a script under a setup': ['--setup', self.setup], 'a journal': ['verify']}.items():
-            self.add(what + ', input closed', UNREAD, words, preexec_fn=closing(0))
+            # As above: a setup's file takes the place of the closed input.
+            want = (0, rb'', rb'') if '--setup' in words else UNREAD
+            self.add(what + ', input closed', want, words, preexec_fn=closing(0))
             self.add_over(what + ', input a folder', UNREAD, words, folder, 'stdin')
             self.add_over(what + ', input written only', UNREAD, words, unreadable, 'stdin')
             self.add_over(what + ', input silent', UNREAD, words, silent, 'stdin')
+        two = b''.join(self.script.splitlines(True)[:2])
+        told = re.escape(b''.join(self.journal.splitlines(True)[:2]))
+        self.add_over('a script, input silent after two lines', (4, told, rb'line 3: read failed\n'), [],
+                      lambda: silent(two), 'stdin')
         self.add('a play, input closed', (0, rb'(.* = .*\n){11,}', rb''), ['play', self.play], preexec_fn=closing(0))
         long, differs = (2, rb'', rb'line 1: LineTooLong\n'), (1, rb'differs at line 1\n', rb'')
         self.add_over('zeros as a script', long, [], zeros, 'stdin')

@@ -20,7 +20,7 @@ RULES = ('WrongThread Detached InCritical Pending ForeignLocal DeadReference Wro
          'BadField BadBuffer BadArgument Pinned NotOwner BadFrame NoNativeAccess NotLinked').split()
 DENIED = b'|'.join(f'{number} {name}'.encode() for number, name in enumerate(RULES, 1))
 OUTCOME = re.compile(rb'(ok|true|false|null|detached|busy|-?\d+|[LGWBEF]\d+\.\d+|deny (' + DENIED +
-                     rb')|\[(-?\d+(,-?\d+)*)?\]|throw [!-~]+)( warn)?')
+                     rb')|\[(-?\d+(,-?\d+)*)?\]|throw [!-~]+)( notice)?( warn)?')
 
 
 def run(words, given=b'', seconds=SECONDS, **options):

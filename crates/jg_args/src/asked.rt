@@ -26,13 +26,15 @@ pub enum Task<'a> {
     Verify,
     /// Plays the scripts of a file, the lines of each thread by a thread of its own.
     Play(&'a str),
+    /// Writes the setup of a file as a text of version 2.
+    Migrate(&'a str),
 }
 
 /// What the words ask for.
 #[derive(Clone, Copy, Debug, PartialEq, Eq)]
 pub struct Asked<'a> {
     pub task: Task<'a>,
-    /// The file of `--setup`.
+    /// The file of `--setup`, which is that of a migration too.
     pub setup: Option<&'a str>,
     /// The most calls that the guard journals: 0 to 1,000,000, and 1,000,000 where none is given.
     pub limit: u32,

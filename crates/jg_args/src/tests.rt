@@ -42,12 +42,21 @@ fn words_are_read(rt: HostRuntime) -> Result<(), Fail> {
         read_words(rt.alloc(), &["play", "--turns", "1", "two"]),
         Ok(asked)
     );
+    let asked = Asked {
+        task: Task::Migrate("app.toml"),
+        setup: Some("app.toml"),
+        ..DEFAULTS
+    };
+    assert_eq!(rt;
+        read_words(rt.alloc(), &["migrate", "--setup", "app.toml"]),
+        Ok(asked)
+    );
     Ok(())
 }
 
 #[test]
 fn words_are_refused(rt: HostRuntime) -> Result<(), Fail> {
-    let refused: [&[&str]; 19] = [
+    let refused: [&[&str]; 22] = [
         &["fly"],
         &["--fly"],
         &["--limit"],
@@ -67,6 +76,9 @@ fn words_are_refused(rt: HostRuntime) -> Result<(), Fail> {
         &["--turns", "5"],
         &["play", "two", "--leaks"],
         &["check", "--version"],
+        &["migrate"],
+        &["--setup", "app.toml", "migrate"],
+        &["migrate", "--setup", "app.toml", "--limit", "1"],
     ];
     for words in refused {
         assert_eq!(rt;
@@ -80,7 +92,7 @@ fn words_are_refused(rt: HostRuntime) -> Result<(), Fail> {
 
 #[test]
 fn texts_are_asked_for(rt: HostRuntime) -> Result<(), Fail> {
-    let texts: [(&[&str], &str); 11] = [
+    let texts: [(&[&str], &str); 12] = [
         (&["--help"], "Usage: jg [OPTIONS] [COMMAND]"),
         (&["check", "--help"], "Usage: jg check [OPTIONS]"),
         (&["--help"], "--setup <FILE>"),
@@ -91,6 +103,7 @@ fn texts_are_asked_for(rt: HostRuntime) -> Result<(), Fail> {
         (&["verify", "--help"], "Usage: jg verify [OPTIONS]"),
         (&["verify", "-h"], STATUSES),
         (&["play", "--help"], "Usage: jg play [OPTIONS] <FILE>"),
+        (&["migrate", "--help"], "Usage: jg migrate --setup <FILE>"),
         (&["--version"], "jg 0.1.0\n"),
     ];
     for (words, part) in texts {

@@ -64,6 +64,10 @@ fn command<'a>(alloc: Global) -> Result<Command<'a>, AllocError> {
         .arg(setup_arg(alloc))?
         .arg(limit_arg(alloc))?
         .arg(turns_arg(alloc))?;
+    let migrate = Command::new(alloc, "migrate")
+        .about("writes the setup of FILE as a setup text of version 2")
+        .after_help(STATUSES)
+        .arg(setup_arg(alloc).required(true))?;
     Command::new(alloc, "jg")
         .about("A guard for the Java Native Interface. Without a command it is `check`.")
         .after_help(STATUSES)
@@ -75,7 +79,8 @@ fn command<'a>(alloc: Global) -> Result<Command<'a>, AllocError> {
         .arg(leaks_arg(alloc))?
         .subcommand(check)?
         .subcommand(verify)?
-        .subcommand(play)
+        .subcommand(play)?
+        .subcommand(migrate)
 }
 
 /// The text that the words ask for by `--help` or `--version`: the help of the program or of the
@@ -152,6 +157,10 @@ pub fn read_words<'a>(alloc: Global, words: &'a [&'a str]) -> Result<Asked<'a>, 
                 "verify" => make_asked(Task::Verify, inner),
                 "play" => match inner.get_str("file") {
                     Some(file) => make_asked(Task::Play(file), inner),
+                    None => Err(ArgsFault::Refused),
+                },
+                "migrate" => match inner.get_str("setup") {
+                    Some(file) => make_asked(Task::Migrate(file), inner),
                     None => Err(ArgsFault::Refused),
                 },
                 _ => make_asked(Task::Check, inner),

@@ -1,4 +1,6 @@
+use crate::tests::{Broken, Unflushed};
 use jg_program::{Files, Status, run};
+use jg_script::HandsOn;
 use std::alloc::{AllocError, Global};
 use std::io;
 use std::io::{BufWriter, ErrorKind, Read};
@@ -128,7 +130,7 @@ fn each_faulty_setup_has_its_text(rt: HostRuntime) -> Result<(), Fail> {
         ("version", "NotToml"),
         ("", "Missing"),
         (
-            "version = 2\nillegal_native_access = \"deny\"\n",
+            "version = 3\nillegal_native_access = \"deny\"\n",
             "BadVersion",
         ),
         (
@@ -310,5 +312,77 @@ fn a_chain_leaves_its_class(rt: HostRuntime) -> Result<(), Fail> {
     );
     assert_eq!(rt; ended, Status::Done);
     assert!(rt; err.as_slice() == b"leak L1.1\nleak M15 T1 1\n".as_slice());
+    Ok(())
+}
+
+const GRANTED: &str = "version = 2
+illegal_native_access = \"deny\"
+[[grant]]
+module = \"app\"
+operations = [\"load\"]
+[[class]]
+name = \"app/Main\"
+module = \"app\"
+";
+
+#[test]
+fn a_migrated_setup_answers_alike(rt: HostRuntime) -> Result<(), Fail> {
+    let words: [&str; 3] = ["migrate", "--setup", "app.toml"];
+    let setups = [(CLOSED, NOT_FOUND), (WITH_MAIN, FOUND), (GRANTED, FOUND)];
+    for (setup, written) in setups {
+        let (status, out, err) = answer(&rt, rt.alloc(), &words, &Drawer::of(setup))?;
+        assert_eq!(rt; status, Status::Done, "at {setup}");
+        assert!(rt; err.is_empty(), "at {setup}");
+        let text = String::from_utf8(out)?;
+        assert!(rt; text.contains("version = 2\n"), "at {setup}");
+        let (status, out, _) = answer(
+            &rt,
+            rt.alloc(),
+            &["--setup", "app.toml"],
+            &Drawer::of(text.as_str()),
+        )?;
+        assert_eq!(rt; status, Status::Done, "at {setup}");
+        assert!(rt; out.as_slice() == written.as_bytes(), "at {setup}");
+    }
+    Ok(())
+}
+
+#[test]
+fn a_setup_that_is_refused_is_not_migrated(rt: HostRuntime) -> Result<(), Fail> {
+    let cases = [
+        ("version", "app.toml", Status::Faulty, "setup: NotToml\n"),
+        (CLOSED, "lib.toml", Status::Device, "setup: read failed\n"),
+    ];
+    for (setup, path, status, said) in cases {
+        let words = ["migrate", "--setup", path];
+        let (ended, out, err) = answer(&rt, rt.alloc(), &words, &Drawer::of(setup))?;
+        assert_eq!(rt; ended, status, "at {said}");
+        assert!(rt; out.is_empty(), "at {said}");
+        assert!(rt; err.as_slice() == said.as_bytes(), "at {said}");
+    }
+    Ok(())
+}
+
+/// How a migration to this writer ends, and whether it says that line 1 couldn't be written.
+fn migrates_to<T: Threads + Wait + Sync, W: HandsOn + Drop>(
+    rt: &T,
+    alloc: Global,
+    writer: W,
+) -> (Status, bool) {
+    let mut err = Vec::new(alloc);
+    let words = ["migrate", "--setup", "app.toml"];
+    let files = Drawer::of(CLOSED);
+    let ended = run(rt, alloc, &words, &files, b"".as_slice(), writer, &mut err);
+    (
+        ended,
+        err.as_slice() == b"line 1: write failed\n".as_slice(),
+    )
+}
+
+#[test]
+fn a_failing_writer_ends_a_migration(rt: HostRuntime) -> Result<(), Fail> {
+    let wanted = (Status::Device, true);
+    assert_eq!(rt; migrates_to(&rt, rt.alloc(), Broken), wanted);
+    assert_eq!(rt; migrates_to(&rt, rt.alloc(), Unflushed), wanted);
     Ok(())
 }

@@ -6,7 +6,7 @@ use std::test::Fail;
 
 /// A reader or a writer that fails at once.
 #[derive(Drop)]
-struct Broken;
+pub(crate) struct Broken;
 
 impl Read for Broken {
     fn read(&mut self, _buf: &mut [u8]) -> io::Result<usize> {
@@ -34,7 +34,7 @@ impl HandsOn for Broken {
 
 /// A writer that takes all, and fails when it is to hand it on.
 #[derive(Drop)]
-struct Unflushed;
+pub(crate) struct Unflushed;
 
 impl Write for Unflushed {
     fn write(&mut self, buf: &[u8]) -> io::Result<usize> {
@@ -357,13 +357,14 @@ fn leaks_change_no_status(rt: HostRuntime) -> Result<(), Fail> {
 
 #[test]
 fn what_the_program_cannot_do_is_refused(rt: HostRuntime) -> Result<(), Fail> {
-    let refused: [&[&str]; 6] = [
+    let refused: [&[&str]; 7] = [
         &["--fly"],
         &["fly"],
         &["--limit", "1000001"],
         &["play"],
         &["verify", "--leaks"],
         &["--turns", "3"],
+        &["migrate"],
     ];
     for words in refused {
         let mut out = Vec::new(rt.alloc());

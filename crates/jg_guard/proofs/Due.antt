@@ -40,7 +40,7 @@ use Rattle.jg_rules.specs.declared.named.Named.{Named}
 use Rattle.jg_rules.specs.declared.named.Named.TheVariants.{Nothing, Null as NamesNull, Object}
 use Rattle.jg_rules.specs.Rules.{detached, is_nothing, is_null, is_by, is_not_owned}
 use Rattle.jg_rules.specs.Unbroken.{Unbroken}
-use Rattle.jg_rules.specs.Answers.{answer}
+use Rattle.jg_rules.specs.Answers.{unnoticed}
 use Rattle.jg_rules.specs.declared.answer.Answer.{Answer}
 use Rattle.jg_laws.specs.Laws.{AgreeInNatives}
 use Rattle.jg_laws.specs.Proper.{IsProper, ProperAnswer, opens_one}
@@ -261,19 +261,19 @@ stand_at s s' rows rows' p same_setup same_rows stand = rw (same_setup, same_row
 pub due_at : (s s' : StatedSetup) (rows rows' : TableRows) (t : ℕ) (call : Call) → s' ≡ s → rows' ≡ rows → IsDue s rows t call → IsDue s' rows' t call
 due_at s s' rows rows' t call same_setup same_rows due = rw (same_setup, same_rows) due
 
-pub own_proper : (s : StatedSetup) (p : Parts) (t : Tid) (call : Call) (given : Answer) → given ≡ answer s p t call → ProperAnswer s p t call given
+pub own_proper : (s : StatedSetup) (p : Parts) (t : Tid) (call : Call) (given : Answer) → given ≡ unnoticed s p t call → ProperAnswer s p t call given
 own_proper s p t call given is = rw is (proper s p t call)
 
 -- nothing of its own
 settled_none : (s : StatedSetup) (home : Option ℕ) (p : Parts) (t : Tid) (call : Call) (value : Value) (warned : Bool) (o : Option ObjId) → IsProper s p t call value warned o
     → is_effective value ≡ false
-    → settled None t.0 (saying_of value) o p ≡ settled home t.0 (record { value = value; warned = warned }) o (done_if (is_effective value) s t.0 call p)
+    → settled None t.0 (saying_of value) o p ≡ settled home t.0 (record { value = value; warned = warned; noticed = false }) o (done_if (is_effective value) s t.0 call p)
 settled_none s home p t call (Threw kind) warned None own none = absurd own
 settled_none s home p t call (Threw kind) warned (Some o) own none = rw own.2 refl
 settled_none s home p t call Busy warned o own none = rw own.1 refl
 settled_none s home p t call value warned o own none = absurd cc
 
-pub stand_none : (s : StatedSetup) (rows : TableRows) (p : Parts) (t : Tid) (call : Call) (given : Answer) → given ≡ answer s p t call → is_effective given.reply.value ≡ false
+pub stand_none : (s : StatedSetup) (rows : TableRows) (p : Parts) (t : Tid) (call : Call) (given : Answer) → given ≡ unnoticed s p t call → is_effective given.reply.value ≡ false
     → TablesStand s rows (settled None t.0 (saying_of given.reply.value) given.object p) → TablesStand s rows (passed_on s t.0 call given.reply given.object p)
 stand_none s rows p t call given is none stand =
     let own : ProperAnswer s p t call given = rw is (proper s p t call) in
@@ -281,7 +281,7 @@ stand_none s rows p t call given is none stand =
 
 settled_globals : (s : StatedSetup) (home : Option ℕ) (p : Parts) (t : Tid) (call : Call) (value : Value) (warned : Bool) (o : Option ObjId) → IsProper s p t call value warned o
     → makes_global value ≡ true
-    → settled None t.0 (saying_of value) o p ≡ settled home t.0 (record { value = value; warned = warned }) o (done_if (is_effective value) s t.0 call p)
+    → settled None t.0 (saying_of value) o p ≡ settled home t.0 (record { value = value; warned = warned; noticed = false }) o (done_if (is_effective value) s t.0 call p)
 settled_globals s home p t call (Reference r) warned None own global = absurd own
 settled_globals s home p t call (Reference Null) warned (Some o) own global = absurd own
 settled_globals s home p t call (Reference (To Local maker n)) warned (Some o) own global = absurd cc
@@ -289,7 +289,7 @@ settled_globals s home p t call (Reference (To Global maker n)) warned (Some o) 
 settled_globals s home p t call (Reference (To Weak maker n)) warned (Some o) own global = rw own.4 (ap (settled None t.0 (saying_of (Reference (To Weak maker n))) (Some o)) (sym own.3))
 settled_globals s home p t call value warned o own global = absurd cc
 
-pub stand_global : (s : StatedSetup) (rows : TableRows) (p : Parts) (t : Tid) (call : Call) (given : Answer) → given ≡ answer s p t call → makes_global given.reply.value ≡ true
+pub stand_global : (s : StatedSetup) (rows : TableRows) (p : Parts) (t : Tid) (call : Call) (given : Answer) → given ≡ unnoticed s p t call → makes_global given.reply.value ≡ true
     → TablesStand s rows (settled None t.0 (saying_of given.reply.value) given.object p) → TablesStand s rows (passed_on s t.0 call given.reply given.object p)
 stand_global s rows p t call given is global stand =
     let own : ProperAnswer s p t call given = rw is (proper s p t call) in

@@ -6,9 +6,9 @@ use Rattle.jg_words.specs.declared.call.Call.{Call}
 use Rattle.jg_words.specs.declared.entry.Entry.{Entry}
 use Rattle.jg_policy.specs.Stated.{StatedSetup}
 use Rattle.jg_rules.specs.Parts.{Parts, TableRows, TablesStand}
-use Rattle.jg_rules.specs.Effects.{parts}
+use Rattle.jg_rules.specs.Effects.{parts, passed_on}
 use Rattle.jg_rules.specs.Rules.{verdict}
-use Rattle.jg_rules.specs.Answers.{answer}
+use Rattle.jg_rules.specs.Answers.{makes_local, with_notice, is_noticed, noticed, unnoticed, answer}
 use Rattle.jg_rules.specs.Legal.{entry_at, entry_by}
 use Rattle.jg_laws.proofs.Kept.{agreed, below, globals_below}
 use Rattle.jg_laws.proofs.Natives.{all_stated}
@@ -23,7 +23,9 @@ use Rattle.jg_guard.proofs.Due.{counts}
 use Rattle.jg_guard.specs.Tables.{IsOrdinary, IsDue, IsAnswered}
 use Rattle.jg_words.specs.declared.value.Value.{Value}
 use Rattle.jg_words.specs.declared.object.ObjId.{ObjId}
-use Rattle.std.specs.Prelude.{Bool}
+use Rattle.std.specs.Prelude.{Bool, ◌&&◌}
+use Rattle.jg_locals.specs.History.{acts_of}
+use Rattle.jg_locals.specs.Room.{crowded}
 
 -- the events of a sound guard's journal
 pub ordinary : (state : State) (rows : TableRows) → IsSound state rows → IsOrdinary (parts state.setup state.journal)
@@ -81,6 +83,11 @@ pub entry_given : (s : StatedSetup) (p : Parts) (t : Tid) (env : Option EnvId) (
     → passed_entry t env call given ≡ entry_at s p t env call
 entry_given s p t env call given none is = rw (none, is) refl
 
+-- with its notice, as it stands after the call, it is the whole answer
+pub noticed_given : (s : StatedSetup) (p : Parts) (t : Tid) (call : Call) (given : Answer) (b : Bool) → given ≡ unnoticed s p t call
+    → b ≡ (makes_local given.reply.value && crowded (acts_of t.0 (passed_on s t.0 call given.reply given.object p).locals)) → with_notice b given ≡ answer s p t call
+noticed_given s p t call given b is told = ap (λ (n : Bool). with_notice n given) told ∙ ap (noticed s p t call) is
+
 -- the guard took the entry
 pub takes_entry : (old : State) (rows : TableRows) (x : Entry) (journal : List Entry) (spare : ℕ) → IsSound old rows → journal ≡ x ∷ old.journal
     → x ≡ entry_at old.setup (parts old.setup old.journal) x.tid x.env x.call
@@ -98,17 +105,18 @@ pub denied_sound : (state : State) (journal : List Entry) (spare : ℕ) (rows : 
 denied_sound state journal spare rows t env call rule s room denied is =
     sound_after state journal spare (denied_entry t env call rule) rows rows s room is (entry_denied state.setup (parts state.setup state.journal) t env call rule denied) s.tables
 
-pub answered_at : (s s' : StatedSetup) (p : Parts) (t : Tid) (call : Call) (given : Answer) → s' ≡ s → given ≡ answer s' p t call → given ≡ answer s p t call
-answered_at s s' p t call given same is = is ∙ ap (λ (r : StatedSetup). answer r p t call) same
+pub answered_at : (s s' : StatedSetup) (p : Parts) (t : Tid) (call : Call) (given : Answer) → s' ≡ s → given ≡ unnoticed s' p t call → given ≡ unnoticed s p t call
+answered_at s s' p t call given same is = is ∙ ap (λ (r : StatedSetup). unnoticed r p t call) same
 
-same_answer : (a b : Answer) → a.reply.value ≡ b.reply.value → a.reply.warned ≡ b.reply.warned → a.object ≡ b.object → a ≡ b
-same_answer a b value warned object = ap (λ (v : Value). record { reply = record { value = v; warned = a.reply.warned }; object = a.object }) value
-    ∙ (ap (λ (w : Bool). record { reply = record { value = b.reply.value; warned = w }; object = a.object }) warned
-    ∙ ap (λ (o : Option ObjId). record { reply = record { value = b.reply.value; warned = b.reply.warned }; object = o }) object)
+same_answer : (a b : Answer) → a.reply.value ≡ b.reply.value → a.reply.warned ≡ b.reply.warned → a.reply.noticed ≡ b.reply.noticed → a.object ≡ b.object → a ≡ b
+same_answer a b value warned noticed object = ap (λ (v : Value). record { reply = record { value = v; warned = a.reply.warned; noticed = a.reply.noticed }; object = a.object }) value
+    ∙ (ap (λ (w : Bool). record { reply = record { value = b.reply.value; warned = w; noticed = a.reply.noticed }; object = a.object }) warned
+    ∙ (ap (λ (n : Bool). record { reply = record { value = b.reply.value; warned = b.reply.warned; noticed = n }; object = a.object }) noticed
+    ∙ ap (λ (o : Option ObjId). record { reply = record { value = b.reply.value; warned = b.reply.warned; noticed = b.reply.noticed }; object = o }) object))
 
 pub answered_due : (state : State) (rows : TableRows) (t : Tid) (env : Option EnvId) (call : Call) (given : Answer) (again : Answer) → IsSound state rows
     → verdict state.setup (parts state.setup state.journal) t.0 env call ≡ None
-    → given ≡ answer state.setup (parts state.setup state.journal) t call → again.reply.value ≡ given.reply.value → again.reply.warned ≡ given.reply.warned → again.object ≡ given.object
+    → given ≡ unnoticed state.setup (parts state.setup state.journal) t call → again.reply.value ≡ given.reply.value → again.reply.warned ≡ given.reply.warned → again.reply.noticed ≡ given.reply.noticed → again.object ≡ given.object
     → IsAnswered state.setup rows t call again
-answered_due state rows t env call given again s none is value warned object =
-    record { due = due_of state rows t env call s none; answered = same_answer again given value warned object ∙ is }
+answered_due state rows t env call given again s none is value warned noticed object =
+    record { due = due_of state rows t env call s none; answered = same_answer again given value warned noticed object ∙ is }

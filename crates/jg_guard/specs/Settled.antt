@@ -49,9 +49,9 @@ lent_on t p = record p { threads = threads.by t threads.CountBuffer ∷ p.thread
 abbrev pub warned_on : Bool → Option ℕ → Parts → Parts
 warned_on warned home p = record p { links = warning warned home ++ p.links }
 
--- the value, with no warning
+-- the value, with no warning and no notice
 abbrev pub saying_of : Value → Reply
-saying_of value = record { value = value; warned = false }
+saying_of value = record { value = value; warned = false; noticed = false }
 
 -- t's local was deleted, if it is one
 abbrev pub deleted_on : ℕ → Ref → Parts → Parts

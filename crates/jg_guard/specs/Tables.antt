@@ -25,7 +25,8 @@ use Rattle.jg_rules.specs.Parts.{Parts, TableRows, TablesStand}
 use Rattle.jg_rules.specs.Names.{next_ref, next_buffer}
 use Rattle.jg_rules.specs.Effects.{is_effective}
 use Rattle.jg_rules.specs.Unbroken.{Unbroken}
-use Rattle.jg_rules.specs.Answers.{answer}
+use Rattle.jg_rules.specs.Answers.{unnoticed}
+pub use Rattle.jg_rules.specs.Answers.{makes_local}
 use Rattle.jg_rules.specs.declared.answer.Answer.{Answer}
 use Rattle.jg_laws.specs.Laws.{AgreeInNatives, MakesStated, FitsObject}
 use Rattle.jg_guard.specs.declared.tables.Tables.{Tables}
@@ -73,15 +74,15 @@ pub record IsDue (setup : StatedSetup) (rows : TableRows) (t : ℕ) (call : Call
   pub unbroken : Unbroken setup events t env call
   pub counts : CanCount rows.threads t
 
--- such a call, with its answer
+-- such a call, with its answer but for a notice
 pub record IsAnswered (setup : StatedSetup) (rows : TableRows) (t : Tid) (call : Call) (given : Answer) : Type 0 where
   pub due : IsDue setup rows t.0 call
-  pub answered : given ≡ answer setup due.events t call
+  pub answered : given ≡ unnoticed setup due.events t call
 
 -- such a call that does something of its own
 pub record IsEffective (setup : StatedSetup) (rows : TableRows) (t : Tid) (call : Call) : Type 0 where
   pub due : IsDue setup rows t.0 call
-  pub effective : is_effective (answer setup due.events t call).reply.value ≡ true
+  pub effective : is_effective (unnoticed setup due.events t call).reply.value ≡ true
 
 -- n fits as t's next number, is above those of its locals, and there is a frame and room for it
 pub record CanHandOut {A : Type 0} (tables : Tables A) (t n : ℕ) : Type 0 where
@@ -125,11 +126,7 @@ CanThrow (Threw kind) (Some o) = Unit {0}
 CanThrow Busy o = Unit {0}
 CanThrow value o = ⊥
 
--- a local is handed out; a global or weak reference is
-abbrev pub makes_local : Value → Bool
-makes_local (Reference (To Local maker n)) = true
-makes_local value = false
-
+-- a global or weak reference is handed out
 abbrev pub makes_global : Value → Bool
 makes_global (Reference (To Global maker n)) = true
 makes_global (Reference (To Weak maker n)) = true

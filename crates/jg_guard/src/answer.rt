@@ -3,7 +3,7 @@
 ghost use Rattle.std.specs.Prelude.{◌≡◌, false, IfOk, OnErr};
 ghost use Rattle.jg_rules.specs.Parts.{Parts};
 ghost use Rattle.jg_rules.specs.View.{ViewStands, rows_in};
-ghost use Rattle.jg_rules.specs.Answers.{answer};
+ghost use Rattle.jg_rules.specs.Answers.{unnoticed};
 ghost use Rattle.jg_guard.specs.Cleaning.{cleans_up};
 ghost use Rattle.jg_guard.specs.Tables.{IsDue};
 
@@ -20,8 +20,8 @@ use jg_rules::{Answer, View};
 use jg_words::{Call, Tid};
 use std::alloc::{AllocError, Allocator, Global};
 
-/// What the call answers, where it breaks no rule. `alloc` is for the collector's marks, `lists` for
-/// the items of a list answer.
+/// What the call answers, where it breaks no rule, but for a notice. `alloc` is for the collector's
+/// marks, `lists` for the items of a list answer.
 pub(crate) fn answer_to<A: Allocator + Clone>(
     view: &View<'_, A>,
     alloc: &A,
@@ -31,7 +31,7 @@ pub(crate) fn answer_to<A: Allocator + Clone>(
 ) -> Result<Answer, AllocError>
     requires { IsDue view.now.setup.now (rows_in view.now) tid.0 call.now }
     ensures given { IfOk result (λ given. (p : Parts) → ViewStands view.now p
-        → given ≡ answer view.now.setup.now p tid call.now) }
+        → given ≡ unnoticed view.now.setup.now p tid call.now) }
     ensures wants { OnErr result (cleans_up call.now ≡ false) }
 {
     match call {

@@ -12,6 +12,7 @@ ghost use Rattle.jg_monitors.specs.Rows.{Ascends};
 use crate::answer::answer_to;
 use crate::leaks::{Leaks, list_buffers, list_refs};
 use crate::perform::perform;
+use crate::settle::is_noticed;
 use crate::tables::Tables;
 use jg_blocks::Blocks;
 use jg_buffers::Buffers;
@@ -162,7 +163,8 @@ impl<A: Allocator + Clone> Guard<A> {
         Ok(Outcome::Denied(rule))
     }
 
-    // All that can fail comes before the first change.
+    // All that can fail comes before the first change. Whether the answer comes with a notice is
+    // known after it.
     fn pass(&mut self, tid: Tid, env: Option<EnvId>, call: Call) -> Result<Outcome, Refusal>
         requires room { length self.old.journal < self.old.limit }
         requires passed { verdict self.old.setup (parts self.old.setup self.old.journal) tid.0 env call ≡ None }
@@ -186,16 +188,25 @@ impl<A: Allocator + Clone> Guard<A> {
         let Ok(()) = perform(&mut self.tables, &self.setup, tid, &call, &given) else {
             return Err(Refusal::NoMemory(call));
         };
+        let noticed = is_noticed(&self.tables, tid, &given.reply.value);
         let warned = given.reply.warned;
         let entry = Entry {
             tid,
             env,
             call,
-            outcome: Outcome::Passed(given.reply),
+            outcome: Outcome::Passed(Reply {
+                value: given.reply.value,
+                warned,
+                noticed,
+            }),
             object: given.object,
         };
         push_reserved(&mut self.journal, entry);
-        Ok(Outcome::Passed(Reply { value, warned }))
+        Ok(Outcome::Passed(Reply {
+            value,
+            warned,
+            noticed,
+        }))
     }
 
     /// Makes room for `n` entries more, so that as many calls can be taken that are denied or give

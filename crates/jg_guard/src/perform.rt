@@ -5,7 +5,7 @@ ghost use Rattle.jg_policy.specs.Stated.{StatedSetup};
 ghost use Rattle.jg_rules.specs.Parts.{Parts, TablesStand};
 ghost use Rattle.jg_rules.specs.Names.{session};
 ghost use Rattle.jg_rules.specs.Access.{native_class, home_of};
-ghost use Rattle.jg_rules.specs.Answers.{answer};
+ghost use Rattle.jg_rules.specs.Answers.{unnoticed};
 ghost use Rattle.jg_rules.specs.Effects as effects;
 ghost use Rattle.jg_rules.specs.Effects.{passed_on, done_by};
 ghost use Rattle.jg_rules.specs.View.{ViewStands};
@@ -42,7 +42,7 @@ pub(crate) fn perform<A: Allocator + Clone>(
 ) -> Result<(), AllocError>
     requires { IsAnswered setup.now (rows_of tables.old) tid call.now given.now }
     ensures stands { OnOk result ((p : Parts) → TablesStand setup.now (rows_of tables.old) p
-        → given.now ≡ answer setup.now p tid call.now
+        → given.now ≡ unnoticed setup.now p tid call.now
         → TablesStand setup.now (rows_of tables.new)
         (passed_on setup.now tid.0 call.now given.now.reply given.now.object p)) }
     ensures err { OnErr result (StillStand setup.now (rows_of tables.old) (rows_of tables.new)) }
@@ -70,7 +70,7 @@ fn do_and_settle<A: Allocator + Clone>(
     requires effective { effects.is_effective given.now.reply.value ≡ true }
     requires not_global { tables_of.makes_global given.now.reply.value ≡ false }
     ensures stands { OnOk result ((p : Parts) → TablesStand setup.now (rows_of tables.old) p
-        → given.now ≡ answer setup.now p tid call.now
+        → given.now ≡ unnoticed setup.now p tid call.now
         → TablesStand setup.now (rows_of tables.new)
         (passed_on setup.now tid.0 call.now given.now.reply given.now.object p)) }
     ensures err { OnErr result (StillStand setup.now (rows_of tables.old) (rows_of tables.new)) }

@@ -1,10 +1,12 @@
 //! What an answer makes, whichever call it was: a reference, a buffer's number, an exception, a
 //! warning.
 
-ghost use Rattle.std.specs.Prelude.{◌≡◌, ◌<◌, ◌∷◌, ◌⊎◌, true, false, None, OnOk, OnErr, IsTrue};
+ghost use Rattle.std.specs.Prelude.{◌≡◌, ◌<◌, ◌&&◌, ◌∷◌, ◌⊎◌, true, false, None, OnOk, OnErr, IsTrue};
 ghost use Rattle.std.specs.Option.{option_map};
 ghost use Rattle.jg_words.specs.declared.call.Call.{Call};
 ghost use Rattle.jg_policy.specs.Stated.{StatedSetup};
+ghost use Rattle.jg_locals.specs.History.{acts_of};
+ghost use Rattle.jg_locals.specs.Room.{crowded};
 ghost use Rattle.jg_threads.specs.Rows.{row_of, CanCount};
 ghost use Rattle.jg_rules.specs.Parts.{Parts, TablesStand};
 ghost use Rattle.jg_rules.specs.Names.{object_count};
@@ -23,12 +25,13 @@ use std::alloc::{AllocError, Allocator};
 
 /// An answer that makes nothing.
 pub(crate) fn plain(value: Value) -> Answer
-    ensures { result ≡ record { reply = record { value = value; warned = false }; object = None } }
+    ensures { result ≡ record { reply = record { value = value; warned = false; noticed = false }; object = None } }
 {
     Answer {
         reply: Reply {
             value,
             warned: false,
+            noticed: false,
         },
         object: None,
     }
@@ -36,12 +39,13 @@ pub(crate) fn plain(value: Value) -> Answer
 
 /// An answer with an object, which no reference is handed out for.
 pub(crate) fn saying(value: Value, object: Option<ObjId>) -> Answer
-    ensures { result ≡ record { reply = record { value = value; warned = false }; object = object } }
+    ensures { result ≡ record { reply = record { value = value; warned = false; noticed = false }; object = object } }
 {
     Answer {
         reply: Reply {
             value,
             warned: false,
+            noticed: false,
         },
         object,
     }
@@ -49,12 +53,14 @@ pub(crate) fn saying(value: Value, object: Option<ObjId>) -> Answer
 
 /// The same answer, with a warning or without.
 pub(crate) fn admitted(given: Answer, warned: bool) -> Answer
-    ensures { result ≡ record { reply = record { value = given.reply.value; warned = warned }; object = given.object } }
+    ensures { result
+        ≡ record { reply = record { value = given.reply.value; warned = warned; noticed = false }; object = given.object } }
 {
     Answer {
         reply: Reply {
             value: given.reply.value,
             warned,
+            noticed: false,
         },
         object: given.object,
     }
@@ -89,6 +95,7 @@ pub(crate) fn handing_out<A: Allocator + Clone>(
                         n,
                     }),
                     warned: false,
+                    noticed: false,
                 },
                 object: Some(object),
             }
@@ -126,6 +133,15 @@ fn makes_local(value: &Value) -> bool
             ..
         })
     )
+}
+
+/// Whether a local reference was handed out, and the thread's newest frame now holds more of them
+/// than it has room for.
+pub(crate) fn is_noticed<A: Allocator + Clone>(tables: &Tables<A>, tid: Tid, value: &Value) -> bool
+    ensures { (setup : StatedSetup) (p : Parts) → TablesStand setup (rows_of tables.now) p
+        → result ≡ (tables_of.makes_local value.now && crowded (acts_of tid.0 p.locals)) }
+{
+    makes_local(value) && tables.locals.crowded(tid)
 }
 
 /// Whether a global or weak reference is handed out.

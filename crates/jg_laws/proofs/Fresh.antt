@@ -17,7 +17,7 @@ use Rattle.jg_words.specs.declared.entry.Entry.{Entry}
 use Rattle.jg_words.specs.declared.call.Call.{Call}
 use Rattle.jg_policy.specs.Stated.{StatedSetup}
 use Rattle.jg_threads.specs.History as threads
-use Rattle.jg_locals.specs.History.{Act, Start, Make, Push, Delete, Pop, End, Event, by, acts_of, Making, making, seen_after, live, local_if_live, object_of, survives, Enter, Leave}
+use Rattle.jg_locals.specs.History.{Act, Start, Make, Push, Ensure, Delete, Pop, End, Event, by, acts_of, Making, making, seen_after, live, local_if_live, object_of, survives, Enter, Leave}
 use Rattle.jg_locals.proofs.Callers.{acts_more, acts_same, each_thread, live_below}
 use Rattle.jg_globals.specs.declared.target.Target.{Target}
 use Rattle.jg_globals.specs.declared.target.Target.TheVariants.{Object as ToObject, Cleared}
@@ -63,7 +63,7 @@ is_next p q t maker kind n r same own next is =
 
 settled_next : (s : StatedSetup) (home : Option ℕ) (p q : Parts) (t : Tid) (call : Call) (value : Value) (warned : Bool) (o : Option ObjId) (r : Ref) → IsProper s p t call value warned o
     → next_ref q t.0 ≡ next_ref p t.0
-    → reference_in value ≡ Some r → Raises p t (settled home t.0 (record { value = value; warned = warned }) o q) r
+    → reference_in value ≡ Some r → Raises p t (settled home t.0 (record { value = value; warned = warned; noticed = false }) o q) r
 settled_next s home p q t call (Reference v) warned None r own same is = absurd own
 settled_next s home p q t call (Reference Null) warned (Some o) r own same is = absurd own
 settled_next s home p q t call (Reference (To Local maker n)) warned (Some o) r own same is = is_next p q t maker Local n r same own.1 own.2 is
@@ -187,7 +187,8 @@ gone_steps s t n =
       raises = λ p u o old. (counts.raises p u o old.0, old.1);
       calms = λ p u old. (counts.calms p u old.0, old.1);
       deletes = λ p u k old. (old.0, gone_same p.locals u (Delete k) t n (λ acts. gone_after (Delete k) n (making n acts)) old.1);
-      pushes = λ p u old. (old.0, gone_same p.locals u Push t n (λ acts. gone_after Push n (making n acts)) old.1);
+      pushes = λ p u room old. (old.0, gone_same p.locals u (Push room) t n (λ acts. gone_after (Push room) n (making n acts)) old.1);
+      widens = λ p u c old. (old.0, gone_same p.locals u (Ensure c) t n (λ acts. gone_after (Ensure c) n (making n acts)) old.1);
       pops = λ p u some old. (old.0, gone_same p.locals u Pop t n (λ acts. gone_after Pop n (making n acts)) old.1);
     }
 
@@ -302,7 +303,8 @@ ended_steps s kind t n =
       enters = λ p u on old. (counts.enters p u on old.0, old.1);
       leaves = λ p u on deep old. (counts.leaves p u on deep old.0, old.1);
       deletes = λ p u k old. old;
-      pushes = λ p u old. old;
+      pushes = λ p u room old. old;
+      widens = λ p u c old. old;
       pops = λ p u some old. old;
       to_globals = λ p e none old. (old.0, kind_none kind e p.globals t n none old.1);
       to_buffers = λ p e none old. old;

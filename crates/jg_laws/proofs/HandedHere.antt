@@ -24,7 +24,7 @@ use Rattle.jg_words.specs.declared.call.Call.{Call}
 use Rattle.jg_words.specs.declared.call.Call.TheVariants.{Vm, Refs, Frames, Exceptions, Objects, Strings, Arrays, Monitors, Buffers}
 use Rattle.jg_words.specs.declared.call.vm.VmCall.TheVariants.{AttachCurrentThread, DetachCurrentThread, GetEnv, NativeEnter, NativeLeave, LoadLibrary, RegisterNatives, UnregisterNatives, Collect}
 use Rattle.jg_words.specs.declared.call.refs.RefsCall.TheVariants.{NewLocalRef, NewGlobalRef, NewWeakGlobalRef, DeleteLocalRef, DeleteGlobalRef, DeleteWeakGlobalRef, IsSameObject, GetObjectRefType}
-use Rattle.jg_words.specs.declared.call.frames.FramesCall.TheVariants.{PushLocalFrame, PopLocalFrame}
+use Rattle.jg_words.specs.declared.call.frames.FramesCall.TheVariants.{PushLocalFrame, PopLocalFrame, EnsureLocalCapacity}
 use Rattle.jg_words.specs.declared.call.exceptions.ExceptionsCall.TheVariants.{Throw, ExceptionOccurred, ExceptionDescribe, ExceptionClear, ExceptionCheck}
 use Rattle.jg_words.specs.declared.call.objects.ObjectsCall.TheVariants.{FindClass, GetObjectClass, IsInstanceOf, AllocObject, GetFieldID, GetField, GetObjectField, SetField, SetObjectField}
 use Rattle.jg_words.specs.declared.call.strings.StringsCall.TheVariants.{NewString, NewStringUTF, GetStringLength, GetStringUTFLength, GetStringRegion}
@@ -55,6 +55,8 @@ use Rattle.jg_rules.specs.Names.{names, object_in, object_named, the_object, cla
 use Rattle.jg_rules.specs.Access.{native_class, home_of}
 use Rattle.jg_rules.specs.Effects.{parts, after, call_heap, done_if, if_effective, is_effective, class_thrown, settled, first_value, pointer}
 use Rattle.jg_rules.specs.Rules.{verdict, is_stated_as, is_of_class}
+use Rattle.jg_policy.specs.declared.access.Operation.{Operation}
+use Rattle.jg_policy.specs.declared.access.Operation.TheVariants.{Link}
 use Rattle.jg_rules.specs.Answers.{answer, handed, plain, entered, present_env, class_found, field_found, registered, admitted, unless_pending, or_outside, is_outside, field_value, region}
 use Rattle.jg_rules.specs.Legal.{Legal, entry_by}
 use Rattle.jg_rules.specs.Unbroken.{Unbroken}
@@ -181,8 +183,8 @@ registered_here : (s : StatedSetup) (p : Parts) (class native : Option ℕ) → 
 registered_here s p class None = refl
 registered_here s p class (Some native) = tt
 
-admitted_here : (k : ℕ) (e : List heap.Event) (s : StatedSetup) (p : Parts) (class : Option ℕ) (a : Answer) → AnswersHere k e a → AnswersHere k e (admitted s p class a)
-admitted_here k e s p class a here = here
+admitted_here : (k : ℕ) (e : List heap.Event) (s : StatedSetup) (p : Parts) (operation : Operation) (class : Option ℕ) (a : Answer) → AnswersHere k e a → AnswersHere k e (admitted s p operation class a)
+admitted_here k e s p operation class a here = here
 
 left_here : (k : ℕ) (e : List heap.Event) (exception : Option ℕ) (a : Answer) → AnswersHere k e a → AnswersHere k e (unless_pending exception a)
 left_here k e None a here = here
@@ -212,7 +214,7 @@ answer_here s p t env (Vm AttachCurrentThread) kept stated all = tt
 answer_here s p t env (Vm DetachCurrentThread) kept stated all = tt
 answer_here s p t env (Vm GetEnv) kept stated all = reads (class_count s) p.heap (answer s p t (Vm GetEnv)) (env_here (class_count s) p.heap t (session p t.0))
 answer_here s p t env (Vm (NativeEnter class method signature)) kept stated all =
-    reads (class_count s) p.heap (answer s p t (Vm (NativeEnter class method signature))) (admitted_here (class_count s) p.heap s p (class_named s class) (handed p t Local (class_named s class))
+    reads (class_count s) p.heap (answer s p t (Vm (NativeEnter class method signature))) (admitted_here (class_count s) p.heap s p Link (class_named s class) (handed p t Local (class_named s class))
     (handed_here (class_count s) p.heap p t Local (class_named s class) (λ o is. class_here (class_count s) p.heap o (class_below s class o is))))
 answer_here s p t env (Vm (NativeLeave r)) kept stated all =
     reads (class_count s) p.heap (answer s p t (Vm (NativeLeave r))) (left_here (class_count s) p.heap (pending p t.0) (handed p t Local (object_named p t.0 r)) (handed_here (class_count s) p.heap p t Local (object_named p t.0 r) (λ o is. named_here s p t.0 o r all is)))
@@ -235,6 +237,7 @@ answer_here s p t env (Refs (GetObjectRefType r)) kept stated all = tt
 answer_here s p t env (Frames (PushLocalFrame capacity)) kept stated all = tt
 answer_here s p t env (Frames (PopLocalFrame r)) kept stated all =
     reads (class_count s) p.heap (answer s p t (Frames (PopLocalFrame r))) (handed_here (class_count s) p.heap p t Local (object_named p t.0 r) (λ o is. named_here s p t.0 o r all is))
+answer_here s p t env (Frames (EnsureLocalCapacity capacity)) kept stated all = tt
 answer_here s p t env (Exceptions (Throw r)) kept stated all = tt
 answer_here s p t env (Exceptions ExceptionOccurred) kept stated all =
     reads (class_count s) p.heap (answer s p t (Exceptions ExceptionOccurred)) (handed_here (class_count s) p.heap p t Local (pending p t.0) (λ o is. all.pending t.0 o is))
@@ -334,7 +337,7 @@ made_here s q t kind acts raises all =
     }
 
 settle_here : (s : StatedSetup) (home : Option ℕ) (q : Parts) (t : ℕ) (value : Value) (warned : Bool) (o : Option ObjId) → HandsHere (class_count s) q.heap value o → AllHere s q
-    → AllHere s (settled home t (record { value = value; warned = warned }) o q)
+    → AllHere s (settled home t (record { value = value; warned = warned; noticed = false }) o q)
 settle_here s home q t (Reference Null) warned o here all = unlinked s _ _ refl (counted_here s q t threads.CountRef (λ H. tt) all)
 settle_here s home q t (Reference (To Local maker n)) warned None here all = unlinked s _ _ refl (counted_here s q t threads.CountRef (λ H. tt) all)
 settle_here s home q t (Reference (To Local maker n)) warned (Some o) here all =
@@ -418,7 +421,8 @@ gone_steps s o = record {
   enters = λ p u on old. old;
   leaves = λ p u on deep old. old;
   deletes = λ p u k old. old;
-  pushes = λ p u old. old;
+  pushes = λ p u room old. old;
+  widens = λ p u c old. old;
   pops = λ p u some old. old;
   to_globals = λ p e none old. old;
   to_buffers = λ p e none old. old;

@@ -3,7 +3,7 @@ use Rattle.std.proofs.Common.{ℕ, ◌≡◌, ◌+◌, ◌<◌, ◌≤◌, Bool,
 use Rattle.jg_words.specs.declared.entry.Entry.{Entry}
 use Rattle.jg_policy.specs.Stated.{StatedSetup}
 use Rattle.jg_threads.specs.History as threads
-use Rattle.jg_locals.specs.History.{Act, Start, Make, Push, Enter, Delete, Pop, Leave, End, Event, by, acts_of, session, has_session, is_enter, is_leave, IsMadeBelow}
+use Rattle.jg_locals.specs.History.{Act, Start, Make, Push, Ensure, Enter, Delete, Pop, Leave, End, Event, by, acts_of, session, has_session, is_enter, is_leave, IsMadeBelow}
 use Rattle.jg_locals.proofs.Callers.{acts_more, acts_same, each_thread}
 use Rattle.jg_rules.specs.Parts.{Parts}
 use Rattle.jg_rules.specs.Names.{next_ref}
@@ -119,7 +119,8 @@ agree_steps s = record {
   raises = λ p u o old. agreed_threads p.threads p.locals u (threads.Raise o) old (agreed_still _ _ _ _ refl refl (old u));
   calms = λ p u old. agreed_threads p.threads p.locals u threads.Calm old (agreed_still _ _ _ _ refl refl (old u));
   deletes = λ p u n old. agreed_locals p.threads p.locals u (Delete n) old (agreed_still _ _ _ _ refl refl (old u));
-  pushes = λ p u old. agreed_locals p.threads p.locals u Push old (agreed_still _ _ _ _ refl refl (old u));
+  pushes = λ p u room old. agreed_locals p.threads p.locals u (Push room) old (agreed_still _ _ _ _ refl refl (old u));
+  widens = λ p u c old. agreed_locals p.threads p.locals u (Ensure c) old (agreed_still _ _ _ _ refl refl (old u));
   pops = λ p u some old. agreed_locals p.threads p.locals u Pop old (agreed_still _ _ _ _ refl refl (old u));
 }
 
@@ -143,7 +144,8 @@ pub below_more : (n m : ℕ) (acts : List Act) → n ≤ m → IsMadeBelow n act
 below_more n m [] le below = below
 below_more n m (Make k o ∷ acts) le below = (omega (arith, below.0, le), below_more n m acts le below.1)
 below_more n m (Start ∷ acts) le below = below_more n m acts le below
-below_more n m (Push ∷ acts) le below = below_more n m acts le below
+below_more n m (Push room ∷ acts) le below = below_more n m acts le below
+below_more n m (Ensure c ∷ acts) le below = below_more n m acts le below
 below_more n m (Enter ∷ acts) le below = below_more n m acts le below
 below_more n m (Delete k ∷ acts) le below = below_more n m acts le below
 below_more n m (Pop ∷ acts) le below = below_more n m acts le below
@@ -205,7 +207,8 @@ below_steps s = record {
   raises = λ p u o old. below_quiet p u (threads.Raise o) p.locals refl old;
   calms = λ p u old. below_quiet p u threads.Calm p.locals refl old;
   deletes = λ p u n old. below_same p u (Delete n) (λ k acts b. b) old;
-  pushes = λ p u old. below_same p u Push (λ n acts b. b) old;
+  pushes = λ p u room old. below_same p u (Push room) (λ n acts b. b) old;
+  widens = λ p u c old. below_same p u (Ensure c) (λ n acts b. b) old;
   pops = λ p u some old. below_same p u Pop (λ n acts b. b) old;
 }
 
@@ -231,7 +234,8 @@ at_least_steps s t n = record {
   enters = λ p u on old. rw (next_same p u threads.Enter refl t) old;
   leaves = λ p u on deep old. rw (next_same p u threads.Leave refl t) old;
   deletes = λ p u k old. old;
-  pushes = λ p u old. old;
+  pushes = λ p u room old. old;
+  widens = λ p u c old. old;
   pops = λ p u some old. old;
   to_globals = λ p e none old. old;
   to_buffers = λ p e none old. old;
@@ -285,7 +289,8 @@ global_steps s = record {
   enters = λ p u on old. global_quiet p u threads.Enter refl old;
   leaves = λ p u on deep old. global_quiet p u threads.Leave refl old;
   deletes = λ p u k old. old;
-  pushes = λ p u old. old;
+  pushes = λ p u room old. old;
+  widens = λ p u c old. old;
   pops = λ p u some old. old;
   to_globals = λ p e none old t. global_none t (next_ref p t) e p.globals none (old t);
   to_buffers = λ p e none old. old;

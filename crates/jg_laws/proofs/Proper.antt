@@ -8,7 +8,7 @@ use Rattle.jg_words.specs.declared.call.Call.{Call}
 use Rattle.jg_words.specs.declared.call.Call.TheVariants.{Vm, Refs, Frames, Exceptions, Objects, Strings, Arrays, Monitors, Buffers}
 use Rattle.jg_words.specs.declared.call.vm.VmCall.TheVariants.{AttachCurrentThread, DetachCurrentThread, GetEnv, NativeEnter, NativeLeave, LoadLibrary, RegisterNatives, UnregisterNatives, Collect}
 use Rattle.jg_words.specs.declared.call.refs.RefsCall.TheVariants.{NewLocalRef, NewGlobalRef, NewWeakGlobalRef, DeleteLocalRef, DeleteGlobalRef, DeleteWeakGlobalRef, IsSameObject, GetObjectRefType}
-use Rattle.jg_words.specs.declared.call.frames.FramesCall.TheVariants.{PushLocalFrame, PopLocalFrame}
+use Rattle.jg_words.specs.declared.call.frames.FramesCall.TheVariants.{PushLocalFrame, PopLocalFrame, EnsureLocalCapacity}
 use Rattle.jg_words.specs.declared.call.exceptions.ExceptionsCall.TheVariants.{Throw, ExceptionOccurred, ExceptionDescribe, ExceptionClear, ExceptionCheck}
 use Rattle.jg_words.specs.declared.call.objects.ObjectsCall.TheVariants.{FindClass, GetObjectClass, IsInstanceOf, AllocObject, GetFieldID, GetField, GetObjectField, SetField, SetObjectField}
 use Rattle.jg_words.specs.declared.call.strings.StringsCall.TheVariants.{NewString, NewStringUTF, GetStringLength, GetStringUTFLength, GetStringRegion}
@@ -26,6 +26,8 @@ use Rattle.jg_laws.specs.Proper.{ProperAnswer}
 use Rattle.jg_monitors.specs.History as monitors
 use Rattle.jg_monitors.specs.declared.entering.Entering.{Entering}
 use Rattle.jg_monitors.specs.declared.entering.Entering.TheVariants.{Entered, Busy}
+use Rattle.jg_policy.specs.declared.access.Operation.{Operation}
+use Rattle.jg_policy.specs.declared.access.Operation.TheVariants.{Link}
 use Rattle.jg_rules.specs.Answers.{answer, entered, handed, present_env, plain, admitted, unless_pending, registered, class_found, field_found, field_value, or_outside, is_outside}
 use Rattle.jg_policy.specs.Classes.{class_named}
 use Rattle.jg_heap.specs.Reading.{natural}
@@ -62,9 +64,9 @@ outside_proper : (s : StatedSetup) (p : Parts) (t : Tid) (call : Call) (kind : T
 outside_proper s p t call kind true a env own = (env, refl, refl)
 outside_proper s p t call kind false a env own = own
 
-entered_proper : (s : StatedSetup) (p : Parts) (t : Tid) (call : Call) (class found : Option ℕ) → needs_env (fun_of call) ≡ true → ProperAnswer s p t call (admitted s p class (handed p t Local found))
-entered_proper s p t call class None env = tt
-entered_proper s p t call class (Some o) env = (env, refl, refl)
+entered_proper : (s : StatedSetup) (p : Parts) (t : Tid) (call : Call) (operation : Operation) (class found : Option ℕ) → needs_env (fun_of call) ≡ true → ProperAnswer s p t call (admitted s p operation class (handed p t Local found))
+entered_proper s p t call operation class None env = tt
+entered_proper s p t call operation class (Some o) env = (env, refl, refl)
 
 left_proper : (s : StatedSetup) (p : Parts) (t : Tid) (call : Call) (exception found : Option ℕ) → needs_env (fun_of call) ≡ true
     → ProperAnswer s p t call (unless_pending exception (handed p t Local found))
@@ -83,7 +85,7 @@ pub proper : (s : StatedSetup) (p : Parts) (t : Tid) (call : Call) → ProperAns
 proper s p t (Vm AttachCurrentThread) = tt
 proper s p t (Vm DetachCurrentThread) = tt
 proper s p t (Vm GetEnv) = env_proper s p t (Vm GetEnv) (session p t.0)
-proper s p t (Vm (NativeEnter class method signature)) = entered_proper s p t (Vm (NativeEnter class method signature)) (class_named s class) (class_named s class) refl
+proper s p t (Vm (NativeEnter class method signature)) = entered_proper s p t (Vm (NativeEnter class method signature)) Link (class_named s class) (class_named s class) refl
 proper s p t (Vm (NativeLeave kept)) = left_proper s p t (Vm (NativeLeave kept)) (pending p t.0) (object_named p t.0 kept) refl
 proper s p t (Vm (LoadLibrary class library)) = tt
 proper s p t (Vm (RegisterNatives class method signature)) =
@@ -100,6 +102,7 @@ proper s p t (Refs (IsSameObject r u)) = tt
 proper s p t (Refs (GetObjectRefType r)) = tt
 proper s p t (Frames (PushLocalFrame capacity)) = tt
 proper s p t (Frames (PopLocalFrame r)) = local_proper s p t (Frames (PopLocalFrame r)) (object_named p t.0 r) refl
+proper s p t (Frames (EnsureLocalCapacity capacity)) = tt
 proper s p t (Exceptions (Throw r)) = tt
 proper s p t (Exceptions ExceptionOccurred) = local_proper s p t (Exceptions ExceptionOccurred) (pending p t.0) refl
 proper s p t (Exceptions ExceptionDescribe) = tt

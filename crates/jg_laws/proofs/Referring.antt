@@ -8,7 +8,7 @@ use Rattle.jg_globals.specs.History.{is_same, clears, unless_cleared, after_maki
 use Rattle.jg_globals.specs.declared.target.Target.TheVariants.{Object as ToObject, Cleared}
 use Rattle.jg_threads.specs.History as threads
 use Rattle.jg_threads.specs.History.{pending}
-use Rattle.jg_locals.specs.History.{Act, Start, Make, Push, Enter, Delete, Pop, Leave, End, Event, by, acts_of, depth, frames, how_many, is_enter, is_leave, is_push, is_pop, Making, Local, making, seen_after, done_here, ends, survives, local_if_live, object_of, live}
+use Rattle.jg_locals.specs.History.{Act, Start, Make, Push, Ensure, Enter, Delete, Pop, Leave, End, Event, by, acts_of, depth, frames, how_many, is_enter, is_leave, is_push, is_pop, Making, Local, making, seen_after, done_here, ends, survives, local_if_live, object_of, live}
 use Rattle.jg_locals.proofs.Callers.{acts_more, acts_same, each_thread}
 use Rattle.jg_laws.proofs.Acts.{did_more, did_same}
 
@@ -41,7 +41,8 @@ is_make a = false
 live_still : (n o : ℕ) (a : Act) (acts : List Act) → is_make a ≡ false → live n (a ∷ acts) ≡ Some o → live n acts ≡ Some o
 live_still n o Start acts quiet is = seen_still n o Start (making n acts) is
 live_still n o (Make m p) acts quiet is = absurd cc
-live_still n o Push acts quiet is = seen_still n o Push (making n acts) is
+live_still n o (Push room) acts quiet is = seen_still n o (Push room) (making n acts) is
+live_still n o (Ensure c) acts quiet is = seen_still n o (Ensure c) (making n acts) is
 live_still n o Enter acts quiet is = seen_still n o Enter (making n acts) is
 live_still n o (Delete m) acts quiet is = seen_still n o (Delete m) (making n acts) is
 live_still n o Pop acts quiet is = seen_still n o Pop (making n acts) is

@@ -15,7 +15,7 @@ use Rattle.jg_words.specs.declared.call.Call.{Call}
 use Rattle.jg_words.specs.declared.call.Call.TheVariants.{Vm, Refs, Frames, Exceptions, Objects, Strings, Arrays, Monitors, Buffers}
 use Rattle.jg_words.specs.declared.call.vm.VmCall.TheVariants.{AttachCurrentThread, DetachCurrentThread, GetEnv, NativeEnter, NativeLeave, LoadLibrary, RegisterNatives, UnregisterNatives, Collect}
 use Rattle.jg_words.specs.declared.call.refs.RefsCall.TheVariants.{NewLocalRef, NewGlobalRef, NewWeakGlobalRef, DeleteLocalRef, DeleteGlobalRef, DeleteWeakGlobalRef, IsSameObject, GetObjectRefType}
-use Rattle.jg_words.specs.declared.call.frames.FramesCall.TheVariants.{PushLocalFrame, PopLocalFrame}
+use Rattle.jg_words.specs.declared.call.frames.FramesCall.TheVariants.{PushLocalFrame, PopLocalFrame, EnsureLocalCapacity}
 use Rattle.jg_words.specs.declared.call.monitors.MonitorsCall.TheVariants.{MonitorEnter, MonitorExit}
 use Rattle.jg_words.specs.declared.call.exceptions.ExceptionsCall.TheVariants.{Throw, ExceptionOccurred, ExceptionDescribe, ExceptionClear, ExceptionCheck}
 use Rattle.jg_threads.specs.History as threads
@@ -90,6 +90,7 @@ call_locals-le s p t (Refs (IsSameObject r u)) = omega arith
 call_locals-le s p t (Refs (GetObjectRefType r)) = omega arith
 call_locals-le s p t (Frames (PushLocalFrame capacity)) = omega arith
 call_locals-le s p t (Frames (PopLocalFrame r)) = omega arith
+call_locals-le s p t (Frames (EnsureLocalCapacity capacity)) = omega arith
 call_locals-le s p t (Exceptions call) = omega arith
 call_locals-le s p t (Objects call) = omega arith
 call_locals-le s p t (Strings call) = omega arith

@@ -16,7 +16,7 @@ use Rattle.jg_words.specs.declared.call.Call.{Call}
 use Rattle.jg_words.specs.declared.call.Call.TheVariants.{Vm, Refs, Frames, Exceptions, Objects, Strings, Arrays, Monitors, Buffers}
 use Rattle.jg_words.specs.declared.call.vm.VmCall.TheVariants.{AttachCurrentThread, DetachCurrentThread, GetEnv, NativeEnter, NativeLeave, LoadLibrary, RegisterNatives, UnregisterNatives, Collect}
 use Rattle.jg_words.specs.declared.call.refs.RefsCall.TheVariants.{NewLocalRef, NewGlobalRef, NewWeakGlobalRef, DeleteLocalRef, DeleteGlobalRef, DeleteWeakGlobalRef, IsSameObject, GetObjectRefType}
-use Rattle.jg_words.specs.declared.call.frames.FramesCall.TheVariants.{PushLocalFrame, PopLocalFrame}
+use Rattle.jg_words.specs.declared.call.frames.FramesCall.TheVariants.{PushLocalFrame, PopLocalFrame, EnsureLocalCapacity}
 use Rattle.jg_words.specs.declared.call.exceptions.ExceptionsCall.TheVariants.{Throw, ExceptionOccurred, ExceptionDescribe, ExceptionClear, ExceptionCheck}
 use Rattle.jg_words.specs.declared.call.buffers.BuffersCall.TheVariants.{GetArrayElements, ReleaseArrayElements, GetStringChars, ReleaseStringChars, GetStringUTFChars, ReleaseStringUTFChars, GetPrimitiveArrayCritical, ReleasePrimitiveArrayCritical, GetStringCritical, ReleaseStringCritical, BufferRead, BufferWrite}
 use Rattle.jg_words.specs.declared.buffer.BufId.{BufId}
@@ -72,7 +72,8 @@ pub record Steps (s : StatedSetup) (P : Parts → Type 0) : Type 0 where
   pub begun : (p : Parts) (t : ℕ) → threads.attached (threads.acts_of t p.threads) ≡ true → P p → P (record p { threads = threads.by t threads.Attach ∷ p.threads })
   pub ends : (p : Parts) (t : ℕ) → P p → P (record p { threads = threads.by t threads.Detach ∷ p.threads; locals = locals.by t locals.End ∷ p.locals })
   pub deletes : (p : Parts) (t n : ℕ) → P p → P (record p { locals = locals.by t (locals.Delete n) ∷ p.locals })
-  pub pushes : (p : Parts) (t : ℕ) → P p → P (record p { locals = locals.by t locals.Push ∷ p.locals })
+  pub pushes : (p : Parts) (t room : ℕ) → P p → P (record p { locals = locals.by t (locals.Push room) ∷ p.locals })
+  pub widens : (p : Parts) (t capacity : ℕ) → P p → P (record p { locals = locals.by t (locals.Ensure capacity) ∷ p.locals })
   pub pops : (p : Parts) (t : ℕ) → (open_frames p t == 0) ≡ false → P p → P (record p { locals = locals.by t locals.Pop ∷ p.locals })
   pub enters : (p : Parts) (t : ℕ) → threads.attached (threads.acts_of t p.threads) ≡ true → P p
       → P (record p { threads = threads.by t threads.Enter ∷ p.threads; locals = locals.by t locals.Enter ∷ p.locals })
@@ -184,8 +185,9 @@ each_done P s steps p t env (Refs (DeleteGlobalRef r)) kept none old = others P 
 each_done P s steps p t env (Refs (DeleteWeakGlobalRef r)) kept none old = others P s steps t (Refs (DeleteWeakGlobalRef r)) p p none old
 each_done P s steps p t env (Refs (IsSameObject r u)) kept none old = old
 each_done P s steps p t env (Refs (GetObjectRefType r)) kept none old = old
-each_done P s steps p t env (Frames (PushLocalFrame capacity)) kept none old = steps.pushes p t old
+each_done P s steps p t env (Frames (PushLocalFrame capacity)) kept none old = steps.pushes p t (natural capacity) old
 each_done P s steps p t env (Frames (PopLocalFrame r)) kept none old = steps.pops p t kept.right_frame old
+each_done P s steps p t env (Frames (EnsureLocalCapacity capacity)) kept none old = steps.widens p t (natural capacity) old
 each_done P s steps p t env (Exceptions (Throw r)) kept none old = steps.raises p t (the_object p t r) old
 each_done P s steps p t env (Exceptions ExceptionOccurred) kept none old = old
 each_done P s steps p t env (Exceptions ExceptionDescribe) kept none old = steps.calms p t old
@@ -208,7 +210,7 @@ both_ways b is other = cc
 
 settling : (P : Parts → Type 0) (s : StatedSetup) → Steps s P → (home : Option ℕ) (p q : Parts) (t : Tid) (call : Call) (value : Value) (warned : Bool) (o : Option ObjId)
     → IsProper s p t call value warned o → next_ref q t.0 ≡ next_ref p t.0 → opens_one (call_buffers s p t.0 call) ≡ false
-    → P q → P (settled home t.0 (record { value = value; warned = false }) o q)
+    → P q → P (settled home t.0 (record { value = value; warned = false; noticed = false }) o q)
 settling P s steps home p q t call (Reference r) warned None is same none old = absurd is
 settling P s steps home p q t call (Reference Null) warned (Some o) is same none old = absurd is
 settling P s steps home p q t call (Reference (To Local maker n)) warned (Some o) is same none old = steps.hands q t.0 n o.0 (is.2 ∙ sym same) old
@@ -231,7 +233,7 @@ each_other P s steps p t env call kept none old =
     let a : Answer = answer s p t call in
     let q : Parts = done_if (is_effective a.reply.value) s t.0 call p in
     let home : Option ℕ = home_of s (native_class s p t.0 call) in
-    steps.to_links (settled home t.0 (record { value = a.reply.value; warned = false }) a.object q) (warning a.reply.warned home)
+    steps.to_links (settled home t.0 (record { value = a.reply.value; warned = false; noticed = false }) a.object q) (warning a.reply.warned home)
     (settling P s steps home p q t call a.reply.value a.reply.warned a.object (proper s p t call) (next_done_if (is_effective a.reply.value) s p t.0 call t.0) none
     (each_if P s steps (is_effective a.reply.value) p t.0 env call kept none old))
 

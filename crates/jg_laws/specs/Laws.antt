@@ -25,6 +25,7 @@ use Rattle.jg_buffers.specs.declared.family.Family.TheVariants.{Elements, Chars,
 use Rattle.jg_monitors.specs.History as monitors
 use Rattle.jg_rules.specs.Parts.{Parts}
 use Rattle.jg_rules.specs.Names.{object_named, next_ref, class_of, length_of, native_meant}
+use Rattle.jg_policy.specs.declared.access.Operation.TheVariants.{Link}
 use Rattle.jg_rules.specs.Access.{refuses}
 use Rattle.jg_rules.specs.Rules.{is_linked}
 use Rattle.jg_rules.specs.Effects.{parts}
@@ -96,7 +97,7 @@ EnteredWasLinked = (s : StatedSetup) (later : List Entry) (x : Entry) (before : 
     (class method signature : List ℕ) (reply : Reply) → Legal s (later ++ x ∷ before)
     → x.call ≡ Vm (NativeEnter class method signature) → x.outcome ≡ Passed reply
     → (is_linked (parts s before) (class_named s class) (native_meant s (class_named s class) method signature) ≡ true)
-    × (refuses s (class_named s class) ≡ false)
+    × (refuses s Link (class_named s class) ≡ false)
 
 -- two owners of a monitor are one
 abbrev pub OneOwner : Type 0

@@ -4,7 +4,7 @@ use Rattle.std.specs.Prelude.{All, IsSome, IsTrue, ◌↔◌}
 use Rattle.std.specs.List.{AllByRecursion}
 use Rattle.std.proofs.lemmas.Bool.Decides.{nat_tests}
 use Rattle.std.proofs.lemmas.List.Elements.{All-from_recursion, recursion_from_All}
-use Rattle.jg_locals.specs.History.{Act, Start, Make, Push, Enter, Delete, Pop, Leave, End, Event, acts_of, has_session, frames, Making, making, local_if_live, Local, live_local, object_of, live, IsMadeBelow}
+use Rattle.jg_locals.specs.History.{Act, Start, Make, Push, Ensure, Enter, Delete, Pop, Leave, End, Event, acts_of, has_session, frames, Making, making, local_if_live, Local, live_local, object_of, live, IsMadeBelow}
 use Rattle.jg_locals.specs.Rows.{LocalRow}
 use Rattle.jg_locals.specs.Rows.{Rows, is_local, HasFrame}
 use Rattle.jg_locals.specs.Standing.{AllAllowed, rows_of_local, Stands}
@@ -31,7 +31,8 @@ made_before n k o before [] below = below.0
 made_before n k o before (Make j p ∷ later) below = made_before n k o before later below.1
 made_before n k o before (Start ∷ later) below = made_before n k o before later below
 made_before n k o before (End ∷ later) below = made_before n k o before later below
-made_before n k o before (Push ∷ later) below = made_before n k o before later below
+made_before n k o before (Push room ∷ later) below = made_before n k o before later below
+made_before n k o before (Ensure c ∷ later) below = made_before n k o before later below
 made_before n k o before (Enter ∷ later) below = made_before n k o before later below
 made_before n k o before (Delete j ∷ later) below = made_before n k o before later below
 made_before n k o before (Pop ∷ later) below = made_before n k o before later below

@@ -1,7 +1,7 @@
 -- Lists that ascend, and what filters, cuts and marks leave of them.
-use Rattle.std.proofs.Common.{◌≡◌, Bool, true, false, List, [], ◌∷◌, ◌++◌, Some, None, refl, ◌∙◌, ap, sym, subst, arith, inl, inr}
-use Rattle.std.specs.Prelude.{◌⊎◌, ◌&&◌, if◌then◌else◌, filter}
-use Rattle.std.specs.Option.{option_or}
+use Rattle.std.proofs.Common.{◌≡◌, Bool, true, false, List, [], ◌∷◌, ◌++◌, Option, Some, None, refl, ◌∙◌, ap, sym, subst, arith, inl, inr}
+use Rattle.std.specs.Prelude.{◌⊎◌, ◌&&◌, if◌then◌else◌, filter, map}
+use Rattle.std.specs.Option.{option_map, option_or}
 use Rattle.std.specs.List.{AllByRecursion}
 use Rattle.std.proofs.lemmas.Bool.Decides.{nat_tests}
 use Rattle.jg_locals.specs.Seen.{last, Chain}
@@ -82,6 +82,14 @@ ending (x ∷ xs) = ending_after x xs (ending xs)
 pub last-push : {X : Type 0} (xs : List X) (x : X) → last (xs ++ x ∷ []) ≡ Some x
 last-push [] x = refl
 last-push (y ∷ xs) x = rw (last-push xs x) refl
+
+pub last-map : {X Y : Type 0} (g : X → Y) (xs : List X) → last (map g xs) ≡ option_map g (last xs)
+last-map g [] = refl
+last-map g (x ∷ xs) = ap (λ o. option_or o (Some (g x))) (last-map g xs) ∙ or_map g x (last xs)
+  where
+    or_map : {X Y : Type 0} (g : X → Y) (x : X) (o : Option X) → option_or (option_map g o) (Some (g x)) ≡ option_map g (option_or o (Some x))
+    or_map g x None = refl
+    or_map g x (Some y) = refl
 
 nil_by : {X : Type 0} (xs : List X) → last xs ≡ None → (xs ≡ []) ⊎ ((front : List X) × (y : X) × (xs ≡ front ++ y ∷ []) × (last xs ≡ Some y)) → xs ≡ []
 nil_by xs none (inl is) = is

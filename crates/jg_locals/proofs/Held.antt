@@ -3,7 +3,7 @@ use Rattle.std.proofs.Common.{◌≡◌, ℕ, Bool, true, false, List, [], ◌�
 use Rattle.std.specs.Prelude.{◌==◌, IsTrue, ◌↔◌}
 use Rattle.std.specs.List.{list_any}
 use Rattle.std.proofs.lemmas.Bool.Decides.{nat_tests}
-use Rattle.jg_locals.specs.History.{Act, Start, Make, Push, Enter, Delete, Pop, Leave, End, Event, acts_of, Local, live_local, object_of, live, is_object, makes_live, holds_object}
+use Rattle.jg_locals.specs.History.{Act, Start, Make, Push, Ensure, Enter, Delete, Pop, Leave, End, Event, acts_of, Local, live_local, object_of, live, is_object, makes_live, holds_object}
 use Rattle.jg_locals.specs.Rows.{LocalRow}
 use Rattle.jg_locals.specs.Rows.{Rows, is_local}
 use Rattle.jg_locals.specs.Standing.{rows_of_local, Stands}
@@ -79,7 +79,8 @@ live_made : (o t : ℕ) (e : List Event) (a : Act) → makes_live o (acts_of t e
 live_made o t e (Make n p) is = (t, n, found_live o (live n (acts_of t e)) is)
 live_made o t e Start is = cc
 live_made o t e End is = cc
-live_made o t e Push is = cc
+live_made o t e (Push room) is = cc
+live_made o t e (Ensure c) is = cc
 live_made o t e Enter is = cc
 live_made o t e (Delete n) is = cc
 live_made o t e Pop is = cc

@@ -14,7 +14,7 @@ use Rattle.jg_locals.proofs.Chains.{each-map, each-both, each-push, each-end, ea
 number_before : (s t : Slot) (n : ℕ) → is_before s t ≡ true → t.n < n → s.n < n
 number_before s t n is lt = grind (arith, nat_tests, is, lt)
 
-filter_end : (xs : List Slot) (t : Slot) → is_live t ≡ true → filter is_live (xs ++ t ∷ []) ≡ filter is_live xs ++ t ∷ []
+pub filter_end : (xs : List Slot) (t : Slot) → is_live t ≡ true → filter is_live (xs ++ t ∷ []) ≡ filter is_live xs ++ t ∷ []
 filter_end [] t live = rw live refl
 filter_end (x ∷ xs) t live = ended x xs t x.live (filter_end xs t live)
   where
@@ -42,7 +42,7 @@ given_at Q p f fs true here now later any = now here
 given_at Q p f fs false here now later any = later any
 
 -- what holds where one of the frames is the slot's
-any_gives : (Q : Type 0) (P : Frame → Type 0) (p : Frame → Bool) (frames : List Frame) → ((f : Frame) → P f → p f ≡ true → Q) → AllByRecursion P frames → list_any p frames ≡ true → Q
+pub any_gives : (Q : Type 0) (P : Frame → Type 0) (p : Frame → Bool) (frames : List Frame) → ((f : Frame) → P f → p f ≡ true → Q) → AllByRecursion P frames → list_any p frames ≡ true → Q
 any_gives Q P p [] give all is = cc
 any_gives Q P p (f ∷ fs) give all is = given_at Q p f fs (p f) refl (give f all.0) (any_gives Q P p fs give all.1) is
 
@@ -100,6 +100,10 @@ next_by frames f (Some h) chain is next = chain-last is_under (λ g. is_under g 
   where
     earlier : (f g h : Frame) → is_under f g ≡ true → is_under g h ≡ true → is_under f h ≡ true
     earlier f g h a b = grind (arith, nat_tests, a, b)
+
+-- a frame that may be opened is above all
+pub next_frames : (frames : List Frame) (f : Frame) → Chain is_under frames → IsNext (last frames) f → AllByRecursion (λ g. is_under g f ≡ true) frames
+next_frames frames f chain next = next_by frames f (last frames) chain refl next
 
 any_more : {X : Type 0} (p : X → Bool) (xs ys : List X) → list_any p xs ≡ true → list_any p (xs ++ ys) ≡ true
 any_more p xs ys is = rw (list_any-append, is) refl
@@ -164,7 +168,7 @@ popped_frames frames top chain is = filter-alike (λ f. is_under f top) (λ f. n
     (frames_up_to frames top chain is))
 
 abbrev pub base : Frame → Frame
-base top = record { depth = top.depth; frame = 0 }
+base top = record { depth = top.depth; frame = 0; room = 0 }
 
 left_slot : (s : Slot) (top : Frame) → is_up_to s top ≡ true → stays (Some (base top)) s ≡ (is_live s && not (s.depth == top.depth))
 left_slot s top up = grind (arith, nat_tests, up)

@@ -1,11 +1,14 @@
 mod Above
 pub mod Callers
 mod Chains
+mod Counts
 mod EventLaws
 mod FrameSteps
 mod Gathered
+mod Holding
 mod Held
 mod Invariant
+mod Keeping
 mod Listed
 mod Lives
 mod LocalSteps
@@ -13,6 +16,8 @@ mod Looking
 mod Lookups
 mod Numbers
 mod OpenFrames
+mod Opened
+mod Rooms
 mod StandingSteps
 mod Threads
 mod Tops

@@ -2,7 +2,7 @@
 use Rattle.std.proofs.Common.{◌≡◌, ◌<◌, ℕ, Bool, true, false, List, [], ◌∷◌, ◌++◌, Option, Some, None, refl, ◌∙◌, ap, sym, subst, arith, inl, inr}
 use Rattle.std.specs.Prelude.{◌==◌, ◌≢◌, ◌⊎◌, if◌then◌else◌}
 use Rattle.std.proofs.lemmas.Bool.Decides.{nat_tests}
-use Rattle.jg_locals.specs.History.{Act, Start, Make, Push, Enter, Delete, Pop, Leave, End, how_many, is_enter, is_leave, is_push, is_pop, done_here, ends, survives, Making, making, seen_after, local_if_live, object_of, live, depth, frames}
+use Rattle.jg_locals.specs.History.{Act, Start, Make, Push, Ensure, Enter, Delete, Pop, Leave, End, how_many, is_enter, is_leave, is_push, is_pop, done_here, ends, survives, Making, making, seen_after, local_if_live, object_of, live, depth, frames}
 use Rattle.jg_locals.specs.Standing.{AllAllowed}
 use Rattle.jg_locals.specs.Laws.{IsEndedBy, IsNotEnded, IsNotMade, IsMadeAndKept, LiveMeans, LeftMeans, PoppedMeans, DeletedStaysDead}
 use Rattle.jg_locals.proofs.Looking.{survived_before, survived_here, survived_frame, depth_since, frames_since}
@@ -65,7 +65,8 @@ not_made_since n [] m is = cc
 not_made_since n (Make j o ∷ acts) m is = others_made n j o acts m (j == n) refl (not_made_since n acts) is
 not_made_since n (Start ∷ acts) m is = others_after n Start (making n acts) m (λ later once. once) (not_made_since n acts) is
 not_made_since n (End ∷ acts) m is = others_after n End (making n acts) m (λ later once. once) (not_made_since n acts) is
-not_made_since n (Push ∷ acts) m is = others_after n Push (making n acts) m (λ later once. once) (not_made_since n acts) is
+not_made_since n (Push room ∷ acts) m is = others_after n (Push room) (making n acts) m (λ later once. once) (not_made_since n acts) is
+not_made_since n (Ensure c ∷ acts) m is = others_after n (Ensure c) (making n acts) m (λ later once. once) (not_made_since n acts) is
 not_made_since n (Enter ∷ acts) m is = others_after n Enter (making n acts) m (λ later once. once) (not_made_since n acts) is
 not_made_since n (Delete k ∷ acts) m is = others_after n (Delete k) (making n acts) m (λ later once. once) (not_made_since n acts) is
 not_made_since n (Pop ∷ acts) m is = others_after n Pop (making n acts) m (λ later once. once) (not_made_since n acts) is
@@ -85,7 +86,8 @@ making_behind : (n : ℕ) (a : Act) (later acts : List Act) → IsNotMade n (a �
 making_behind n (Make k p) later acts once = let other : (k == n) ≡ false = grind (arith, nat_tests) in rw other refl
 making_behind n Start later acts once = refl
 making_behind n End later acts once = refl
-making_behind n Push later acts once = refl
+making_behind n (Push room) later acts once = refl
+making_behind n (Ensure c) later acts once = refl
 making_behind n Enter later acts once = refl
 making_behind n (Delete k) later acts once = refl
 making_behind n Pop later acts once = refl
@@ -95,7 +97,8 @@ not_made_before : (n : ℕ) (a : Act) (later : List Act) → IsNotMade n (a ∷ 
 not_made_before n (Make k p) later once = once.1
 not_made_before n Start later once = once
 not_made_before n End later once = once
-not_made_before n Push later once = once
+not_made_before n (Push room) later once = once
+not_made_before n (Ensure c) later once = once
 not_made_before n Enter later once = once
 not_made_before n (Delete k) later once = once
 not_made_before n Pop later once = once

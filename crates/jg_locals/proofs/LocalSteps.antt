@@ -2,7 +2,7 @@
 use Rattle.std.proofs.Common.{◌≡◌, ℕ, Bool, true, false, List, [], ◌∷◌, ◌++◌, Option, Some, None, refl, ap, sym, subst, arith, eqb, eqb-true}
 use Rattle.std.specs.Prelude.{◌==◌, ◌&&◌, not, if◌then◌else◌, filter}
 use Rattle.std.proofs.lemmas.Bool.Decides.{nat_tests}
-use Rattle.jg_locals.specs.History.{Act, Start, Make, Push, Enter, Delete, Pop, Leave, End, has_session, depth, frames, survives, Making, making, seen_after, local_if_live, live_local}
+use Rattle.jg_locals.specs.History.{Act, Start, Make, Push, Ensure, Enter, Delete, Pop, Leave, End, has_session, depth, frames, survives, Making, making, seen_after, local_if_live, live_local}
 use Rattle.jg_locals.specs.Standing.{AllAllowed, rows_of_local}
 use Rattle.jg_locals.proofs.Looking.{depth_since, frames_since, survived_before, survived_here, survived_frame}
 use Rattle.jg_locals.specs.Rows.{LocalRow}
@@ -25,7 +25,8 @@ pub survives_more : (t n o : ℕ) (before later : List Act) (a : Act) → AllAll
 survives_more t n o before later Start h s = grind (arith, nat_tests)
 survives_more t n o before later End h s = grind (arith, nat_tests)
 survives_more t n o before later (Make m p) h s = grind (arith, nat_tests, survived_here n later s, survived_frame n later s)
-survives_more t n o before later Push h s = grind (arith, nat_tests, survived_here n later s, survived_frame n later s)
+survives_more t n o before later (Push room) h s = grind (arith, nat_tests, survived_here n later s, survived_frame n later s)
+survives_more t n o before later (Ensure c) h s = grind (arith, nat_tests, survived_here n later s, survived_frame n later s)
 survives_more t n o before later Enter h s = grind (arith, nat_tests, survived_here n later s, survived_frame n later s)
 survives_more t n o before later (Delete m) h s = grind (arith, nat_tests, survived_here n later s, survived_frame n later s)
 survives_more t n o before later Pop h s = grind (arith, nat_tests, survived_here n later s, survived_frame n later s, depth_since n o before later h.0 s, frames_since n o before later h.0 s)
@@ -57,7 +58,8 @@ making_splits n [] m is = cc
 making_splits n (Make j o ∷ acts) m is = splits_made n j o acts m (eqb j n) refl (making_splits n acts) is
 making_splits n (Start ∷ acts) m is = splits_after n Start acts (making n acts) m (making_splits n acts) is
 making_splits n (End ∷ acts) m is = splits_after n End acts (making n acts) m (making_splits n acts) is
-making_splits n (Push ∷ acts) m is = splits_after n Push acts (making n acts) m (making_splits n acts) is
+making_splits n (Push room ∷ acts) m is = splits_after n (Push room) acts (making n acts) m (making_splits n acts) is
+making_splits n (Ensure c ∷ acts) m is = splits_after n (Ensure c) acts (making n acts) m (making_splits n acts) is
 making_splits n (Enter ∷ acts) m is = splits_after n Enter acts (making n acts) m (making_splits n acts) is
 making_splits n (Delete j ∷ acts) m is = splits_after n (Delete j) acts (making n acts) m (making_splits n acts) is
 making_splits n (Pop ∷ acts) m is = splits_after n Pop acts (making n acts) m (making_splits n acts) is
@@ -87,7 +89,8 @@ session_since n o before [] h s = h.1
 session_since n o before (Start ∷ later) h s = refl
 session_since n o before (End ∷ later) h s = grind (arith, nat_tests)
 session_since n o before (Make m p ∷ later) h s = session_since n o before later h.0 (survived_before n (Make m p) later s)
-session_since n o before (Push ∷ later) h s = session_since n o before later h.0 (survived_before n Push later s)
+session_since n o before (Push room ∷ later) h s = session_since n o before later h.0 (survived_before n (Push room) later s)
+session_since n o before (Ensure c ∷ later) h s = session_since n o before later h.0 (survived_before n (Ensure c) later s)
 session_since n o before (Enter ∷ later) h s = session_since n o before later h.0 (survived_before n Enter later s)
 session_since n o before (Delete m ∷ later) h s = session_since n o before later h.0 (survived_before n (Delete m) later s)
 session_since n o before (Pop ∷ later) h s = session_since n o before later h.0 (survived_before n Pop later s)

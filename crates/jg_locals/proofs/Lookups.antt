@@ -1,15 +1,17 @@
 -- What the look-ups answer where the rows stand.
-use Rattle.std.proofs.Common.{◌≡◌, ℕ, ◌<◌, Bool, true, false, List, [], ◌∷◌, Option, Some, None, refl, sym, subst, arith}
-use Rattle.std.specs.Prelude.{if◌then◌else◌, filter, find, All, IsTrue, ◌↔◌}
+use Rattle.std.proofs.Common.{◌≡◌, ℕ, ◌<◌, Bool, true, false, List, [], ◌∷◌, Option, Some, None, refl, ap, sym, subst, arith}
+use Rattle.std.specs.Prelude.{if◌then◌else◌, nat_lt, filter, find, All, IsTrue, ◌↔◌}
 use Rattle.std.specs.List.{AllByRecursion}
 use Rattle.std.specs.Option.{is_some, option_map}
 use Rattle.std.proofs.lemmas.Bool.Decides.{nat_tests}
 use Rattle.std.proofs.lemmas.List.Elements.{recursion_from_All}
-use Rattle.jg_locals.specs.History.{Act, Start, Make, Push, Enter, Delete, Pop, Leave, End, Event, acts_of, has_session, session, depth, how_many, is_enter, is_push, done_at, frames, Local, live_local, object_of, live}
+use Rattle.jg_locals.specs.History.{Act, Start, Make, Push, Ensure, Enter, Delete, Pop, Leave, End, Event, acts_of, has_session, session, depth, how_many, is_enter, is_push, done_at, frames, Local, live_local, object_of, live}
 use Rattle.jg_locals.specs.Rows.{LocalRow}
 use Rattle.jg_locals.specs.Rows.{FrameRow}
-use Rattle.jg_locals.specs.Rows.{Rows, Table, is_local, top, pushed, entered, frame_number, depth_number}
-use Rattle.jg_locals.specs.Standing.{AllAllowed, rows_of_local, Stands}
+use Rattle.jg_locals.specs.Room.{room_here, crowded}
+use Rattle.jg_locals.specs.Rows.{Rows, Table, is_local, is_crowded, top, pushed, entered, frame_number, depth_number}
+use Rattle.jg_locals.specs.Standing.{AllAllowed, rows_of_local, row_of_frame, Stands}
+use Rattle.jg_locals.proofs.Holding.{held_told, held_without_session}
 use Rattle.jg_locals.proofs.Tops.{top_told}
 
 -- a number above all of a thread's is new to it
@@ -44,14 +46,15 @@ no_pushes d [] h none = refl
 no_pushes d (Start ∷ acts) h none = cc
 no_pushes d (End ∷ acts) h none = refl
 no_pushes d (Make n o ∷ acts) h none = cc
-no_pushes d (Push ∷ acts) h none = cc
+no_pushes d (Push room ∷ acts) h none = cc
+no_pushes d (Ensure c ∷ acts) h none = cc
 no_pushes d (Enter ∷ acts) h none = grind (arith, nat_tests, no_pushes d acts h.0 none)
 no_pushes d (Delete n ∷ acts) h none = no_pushes d acts h.0 none
 no_pushes d (Pop ∷ acts) h none = no_pushes d acts h.0 none
 no_pushes d (Leave ∷ acts) h none = no_pushes d acts h.0 none
 
 frame_of_top : (t : ℕ) (acts : List Act) (b : Bool) → has_session acts ≡ b → AllAllowed acts
-    → frame_number (if◌then◌else◌ {A = Option FrameRow} b (Some (record { tid = t; depth = depth acts; frame = frames (depth acts) acts })) None) ≡ frames (depth acts) acts
+    → frame_number (if◌then◌else◌ {A = Option FrameRow} b (Some (row_of_frame t (depth acts) (frames (depth acts) acts) acts)) None) ≡ frames (depth acts) acts
 frame_of_top t acts true is h = refl
 frame_of_top t acts false is h = omega (arith, no_pushes (depth acts) acts h is)
 
@@ -64,14 +67,15 @@ no_enters [] h none = refl
 no_enters (Start ∷ acts) h none = cc
 no_enters (End ∷ acts) h none = refl
 no_enters (Make n o ∷ acts) h none = cc
-no_enters (Push ∷ acts) h none = cc
+no_enters (Push room ∷ acts) h none = cc
+no_enters (Ensure c ∷ acts) h none = cc
 no_enters (Enter ∷ acts) h none = cc
 no_enters (Delete n ∷ acts) h none = no_enters acts h.0 none
 no_enters (Pop ∷ acts) h none = no_enters acts h.0 none
 no_enters (Leave ∷ acts) h none = no_enters acts h.0 none
 
 depth_of_top : (t : ℕ) (acts : List Act) (b : Bool) → has_session acts ≡ b → AllAllowed acts
-    → depth_number (if◌then◌else◌ {A = Option FrameRow} b (Some (record { tid = t; depth = depth acts; frame = frames (depth acts) acts })) None) ≡ depth acts
+    → depth_number (if◌then◌else◌ {A = Option FrameRow} b (Some (row_of_frame t (depth acts) (frames (depth acts) acts) acts)) None) ≡ depth acts
 depth_of_top t acts true is h = refl
 depth_of_top t acts false is h = omega (arith, no_enters acts h is)
 
@@ -95,3 +99,18 @@ pub reopened : (a b : Table) (e : List Event) → a ≡ b → Stands b.rows e �
 reopened a b e is stands =
     let P : Table → Type 0 = λ v. Stands v.rows e in
     subst P (sym is) stands
+
+crowded_at : (rows : Rows) (e : List Event) (t : ℕ) (b : Bool) → Stands rows e → has_session (acts_of t e) ≡ b
+    → is_crowded rows.locals (if◌then◌else◌ {A = Option FrameRow} b (Some (row_of_frame t (depth (acts_of t e)) (frames (depth (acts_of t e)) (acts_of t e)) (acts_of t e))) None) ≡ crowded (acts_of t e)
+crowded_at rows e t true stands is =
+    ap (λ n. nat_lt (room_here (acts_of t e)) n) (held_told rows e (row_of_frame t (depth (acts_of t e)) (frames (depth (acts_of t e)) (acts_of t e)) (acts_of t e)) stands)
+crowded_at rows e t false stands is =
+    let none = held_without_session (depth (acts_of t e)) (frames (depth (acts_of t e)) (acts_of t e)) (acts_of t e) (stands.allowed t) is in
+    rw none (none_less (room_here (acts_of t e)))
+  where
+    none_less : (n : ℕ) → false ≡ nat_lt n 0
+    none_less n = grind (arith, nat_tests)
+
+-- the rows tell whether the newest frame holds more than it has room for
+pub crowded_law : (rows : Rows) (e : List Event) (t : ℕ) → Stands rows e → is_crowded rows.locals (top t rows.frames) ≡ crowded (acts_of t e)
+crowded_law rows e t stands = rw (top_told rows e t stands) (crowded_at rows e t (has_session (acts_of t e)) stands refl)

@@ -11,8 +11,8 @@ use Rattle.std.proofs.lemmas.List.{append-nil}
 use Rattle.std.proofs.lemmas.List.Elements.{filter-append}
 use Rattle.jg_locals.specs.declared.row.Slot.{Slot}
 use Rattle.jg_locals.specs.declared.row.Frame.{Frame}
-use Rattle.jg_locals.specs.Seen.{last, Chain, is_live, is_in, is_below, is_before, is_under, stays, IsBelowAll, passes, is_from, Sound}
-use Rattle.jg_locals.proofs.Chains.{each-map, each-front, each-filter, chain-front, chain-last, last-push, last-nil, filter-all, filter-alike}
+use Rattle.jg_locals.specs.Seen.{last, Chain, is_live, is_in, is_below, is_before, stays, IsBelowAll, passes, Sound}
+use Rattle.jg_locals.proofs.Chains.{each-map, each-front, each-filter, chain-front, chain-filter, chain-last, last-push, last-nil, filter-all, filter-none, filter-alike}
 
 some_or : {X : Type 0} (a : Option X) (x y : X) → option_or a (Some y) ≡ option_or (option_or a (Some y)) (Some x)
 some_or None x y = refl
@@ -28,16 +28,16 @@ get-last (x ∷ xs) =
     let one : suc (length xs) - 1 ≡ length xs = omega arith in
     ap (slice_get (x ∷ xs)) one ∙ at-last x xs
 
-each-at : {X : Type 0} (P : X → Type 0) (xs : List X) (i : ℕ) (d : X) → AllByRecursion P xs → i < length xs → P (get_or xs i d)
+pub each-at : {X : Type 0} (P : X → Type 0) (xs : List X) (i : ℕ) (d : X) → AllByRecursion P xs → i < length xs → P (get_or xs i d)
 each-at P [] i d all within = absurd (omega (arith, within))
 each-at P (x ∷ xs) zero d all within = all.0
 each-at P (x ∷ xs) (suc i) d all within = each-at P xs i d all.1 (omega (arith, within))
 
-each-from : {X : Type 0} (P : X → Type 0) (xs : List X) → ((i : ℕ) (d : X) → i < length xs → P (get_or xs i d)) → AllByRecursion P xs
+pub each-from : {X : Type 0} (P : X → Type 0) (xs : List X) → ((i : ℕ) (d : X) → i < length xs → P (get_or xs i d)) → AllByRecursion P xs
 each-from P [] at = tt
 each-from P (x ∷ xs) at = (at 0 x (omega arith), each-from P xs (λ i d within. at (suc i) d (omega (arith, within))))
 
-chain-at : {X : Type 0} (r : X → X → Bool) (xs : List X) (i j : ℕ) (d : X) → Chain r xs → i < j → j < length xs → r (get_or xs i d) (get_or xs j d) ≡ true
+pub chain-at : {X : Type 0} (r : X → X → Bool) (xs : List X) (i j : ℕ) (d : X) → Chain r xs → i < j → j < length xs → r (get_or xs i d) (get_or xs j d) ≡ true
 chain-at r [] i j d chain lt within = absurd (omega (arith, within))
 chain-at r (x ∷ xs) i zero d chain lt within = absurd (omega (arith, lt))
 chain-at r (x ∷ xs) zero (suc j) d chain lt within = each-at (λ y. r x y ≡ true) xs j d chain.0 (omega (arith, within))
@@ -57,7 +57,7 @@ rising_by slots n i j d chain (inl lt) within = compared n (get_or slots i d).n 
     (omega (arith, number_later (get_or slots i d) (get_or slots j d) (chain-at is_before slots i j d chain lt within)))
 rising_by slots n i j d chain (inr same) within = compared n (get_or slots i d).n (get_or slots j d).n (let k = ap (λ m. (get_or slots m d).n) same in omega (arith, k))
 
-less_or_same : (i j : ℕ) → i ≤ j → (i < j) ⊎ (i ≡ j)
+pub less_or_same : (i j : ℕ) → i ≤ j → (i < j) ⊎ (i ≡ j)
 less_or_same zero zero le = inr refl
 less_or_same zero (suc j) le = inl (omega arith)
 less_or_same (suc i) zero le = absurd (omega (arith, le))
@@ -79,7 +79,7 @@ greater_is a n is = grind (arith, nat_tests)
 pub equal_is : (a n : ℕ) → nat_cmp a n ≡ Equal → a ≡ n
 equal_is a n is = grind (arith, nat_tests)
 
-low_or_high : (i k : ℕ) → (i < k) ⊎ (k ≤ i)
+pub low_or_high : (i k : ℕ) → (i < k) ⊎ (k ≤ i)
 low_or_high i zero = inr (omega arith)
 low_or_high zero (suc k) = inl (omega arith)
 low_or_high (suc i) (suc k) = later (low_or_high i k)
@@ -99,7 +99,7 @@ pub no_place : (slots : List Slot) (n k : ℕ) → Chain is_before slots
     → AllByRecursion (λ s. (s.n == n) ≡ false) slots
 no_place slots n k chain point = each-from (λ s. (s.n == n) ≡ false) slots (λ i d within. parted slots n k i d (point (rising slots n chain)) within (low_or_high i k))
 
-find-none : {X : Type 0} (p : X → Bool) (xs : List X) → AllByRecursion (λ x. p x ≡ false) xs → find p xs ≡ None
+pub find-none : {X : Type 0} (p : X → Bool) (xs : List X) → AllByRecursion (λ x. p x ≡ false) xs → find p xs ≡ None
 find-none p [] all = refl
 find-none p (x ∷ xs) all = rw (all.0, find-none p xs all.1) refl
 
@@ -109,32 +109,59 @@ no_object slots n all = ap (option_map (λ s. s.object)) (find-none (λ s. s.n =
 later_apart : (x : Slot) (n : ℕ) (xs : List Slot) → x.n ≡ n → AllByRecursion (λ y. is_before x y ≡ true) xs → AllByRecursion (λ y. (y.n == n) ≡ false) xs
 later_apart x n xs is all = each-map (λ y. is_before x y ≡ true) (λ y. (y.n == n) ≡ false) (λ y h. let lt = number_later x y h in grind (arith, nat_tests, lt)) xs all
 
-object_at : (x : Slot) (n : ℕ) (rest : List Slot) (b : Bool) → (x.n == n) ≡ true → find (λ s. s.n == n) rest ≡ None
-    → option_map (λ s. s.object) (find (λ s. s.n == n) (if b then x ∷ rest else rest)) ≡ (if b then Some x.object else None)
-object_at x n rest true is none = rw is refl
-object_at x n rest false is none = rw none refl
+slot_at : (x : Slot) (n : ℕ) (rest : List Slot) (b : Bool) → (x.n == n) ≡ true → find (λ s. s.n == n) rest ≡ None
+    → find (λ s. s.n == n) (if b then x ∷ rest else rest) ≡ (if b then Some x else None)
+slot_at x n rest true is none = rw is refl
+slot_at x n rest false is none = none
 
-object_past : (x : Slot) (n : ℕ) (rest : List Slot) (b : Bool) → (x.n == n) ≡ false
+slot_past : (x : Slot) (n : ℕ) (rest : List Slot) (b : Bool) → (x.n == n) ≡ false
     → find (λ s. s.n == n) (if b then x ∷ rest else rest) ≡ find (λ s. s.n == n) rest
-object_past x n rest true is = rw is refl
-object_past x n rest false is = refl
+slot_past x n rest true is = rw is refl
+slot_past x n rest false is = refl
 
 before_it : (x : Slot) (n : ℕ) (xs : List Slot) (i : ℕ) (d : Slot) → AllByRecursion (λ y. is_before x y ≡ true) xs → i < length xs → (get_or xs i d).n ≡ n → (x.n == n) ≡ false
 before_it x n xs i d all within is =
     let lt = number_later x (get_or xs i d) (each-at (λ y. is_before x y ≡ true) xs i d all within) in
     grind (arith, nat_tests, lt, is)
 
--- the number's place tells the object, if it is live
+-- the number's place tells the local, if it is live
+pub slot_there : (slots : List Slot) (n i : ℕ) (d : Slot) → Chain is_before slots → i < length slots → (get_or slots i d).n ≡ n
+    → find (λ s. s.n == n) (filter is_live slots) ≡ (if (get_or slots i d).live then Some (get_or slots i d) else None)
+slot_there [] n i d chain within is = absurd (omega (arith, within))
+slot_there (x ∷ xs) n zero d chain within is =
+    let none = find-none (λ s. s.n == n) (filter is_live xs) (each-filter (λ s. (s.n == n) ≡ false) is_live xs (later_apart x n xs is chain.0)) in
+    slot_at x n (filter is_live xs) x.live (grind (arith, nat_tests, is)) none
+slot_there (x ∷ xs) n (suc i) d chain within is =
+    let later = slot_there xs n i d chain.1 (omega (arith, within)) is in
+    let apart = before_it x n xs i d chain.0 (omega (arith, within)) is in
+    slot_past x n (filter is_live xs) x.live apart ∙ later
+
+-- and its object
 pub object_there : (slots : List Slot) (n i : ℕ) (d : Slot) → Chain is_before slots → i < length slots → (get_or slots i d).n ≡ n
     → option_map (λ s. s.object) (find (λ s. s.n == n) (filter is_live slots)) ≡ (if (get_or slots i d).live then Some (get_or slots i d).object else None)
-object_there [] n i d chain within is = absurd (omega (arith, within))
-object_there (x ∷ xs) n zero d chain within is =
-    let none = find-none (λ s. s.n == n) (filter is_live xs) (each-filter (λ s. (s.n == n) ≡ false) is_live xs (later_apart x n xs is chain.0)) in
-    object_at x n (filter is_live xs) x.live (grind (arith, nat_tests, is)) none
-object_there (x ∷ xs) n (suc i) d chain within is =
-    let later = object_there xs n i d chain.1 (omega (arith, within)) is in
-    let apart = before_it x n xs i d chain.0 (omega (arith, within)) is in
-    ap (option_map (λ s. s.object)) (object_past x n (filter is_live xs) x.live apart) ∙ later
+object_there slots n i d chain within is = ap (option_map (λ s. s.object)) (slot_there slots n i d chain within is) ∙ at (get_or slots i d) (get_or slots i d).live
+  where
+    at : (s : Slot) (b : Bool) → option_map (λ s. s.object) (if b then Some s else None) ≡ (if b then Some s.object else None)
+    at s true = refl
+    at s false = refl
+
+pub no_slot : (slots : List Slot) (n : ℕ) → AllByRecursion (λ s. (s.n == n) ≡ false) slots → find (λ s. s.n == n) (filter is_live slots) ≡ None
+no_slot slots n all = find-none (λ s. s.n == n) (filter is_live slots) (each-filter (λ s. (s.n == n) ≡ false) is_live slots all)
+
+one_of_number : (n : ℕ) (slots : List Slot) → Chain is_before slots → filter (λ s. s.n == n) slots ≡ option_to_list (find (λ s. s.n == n) slots)
+one_of_number n [] chain = refl
+one_of_number n (x ∷ xs) chain = at x n xs (x.n == n) refl chain.0 (one_of_number n xs chain.1)
+  where
+    at : (x : Slot) (n : ℕ) (xs : List Slot) (b : Bool) → (x.n == n) ≡ b → AllByRecursion (λ y. is_before x y ≡ true) xs → filter (λ s. s.n == n) xs ≡ option_to_list (find (λ s. s.n == n) xs)
+        → (if b then x ∷ filter (λ s. s.n == n) xs else filter (λ s. s.n == n) xs) ≡ option_to_list (if b then Some x else find (λ s. s.n == n) xs)
+    at x n xs true is all later =
+        let same : x.n ≡ n = grind (arith, nat_tests, is) in
+        ap (λ l. x ∷ l) (filter-none (λ s. s.n == n) xs (later_apart x n xs same all))
+    at x n xs false is all later = later
+
+-- no two live locals have the number
+pub one_live : (n : ℕ) (slots : List Slot) → Chain is_before slots → filter (λ s. s.n == n) (filter is_live slots) ≡ option_to_list (find (λ s. s.n == n) (filter is_live slots))
+one_live n slots chain = one_of_number n (filter is_live slots) (chain-filter is_before is_live slots chain)
 
 -- ---- marked dead
 
@@ -256,35 +283,6 @@ any_live p (x ∷ xs) = at p x xs x.live (any_live p xs)
     at p x xs true later = ap (λ b. p x || b) later
     at p x xs false later = later
 
--- ---- one thread's frames, cut at the end
-
-pub frames_cut_one : (g : Frame) (now old : List Frame) (gone : Option Frame) → old ≡ now ++ option_to_list gone → is_from g (last old) ≡ true
-    → filter (λ f. is_under f g) now ≡ filter (λ f. is_under f g) old
-frames_cut_one g now old None is at = ap (filter (λ f. is_under f g)) (sym (is ∙ append-nil now))
-frames_cut_one g now old (Some x) is at =
-    let Q : List Frame → Type 0 = λ l. is_from g (last l) ≡ true in
-    let there = subst Q is at in
-    let here : not (is_under x g) ≡ true = ap (is_from g) (sym (last-push now x)) ∙ there in
-    let fails : is_under x g ≡ false = grind (arith, nat_tests, here) in
-    let same : filter (λ f. is_under f g) (now ++ x ∷ []) ≡ filter (λ f. is_under f g) now = rw (filter-append, fails) (append-nil _) in
-    sym (ap (filter (λ f. is_under f g)) is ∙ same)
-
-pub opened_front : (now old : List Frame) (gone : Option Frame) → old ≡ now ++ option_to_list gone → Chain is_under old → Chain is_under now
-opened_front now old gone is chain = let S : List Frame → Type 0 = λ l. Chain is_under l in chain-front is_under now (option_to_list gone) (subst S is chain)
-
-pub under_earlier : (f g h : Frame) → is_under f g ≡ true → is_under g h ≡ true → is_under f h ≡ true
-under_earlier f g h a b = grind (arith, nat_tests, a, b)
-
-frames_left_by : (g : Frame) (frames : List Frame) (end : Option Frame) → Chain is_under frames → last frames ≡ end → is_from g end ≡ false → AllByRecursion (λ f. is_under f g ≡ true) frames
-frames_left_by g frames None chain is at = rw (last-nil frames is) tt
-frames_left_by g frames (Some h) chain is at =
-    let here : is_under h g ≡ true = grind (arith, nat_tests, at) in
-    chain-last is_under (λ f. is_under f g ≡ true) frames h chain is here (λ f a. under_earlier f h g a here)
-
--- where the newest frame is under the other, all are
-pub frames_left : (g : Frame) (frames : List Frame) → Chain is_under frames → is_from g (last frames) ≡ false → filter (λ f. is_under f g) frames ≡ frames
-frames_left g frames chain at = filter-all (λ f. is_under f g) frames (frames_left_by g frames (last frames) chain refl at)
-
 -- ---- the same, as the code comes upon it: `l` is the list as the search saw it, and w what stands at the place
 
 pub marked_there : (l slots : List Slot) (n i : ℕ) (w : Slot) → l ≡ slots → w ≡ get_or slots i w → Chain is_before slots → (i < length l) × ((s : Slot) → (get_or l i s).n ≡ n)
@@ -304,6 +302,14 @@ pub rises_there : (slots : List Slot) (i : ℕ) (w : Slot) → w ≡ get_or slot
 rises_there slots i w at chain =
     let P : Slot → Type 0 = λ x. Chain is_before (slice_set slots i (hide x)) in
     subst P (sym at) (chain-hidden slots i w chain)
+
+pub slot_found : (l slots : List Slot) (n i : ℕ) (w : Slot) → l ≡ slots → w ≡ get_or slots i w → Chain is_before slots → (i < length l) × ((s : Slot) → (get_or l i s).n ≡ n)
+    → (if w.live then Some w else None) ≡ find (λ s. s.n == n) (filter is_live slots)
+slot_found l slots n i w is at chain place =
+    let P : Slot → Type 0 = λ x. (if x.live then Some x else None) ≡ find (λ s. s.n == n) (filter is_live slots) in
+    let Q : List Slot → Type 0 = λ k. (i < length k) × ((s : Slot) → (get_or k i s).n ≡ n) in
+    let here = subst Q is place in
+    subst P (sym at) (sym (slot_there slots n i w chain here.0 (here.1 w)))
 
 pub unmarked_there : (l slots : List Slot) (n : ℕ) → l ≡ slots → AllByRecursion (λ s. (s.n == n) ≡ false) l → filter is_live slots ≡ filter (λ s. not (s.n == n)) (filter is_live slots)
 unmarked_there l slots n is all =

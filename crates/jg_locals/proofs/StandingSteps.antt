@@ -1,6 +1,6 @@
 -- How the rows stand after one more event.
-use Rattle.std.proofs.Common.{◌≡◌, ◌≢◌, ℕ, Bool, true, false, List, [], ◌∷◌, ◌++◌, Option, Some, None, refl, ◌∙◌, ap, sym, arith}
-use Rattle.std.specs.Prelude.{◌==◌, filter}
+use Rattle.std.proofs.Common.{◌≡◌, ◌≢◌, ℕ, Bool, true, false, List, [], ◌∷◌, ◌++◌, Option, Some, None, refl, ◌∙◌, ap, sym, arith, eqb-true}
+use Rattle.std.specs.Prelude.{◌==◌, filter, map}
 use Rattle.std.proofs.lemmas.Bool.Decides.{nat_tests}
 use Rattle.std.proofs.lemmas.List.Elements.{filter-append}
 use Rattle.std.proofs.lemmas.List.{append-nil}
@@ -72,6 +72,48 @@ frames_added rows u a e row was mine own t =
     (λ v differ.
     let fails : (row.tid == v) ≡ false = grind (arith, nat_tests) in
     rw (filter-append, was v, acts_same v u a e differ, fails) (append-nil _))
+    t
+
+pub others_alike : (v u : ℕ) (g : FrameRow → FrameRow) (rows : List FrameRow) → v ≢ u → ((row : FrameRow) → (g row).tid ≡ row.tid) → ((row : FrameRow) → row.tid ≢ u → g row ≡ row)
+    → filter (λ row. row.tid == v) (map g rows) ≡ filter (λ row. row.tid == v) rows
+others_alike v u g [] differ keeps_tid others = refl
+others_alike v u g (row ∷ rows) differ keeps_tid others =
+    at v u g row rows differ (keeps_tid row) (others row) (row.tid == v) refl (others_alike v u g rows differ keeps_tid others)
+  where
+    at : (v u : ℕ) (g : FrameRow → FrameRow) (row : FrameRow) (rows : List FrameRow) → v ≢ u → (g row).tid ≡ row.tid → (row.tid ≢ u → g row ≡ row) → (b : Bool) → (row.tid == v) ≡ b
+        → filter (λ row. row.tid == v) (map g rows) ≡ filter (λ row. row.tid == v) rows
+        → filter (λ row. row.tid == v) (g row ∷ map g rows) ≡ filter (λ row. row.tid == v) (row ∷ rows)
+    at v u g row rows differ same_tid other true is later =
+        let same : g row ≡ row = other (λ mine. differ (sym (eqb-true row.tid v is) ∙ mine)) in
+        rw (same, is) (ap (λ l. row ∷ l) later)
+    at v u g row rows differ same_tid other false is later =
+        let fails : ((g row).tid == v) ≡ false = ap (λ t. t == v) same_tid ∙ is in
+        rw (fails, is) later
+
+pub own_alike : (u : ℕ) (g : FrameRow → FrameRow) (rows : List FrameRow) → ((row : FrameRow) → (g row).tid ≡ row.tid) → filter (λ row. row.tid == u) (map g rows) ≡ map g (filter (λ row. row.tid == u) rows)
+own_alike u g [] keeps_tid = refl
+own_alike u g (row ∷ rows) keeps_tid = at u g row rows (keeps_tid row) (row.tid == u) refl (own_alike u g rows keeps_tid)
+  where
+    at : (u : ℕ) (g : FrameRow → FrameRow) (row : FrameRow) (rows : List FrameRow) → (g row).tid ≡ row.tid → (b : Bool) → (row.tid == u) ≡ b
+        → filter (λ row. row.tid == u) (map g rows) ≡ map g (filter (λ row. row.tid == u) rows)
+        → filter (λ row. row.tid == u) (g row ∷ map g rows) ≡ map g (filter (λ row. row.tid == u) (row ∷ rows))
+    at u g row rows same_tid true is later =
+        let passes : ((g row).tid == u) ≡ true = ap (λ t. t == u) same_tid ∙ is in
+        rw (passes, is) (ap (λ l. g row ∷ l) later)
+    at u g row rows same_tid false is later =
+        let fails : ((g row).tid == u) ≡ false = ap (λ t. t == u) same_tid ∙ is in
+        rw (fails, is) later
+
+-- the frames of which an act changes one
+pub frames_changed : (rows : List FrameRow) (u : ℕ) (a : Act) (e : List Event) (g : FrameRow → FrameRow)
+    → ((t : ℕ) → filter (λ row. row.tid == t) rows ≡ open_frames t (acts_of t e))
+    → map g (open_frames u (acts_of u e)) ≡ open_frames u (a ∷ acts_of u e)
+    → ((row : FrameRow) → (g row).tid ≡ row.tid) → ((row : FrameRow) → row.tid ≢ u → g row ≡ row)
+    → (t : ℕ) → filter (λ row. row.tid == t) (map g rows) ≡ open_frames t (acts_of t (by u a ∷ e))
+frames_changed rows u a e g was own keeps_tid others t =
+    each_thread (λ v. filter (λ row. row.tid == v) (map g rows) ≡ open_frames v (acts_of v (by u a ∷ e))) u
+    (rw (own_alike u g rows keeps_tid, was u, acts_more u u a e refl) own)
+    (λ v differ. rw (others_alike v u g rows differ keeps_tid others, acts_same v u a e differ) (was v))
     t
 
 -- the frames that an act does not touch

@@ -18,17 +18,21 @@ use Rattle.std.proofs.lemmas.Map.Entries.{none_past_head}
 use Rattle.std.proofs.lemmas.Map.Keys.{sorted_tail, IsDistinct-from_sorted}
 use Rattle.jg_locals.specs.declared.row.Slot.{Slot}
 use Rattle.jg_locals.specs.declared.row.Frame.{Frame}
-use Rattle.jg_locals.specs.History.{Event, by, Start, Make, Push, Enter, Delete, Pop, Leave, End}
-use Rattle.jg_locals.specs.Rows.{Rows, Table, Room, LocalRow, FrameRow, is_local, top, room_of, room_or_none, spare, spare_starts, pushed, entered, frame_number, depth_number}
+use Rattle.jg_locals.specs.History.{Event, by, acts_of, Start, Make, Push, Ensure, Enter, Delete, Pop, Leave, End}
+use Rattle.jg_lists.specs.Acts.{how_many}
+use Rattle.jg_locals.specs.Room.{promised, greater, crowded}
+use Rattle.jg_locals.specs.Rows.{Rows, Table, Room, LocalRow, FrameRow, is_local, is_of_frame, is_crowded, top, room_of, room_or_none, spare, spare_starts, pushed, entered, frame_number, depth_number}
 use Rattle.jg_locals.specs.Standing.{Stands}
-use Rattle.jg_locals.specs.Seen.{last, StackRows, slots_in, frames_in, stack_at, local_row, frame_row, gather, locals_of, frames_of, rows_seen, rooms_seen, room_seen, room_in, Changes, slot_made, IsNext, is_under}
-use Rattle.jg_locals.proofs.Chains.{each-map, each-filter, filter-all, filter-none, filter-twice, filter-alike}
+use Rattle.jg_locals.specs.Seen.{last, StackRows, slots_in, frames_in, stack_at, local_row, frame_row, gather, locals_of, frames_of, rows_seen, rooms_seen, room_seen, room_in, Changes, slot_made, room_set, held_in, is_full, is_frame, is_in, IsNext, is_under}
+use Rattle.jg_locals.proofs.Chains.{each-map, each-filter, filter-all, filter-none, filter-twice, filter-alike, last-map}
 use Rattle.jg_lists.proofs.Acts.{each_thread}
 use Rattle.jg_lists.proofs.Lists.{filter_swap}
-use Rattle.jg_locals.proofs.FrameSteps.{is_not_frame, is_not_depth}
+use Rattle.jg_locals.proofs.FrameSteps.{is_not_frame, is_not_depth, raised}
 use Rattle.jg_locals.proofs.Tops.{find-reverse}
-use Rattle.jg_locals.proofs.Lookups.{fresh}
-use Rattle.jg_locals.proofs.EventLaws.{start_law, make_law, push_law, enter_law, delete_law, pop_law, leave_law, end_law, is_not_in, is_not_at}
+use Rattle.jg_locals.proofs.Lookups.{fresh, crowded_law}
+use Rattle.jg_locals.proofs.Holding.{count-filter}
+use Rattle.jg_locals.proofs.StandingSteps.{own_alike, others_alike}
+use Rattle.jg_locals.proofs.EventLaws.{start_law, make_law, push_law, ensure_law, room_made, enter_law, delete_law, pop_law, leave_law, end_law, is_not_in, is_not_at}
 
 each : {X : Type 0} (P : X → Type 0) → ((x : X) → P x) → (xs : List X) → AllByRecursion P xs
 each P f [] = tt
@@ -60,14 +64,6 @@ find-both p q (x ∷ xs) = at p q x xs (q x) (find-both p q xs)
         → (if (b && p x) then Some x else find (λ x. q x && p x) xs) ≡ find p (if b then x ∷ filter q xs else filter q xs)
     at p q x xs true same = ap (λ o. if p x then Some x else o) same
     at p q x xs false same = same
-
-last-map : {X Y : Type 0} (g : X → Y) (xs : List X) → last (map g xs) ≡ option_map g (last xs)
-last-map g [] = refl
-last-map g (x ∷ xs) = ap (λ o. option_or o (Some (g x))) (last-map g xs) ∙ or_map g x (last xs)
-  where
-    or_map : {X Y : Type 0} (g : X → Y) (x : X) (o : Option X) → option_or (option_map g o) (Some (g x)) ≡ option_map g (option_or o (Some x))
-    or_map g x None = refl
-    or_map g x (Some y) = refl
 
 map-append : {X Y : Type 0} (g : X → Y) (xs ys : List X) → map g (xs ++ ys) ≡ map g xs ++ map g ys
 map-append g [] ys = refl
@@ -259,10 +255,10 @@ top_row : (m : BTreeMap ℕ StackRows) (t : ℕ) (f : Frame) → IsOrdered nat_c
 top_row m t f a is = top_seen m t a ∙ ap (option_map (frame_row t)) is
 
 pub start_step : (old new : BTreeMap ℕ StackRows) (u : ℕ) (e : List Event) → IsOrdered nat_cmp old → IsOrdered nat_cmp new → top u (gather frames_of old.entries) ≡ None
-    → Changes u old new (slots_at old u) (frames_at old u ++ record { depth = 0; frame = 0 } ∷ [])
+    → Changes u old new (slots_at old u) (frames_at old u ++ record { depth = 0; frame = 0; room = promised } ∷ [])
     → Stands (rows_seen old.entries) e → Stands (rows_seen new.entries) (by u Start ∷ e)
 start_step old new u e a b none c stands =
-    alike_stand _ (rows_seen new.entries) (by u Start ∷ e) (same_locals old new u _ a b c) (grow_frames old new u (record { depth = 0; frame = 0 }) _ a b c)
+    alike_stand _ (rows_seen new.entries) (by u Start ∷ e) (same_locals old new u _ a b c) (grow_frames old new u (record { depth = 0; frame = 0; room = promised }) _ a b c)
     (start_law (rows_seen old.entries) e u stands none)
 
 pub make_step : (old new : BTreeMap ℕ StackRows) (u n o : ℕ) (f : Frame) (e : List Event) → IsOrdered nat_cmp old → IsOrdered nat_cmp new → last (frames_at old u) ≡ Some f
@@ -273,18 +269,18 @@ make_step old new u n o f e a b is above c stands =
     alike_stand _ (rows_seen new.entries) (by u (Make n o) ∷ e) (grow_locals old new u (slot_made n o f) _ a b c) (same_frames old new u _ a b c)
     (make_law (rows_seen old.entries) e u n o (frame_row u f) stands (top_row old u f a is) (fresh u n (gather locals_of old.entries) above))
 
-pub push_step : (old new : BTreeMap ℕ StackRows) (u : ℕ) (f : Frame) (e : List Event) → IsOrdered nat_cmp old → IsOrdered nat_cmp new → last (frames_at old u) ≡ Some f
-    → Changes u old new (slots_at old u) (frames_at old u ++ record { depth = f.depth; frame = f.frame + 1 } ∷ [])
-    → Stands (rows_seen old.entries) e → Stands (rows_seen new.entries) (by u Push ∷ e)
-push_step old new u f e a b is c stands =
-    alike_stand _ (rows_seen new.entries) (by u Push ∷ e) (same_locals old new u _ a b c) (grow_frames old new u (record { depth = f.depth; frame = f.frame + 1 }) _ a b c)
-    (push_law (rows_seen old.entries) e u (frame_row u f) stands (top_row old u f a is))
+pub push_step : (old new : BTreeMap ℕ StackRows) (u room : ℕ) (f : Frame) (e : List Event) → IsOrdered nat_cmp old → IsOrdered nat_cmp new → last (frames_at old u) ≡ Some f
+    → Changes u old new (slots_at old u) (frames_at old u ++ record { depth = f.depth; frame = f.frame + 1; room = room } ∷ [])
+    → Stands (rows_seen old.entries) e → Stands (rows_seen new.entries) (by u (Push room) ∷ e)
+push_step old new u room f e a b is c stands =
+    alike_stand _ (rows_seen new.entries) (by u (Push room) ∷ e) (same_locals old new u _ a b c) (grow_frames old new u (record { depth = f.depth; frame = f.frame + 1; room = room }) _ a b c)
+    (push_law (rows_seen old.entries) e u room (frame_row u f) stands (top_row old u f a is))
 
 pub enter_step : (old new : BTreeMap ℕ StackRows) (u : ℕ) (f : Frame) (e : List Event) → IsOrdered nat_cmp old → IsOrdered nat_cmp new → last (frames_at old u) ≡ Some f
-    → Changes u old new (slots_at old u) (frames_at old u ++ record { depth = f.depth + 1; frame = 0 } ∷ [])
+    → Changes u old new (slots_at old u) (frames_at old u ++ record { depth = f.depth + 1; frame = 0; room = promised } ∷ [])
     → Stands (rows_seen old.entries) e → Stands (rows_seen new.entries) (by u Enter ∷ e)
 enter_step old new u f e a b is c stands =
-    alike_stand _ (rows_seen new.entries) (by u Enter ∷ e) (same_locals old new u _ a b c) (grow_frames old new u (record { depth = f.depth + 1; frame = 0 }) _ a b c)
+    alike_stand _ (rows_seen new.entries) (by u Enter ∷ e) (same_locals old new u _ a b c) (grow_frames old new u (record { depth = f.depth + 1; frame = 0; room = promised }) _ a b c)
     (enter_law (rows_seen old.entries) e u (frame_row u f) stands (top_row old u f a is))
 
 pub delete_step : (old new : BTreeMap ℕ StackRows) (u n : ℕ) (e : List Event) → IsOrdered nat_cmp old → IsOrdered nat_cmp new
@@ -313,6 +309,61 @@ leave_step old new u f e a b is some c stands =
     (thin_locals old new u (is_not_at u f.depth) (λ s. not (s.depth == f.depth)) _ a b c (λ s. grind (arith, nat_tests)) (λ t s d. grind (arith, nat_tests)))
     (thin_frames old new u (is_not_depth u f.depth) (λ g. not (g.depth == f.depth)) _ a b c (λ g. grind (arith, nat_tests)) (λ t g d. grind (arith, nat_tests)))
     (leave_law (rows_seen old.entries) e u (frame_row u f) stands (top_row old u f a is) some)
+
+-- ---- what the newest frame holds, and its room
+
+count-map : {X Y : Type 0} (p : Y → Bool) (g : X → Y) (xs : List X) → how_many p (map g xs) ≡ how_many (λ x. p (g x)) xs
+count-map p g [] = refl
+count-map p g (x ∷ xs) = ap (λ n. if p (g x) then n + 1 else n) (count-map p g xs)
+
+-- the rows of the frame's locals are as many as its stack's
+pub held_seen : (m : BTreeMap ℕ StackRows) (t : ℕ) (f : Frame) → IsOrdered nat_cmp m → how_many (is_of_frame (frame_row t f)) (gather locals_of m.entries) ≡ held_in (Some f) (slots_at m t)
+held_seen m t f ordered =
+    count-filter (λ row. row.depth == f.depth && row.frame == f.frame) (λ row. row.tid == t) (gather locals_of m.entries)
+    ∙ (ap (how_many (λ row. row.depth == f.depth && row.frame == f.frame)) (own_locals m t ordered) ∙ count-map (λ row. row.depth == f.depth && row.frame == f.frame) (local_row t) (slots_at m t))
+
+row_set : (t d k room : ℕ) (f : Frame) → raised t d k room (frame_row t f) ≡ frame_row t (room_set room d k f)
+row_set t d k room f =
+    let mine : (t == t) ≡ true = grind (arith, nat_tests) in
+    rw mine (at (is_frame d k f))
+  where
+    at : (b : Bool) → (if b then record (frame_row t f) { room = room } else frame_row t f) ≡ frame_row t (if b then record f { room = room } else f)
+    at true = refl
+    at false = refl
+
+rows_set : (t d k room : ℕ) (fs : List Frame) → map (raised t d k room) (map (frame_row t) fs) ≡ map (frame_row t) (map (room_set room d k) fs)
+rows_set t d k room [] = refl
+rows_set t d k room (f ∷ fs) = rw (row_set t d k room f, rows_set t d k room fs) refl
+
+raised_tid : (t d k room : ℕ) (row : FrameRow) → (raised t d k room row).tid ≡ row.tid
+raised_tid t d k room row = elim (row.tid == t && (row.depth == d && row.frame == k)) as (λ b. (if b then record row { room = room } else row).tid ≡ row.tid) [ true ↦ refl | false ↦ refl ]
+
+raised_other : (t d k room : ℕ) (row : FrameRow) → row.tid ≢ t → raised t d k room row ≡ row
+raised_other t d k room row differ =
+    let fails : (row.tid == t && (row.depth == d && row.frame == k)) ≡ false = grind (arith, nat_tests) in
+    rw fails refl
+
+raise_frames : (old new : BTreeMap ℕ StackRows) (u d k room : ℕ) (ls : List Slot) → IsOrdered nat_cmp old → IsOrdered nat_cmp new → Changes u old new ls (map (room_set room d k) (frames_at old u))
+    → (t : ℕ) → filter (λ row. row.tid == t) (map (raised u d k room) (gather frames_of old.entries)) ≡ filter (λ row. row.tid == t) (gather frames_of new.entries)
+raise_frames old new u d k room ls a b c t =
+    let olds = gather frames_of old.entries in
+    let news = gather frames_of new.entries in
+    each_thread (λ v. filter (λ row. row.tid == v) (map (raised u d k room) olds) ≡ filter (λ row. row.tid == v) news) u
+    (own_alike u (raised u d k room) olds (λ row. raised_tid u d k room row)
+    ∙ (ap (map (raised u d k room)) (own_frames old u a) ∙ (rows_set u d k room (frames_at old u) ∙ (ap (map (frame_row u)) (sym c.frames) ∙ sym (own_frames new u b)))))
+    (λ v differ. others_alike v u (raised u d k room) olds differ (λ row. raised_tid u d k room row) (λ row other. raised_other u d k room row other)
+    ∙ (own_frames old v a ∙ (ap (λ x. map (frame_row v) (frames_in x)) (sym (c.others v differ)) ∙ sym (own_frames new v b))))
+    t
+
+pub ensure_step : (old new : BTreeMap ℕ StackRows) (u c : ℕ) (f : Frame) (e : List Event) → IsOrdered nat_cmp old → IsOrdered nat_cmp new → last (frames_at old u) ≡ Some f
+    → Changes u old new (slots_at old u) (map (room_set (greater f.room (c + held_in (Some f) (slots_at old u))) f.depth f.frame) (frames_at old u))
+    → Stands (rows_seen old.entries) e → Stands (rows_seen new.entries) (by u (Ensure c) ∷ e)
+ensure_step old new u c f e a b is changes stands =
+    let room = greater f.room (c + held_in (Some f) (slots_at old u)) in
+    let same : room_made c (frame_row u f) (gather locals_of old.entries) ≡ room = ap (λ n. greater f.room (c + n)) (held_seen old u f a) in
+    let P : ℕ → Type 0 = λ x. Stands (record { locals = gather locals_of old.entries; frames = map (raised u f.depth f.frame x) (gather frames_of old.entries) }) (by u (Ensure c) ∷ e) in
+    let law = subst P same (ensure_law (rows_seen old.entries) e u c (frame_row u f) stands (top_row old u f a is)) in
+    alike_stand _ (rows_seen new.entries) (by u (Ensure c) ∷ e) (same_locals old new u _ a b changes) (raise_frames old new u f.depth f.frame room _ a b changes) law
 
 none_left : {X : Type 0} (xs : List X) → [] ≡ filter (λ x. false) xs
 none_left [] = refl
@@ -422,6 +473,23 @@ pub pushed_seen : (m : BTreeMap ℕ StackRows) (a : Table) (t x : ℕ) (f : Opti
     → x ≡ frame_number (option_map (frame_row t) f) → x ≡ pushed t a.rows
 pushed_seen m a t x f ordered is at found = found ∙ (ap (λ o. frame_number (option_map (frame_row t) o)) at ∙ ap frame_number (sym (top_in m a t ordered is)))
 
+crowded_by : (m : BTreeMap ℕ StackRows) (t : ℕ) (f : Option Frame) → IsOrdered nat_cmp m → last (frames_at m t) ≡ f
+    → is_crowded (gather locals_of m.entries) (option_map (frame_row t) f) ≡ is_full f (held_in f (slots_at m t))
+crowded_by m t None ordered is = refl
+crowded_by m t (Some f) ordered is = ap (λ n. nat_lt f.room n) (held_seen m t f ordered)
+
+-- the newest frame is the one that was looked up
+pub full_of : (fs : List Frame) (slots : List Slot) (f : Option Frame) → last fs ≡ f → is_full f (held_in (last fs) slots) ≡ is_full (last fs) (held_in (last fs) slots)
+full_of fs slots f is = ap (λ x. is_full x (held_in (last fs) slots)) (sym is)
+
+-- whether the newest frame holds more than its room
+pub crowded_seen : (m : BTreeMap ℕ StackRows) (a : Table) (e : List Event) (t : ℕ) → IsOrdered nat_cmp m → table_seen m ≡ a → Stands a.rows e
+    → is_full (last (frames_at m t)) (held_in (last (frames_at m t)) (slots_at m t)) ≡ crowded (acts_of t e)
+crowded_seen m a e t ordered is stands =
+    let by_rows = crowded_by m t (last (frames_at m t)) ordered refl in
+    let P : Table → Type 0 = λ v. Stands v.rows e in
+    sym (ap (is_crowded (gather locals_of m.entries)) (top_seen m t ordered) ∙ by_rows) ∙ crowded_law (rows_seen m.entries) e t (subst P (sym is) stands)
+
 pub depth_seen : (m : BTreeMap ℕ StackRows) (a : Table) (t x : ℕ) (f : Option Frame) → IsOrdered nat_cmp m → table_seen m ≡ a → f ≡ last (frames_at m t) → x ≡ depth_number (option_map (frame_row t) f)
     → x ≡ entered t a.rows
 depth_seen m a t x f ordered is at found = found ∙ (ap (λ o. depth_number (option_map (frame_row t) o)) at ∙ ap depth_number (sym (top_in m a t ordered is)))
@@ -493,11 +561,11 @@ next_first m t f ordered none =
     let P : Option Frame → Type 0 = λ o. IsNext o f in
     subst P (sym (none_of_top t (last (frames_at m t)) (sym (top_seen m t ordered) ∙ none))) tt
 
-pub next_push : (top : Frame) → is_under top (record { depth = top.depth; frame = top.frame + 1 }) ≡ true
-next_push top = grind (arith, nat_tests)
+pub next_push : (top : Frame) (room : ℕ) → is_under top (record { depth = top.depth; frame = top.frame + 1; room = room }) ≡ true
+next_push top room = grind (arith, nat_tests)
 
-pub next_enter : (top : Frame) → is_under top (record { depth = top.depth + 1; frame = 0 }) ≡ true
-next_enter top = grind (arith, nat_tests)
+pub next_enter : (top : Frame) (room : ℕ) → is_under top (record { depth = top.depth + 1; frame = 0; room = room }) ≡ true
+next_enter top room = grind (arith, nat_tests)
 
 -- ---- room
 

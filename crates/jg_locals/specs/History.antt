@@ -8,12 +8,13 @@ pub use Rattle.jg_lists.specs.Acts.{by, acts_of, how_many}
 use Rattle.std.specs.Prelude.{ℕ, ◌+◌, ◌-◌, ◌<◌, Bool, true, false, ◌==◌, ◌&&◌, not, nat_le, if◌then◌else◌, List, [], ◌∷◌, Option, Some, None}
 use Rattle.std.specs.List.{list_any}
 
--- what a thread did: began or ended a session, was handed local n for an object, pushed or popped a frame, entered or
--- left a native method, deleted local n
+-- what a thread did: began or ended a session, was handed local n for an object, pushed a frame with room for so many
+-- locals, asked for room for so many more, entered or left a native method, deleted local n, popped a frame
 pub data Act : Type 0 where
   Start : Act
   Make : (n : ℕ) → (object : ℕ) → Act
-  Push : Act
+  Push : (room : ℕ) → Act
+  Ensure : (capacity : ℕ) → Act
   Enter : Act
   Delete : (n : ℕ) → Act
   Pop : Act
@@ -33,7 +34,7 @@ is_leave Leave = true
 is_leave a = false
 
 abbrev pub is_push : Act → Bool
-is_push Push = true
+is_push (Push room) = true
 is_push a = false
 
 abbrev pub is_pop : Act → Bool

@@ -1,10 +1,12 @@
 -- What the definitions mean, in the words of the list, and what rows that stand tell of it.
-use Rattle.std.specs.Prelude.{◌≡◌, ◌≢◌, ◌⊎◌, ◌↔◌, ◌<◌, ◌+◌, ◌==◌, ◌&&◌, if◌then◌else◌, ℕ, Bool, true, false, List, [], ◌∷◌, ◌++◌, Option, Some, None, IsTrue, All}
+use Rattle.std.specs.Prelude.{◌≡◌, ◌≢◌, ◌⊎◌, ◌↔◌, ◌<◌, ◌+◌, ◌==◌, ◌&&◌, if◌then◌else◌, ℕ, Bool, true, false, List, [], ◌∷◌, ◌++◌, Option, Some, None, IsTrue, All, map}
 use Rattle.std.specs.List.{list_any}
+use Rattle.std.specs.Option.{is_some}
 use Rattle.jg_lists.specs.Acts.{Moment, moments}
 use Rattle.jg_locals.specs.History.{Act, Make, Delete, Pop, Leave, Event, acts_of, is_enter, is_leave, is_push, is_pop, how_many, has_session, depth, begins, frames, done_here, ends, live, holds_object, IsMadeBelow}
+use Rattle.jg_locals.specs.Room.{opened_with, asked, greater, frame_room}
 use Rattle.jg_locals.specs.Rows.{FrameRow, Rows, top, HasFrame, pushed, entered}
-use Rattle.jg_locals.specs.Standing.{AllAllowed, Stands}
+use Rattle.jg_locals.specs.Standing.{AllAllowed, row_of_frame, Stands}
 
 -- the act ends local n, where `since` was done between the making of n and the act: it deletes n or ends the session;
 -- or with it more activations were left than entered; or, in the activation of the making, more frames popped than
@@ -63,6 +65,22 @@ OpenFramesMean = (d : ℕ) (later before : List Act) (a : Act) → AllAllowed (l
     → frames d (later ++ a ∷ before) + how_many (is_at_depth is_pop d) (moments later (a ∷ before))
     ≡ how_many (is_at_depth is_push d) (moments later (a ∷ before))
 
+-- the moment opens the frame
+abbrev pub opens_at : ℕ → ℕ → Moment Act → Bool
+opens_at d k m = is_some (opened_with d k m.act m.before)
+
+-- the greatest of the number and the list's
+abbrev pub greatest : ℕ → List ℕ → ℕ
+greatest n [] = n
+greatest n (m ∷ ms) = greater (greatest n ms) m
+
+-- room: since the act that opened the frame, the greatest of what it was opened with and of what was asked for in it
+-- (JNI Specification, chapter 4, PushLocalFrame and EnsureLocalCapacity)
+abbrev pub RoomMeans : Type 0
+RoomMeans = (d k room : ℕ) (later before : List Act) (a : Act) → opened_with d k a before ≡ Some room
+    → list_any (opens_at d k) (moments later (a ∷ before)) ≡ false
+    → frame_room d k (later ++ a ∷ before) ≡ greatest room (map (λ m. asked d k m.act m.before) (moments later (a ∷ before)))
+
 -- what was deleted, and not made again, is not live
 abbrev pub DeletedStaysDead : Type 0
 DeletedStaysDead = (n : ℕ) (later before : List Act) → IsNotMade n later → live n (later ++ Delete n ∷ before) ≡ None
@@ -78,10 +96,10 @@ abbrev pub SessionHasFrame : Type 0
 SessionHasFrame = (rows : Rows) (e : List Event) (t : ℕ) → Stands rows e → has_session (acts_of t e) ≡ true
     → HasFrame t rows
 
--- the newest frame, where the thread has a session: its depth, and the frames pushed there
+-- the newest frame, where the thread has a session: its depth, the frames pushed there, and its room
 abbrev pub top_of_acts : ℕ → List Act → Option FrameRow
 top_of_acts t acts =
-    if has_session acts then Some (record { tid = t; depth = depth acts; frame = frames (depth acts) acts }) else None
+    if has_session acts then Some (row_of_frame t (depth acts) (frames (depth acts) acts) acts) else None
 
 abbrev pub TopMeans : Type 0
 TopMeans = (rows : Rows) (e : List Event) (t : ℕ) → Stands rows e → top t rows.frames ≡ top_of_acts t (acts_of t e)

@@ -1,4 +1,5 @@
 pub mod History
+pub mod Room
 pub mod Rows
 pub mod Seen
 pub mod Standing

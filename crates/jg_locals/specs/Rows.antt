@@ -1,8 +1,9 @@
 -- The rows that the table keeps, and the room that it has.
-use Rattle.std.specs.Prelude.{ℕ, Bool, ◌==◌, ◌&&◌, List, find, reverse, Option, Some, None, IsSome}
+use Rattle.std.specs.Prelude.{ℕ, Bool, false, ◌==◌, ◌&&◌, nat_lt, List, find, reverse, Option, Some, None, IsSome}
 use Rattle.std.specs.Map.{lookup}
 use Rattle.std.specs.Ordering.{nat_cmp}
 use Rattle.std.specs.BTreeMap.{is_at}
+use Rattle.jg_lists.specs.Acts.{how_many}
 use Rattle.jg_words.specs.declared.reference.Ref.{Ref}
 use Rattle.jg_words.specs.declared.reference.Ref.TheVariants.{To}
 use Rattle.jg_words.specs.declared.reference.Kind.TheVariants.{Local}
@@ -19,11 +20,13 @@ pub record LocalRow : Type 0 where
 abbrev pub local_ref : LocalRow → Ref
 local_ref row = To Local (record { 0 = row.tid }) row.n
 
--- an open frame of a thread: 0 for what an activation began with, and those pushed in it count from 1
+-- an open frame of a thread: 0 for what an activation began with, and those pushed in it count from 1; and for how many
+-- locals it has room
 pub record FrameRow : Type 0 where
   pub tid : ℕ
   pub depth : ℕ
   pub frame : ℕ
+  pub room : ℕ
 
 -- the rows of locals and of frames, each thread's oldest first
 pub record Rows : Type 0 where
@@ -54,6 +57,15 @@ spare table t = (room_of table.room t).locals
 -- for how many more base frames of the thread there is room
 abbrev pub spare_starts : Table → ℕ → ℕ
 spare_starts table t = (room_of table.room t).frames
+
+-- the local was made in that frame
+abbrev pub is_of_frame : FrameRow → LocalRow → Bool
+is_of_frame f row = row.tid == f.tid && (row.depth == f.depth && row.frame == f.frame)
+
+-- the frame's live locals are more than it has room for
+abbrev pub is_crowded : List LocalRow → Option FrameRow → Bool
+is_crowded locals None = false
+is_crowded locals (Some f) = nat_lt f.room (how_many (is_of_frame f) locals)
 
 -- the row is of the thread's local n
 abbrev pub is_local : ℕ → ℕ → LocalRow → Bool

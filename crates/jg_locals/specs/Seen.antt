@@ -1,12 +1,15 @@
 -- What contracts see of the stacks that the code keeps.
-use Rattle.std.specs.Prelude.{◌≡◌, ◌≢◌, ℕ, Bool, true, false, ◌==◌, ◌&&◌, ◌||◌, not, nat_lt, nat_le, List, [], ◌∷◌, ◌++◌, map, Option, Some, None}
+use Rattle.std.specs.Prelude.{◌≡◌, ◌≢◌, ℕ, ◌+◌, ◌-◌, Bool, true, false, ◌==◌, ◌&&◌, ◌||◌, not, if◌then◌else◌, nat_lt, nat_le, List, [], ◌∷◌, ◌++◌, map, filter, Option, Some, None}
 use Rattle.std.specs.Option.{option_or}
 use Rattle.std.specs.List.{AllByRecursion, list_any}
 use Rattle.std.specs.Map.{lookup}
-use Rattle.std.specs.Ordering.{nat_cmp}
+use Rattle.std.specs.Ordering.{nat_cmp, ordering_then}
+use Rattle.std.specs.declared.cmp.Ordering.{Ordering}
+use Rattle.jg_lists.specs.Acts.{how_many}
 use Rattle.std.specs.BTreeMap.{BTreeMap, is_at}
 use Rattle.jg_locals.specs.declared.row.Slot.{Slot}
 use Rattle.jg_locals.specs.declared.row.Frame.{Frame}
+use Rattle.jg_locals.specs.declared.row.Opened.{Opened}
 use Rattle.jg_words.specs.declared.reference.Ref.{Ref}
 use Rattle.jg_locals.specs.Rows.{LocalRow, FrameRow, Rows, Room, local_ref}
 
@@ -69,6 +72,62 @@ pub record Kept (slots : List Slot) (frames : List Frame) : Type 0 where
   pub opened : Chain is_under frames
   pub ends : passes is_live (last slots) ≡ true
 
+-- ---- the frames as the code keeps them, each with its count
+
+abbrev pub frame_of : Opened → Frame
+frame_of o = o.frame
+
+-- the frame of that depth and number
+abbrev pub is_frame : ℕ → ℕ → Frame → Bool
+is_frame d k f = f.depth == d && f.frame == k
+
+abbrev pub is_opened_under : Opened → Opened → Bool
+is_opened_under o p = is_under o.frame p.frame
+
+-- before, at or after the frame of that depth and number
+abbrev pub frame_cmp : ℕ → ℕ → Frame → Ordering
+frame_cmp d k f = ordering_then (nat_cmp f.depth d) (nat_cmp f.frame k)
+
+-- with a change at one frame
+abbrev pub at_frame : (Opened → Opened) → ℕ → ℕ → Opened → Opened
+at_frame g d k o = if is_frame d k o.frame then g o else o
+
+abbrev pub one_more : Opened → Opened
+one_more o = record o { held = o.held + 1 }
+
+abbrev pub one_less : Opened → Opened
+one_less o = record o { held = o.held - 1 }
+
+abbrev pub counted_less : Option Slot → List Opened → List Opened
+counted_less None os = os
+counted_less (Some s) os = map (at_frame one_less s.depth s.frame) os
+
+abbrev pub with_room : ℕ → Opened → Opened
+with_room room o = record o { frame = record o.frame { room = room } }
+
+-- the frame itself, with another room at one
+abbrev pub room_set : ℕ → ℕ → ℕ → Frame → Frame
+room_set room d k f = if is_frame d k f then record f { room = room } else f
+
+-- each frame's count is that of the live slots made in it
+abbrev pub Counted : List Slot → List Opened → Type 0
+Counted live opened = AllByRecursion (λ o. o.held ≡ how_many (λ s. is_in s o.frame) live) opened
+
+-- what a thread's stack keeps
+pub record Stacked (slots : List Slot) (opened : List Opened) : Type 0 where
+  pub kept : Kept slots (map frame_of opened)
+  pub counted : Counted (filter is_live slots) opened
+
+-- how many of the locals were made in the frame
+abbrev pub held_in : Option Frame → List Slot → ℕ
+held_in None live = 0
+held_in (Some f) live = how_many (λ s. is_in s f) live
+
+-- the frame has room for less
+abbrev pub is_full : Option Frame → ℕ → Bool
+is_full None n = false
+is_full (Some f) n = nat_lt f.room n
+
 -- the live locals and the open frames of one thread, oldest first, with its room
 pub record StackRows : Type 0 where
   pub locals : List Slot
@@ -111,7 +170,7 @@ abbrev pub slot_ref : ℕ → Slot → Ref
 slot_ref t s = local_ref (local_row t s)
 
 abbrev pub frame_row : ℕ → Frame → FrameRow
-frame_row t f = record { tid = t; depth = f.depth; frame = f.frame }
+frame_row t f = record { tid = t; depth = f.depth; frame = f.frame; room = f.room }
 
 -- what f gives of each entry, one after the other
 abbrev pub gather : {V X : Type 0} → (ℕ → V → List X) → List (ℕ × V) → List X

@@ -1,7 +1,8 @@
 ghost use Rattle.std.specs.Prelude.{◌≡◌, ℕ, ◌+◌, ◌<◌, ◌≤◌, ◌↔◌, ◌||◌, ◌++◌, List, [], ◌∷◌, OnOk, OnErr, IsOk, IsNone, IsSome, IsTrue, All, false, map, length, slice_index_or};
 ghost use Rattle.std.specs.Option.{is_some, option_map};
-ghost use Rattle.jg_locals.specs.History.{Event, by, Start, Make, Push, Enter, Delete, Pop, Leave, End, acts_of, has_session, depth, frames, live, holds_object};
+ghost use Rattle.jg_locals.specs.History.{Event, by, Start, Make, Push, Ensure, Enter, Delete, Pop, Leave, End, acts_of, has_session, depth, frames, live, holds_object};
 ghost use Rattle.jg_lists.specs.Marks.{Marks};
+ghost use Rattle.jg_locals.specs.Room.{greater, crowded};
 ghost use Rattle.jg_locals.specs.Standing.{Stands};
 ghost use Rattle.jg_locals.specs.Rows.{top, local_ref, HasFrame, pushed, entered, frame_number, depth_number, spare, spare_starts};
 ghost use Rattle.jg_locals.specs.Seen.{frame_row};
@@ -9,13 +10,16 @@ ghost use Rattle.jg_locals.specs.Seen.{frame_row};
 use crate::row::Frame;
 use crate::stack::Stack;
 use crate::stacks::{
-    add_stack, delete_at, drop_at, is_above_at, leave_at, list_in, make_at, mark_named_in,
-    names_object_in, object_at, open_at, pop_at, reserve_at, reserve_frame_at, top_at,
+    add_stack, delete_at, drop_at, held_at, is_above_at, leave_at, list_in, make_at, mark_named_in,
+    names_object_in, object_at, open_at, pop_at, reserve_at, reserve_frame_at, set_room_at, top_at,
 };
 use jg_words::{ObjId, Ref, Tid};
 use std::alloc::{AllocError, Allocator, Global};
 use std::collections::BTreeMap;
 use std::marker::Model;
+
+/// For how many locals a native method has room that asks for no more.
+const PROMISED: u64 = 16;
 
 /// The live local references and the open frames of all threads. Contracts see the rows, and
 /// beside them the room that `reserve` and `reserve_start` make.
@@ -50,8 +54,8 @@ impl<A: Allocator + Clone> Locals<A> {
         }
     }
 
-    /// Begins the session of a thread that has none, with an empty base frame at depth 0 (chapter 5,
-    /// `AttachCurrentThread`). Asks that it has none; the test is `has_session`. Fails only for want
+    /// Begins the session of a thread that has none, with an empty base frame at depth 0 that has
+    /// room for 16 locals (chapter 5, `AttachCurrentThread`; chapter 4, "Local References"). Asks that it has none; the test is `has_session`. Fails only for want
     /// of memory, and then leaves all rows unchanged; after `reserve_start` it can't fail.
     pub fn start_thread(&mut self, tid: Tid) -> Result<(), AllocError>
         requires { IsNone (top tid.0 self.old.rows.frames) }
@@ -61,7 +65,15 @@ impl<A: Allocator + Clone> Locals<A> {
         ensures room { 0 < spare_starts self.old tid.0 → IsOk result }
     {
         add_stack(&mut self.stacks, &self.alloc, tid.0)?;
-        open_at(&mut self.stacks, tid.0, Frame { depth: 0, frame: 0 })
+        open_at(
+            &mut self.stacks,
+            tid.0,
+            Frame {
+                depth: 0,
+                frame: 0,
+                room: PROMISED,
+            },
+        )
     }
 
     /// Makes local `n` for the object, in the thread's newest frame (chapter 2, "Global and Local
@@ -103,14 +115,14 @@ impl<A: Allocator + Clone> Locals<A> {
         reserve_frame_at(&mut self.stacks, tid.0)
     }
 
-    /// Pushes a frame (chapter 4, `PushLocalFrame`). Asks that the thread has a session
-    /// (`has_session`) and that its frames can be counted (`pushed` below the greatest `u64`). Fails
-    /// only for want of memory, and then leaves all rows unchanged.
-    pub fn push(&mut self, tid: Tid) -> Result<(), AllocError>
+    /// Pushes a frame with room for so many locals (chapter 4, `PushLocalFrame`). Asks that the
+    /// thread has a session (`has_session`) and that its frames can be counted (`pushed` below the
+    /// greatest `u64`). Fails only for want of memory, and then leaves all rows unchanged.
+    pub fn push(&mut self, tid: Tid, room: u32) -> Result<(), AllocError>
         requires started { HasFrame tid.0 self.old.rows }
         requires fits { pushed tid.0 self.old.rows < u64.MAX }
         ensures ok { OnOk result ((e : List Event) → Stands self.old.rows e
-            → Stands self.new.rows (by tid.0 Push ∷ e)) }
+            → Stands self.new.rows (by tid.0 (Push room) ∷ e)) }
         ensures err { OnErr result (self.new.rows ≡ self.old.rows) }
         ensures room { spare self.old tid.0 ≤ spare self.new tid.0 }
     {
@@ -121,12 +133,13 @@ impl<A: Allocator + Clone> Locals<A> {
             Frame {
                 depth: top.depth,
                 frame: top.frame + 1,
+                room: room as u64,
             },
         )
     }
 
-    /// Enters a native method: a new activation, with an empty base frame (chapter 2, "Global and
-    /// Local References"). Asks that the thread has a session (`has_session`) and that its depth can
+    /// Enters a native method: a new activation, with an empty base frame that has room for 16
+    /// locals (chapter 2, "Global and Local References"; chapter 4, "Local References"). Asks that the thread has a session (`has_session`) and that its depth can
     /// be counted (`depth` below the greatest `u64`). Fails only for want of memory, and then leaves
     /// all rows unchanged.
     pub fn enter(&mut self, tid: Tid) -> Result<(), AllocError>
@@ -144,8 +157,23 @@ impl<A: Allocator + Clone> Locals<A> {
             Frame {
                 depth: top.depth + 1,
                 frame: 0,
+                room: PROMISED,
             },
         )
+    }
+
+    /// Makes the room of the thread's newest frame at least `capacity` beside what the frame holds
+    /// now (chapter 4, `EnsureLocalCapacity`). Asks that the thread has a session (`has_session`).
+    /// Takes no memory.
+    pub fn ensure(&mut self, tid: Tid, capacity: u32)
+        requires { HasFrame tid.0 self.old.rows }
+        ensures stands { (e : List Event) → Stands self.old.rows e
+            → Stands self.new.rows (by tid.0 (Ensure capacity) ∷ e) }
+        ensures room { spare self.old tid.0 ≤ spare self.new tid.0 }
+    {
+        let top = top_at(&self.stacks, tid.0).unwrap();
+        let asked = capacity as u64 + held_at(&self.stacks, tid.0);
+        set_room_at(&mut self.stacks, tid.0, top, greater(top.room, asked));
     }
 
     /// Ends the thread's local `n`, if it is live (chapter 4, `DeleteLocalRef`). Takes no memory, and
@@ -211,6 +239,20 @@ impl<A: Allocator + Clone> Locals<A> {
         frame_in(top_at(&self.stacks, tid.0)) > 0
     }
 
+    /// Whether the thread's newest frame holds more live locals than it has room for (chapter 4,
+    /// "Local References"). Takes no longer where it holds many. What other threads did makes no
+    /// difference.
+    pub fn crowded(&self, tid: Tid) -> bool
+        ensures history { (e : List Event) → Stands self.now.rows e → result ≡ crowded (acts_of tid.0 e) }
+        ensures own_thread { (e f : List Event) → Stands self.now.rows e → acts_of tid.0 e ≡ acts_of tid.0 f
+            → result ≡ crowded (acts_of tid.0 f) }
+    {
+        match top_at(&self.stacks, tid.0) {
+            None => false,
+            Some(top) => top.room < held_at(&self.stacks, tid.0),
+        }
+    }
+
     /// How many frames were pushed at the thread's present depth and aren't popped: 0 where the
     /// thread has no session.
     pub fn pushed(&self, tid: Tid) -> u64
@@ -269,6 +311,12 @@ impl<A: Allocator + Clone> Locals<A> {
     {
         list_in(&self.stacks, refs)
     }
+}
+
+fn greater(a: u64, b: u64) -> u64
+    ensures { result ≡ greater a b }
+{
+    if a < b { b } else { a }
 }
 
 fn id_of(object: Option<u64>) -> Option<ObjId>

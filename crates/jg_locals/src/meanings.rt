@@ -1,7 +1,7 @@
 //! What the definitions on locals mean, and what rows that stand tell, each as the contract of a
 //! function that does nothing.
 
-ghost use Rattle.jg_locals.specs.Laws.{LiveMeans, LeftMeans, PoppedMeans, OpenFramesMean, DeletedStaysDead, HeldMeans, SessionHasFrame, TopMeans, PushedMeans, EnteredMeans, NewNumberIsAbove, LiveIsBelow};
+ghost use Rattle.jg_locals.specs.Laws.{LiveMeans, LeftMeans, PoppedMeans, OpenFramesMean, RoomMeans, DeletedStaysDead, HeldMeans, SessionHasFrame, TopMeans, PushedMeans, EnteredMeans, NewNumberIsAbove, LiveIsBelow};
 
 /// A local is live exactly where it was made, and nothing since has made it again or ended it.
 pub fn live_means()
@@ -23,6 +23,11 @@ pub fn popped_means()
 /// activation of that depth began.
 pub fn open_frames_mean()
     ensures { OpenFramesMean }
+{}
+
+/// A frame's room is the greatest of what it was opened with and of what was asked for in it since.
+pub fn room_means()
+    ensures { RoomMeans }
 {}
 
 /// A local that was deleted is not live again, unless its number is made again.

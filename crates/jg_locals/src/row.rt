@@ -11,9 +11,17 @@ pub struct Slot {
 }
 
 /// An open frame: `frame` is 0 for what an activation began with, and those pushed in it count
-/// from 1.
+/// from 1; `room` is for how many locals it has room.
 #[derive(Clone, Copy, Debug, PartialEq, Eq)]
 pub struct Frame {
     pub depth: u64,
     pub frame: u64,
+    pub room: u64,
+}
+
+/// A frame as a thread's stack keeps it, with how many live locals were made in it.
+#[derive(Clone, Copy, Debug, PartialEq, Eq)]
+pub struct Opened {
+    pub frame: Frame,
+    pub held: u64,
 }

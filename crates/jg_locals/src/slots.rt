@@ -1,10 +1,10 @@
-//! One thread's list of locals, which ascends by number, and its list of frames.
+//! One thread's list of locals, which ascends by number.
 
-ghost use Rattle.std.specs.Prelude.{◌≡◌, ◌≢◌, ◌≤◌, ◌<◌, ◌-◌, ◌&&◌, ◌==◌, ◌||◌, ◌++◌, ◌∷◌, ◌↔◌, ℕ, [], IfSome, IsTrue, List, All, OnOk, map, Some, None, MatchOption, true, false, not, nat_le, filter, find, length, slice_index_or, vec_len, vec_capacity};
+ghost use Rattle.std.specs.Prelude.{◌≡◌, ◌≢◌, ◌≤◌, ◌<◌, ◌-◌, ◌&&◌, ◌==◌, ◌||◌, ◌++◌, ◌∷◌, ◌↔◌, ℕ, [], IfSome, IsTrue, List, All, OnOk, map, Some, None, MatchOption, true, false, not, nat_le, if◌then◌else◌, filter, find, length, slice_index_or, vec_len, vec_capacity};
 ghost use Rattle.std.specs.Option.{option_map, option_to_list};
 ghost use Rattle.std.specs.List.{AllByRecursion, list_any};
 ghost use Rattle.jg_lists.specs.Marks.{Marks};
-ghost use Rattle.jg_locals.specs.Seen.{Chain, is_before, is_under, is_live, last, passes, stays, is_below, is_from, IsBelowAll, Sound, slot_ref};
+ghost use Rattle.jg_locals.specs.Seen.{Chain, is_before, is_live, last, passes, stays, is_below, IsBelowAll, Sound, slot_ref};
 ghost use Rattle.jg_locals.specs.declared.row.Frame.{Frame};
 
 use crate::row::{Frame, Slot};
@@ -49,9 +49,10 @@ pub fn object_of(slots: &[Slot], n: u64) -> Option<u64>
     }
 }
 
-/// Marks the local `n` dead, and answers whether it was live.
-fn mark_dead<A: Allocator>(slots: &mut Vec<Slot, A>, n: u64) -> bool
+/// Marks the local `n` dead, and answers it if it was live.
+fn mark_dead<A: Allocator>(slots: &mut Vec<Slot, A>, n: u64) -> Option<Slot>
     requires { Chain is_before slots.old.items }
+    ensures was { result ≡ find (λ s. s.n == n) (filter is_live slots.old.items) }
     ensures marked { filter is_live slots.new.items ≡ filter (λ s. not (s.n == n)) (filter is_live slots.old.items) }
     ensures sound { (frames : List Frame) → Sound slots.old.items frames → Sound slots.new.items frames }
     ensures rises { Chain is_before slots.new.items }
@@ -59,12 +60,18 @@ fn mark_dead<A: Allocator>(slots: &mut Vec<Slot, A>, n: u64) -> bool
 {
     match place_of(slots, n) {
         Some(i) => {
-            let was = slots[i].live;
+            let was = live_slot(slots[i]);
             slots[i].live = false;
             was
         }
-        None => false,
+        None => None,
     }
+}
+
+fn live_slot(slot: Slot) -> Option<Slot>
+    ensures { result ≡ if slot.live then Some slot else None }
+{
+    if slot.live { Some(slot) } else { None }
 }
 
 /// The newest slot, live or dead.
@@ -72,13 +79,6 @@ pub fn newest_slot(slots: &[Slot]) -> Option<Slot>
     ensures { result ≡ last slots.now }
 {
     slots.last().copied()
-}
-
-/// The newest frame.
-pub fn newest_frame(frames: &[Frame]) -> Option<Frame>
-    ensures { result ≡ last frames.now }
-{
-    frames.last().copied()
 }
 
 fn is_below(slot: Slot, frame: Frame) -> bool
@@ -123,9 +123,10 @@ pub fn close_up<A: Allocator>(slots: &mut Vec<Slot, A>)
     slots.retain(|slot| slot.live);
 }
 
-/// Ends the local `n`, and answers whether it was live.
-pub fn end_local<A: Allocator>(slots: &mut Vec<Slot, A>, n: u64) -> bool
+/// Ends the local `n`, and answers it if it was live.
+pub fn end_local<A: Allocator>(slots: &mut Vec<Slot, A>, n: u64) -> Option<Slot>
     requires { Chain is_before slots.old.items }
+    ensures was { result ≡ find (λ s. s.n == n) (filter is_live slots.old.items) }
     ensures live { filter is_live slots.new.items ≡ filter (λ s. not (s.n == n)) (filter is_live slots.old.items) }
     ensures sound { (frames : List Frame) → Sound slots.old.items frames → Sound slots.new.items frames }
     ensures ends { passes is_live (last slots.new.items) ≡ true }
@@ -164,34 +165,6 @@ pub fn is_above_all(slots: &[Slot], n: u64) -> bool
     match newest_slot(slots) {
         None => true,
         Some(slot) => slot.n < n,
-    }
-}
-
-fn is_under(frame: Frame, other: Frame) -> bool
-    ensures { result ≡ is_under frame other }
-{
-    frame.depth < other.depth || frame.depth == other.depth && frame.frame < other.frame
-}
-
-/// Whether there is a newest frame, and not one under the other.
-fn ends_from(frames: &[Frame], from: Frame) -> bool
-    ensures ends { result ≡ is_from from (last frames.now) }
-    ensures some { result ≡ true → 0 < length frames.now }
-{
-    match newest_frame(frames) {
-        None => false,
-        Some(frame) => !is_under(frame, from),
-    }
-}
-
-/// Closes the newest frames that are not under the other.
-pub fn close_from<A: Allocator>(frames: &mut Vec<Frame, A>, from: Frame)
-    requires { Chain is_under frames.old.items }
-    ensures kept { frames.new.items ≡ filter (λ f. is_under f from) frames.old.items }
-    ensures room { vec_capacity frames.old - vec_len frames.old ≤ vec_capacity frames.new - vec_len frames.new }
-{
-    while ends_from(frames, from) {
-        frames.pop();
     }
 }
 

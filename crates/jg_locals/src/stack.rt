@@ -1,13 +1,13 @@
-ghost use Rattle.std.specs.Prelude.{◌≡◌, ◌≤◌, ◌<◌, ◌+◌, ◌&&◌, ◌==◌, ◌||◌, ◌++◌, ◌∷◌, ◌↔◌, ℕ, [], All, OnOk, OnErr, IsOk, IsTrue, Some, false, not, filter, find, map, length, slice_index_or};
+ghost use Rattle.std.specs.Prelude.{◌≡◌, ◌≤◌, ◌<◌, ◌+◌, ◌^◌, ◌&&◌, ◌==◌, ◌||◌, ◌++◌, ◌∷◌, ◌↔◌, ℕ, [], All, OnOk, OnErr, IsOk, IsTrue, Some, false, not, filter, find, map, length, slice_index_or};
 ghost use Rattle.std.specs.Option.{option_map};
 ghost use Rattle.std.specs.List.{list_any};
 ghost use Rattle.jg_lists.specs.Marks.{Marks};
-ghost use Rattle.jg_locals.specs.Seen.{last, slot_made, slot_ref, IsNext};
+ghost use Rattle.jg_locals.specs.Seen.{last, slot_made, slot_ref, room_set, held_in, IsNext};
 
-use crate::row::{Frame, Slot};
+use crate::frames::{close_from, count_gone, count_more, newest, newest_frame, set_room};
+use crate::row::{Frame, Opened, Slot};
 use crate::slots::{
-    close_from, close_up_if, cut, end_local, is_above_all, list_live, mark_named, names_object,
-    newest_frame, object_of,
+    close_up_if, cut, end_local, is_above_all, list_live, mark_named, names_object, object_of,
 };
 use jg_words::Ref;
 use std::alloc::{AllocError, Allocator};
@@ -18,27 +18,27 @@ use std::marker::Model;
 #[derive(Drop)]
 pub struct Stack<A: Allocator> {
     slots: Vec<Slot, A>,
-    frames: Vec<Frame, A>,
+    frames: Vec<Opened, A>,
     /// At least as many as are dead.
     dead: usize,
 }
 
 impl<A: Allocator> Model for Stack<A> {
-    ghost use Rattle.std.specs.Prelude.{◌-◌, filter, vec_len, vec_capacity};
-    ghost use Rattle.jg_locals.specs.Seen.{StackRows, is_live, Kept};
+    ghost use Rattle.std.specs.Prelude.{◌-◌, filter, map, vec_len, vec_capacity};
+    ghost use Rattle.jg_locals.specs.Seen.{StackRows, is_live, frame_of, Stacked};
 
     ghost Value = { StackRows };
 
     ghost view = { λ a. record {
       locals = filter is_live a.slots.items;
-      frames = a.frames.items;
+      frames = map frame_of a.frames.items;
       room = record {
         locals = vec_capacity a.slots - vec_len a.slots;
         frames = vec_capacity a.frames - vec_len a.frames;
       };
     } };
 
-    ghost invariant = { λ a. Kept a.slots.items a.frames.items };
+    ghost invariant = { λ a. Stacked a.slots.items a.frames.items };
 }
 
 impl<A: Allocator> Stack<A> {
@@ -69,7 +69,7 @@ impl<A: Allocator> Stack<A> {
         ensures room { self.old.room.locals ≤ self.new.room.locals }
         ensures has_room { 0 < self.old.room.frames → IsOk result }
     {
-        self.frames.push(frame)?;
+        self.frames.push(Opened { frame, held: 0 })?;
         Ok(())
     }
 
@@ -90,6 +90,9 @@ impl<A: Allocator> Stack<A> {
             frame: top.frame,
             live: true,
         })?;
+        // A frame counts no more than all slots, which fit a `usize`.
+        let _slots = self.slots.len();
+        count_more(&mut self.frames, top.depth, top.frame);
         Ok(())
     }
 
@@ -117,8 +120,9 @@ impl<A: Allocator> Stack<A> {
         ensures frames { self.new.frames ≡ self.old.frames }
         ensures room { self.old.room.locals ≤ self.new.room.locals }
     {
-        let was = end_local(&mut self.slots, n);
-        let dead = self.dead.saturating_add(was as usize);
+        let gone = end_local(&mut self.slots, n);
+        count_gone(&mut self.frames, gone);
+        let dead = self.dead.saturating_add(gone.is_some() as usize);
         let dead = close_up_if(&mut self.slots, dead);
         self.dead = dead;
     }
@@ -148,11 +152,34 @@ impl<A: Allocator> Stack<A> {
         let base = Frame {
             depth: top.depth,
             frame: 0,
+            room: 0,
         };
         close_from(&mut self.frames, base);
         cut(&mut self.slots, Some(base));
         let dead = close_up_if(&mut self.slots, self.dead);
         self.dead = dead;
+    }
+
+    /// Sets the room of the frame.
+    pub fn set_room(&mut self, frame: Frame, room: u64)
+        ensures frames { self.new.frames ≡ map (room_set room frame.depth frame.frame) self.old.frames }
+        ensures locals { self.new.locals ≡ self.old.locals }
+        ensures room { self.old.room.locals ≤ self.new.room.locals }
+    {
+        set_room(&mut self.frames, frame.depth, frame.frame, room);
+    }
+
+    /// How many live locals were made in the newest frame.
+    pub fn held(&self) -> u64
+        ensures held { result ≡ held_in (last self.now.frames) self.now.locals }
+        ensures small { result < 2 ^ 63 }
+    {
+        // A frame counts no more than all slots, which a `Vec` bounds.
+        let _slots = self.slots.len();
+        match newest(&self.frames) {
+            None => 0,
+            Some(opened) => opened.held,
+        }
     }
 
     /// The object of the live local `n`.

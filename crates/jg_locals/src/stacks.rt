@@ -1,13 +1,13 @@
 //! The stacks of all threads, by thread.
 
-ghost use Rattle.std.specs.Prelude.{◌≡◌, ◌≤◌, ◌<◌, ◌+◌, ◌&&◌, ◌==◌, ◌||◌, ◌++◌, ◌∷◌, ◌↔◌, ℕ, [], All, OnOk, OnErr, IsOk, IsSome, IsTrue, Some, false, not, filter, find, map, length, slice_index_or};
+ghost use Rattle.std.specs.Prelude.{◌≡◌, ◌≤◌, ◌<◌, ◌+◌, ◌^◌, ◌&&◌, ◌==◌, ◌||◌, ◌++◌, ◌∷◌, ◌↔◌, ℕ, [], All, OnOk, OnErr, IsOk, IsSome, IsTrue, Some, false, not, filter, find, map, length, slice_index_or};
 ghost use Rattle.std.specs.Option.{option_map};
 ghost use Rattle.std.specs.BTreeMap.{values, IsOrdered};
 ghost use Rattle.std.specs.Ordering.{nat_cmp};
 ghost use Rattle.std.specs.List.{list_any};
 ghost use Rattle.jg_lists.specs.Marks.{Marks};
 ghost use Rattle.jg_locals.specs.Rows.{local_ref};
-ghost use Rattle.jg_locals.specs.Seen.{last, slot_made, IsNext, stack_at, slots_in, frames_in, room_seen, rows_seen, Changes};
+ghost use Rattle.jg_locals.specs.Seen.{last, slot_made, room_set, held_in, IsNext, stack_at, slots_in, frames_in, room_seen, rows_seen, Changes};
 
 use crate::row::Frame;
 use crate::stack::Stack;
@@ -22,6 +22,18 @@ pub fn top_at<A: Allocator>(stacks: &BTreeMap<u16, Stack<A>, A>, tid: u16) -> Op
     match stacks.get(&tid) {
         None => None,
         Some(stack) => stack.top(),
+    }
+}
+
+/// How many live locals were made in the thread's newest frame.
+pub fn held_at<A: Allocator>(stacks: &BTreeMap<u16, Stack<A>, A>, tid: u16) -> u64
+    ensures held { result ≡ held_in (last (frames_in (stack_at tid stacks.now.entries)))
+        (slots_in (stack_at tid stacks.now.entries)) }
+    ensures small { result < 2 ^ 63 }
+{
+    match stacks.get(&tid) {
+        None => 0,
+        Some(stack) => stack.held(),
     }
 }
 
@@ -156,6 +168,23 @@ pub fn delete_at<A: Allocator>(stacks: &mut BTreeMap<u16, Stack<A>, A>, tid: u16
 {
     if let Some(stack) = stacks.get_mut(&tid) {
         stack.delete(n);
+    }
+}
+
+/// Sets the room of the thread's frame.
+pub fn set_room_at<A: Allocator>(
+    stacks: &mut BTreeMap<u16, Stack<A>, A>,
+    tid: u16,
+    frame: Frame,
+    room: u64,
+)
+    ensures changes { Changes tid stacks.old stacks.new (slots_in (stack_at tid stacks.old.entries))
+        (map (room_set room frame.depth frame.frame) (frames_in (stack_at tid stacks.old.entries))) }
+    ensures room { (room_seen stacks.old.entries tid).locals ≤ (room_seen stacks.new.entries tid).locals }
+    ensures ordered { IsOrdered nat_cmp stacks.old → IsOrdered nat_cmp stacks.new }
+{
+    if let Some(stack) = stacks.get_mut(&tid) {
+        stack.set_room(frame, room);
     }
 }
 

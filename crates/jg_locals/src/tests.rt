@@ -38,7 +38,7 @@ fn make<A: Allocator + Clone>(
 fn push<A: Allocator + Clone>(rt: &impl Abort, locals: &mut Locals<A>) -> Result<(), AllocError> {
     assert!(rt; locals.has_session(T));
     assert!(rt; locals.pushed(T) < u64::MAX);
-    locals.push(T)
+    locals.push(T, 1)
 }
 
 fn enter<A: Allocator + Clone>(rt: &impl Abort, locals: &mut Locals<A>) -> Result<(), AllocError> {
@@ -168,6 +168,51 @@ fn dead_ends(rt: HostRuntime) -> Result<(), Fail> {
     assert!(rt; !locals.can_pop(T));
     make(&rt, &mut locals, 2)?;
     assert_eq!(rt; locals.get(T, 2), Some(ObjId(2)));
+    Ok(())
+}
+
+/// Makes the locals from `first` to `last`, and answers whether the frame is crowded then.
+fn crowded_after<A: Allocator + Clone>(
+    rt: &impl Abort,
+    locals: &mut Locals<A>,
+    first: u64,
+    last: u64,
+) -> Result<bool, AllocError> {
+    for n in first..=last {
+        make(rt, locals, n)?;
+    }
+    Ok(locals.crowded(T))
+}
+
+fn ensure<A: Allocator + Clone>(rt: &impl Abort, locals: &mut Locals<A>, capacity: u32) {
+    assert!(rt; locals.has_session(T));
+    locals.ensure(T, capacity);
+}
+
+/// A session has room for 16, and a frame for what it is pushed for, or for so many more as are
+/// asked for in it. A deletion lowers what its own frame holds.
+#[test]
+fn room_of_frames(rt: HostRuntime) -> Result<(), Fail> {
+    let mut locals = Locals::new(rt.alloc(), rt.alloc());
+    assert!(rt; !locals.crowded(T));
+    start(&rt, &mut locals, T)?;
+    assert!(rt; !crowded_after(&rt, &mut locals, 1, 16)?);
+    assert!(rt; crowded_after(&rt, &mut locals, 17, 17)?);
+    push(&rt, &mut locals)?;
+    assert!(rt; !crowded_after(&rt, &mut locals, 18, 18)?);
+    assert!(rt; crowded_after(&rt, &mut locals, 19, 19)?);
+    ensure(&rt, &mut locals, 1);
+    assert!(rt; !crowded_after(&rt, &mut locals, 20, 20)?);
+    assert!(rt; crowded_after(&rt, &mut locals, 21, 21)?);
+    locals.delete(T, 5);
+    assert!(rt; locals.crowded(T));
+    pop(&rt, &mut locals);
+    assert!(rt; !locals.crowded(T));
+    ensure(&rt, &mut locals, u32::MAX);
+    enter(&rt, &mut locals)?;
+    assert!(rt; crowded_after(&rt, &mut locals, 22, 38)?);
+    leave(&rt, &mut locals);
+    assert!(rt; !crowded_after(&rt, &mut locals, 22, 38)?);
     Ok(())
 }
 

@@ -16,7 +16,7 @@ has_unknown_key-keys known [] = refl
 has_unknown_key-keys known (e ∷ es) =
     rw (has_unknown_key-keys known es) (de_morgan (is_among known (string_bytes e.0)) _)
 
-not_not : (b : Bool) → not (not b) ≡ b
+pub not_not : (b : Bool) → not (not b) ≡ b
 not_not true = refl
 not_not false = refl
 

@@ -1,4 +1,10 @@
 pub mod Keys
+pub mod Putting
+pub mod Arrays
+pub mod Backs
+pub mod Clean
+pub mod Texts
+pub mod Spelt
 pub mod Firsts
 pub mod Stating
 pub mod Places

@@ -1,22 +1,24 @@
 -- Modules numbered one after another, and what is read of what was settled.
-use Rattle.std.proofs.Common.{◌≡◌, ℕ, ◌+◌, ◌-◌, ◌<◌, ◌≤◌, nat_lt, Bool, ◌||◌, true, false, cond, List, [], ◌∷◌, ◌++◌, length, map, take, get_or, slice_get, Option, Some, None, position, option_and_then, unwrap_or, if◌then◌else◌, String, Global, string_bytes, codes, append_assoc, refl, ap, ◌∙◌, sym, arith}
+use Rattle.std.proofs.Common.{◌≡◌, ℕ, ◌+◌, ◌-◌, ◌<◌, ◌≤◌, nat_lt, Bool, ◌||◌, ◌&&◌, true, false, cond, List, [], ◌∷◌, ◌++◌, length, map, take, get_or, slice_get, Option, Some, None, position, option_and_then, unwrap_or, if◌then◌else◌, String, Global, string_bytes, codes, append_assoc, refl, ap, ◌∙◌, sym, arith}
 use Rattle.std.proofs.lemmas.Bool.Decides.{nat_tests}
+use Rattle.std.proofs.Math.Bool.{and-true}
 use Rattle.std.proofs.lemmas.List.{length-map, length-append, map-append, map_more}
 use Rattle.std.proofs.lemmas.List.Folds.{list_any-append}
-use Rattle.std.specs.List.{list_any}
 use Rattle.std.specs.Cmp.Lexicographic.{bytes_decides, nat_list_eq_equiv}
 use Rattle.std.specs.Map.{update}
 use Rattle.std.specs.Option.{option_map, option_map_or}
 use Rattle.std.specs.Str.{bytes_eq}
 use Rattle.jg_policy.specs.declared.access.Access.TheVariants.{Allowed}
 use Rattle.jg_policy.specs.declared.access.Operation.{Operation}
+use Rattle.jg_policy.specs.declared.access.Operation.TheVariants.{Load, Register, Link}
 use Rattle.jg_policy.specs.declared.class.Class.{Class}
+use Rattle.jg_policy.specs.declared.grant.Grant.{Grant}
 use Rattle.jg_policy.specs.declared.setup.settling.Settled.{Settled}
 use Rattle.jg_policy.specs.Stated.{StatedClass, StatedSetup}
 use Rattle.jg_policy.specs.Classes.{module_name_of, module_names, module_of}
-use Rattle.jg_policy.specs.Access.{is_enabled, access_by, access_of}
-use Rattle.jg_policy.specs.Kept.{class_view}
-use Rattle.jg_policy.specs.Settling.{settled_for, settled_view, AreSettled}
+use Rattle.jg_policy.specs.Access.{allows, is_granted, is_enabled, module_access, access_by, access_of}
+use Rattle.jg_policy.specs.Kept.{grant_view, class_view}
+use Rattle.jg_policy.specs.Settling.{settled_for, settled_view, settled_access, AreSettled}
 use Rattle.jg_policy.proofs.Places.{or_later, position-cons}
 use Rattle.jg_policy.proofs.Reading.{slice_get-map}
 use Rattle.jg_policy.proofs.Repeats.{or_true}
@@ -32,12 +34,17 @@ put_text text name held = rw (nat_list_eq_equiv.symm name text) (by (bytes_eq te
     by false true = refl
     by false false = refl
 
-pub among_more : (known : Bool) (name : List ℕ) (texts : List (String Global)) (i : ℕ) (t : String Global) → i < length texts → t ≡ get_or texts i t
-    → ((known || list_any (bytes_eq name) (map string_bytes (take i texts))) || bytes_eq name (string_bytes t))
-    ≡ (known || list_any (bytes_eq name) (map string_bytes (take (i + 1) texts)))
-among_more known name texts i t below is =
-    rw (map_more (string_bytes {Z = Global}) texts i t below, list_any-append (bytes_eq name) (map string_bytes (take i texts)) (string_bytes (get_or texts i t) ∷ []), ← is)
-    (by known (list_any (bytes_eq name) (map string_bytes (take i texts))) (bytes_eq name (string_bytes t)))
+-- the same of a text that is put where a test passes
+pub put_allowed : (text name : List ℕ) (held allowed : Bool) → allowed ≡ true → cond (bytes_eq text name) true held ≡ (held || (bytes_eq name text && allowed))
+put_allowed text name held allowed is = rw is (put_text text name held ∙ ap (λ b. held || b) (sym (and-true (bytes_eq name text))))
+
+-- what one more grant adds
+pub granted_more : (known : Bool) (name : List ℕ) (operation : Operation) (gs : List Grant) (i : ℕ) (g : Grant) → i < length gs → g ≡ get_or gs i g
+    → ((known || is_granted (map grant_view (take i gs)) name operation) || (bytes_eq name (string_bytes g.module_name) && allows (grant_view g) operation))
+    ≡ (known || is_granted (map grant_view (take (i + 1) gs)) name operation)
+granted_more known name operation gs i g below is =
+    rw (map_more grant_view gs i g below, list_any-append (λ s. bytes_eq name s.module_name && allows s operation) (map grant_view (take i gs)) (grant_view (get_or gs i g) ∷ []), ← is)
+    (by known (is_granted (map grant_view (take i gs)) name operation) (bytes_eq name (string_bytes g.module_name) && allows (grant_view g) operation))
   where
     by : (a b c : Bool) → ((a || b) || c) ≡ (a || (b || (c || false)))
     by true b c = refl
@@ -124,16 +131,16 @@ module _ (setup : StatedSetup) where
   pub continues : (done : List Settled) (given : List ℕ → Option ℕ) (c : Class) (left : List Class) → IsSettling done given (c ∷ left)
       → (k : Settled) (after : List ℕ → Option ℕ) → k.home ≡ unwrap_or (given (string_bytes c.module_name)) (1 + length done)
       → ((q : List ℕ) → after q ≡ update bytes_eq given (string_bytes c.module_name) (Some k.home) q)
-      → k.access ≡ (if is_enabled setup (string_bytes c.module_name) then Allowed else access_by setup.mode)
-      → IsSettling (done ++ k ∷ []) after left
-  continues done given c left so k after home set access =
+      → k.load ≡ module_access setup (string_bytes c.module_name) Load → k.register ≡ module_access setup (string_bytes c.module_name) Register
+      → k.link ≡ module_access setup (string_bytes c.module_name) Link → IsSettling (done ++ k ∷ []) after left
+  continues done given c left so k after home set load register link =
       let name = string_bytes c.module_name in
       let longer : length (done ++ k ∷ []) ≡ 1 + length done = rw length-append (omega arith) in
       record {
         count = omega (arith, longer, so.count);
         settled =
             one_settled setup done k name (modules_of left)
-            (let number = next_number (module_names setup) given (1 + length done) name (modules_of left) so.numbers in rw (home, number, access) refl)
+            (let number = next_number (module_names setup) given (1 + length done) name (modules_of left) so.numbers in rw (home, number, load, register, link) refl)
             ∙ so.settled;
         numbers = rw longer (next_numbers (module_names setup) given (1 + length done) name (modules_of left) so.numbers k.home after home set);
       }
@@ -159,11 +166,17 @@ module _ (s : StatedSetup) (settled : List Settled) (are : AreSettled s settled)
       where
         by : (o : Option (List ℕ)) → Some (settled_view k) ≡ option_map (settled_for s) o → Some k.home ≡ option_and_then (λ name. position (bytes_eq name) (module_names s)) o
         by None h = absurd (let no : ⊥ = cc in no)
-        by (Some name) h = let e : settled_view k ≡ settled_for s name = cc in ap (λ p. p.0) e
+        by (Some name) h = let e : settled_view k ≡ settled_for s name = cc in ap (λ p. p.home) e
 
-    pub settled_access : (operation : Operation) → k.access ≡ access_of s class operation
-    settled_access operation = by (module_name_of s class) (ap (option_map settled_view) (sym at) ∙ settled_at)
+    pub settled_for_use : (operation : Operation) → settled_access (settled_view k) operation ≡ access_of s class operation
+    settled_for_use operation = by (module_name_of s class) (ap (option_map settled_view) (sym at) ∙ settled_at)
       where
-        by : (o : Option (List ℕ)) → Some (settled_view k) ≡ option_map (settled_for s) o → k.access ≡ (if option_map_or (is_enabled s) o false then Allowed else access_by s.mode)
+        of_use : (name : List ℕ) (operation : Operation) → settled_access (settled_for s name) operation ≡ module_access s name operation
+        of_use name Load = refl
+        of_use name Register = refl
+        of_use name Link = refl
+
+        by : (o : Option (List ℕ)) → Some (settled_view k) ≡ option_map (settled_for s) o
+            → settled_access (settled_view k) operation ≡ (if option_map_or (λ name. is_enabled s name operation) o false then Allowed else access_by s.mode)
         by None h = absurd (let no : ⊥ = cc in no)
-        by (Some name) h = let e : settled_view k ≡ settled_for s name = cc in ap (λ p. p.1) e
+        by (Some name) h = let e : settled_view k ≡ settled_for s name = cc in ap (λ p. settled_access p operation) e ∙ of_use name operation

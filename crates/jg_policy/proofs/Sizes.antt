@@ -1,23 +1,24 @@
 -- The limits of a setup, over what is kept of it.
-use Rattle.std.proofs.Common.{◌≡◌, ℕ, ◌≤◌, zero, suc, nat_lt, Bool, true, false, ◌||◌, List, [], ◌∷◌, length, map, Some, slice_get, String, Global, string_bytes, refl, sym, arith}
+use Rattle.std.proofs.Common.{◌≡◌, ℕ, ◌≤◌, zero, suc, nat_lt, Bool, true, false, ◌||◌, List, [], ◌∷◌, length, map, Some, slice_get, String, Global, refl, sym, arith}
 use Rattle.std.proofs.lemmas.List.{length-map}
 use Rattle.std.proofs.lemmas.Bool.{false≢true}
 use Rattle.std.proofs.lemmas.Bool.Decides.{nat_tests}
 use Rattle.std.specs.List.{list_any}
 use Rattle.jg_policy.specs.declared.class.Class.{Class}
+use Rattle.jg_policy.specs.declared.grant.Grant.{Grant}
 use Rattle.jg_policy.specs.Stated.{StatedSetup}
 use Rattle.jg_policy.specs.Findings.{has_many_members, is_too_large}
-use Rattle.jg_policy.specs.Kept.{member_view, class_view, has_many_kept, is_large_kept}
+use Rattle.jg_policy.specs.Kept.{member_view, grant_view, class_view, has_many_kept, is_large_kept}
 
 any_many : (es : List (String Global × Class)) → list_any has_many_kept (map (λ e. e.1) es) ≡ list_any has_many_members (map class_view es)
 any_many [] = refl
 any_many (e ∷ es) = rw (length-map e.1.fields.keys member_view, length-map e.1.natives.keys member_view, any_many es) refl
 
 -- what is kept is too large exactly where what it stands for is
-pub large_kept : (s : StatedSetup) (texts : List (String Global)) (es : List (String Global × Class)) → map string_bytes texts ≡ s.enabled → map class_view es ≡ s.classes
-    → is_large_kept texts es ≡ is_too_large s
-large_kept s texts es enabled classes =
-    rw (← enabled, ← classes, length-map texts (string_bytes {Z = Global}), length-map es class_view, any_many es) refl
+pub large_kept : (s : StatedSetup) (gs : List Grant) (es : List (String Global × Class)) → map grant_view gs ≡ s.grants → map class_view es ≡ s.classes
+    → is_large_kept gs es ≡ is_too_large s
+large_kept s gs es grants classes =
+    rw (← grants, ← classes, length-map gs grant_view, length-map es class_view, any_many es) refl
 
 neither : (a b : Bool) → (a || b) ≡ false → (a ≡ false) × (b ≡ false)
 neither true b h = absurd (false≢true (sym h))
@@ -27,8 +28,8 @@ at_most : (n m : ℕ) → nat_lt n m ≡ false → m ≤ n
 at_most n m h = grind (arith, nat_tests)
 
 -- what the invariant of a setup says of its classes
-pub few_classes : (texts : List (String Global)) (es : List (String Global × Class)) → is_large_kept texts es ≡ false → length es ≤ 1000
-few_classes texts es h = at_most 1000 (length es) (neither _ _ (neither _ _ h).0).0
+pub few_classes : (gs : List Grant) (es : List (String Global × Class)) → is_large_kept gs es ≡ false → length es ≤ 1000
+few_classes gs es h = at_most 1000 (length es) (neither _ _ (neither _ _ h).0).0
 
 -- and of each one
 pub record HasFew (c : Class) : Type 0 where
@@ -43,6 +44,6 @@ few_in (x ∷ es) none zero e at =
     rw (← is) (record { fields = at_most 100 _ few.0; natives = at_most 100 _ few.1 })
 few_in (x ∷ es) none (suc i) e at = few_in es (neither _ _ none).1 i e at
 
-pub few_members : (texts : List (String Global)) (es : List (String Global × Class)) → is_large_kept texts es ≡ false
+pub few_members : (gs : List Grant) (es : List (String Global × Class)) → is_large_kept gs es ≡ false
     → (i : ℕ) (e : String Global × Class) → slice_get es i ≡ Some e → HasFew e.1
-few_members texts es h = few_in es (neither _ _ h).1
+few_members gs es h = few_in es (neither _ _ h).1

@@ -1,10 +1,12 @@
 -- The items of an array as they are stated, one after another.
-use Rattle.std.proofs.Common.{◌≡◌, ℕ, ◌<◌, ◌+◌, List, [], ◌∷◌, ◌++◌, length, take, drop, get_or, map, refl, ap, ◌∙◌, sym}
+use Rattle.std.proofs.Common.{◌≡◌, ℕ, ◌<◌, ◌+◌, List, [], ◌∷◌, ◌++◌, length, take, drop, get_or, map, ◌||◌, refl, ap, ◌∙◌, sym}
 use Rattle.std.proofs.lemmas.List.{take_more, take-append-drop, map-append}
+use Rattle.std.specs.List.{list_any}
+use Rattle.std.specs.Str.{bytes_eq}
 use Rattle.toml.specs.Data.{Data}
 use Rattle.toml.specs.View.{view, items_view}
 use Rattle.toml.specs.declared.value.Value.{Value}
-use Rattle.jg_policy.specs.Stated.{each_item}
+use Rattle.jg_policy.specs.Stated.{each_item, text_item}
 
 module _ {A : Type 0} (f : Data → A) where
   each_item-append : (vs ws : List Value) → each_item f (items_view (vs ++ ws)) ≡ each_item f (items_view vs) ++ each_item f (items_view ws)
@@ -31,3 +33,10 @@ pub kept_more : {A B : Type 0} (show : A → B) (f : Data → B) (kept : List A)
     → map show (kept ++ a ∷ []) ≡ each_item f (items_view (take (i + 1) vs))
 kept_more show f kept a vs i v below is seen stated =
     rw (each_item-more f vs i v below, map-append show kept (a ∷ []), ← is, ← seen, ← stated) refl
+
+-- a text among the items, by their bytes
+pub listed : (text : List ℕ) (vs : List Value) → list_any (bytes_eq text) (each_item text_item (items_view vs)) ≡ list_any (λ v. bytes_eq text (text_item (view v))) vs
+listed text [] = refl
+listed text (v ∷ vs) = ap (λ b. bytes_eq text (text_item (view v)) || b) (listed text vs)
+
+pub ruleset text_rules = (listed)

@@ -12,9 +12,9 @@ use Rattle.jg_policy.specs.declared.fault.SetupFault.TheVariants.{NoMemory, Unkn
 use Rattle.jg_policy.specs.declared.names.Spelling.{Spelling}
 use Rattle.jg_policy.specs.declared.names.Spelling.TheVariants.{ModuleName, ClassName, MemberName, FieldType, NativeType}
 use Rattle.jg_policy.specs.Faults.{rank, earlier, first_of, IsFirstFault}
-use Rattle.jg_policy.specs.Stated.{StatedSetup, setup_stated}
+use Rattle.jg_policy.specs.Stated.{StatedSetup, is_version_2, setup_stated}
 use Rattle.toml.specs.Parse.{parse_document}
-use Rattle.jg_policy.specs.Findings.{fault_if, has_unknown_key, member_keys, class_keys, setup_keys, required, optional, of_type, each_of, version_faults, mode_faults, truth_faults, text_faults, array_faults, member_table_faults, member_faults, class_table_faults, class_faults, shape_faults, tree_faults, states_twice, is_too_large, text_faults_of}
+use Rattle.jg_policy.specs.Findings.{fault_if, has_unknown_key, has_unknown_setup_key, member_keys, class_keys, grant_keys, operation_faults, grant_table_faults, grant_faults, granting_faults, setup_heading_faults, setup_lists_faults, States, required, optional, of_type, each_of, version_faults, mode_faults, truth_faults, text_faults, array_faults, member_table_faults, member_faults, class_table_faults, class_faults, shape_faults, tree_faults, states_twice, is_too_large, text_faults_of}
 use Rattle.jg_policy.proofs.Firsts.{first_of-append}
 
 -- ---- the first of a list
@@ -136,16 +136,41 @@ early_class_table ms =
 early_class : (d : Data) → are_early (class_faults d) ≡ true
 early_class d = early_type class_table_faults early_class_table (as_table d)
 
+early_operation : (d : Data) → are_early (operation_faults d) ≡ true
+early_operation d = early_type _ (λ text. early_if _ BadMode refl) (as_str d)
+
+early_grant : (d : Data) → are_early (grant_faults d) ≡ true
+early_grant d =
+    early_type grant_table_faults
+    (λ ms.
+    let unknown : are_early (fault_if (has_unknown_key grant_keys ms) UnknownKey) ≡ true = early_if (has_unknown_key grant_keys ms) UnknownKey refl in
+    let module_name : are_early (required (text_faults ModuleName) (get_member (codes "module") ms)) ≡ true =
+    early_required (text_faults ModuleName) (early_text ModuleName) (get_member (codes "module") ms) in
+    let operations : are_early (required (array_faults operation_faults) (get_member (codes "operations") ms)) ≡ true =
+    early_required (array_faults operation_faults) (early_array operation_faults early_operation) (get_member (codes "operations") ms) in
+    simp (list_all-append) (rw (unknown, module_name, operations)))
+    (as_table d)
+
+early_either : (b : Bool) (xs ys : List SetupFault) → are_early xs ≡ true → are_early ys ≡ true → are_early (if b then xs else ys) ≡ true
+early_either true xs ys h k = h
+early_either false xs ys h k = k
+
+early_granting : (ms : Members) → are_early (granting_faults ms) ≡ true
+early_granting ms =
+    early_either (is_version_2 ms) _ _
+    (early_optional (array_faults grant_faults) (early_array grant_faults early_grant) (get_member (codes "grant") ms))
+    (early_optional (array_faults (text_faults ModuleName)) (early_array (text_faults ModuleName) (early_text ModuleName)) (get_member (codes "enable_native_access") ms))
+
 pub early_shape : (ms : Members) → are_early (shape_faults ms) ≡ true
 early_shape ms =
-    let unknown : are_early (fault_if (has_unknown_key setup_keys ms) UnknownKey) ≡ true = early_if (has_unknown_key setup_keys ms) UnknownKey refl in
+    let unknown : are_early (fault_if (has_unknown_setup_key ms) UnknownKey) ≡ true = early_if (has_unknown_setup_key ms) UnknownKey refl in
     let version : are_early (required version_faults (get_member (codes "version") ms)) ≡ true = early_required version_faults early_version (get_member (codes "version") ms) in
     let mode : are_early (required mode_faults (get_member (codes "illegal_native_access") ms)) ≡ true = early_required mode_faults early_mode (get_member (codes "illegal_native_access") ms) in
-    let enabled : are_early (optional (array_faults (text_faults ModuleName)) (get_member (codes "enable_native_access") ms)) ≡ true =
-    early_optional (array_faults (text_faults ModuleName)) (early_array (text_faults ModuleName) (early_text ModuleName)) (get_member (codes "enable_native_access") ms) in
     let classes : are_early (optional (array_faults class_faults) (get_member (codes "class") ms)) ≡ true =
     early_optional (array_faults class_faults) (early_array class_faults early_class) (get_member (codes "class") ms) in
-    simp (list_all-append) (rw (unknown, version, mode, enabled, classes))
+    both (setup_heading_faults ms) (setup_lists_faults ms)
+    (both (fault_if (has_unknown_setup_key ms) UnknownKey) _ unknown (both (required version_faults (get_member (codes "version") ms)) _ version mode))
+    (both (granting_faults ms) _ (early_granting ms) classes)
 
 found_early : (xs : List SetupFault) (f : SetupFault) → are_early xs ≡ true → first_of xs ≡ Some f → is_early f ≡ true
 found_early xs f early found = All-contains (λ x. is_early x ≡ true) xs f (AllPass-from_list_all is_early xs early) (first_found xs f found).among
@@ -179,7 +204,7 @@ clean_answers ms none once small = first_of-append (shape_faults ms) _ ∙ rw (n
 
 pub stated_by : (text : List ℕ) (ms : Members) (r : Result StatedSetup SetupFault) → parse_document text ≡ Some ms
     → IfOk r (λ setup. setup ≡ setup_stated ms) → OnOk r (tree_faults ms ≡ [])
-    → IfOk r (λ setup. (tree : Members) × (parse_document text ≡ Some tree) × (tree_faults tree ≡ []) × (setup ≡ setup_stated tree))
+    → IfOk r (States text)
 stated_by text ms (Ok setup) is stated clean = (ms, is, clean, stated)
 stated_by text ms (Err fault) is stated clean = tt
 

@@ -1,16 +1,17 @@
 -- The faults that a setup text has, one for each place where one is found.
-use Rattle.std.specs.Prelude.{ℕ, pos, Bool, false, ◌||◌, ◌&&◌, not, nat_lt, is_none, if◌then◌else◌, List, [], ◌∷◌, ◌++◌, length, map, Option, Some, None, codes}
+use Rattle.std.specs.Prelude.{◌≡◌, ℕ, pos, Bool, false, ◌||◌, ◌&&◌, not, nat_lt, is_none, if◌then◌else◌, List, [], ◌∷◌, ◌++◌, length, map, Option, Some, None, codes}
 use Rattle.std.specs.List.{list_any}
 use Rattle.std.specs.Ordering.{int_eq}
 use Rattle.std.specs.Str.{bytes_eq}
 use Rattle.toml.specs.Data.{Data, Items, no_items, item, Members, no_members, member, get_member, as_str, as_integer, as_bool, as_array, as_table}
+use Rattle.toml.specs.Parse.{parse_document}
 use Rattle.jg_policy.specs.declared.fault.SetupFault.{SetupFault}
 use Rattle.jg_policy.specs.declared.fault.SetupFault.TheVariants.{NotToml, BadVersion, UnknownKey, Missing, BadType, BadMode, BadName, Duplicate, TooMany}
 use Rattle.jg_policy.specs.Names.{accepts}
 use Rattle.jg_policy.specs.declared.names.Spelling.{Spelling}
 use Rattle.jg_policy.specs.declared.names.Spelling.TheVariants.{ModuleName, ClassName, MemberName, FieldType, NativeType}
 use Rattle.jg_policy.specs.BaseClasses.{base_names}
-use Rattle.jg_policy.specs.Stated.{StatedMember, StatedClass, StatedSetup, setup_stated, mode_named}
+use Rattle.jg_policy.specs.Stated.{StatedMember, StatedClass, StatedSetup, setup_stated, mode_named, is_version_2}
 
 -- a fault, where the test holds
 abbrev pub fault_if : Bool → SetupFault → List SetupFault
@@ -44,10 +45,17 @@ each_of rule no_items = []
 each_of rule (item d ds) = rule d ++ each_of rule ds
 
 abbrev pub version_faults : Data → List SetupFault
-version_faults d = of_type (λ z. fault_if (not (int_eq z (pos 1))) BadVersion) (as_integer d)
+version_faults d = of_type (λ z. fault_if (not (int_eq z (pos 1) || int_eq z (pos 2))) BadVersion) (as_integer d)
 
 abbrev pub mode_faults : Data → List SetupFault
 mode_faults d = of_type (λ text. fault_if (is_none (mode_named text)) BadMode) (as_str d)
+
+-- the words for the operations
+abbrev pub operation_words : List (List ℕ)
+operation_words = codes "load" ∷ codes "register" ∷ codes "link" ∷ []
+
+abbrev pub operation_faults : Data → List SetupFault
+operation_faults d = of_type (λ text. fault_if (not (is_among operation_words text)) BadMode) (as_str d)
 
 abbrev pub truth_faults : Data → List SetupFault
 truth_faults d = of_type (λ b. []) (as_bool d)
@@ -66,8 +74,19 @@ member_keys = codes "name" ∷ codes "type" ∷ []
 abbrev pub class_keys : List (List ℕ)
 class_keys = codes "name" ∷ codes "module" ∷ codes "throwable" ∷ codes "fields" ∷ codes "natives" ∷ []
 
-abbrev pub setup_keys : List (List ℕ)
-setup_keys = codes "version" ∷ codes "illegal_native_access" ∷ codes "enable_native_access" ∷ codes "class" ∷ []
+abbrev pub grant_keys : List (List ℕ)
+grant_keys = codes "module" ∷ codes "operations" ∷ []
+
+abbrev pub version_1_keys : List (List ℕ)
+version_1_keys = codes "version" ∷ codes "illegal_native_access" ∷ codes "enable_native_access" ∷ codes "class" ∷ []
+
+abbrev pub version_2_keys : List (List ℕ)
+version_2_keys = codes "version" ∷ codes "illegal_native_access" ∷ codes "grant" ∷ codes "class" ∷ []
+
+-- a key that a setup of its version doesn't have; where no version is told, the keys are those of version 1
+abbrev pub has_unknown_setup_key : Members → Bool
+has_unknown_setup_key ms =
+    if is_version_2 ms then has_unknown_key version_2_keys ms else has_unknown_key version_1_keys ms
 
 -- a field or a native method, by the spelling of its type
 abbrev pub member_table_faults : Spelling → Members → List SetupFault
@@ -101,13 +120,29 @@ class_faults d = of_type class_table_faults (as_table d)
 
 abbrev pub setup_heading_faults : Members → List SetupFault
 setup_heading_faults ms =
-    fault_if (has_unknown_key setup_keys ms) UnknownKey
+    fault_if (has_unknown_setup_key ms) UnknownKey
     ++ (required version_faults (get_member (codes "version") ms)
     ++ required mode_faults (get_member (codes "illegal_native_access") ms))
 
+-- an item of `grant`
+abbrev pub grant_table_faults : Members → List SetupFault
+grant_table_faults ms =
+    fault_if (has_unknown_key grant_keys ms) UnknownKey
+    ++ (required (text_faults ModuleName) (get_member (codes "module") ms)
+    ++ required (array_faults operation_faults) (get_member (codes "operations") ms))
+
+abbrev pub grant_faults : Data → List SetupFault
+grant_faults d = of_type grant_table_faults (as_table d)
+
+-- the list of grants, or of the modules that are enabled
+abbrev pub granting_faults : Members → List SetupFault
+granting_faults ms =
+    if is_version_2 ms then optional (array_faults grant_faults) (get_member (codes "grant") ms)
+    else optional (array_faults (text_faults ModuleName)) (get_member (codes "enable_native_access") ms)
+
 abbrev pub setup_lists_faults : Members → List SetupFault
 setup_lists_faults ms =
-    optional (array_faults (text_faults ModuleName)) (get_member (codes "enable_native_access") ms)
+    granting_faults ms
     ++ optional (array_faults class_faults) (get_member (codes "class") ms)
 
 -- the faults of shape and spelling, anywhere in the tree
@@ -141,10 +176,10 @@ repeat_faults setup = fault_if (states_twice setup.classes) Duplicate
 abbrev pub has_many_members : StatedClass → Bool
 has_many_members c = nat_lt 100 (length c.fields) || nat_lt 100 (length c.natives)
 
--- more classes or enabled modules than a setup may have, or a class with too many members
+-- more classes or grants than a setup may have, or a class with too many members
 abbrev pub is_too_large : StatedSetup → Bool
 is_too_large setup =
-    (nat_lt 1000 (length setup.classes) || nat_lt 1000 (length setup.enabled))
+    (nat_lt 1000 (length setup.classes) || nat_lt 1000 (length setup.grants))
     || list_any has_many_members setup.classes
 
 abbrev pub excess_faults : StatedSetup → List SetupFault
@@ -158,3 +193,8 @@ tree_faults ms = shape_faults ms ++ (repeat_faults (setup_stated ms) ++ excess_f
 abbrev pub text_faults_of : Option Members → List SetupFault
 text_faults_of None = NotToml ∷ []
 text_faults_of (Some ms) = tree_faults ms
+
+-- the text is a document without a fault, and states this setup
+abbrev pub States : List ℕ → StatedSetup → Type 0
+States text setup =
+    (tree : Members) × (parse_document text ≡ Some tree) × (tree_faults tree ≡ []) × (setup ≡ setup_stated tree)

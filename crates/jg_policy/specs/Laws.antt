@@ -1,5 +1,9 @@
 -- Statements of laws.
 use Rattle.std.specs.Prelude.{◌≡◌, ℕ, ◌<◌, List, ◌∷◌, ◌++◌, ◌≢◌, Some, IsSome, All, Contains, IsTrue, ◌↔◌}
+use Rattle.toml.specs.Parse.{parse_document}
+use Rattle.jg_policy.specs.declared.fault.SetupFault.{SetupFault}
+use Rattle.jg_policy.specs.Faults.{IsFirstFault}
+use Rattle.jg_policy.specs.Findings.{text_faults_of, States}
 use Rattle.jg_policy.specs.Stated.{StatedSetup, class_count}
 use Rattle.jg_policy.specs.Classes.{module_name_of, module_of, class_named, class_name_of, field_named, field_at, native_named, native_at}
 use Rattle.jg_policy.specs.Links.{Event, Linked, UnlinkedAll, Warned, linked, warned}
@@ -64,3 +68,13 @@ NativeNumbersTellNames =
     (setup : StatedSetup) (class native : ℕ) (name other signature second : List ℕ)
     → native_named setup class name signature ≡ Some native → native_named setup class other second ≡ Some native
     → (name ≡ other) × (signature ≡ second)
+
+-- a text states at most one setup
+abbrev pub StatesOneSetup : Type 0
+StatesOneSetup = (text : List ℕ) (s t : StatedSetup) → States text s → States text t → s ≡ t
+
+-- and has no first fault where it states one
+abbrev pub StatingHasNoFault : Type 0
+StatingHasNoFault =
+    (text : List ℕ) (s : StatedSetup) (fault : SetupFault) → States text s
+    → ¬ IsFirstFault (text_faults_of (parse_document text)) fault

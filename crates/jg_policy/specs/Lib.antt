@@ -3,6 +3,9 @@ pub mod Faults
 pub mod Stated
 pub mod BaseClasses
 pub mod Findings
+pub mod Spelt
+pub mod Put
+pub mod Written
 pub mod Kept
 pub mod Classes
 pub mod Access

@@ -23,7 +23,7 @@ pub enum Access {
 }
 
 impl Access {
-    /// What is done with a use by a module that isn't enabled.
+    /// What is done with a use by a module that isn't granted it.
     pub(crate) fn by(mode: Mode) -> Access
         ensures { result ≡ access_by mode }
     {

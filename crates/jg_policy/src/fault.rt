@@ -8,7 +8,7 @@ pub enum SetupFault {
     /// The text is no TOML document.
     #[error("NotToml")]
     NotToml,
-    /// `version` is an integer other than 1.
+    /// `version` is an integer other than 1 and 2.
     #[error("BadVersion")]
     BadVersion,
     /// A table has a key that its kind of table doesn't have.
@@ -20,7 +20,8 @@ pub enum SetupFault {
     /// A value is of another TOML type than its key asks for.
     #[error("BadType")]
     BadType,
-    /// `illegal_native_access` is a text, but no mode.
+    /// `illegal_native_access` is a text, but no mode, or an item of a grant's `operations` is a
+    /// text, but no operation.
     #[error("BadMode")]
     BadMode,
     /// A name or a type isn't spelt as such.
@@ -29,7 +30,7 @@ pub enum SetupFault {
     /// A class, or a field or native method of a class, is stated twice.
     #[error("Duplicate")]
     Duplicate,
-    /// There are too many classes, enabled modules, or members of a class.
+    /// There are too many classes, grants or enabled modules, or members of a class.
     #[error("TooMany")]
     TooMany,
     /// Memory ran out; it may come in the place of any answer.

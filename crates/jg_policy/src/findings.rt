@@ -3,7 +3,7 @@ ghost use Rattle.std.specs.Prelude.{◌≡◌, codes, not};
 ghost use Rattle.toml.specs.Data.{get_member};
 ghost use Rattle.toml.specs.View.{view, table_view, items_view};
 ghost use Rattle.jg_policy.specs.Faults.{first_of};
-ghost use Rattle.jg_policy.specs.Findings.{has_unknown_key, version_faults, mode_faults, truth_faults, required, is_among, member_keys, class_keys, setup_keys, text_faults, each_of, fault_if, member_table_faults, member_faults, optional, array_faults, class_names_faults, class_heading_faults, class_parts_faults, class_table_faults, setup_heading_faults, setup_lists_faults, class_faults, shape_faults};
+ghost use Rattle.jg_policy.specs.Findings.{has_unknown_key, version_faults, mode_faults, truth_faults, required, is_among, member_keys, class_keys, version_1_keys, version_2_keys, has_unknown_setup_key, granting_faults, text_faults, each_of, fault_if, member_table_faults, member_faults, optional, array_faults, class_names_faults, class_heading_faults, class_parts_faults, class_table_faults, setup_heading_faults, setup_lists_faults, class_faults, shape_faults};
 ghost use Rattle.std.specs.Prelude.{string_bytes};
 ghost use Rattle.std.specs.List.{list_any, list_all};
 ghost use Rattle.std.specs.Str.{bytes_eq};
@@ -11,10 +11,13 @@ ghost use Rattle.std.specs.BTreeMap.{keys};
 ghost use Rattle.jg_policy.specs.declared.fault.SetupFault.TheVariants.{UnknownKey};
 ghost use Rattle.jg_policy.specs.declared.names.Spelling.TheVariants.{ModuleName};
 
+mod grants;
+
 use crate::fault::SetupFault;
+use crate::findings::grants::optional_grants;
 use crate::mode::Mode;
 use crate::names::Spelling;
-use crate::tree::value_at;
+use crate::tree::{is_version_2, value_at};
 use toml::{Table, Value};
 
 fn version_fault(value: &Value) -> Option<SetupFault>
@@ -22,7 +25,7 @@ fn version_fault(value: &Value) -> Option<SetupFault>
 {
     match value.as_integer() {
         None => Some(SetupFault::BadType),
-        Some(1) => None,
+        Some(1 | 2) => None,
         Some(_) => Some(SetupFault::BadVersion),
     }
 }
@@ -89,8 +92,8 @@ fn has_class_keys(table: &Table) -> bool
     are_class_keys(table)
 }
 
-fn is_setup_key(key: &str) -> bool
-    ensures { result ≡ is_among setup_keys key.now }
+fn is_version_1_key(key: &str) -> bool
+    ensures { result ≡ is_among version_1_keys key.now }
 {
     matches!(
         key,
@@ -98,17 +101,47 @@ fn is_setup_key(key: &str) -> bool
     )
 }
 
-fn are_setup_keys(table: &Table) -> bool
-    ensures { result ≡ list_all (λ k. is_among setup_keys (string_bytes k)) (keys table.now) }
+fn is_version_2_key(key: &str) -> bool
+    ensures { result ≡ is_among version_2_keys key.now }
 {
-    table.keys().all(|key| is_setup_key(key.as_str()))
+    matches!(key, "version" | "illegal_native_access" | "grant" | "class")
+}
+
+fn are_version_1_keys(table: &Table) -> bool
+    ensures { result ≡ list_all (λ k. is_among version_1_keys (string_bytes k)) (keys table.now) }
+{
+    table.keys().all(|key| is_version_1_key(key.as_str()))
+}
+
+fn are_version_2_keys(table: &Table) -> bool
+    ensures { result ≡ list_all (λ k. is_among version_2_keys (string_bytes k)) (keys table.now) }
+{
+    table.keys().all(|key| is_version_2_key(key.as_str()))
 }
 
 #[tactic(auto, using(crate::proofs::Keys::key_rules))]
-fn has_setup_keys(table: &Table) -> bool
-    ensures { result ≡ not (has_unknown_key setup_keys (table_view table.now)) }
+fn has_version_1_keys(table: &Table) -> bool
+    ensures { result ≡ not (has_unknown_key version_1_keys (table_view table.now)) }
 {
-    are_setup_keys(table)
+    are_version_1_keys(table)
+}
+
+#[tactic(auto, using(crate::proofs::Keys::key_rules))]
+fn has_version_2_keys(table: &Table) -> bool
+    ensures { result ≡ not (has_unknown_key version_2_keys (table_view table.now)) }
+{
+    are_version_2_keys(table)
+}
+
+// Whether the table has no key but those of a setup of its version.
+fn has_setup_keys(table: &Table) -> bool
+    ensures { result ≡ not (has_unknown_setup_key (table_view table.now)) }
+{
+    if is_version_2(table) {
+        has_version_2_keys(table)
+    } else {
+        has_version_1_keys(table)
+    }
 }
 
 // Whether a member's table has no key but its own.
@@ -273,6 +306,16 @@ fn optional_modules(table: &Table) -> Option<SetupFault>
     }
 }
 
+fn granting_fault(table: &Table) -> Option<SetupFault>
+    ensures { result ≡ first_of (granting_faults (table_view table.now)) }
+{
+    if is_version_2(table) {
+        optional_grants(table)
+    } else {
+        optional_modules(table)
+    }
+}
+
 fn required_version(table: &Table) -> Option<SetupFault>
     ensures { result ≡ first_of (required version_faults (get_member (codes "version") (table_view table.now))) }
 {
@@ -306,7 +349,7 @@ fn setup_heading_fault(table: &Table) -> Option<SetupFault>
 fn setup_lists_fault(table: &Table) -> Option<SetupFault>
     ensures { result ≡ first_of (setup_lists_faults (table_view table.now)) }
 {
-    SetupFault::earlier(optional_modules(table), optional_classes(table))
+    SetupFault::earlier(granting_fault(table), optional_classes(table))
 }
 
 /// The first fault of shape or spelling that the tree has anywhere.

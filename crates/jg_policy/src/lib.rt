@@ -1,5 +1,5 @@
-//! The setup of a guard: its classes, and which modules may use native code. A setup is read
-//! from a text, which `docs/FORMATS.md` describes.
+//! The setup of a guard: its classes, and which uses of native code its modules are granted. A
+//! setup is read from a text, and written as one; `docs/FORMATS.md` describes both versions.
 #![tactic(auto)]
 
 mod access;
@@ -7,19 +7,21 @@ mod base;
 mod class;
 mod fault;
 mod findings;
+mod grant;
 mod links;
 mod meanings;
 mod mode;
 mod names;
 mod setup;
 mod tree;
+mod written;
 
 pub use access::{Access, Operation};
 pub use fault::SetupFault;
 pub use links::Links;
 pub use meanings::{
     class_numbers_tell_names, field_numbers_tell_names, linked_means, module_numbers_tell_names,
-    native_numbers_tell_names, only_classes_have_modules, warned_means,
+    native_numbers_tell_names, only_classes_have_modules, text_states_one_setup, warned_means,
 };
 pub use mode::Mode;
 pub use setup::Setup;

@@ -1,5 +1,5 @@
 //! What the definitions mean, as laws.
-ghost use Rattle.jg_policy.specs.Laws.{LinkedMeans, WarnedMeans, OnlyClassesHaveModules, ModuleNumbersTellNames, ClassHasItsName, ClassNumbersTellNames, FieldHasItsName, FieldNumbersTellNames, NativeHasItsName, NativeNumbersTellNames};
+ghost use Rattle.jg_policy.specs.Laws.{LinkedMeans, WarnedMeans, OnlyClassesHaveModules, ModuleNumbersTellNames, ClassHasItsName, ClassNumbersTellNames, FieldHasItsName, FieldNumbersTellNames, NativeHasItsName, NativeNumbersTellNames, StatesOneSetup, StatingHasNoFault};
 
 /// A method is linked where some event links it and no later one unlinks its class.
 pub fn linked_means()
@@ -38,4 +38,10 @@ pub fn field_numbers_tell_names()
 pub fn native_numbers_tell_names()
     ensures named { NativeHasItsName }
     ensures one { NativeNumbersTellNames }
+{}
+
+/// A text states at most one setup, and none where it has a fault.
+pub fn text_states_one_setup()
+    ensures one { StatesOneSetup }
+    ensures faultless { StatingHasNoFault }
 {}

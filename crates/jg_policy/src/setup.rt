@@ -1,13 +1,12 @@
 //! A setup, and the text that it is read from.
-ghost use Rattle.std.specs.Prelude.{◌≡◌, ◌≢◌, ◌||◌, length, map, IfOk, IfErr, OnOk, string_bytes, None, Some, [], nat_lt};
+ghost use Rattle.std.specs.Prelude.{◌≡◌, ◌≢◌, IfOk, IfErr, OnOk, string_bytes, []};
 ghost use Rattle.std.specs.List.{list_any};
-ghost use Rattle.toml.specs.Data.{Members};
 ghost use Rattle.toml.specs.Parse.{parse_document};
-ghost use Rattle.toml.specs.View.{view, table_view, items_view};
-ghost use Rattle.jg_policy.specs.Stated.{StatedSetup, setup_stated, each_item, text_item};
+ghost use Rattle.toml.specs.View.{table_view};
+ghost use Rattle.jg_policy.specs.Stated.{setup_stated};
 ghost use Rattle.jg_policy.specs.Faults.{IsFirstFault};
-ghost use Rattle.jg_policy.specs.Findings.{tree_faults, text_faults_of};
-ghost use Rattle.jg_policy.specs.Kept.{class_view, has_many_kept, is_large_kept};
+ghost use Rattle.jg_policy.specs.Findings.{tree_faults, text_faults_of, States};
+ghost use Rattle.jg_policy.specs.Kept.{has_many_kept, is_large_kept};
 ghost use Rattle.indexmap.specs.IndexMap.{values};
 
 mod readers;
@@ -16,13 +15,15 @@ mod settling;
 use crate::class::{Class, classes_from};
 use crate::fault::SetupFault;
 use crate::findings::shape_fault;
+use crate::grant::{Grant, grants_of};
 use crate::mode::Mode;
 use crate::setup::settling::{Settled, settle};
-use crate::tree::{items_at, text_at, text_of};
+use crate::tree::{items_at, text_at};
+use crate::written::setup_table;
 use indexmap::IndexMap;
-use std::alloc::{AllocError, Global};
+use std::alloc::Global;
 use std::marker::Model;
-use toml::{Table, Value};
+use toml::Table;
 
 // The most classes that a setup states.
 const MAX_CLASSES: usize = 1000;
@@ -30,43 +31,41 @@ const MAX_CLASSES: usize = 1000;
 // The most fields that a class states, and the most native methods.
 const MAX_MEMBERS: usize = 100;
 
-// The most modules that a setup enables, where repeats count.
-const MAX_ENABLED: usize = 1000;
+// The most grants of a setup, and the most modules that one of version 1 enables. Repeats count.
+const MAX_GRANTS: usize = 1000;
 
-/// The classes of a guard, and which modules may use native code. Contracts see what its text
-/// states.
+/// The classes of a guard, and which uses of native code their modules are granted. Contracts see
+/// what its text states.
 #[derive(Drop)]
 pub struct Setup {
-    // These two are for contracts: what comes of them is settled for each class below.
+    // What comes of these two is settled for each class below.
     mode: Mode,
-    enabled: Vec<String>,
+    grants: Vec<Grant>,
     classes: IndexMap<String, Class>,
     // In the order of the classes.
     settled: Vec<Settled>,
 }
 
 impl Model for Setup {
-    ghost use Rattle.std.specs.Prelude.{◌≡◌, false};
     ghost use Rattle.jg_policy.specs.Stated.{StatedSetup};
-    ghost use Rattle.jg_policy.specs.Kept.{is_large_kept};
+    ghost use Rattle.jg_policy.specs.Kept.{AreFit};
     ghost use Rattle.jg_policy.specs.Settling.{setup_view, AreSettled};
 
     ghost Value = { StatedSetup };
 
-    ghost view = { λ s. setup_view s.mode s.enabled.items s.classes.entries };
+    ghost view = { λ s. setup_view s.mode s.grants.items s.classes.entries };
 
     ghost invariant = { λ s. record {
-      sized : is_large_kept s.enabled.items s.classes.entries ≡ false;
-      settled : AreSettled (setup_view s.mode s.enabled.items s.classes.entries) s.settled.items;
+      fit : AreFit s.grants.items s.classes.entries;
+      settled : AreSettled (setup_view s.mode s.grants.items s.classes.entries) s.settled.items;
     } };
 }
 
 impl Setup {
-    /// Reads a setup text. Of the faults that the text has anywhere the first in the order of
+    /// Reads a setup text of version 1 or 2. Of the faults that the text has anywhere the first in the order of
     /// [`SetupFault`] is answered, or `NoMemory` where memory runs out.
     pub fn read(alloc: Global, text: &str) -> Result<Setup, SetupFault>
-        ensures stated { IfOk result (λ setup. (tree : Members) × (parse_document text.now ≡ Some tree)
-            × (tree_faults tree ≡ []) × (setup ≡ setup_stated tree)) }
+        ensures stated { IfOk result (States text.now) }
         ensures refused { IfErr result (λ fault. fault ≢ SetupFault.NoMemory
             → IsFirstFault (text_faults_of (parse_document text.now)) fault) }
     {
@@ -76,6 +75,22 @@ impl Setup {
             Err(_) => return Err(SetupFault::NotToml),
         };
         Setup::from_tree(alloc, &table)
+    }
+
+    /// Writes the setup as a text of version 2. [`Setup::read`] of the text gives the same setup, and
+    /// is refused for want of memory alone; the text may be longer than the file of a setup may be.
+    /// Fails only for want of memory.
+    pub fn to_version_2(&self, alloc: Global) -> Result<String, SetupFault>
+        ensures stated { IfOk result (λ text. States (string_bytes text) self.now) }
+        ensures refused { IfErr result (λ fault. fault ≡ SetupFault.NoMemory) }
+    {
+        let Ok(table) = setup_table(alloc, self.mode, self.grants.as_slice(), &self.classes) else {
+            return Err(SetupFault::NoMemory);
+        };
+        match toml::table_to_string(alloc, &table) {
+            Ok(text) => Ok(text),
+            Err(_) => Err(SetupFault::NoMemory),
+        }
     }
 
     // The setup of a tree, or the first fault found in it: a fault of shape or spelling, then
@@ -97,18 +112,18 @@ impl Setup {
             Ok(classes) => classes,
             Err(fault) => return Err(fault),
         };
-        let Ok(enabled) = texts_from(alloc, items_at(table, "enable_native_access")) else {
+        let Ok(grants) = grants_of(alloc, table) else {
             return Err(SetupFault::NoMemory);
         };
-        if is_too_large(&enabled, &classes) {
+        if is_too_large(&grants, &classes) {
             return Err(SetupFault::TooMany);
         }
-        let Ok(settled) = settle(alloc, mode, enabled.as_slice(), &classes) else {
+        let Ok(settled) = settle(alloc, mode, grants.as_slice(), &classes) else {
             return Err(SetupFault::NoMemory);
         };
         Ok(Setup {
             mode,
-            enabled,
+            grants,
             classes,
             settled,
         })
@@ -116,10 +131,10 @@ impl Setup {
 }
 
 // Whether a list is longer than a setup may have.
-fn is_too_large(enabled: &Vec<String>, classes: &IndexMap<String, Class>) -> bool
-    ensures { result ≡ is_large_kept enabled.now.items classes.now.entries }
+fn is_too_large(grants: &Vec<Grant>, classes: &IndexMap<String, Class>) -> bool
+    ensures { result ≡ is_large_kept grants.now.items classes.now.entries }
 {
-    let is_long = classes.len() > MAX_CLASSES || enabled.len() > MAX_ENABLED;
+    let is_long = classes.len() > MAX_CLASSES || grants.len() > MAX_GRANTS;
     is_long || any_has_many_members(classes)
 }
 
@@ -133,14 +148,4 @@ fn has_many_members(class: &Class) -> bool
     ensures { result ≡ has_many_kept class.now }
 {
     class.fields.len() > MAX_MEMBERS || class.natives.len() > MAX_MEMBERS
-}
-
-fn texts_from(alloc: Global, values: &[Value]) -> Result<Vec<String>, AllocError>
-    ensures { IfOk result (λ v. map string_bytes v.items ≡ each_item text_item (items_view values.now)) }
-{
-    let mut texts = Vec::new(alloc);
-    for value in values {
-        texts.push(String::from_str(alloc, text_of(value))?)?;
-    }
-    Ok(texts)
 }

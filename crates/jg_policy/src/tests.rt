@@ -4,10 +4,11 @@ use linked_list_allocator::LocalHeap;
 use std::alloc::{AllocError, Global};
 use std::test::Fail;
 
+mod versions;
+
 const DENY: &str = "version = 1\nillegal_native_access = \"deny\"\n";
 
-const CLASSES: &str = "enable_native_access = [\"app\"]
-[[class]]
+const CLASSES: &str = "[[class]]
 name = \"app/Main\"
 module = \"app\"
 fields = [{ name = \"count\", type = \"I\" }, { name = \"next\", type = \"Lapp/Main;\" }]
@@ -70,7 +71,7 @@ fn the_first_fault_is_answered(rt: HostRuntime) -> Result<(), Fail> {
         ("version", "", SetupFault::NotToml),
         ("", "", SetupFault::Missing),
         (
-            "version = 2\n",
+            "version = 3\n",
             "illegal_native_access = \"deny\"\n",
             SetupFault::BadVersion,
         ),
@@ -134,7 +135,7 @@ fn faults_have_their_texts(rt: HostRuntime) -> Result<(), Fail> {
 // The pieces of a text with every fault at every level that has it. A piece stands in the text
 // of the faults from place `k` on where `from <= k < below`.
 const PIECES: [(usize, usize, &str); 22] = [
-    (0, 1, "version = 2\n"),
+    (0, 1, "version = 3\n"),
     (1, 8, "version = 1\n"),
     (0, 2, "colour = 1\n"),
     (0, 5, "illegal_native_access = \"no\"\n"),
@@ -235,7 +236,9 @@ fn a_setup_without_classes(rt: HostRuntime) -> Result<(), Fail> {
 }
 
 fn three_classes(alloc: Global, mode: &str) -> Result<Setup, Fail> {
-    let text = format!(in alloc; "version = 1\nillegal_native_access = \"{mode}\"\n{CLASSES}")?;
+    let text = format!(in alloc;
+        "version = 1\nillegal_native_access = \"{mode}\"\nenable_native_access = [\"app\"]\n{CLASSES}"
+    )?;
     Ok(Setup::read(alloc, text.as_str())?)
 }
 
@@ -300,25 +303,6 @@ fn members_by_name_and_type(rt: HostRuntime) -> Result<(), Fail> {
             setup.field_type(FieldId { class, field }) == want,
             "{class} {field}"
         );
-    }
-    Ok(())
-}
-
-#[test]
-fn access_by_mode(rt: HostRuntime) -> Result<(), Fail> {
-    let cases = [
-        ("deny", Access::Refused),
-        ("warn", Access::AllowedWithWarning),
-        ("allow", Access::Allowed),
-    ];
-    for (mode, want) in cases {
-        let setup = three_classes(rt.alloc(), mode)?;
-        assert_eq!(rt; setup.class_count(), 18);
-        for operation in [Operation::Load, Operation::Register, Operation::Link] {
-            assert_eq!(rt; setup.access(3, operation), Access::Allowed);
-            assert_eq!(rt; setup.access(15, operation), Access::Allowed);
-            assert_eq!(rt; setup.access(16, operation), want, "{mode}");
-        }
     }
     Ok(())
 }

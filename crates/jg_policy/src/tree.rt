@@ -1,8 +1,8 @@
-//! What a document's tree has at a key.
+//! What a document's tree has at a key, and its version.
 ghost use Rattle.std.specs.Prelude.{◌≡◌, option_map};
 ghost use Rattle.toml.specs.Data.{get_member};
 ghost use Rattle.toml.specs.View.{view, table_view, items_view};
-ghost use Rattle.jg_policy.specs.Stated.{text_of, truth_of, items_at, text_item};
+ghost use Rattle.jg_policy.specs.Stated.{text_of, truth_of, items_at, text_item, is_version_2};
 
 use toml::{Table, Value};
 
@@ -56,5 +56,18 @@ pub(crate) fn text_of(value: &Value) -> &str
     match value.as_str() {
         None => "",
         Some(text) => text,
+    }
+}
+
+/// Whether the document is of version 2.
+pub(crate) fn is_version_2(table: &Table) -> bool
+    ensures { result ≡ is_version_2 (table_view table.now) }
+{
+    match value_at(table, "version") {
+        None => false,
+        Some(value) => match value.as_integer() {
+            None => false,
+            Some(version) => version == 2,
+        },
     }
 }

@@ -7,6 +7,7 @@ use Rattle.jg_program.specs.declared.stop.Stop.TheVariants.{Arguments, Setup, Se
 use Rattle.jg_program.specs.declared.program.Job.{Job}
 use Rattle.jg_program.specs.StatedBy.{IsRefused}
 use Rattle.jg_program.specs.Ended.{EndsUnder}
+use Rattle.jg_program.specs.Migrated.{Migrates}
 
 is_of_setup : Stop → Bool
 is_of_setup (Setup fault) = true
@@ -35,3 +36,13 @@ ends_refused job known told input bytes limit (Arguments fault) refused = absurd
 ends_refused job known told input bytes limit Leaks refused = absurd (false≢true (refused_by_setup known told Leaks refused))
 ends_refused job known told input bytes limit (Mismatch thread place) refused = absurd (false≢true (refused_by_setup known told (Mismatch thread place) refused))
 ends_refused job known told input bytes limit (Worker stop) refused = absurd (false≢true (refused_by_setup known told (Worker stop) refused))
+
+pub migrates_refused : (known : Option (List ℕ)) (told : ℕ) (bytes : Option (List ℕ)) (stop : Stop) → IsRefused known told stop → Migrates known told bytes bytes (Err stop)
+unfolding is_of_setup
+migrates_refused known told bytes (Setup fault) refused = (refused, Keeps-refl bytes)
+migrates_refused known told bytes SetupRead refused = Keeps-refl bytes
+migrates_refused known told bytes (Run fault) refused = absurd (false≢true (refused_by_setup known told (Run fault) refused))
+migrates_refused known told bytes (Arguments fault) refused = absurd (false≢true (refused_by_setup known told (Arguments fault) refused))
+migrates_refused known told bytes Leaks refused = absurd (false≢true (refused_by_setup known told Leaks refused))
+migrates_refused known told bytes (Mismatch thread place) refused = absurd (false≢true (refused_by_setup known told (Mismatch thread place) refused))
+migrates_refused known told bytes (Worker stop) refused = absurd (false≢true (refused_by_setup known told (Worker stop) refused))

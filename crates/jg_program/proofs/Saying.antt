@@ -1,11 +1,20 @@
 -- What is said of a journal that differs is written in three parts.
-use Rattle.std.proofs.Common.{◌≡◌, subst, sym, ℕ, List, [], ◌∷◌, Option, Result, Ok, Err, OnOk, codes}
-use Rattle.std.proofs.KnownBytes.{Appends-trans}
+use Rattle.std.proofs.Common.{◌≡◌, subst, sym, refl, ℕ, Bool, true, List, [], ◌∷◌, Option, Result, Ok, Err, OnOk, IfOk, IfErr, codes}
+use Rattle.std.proofs.KnownBytes.{Appends-trans, Appends-kept}
 use Rattle.std.specs.Fmt.{decimal}
-use Rattle.std.specs.Io.KnownBytes.{Appends}
+use Rattle.std.specs.Io.KnownBytes.{Appends, Keeps}
+use Rattle.jg_policy.specs.Stated.{StatedSetup}
+use Rattle.jg_policy.specs.Findings.{States}
+use Rattle.jg_script.specs.declared.run_fault.RunFault.TheVariants.{Write}
 use Rattle.jg_script.specs.declared.replay.Verdict.{Verdict}
 use Rattle.jg_script.specs.declared.replay.Verdict.TheVariants as verdict
+use Rattle.jg_program.specs.declared.stop.Status.{Status}
+use Rattle.jg_program.specs.declared.stop.Status.TheVariants.{Done}
+use Rattle.jg_program.specs.declared.stop.Stop.{Stop}
+use Rattle.jg_program.specs.declared.stop.Stop.TheVariants.{Run}
+use Rattle.jg_program.specs.StatedBy.{IsStated}
 use Rattle.jg_program.specs.Ended.{verdict_text}
+use Rattle.jg_program.specs.Migrated.{Migrates}
 
 pub differs_written : {E : Type 0} (a b c d : Option (List ℕ)) (line : ℕ) (v : Verdict) (r : Result (Unit {0}) E)
     → v ≡ verdict.Differs line → Appends a b (codes "differs at line ") → Appends b c (decimal line)
@@ -13,3 +22,12 @@ pub differs_written : {E : Type 0} (a b c d : Option (List ℕ)) (line : ℕ) (v
 differs_written a b c d line v (Ok done) is first number last =
     subst (λ (x : Verdict). Appends a d (verdict_text x)) (sym is) (Appends-trans a c d _ _ (Appends-trans a b c _ _ first number) last)
 differs_written a b c d line v (Err fault) is first number last = tt
+
+-- the text of the setup that a file states was said, or couldn't be
+pub migrates_said : (known : Option (List ℕ)) (told : ℕ) (bytes mid bytes' : Option (List ℕ)) (setup : StatedSetup) (text : List ℕ) (failed : Bool) (said : Result Status Stop)
+    → IsStated known setup → States text setup → IfOk said (λ status. (status ≡ Done) × Appends bytes mid text) → IfErr said (λ stop. (stop ≡ Run (Write 1)) × (failed ≡ true))
+    → Keeps mid bytes' → Migrates known told bytes bytes' said
+migrates_said known told bytes mid bytes' setup text failed (Ok status) stated states done none kept =
+    (done.0, setup, stated, (text, states, Appends-kept _ _ _ _ done.1 kept))
+migrates_said known told bytes mid bytes' setup text failed (Err stop) stated states none not_said kept =
+    subst (λ (s : Stop). Migrates known told bytes bytes' (Err s)) (sym not_said.0) refl

@@ -1,3 +1,4 @@
 pub mod Ended
 pub mod StatedBy
 pub mod Plays
+pub mod Migrated

@@ -1,19 +1,18 @@
 -- The setup that the bytes of a file state, and why a file is refused.
 use Rattle.std.specs.Prelude.{ℕ, ◌≡◌, ◌<◌, ◌≤◌, ⊤, List, [], length, take, Option, None, Some, IfSome, IsUtf8, ◌⊎◌}
-use Rattle.toml.specs.Data.{Members}
 use Rattle.toml.specs.Parse.{parse_document}
 use Rattle.jg_policy.specs.declared.fault.SetupFault.{SetupFault}
 use Rattle.jg_policy.specs.declared.fault.SetupFault.TheVariants.{NotToml, TooMany, NoMemory}
 use Rattle.jg_policy.specs.declared.mode.Mode.TheVariants.{Deny}
-use Rattle.jg_policy.specs.Stated.{StatedSetup, setup_stated}
+use Rattle.jg_policy.specs.Stated.{StatedSetup}
 use Rattle.jg_policy.specs.Faults.{IsFirstFault}
-use Rattle.jg_policy.specs.Findings.{tree_faults, text_faults_of}
+use Rattle.jg_policy.specs.Findings.{text_faults_of, States}
 use Rattle.jg_program.specs.declared.stop.Stop.{Stop}
 use Rattle.jg_program.specs.declared.stop.Stop.TheVariants.{Setup, SetupRead}
 
 -- the setup where none is given: the base classes alone, and native access for no other module
 abbrev pub base_setup : StatedSetup
-base_setup = record { mode = Deny; enabled = []; classes = [] }
+base_setup = record { mode = Deny; grants = []; classes = [] }
 
 -- all that a reader gives, where it is known
 abbrev pub Gives : Option (List ℕ) → List ℕ → Type 0
@@ -24,14 +23,9 @@ Gives (Some known) bytes = bytes ≡ known
 abbrev pub IsFront : Option (List ℕ) → List ℕ → Type 0
 IsFront known bytes = IfSome known (λ all. bytes ≡ take 16777217 all)
 
--- the bytes are few enough, are no fault's, and state this setup
-abbrev pub States : List ℕ → StatedSetup → Type 0
-States bytes setup = (length bytes ≤ 16777216) × (tree : Members) × (parse_document bytes ≡ Some tree)
-    × (tree_faults tree ≡ []) × (setup ≡ setup_stated tree)
-
--- the setup is stated by the bytes of a reader
+-- the setup is stated by the bytes of a reader, which are few enough
 abbrev pub IsStated : Option (List ℕ) → StatedSetup → Type 0
-IsStated known setup = (bytes : List ℕ) × Gives known bytes × States bytes setup
+IsStated known setup = (bytes : List ℕ) × Gives known bytes × (length bytes ≤ 16777216) × States bytes setup
 
 -- The file can't be read to its end, memory runs out, it is too long by what was told or by its bytes, or they are no
 -- text.

@@ -5,6 +5,7 @@
 mod files;
 mod journal;
 mod leaks;
+mod migrating;
 mod playing;
 mod program;
 mod setup_file;

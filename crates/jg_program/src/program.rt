@@ -7,6 +7,7 @@ ghost use Rattle.jg_program.specs.Ended.{Ends, EndsClosed, EndsScript, EndsUnder
 use crate::files::Files;
 use crate::journal::test_journal;
 use crate::leaks::leaks_of;
+use crate::migrating::migrate;
 use crate::playing::{play_file, script_stop_of};
 use crate::setup_file::{closed_setup, read_setup, stop_of};
 use crate::stop::{Ending, Status, Stop, quietly, tell};
@@ -206,6 +207,22 @@ fn serve_play<T: Threads + Wait + Sync, S: Files, W: HandsOn + Drop>(
     }
 }
 
+/// Writes the setup of the file at this path as a text of version 2.
+fn serve_migration<S: Files, W: HandsOn + Drop>(
+    alloc: Global,
+    path: &str,
+    files: &S,
+    out: W,
+) -> Result<Ending, Stop> {
+    match files.open(path) {
+        Ok((mut file, told)) => {
+            let mut out = Watched::new(out);
+            quietly(alloc, migrate(alloc, &mut file, told, &mut out))
+        }
+        Err(error) => Err(stop_of(&error)),
+    }
+}
+
 /// Does what is asked for.
 fn do_asked<T: Threads + Wait + Sync, S: Files, R: BufRead + Drop, W: HandsOn + Drop>(
     rt: &T,
@@ -224,6 +241,7 @@ fn do_asked<T: Threads + Wait + Sync, S: Files, R: BufRead + Drop, W: HandsOn + 
         }
         Task::Verify => serve(alloc, Job::Verify, asked, files, reader, out),
         Task::Play(path) => serve_play(rt, alloc, path, asked, files, out),
+        Task::Migrate(path) => serve_migration(alloc, path, files, out),
     }
 }
 

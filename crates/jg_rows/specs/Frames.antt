@@ -8,7 +8,7 @@ use Rattle.jg_words.specs.declared.call.vm.VmCall.TheVariants.{AttachCurrentThre
 use Rattle.jg_words.specs.declared.call.refs.RefsCall.TheVariants.{NewLocalRef, DeleteLocalRef, IsSameObject, GetObjectRefType}
 use Rattle.jg_words.specs.declared.call.frames.FramesCall.TheVariants.{PushLocalFrame, PopLocalFrame}
 use Rattle.jg_words.specs.declared.call.strings.StringsCall.TheVariants.{NewString, GetStringLength}
-use Rattle.jg_rows.specs.Lines.{Line, line, bare, env, environment, local, global, gives, hands_out, denies}
+use Rattle.jg_rows.specs.Lines.{Line, line, bare, env, environment, local, global, gives, hands_out, notices, denies}
 
 -- a result is carried out of its frame; numbers go on after detaching
 abbrev pub result_out_of_frame : List Line
@@ -64,7 +64,7 @@ pop_of_dead_result =
     line 1 bare (Vm AttachCurrentThread) (gives (Environment (environment 1 1)))
     ∷ line 1 (env 1 1) (Frames (PushLocalFrame (pos 1))) (gives Done)
     ∷ line 1 (env 1 1) (Strings (NewString [])) (hands_out (local 1 1) 15)
-    ∷ line 1 (env 1 1) (Strings (NewString [])) (hands_out (local 1 2) 16)
+    ∷ line 1 (env 1 1) (Strings (NewString [])) (notices (local 1 2) 16)
     ∷ line 1 (env 1 1) (Refs (DeleteLocalRef (local 1 1))) (gives Done)
     ∷ line 1 (env 1 1) (Frames (PopLocalFrame (local 1 1))) (denies DeadReference)
     ∷ line 1 (env 1 1) (Refs (GetObjectRefType (local 1 2))) (gives (Amount (pos 1)))

@@ -10,6 +10,7 @@ pub mod Setups
 pub mod ObjectFields
 pub mod Natives
 pub mod Access
+pub mod Grants
 pub mod Globals
 pub mod Collections
 pub mod Monitors
@@ -18,3 +19,4 @@ pub mod Releases
 pub mod BufferItems
 pub mod CriticalRegions
 pub mod Rules
+pub mod Room

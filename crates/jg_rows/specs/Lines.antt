@@ -22,7 +22,7 @@ use Rattle.jg_text.specs.Journal.{journal_text}
 
 -- the setup that denies native access and states nothing else
 abbrev pub closed : StatedSetup
-closed = record { mode = Deny; enabled = []; classes = [] }
+closed = record { mode = Deny; grants = []; classes = [] }
 
 -- what becomes of a call: its outcome, and the object that it hands out a reference for or makes pending
 pub record Became : Type 0 where
@@ -83,26 +83,33 @@ field class n = record { class = class; field = n }
 
 -- passed with this value and no warning, and no object is handed out
 abbrev pub gives : Value → Became
-gives value = record { outcome = Passed (record { value = value; warned = false }); object = None }
+gives value = record { outcome = Passed (record { value = value; warned = false; noticed = false }); object = None }
 
 -- passed with this value and a warning, and no object is handed out
 abbrev pub warns : Value → Became
-warns value = record { outcome = Passed (record { value = value; warned = true }); object = None }
+warns value = record { outcome = Passed (record { value = value; warned = true; noticed = false }); object = None }
 
--- passed with this reference and no warning; it names the object of this number, where the first object that is made
+-- passed with this reference and no warning or notice; it names the object of this number, where the first object that is made
 -- comes after the class objects: with no class but the base classes it is number 15
 abbrev pub hands_out : Ref → ℕ → Became
 hands_out r n =
-    record { outcome = Passed (record { value = Reference r; warned = false }); object = Some (record { 0 = n }) }
+    record { outcome = Passed (record { value = Reference r; warned = false; noticed = false }); object = Some (record { 0 = n }) }
+
+-- the same, where the frame then holds more local references than it has room for
+abbrev pub notices : Ref → ℕ → Became
+notices r n = record {
+  outcome = Passed (record { value = Reference r; warned = false; noticed = true });
+  object = Some (record { 0 = n });
+}
 
 -- passed; the object of this number is pending
 abbrev pub raises : ℕ → Became
-raises n = record { outcome = Passed (record { value = Done; warned = false }); object = Some (record { 0 = n }) }
+raises n = record { outcome = Passed (record { value = Done; warned = false; noticed = false }); object = Some (record { 0 = n }) }
 
 -- an exception of this class was thrown; it is the object of this number
 abbrev pub throws : Thrown → ℕ → Became
 throws kind n =
-    record { outcome = Passed (record { value = Threw kind; warned = false }); object = Some (record { 0 = n }) }
+    record { outcome = Passed (record { value = Threw kind; warned = false; noticed = false }); object = Some (record { 0 = n }) }
 
 -- denied by this rule
 abbrev pub denies : Rule → Became

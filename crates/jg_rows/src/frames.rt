@@ -74,7 +74,7 @@ pub fn pop_of_dead_result()
 pub const POP_OF_DEAD_RESULT: &str = "T1 - AttachCurrentThread = E1.1
 T1 E1.1 PushLocalFrame 1 = ok
 T1 E1.1 NewString [] = L1.1
-T1 E1.1 NewString [] = L1.2
+T1 E1.1 NewString [] = L1.2 notice
 T1 E1.1 DeleteLocalRef L1.1 = ok
 T1 E1.1 PopLocalFrame L1.1 = deny 6 DeadReference
 T1 E1.1 GetObjectRefType L1.2 = 1

@@ -21,3 +21,12 @@ name = \"app/Fault\"
 module = \"app\"
 throwable = true
 ";
+
+/// What a setup of version 2 grants the same modules, after its mode.
+pub const GRANTS: &str = "[[grant]]
+module = \"app\"
+operations = [\"register\", \"link\"]
+[[grant]]
+module = \"lib\"
+operations = [\"load\"]
+";

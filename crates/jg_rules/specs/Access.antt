@@ -6,7 +6,8 @@ use Rattle.jg_words.specs.declared.call.vm.VmCall.{VmCall}
 use Rattle.jg_words.specs.declared.call.vm.VmCall.TheVariants.{AttachCurrentThread, DetachCurrentThread, GetEnv, NativeEnter, NativeLeave, LoadLibrary, RegisterNatives, UnregisterNatives, Collect}
 use Rattle.jg_policy.specs.declared.access.Access.{Access}
 use Rattle.jg_policy.specs.declared.access.Access.TheVariants.{Allowed, AllowedWithWarning, Refused}
-use Rattle.jg_policy.specs.declared.access.Operation.TheVariants.{Load}
+use Rattle.jg_policy.specs.declared.access.Operation.{Operation}
+use Rattle.jg_policy.specs.declared.access.Operation.TheVariants.{Load, Register, Link}
 use Rattle.jg_policy.specs.Stated.{StatedSetup}
 use Rattle.jg_policy.specs.Access.{access_of}
 use Rattle.jg_policy.specs.Classes.{class_named, module_of}
@@ -37,6 +38,29 @@ native_class s p t (Arrays call) = None
 native_class s p t (Monitors call) = None
 native_class s p t (Buffers call) = None
 
+-- which use of native code the call is, where it names a class
+abbrev pub vm_use : VmCall → Operation
+vm_use AttachCurrentThread = Link
+vm_use DetachCurrentThread = Link
+vm_use GetEnv = Link
+vm_use (NativeEnter class method signature) = Link
+vm_use (NativeLeave kept) = Link
+vm_use (LoadLibrary class library) = Load
+vm_use (RegisterNatives class method signature) = Register
+vm_use (UnregisterNatives class) = Link
+vm_use Collect = Link
+
+abbrev pub native_use : Call → Operation
+native_use (Vm call) = vm_use call
+native_use (Refs call) = Link
+native_use (Frames call) = Link
+native_use (Exceptions call) = Link
+native_use (Objects call) = Link
+native_use (Strings call) = Link
+native_use (Arrays call) = Link
+native_use (Monitors call) = Link
+native_use (Buffers call) = Link
+
 -- the number of the class's module
 abbrev pub home_of : StatedSetup → Option ℕ → Option ℕ
 home_of s class = option_and_then (module_of s) class
@@ -46,10 +70,10 @@ is_refused Allowed = false
 is_refused AllowedWithWarning = false
 is_refused Refused = true
 
--- version 1 of the setup treats each operation alike
-abbrev pub refuses : StatedSetup → Option ℕ → Bool
-refuses s None = false
-refuses s (Some class) = is_refused (access_of s class Load)
+-- the use is refused to the class
+abbrev pub refuses : StatedSetup → Operation → Option ℕ → Bool
+refuses s operation None = false
+refuses s operation (Some class) = is_refused (access_of s class operation)
 
 abbrev pub is_warning : Access → Bool
 is_warning Allowed = false
@@ -61,6 +85,6 @@ unwarned p None = false
 unwarned p (Some home) = not (warned p.links home)
 
 -- the first use of a module whose access comes with a warning
-abbrev pub warns : StatedSetup → Parts → Option ℕ → Bool
-warns s p None = false
-warns s p (Some class) = is_warning (access_of s class Load) && unwarned p (module_of s class)
+abbrev pub warns : StatedSetup → Parts → Operation → Option ℕ → Bool
+warns s p operation None = false
+warns s p operation (Some class) = is_warning (access_of s class operation) && unwarned p (module_of s class)

@@ -1,5 +1,5 @@
 -- What a call that breaks no rule answers, and the object that it hands out a reference for.
-use Rattle.std.specs.Prelude.{ℕ, ℤ, pos, ◌+◌, ◌==◌, ◌||◌, Bool, true, false, nat_lt, int_lt, List, ◌∷◌, length, map, take, drop, Option, Some, None}
+use Rattle.std.specs.Prelude.{ℕ, ℤ, pos, ◌+◌, ◌==◌, ◌&&◌, ◌||◌, Bool, true, false, nat_lt, int_lt, List, ◌∷◌, length, map, take, drop, Option, Some, None}
 use Rattle.std.specs.Option.{option_map, is_some}
 use Rattle.jg_words.specs.declared.thread.Tid.{Tid}
 use Rattle.jg_words.specs.declared.object.ObjId.{ObjId}
@@ -19,7 +19,7 @@ use Rattle.jg_words.specs.declared.call.vm.VmCall.TheVariants.{AttachCurrentThre
 use Rattle.jg_words.specs.declared.call.refs.RefsCall.{RefsCall}
 use Rattle.jg_words.specs.declared.call.refs.RefsCall.TheVariants.{NewLocalRef, NewGlobalRef, NewWeakGlobalRef, DeleteLocalRef, DeleteGlobalRef, DeleteWeakGlobalRef, IsSameObject, GetObjectRefType}
 use Rattle.jg_words.specs.declared.call.frames.FramesCall.{FramesCall}
-use Rattle.jg_words.specs.declared.call.frames.FramesCall.TheVariants.{PushLocalFrame, PopLocalFrame}
+use Rattle.jg_words.specs.declared.call.frames.FramesCall.TheVariants.{PushLocalFrame, PopLocalFrame, EnsureLocalCapacity}
 use Rattle.jg_words.specs.declared.call.exceptions.ExceptionsCall.{ExceptionsCall}
 use Rattle.jg_words.specs.declared.call.exceptions.ExceptionsCall.TheVariants.{Throw, ExceptionOccurred, ExceptionDescribe, ExceptionClear, ExceptionCheck}
 use Rattle.jg_words.specs.declared.call.objects.ObjectsCall.{ObjectsCall}
@@ -38,6 +38,8 @@ use Rattle.jg_heap.specs.Reading.{natural}
 use Rattle.jg_heap.specs.Spelling.{spelt}
 use Rattle.jg_heap.specs.declared.object.Slot.{Slot}
 use Rattle.jg_threads.specs.History as threads
+use Rattle.jg_locals.specs.History.{acts_of}
+use Rattle.jg_locals.specs.Room as locals
 use Rattle.jg_monitors.specs.History as monitors
 use Rattle.jg_monitors.specs.declared.entering.Entering.{Entering}
 use Rattle.jg_monitors.specs.declared.entering.Entering.TheVariants.{Entered, Busy as KeptOut}
@@ -45,13 +47,16 @@ use Rattle.jg_rules.specs.declared.answer.Answer.{Answer}
 use Rattle.jg_rules.specs.declared.named.Named.{Named}
 use Rattle.jg_rules.specs.declared.named.Named.TheVariants.{Nothing}
 use Rattle.jg_rules.specs.Parts.{Parts}
+use Rattle.jg_policy.specs.declared.access.Operation.{Operation}
+use Rattle.jg_policy.specs.declared.access.Operation.TheVariants.{Load, Register, Link}
 use Rattle.jg_rules.specs.Access.{warns}
+use Rattle.jg_rules.specs.Effects.{passed_on}
 use Rattle.jg_rules.specs.Holding.{going}
 use Rattle.jg_rules.specs.Buffers.{buffer_named, item_read}
 use Rattle.jg_rules.specs.Names.{names, object_named, the_object, object_count, class_of, length_of, units_of, slot_of, slot_place, number_in, target_in, items_of, session, next_ref, next_buffer, pending, class_meant, native_meant, field_meant}
 
 abbrev pub saying : Value → Option ObjId → Answer
-saying value object = record { reply = record { value = value; warned = false }; object = object }
+saying value object = record { reply = record { value = value; warned = false; noticed = false }; object = object }
 
 abbrev pub plain : Value → Answer
 plain value = saying value None
@@ -70,8 +75,9 @@ abbrev pub thrown : StatedSetup → Parts → Thrown → Answer
 thrown s p kind = saying (Threw kind) (Some (record { 0 = object_count s p }))
 
 -- the same with a warning, where one is due for a use of native code by the class
-abbrev pub admitted : StatedSetup → Parts → Option ℕ → Answer → Answer
-admitted s p class a = record { reply = record { value = a.reply.value; warned = warns s p class }; object = a.object }
+abbrev pub admitted : StatedSetup → Parts → Operation → Option ℕ → Answer → Answer
+admitted s p operation class a =
+    record { reply = record { value = a.reply.value; warned = warns s p operation class; noticed = false }; object = a.object }
 
 abbrev pub present_env : Tid → Option ℕ → Value
 present_env t None = NotAttached
@@ -85,7 +91,7 @@ unless_pending (Some exception) a = plain NullAnswer
 -- a method that the class doesn't declare native throws (JNI Specification, chapter 4, RegisterNatives)
 abbrev pub registered : StatedSetup → Parts → Option ℕ → Option ℕ → Answer
 registered s p class None = thrown s p NoSuchMethod
-registered s p class (Some native) = admitted s p class (plain Done)
+registered s p class (Some native) = admitted s p Register class (plain Done)
 
 -- the environment of the session that the thread has then; JNI_EDETACHED where it has none (JNI Specification, chapter
 -- 5). A native method is handed its class, and what it returns is handed on to the frame below (chapter 2). A
@@ -96,9 +102,9 @@ vm_answer s p t AttachCurrentThread = plain
 vm_answer s p t DetachCurrentThread = plain Done
 vm_answer s p t GetEnv = plain (present_env t (session p t.0))
 vm_answer s p t (NativeEnter class method signature) =
-    admitted s p (class_named s class) (handed p t Local (class_named s class))
+    admitted s p Link (class_named s class) (handed p t Local (class_named s class))
 vm_answer s p t (NativeLeave kept) = unless_pending (pending p t.0) (handed p t Local (object_named p t.0 kept))
-vm_answer s p t (LoadLibrary class library) = admitted s p (class_named s class) (plain Done)
+vm_answer s p t (LoadLibrary class library) = admitted s p Load (class_named s class) (plain Done)
 vm_answer s p t (RegisterNatives class method signature) =
     registered s p (class_meant s p t.0 class) (native_meant s (class_meant s p t.0 class) method signature)
 vm_answer s p t (UnregisterNatives class) = plain Done
@@ -129,10 +135,11 @@ refs_answer p t (DeleteWeakGlobalRef r) = plain Done
 refs_answer p t (IsSameObject r u) = plain (Truth (same_object (object_named p t.0 r) (object_named p t.0 u)))
 refs_answer p t (GetObjectRefType r) = plain (Amount (ref_type (names p t.0 r) r))
 
--- what `kept` names gets a reference in the frame below (JNI Specification, chapter 4, PopLocalFrame)
+-- what `kept` names gets a reference in the frame below (JNI Specification, chapter 4, PopLocalFrame); JNI_OK
 abbrev pub frames_answer : Parts → Tid → FramesCall → Answer
 frames_answer p t (PushLocalFrame capacity) = plain Done
 frames_answer p t (PopLocalFrame kept) = handed p t Local (object_named p t.0 kept)
+frames_answer p t (EnsureLocalCapacity capacity) = amount 0
 
 -- a local reference for a new object
 abbrev pub made : StatedSetup → Parts → Tid → Answer
@@ -252,13 +259,33 @@ buffers_answer s p t (ReleaseStringCritical r b) = plain Done
 buffers_answer s p t (BufferRead b index) = plain (Amount (item_read s p b (natural index) (buffer_named p b)))
 buffers_answer s p t (BufferWrite b index value) = plain Done
 
+-- the answer but for a notice
+abbrev pub unnoticed : StatedSetup → Parts → Tid → Call → Answer
+unnoticed s p t (Vm call) = vm_answer s p t call
+unnoticed s p t (Refs call) = refs_answer p t call
+unnoticed s p t (Frames call) = frames_answer p t call
+unnoticed s p t (Exceptions call) = exceptions_answer p t call
+unnoticed s p t (Objects call) = objects_answer s p t call
+unnoticed s p t (Strings call) = strings_answer s p t call
+unnoticed s p t (Arrays call) = arrays_answer s p t call
+unnoticed s p t (Monitors call) = monitors_answer p t call
+unnoticed s p t (Buffers call) = buffers_answer s p t call
+
+abbrev pub makes_local : Value → Bool
+makes_local (Reference (To Local maker n)) = true
+makes_local value = false
+
+abbrev pub with_notice : Bool → Answer → Answer
+with_notice b a = record { reply = record { value = a.reply.value; warned = a.reply.warned; noticed = b }; object = a.object }
+
+-- the answer hands out a local reference, and just after it the thread's present frame holds more than it has room for
+-- (JNI Specification, chapter 4, "Local References")
+abbrev pub is_noticed : StatedSetup → Parts → Tid → Call → Answer → Bool
+is_noticed s p t call a =
+    makes_local a.reply.value && locals.crowded (acts_of t.0 (passed_on s t.0 call a.reply a.object p).locals)
+
+abbrev pub noticed : StatedSetup → Parts → Tid → Call → Answer → Answer
+noticed s p t call a = with_notice (is_noticed s p t call a) a
+
 abbrev pub answer : StatedSetup → Parts → Tid → Call → Answer
-answer s p t (Vm call) = vm_answer s p t call
-answer s p t (Refs call) = refs_answer p t call
-answer s p t (Frames call) = frames_answer p t call
-answer s p t (Exceptions call) = exceptions_answer p t call
-answer s p t (Objects call) = objects_answer s p t call
-answer s p t (Strings call) = strings_answer s p t call
-answer s p t (Arrays call) = arrays_answer s p t call
-answer s p t (Monitors call) = monitors_answer p t call
-answer s p t (Buffers call) = buffers_answer s p t call
+answer s p t call = noticed s p t call (unnoticed s p t call)

@@ -20,7 +20,7 @@ use Rattle.jg_words.specs.declared.call.vm.VmCall.TheVariants.{AttachCurrentThre
 use Rattle.jg_words.specs.declared.call.refs.RefsCall.{RefsCall}
 use Rattle.jg_words.specs.declared.call.refs.RefsCall.TheVariants.{NewLocalRef, NewGlobalRef, NewWeakGlobalRef, DeleteLocalRef, DeleteGlobalRef, DeleteWeakGlobalRef, IsSameObject, GetObjectRefType}
 use Rattle.jg_words.specs.declared.call.frames.FramesCall.{FramesCall}
-use Rattle.jg_words.specs.declared.call.frames.FramesCall.TheVariants.{PushLocalFrame, PopLocalFrame}
+use Rattle.jg_words.specs.declared.call.frames.FramesCall.TheVariants.{PushLocalFrame, PopLocalFrame, EnsureLocalCapacity}
 use Rattle.jg_words.specs.declared.call.exceptions.ExceptionsCall.{ExceptionsCall}
 use Rattle.jg_words.specs.declared.call.exceptions.ExceptionsCall.TheVariants.{Throw, ExceptionOccurred, ExceptionDescribe, ExceptionClear, ExceptionCheck}
 use Rattle.jg_words.specs.declared.call.objects.ObjectsCall.{ObjectsCall}
@@ -120,9 +120,11 @@ refs_locals (DeleteWeakGlobalRef r) = []
 refs_locals (IsSameObject r u) = []
 refs_locals (GetObjectRefType r) = []
 
+-- the capacity is the frame's room, or is beside what it holds (JNI Specification, chapter 4, "Local References")
 abbrev pub frames_locals : FramesCall → List locals.Act
-frames_locals (PushLocalFrame capacity) = locals.Push ∷ []
+frames_locals (PushLocalFrame capacity) = locals.Push (natural capacity) ∷ []
 frames_locals (PopLocalFrame r) = locals.Pop ∷ []
+frames_locals (EnsureLocalCapacity capacity) = locals.Ensure (natural capacity) ∷ []
 
 abbrev pub call_locals : StatedSetup → Parts → ℕ → Call → List locals.Act
 call_locals s p t (Vm call) = vm_locals p t call

@@ -8,7 +8,7 @@ use Rattle.jg_words.specs.declared.call.vm.VmCall.TheVariants.{AttachCurrentThre
 use Rattle.jg_words.specs.declared.call.refs.RefsCall.{RefsCall}
 use Rattle.jg_words.specs.declared.call.refs.RefsCall.TheVariants.{NewLocalRef, NewGlobalRef, NewWeakGlobalRef, DeleteLocalRef, DeleteGlobalRef, DeleteWeakGlobalRef, IsSameObject, GetObjectRefType}
 use Rattle.jg_words.specs.declared.call.frames.FramesCall.{FramesCall}
-use Rattle.jg_words.specs.declared.call.frames.FramesCall.TheVariants.{PushLocalFrame, PopLocalFrame}
+use Rattle.jg_words.specs.declared.call.frames.FramesCall.TheVariants.{PushLocalFrame, PopLocalFrame, EnsureLocalCapacity}
 use Rattle.jg_words.specs.declared.call.exceptions.ExceptionsCall.{ExceptionsCall}
 use Rattle.jg_words.specs.declared.call.exceptions.ExceptionsCall.TheVariants.{Throw, ExceptionOccurred, ExceptionDescribe, ExceptionClear, ExceptionCheck}
 use Rattle.jg_words.specs.declared.call.objects.ObjectsCall.{ObjectsCall}
@@ -69,6 +69,7 @@ refs_operands (GetObjectRefType r) = []
 abbrev pub frames_operands : FramesCall → List Operand
 frames_operands (PushLocalFrame capacity) = []
 frames_operands (PopLocalFrame r) = optional r ∷ []
+frames_operands (EnsureLocalCapacity capacity) = []
 
 abbrev pub exceptions_operands : ExceptionsCall → List Operand
 exceptions_operands (Throw r) = required r ThrowableObject ∷ []

@@ -4,6 +4,8 @@ use Rattle.jg_words.specs.declared.fun.Fun.{Fun}
 use Rattle.jg_words.specs.declared.fun.Fun.TheVariants.{Vm, Refs, Frames, Exceptions, Objects, Strings, Arrays, Monitors, Buffers}
 use Rattle.jg_words.specs.declared.fun.vm.VmFun.{VmFun}
 use Rattle.jg_words.specs.declared.fun.vm.VmFun.TheVariants.{AttachCurrentThread, DetachCurrentThread, GetEnv, NativeEnter, NativeLeave, LoadLibrary, RegisterNatives, UnregisterNatives, Collect}
+use Rattle.jg_words.specs.declared.fun.frames.FramesFun.{FramesFun}
+use Rattle.jg_words.specs.declared.fun.frames.FramesFun.TheVariants.{PushLocalFrame, PopLocalFrame, EnsureLocalCapacity}
 use Rattle.jg_words.specs.declared.fun.exceptions.ExceptionsFun.{ExceptionsFun}
 use Rattle.jg_words.specs.declared.fun.exceptions.ExceptionsFun.TheVariants.{Throw, ExceptionOccurred, ExceptionDescribe, ExceptionClear, ExceptionCheck}
 use Rattle.jg_words.specs.declared.fun.refs.RefsFun.{RefsFun}
@@ -61,6 +63,11 @@ refs_passes_pending DeleteWeakGlobalRef = true
 refs_passes_pending IsSameObject = false
 refs_passes_pending GetObjectRefType = false
 
+abbrev pub frames_passes_pending : FramesFun → Bool
+frames_passes_pending PushLocalFrame = true
+frames_passes_pending PopLocalFrame = true
+frames_passes_pending EnsureLocalCapacity = false
+
 abbrev pub exceptions_passes_pending : ExceptionsFun → Bool
 exceptions_passes_pending Throw = false
 exceptions_passes_pending ExceptionOccurred = true
@@ -90,7 +97,7 @@ buffers_passes_pending BufferWrite = true
 abbrev pub passes_pending : Fun → Bool
 passes_pending (Vm fun) = vm_passes_pending fun
 passes_pending (Refs fun) = refs_passes_pending fun
-passes_pending (Frames fun) = true
+passes_pending (Frames fun) = frames_passes_pending fun
 passes_pending (Exceptions fun) = exceptions_passes_pending fun
 passes_pending (Objects fun) = false
 passes_pending (Strings fun) = false

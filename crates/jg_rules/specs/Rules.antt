@@ -17,7 +17,7 @@ use Rattle.jg_words.specs.declared.call.vm.VmCall.TheVariants.{AttachCurrentThre
 use Rattle.jg_words.specs.declared.call.refs.RefsCall.{RefsCall}
 use Rattle.jg_words.specs.declared.call.refs.RefsCall.TheVariants.{NewLocalRef, NewGlobalRef, NewWeakGlobalRef, DeleteLocalRef, DeleteGlobalRef, DeleteWeakGlobalRef, IsSameObject, GetObjectRefType}
 use Rattle.jg_words.specs.declared.call.frames.FramesCall.{FramesCall}
-use Rattle.jg_words.specs.declared.call.frames.FramesCall.TheVariants.{PushLocalFrame, PopLocalFrame}
+use Rattle.jg_words.specs.declared.call.frames.FramesCall.TheVariants.{PushLocalFrame, PopLocalFrame, EnsureLocalCapacity}
 use Rattle.jg_words.specs.declared.call.objects.ObjectsCall.{ObjectsCall}
 use Rattle.jg_words.specs.declared.call.objects.ObjectsCall.TheVariants.{FindClass, GetObjectClass, IsInstanceOf, AllocObject, GetFieldID, GetField, GetObjectField, SetField, SetObjectField}
 use Rattle.jg_words.specs.declared.call.strings.StringsCall.{StringsCall}
@@ -49,7 +49,7 @@ use Rattle.std.specs.Option.{is_some, is_none}
 use Rattle.std.specs.Str.{bytes_eq}
 use Rattle.jg_buffers.specs.History as buffers
 use Rattle.jg_monitors.specs.History as monitors
-use Rattle.jg_rules.specs.Access.{native_class, refuses}
+use Rattle.jg_rules.specs.Access.{native_class, native_use, refuses}
 use Rattle.jg_rules.specs.Passing.{passes_critical, passes_pending}
 use Rattle.jg_rules.specs.Names.{names, session, depth, open_frames, pending, class_of, native_meant, object_named}
 use Rattle.jg_rules.specs.Operands.{operands, is_of}
@@ -289,6 +289,7 @@ vm_bad_argument s Collect = false
 abbrev pub frames_bad_argument : FramesCall → Bool
 frames_bad_argument (PushLocalFrame capacity) = not (is_within (pos 0) (pos 65535) capacity)
 frames_bad_argument (PopLocalFrame r) = false
+frames_bad_argument (EnsureLocalCapacity capacity) = not (is_within (pos 0) (pos 65535) capacity)
 
 abbrev pub objects_bad_argument : ObjectsCall → Bool
 objects_bad_argument (FindClass name) = false
@@ -426,6 +427,7 @@ vm_bad_frame p t Collect = false
 abbrev pub frames_bad_frame : Parts → ℕ → FramesCall → Bool
 frames_bad_frame p t (PushLocalFrame capacity) = false
 frames_bad_frame p t (PopLocalFrame r) = open_frames p t == 0
+frames_bad_frame p t (EnsureLocalCapacity capacity) = false
 
 -- 15: no frame to pop at this depth (JNI Specification, chapter 4, PopLocalFrame); no native method to leave;
 -- a detachment with native methods on the stack (chapter 5, "Detaching from the VM")
@@ -442,7 +444,7 @@ bad_frame p t (Buffers call) = false
 
 -- 16: refused native access (JEP 472)
 abbrev pub no_access : StatedSetup → Parts → ℕ → Call → Bool
-no_access s p t call = refuses s (native_class s p t call)
+no_access s p t call = refuses s (native_use call) (native_class s p t call)
 
 -- the class's native method is linked
 abbrev pub is_linked : Parts → Option ℕ → Option ℕ → Bool

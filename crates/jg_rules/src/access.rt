@@ -60,14 +60,18 @@ pub fn home_named<A: Allocator + Clone>(view: &View<'_, A>, tid: Tid, call: &Cal
     }
 }
 
-/// Whether a use of native code by the class is refused.
-pub(crate) fn is_refused_to<A: Allocator + Clone>(view: &View<'_, A>, class: Option<u32>) -> bool
+/// Whether this use of native code by the class is refused.
+pub(crate) fn is_refused_to<A: Allocator + Clone>(
+    view: &View<'_, A>,
+    operation: Operation,
+    class: Option<u32>,
+) -> bool
     requires { IfSome class (λ c. c < class_count view.now.setup.now) }
-    ensures { result ≡ refuses view.now.setup.now class }
+    ensures { result ≡ refuses view.now.setup.now operation class }
 {
     match class {
         None => false,
-        Some(class) => match view.setup.access(class, Operation::Load) {
+        Some(class) => match view.setup.access(class, operation) {
             Access::Allowed => false,
             Access::AllowedWithWarning => false,
             Access::Refused => true,
@@ -84,15 +88,19 @@ fn is_unwarned<A: Allocator + Clone>(view: &View<'_, A>, home: Option<u32>) -> b
     }
 }
 
-/// Whether a use of native code by the class comes with a warning: the first one by its module,
+/// Whether this use of native code by the class comes with a warning: the first one by its module,
 /// where it is neither refused nor allowed without. The class is one of the setup's.
-pub fn is_warned_use<A: Allocator + Clone>(view: &View<'_, A>, class: Option<u32>) -> bool
+pub fn is_warned_use<A: Allocator + Clone>(
+    view: &View<'_, A>,
+    operation: Operation,
+    class: Option<u32>,
+) -> bool
     requires { IfSome class (λ c. c < class_count view.now.setup.now) }
-    ensures { (p : Parts) → ViewStands view.now p → result ≡ warns view.now.setup.now p class }
+    ensures { (p : Parts) → ViewStands view.now p → result ≡ warns view.now.setup.now p operation class }
 {
     match class {
         None => false,
-        Some(class) => match view.setup.access(class, Operation::Load) {
+        Some(class) => match view.setup.access(class, operation) {
             Access::Allowed => false,
             Access::AllowedWithWarning => is_unwarned(view, view.setup.module_of(class)),
             Access::Refused => false,

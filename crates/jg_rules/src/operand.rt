@@ -107,6 +107,7 @@ fn of_frames(call: &FramesCall) -> Operands
     match call {
         FramesCall::PushLocalFrame { .. } => Operands::Nil,
         FramesCall::PopLocalFrame { kept } => Operands::One(Operand::optional(*kept)),
+        FramesCall::EnsureLocalCapacity { .. } => Operands::Nil,
     }
 }
 

@@ -1,7 +1,7 @@
 ghost use Rattle.std.specs.Prelude.{◌≡◌};
-ghost use Rattle.jg_rules.specs.Passing.{passes_critical, vm_passes_pending, refs_passes_pending, exceptions_passes_pending, monitors_passes_pending, buffers_passes_critical, buffers_passes_pending, passes_pending};
+ghost use Rattle.jg_rules.specs.Passing.{passes_critical, vm_passes_pending, refs_passes_pending, exceptions_passes_pending, frames_passes_pending, monitors_passes_pending, buffers_passes_critical, buffers_passes_pending, passes_pending};
 
-use jg_words::{BuffersFun, ExceptionsFun, Fun, MonitorsFun, RefsFun, VmFun};
+use jg_words::{BuffersFun, ExceptionsFun, FramesFun, Fun, MonitorsFun, RefsFun, VmFun};
 
 fn buffers_passes_critical_region(fun: BuffersFun) -> bool
     ensures { result ≡ buffers_passes_critical fun }
@@ -70,6 +70,16 @@ fn refs_passes(fun: RefsFun) -> bool
     }
 }
 
+fn frames_passes(fun: FramesFun) -> bool
+    ensures { result ≡ frames_passes_pending fun }
+{
+    match fun {
+        FramesFun::PushLocalFrame => true,
+        FramesFun::PopLocalFrame => true,
+        FramesFun::EnsureLocalCapacity => false,
+    }
+}
+
 fn exceptions_passes(fun: ExceptionsFun) -> bool
     ensures { result ≡ exceptions_passes_pending fun }
 {
@@ -117,7 +127,7 @@ pub(crate) fn passes_pending_exception(fun: Fun) -> bool
     match fun {
         Fun::Vm(fun) => vm_passes(fun),
         Fun::Refs(fun) => refs_passes(fun),
-        Fun::Frames(_) => true,
+        Fun::Frames(fun) => frames_passes(fun),
         Fun::Exceptions(fun) => exceptions_passes(fun),
         Fun::Objects(_) => false,
         Fun::Strings(_) => false,

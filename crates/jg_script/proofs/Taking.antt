@@ -1,5 +1,7 @@
 -- A call that the guard took is in front of its journal.
-use Rattle.std.proofs.Common.{ℕ, List, ◌∷◌, [], Option, Some, None, Err, inl, inr, refl}
+use Rattle.std.proofs.Common.{◌≡◌, ◌∙◌, ap, ℕ, List, ◌∷◌, ◌++◌, [], Option, Some, None, Ok, Err, inl, inr, refl, subst, length, take, slice_get, ◌<◌}
+use Rattle.std.specs.Io.KnownBytes.{Appends}
+use Rattle.jg_words.specs.declared.entry.Entry.{Entry}
 use Rattle.jg_words.specs.declared.thread.Tid.{Tid}
 use Rattle.jg_words.specs.declared.thread.EnvId.{EnvId}
 use Rattle.jg_words.specs.declared.rule.Rule.{Rule}
@@ -12,6 +14,8 @@ use Rattle.jg_rules.specs.Rules.{verdict}
 use Rattle.jg_text.specs.Words.{FitsTid, FitsEnv}
 use Rattle.jg_text.specs.Operands.{FitsCall}
 use Rattle.jg_text.specs.Spelling.{Spells}
+use Rattle.jg_text.specs.Journal.{call_line, answer_text, entry_text, FitsOutcome}
+use Rattle.jg_text.proofs.Writing.{completed}
 use Rattle.jg_guard.specs.Guard.{State}
 use Rattle.jg_script.specs.Answered.{Answers, Journals}
 use Rattle.jg_script.specs.Checked.{IsScript}
@@ -40,6 +44,13 @@ journals old new text t env call took spelt = record {
   room = took.room;
 }
 
+-- behind the line of its call the newest entry's answer is put
+pub completes : (front : Option Entry) (x e : Entry) (text out new : List ℕ) → front ≡ Some x → front ≡ Some e → out ≡ [] ++ answer_text x.outcome → text ≡ call_line e → new ≡ text ++ out
+    → new ≡ entry_text e
+completes front x e text out new seen first made is added =
+    let same : x ≡ e = cc in
+    added ∙ ap (λ (back : List ℕ). text ++ back) (made ∙ ap (λ (y : Entry). answer_text y.outcome) same) ∙ completed e text is
+
 pub not_taken : (bytes : Option (List ℕ)) (old new : State) (text : List ℕ) (t : Tid) (env : Option EnvId) (call : Call) (n : ℕ) (fault : RunFault)
     → FailsCall old new (next_entry old t env call) n fault → Spells text t env call → Answers bytes bytes old new text n (Err fault)
 not_taken bytes old new text t env call n (Limit line) (same, full, is) spelt = (refl, same, (t, env, call, spelt), full, is)
@@ -48,3 +59,35 @@ not_taken bytes old new text t env call n (NoMemory line) (inr took, is) spelt =
 not_taken bytes old new text t env call n (Script line fault) none spelt = absurd none
 not_taken bytes old new text t env call n (Read line) none spelt = absurd none
 not_taken bytes old new text t env call n (Write line) none spelt = absurd none
+
+-- the entry in front of the journal is the one that was taken
+pub newest_told : (old new : State) (e x : Entry) (out : List ℕ) → Took old new e → slice_get new.journal 0 ≡ Some x → FitsOutcome x.outcome → out ≡ [] ++ entry_text x
+    → (out ≡ entry_text e) × FitsOutcome e.outcome
+newest_told old new e x out took first fits made =
+    let front : slice_get new.journal 0 ≡ Some e = ap (λ (h : List Entry). slice_get h 0) took.journal in
+    let same : x ≡ e = cc in
+    (made ∙ ap entry_text same, subst (λ (y : Entry). FitsOutcome y.outcome) same fits)
+
+module _ (bytes bytes' : Option (List ℕ)) (old new : State) (text line : List ℕ) (t : Tid) (env : Option EnvId) (call : Call) (n : ℕ) (took : Took old new (next_entry old t env call))
+    (spelt : Spells text t env call) where
+  -- the entry's line can't be made
+  pub not_made : Answers bytes bytes old new text n (Err (NoMemory n))
+  not_made = (refl, inr (next_entry old t env call, journals old new text t env call took spelt), refl)
+
+  -- the line of the call became the entry's
+  pub line_made : ((e : Entry) → slice_get new.journal 0 ≡ Some e → text ≡ call_line e → line ≡ entry_text e) → line ≡ entry_text (next_entry old t env call)
+  line_made made =
+      made (next_entry old t env call) (ap (λ (h : List Entry). slice_get h 0) took.journal) ((journals old new text t env call took spelt).spelt.text)
+
+  pub written : line ≡ entry_text (next_entry old t env call) → Appends bytes bytes' line → Answers bytes bytes' old new text n (Ok tt)
+  written is more = (next_entry old t env call, journals old new text t env call took spelt, subst (λ (l : List ℕ). Appends bytes bytes' l) is more)
+
+  pub not_written : line ≡ entry_text (next_entry old t env call) → (k : ℕ) × (k < length line) × Appends bytes bytes' (take k line) → Answers bytes bytes' old new text n (Err (Write n))
+  not_written is front = (
+    (
+      next_entry old t env call,
+      journals old new text t env call took spelt,
+      subst (λ (l : List ℕ). (k : ℕ) × (k < length l) × Appends bytes bytes' (take k l)) is front,
+    ),
+    refl,
+  )

@@ -6,14 +6,14 @@ ghost use Rattle.jg_script.specs.Checked.{ReaderFails};
 ghost use Rattle.jg_script.specs.Entries.{Replays, IsPast};
 ghost use Rattle.jg_script.specs.Replayed.{Verifies};
 
-use crate::answer::take_call;
+use crate::answer::{newest, take_call};
 use crate::line::{Taken, next_line};
 use crate::piece::LineFault;
 use crate::run_fault::RunFault;
 use crate::watched::Watched;
 use jg_guard::Guard;
 use jg_policy::Setup;
-use jg_text::{MAX_LINE, read_begun};
+use jg_text::{MAX_LINE, push_entry, read_begun};
 use std::alloc::{Allocator, Global};
 use std::io::BufRead;
 
@@ -57,9 +57,13 @@ fn replay_line<A: Allocator + Clone>(
     let Some((tid, env, call)) = begun else {
         return Ok(false);
     };
-    match take_call(guard, out, tid, env, call, line) {
+    if let Err(fault) = take_call(guard, tid, env, call, line) {
+        return Err(fault);
+    }
+    out.clear();
+    match push_entry(out, newest(guard)) {
         Ok(()) => Ok(is_line_of(out.as_bytes(), text)),
-        Err(fault) => Err(fault),
+        Err(_) => Err(RunFault::NoMemory { line }),
     }
 }
 

@@ -69,12 +69,12 @@ pub fn check<A: Allocator + Clone, R: BufRead, W: Write>(
                 });
             }
             Taken::Line => {
-                if let Err(fault) = answer_line(alloc, guard, writer, &mut out, &text, line) {
+                if let Err(fault) = answer_line(alloc, guard, writer, &mut out, &mut text, line) {
                     return Err(fault);
                 }
             }
             Taken::LastLine => {
-                return match answer_line(alloc, guard, writer, &mut out, &text, line) {
+                return match answer_line(alloc, guard, writer, &mut out, &mut text, line) {
                     Ok(()) => Ok(line),
                     Err(fault) => Err(fault),
                 };

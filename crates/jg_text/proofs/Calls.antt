@@ -28,7 +28,7 @@ use Rattle.jg_words.specs.declared.call.vm.VmCall.TheVariants.{AttachCurrentThre
 use Rattle.jg_words.specs.declared.call.refs.RefsCall.{RefsCall}
 use Rattle.jg_words.specs.declared.call.refs.RefsCall.TheVariants.{NewLocalRef, NewGlobalRef, NewWeakGlobalRef, DeleteLocalRef, DeleteGlobalRef, DeleteWeakGlobalRef, IsSameObject, GetObjectRefType}
 use Rattle.jg_words.specs.declared.call.frames.FramesCall.{FramesCall}
-use Rattle.jg_words.specs.declared.call.frames.FramesCall.TheVariants.{PushLocalFrame, PopLocalFrame}
+use Rattle.jg_words.specs.declared.call.frames.FramesCall.TheVariants.{PushLocalFrame, PopLocalFrame, EnsureLocalCapacity}
 use Rattle.jg_words.specs.declared.call.exceptions.ExceptionsCall.{ExceptionsCall}
 use Rattle.jg_words.specs.declared.call.exceptions.ExceptionsCall.TheVariants.{Throw, ExceptionOccurred, ExceptionDescribe, ExceptionClear, ExceptionCheck}
 use Rattle.jg_words.specs.declared.call.objects.ObjectsCall.{ObjectsCall}
@@ -129,15 +129,18 @@ refs_same_kinds (GetObjectRefType r) = refl
 frames_same : (c d : FramesCall) → frames_fun c ≡ frames_fun d → frames_operands c ≡ frames_operands d → c ≡ d
 frames_same (PushLocalFrame a0) (PushLocalFrame b0) e1 e2 = cc
 frames_same (PopLocalFrame a0) (PopLocalFrame b0) e1 e2 = cc
+frames_same (EnsureLocalCapacity a0) (EnsureLocalCapacity b0) e1 e2 = cc
 frames_same _ _ e1 e2 = absurd (cc)
 
 frames_few : (f : FramesFun) → room (frames_kinds f) ≤ 21600
 frames_few frames.PushLocalFrame = omega arith
 frames_few frames.PopLocalFrame = omega arith
+frames_few frames.EnsureLocalCapacity = omega arith
 
 frames_same_kinds : (c : FramesCall) → map kind_of (frames_operands c) ≡ frames_kinds (frames_fun c)
 frames_same_kinds (PushLocalFrame capacity) = refl
 frames_same_kinds (PopLocalFrame kept) = refl
+frames_same_kinds (EnsureLocalCapacity capacity) = refl
 
 exceptions_same : (c d : ExceptionsCall) → exceptions_fun c ≡ exceptions_fun d → exceptions_operands c ≡ exceptions_operands d → c ≡ d
 exceptions_same (Throw a0) (Throw b0) e1 e2 = cc

@@ -20,7 +20,7 @@ use Rattle.jg_words.specs.declared.value.Value.{Value}
 use Rattle.jg_words.specs.declared.value.Value.TheVariants as value
 use Rattle.jg_text.specs.Words.{FitsTid, FitsEnv, ref_text, items_text, FitsRef, of_ref, of_items, dotted_text}
 use Rattle.jg_text.specs.Operands.{FitsCall}
-use Rattle.jg_text.specs.Journal.{value_text, warning_text, outcome_text, thrown_name, entry_text, call_line, FitsValue, FitsOutcome}
+use Rattle.jg_text.specs.Journal.{value_text, notice_text, warning_text, outcome_text, thrown_name, entry_text, call_line, FitsValue, FitsOutcome}
 use Rattle.jg_text.proofs.Laws.{dotted_short, signed_short, joined_short, short_call, printable_line, seen_word, seen_number, seen_signed, seen_dotted, wide}
 use Rattle.jg_text.proofs.Named.{both_true, below}
 
@@ -68,6 +68,10 @@ lettered letter a b seen ha hb =
       printable = All-cons (λ x. IsInRange 32 126 x) letter (dotted_text a b) (omega (arith, seen)) (wide (dotted_text a b) (seen_dotted a b ha hb));
       short = omega (arith, short);
     }
+
+notice_plain : (n : Bool) → IsPlainText 7 (notice_text n)
+notice_plain true = known 7 (notice_text true) refl (omega arith)
+notice_plain false = known 7 (notice_text false) refl (omega arith)
 
 warning_plain : (w : Bool) → IsPlainText 5 (warning_text w)
 warning_plain true = known 5 (warning_text true) refl (omega arith)
@@ -138,7 +142,9 @@ rule_plain NoNativeAccess = known 20 (name_of NoNativeAccess) refl (omega arith)
 rule_plain NotLinked = known 20 (name_of NotLinked) refl (omega arith)
 
 outcome_plain : (o : Outcome) → FitsOutcome o → IsPlainText 21040 (outcome_text o)
-outcome_plain (Passed r) h = more (21002 + 5) 21040 (outcome_text (Passed r)) (both 21002 5 (value_text r.value) (warning_text r.warned) (value_plain r.value h) (warning_plain r.warned)) (omega arith)
+outcome_plain (Passed r) h =
+    let noticed = both 21002 7 (value_text r.value) (notice_text r.noticed) (value_plain r.value h) (notice_plain r.noticed) in
+    more ((21002 + 7) + 5) 21040 (outcome_text (Passed r)) (both (21002 + 7) 5 (value_text r.value ++ notice_text r.noticed) (warning_text r.warned) noticed (warning_plain r.warned)) (omega arith)
 outcome_plain (Denied rule) h =
     let n = number_of rule in
     let small = number_small rule in

@@ -14,7 +14,7 @@ use Rattle.jg_text.specs.Words.{tid_text, env_text}
 use Rattle.jg_text.specs.Operands.{operand_texts}
 use Rattle.jg_text.specs.Pieces.{after_spaces}
 use Rattle.jg_text.specs.Spelling.{spelling}
-use Rattle.jg_text.specs.Journal.{entry_text, outcome_text}
+use Rattle.jg_text.specs.Journal.{entry_text, answer_text, call_line, outcome_text}
 
 pub join_operands : (x : List ℕ) (xs : List (List ℕ)) → join_with_byte 32 (x ∷ xs) ≡ x ++ after_spaces xs
 join_operands x [] = sym (append-nil x)
@@ -24,19 +24,29 @@ line_by_parts : (t : Tid) (e : Option EnvId) (c : Call) → ((((tid_text t ++ 32
 unfolding spelling
 line_by_parts t e c = rw (join_operands (name_of (fun_of c)) (operand_texts c)) (simp append_assoc)
 
-regrouped : (old t e n ops outcome : List ℕ) → (((((((((old ++ t) ++ 32 ∷ []) ++ e) ++ 32 ∷ []) ++ n) ++ ops) ++ 32 ∷ 61 ∷ 32 ∷ []) ++ outcome) ++ 10 ∷ []) ≡ old
-    ++ ((((((((t ++ 32 ∷ []) ++ e) ++ 32 ∷ []) ++ n) ++ ops) ++ 32 ∷ 61 ∷ 32 ∷ []) ++ outcome) ++ 10 ∷ [])
-regrouped old t e n ops outcome = simp append_assoc
+regrouped : (old t e n ops answer : List ℕ) → ((((((old ++ t) ++ 32 ∷ []) ++ e) ++ 32 ∷ []) ++ n) ++ ops) ++ answer
+    ≡ old ++ ((((((t ++ 32 ∷ []) ++ e) ++ 32 ∷ []) ++ n) ++ ops) ++ answer)
+regrouped old t e n ops answer = simp append_assoc
+
+-- the parts of an entry's line behind the call's
+behind : (line outcome : List ℕ) → line ++ (((32 ∷ 61 ∷ 32 ∷ []) ++ outcome) ++ 10 ∷ []) ≡ ((line ++ 32 ∷ 61 ∷ 32 ∷ []) ++ outcome) ++ 10 ∷ []
+behind line outcome = simp append_assoc
 
 -- what was written after each piece
-pub entry_written : (x : Entry) (f : Fun) (name old o1 o2 o3 o4 o5 o6 o7 o8 o9 : List ℕ) → name ≡ name_of f → f ≡ fun_of x.call
+pub entry_written : (x : Entry) (f : Fun) (name old o1 o2 o3 o4 o5 o6 o7 : List ℕ) → name ≡ name_of f → f ≡ fun_of x.call
     → o1 ≡ old ++ tid_text x.tid → o2 ≡ o1 ++ 32 ∷ [] → o3 ≡ o2 ++ env_text x.env → o4 ≡ o3 ++ 32 ∷ [] → o5 ≡ o4 ++ name → o6 ≡ o5 ++ after_spaces (operand_texts x.call)
-    → o7 ≡ o6 ++ 32 ∷ 61 ∷ 32 ∷ [] → o8 ≡ o7 ++ outcome_text x.outcome → o9 ≡ o8 ++ 10 ∷ [] → o9 ≡ old ++ entry_text x
+    → o7 ≡ o6 ++ answer_text x.outcome → o7 ≡ old ++ entry_text x
 unfolding entry_text
-entry_written x f name old o1 o2 o3 o4 o5 o6 o7 o8 o9 named is e1 e2 e3 e4 e5 e6 e7 e8 e9 =
-    rw (e9, e8, e7, e6, e5, e4, e3, e2, e1, named, is)
-    (regrouped old (tid_text x.tid) (env_text x.env) (name_of (fun_of x.call)) (after_spaces (operand_texts x.call)) (outcome_text x.outcome)
-    ∙ ap (λ (line : List ℕ). old ++ (((line ++ 32 ∷ 61 ∷ 32 ∷ []) ++ outcome_text x.outcome) ++ 10 ∷ [])) (line_by_parts x.tid x.env x.call))
+entry_written x f name old o1 o2 o3 o4 o5 o6 o7 named is e1 e2 e3 e4 e5 e6 e7 =
+    rw (e7, e6, e5, e4, e3, e2, e1, named, is)
+    (regrouped old (tid_text x.tid) (env_text x.env) (name_of (fun_of x.call)) (after_spaces (operand_texts x.call)) (answer_text x.outcome)
+    ∙ ap (λ (line : List ℕ). old ++ (line ++ answer_text x.outcome)) (line_by_parts x.tid x.env x.call)
+    ∙ ap (λ (line : List ℕ). old ++ line) (behind (call_line x) (outcome_text x.outcome)))
+
+-- behind the line of its call stands the rest of an entry's line
+pub completed : (x : Entry) (line : List ℕ) → line ≡ call_line x → line ++ answer_text x.outcome ≡ entry_text x
+unfolding entry_text
+completed x line is = ap (λ (front : List ℕ). front ++ answer_text x.outcome) is ∙ behind (call_line x) (outcome_text x.outcome)
 
 -- one more piece, after the separator
 pub join_push : (c : ℕ) (xs : List (List ℕ)) (x : List ℕ) → 0 < length xs → join_with_byte c (xs ++ x ∷ []) ≡ join_with_byte c xs ++ (c ∷ x)

@@ -40,12 +40,21 @@ abbrev pub warning_text : Bool → List ℕ
 warning_text true = codes " warn"
 warning_text false = []
 
+-- where the frame then holds more local references than it has room for
+abbrev pub notice_text : Bool → List ℕ
+notice_text true = codes " notice"
+notice_text false = []
+
 abbrev pub reply_text : Reply → List ℕ
-reply_text r = value_text r.value ++ warning_text r.warned
+reply_text r = value_text r.value ++ notice_text r.noticed ++ warning_text r.warned
 
 abbrev pub outcome_text : Outcome → List ℕ
 outcome_text (Passed reply) = reply_text reply
 outcome_text (Denied rule) = codes "deny " ++ decimal (number_of rule) ++ 32 ∷ name_of rule
+
+-- what stands behind the call in its entry's line
+abbrev pub answer_text : Outcome → List ℕ
+answer_text outcome = codes " = " ++ outcome_text outcome ++ 10 ∷ []
 
 abbrev pub call_line : Entry → List ℕ
 call_line e = spelling e.tid e.env e.call

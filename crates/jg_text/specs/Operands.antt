@@ -28,7 +28,7 @@ use Rattle.jg_words.specs.declared.call.vm.VmCall.TheVariants.{AttachCurrentThre
 use Rattle.jg_words.specs.declared.call.refs.RefsCall.{RefsCall}
 use Rattle.jg_words.specs.declared.call.refs.RefsCall.TheVariants.{NewLocalRef, NewGlobalRef, NewWeakGlobalRef, DeleteLocalRef, DeleteGlobalRef, DeleteWeakGlobalRef, IsSameObject, GetObjectRefType}
 use Rattle.jg_words.specs.declared.call.frames.FramesCall.{FramesCall}
-use Rattle.jg_words.specs.declared.call.frames.FramesCall.TheVariants.{PushLocalFrame, PopLocalFrame}
+use Rattle.jg_words.specs.declared.call.frames.FramesCall.TheVariants.{PushLocalFrame, PopLocalFrame, EnsureLocalCapacity}
 use Rattle.jg_words.specs.declared.call.exceptions.ExceptionsCall.{ExceptionsCall}
 use Rattle.jg_words.specs.declared.call.exceptions.ExceptionsCall.TheVariants.{Throw, ExceptionOccurred, ExceptionDescribe, ExceptionClear, ExceptionCheck}
 use Rattle.jg_words.specs.declared.call.objects.ObjectsCall.{ObjectsCall}
@@ -70,6 +70,7 @@ refs_kinds refs.GetObjectRefType = Reference ∷ []
 abbrev pub frames_kinds : FramesFun → List OperandKind
 frames_kinds frames.PushLocalFrame = Number ∷ []
 frames_kinds frames.PopLocalFrame = Reference ∷ []
+frames_kinds frames.EnsureLocalCapacity = Number ∷ []
 
 abbrev pub exceptions_kinds : ExceptionsFun → List OperandKind
 exceptions_kinds exceptions.Throw = Reference ∷ []
@@ -159,6 +160,7 @@ refs_operands (GetObjectRefType r) = of_ref r ∷ []
 abbrev pub frames_operands : FramesCall → List Word
 frames_operands (PushLocalFrame capacity) = of_number capacity ∷ []
 frames_operands (PopLocalFrame kept) = of_ref kept ∷ []
+frames_operands (EnsureLocalCapacity capacity) = of_number capacity ∷ []
 
 abbrev pub exceptions_operands : ExceptionsCall → List Word
 exceptions_operands (Throw exception) = of_ref exception ∷ []

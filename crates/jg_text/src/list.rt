@@ -10,7 +10,7 @@ ghost use Rattle.jg_text.specs.Pieces.{IsKindFault, IsBadNumber, IsBracketed};
 
 use crate::digits::push_signed;
 use crate::fault::ScriptFault;
-use crate::number::{cut_at, signed_number};
+use crate::number::{count_of, cut_at, signed_number};
 use jg_words::Items;
 use std::alloc::{AllocError, Global};
 
@@ -30,7 +30,9 @@ fn read_numbers(alloc: Global, text: &[u8]) -> Result<Vec<i64>, ScriptFault>
         × All (λ z. FitsSigned w64 z) items.items) }
     ensures err { IfErr result (IsBadNumber (slice_split (λ b. b == 44) text.now)) }
 {
-    let mut items = Vec::new(alloc);
+    let Ok(mut items) = Vec::with_capacity(alloc, count_of(b',', text) + 1) else {
+        return Err(ScriptFault::NoMemory);
+    };
     let mut rest = text;
     while let Some((front, back)) = cut_at(b',', rest) {
         let Some(item) = signed_number(front) else {

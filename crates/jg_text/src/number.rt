@@ -1,6 +1,6 @@
 //! Decimal numbers in their one spelling: no leading zero, no plus, and no minus before 0.
 
-ghost use Rattle.std.specs.Prelude.{◌≡◌, ◌≢◌, ℕ, ℤ, ◌<◌, ◌≤◌, ◌^◌, ◌++◌, ◌∷◌, ◌==◌, false, IfSome, IfNone, All, FitsSigned, IsTrue, ◌↔◌, MatchOption, length, slice_index};
+ghost use Rattle.std.specs.Prelude.{◌≡◌, ◌≢◌, ℕ, ℤ, ◌<◌, ◌≤◌, ◌^◌, ◌++◌, ◌∷◌, ◌==◌, false, IfSome, IfNone, All, FitsSigned, IsTrue, ◌↔◌, MatchOption, length, slice_index, count_by};
 ghost use Rattle.std.specs.Int.{w32, w64};
 ghost use Rattle.std.specs.Fmt.{decimal, signed_decimal};
 ghost use Rattle.std.specs.Str.Parse.{AllDigits, digits_value};
@@ -91,6 +91,14 @@ pub fn small_number(text: &[u8]) -> Option<u16>
         Some(n) if n < 0x1_0000 => Some(n as u16),
         _ => None,
     }
+}
+
+/// How often the byte stands in the text.
+pub fn count_of(byte: u8, text: &[u8]) -> usize
+    ensures counted { result ≡ count_by (λ b. b == byte) text.now }
+    ensures few { result ≤ length text.now }
+{
+    text.iter().filter(|b| **b == byte).count()
 }
 
 /// What stands before the first such byte, and what stands after it.

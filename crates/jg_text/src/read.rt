@@ -1,6 +1,6 @@
 //! A line of a script.
 
-ghost use Rattle.std.specs.Prelude.{◌≡◌, ℕ, ◌<◌, ◌∷◌, [], length, IfOk, IfErr, IfSome, IfNone, IsTrue, ◌↔◌, ◌≢◌, All, Contains, count_by, ◌==◌, ◌≤◌};
+ghost use Rattle.std.specs.Prelude.{◌≡◌, ℕ, ◌<◌, ◌∷◌, [], length, IfOk, IfErr, IfSome, IfNone, IsTrue, ◌↔◌, ◌≢◌, All, Contains};
 ghost use Rattle.std.specs.Int.{IsInRange};
 ghost use Rattle.std.specs.Option.{option_copied};
 ghost use Rattle.jg_words.specs.Fun.{name_of, named};
@@ -13,6 +13,7 @@ ghost use Rattle.jg_text.specs.Pieces.{rest_fields, IsOperandFault, IsByLength};
 
 use crate::fault::ScriptFault;
 use crate::groups;
+use crate::number::count_of;
 use crate::operand::cut;
 use crate::word::{read_env, read_tid};
 use jg_words::{
@@ -38,20 +39,13 @@ fn is_printable(line: &[u8]) -> bool
     printable
 }
 
-fn count_spaces(text: &[u8]) -> usize
-    ensures counted { result ≡ count_by (λ b. b == 32) text.now }
-    ensures few { result ≤ length text.now }
-{
-    text.iter().filter(|b| **b == b' ').count()
-}
-
 /// How many fields stand behind the function's name.
 fn count_fields(rest: Option<&[u8]>) -> usize
     ensures { result ≡ length (rest_fields (option_copied rest.entry)) }
 {
     match rest {
         None => 0,
-        Some(text) => count_spaces(text) + 1,
+        Some(text) => count_of(b' ', text) + 1,
     }
 }
 
@@ -156,6 +150,7 @@ const BY_LENGTH: [&[Fun]; 30] = [
         Fun::Vm(VmFun::AttachCurrentThread),
         Fun::Vm(VmFun::DetachCurrentThread),
         Fun::Refs(RefsFun::DeleteWeakGlobalRef),
+        Fun::Frames(FramesFun::EnsureLocalCapacity),
         Fun::Arrays(ArraysFun::GetArrayRegion(Primitive::Short)),
         Fun::Arrays(ArraysFun::SetArrayRegion(Primitive::Short)),
         Fun::Buffers(BuffersFun::GetArrayElements(Primitive::Int)),

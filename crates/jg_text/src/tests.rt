@@ -346,6 +346,7 @@ fn each_function_is_read_and_written_back(rt: HostRuntime) -> Result<(), Fail> {
         "T1 E1.1 GetObjectRefType null",
         "T1 E1.1 PushLocalFrame 16",
         "T1 E1.1 PopLocalFrame null",
+        "T1 E1.1 EnsureLocalCapacity -1",
         "T1 E1.1 Throw L1.1",
         "T1 E1.1 ExceptionOccurred",
         "T1 E1.1 ExceptionDescribe",
@@ -504,6 +505,7 @@ fn each_outcome_has_its_text(rt: HostRuntime) -> Result<(), Fail> {
             Outcome::Passed(Reply {
                 value,
                 warned: false,
+                noticed: false,
             }),
         )?;
         let wanted = format!(in rt.alloc(); "T1 E1.1 NewLocalRef null = {text}\n")?;
@@ -517,9 +519,20 @@ fn warnings_and_denials_have_their_texts(rt: HostRuntime) -> Result<(), Fail> {
     let warned = Reply {
         value: Value::Ok,
         warned: true,
+        noticed: false,
     };
     let line = line_of(rt.alloc(), Outcome::Passed(warned))?;
     assert_eq!(rt; line.as_str(), "T1 E1.1 NewLocalRef null = ok warn\n");
+    let both = Reply {
+        value: Value::Null,
+        warned: true,
+        noticed: true,
+    };
+    let line = line_of(rt.alloc(), Outcome::Passed(both))?;
+    assert_eq!(rt;
+        line.as_str(),
+        "T1 E1.1 NewLocalRef null = null notice warn\n"
+    );
     let line = line_of(rt.alloc(), Outcome::Denied(Rule::DeadReference))?;
     assert_eq!(rt;
         line.as_str(),

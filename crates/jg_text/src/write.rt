@@ -4,7 +4,7 @@ ghost use Rattle.std.specs.Prelude.{◌≡◌, ◌++◌, ◌∷◌, IfOk, OnOk, 
 ghost use Rattle.jg_text.specs.Operands.{operand_texts};
 ghost use Rattle.jg_text.specs.Pieces.{after_spaces};
 ghost use Rattle.jg_text.specs.Words.{env_id_text};
-ghost use Rattle.jg_text.specs.Journal.{entry_text, outcome_text, value_text, reply_text, thrown_name, FitsValue, FitsOutcome};
+ghost use Rattle.jg_text.specs.Journal.{entry_text, answer_text, outcome_text, value_text, reply_text, thrown_name, FitsValue, FitsOutcome};
 
 use crate::digits::{push_number, push_signed};
 use crate::groups;
@@ -52,12 +52,15 @@ fn push_value(out: &mut String, value: &Value) -> Result<(), AllocError>
     }
 }
 
-/// Writes the same, with its warning.
+/// Writes the same, with its notice and its warning.
 fn push_reply(out: &mut String, reply: &Reply) -> Result<(), AllocError>
     ensures written { OnOk result (string_bytes out.new ≡ string_bytes out.old ++ reply_text reply.now) }
     ensures fits { OnOk result (FitsValue reply.now.value) }
 {
     push_value(out, &reply.value)?;
+    if reply.noticed {
+        out.push_str(" notice")?;
+    }
     if reply.warned {
         out.push_str(" warn")?;
     }
@@ -82,6 +85,17 @@ fn push_outcome(out: &mut String, outcome: &Outcome) -> Result<(), AllocError>
     }
 }
 
+/// Writes what stands behind the call in its entry's line: the outcome, with the line feed.
+pub fn push_answer(out: &mut String, outcome: &Outcome) -> Result<(), AllocError>
+    ensures written { OnOk result (string_bytes out.new ≡ string_bytes out.old ++ answer_text outcome.now) }
+    ensures fits { OnOk result (FitsOutcome outcome.now) }
+{
+    out.push_str(" = ")?;
+    push_outcome(out, outcome)?;
+    out.push_str("\n")?;
+    Ok(())
+}
+
 /// Writes the entry's line of the journal, with its line feed.
 pub fn push_entry(out: &mut String, entry: &Entry) -> Result<(), AllocError>
     ensures written { OnOk result (string_bytes out.new ≡ string_bytes out.old ++ entry_text entry.now) }
@@ -93,9 +107,7 @@ pub fn push_entry(out: &mut String, entry: &Entry) -> Result<(), AllocError>
     out.push_str(" ")?;
     out.push_str(entry.call.fun().name())?;
     groups::write(out, &entry.call)?;
-    out.push_str(" = ")?;
-    push_outcome(out, &entry.outcome)?;
-    out.push_str("\n")?;
+    push_answer(out, &entry.outcome)?;
     Ok(())
 }
 

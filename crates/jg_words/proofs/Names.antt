@@ -8,7 +8,7 @@ use Rattle.jg_words.specs.declared.fun.vm.VmFun.TheVariants.{AttachCurrentThread
 use Rattle.jg_words.specs.declared.fun.refs.RefsFun.{RefsFun}
 use Rattle.jg_words.specs.declared.fun.refs.RefsFun.TheVariants.{NewLocalRef, NewGlobalRef, NewWeakGlobalRef, DeleteLocalRef, DeleteGlobalRef, DeleteWeakGlobalRef, IsSameObject, GetObjectRefType}
 use Rattle.jg_words.specs.declared.fun.frames.FramesFun.{FramesFun}
-use Rattle.jg_words.specs.declared.fun.frames.FramesFun.TheVariants.{PushLocalFrame, PopLocalFrame}
+use Rattle.jg_words.specs.declared.fun.frames.FramesFun.TheVariants.{PushLocalFrame, PopLocalFrame, EnsureLocalCapacity}
 use Rattle.jg_words.specs.declared.fun.exceptions.ExceptionsFun.{ExceptionsFun}
 use Rattle.jg_words.specs.declared.fun.exceptions.ExceptionsFun.TheVariants.{Throw, ExceptionOccurred, ExceptionDescribe, ExceptionClear, ExceptionCheck}
 use Rattle.jg_words.specs.declared.fun.objects.ObjectsFun.{ObjectsFun}
@@ -43,6 +43,7 @@ named-name_of (Refs IsSameObject) = refl
 named-name_of (Refs GetObjectRefType) = refl
 named-name_of (Frames PushLocalFrame) = refl
 named-name_of (Frames PopLocalFrame) = refl
+named-name_of (Frames EnsureLocalCapacity) = refl
 named-name_of (Exceptions Throw) = refl
 named-name_of (Exceptions ExceptionOccurred) = refl
 named-name_of (Exceptions ExceptionDescribe) = refl

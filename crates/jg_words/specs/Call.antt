@@ -26,7 +26,7 @@ use Rattle.jg_words.specs.declared.call.vm.VmCall.TheVariants.{AttachCurrentThre
 use Rattle.jg_words.specs.declared.call.refs.RefsCall.{RefsCall}
 use Rattle.jg_words.specs.declared.call.refs.RefsCall.TheVariants.{NewLocalRef, NewGlobalRef, NewWeakGlobalRef, DeleteLocalRef, DeleteGlobalRef, DeleteWeakGlobalRef, IsSameObject, GetObjectRefType}
 use Rattle.jg_words.specs.declared.call.frames.FramesCall.{FramesCall}
-use Rattle.jg_words.specs.declared.call.frames.FramesCall.TheVariants.{PushLocalFrame, PopLocalFrame}
+use Rattle.jg_words.specs.declared.call.frames.FramesCall.TheVariants.{PushLocalFrame, PopLocalFrame, EnsureLocalCapacity}
 use Rattle.jg_words.specs.declared.call.exceptions.ExceptionsCall.{ExceptionsCall}
 use Rattle.jg_words.specs.declared.call.exceptions.ExceptionsCall.TheVariants.{Throw, ExceptionOccurred, ExceptionDescribe, ExceptionClear, ExceptionCheck}
 use Rattle.jg_words.specs.declared.call.objects.ObjectsCall.{ObjectsCall}
@@ -64,6 +64,7 @@ refs_fun (GetObjectRefType of) = refs.GetObjectRefType
 abbrev pub frames_fun : FramesCall → FramesFun
 frames_fun (PushLocalFrame capacity) = frames.PushLocalFrame
 frames_fun (PopLocalFrame kept) = frames.PopLocalFrame
+frames_fun (EnsureLocalCapacity capacity) = frames.EnsureLocalCapacity
 
 abbrev pub exceptions_fun : ExceptionsCall → ExceptionsFun
 exceptions_fun (Throw exception) = exceptions.Throw

@@ -9,7 +9,7 @@ use Rattle.jg_words.specs.declared.fun.vm.VmFun.TheVariants.{AttachCurrentThread
 use Rattle.jg_words.specs.declared.fun.refs.RefsFun.{RefsFun}
 use Rattle.jg_words.specs.declared.fun.refs.RefsFun.TheVariants.{NewLocalRef, NewGlobalRef, NewWeakGlobalRef, DeleteLocalRef, DeleteGlobalRef, DeleteWeakGlobalRef, IsSameObject, GetObjectRefType}
 use Rattle.jg_words.specs.declared.fun.frames.FramesFun.{FramesFun}
-use Rattle.jg_words.specs.declared.fun.frames.FramesFun.TheVariants.{PushLocalFrame, PopLocalFrame}
+use Rattle.jg_words.specs.declared.fun.frames.FramesFun.TheVariants.{PushLocalFrame, PopLocalFrame, EnsureLocalCapacity}
 use Rattle.jg_words.specs.declared.fun.exceptions.ExceptionsFun.{ExceptionsFun}
 use Rattle.jg_words.specs.declared.fun.exceptions.ExceptionsFun.TheVariants.{Throw, ExceptionOccurred, ExceptionDescribe, ExceptionClear, ExceptionCheck}
 use Rattle.jg_words.specs.declared.fun.objects.ObjectsFun.{ObjectsFun}
@@ -47,6 +47,7 @@ refs_name GetObjectRefType = codes "GetObjectRefType"
 abbrev pub frames_name : FramesFun → List ℕ
 frames_name PushLocalFrame = codes "PushLocalFrame"
 frames_name PopLocalFrame = codes "PopLocalFrame"
+frames_name EnsureLocalCapacity = codes "EnsureLocalCapacity"
 
 abbrev pub exceptions_name : ExceptionsFun → List ℕ
 exceptions_name Throw = codes "Throw"
@@ -192,7 +193,7 @@ all =
     ∷ Vm LoadLibrary ∷ Vm RegisterNatives ∷ Vm UnregisterNatives ∷ Vm Collect
     ∷ Refs NewLocalRef ∷ Refs NewGlobalRef ∷ Refs NewWeakGlobalRef ∷ Refs DeleteLocalRef ∷ Refs DeleteGlobalRef
     ∷ Refs DeleteWeakGlobalRef ∷ Refs IsSameObject ∷ Refs GetObjectRefType
-    ∷ Frames PushLocalFrame ∷ Frames PopLocalFrame
+    ∷ Frames PushLocalFrame ∷ Frames PopLocalFrame ∷ Frames EnsureLocalCapacity
     ∷ Exceptions Throw ∷ Exceptions ExceptionOccurred ∷ Exceptions ExceptionDescribe
     ∷ Exceptions ExceptionClear ∷ Exceptions ExceptionCheck
     ∷ Objects FindClass ∷ Objects GetObjectClass ∷ Objects IsInstanceOf ∷ Objects AllocObject

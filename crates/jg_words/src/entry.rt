@@ -4,12 +4,14 @@ use crate::rule::Rule;
 use crate::thread::{EnvId, Tid};
 use crate::value::Value;
 
-/// The answer of a passed call, and whether it came with a warning of restricted access
-/// (JEP 472).
+/// The answer of a passed call; whether it came with a warning of restricted access (JEP 472); and
+/// whether it came with a notice: it handed out a local reference, and the frame then held more
+/// than its room (JNI Specification, chapter 4, "Local References").
 #[derive(Debug, PartialEq, Eq, Drop)]
 pub struct Reply {
     pub value: Value,
     pub warned: bool,
+    pub noticed: bool,
 }
 
 /// What became of a call: it was done, or it was denied by the first rule that it broke.

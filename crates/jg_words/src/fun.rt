@@ -41,7 +41,7 @@ pub enum Fun {
 
 impl Fun {
     /// All functions, by group.
-    pub const ALL: [Fun; 94] = [
+    pub const ALL: [Fun; 95] = [
         Fun::Vm(VmFun::AttachCurrentThread),
         Fun::Vm(VmFun::DetachCurrentThread),
         Fun::Vm(VmFun::GetEnv),
@@ -61,6 +61,7 @@ impl Fun {
         Fun::Refs(RefsFun::GetObjectRefType),
         Fun::Frames(FramesFun::PushLocalFrame),
         Fun::Frames(FramesFun::PopLocalFrame),
+        Fun::Frames(FramesFun::EnsureLocalCapacity),
         Fun::Exceptions(ExceptionsFun::Throw),
         Fun::Exceptions(ExceptionsFun::ExceptionOccurred),
         Fun::Exceptions(ExceptionsFun::ExceptionDescribe),

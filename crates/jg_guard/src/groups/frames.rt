@@ -8,6 +8,7 @@ ghost use Rattle.jg_guard.specs.Cleaning.{cleans_up};
 ghost use Rattle.jg_guard.specs.Tables.{rows_of, IsDue, IsEffective, KeepsRoom};
 ghost use Rattle.jg_rules.specs.Effects.{done_by};
 
+use crate::region::natural;
 use crate::settle::{handing_out, plain};
 use crate::tables::Tables;
 use jg_policy::Setup;
@@ -29,6 +30,7 @@ pub(crate) fn answer_frames<A: Allocator + Clone>(
         FramesCall::PopLocalFrame { kept } => {
             handing_out(view, tid, Kind::Local, object_named(view, tid, *kept))
         }
+        FramesCall::EnsureLocalCapacity { .. } => plain(Value::Number(0)),
     }
 }
 
@@ -48,9 +50,13 @@ pub(crate) fn perform_frames<A: Allocator + Clone>(
     ensures wants { OnErr result (cleans_up (Frames call.now) ≡ false) }
 {
     match call {
-        FramesCall::PushLocalFrame { .. } => tables.locals.push(tid),
+        FramesCall::PushLocalFrame { capacity } => tables.locals.push(tid, natural(*capacity)),
         FramesCall::PopLocalFrame { .. } => {
             tables.locals.pop(tid);
+            Ok(())
+        }
+        FramesCall::EnsureLocalCapacity { capacity } => {
+            tables.locals.ensure(tid, natural(*capacity));
             Ok(())
         }
     }

@@ -5,6 +5,7 @@ ghost use Rattle.jg_words.specs.declared.call.vm.VmCall.TheVariants.{RegisterNat
 ghost use Rattle.jg_words.specs.declared.reference.Kind.TheVariants.{Local};
 ghost use Rattle.jg_words.specs.declared.value.Value.TheVariants.{Ok as Done};
 ghost use Rattle.jg_threads.specs.Rows.{CanCount};
+ghost use Rattle.jg_policy.specs.declared.access.Operation.TheVariants.{Load, Link};
 ghost use Rattle.jg_policy.specs.Stated.{StatedSetup, class_count};
 ghost use Rattle.jg_policy.specs.Classes.{class_named};
 ghost use Rattle.jg_rules.specs.Parts.{Parts, TablesStand};
@@ -22,7 +23,7 @@ ghost use Rattle.jg_guard.specs.Settled.{linked_on, unlinked_on};
 use crate::collect::{collect, marks_of_held};
 use crate::settle::{admitted, handing_out, plain, throwing};
 use crate::tables::Tables;
-use jg_policy::Setup;
+use jg_policy::{Operation, Setup};
 use jg_rules::{Answer, View, class_meant, is_warned_use, native_meant, object_named};
 use jg_words::{Kind, Name, ObjId, Ref, Thrown, Tid, Value, VmCall};
 use std::alloc::{AllocError, Allocator};
@@ -40,11 +41,11 @@ fn class_object(class: Option<u32>) -> Option<ObjId>
 fn answer_enter<A: Allocator + Clone>(view: &View<'_, A>, tid: Tid, class: &Name) -> Answer
     requires { CanCount view.now.threads.now tid.0 }
     ensures { (p : Parts) → ViewStands view.now p → result ≡ answers.admitted view.now.setup.now p
-        (class_named view.now.setup.now class.now) (handed p tid Local (class_named view.now.setup.now class.now)) }
+        Link (class_named view.now.setup.now class.now) (handed p tid Local (class_named view.now.setup.now class.now)) }
 {
     let class = view.setup.class_named(class);
     let given = handing_out(view, tid, Kind::Local, class_object(class));
-    admitted(given, is_warned_use(view, class))
+    admitted(given, is_warned_use(view, Operation::Link, class))
 }
 
 fn answer_leave<A: Allocator + Clone>(view: &View<'_, A>, tid: Tid, kept: Ref) -> Answer
@@ -60,11 +61,11 @@ fn answer_leave<A: Allocator + Clone>(view: &View<'_, A>, tid: Tid, kept: Ref) -
 
 fn answer_load<A: Allocator + Clone>(view: &View<'_, A>, class: &Name) -> Answer
     ensures { (p : Parts) → ViewStands view.now p → result ≡ answers.admitted view.now.setup.now p
-        (class_named view.now.setup.now class.now) (answers.plain Done) }
+        Load (class_named view.now.setup.now class.now) (answers.plain Done) }
 {
     admitted(
         plain(Value::Ok),
-        is_warned_use(view, view.setup.class_named(class)),
+        is_warned_use(view, Operation::Load, view.setup.class_named(class)),
     )
 }
 
@@ -80,7 +81,10 @@ fn answer_register<A: Allocator + Clone>(
 {
     match native_meant(view.setup, class, method, signature) {
         None => throwing(view, Thrown::NoSuchMethod),
-        Some(_) => admitted(plain(Value::Ok), is_warned_use(view, class)),
+        Some(_) => admitted(
+            plain(Value::Ok),
+            is_warned_use(view, Operation::Register, class),
+        ),
     }
 }
 

@@ -121,18 +121,16 @@ impl Setup {
         }
     }
 
-    /// What is done with a use of native code by the class (JEP 472): it goes by the class's module
-    /// alone. The class is one of the setup's, so below [`Setup::class_count`].
+    /// What is done with a use of native code by the class (JEP 472): it goes by the operation and
+    /// the class's module alone. The class is one of the setup's, so below [`Setup::class_count`].
     pub fn access(&self, class: u32, operation: Operation) -> Access
         requires { class < class_count self.now }
         ensures { result ≡ access_of self.now class operation }
     {
-        // Version 1 of the setup treats each operation alike.
-        let _operation = operation;
         if class < BASE_COUNT {
             return Access::Allowed;
         }
-        self.settled[(class - BASE_COUNT) as usize].access
+        self.settled[(class - BASE_COUNT) as usize].access(operation)
     }
 }
 

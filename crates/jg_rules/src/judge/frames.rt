@@ -20,7 +20,7 @@ pub(crate) fn judge_frames<A: Allocator + Clone>(
         → result ≡ own_verdict view.now.setup.now p tid.0 (Frames call.now) }
 {
     match call {
-        FramesCall::PushLocalFrame { capacity } => {
+        FramesCall::PushLocalFrame { capacity } | FramesCall::EnsureLocalCapacity { capacity } => {
             if *capacity < 0 || *capacity > MAX_CAPACITY {
                 Some(Rule::BadArgument)
             } else {

@@ -8,6 +8,7 @@ ghost use Rattle.jg_rules.specs.View.{ViewStands};
 use crate::access::is_refused_to;
 use crate::named::{class_meant, native_meant};
 use crate::view::View;
+use jg_policy::Operation;
 use jg_words::{Name, Rule, Tid, VmCall};
 use std::alloc::Allocator;
 
@@ -26,7 +27,7 @@ fn judge_enter<A: Allocator + Clone>(
     let Some(class) = found else {
         return Some(Rule::BadArgument);
     };
-    if is_refused_to(view, Some(class)) {
+    if is_refused_to(view, Operation::Link, Some(class)) {
         return Some(Rule::NoNativeAccess);
     }
     match native_meant(view.setup, Some(class), method, signature) {
@@ -75,14 +76,14 @@ pub(crate) fn judge_vm<A: Allocator + Clone>(
             let found = view.setup.class_named(class);
             if found.is_none() {
                 Some(Rule::BadArgument)
-            } else if is_refused_to(view, found) {
+            } else if is_refused_to(view, Operation::Load, found) {
                 Some(Rule::NoNativeAccess)
             } else {
                 None
             }
         }
         VmCall::RegisterNatives { class, .. } => {
-            if is_refused_to(view, class_meant(view, tid, *class)) {
+            if is_refused_to(view, Operation::Register, class_meant(view, tid, *class)) {
                 Some(Rule::NoNativeAccess)
             } else {
                 None

@@ -20,6 +20,7 @@ pub fn arity(fun: FramesFun) -> usize
     match fun {
         FramesFun::PushLocalFrame => 1,
         FramesFun::PopLocalFrame => 1,
+        FramesFun::EnsureLocalCapacity => 1,
     }
 }
 
@@ -40,6 +41,10 @@ pub fn read(alloc: Global, fun: FramesFun, rest: Option<&[u8]>) -> Result<Frames
             let kept = read_one(alloc, rest)?;
             Ok(FramesCall::PopLocalFrame { kept })
         }
+        FramesFun::EnsureLocalCapacity => {
+            let capacity = read_one(alloc, rest)?;
+            Ok(FramesCall::EnsureLocalCapacity { capacity })
+        }
     }
 }
 
@@ -51,5 +56,6 @@ pub fn write(out: &mut String, call: &FramesCall) -> Result<(), AllocError>
     match call {
         FramesCall::PushLocalFrame { capacity } => write_one(out, capacity),
         FramesCall::PopLocalFrame { kept } => write_one(out, kept),
+        FramesCall::EnsureLocalCapacity { capacity } => write_one(out, capacity),
     }
 }

@@ -10,6 +10,7 @@ use crate::reference::Ref;
 pub enum FramesCall {
     PushLocalFrame { capacity: i32 },
     PopLocalFrame { kept: Ref },
+    EnsureLocalCapacity { capacity: i32 },
 }
 
 impl FramesCall {
@@ -20,6 +21,7 @@ impl FramesCall {
         match self {
             FramesCall::PushLocalFrame { .. } => FramesFun::PushLocalFrame,
             FramesCall::PopLocalFrame { .. } => FramesFun::PopLocalFrame,
+            FramesCall::EnsureLocalCapacity { .. } => FramesFun::EnsureLocalCapacity,
         }
     }
 
@@ -32,6 +34,9 @@ impl FramesCall {
                 capacity: *capacity,
             },
             FramesCall::PopLocalFrame { kept } => FramesCall::PopLocalFrame { kept: *kept },
+            FramesCall::EnsureLocalCapacity { capacity } => FramesCall::EnsureLocalCapacity {
+                capacity: *capacity,
+            },
         }
     }
 }

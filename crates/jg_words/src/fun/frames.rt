@@ -6,6 +6,7 @@ ghost use Rattle.jg_words.specs.Fun.{frames_name};
 pub enum FramesFun {
     PushLocalFrame,
     PopLocalFrame,
+    EnsureLocalCapacity,
 }
 
 impl FramesFun {
@@ -16,6 +17,7 @@ impl FramesFun {
         match self {
             FramesFun::PushLocalFrame => "PushLocalFrame",
             FramesFun::PopLocalFrame => "PopLocalFrame",
+            FramesFun::EnsureLocalCapacity => "EnsureLocalCapacity",
         }
     }
 }

@@ -1,4 +1,8 @@
-use Rattle.jg_locals.proofs.Numbers.{marked_there, sound_there, rises_there, unmarked_there}
+use Rattle.std.proofs.Common.{◌≡◌, ◌∙◌, false, List, sym, subst}
+use Rattle.std.specs.Prelude.{◌==◌}
+use Rattle.std.specs.List.{AllByRecursion}
+use Rattle.jg_locals.specs.declared.row.Slot.{Slot}
+use Rattle.jg_locals.proofs.Numbers.{marked_there, sound_there, rises_there, unmarked_there, slot_found, no_slot}
 use Rattle.jg_locals.proofs.slots.mark_dead.Goals as goal
 
 pub returns-in-Some-clause-marked : goal.returns-in-Some-clause-marked
@@ -13,3 +17,12 @@ returns-in-Some-clause-rises g c = rises_there c.args.slots.now.items c.in-Some.
 
 pub returns-in-None-clause-marked : goal.returns-in-None-clause-marked
 returns-in-None-clause-marked g c = unmarked_there c.deref.result.now c.args.slots.now.items c.args.n c.deref.ensures.value c.in-None.ensures
+
+pub returns-in-Some-clause-was : goal.returns-in-Some-clause-was
+returns-in-Some-clause-was g c = c.live_slot-was.ensures ∙ slot_found c.deref.result.now c.args.slots.now.items c.args.n c.in-Some.i c.index.result.now c.deref.ensures.value c.index.ensures c.requires
+    c.in-Some.ensures
+
+pub returns-in-None-clause-was : goal.returns-in-None-clause-was
+returns-in-None-clause-was g c =
+    let Q : List Slot → Type 0 = λ l. AllByRecursion (λ s. (s.n == c.args.n) ≡ false) l in
+    sym (no_slot c.args.slots.now.items c.args.n (subst Q c.deref.ensures.value c.in-None.ensures))

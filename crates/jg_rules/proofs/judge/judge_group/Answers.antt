@@ -5,3 +5,6 @@ returns-in-Strings g c = λ p stands. rw c.in-Strings.is (c.judge_strings.ensure
 
 pub returns-in-Arrays : goal.returns-in-Arrays
 returns-in-Arrays g c = λ p stands. rw c.in-Arrays.is (c.judge_arrays.ensures c.args.view.now.setup.now p c.args.tid.0)
+
+pub returns-in-Vm : goal.returns-in-Vm
+returns-in-Vm g c = λ p stands. rw c.in-Vm.is (c.judge_vm.ensures p stands)

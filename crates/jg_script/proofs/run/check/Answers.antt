@@ -40,8 +40,8 @@ returns-in-Err-clause-checks g c =
     let line = rw c.in-Line.is at c.in-Ok-next_line.ensures.taken in
     answered_err (reads c.args.reader.now.device) (reads c.loop-line.reader.device) (reads c.next_line.new.reader.device) (holds c.args.writer.now.device) (holds c.hand_over.new.writer.device)
     (holds c.answer_line.new.writer.device)
-    c.args.guard.now.limit c.loop-line.line c.loop-line.guard c.answer_line.new.guard c.deref.result.now c.in-Err.fault
-    h c.loop-line.invariant.within (rw c.deref.ensures.value (lines_more _ _ _ _ _ h.read line)) c.in-Err.ensures.answers
+    c.args.guard.now.limit c.loop-line.line c.loop-line.guard c.answer_line.new.guard c.next_line.new.line.items c.in-Err.fault
+    h c.loop-line.invariant.within (lines_more _ _ _ _ _ h.read line) c.in-Err.ensures.answers
 
 pub returns-in-LastLine-clause-checks : goal.returns-in-LastLine-clause-checks
 returns-in-LastLine-clause-checks g c =
@@ -50,19 +50,18 @@ returns-in-LastLine-clause-checks g c =
     let h = still_checked _ _ _ _ _ _ _ _ c.loop-line.invariant.checked c.hand_over.ensures.kept in
     let line = rw c.in-LastLine.is at c.in-Ok-next_line.ensures.taken in
     let a = c.answer_line-in-LastLine in
-    let d = c.deref-in-LastLine in
     elim c.match-answer_line-2.branch [
       | in-Ok-answer_line w ↦ (
           let more = goes_on (reads c.args.reader.now.device) (reads c.loop-line.reader.device) (reads c.next_line.new.reader.device) (holds c.args.writer.now.device) (holds c.hand_over.new.writer.device)
           (holds a.new.writer.device)
-          c.args.guard.now.limit c.loop-line.line c.loop-line.guard a.new.guard d.result.now h (rw d.ensures.value (lines_more _ _ _ _ _ h.read line.0)) a.ensures.limit
+          c.args.guard.now.limit c.loop-line.line c.loop-line.guard a.new.guard c.next_line.new.line.items h (lines_more _ _ _ _ _ h.read line.0) a.ensures.limit
           w.in-Ok-answer_line.ensures.answers in
           let counted = more.0.counted in
           rw w.result-is (ended _ _ _ more.0.read line.1, line.1, more.0.written, omega arith, more.1))
       | in-Err-answer_line w ↦ rw w.result-is (answered_err (reads c.args.reader.now.device) (reads c.loop-line.reader.device) (reads c.next_line.new.reader.device) (holds c.args.writer.now.device)
           (holds c.hand_over.new.writer.device) (holds a.new.writer.device)
-          c.args.guard.now.limit c.loop-line.line c.loop-line.guard a.new.guard d.result.now w.in-Err-answer_line.fault
-          h c.loop-line.invariant.within (rw d.ensures.value (lines_more _ _ _ _ _ h.read line.0)) w.in-Err-answer_line.ensures.answers)
+          c.args.guard.now.limit c.loop-line.line c.loop-line.guard a.new.guard c.next_line.new.line.items w.in-Err-answer_line.fault
+          h c.loop-line.invariant.within (lines_more _ _ _ _ _ h.read line.0) w.in-Err-answer_line.ensures.answers)
     ]
 
 pub returns-in-Err-clause-reads : goal.returns-in-Err-clause-reads
@@ -73,7 +72,7 @@ returns-in-Err-clause-reads g c =
     let h = still_checked _ _ _ _ _ _ _ _ c.loop-line.invariant.checked c.hand_over.ensures.kept in
     answered_reads (reads c.args.reader.now.device) (reads c.loop-line.reader.device) (reads c.next_line.new.reader.device) (holds c.args.writer.now.device) (holds c.hand_over.new.writer.device)
     (holds c.answer_line.new.writer.device)
-    c.args.guard.now.limit c.loop-line.line c.loop-line.guard c.answer_line.new.guard c.deref.result.now c.in-Err.fault h inv.taken c.in-Ok-next_line.ensures.front c.in-Err.ensures.answers
+    c.args.guard.now.limit c.loop-line.line c.loop-line.guard c.answer_line.new.guard c.next_line.new.line.items c.in-Err.fault h inv.taken c.in-Ok-next_line.ensures.front c.in-Err.ensures.answers
 
 pub returns-in-LastLine-clause-reads : goal.returns-in-LastLine-clause-reads
 returns-in-LastLine-clause-reads g c =
@@ -87,7 +86,7 @@ returns-in-LastLine-clause-reads g c =
       | in-Ok-answer_line w ↦ rw w.result-is last.1
       | in-Err-answer_line w ↦ rw w.result-is (answered_reads (reads c.args.reader.now.device) (reads c.loop-line.reader.device) (reads c.next_line.new.reader.device) (holds c.args.writer.now.device)
           (holds c.hand_over.new.writer.device) (holds a.new.writer.device)
-          c.args.guard.now.limit c.loop-line.line c.loop-line.guard a.new.guard c.deref-in-LastLine.result.now w.in-Err-answer_line.fault h inv.taken c.in-Ok-next_line.ensures.front
+          c.args.guard.now.limit c.loop-line.line c.loop-line.guard a.new.guard c.next_line.new.line.items w.in-Err-answer_line.fault h inv.taken c.in-Ok-next_line.ensures.front
           w.in-Err-answer_line.ensures.answers)
     ]
 
@@ -100,11 +99,11 @@ loop-line-preserved g c =
     let line = rw c.in-Line.is at c.in-Ok-next_line.ensures.taken in
     let more = goes_on (reads c.args.reader.now.device) (reads c.loop-line.reader.device) (reads c.next_line.new.reader.device) (holds c.args.writer.now.device) (holds c.hand_over.new.writer.device)
     (holds c.answer_line.new.writer.device)
-    c.args.guard.now.limit c.loop-line.line c.loop-line.guard c.answer_line.new.guard c.deref.result.now h (rw c.deref.ensures.value (lines_more _ _ _ _ _ h.read line)) c.answer_line.ensures.limit
+    c.args.guard.now.limit c.loop-line.line c.loop-line.guard c.answer_line.new.guard c.next_line.new.line.items h (lines_more _ _ _ _ _ h.read line) c.answer_line.ensures.limit
     c.in_default-answer_line.ensures.answers in
     let bytes = rw c.in-Line.is at c.in-Ok-next_line.ensures.bytes in
     let answered = c.in_default-answer_line.ensures.answers in
-    let journals = rw c.deref.ensures.value at answered.1 in
+    let journals = answered.1 in
     record {
       checked = more.0;
       taken = line_reads (reads c.args.reader.now.device) (reads c.loop-line.reader.device) (reads c.next_line.new.reader.device) c.loop-line.guard c.answer_line.new.guard c.next_line.new.line.items

@@ -3,6 +3,6 @@ use Rattle.jg_text.proofs.write.push_entry.Goals as goal
 
 pub returns-clause-written : goal.returns-clause-written
 returns-clause-written c =
-    entry_written c.args.entry.now c.fun.result c.name.result.now _ _ _ _ _ _ _ _ _ _ c.name.ensures c.fun.ensures
+    entry_written c.args.entry.now c.fun.result c.name.result.now _ _ _ _ _ _ _ _ c.name.ensures c.fun.ensures
     c.in_ok-push_tid.ensures c.in_ok-push_str.ensures.bytes c.in_ok-push_env.ensures.written c.in_ok-push_str-2.ensures.bytes c.in_ok-push_str-3.ensures.bytes c.in_ok-write.ensures
-    c.in_ok-push_str-4.ensures.bytes c.in_ok-push_outcome.ensures.written c.in_ok-push_str-5.ensures.bytes
+    c.in_ok-push_answer.ensures.written

@@ -2,12 +2,13 @@ use Rattle.std.proofs.Common.{ap, ◌∙◌, rules, ◌≡◌, ◌<◌, length, 
 use Rattle.jg_words.specs.declared.entry.Entry.{Entry}
 use Rattle.jg_words.specs.Value.{is_list}
 use Rattle.jg_rules.specs.declared.answer.Answer.{Answer}
-use Rattle.jg_rules.specs.Answers.{answer}
-use Rattle.jg_rules.specs.Effects.{parts}
+use Rattle.jg_rules.specs.Answers.{unnoticed, answer, with_notice}
+use Rattle.jg_rules.specs.Effects.{parts, passed_on}
+use Rattle.jg_rules.specs.Parts.{Parts}
 use Rattle.jg_rules.specs.Rules.{verdict}
 use Rattle.jg_guard.specs.Guard.{State, Takes}
 use Rattle.jg_guard.specs.Tables.{rows_of}
-use Rattle.jg_guard.proofs.Passing.{due_of, passed_entry, entry_given, takes_entry, sound_after, answered_at, answered_due}
+use Rattle.jg_guard.proofs.Passing.{due_of, passed_entry, entry_given, noticed_given, takes_entry, sound_after, answered_at, answered_due}
 use Rattle.jg_guard.proofs.Cleaning.{listed}
 use Rattle.jg_guard.proofs.Due.{stand_at, due_at}
 use Rattle.jg_guard.proofs.guard.Guard.pass.Goals as goal
@@ -28,9 +29,9 @@ perform-requires g c =
     let told = c.in-Ok.ensures.given (parts state.setup state.journal) (stand_at state.setup _ (rows_of c.self.inside.tables) _ _ c.view-view.ensures.setup c.view-view.ensures.rows c.self.invariant.tables)
     in
     let given : Answer = c.in-Ok.given in
-    let is : given ≡ answer state.setup (parts state.setup state.journal) c.args.tid c.args.call =
+    let is : given ≡ unnoticed state.setup (parts state.setup state.journal) c.args.tid c.args.call =
     answered_at state.setup c.view-view.result.setup.now (parts state.setup state.journal) c.args.tid c.args.call given c.view-view.ensures.setup told in
-    answered_due state (rows_of c.self.inside.tables) c.args.tid c.args.env c.args.call given _ c.self.invariant none is refl refl refl
+    answered_due state (rows_of c.self.inside.tables) c.args.tid c.args.env c.args.call given _ c.self.invariant none is refl refl refl refl
 
 -- what gives something back answers no list, so its answer is copied without memory
 pub returns-in_default-try_copy-clause-wants : goal.returns-in_default-try_copy-clause-wants
@@ -39,7 +40,7 @@ returns-in_default-try_copy-clause-wants g c = λ room.
     let told = c.in-Ok.ensures.given (parts state.setup state.journal) (stand_at state.setup _ (rows_of c.self.inside.tables) _ _ c.view-view.ensures.setup c.view-view.ensures.rows c.self.invariant.tables)
     in
     let given : Answer = c.in-Ok.given in
-    let is : given ≡ answer state.setup (parts state.setup state.journal) c.args.tid c.args.call =
+    let is : given ≡ unnoticed state.setup (parts state.setup state.journal) c.args.tid c.args.call =
     answered_at state.setup c.view-view.result.setup.now (parts state.setup state.journal) c.args.tid c.args.call given c.view-view.ensures.setup told in
     listed state.setup (parts state.setup state.journal) c.args.tid c.args.call (ap (λ (a : Answer). is_list a.reply.value) (sym is) ∙ c.in_default-try_copy.ensures.wants)
 
@@ -61,12 +62,16 @@ invariant_of-self-2 g c =
     let told = c.in-Ok.ensures.given (parts state.setup state.journal) (stand_at state.setup _ (rows_of c.self.inside.tables) _ _ c.view-view.ensures.setup c.view-view.ensures.rows c.self.invariant.tables)
     in
     let given : Answer = c.in-Ok.given in
-    let is : given ≡ answer state.setup (parts state.setup state.journal) c.args.tid c.args.call =
+    let is : given ≡ unnoticed state.setup (parts state.setup state.journal) c.args.tid c.args.call =
     answered_at state.setup c.view-view.result.setup.now (parts state.setup state.journal) c.args.tid c.args.call given c.view-view.ensures.setup told in
-    let x : Entry = passed_entry c.args.tid c.args.env c.args.call given in
+    let p : Parts = parts state.setup state.journal in
+    let told_notice = c.is_noticed-noticed.ensures state.setup (passed_on state.setup c.args.tid.0 c.args.call given.reply given.object p) (c.in-Ok-perform.ensures.stands p c.self.invariant.tables is) in
+    let whole : Answer = with_notice c.is_noticed-noticed.result given in
+    let answers : whole ≡ answer state.setup p c.args.tid c.args.call = noticed_given state.setup p c.args.tid c.args.call given c.is_noticed-noticed.result is told_notice in
+    let x : Entry = passed_entry c.args.tid c.args.env c.args.call whole in
     let journal : reverse c.push_reserved.new.journal.items ≡ x ∷ state.journal = search rules in
     sound_after state _ _ x (rows_of c.self.inside.tables) (rows_of c.perform.new.tables) c.self.invariant room journal
-    (entry_given state.setup (parts state.setup state.journal) c.args.tid c.args.env c.args.call given none is)
+    (entry_given state.setup p c.args.tid c.args.env c.args.call whole none answers)
     (c.in-Ok-perform.ensures.stands (parts state.setup state.journal) c.self.invariant.tables is)
 
 pub returns-clause-ok : goal.returns-clause-ok
@@ -77,12 +82,16 @@ returns-clause-ok g c =
     let told = c.in-Ok.ensures.given (parts state.setup state.journal) (stand_at state.setup _ (rows_of c.self.inside.tables) _ _ c.view-view.ensures.setup c.view-view.ensures.rows c.self.invariant.tables)
     in
     let given : Answer = c.in-Ok.given in
-    let is : given ≡ answer state.setup (parts state.setup state.journal) c.args.tid c.args.call =
+    let is : given ≡ unnoticed state.setup (parts state.setup state.journal) c.args.tid c.args.call =
     answered_at state.setup c.view-view.result.setup.now (parts state.setup state.journal) c.args.tid c.args.call given c.view-view.ensures.setup told in
-    let x : Entry = passed_entry c.args.tid c.args.env c.args.call given in
+    let p : Parts = parts state.setup state.journal in
+    let told_notice = c.is_noticed-noticed.ensures state.setup (passed_on state.setup c.args.tid.0 c.args.call given.reply given.object p) (c.in-Ok-perform.ensures.stands p c.self.invariant.tables is) in
+    let whole : Answer = with_notice c.is_noticed-noticed.result given in
+    let answers : whole ≡ answer state.setup p c.args.tid c.args.call = noticed_given state.setup p c.args.tid c.args.call given c.is_noticed-noticed.result is told_notice in
+    let x : Entry = passed_entry c.args.tid c.args.env c.args.call whole in
     let journal : reverse c.push_reserved.new.journal.items ≡ x ∷ state.journal = search rules in
     let copied : c.in-Ok-try_copy.value ≡ given.reply.value = c.in-Ok-try_copy.ensures.copy in
     rw copied (subst (λ (s : State). Takes s (record { setup = c.self.inside.setup; limit = c.self.inside.limit; journal = reverse c.push_reserved.new.journal.items; spare = c.push_reserved.new.journal.spare }) x.tid x.env x.call x.outcome)
     c.self.view_is
     (takes_entry state (rows_of c.self.inside.tables) x (reverse c.push_reserved.new.journal.items) c.push_reserved.new.journal.spare c.self.invariant journal
-    (entry_given state.setup (parts state.setup state.journal) c.args.tid c.args.env c.args.call given none is)))
+    (entry_given state.setup p c.args.tid c.args.env c.args.call whole none answers)))

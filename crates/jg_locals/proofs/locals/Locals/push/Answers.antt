@@ -17,7 +17,7 @@ overflow_add-top g c =
 pub returns-clause-ok : goal.returns-clause-ok
 returns-clause-ok g c = on_ok c.open_at.result (λ changes. λ e stands.
     let is : last (frames_in (stack_at c.args.tid.0 c.self.inside.stacks.entries)) ≡ Some c.unwrap-top.result = cc in
-    push_step c.self.inside.stacks c.open_at.new.stacks c.args.tid.0 c.unwrap-top.result e c.self.invariant (c.open_at.ensures.ordered c.self.invariant) is changes
+    push_step c.self.inside.stacks c.open_at.new.stacks c.args.tid.0 c.args.room c.unwrap-top.result e c.self.invariant (c.open_at.ensures.ordered c.self.invariant) is changes
     (reopened (table_seen c.self.inside.stacks) c.args.self.now e c.self.view_is stands)) c.open_at.ensures.ok
 
 pub returns-clause-room : goal.returns-clause-room

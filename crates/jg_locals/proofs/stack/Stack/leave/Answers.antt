@@ -1,24 +1,30 @@
 use Rattle.std.proofs.Common.{◌≡◌, ◌∙◌, ap, Some}
-use Rattle.std.specs.Prelude.{◌==◌, not, filter}
-use Rattle.jg_locals.specs.Seen.{last, StackRows}
-use Rattle.jg_locals.proofs.Invariant.{cut_kept, left_slots, left_frames, base}
+use Rattle.std.specs.Prelude.{◌==◌, not, filter, map}
+use Rattle.jg_locals.specs.Seen.{last, StackRows, frame_of}
+use Rattle.jg_locals.proofs.Invariant.{left_slots, left_frames, base}
+use Rattle.jg_locals.proofs.Keeping.{opens_ascending, cut_stacked, closed_frames}
 use Rattle.jg_locals.proofs.stack.Stack.leave.Goals as goal
+
+pub close_from-requires : goal.close_from-requires
+close_from-requires g c = opens_ascending c.self.inside.slots.items c.self.inside.frames.items c.self.invariant
 
 pub invariant_of-self : goal.invariant_of-self
 invariant_of-self g c =
-    let frames = c.self.inside.frames.items in
-    let sound = c.close_up_if-dead.ensures.sound frames (c.cut.ensures.sound frames c.self.invariant.sound) in
-    rw c.close_from.ensures.kept (cut_kept _ frames (base c.args.top) sound c.self.invariant.opened (c.close_up_if-dead.ensures.below (base c.args.top) c.cut.ensures.below)
-    (c.close_up_if-dead.ensures.ends c.cut.ensures.ends))
+    let frames = map frame_of c.self.inside.frames.items in
+    let sound = c.close_up_if-dead.ensures.sound frames (c.cut.ensures.sound frames c.self.invariant.kept.sound) in
+    cut_stacked c.self.inside.slots.items c.cut.new.slots.items c.close_up_if-dead.new.slots.items c.self.inside.frames.items _ (base c.args.top) c.self.invariant c.close_from.ensures.kept c.cut.ensures.live c.close_up_if-dead.ensures.live sound
+    (c.close_up_if-dead.ensures.below (base c.args.top) c.cut.ensures.below) (c.close_up_if-dead.ensures.ends c.cut.ensures.ends)
 
 pub returns-clause-locals : goal.returns-clause-locals
 returns-clause-locals g c =
-    let is : last c.self.inside.frames.items ≡ Some c.args.top = ap (λ (r : StackRows). last r.frames) c.self.view_is ∙ c.requires in
-    c.close_up_if-dead.ensures.live ∙ (c.cut.ensures.live ∙ (left_slots c.self.inside.slots.items c.self.inside.frames.items c.args.top c.self.invariant.sound c.self.invariant.opened is
+    let frames = map frame_of c.self.inside.frames.items in
+    let is : last frames ≡ Some c.args.top = ap (λ (r : StackRows). last r.frames) c.self.view_is ∙ c.requires in
+    c.close_up_if-dead.ensures.live ∙ (c.cut.ensures.live ∙ (left_slots c.self.inside.slots.items frames c.args.top c.self.invariant.kept.sound c.self.invariant.kept.opened is
     ∙ ap (λ (r : StackRows). filter (λ s. not (s.depth == c.args.top.depth)) r.locals) c.self.view_is))
 
 pub returns-clause-frames : goal.returns-clause-frames
 returns-clause-frames g c =
-    let is : last c.self.inside.frames.items ≡ Some c.args.top = ap (λ (r : StackRows). last r.frames) c.self.view_is ∙ c.requires in
-    c.close_from.ensures.kept ∙ (left_frames c.self.inside.frames.items c.args.top c.self.invariant.opened is
+    let frames = map frame_of c.self.inside.frames.items in
+    let is : last frames ≡ Some c.args.top = ap (λ (r : StackRows). last r.frames) c.self.view_is ∙ c.requires in
+    closed_frames c.self.inside.frames.items _ (base c.args.top) c.close_from.ensures.kept ∙ (left_frames frames c.args.top c.self.invariant.kept.opened is
     ∙ ap (λ (r : StackRows). filter (λ s. not (s.depth == c.args.top.depth)) r.frames) c.self.view_is)

@@ -1,12 +1,26 @@
-use Rattle.std.proofs.Common.{◌≡◌, ◌∙◌, ◌<◌, ap, sym, subst, Some}
-use Rattle.std.specs.Prelude.{All, filter}
-use Rattle.jg_locals.specs.Seen.{last, StackRows, is_live}
-use Rattle.jg_locals.proofs.Invariant.{make_kept}
+use Rattle.std.proofs.Common.{◌≡◌, ◌∙◌, ◌<◌, ◌^◌, ◌+◌, length, ap, sym, subst, arith, rules, Some, refl}
+use Rattle.std.specs.Prelude.{All, filter, map}
+use Rattle.jg_locals.specs.Seen.{last, StackRows, is_live, frame_of, one_more}
+use Rattle.jg_locals.proofs.Keeping.{opens_ascending, counts_fit, length-push, make_stacked}
+use Rattle.jg_locals.proofs.Opened.{recounted}
 use Rattle.jg_locals.proofs.stack.Stack.make.Goals as goal
+
+pub count_more-requires-clause-opened : goal.count_more-requires-clause-opened
+count_more-requires-clause-opened g c = opens_ascending c.self.inside.slots.items c.self.inside.frames.items c.self.invariant
+
+pub count_more-requires-clause-fits : goal.count_more-requires-clause-fits
+count_more-requires-clause-fits g c =
+    let more : length c.push.new.self.items ≡ length c.self.inside.slots.items + 1 = ap length c.in_ok-push.ensures.items ∙ length-push c.self.inside.slots.items _ in
+    let most : length c.push.new.self.items < 2 ^ 64 = search rules in
+    counts_fit c.self.inside.slots.items c.self.inside.frames.items c.self.invariant (omega (arith, more, most))
 
 -- the newest has the highest number, and is of the newest frame
 pub invariant_of-self-2 : goal.invariant_of-self-2
 invariant_of-self-2 g c =
-    let is : last c.self.inside.frames.items ≡ Some c.args.top = ap (λ (r : StackRows). last r.frames) c.self.view_is ∙ c.requires.top in
+    let is : last (map frame_of c.self.inside.frames.items) ≡ Some c.args.top = ap (λ (r : StackRows). last r.frames) c.self.view_is ∙ c.requires.top in
     let above : All (λ s. s.n < c.args.n) (filter is_live c.self.inside.slots.items) = subst (λ (r : StackRows). All (λ s. s.n < c.args.n) r.locals) (sym c.self.view_is) c.requires.above in
-    rw c.in_ok-push.ensures.items (make_kept c.self.inside.slots.items c.self.inside.frames.items c.args.top c.args.n c.args.object c.self.invariant is above)
+    rw c.in_ok-push.ensures.items (make_stacked c.self.inside.slots.items c.self.inside.frames.items _ c.args.top c.args.n c.args.object c.self.invariant is above c.count_more.ensures.counted)
+
+pub returns-clause-frames : goal.returns-clause-frames
+returns-clause-frames g c = ap (map frame_of) c.count_more.ensures.counted
+    ∙ (recounted one_more (λ o. refl) c.args.top.depth c.args.top.frame c.self.inside.frames.items ∙ ap (λ (r : StackRows). r.frames) c.self.view_is)

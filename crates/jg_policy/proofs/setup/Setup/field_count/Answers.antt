@@ -9,7 +9,7 @@ use Rattle.jg_policy.proofs.setup.Setup.field_count.Goals as goal
 
 pub overflow_cast-result : goal.overflow_cast-result
 overflow_cast-result c =
-    let few = (few_members c.self.inside.enabled.items c.self.inside.classes.entries c.self.invariant.sized _ (c.in-Some.field-0-0.now, c.in-Some.found.now) (sym c.in-Some.ensures.entry)).fields in
+    let few = (few_members c.self.inside.grants.items c.self.inside.classes.entries c.self.invariant.fit.sized _ (c.in-Some.field-0-0.now, c.in-Some.found.now) (sym c.in-Some.ensures.entry)).fields in
     omega (arith, few, ap length c.as_slice.ensures.keys)
 
 pub returns-in-None-clause-count : goal.returns-in-None-clause-count
@@ -27,5 +27,5 @@ returns-in-Some-clause-count c =
 
 pub returns-in-Some-clause-within : goal.returns-in-Some-clause-within
 returns-in-Some-clause-within c =
-    let few = (few_members c.self.inside.enabled.items c.self.inside.classes.entries c.self.invariant.sized _ (c.in-Some.field-0-0.now, c.in-Some.found.now) (sym c.in-Some.ensures.entry)).fields in
+    let few = (few_members c.self.inside.grants.items c.self.inside.classes.entries c.self.invariant.fit.sized _ (c.in-Some.field-0-0.now, c.in-Some.found.now) (sym c.in-Some.ensures.entry)).fields in
     omega (arith, few, ap length c.as_slice.ensures.keys)

@@ -1,8 +1,9 @@
-use Rattle.std.proofs.Common.{◌≡◌, ◌∙◌, sym, ap, map, string_bytes, true, false}
+use Rattle.std.proofs.Common.{◌≡◌, ◌∙◌, sym, ap, map, true, false, []}
 use Rattle.toml.specs.View.{table_view}
-use Rattle.jg_policy.specs.Stated.{setup_stated, each_item, class_stated, text_item}
-use Rattle.jg_policy.specs.Findings.{states_twice, tree_faults}
-use Rattle.jg_policy.specs.Kept.{class_view}
+use Rattle.jg_policy.specs.Stated.{setup_stated, each_item, class_stated}
+use Rattle.jg_policy.specs.Findings.{states_twice, shape_faults, tree_faults}
+use Rattle.jg_policy.specs.Kept.{grant_view, class_view}
+use Rattle.jg_policy.proofs.Spelt.{setup_spelt}
 use Rattle.jg_policy.proofs.Sizes.{large_kept, few_classes}
 use Rattle.jg_policy.proofs.Trees.{shape_answers, repeat_answers, size_answers, clean_answers, first_found, none_found}
 use Rattle.jg_policy.proofs.setup.Setup.from_tree.Goals as goal
@@ -21,25 +22,34 @@ pub returns-then-is_too_large-clause-refused : goal.returns-then-is_too_large-cl
 returns-then-is_too_large-clause-refused c _ =
     let stated = setup_stated (table_view c.args.table.now) in
     let classes : map class_view c.in-Ok.classes.entries ≡ stated.classes = c.in-Ok.ensures.stated ∙ ap (each_item class_stated) c.items_at.ensures in
-    let enabled : map string_bytes c.in-Ok-texts_from.enabled.items ≡ stated.enabled = c.in-Ok-texts_from.ensures ∙ ap (each_item text_item) c.items_at-2.ensures in
+    let grants : map grant_view c.in-Ok-grants_of.grants.items ≡ stated.grants = c.in-Ok-grants_of.ensures in
     let once : states_twice stated.classes ≡ false = ap states_twice (sym classes) ∙ c.in-Ok.ensures.distinct in
-    first_found (tree_faults (table_view c.args.table.now)) _ (size_answers (table_view c.args.table.now) (sym c.in_default.ensures) once (sym (large_kept stated _ _ enabled classes)
+    first_found (tree_faults (table_view c.args.table.now)) _ (size_answers (table_view c.args.table.now) (sym c.in_default.ensures) once (sym (large_kept stated _ _ grants classes)
     ∙ sym c.if-is_too_large.ensures))
 
 pub settle-requires : goal.settle-requires
-settle-requires c = few_classes c.in-Ok-texts_from.enabled.items c.in-Ok.classes.entries (sym c.if-is_too_large.ensures)
+settle-requires c = few_classes c.in-Ok-grants_of.grants.items c.in-Ok.classes.entries (sym c.if-is_too_large.ensures)
 
 pub invariant_of-result : goal.invariant_of-result
-invariant_of-result c = record {
-  sized = sym c.if-is_too_large.ensures;
-  settled = rw (← c.as_slice.ensures.value) c.in-Ok-settle.ensures;
-}
+invariant_of-result c =
+    let stated = setup_stated (table_view c.args.table.now) in
+    let classes : map class_view c.in-Ok.classes.entries ≡ stated.classes = c.in-Ok.ensures.stated ∙ ap (each_item class_stated) c.items_at.ensures in
+    let grants : map grant_view c.in-Ok-grants_of.grants.items ≡ stated.grants = c.in-Ok-grants_of.ensures in
+    let none : shape_faults (table_view c.args.table.now) ≡ [] = none_found (shape_faults (table_view c.args.table.now)) (sym c.in_default.ensures) in
+    record {
+      fit = record {
+        sized = sym c.if-is_too_large.ensures;
+        distinct = c.in-Ok.ensures.distinct;
+        spelt = rw (grants, classes) (setup_spelt (table_view c.args.table.now) none);
+      };
+      settled = rw (← c.as_slice.ensures.value) c.in-Ok-settle.ensures;
+    }
 
 pub returns-clause-clean : goal.returns-clause-clean
 returns-clause-clean c =
     let stated = setup_stated (table_view c.args.table.now) in
     let classes : map class_view c.in-Ok.classes.entries ≡ stated.classes = c.in-Ok.ensures.stated ∙ ap (each_item class_stated) c.items_at.ensures in
-    let enabled : map string_bytes c.in-Ok-texts_from.enabled.items ≡ stated.enabled = c.in-Ok-texts_from.ensures ∙ ap (each_item text_item) c.items_at-2.ensures in
+    let grants : map grant_view c.in-Ok-grants_of.grants.items ≡ stated.grants = c.in-Ok-grants_of.ensures in
     let once : states_twice stated.classes ≡ false = ap states_twice (sym classes) ∙ c.in-Ok.ensures.distinct in
-    none_found (tree_faults (table_view c.args.table.now)) (clean_answers (table_view c.args.table.now) (sym c.in_default.ensures) once (sym (large_kept stated _ _ enabled classes)
+    none_found (tree_faults (table_view c.args.table.now)) (clean_answers (table_view c.args.table.now) (sym c.in_default.ensures) once (sym (large_kept stated _ _ grants classes)
     ∙ sym c.if-is_too_large.ensures))

@@ -9,7 +9,7 @@ use Rattle.jg_policy.proofs.setup.Setup.native_named.Goals as goal
 pub member_named-requires : goal.member_named-requires
 member_named-requires c =
     rw c.as_slice.ensures.keys
-    (few_members c.self.inside.enabled.items c.self.inside.classes.entries c.self.invariant.sized _ (c.in-Some.field-0-0.now, c.in-Some.found.now) (sym c.in-Some.ensures.entry)).natives
+    (few_members c.self.inside.grants.items c.self.inside.classes.entries c.self.invariant.fit.sized _ (c.in-Some.field-0-0.now, c.in-Some.found.now) (sym c.in-Some.ensures.entry)).natives
 
 pub returns-in-None : goal.returns-in-None
 returns-in-None c =

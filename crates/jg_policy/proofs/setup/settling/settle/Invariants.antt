@@ -6,4 +6,4 @@ use Rattle.jg_policy.proofs.setup.settling.settle.Given as goal
 
 abbrev pub invariant-loop-class : goal.invariant-loop-class
 invariant-loop-class l =
-    IsSettling (setup_view l.mode l.enabled l.classes.entries) l.settled.items (λ name. get_by (λ k. bytes_eq name k.now) l.numbers) l.class-iterator
+    IsSettling (setup_view l.mode l.grants l.classes.entries) l.settled.items (λ name. get_by (λ k. bytes_eq name k.now) l.numbers) l.class-iterator

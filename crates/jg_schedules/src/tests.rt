@@ -1,0 +1,7 @@
+mod busy;
+mod growths;
+mod limits;
+mod orders;
+mod pins;
+mod plays;
+mod schedule;

@@ -1,0 +1,89 @@
+use super::orders::one_by_one;
+use super::plays::{Plan, Played, run};
+use super::schedule::{Event, Hold};
+use jg_rows::critical_regions::PIN_THROUGH_GLOBAL;
+use std::alloc::{AllocError, Global};
+use std::sync::Wait;
+use std::test::Fail;
+use std::thread::Threads;
+
+/// The calls of the row `pin_through_global`, by thread.
+const SCRIPT: &str = "T1 - AttachCurrentThread
+T1 E1.1 NewIntArray 2
+T1 E1.1 NewGlobalRef L1.1
+T1 E1.1 GetPrimitiveArrayCritical G1.2
+T1 E1.1 ReleasePrimitiveArrayCritical G1.2 B1.1 0
+T1 E1.1 GetArrayLength G1.2
+T2 - AttachCurrentThread
+T2 E2.1 DeleteGlobalRef G1.2
+T2 E2.1 DeleteGlobalRef G1.2
+";
+
+/// The threads of the row's lines.
+const ORDER: [u16; 9] = [1, 2, 1, 1, 1, 2, 1, 2, 1];
+
+const DELETED: &str = "T2 E2.1 DeleteGlobalRef G1.2 = ok";
+
+const PINNED: &str = "T2 E2.1 DeleteGlobalRef G1.2 = deny 13 Pinned";
+
+/// An order in which the deletions come after so many lines of the first thread.
+fn order(alloc: Global, first: usize, second: usize) -> Result<Vec<u16>, AllocError> {
+    let mut order = Vec::new(alloc);
+    order.push(2)?;
+    for made in 0..=6usize {
+        if made == first {
+            order.push(2)?;
+        }
+        if made == second {
+            order.push(2)?;
+        }
+        if made < 6 {
+            order.push(1)?;
+        }
+    }
+    Ok(order)
+}
+
+fn played_by<T: Threads + Wait + Sync>(
+    rt: &T,
+    alloc: Global,
+    holds: &[Hold],
+) -> Result<Played, Fail> {
+    let plan = Plan {
+        script: SCRIPT,
+        holds,
+        limit: 100,
+        turns: 1,
+    };
+    run(rt, alloc, plan)
+}
+
+/// The line of the first deletion.
+fn first_deletion(played: &Played) -> &str {
+    played
+        .journal
+        .lines()
+        .find(|line| line.starts_with("T2 E2.1 DeleteGlobalRef"))
+        .unwrap_or("")
+}
+
+#[test]
+fn pin_schedules(rt: HostRuntime) -> Result<(), Fail> {
+    let row = played_by(&rt, rt.alloc(), &one_by_one(rt.alloc(), &ORDER)?)?;
+    assert_eq!(rt; row.journal.as_str(), PIN_THROUGH_GLOBAL);
+    for (first, wanted) in [(3, DELETED), (4, PINNED), (5, DELETED), (6, DELETED)] {
+        for second in first..=6 {
+            let order = order(rt.alloc(), first, second)?;
+            let played = played_by(&rt, rt.alloc(), &one_by_one(rt.alloc(), &order)?)?;
+            assert_eq!(rt; first_deletion(&played), wanted, "after {first}, {second}");
+        }
+        let released = [Hold(2, 2, Event::Receipt(1, first))];
+        let played = played_by(&rt, rt.alloc(), &released)?;
+        let answer = first_deletion(&played);
+        assert!(rt;
+            answer == DELETED || answer == PINNED,
+            "after {first}: {answer}"
+        );
+    }
+    Ok(())
+}

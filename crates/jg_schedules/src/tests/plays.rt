@@ -1,0 +1,180 @@
+//! Plays of scripts by a schedule.
+
+ghost use Rattle.std.specs.Prelude.{◌≡◌, ◌≤◌};
+
+use super::schedule::{Hold, Schedule};
+use jg_guard::Guard;
+use jg_policy::Setup;
+use jg_rows::setups::CLOSED;
+use jg_script::{Scripts, Verdict, Watched, check, read_scripts, verify, write_journal};
+use jg_shell::{FinishFault, Finished, Gate, SharedGuard, Stop, finish, play};
+use std::alloc::Global;
+use std::marker::Brand;
+use std::sync::Wait;
+use std::sync::ledger::{Blank, Ledger};
+use std::test::Fail;
+use std::thread::Threads;
+
+/// What is played, and which lines wait for what.
+#[derive(Clone, Copy)]
+pub(super) struct Plan<'a> {
+    pub(super) script: &'a str,
+    pub(super) holds: &'a [Hold],
+    pub(super) limit: u32,
+    pub(super) turns: u32,
+}
+
+/// How many calls a worker was told of, and why it stopped before the end of its lines.
+#[derive(Clone, Copy, Debug, PartialEq, Eq)]
+pub(super) struct Ended {
+    pub(super) receipts: usize,
+    pub(super) stopped: Option<Stop>,
+}
+
+/// What came of a play: the journal, and each worker, threads ascending.
+#[derive(Drop)]
+pub(super) struct Played {
+    pub(super) journal: String,
+    pub(super) workers: Vec<Ended>,
+}
+
+impl Played {
+    /// The lines of the journal that begin so.
+    pub(super) fn lines_of(&self, alloc: Global, front: &str) -> Result<String, Fail> {
+        let mut lines = String::new(alloc);
+        for line in self.journal.lines().filter(|line| line.starts_with(front)) {
+            lines.push_str(line)?;
+            lines.push_str("\n")?;
+        }
+        Ok(lines)
+    }
+}
+
+fn closed(alloc: Global) -> Result<Setup, Fail> {
+    match Setup::read(alloc, CLOSED) {
+        Ok(setup) => Ok(setup),
+        Err(_) => Err(Fail::from("the text is no setup")),
+    }
+}
+
+fn scripts_of(alloc: Global, text: &str) -> Result<Scripts, Fail> {
+    match read_scripts(alloc, &mut Watched::new(text.as_bytes())) {
+        Ok(scripts) => Ok(scripts),
+        Err(_) => Err(Fail::from("a line is refused")),
+    }
+}
+
+fn text_of(bytes: Vec<u8>) -> Result<String, Fail> {
+    match String::from_utf8(bytes) {
+        Ok(text) => Ok(text),
+        Err(_) => Err(Fail::from("the journal is no text")),
+    }
+}
+
+fn journal_of(alloc: Global, guard: &Guard) -> Result<String, Fail> {
+    let mut writer = Watched::new(Vec::new(alloc));
+    match write_journal(alloc, guard, &mut writer) {
+        Ok(()) => text_of(writer.into_inner()),
+        Err(_) => Err(Fail::from("the journal isn't written")),
+    }
+}
+
+fn is_legal(alloc: Global, journal: &str) -> Result<bool, Fail> {
+    let setup = closed(alloc)?;
+    let mut reader = Watched::new(journal.as_bytes());
+    match verify(alloc, alloc, setup, 100, &mut reader) {
+        Ok(Verdict::Legal) => Ok(true),
+        Ok(Verdict::Differs(_)) => Ok(false),
+        Err(_) => Err(Fail::from("the journal isn't read")),
+    }
+}
+
+fn told<L: Ledger>(alloc: Global, finished: &Finished<L>) -> Result<Played, Fail> {
+    let mut workers = Vec::new(alloc);
+    for worker in &finished.workers {
+        workers.push(Ended {
+            receipts: worker.receipts().len(),
+            stopped: worker.stopped(),
+        })?;
+    }
+    let journal = journal_of(alloc, &finished.guard)?;
+    Ok(Played { journal, workers })
+}
+
+/// What came of a play whose journal agrees with the receipts.
+fn agreed<L: Ledger>(
+    alloc: Global,
+    answer: Result<Finished<L>, FinishFault<L>>,
+) -> Result<Played, Fail> {
+    match answer {
+        Ok(finished) => told(alloc, &finished),
+        Err(_) => Err(Fail::from("the receipts differ from the journal")),
+    }
+}
+
+/// Plays the scripts by a thread each.
+fn finished<L: Ledger + Send + Sync, T: Threads + Wait + Sync, G: Gate>(
+    rt: &T,
+    alloc: Global,
+    blank: Blank,
+    setup: Setup,
+    limit: u32,
+    turns: u32,
+    scripts: Scripts,
+    gate: &G,
+) -> Result<Played, Fail>
+    requires name { blank.name ≡ L.name }
+    requires parts { blank.parts ≡ L.parts }
+    requires enough { 64 ≤ blank.parts }
+    requires turns { 1 ≤ turns }
+{
+    let (shared, mut workers) = SharedGuard::<L>::new(alloc, setup, limit, scripts, blank)?;
+    play(rt, &shared, workers.as_mut_slice(), turns, gate);
+    agreed(alloc, finish(shared, workers))
+}
+
+/// Plays the plan at this gate.
+fn played_at<T: Threads + Wait + Sync, G: Gate>(
+    rt: &T,
+    alloc: Global,
+    plan: Plan<'_>,
+    gate: &G,
+) -> Result<Played, Fail> {
+    let scripts = scripts_of(alloc, plan.script)?;
+    let setup = closed(alloc)?;
+    let blank = Blank::new(64);
+    let turns = plan.turns.max(1);
+    finished::<Brand, _, _>(rt, alloc, blank, setup, plan.limit, turns, scripts, gate)
+}
+
+/// Plays the plan. Fails where an event that a line waits for doesn't come, the journal differs from
+/// the receipts, or it isn't found to be legal.
+pub(super) fn run<T: Threads + Wait + Sync>(
+    rt: &T,
+    alloc: Global,
+    plan: Plan<'_>,
+) -> Result<Played, Fail> {
+    let gate = Schedule::new(alloc, plan.holds)?;
+    let played = played_at(rt, alloc, plan, &gate)?;
+    if gate.has_given_up() {
+        Err(Fail::from("the schedule gives up"))
+    } else if is_legal(alloc, played.journal.as_str())? {
+        Ok(played)
+    } else {
+        Err(Fail::from("the journal isn't legal"))
+    }
+}
+
+/// The journal of the script by one guard, line by line.
+pub(super) fn checked(alloc: Global, script: &str) -> Result<String, Fail> {
+    let setup = closed(alloc)?;
+    let mut guard = Guard::new(alloc, alloc, setup, 100)?;
+    let mut reader = Watched::new(script.as_bytes());
+    let mut writer = Watched::new(Vec::new(alloc));
+    let answer = check(alloc, &mut guard, &mut reader, &mut writer);
+    drop(guard);
+    match answer {
+        Ok(_) => text_of(writer.into_inner()),
+        Err(_) => Err(Fail::from("a line is refused")),
+    }
+}
