@@ -9,6 +9,7 @@ pub mod Firsts
 pub mod Stating
 pub mod Places
 pub mod Repeats
+pub mod Seen
 pub mod Sizes
 pub mod Reading
 pub mod Counting

@@ -28,10 +28,10 @@ pub or_true : (b : Bool) → (b || true) ≡ true
 or_true true = refl
 or_true false = refl
 
-any_grows : {A : Type 0} (p : A → Bool) (xs ys : List A) → list_any p xs ≡ true → list_any p (xs ++ ys) ≡ true
+pub any_grows : {A : Type 0} (p : A → Bool) (xs ys : List A) → list_any p xs ≡ true → list_any p (xs ++ ys) ≡ true
 any_grows p xs ys h = rw (list_any-append p xs ys, h)
 
-any_last : {A : Type 0} (p : A → Bool) (xs : List A) (x : A) → p x ≡ true → list_any p (xs ++ x ∷ []) ≡ true
+pub any_last : {A : Type 0} (p : A → Bool) (xs : List A) (x : A) → p x ≡ true → list_any p (xs ++ x ∷ []) ≡ true
 any_last p xs x h = rw (list_any-append p xs (x ∷ []), h) (or_true (list_any p xs))
 
 module _ {A : Type 0} (same : A → A → Bool) where
@@ -94,7 +94,7 @@ neither true b h = absurd (false≢true (sym h))
 neither false b h = (refl, h)
 
 -- a new class without repeats
-once_stated : (cs : List StatedClass) (c : StatedClass) → list_any (bytes_eq c.name) base_names ≡ false → list_any (bytes_eq c.name) (names cs) ≡ false
+pub once_stated : (cs : List StatedClass) (c : StatedClass) → list_any (bytes_eq c.name) base_names ≡ false → list_any (bytes_eq c.name) (names cs) ≡ false
     → repeats_member c ≡ false → states_twice cs ≡ false → states_twice (cs ++ c ∷ []) ≡ false
 once_stated cs c base new own none =
     let before = neither (repeats_name (names cs)) (list_any repeats_member cs) none in
@@ -130,16 +130,6 @@ false_not false h = absurd (false≢true h)
 pub true_not : (b : Bool) → true ≡ not b → b ≡ false
 true_not true h = absurd (false≢true (sym h))
 true_not false h = refl
-
-pub no_member_repeat : (ks : List Member) (m : Member) → list_any (equal_members m) ks ≡ false → has_repeat same_member (map member_view ks) ≡ false
-    → has_repeat same_member (map member_view (ks ++ m ∷ [])) ≡ false
-no_member_repeat ks m new none =
-    rw (map-append member_view ks (m ∷ [])) (no_repeat-last same_member (map member_view ks) (member_view m) (member_among m ks ∙ new) none)
-
-pub once_more : (es : List (String Global × Class)) (e : String Global × Class) → list_any (bytes_eq (string_bytes e.0)) base_names ≡ false
-    → list_any (bytes_eq (string_bytes e.0)) (names (map class_view es)) ≡ false → repeats_member (class_view e) ≡ false
-    → states_twice (map class_view es) ≡ false → states_twice (map class_view (es ++ e ∷ [])) ≡ false
-once_more es e base new own none = rw (map-append class_view es (e ∷ [])) (once_stated (map class_view es) (class_view e) base new own none)
 
 -- the base classes have different names
 pub nothing_twice : states_twice [] ≡ false

@@ -1,5 +1,5 @@
 -- The limits of a setup, over what is kept of it.
-use Rattle.std.proofs.Common.{◌≡◌, ℕ, ◌≤◌, zero, suc, nat_lt, Bool, true, false, ◌||◌, List, [], ◌∷◌, length, map, Some, slice_get, String, Global, refl, sym, arith}
+use Rattle.std.proofs.Common.{◌≡◌, ℕ, ◌≤◌, ◌<◌, zero, suc, nat_lt, Bool, true, false, ◌||◌, List, [], ◌∷◌, length, map, Some, slice_get, String, Global, refl, sym, arith}
 use Rattle.std.proofs.lemmas.List.{length-map}
 use Rattle.std.proofs.lemmas.Bool.{false≢true}
 use Rattle.std.proofs.lemmas.Bool.Decides.{nat_tests}
@@ -23,6 +23,13 @@ large_kept s gs es grants classes =
 neither : (a b : Bool) → (a || b) ≡ false → (a ≡ false) × (b ≡ false)
 neither true b h = absurd (false≢true (sym h))
 neither false b h = (refl, h)
+
+-- the test of a count against a limit
+pub over : (n m : ℕ) → n < m → nat_lt n m ≡ true
+over n m h = grind (arith, nat_tests)
+
+pub within : (n m : ℕ) → m ≤ n → nat_lt n m ≡ false
+within n m h = grind (arith, nat_tests)
 
 at_most : (n m : ℕ) → nat_lt n m ≡ false → m ≤ n
 at_most n m h = grind (arith, nat_tests)

@@ -1,5 +1,5 @@
 -- The items of an array as they are stated, one after another.
-use Rattle.std.proofs.Common.{◌≡◌, ℕ, ◌<◌, ◌+◌, List, [], ◌∷◌, ◌++◌, length, take, drop, get_or, map, ◌||◌, refl, ap, ◌∙◌, sym}
+use Rattle.std.proofs.Common.{◌≡◌, ℕ, ◌<◌, ◌+◌, List, [], ◌∷◌, ◌++◌, length, take, drop, get_or, map, Bool, ◌||◌, suc, refl, ap, ◌∙◌, sym}
 use Rattle.std.proofs.lemmas.List.{take_more, take-append-drop, map-append}
 use Rattle.std.specs.List.{list_any}
 use Rattle.std.specs.Str.{bytes_eq}
@@ -40,3 +40,15 @@ listed text [] = refl
 listed text (v ∷ vs) = ap (λ b. bytes_eq text (text_item (view v)) || b) (listed text vs)
 
 pub ruleset text_rules = (listed)
+
+-- an array states as many as it has items
+pub stated_count : {A : Type 0} (f : Data → A) (vs : List Value) → length (each_item f (items_view vs)) ≡ length vs
+stated_count f [] = refl
+stated_count f (v ∷ vs) = ap suc (stated_count f vs)
+
+pub ruleset count_rules = (stated_count)
+
+-- a test of what the items state
+pub any_stated : {A : Type 0} (p : A → Bool) (f : Data → A) (vs : List Value) → list_any p (each_item f (items_view vs)) ≡ list_any (λ v. p (f (view v))) vs
+any_stated p f [] = refl
+any_stated p f (v ∷ vs) = ap (λ b. p (f (view v)) || b) (any_stated p f vs)

@@ -8,6 +8,7 @@ mod class;
 mod fault;
 mod findings;
 mod grant;
+mod limits;
 mod links;
 mod meanings;
 mod mode;

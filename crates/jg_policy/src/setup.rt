@@ -1,13 +1,10 @@
 //! A setup, and the text that it is read from.
 ghost use Rattle.std.specs.Prelude.{◌≡◌, ◌≢◌, IfOk, IfErr, OnOk, string_bytes, []};
-ghost use Rattle.std.specs.List.{list_any};
 ghost use Rattle.toml.specs.Parse.{parse_document};
 ghost use Rattle.toml.specs.View.{table_view};
 ghost use Rattle.jg_policy.specs.Stated.{setup_stated};
 ghost use Rattle.jg_policy.specs.Faults.{IsFirstFault};
 ghost use Rattle.jg_policy.specs.Findings.{tree_faults, text_faults_of, States};
-ghost use Rattle.jg_policy.specs.Kept.{has_many_kept, is_large_kept};
-ghost use Rattle.indexmap.specs.IndexMap.{values};
 
 mod readers;
 mod settling;
@@ -16,6 +13,7 @@ use crate::class::{Class, classes_from};
 use crate::fault::SetupFault;
 use crate::findings::shape_fault;
 use crate::grant::{Grant, grants_of};
+use crate::limits::{is_too_large, states_twice};
 use crate::mode::Mode;
 use crate::setup::settling::{Settled, settle};
 use crate::tree::{items_at, text_at};
@@ -24,15 +22,6 @@ use indexmap::IndexMap;
 use std::alloc::Global;
 use std::marker::Model;
 use toml::Table;
-
-// The most classes that a setup states.
-const MAX_CLASSES: usize = 1000;
-
-// The most fields that a class states, and the most native methods.
-const MAX_MEMBERS: usize = 100;
-
-// The most grants of a setup, and the most modules that one of version 1 enables. Repeats count.
-const MAX_GRANTS: usize = 1000;
 
 /// The classes of a guard, and which uses of native code their modules are granted. Contracts see
 /// what its text states.
@@ -104,20 +93,25 @@ impl Setup {
         if let Some(fault) = shape_fault(table) {
             return Err(fault);
         }
+        let stated = items_at(table, "class");
+        match states_twice(alloc, stated) {
+            Ok(false) => {}
+            Ok(true) => return Err(SetupFault::Duplicate),
+            Err(_) => return Err(SetupFault::NoMemory),
+        }
+        if is_too_large(table) {
+            return Err(SetupFault::TooMany);
+        }
         let mode = match Mode::named(text_at(table, "illegal_native_access")) {
             Some(mode) => mode,
             None => Mode::Deny,
         };
-        let classes = match classes_from(alloc, items_at(table, "class")) {
-            Ok(classes) => classes,
-            Err(fault) => return Err(fault),
+        let Ok(classes) = classes_from(alloc, stated) else {
+            return Err(SetupFault::NoMemory);
         };
         let Ok(grants) = grants_of(alloc, table) else {
             return Err(SetupFault::NoMemory);
         };
-        if is_too_large(&grants, &classes) {
-            return Err(SetupFault::TooMany);
-        }
         let Ok(settled) = settle(alloc, mode, grants.as_slice(), &classes) else {
             return Err(SetupFault::NoMemory);
         };
@@ -128,24 +122,4 @@ impl Setup {
             settled,
         })
     }
-}
-
-// Whether a list is longer than a setup may have.
-fn is_too_large(grants: &Vec<Grant>, classes: &IndexMap<String, Class>) -> bool
-    ensures { result ≡ is_large_kept grants.now.items classes.now.entries }
-{
-    let is_long = classes.len() > MAX_CLASSES || grants.len() > MAX_GRANTS;
-    is_long || any_has_many_members(classes)
-}
-
-fn any_has_many_members(classes: &IndexMap<String, Class>) -> bool
-    ensures { result ≡ list_any has_many_kept (values classes.now) }
-{
-    classes.values().any(|class| has_many_members(class))
-}
-
-fn has_many_members(class: &Class) -> bool
-    ensures { result ≡ has_many_kept class.now }
-{
-    class.fields.len() > MAX_MEMBERS || class.natives.len() > MAX_MEMBERS
 }

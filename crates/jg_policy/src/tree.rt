@@ -2,7 +2,7 @@
 ghost use Rattle.std.specs.Prelude.{◌≡◌, option_map};
 ghost use Rattle.toml.specs.Data.{get_member};
 ghost use Rattle.toml.specs.View.{view, table_view, items_view};
-ghost use Rattle.jg_policy.specs.Stated.{text_of, truth_of, items_at, text_item, is_version_2};
+ghost use Rattle.jg_policy.specs.Stated.{text_of, truth_of, items_at, text_item, members_of, is_version_2};
 
 use toml::{Table, Value};
 
@@ -46,6 +46,36 @@ pub(crate) fn items_at<'a>(table: &'a Table, key: &str) -> &'a [Value]
             None => &[],
             Some(values) => values.as_slice(),
         },
+    }
+}
+
+/// The text at a key of a value, or the empty one where there is none.
+pub(crate) fn text_in<'a>(value: &'a Value, key: &str) -> &'a str
+    ensures { result.now ≡ text_of (get_member key.now (members_of (view value.now))) }
+{
+    match value.as_table() {
+        None => "",
+        Some(table) => text_at(table, key),
+    }
+}
+
+/// The truth at a key of a value, or `false` where there is none.
+pub(crate) fn truth_in(value: &Value, key: &str) -> bool
+    ensures { result ≡ truth_of (get_member key.now (members_of (view value.now))) }
+{
+    match value.as_table() {
+        None => false,
+        Some(table) => truth_at(table, key),
+    }
+}
+
+/// The items of the array at a key of a value, or none where there is none.
+pub(crate) fn items_in<'a>(value: &'a Value, key: &str) -> &'a [Value]
+    ensures { items_view result.now ≡ items_at (get_member key.now (members_of (view value.now))) }
+{
+    match value.as_table() {
+        None => &[],
+        Some(table) => items_at(table, key),
     }
 }
 

@@ -11,35 +11,35 @@ use Rattle.jg_policy.proofs.setup.Setup.from_tree.Goals as goal
 pub returns-in-Some-clause-refused : goal.returns-in-Some-clause-refused
 returns-in-Some-clause-refused c _ = first_found (tree_faults (table_view c.args.table.now)) _ (shape_answers (table_view c.args.table.now) _ (sym c.in-Some.ensures))
 
-pub returns-in-Err-clause-refused : goal.returns-in-Err-clause-refused
-returns-in-Err-clause-refused c other =
-    let found = c.in-Err.ensures.repeated other in
+pub returns-in-Ok-true-clause-refused : goal.returns-in-Ok-true-clause-refused
+returns-in-Ok-true-clause-refused c _ =
     let twice : states_twice (setup_stated (table_view c.args.table.now)).classes ≡ true =
-    ap (λ items. states_twice (each_item class_stated items)) (sym c.items_at.ensures) ∙ found.1 in
-    first_found (tree_faults (table_view c.args.table.now)) _ (rw found.0 (repeat_answers (table_view c.args.table.now) (sym c.in_default.ensures) twice))
+    ap (λ items. states_twice (each_item class_stated items)) (sym c.items_at-stated.ensures) ∙ sym c.in-Ok-true.ensures ∙ c.in-Ok-true.field-0-test in
+    first_found (tree_faults (table_view c.args.table.now)) _ (repeat_answers (table_view c.args.table.now) (sym c.in_default.ensures) twice)
 
 pub returns-then-is_too_large-clause-refused : goal.returns-then-is_too_large-clause-refused
 returns-then-is_too_large-clause-refused c _ =
-    let stated = setup_stated (table_view c.args.table.now) in
-    let classes : map class_view c.in-Ok.classes.entries ≡ stated.classes = c.in-Ok.ensures.stated ∙ ap (each_item class_stated) c.items_at.ensures in
-    let grants : map grant_view c.in-Ok-grants_of.grants.items ≡ stated.grants = c.in-Ok-grants_of.ensures in
-    let once : states_twice stated.classes ≡ false = ap states_twice (sym classes) ∙ c.in-Ok.ensures.distinct in
-    first_found (tree_faults (table_view c.args.table.now)) _ (size_answers (table_view c.args.table.now) (sym c.in_default.ensures) once (sym (large_kept stated _ _ grants classes)
-    ∙ sym c.if-is_too_large.ensures))
+    let once : states_twice (setup_stated (table_view c.args.table.now)).classes ≡ false =
+    ap (λ items. states_twice (each_item class_stated items)) (sym c.items_at-stated.ensures) ∙ sym c.in-Ok-false.ensures ∙ c.in-Ok-false.field-0-test in
+    first_found (tree_faults (table_view c.args.table.now)) _ (size_answers (table_view c.args.table.now) (sym c.in_default.ensures) once (sym c.if-is_too_large.ensures))
 
 pub settle-requires : goal.settle-requires
-settle-requires c = few_classes c.in-Ok-grants_of.grants.items c.in-Ok.classes.entries (sym c.if-is_too_large.ensures)
+settle-requires c =
+    let stated = setup_stated (table_view c.args.table.now) in
+    let classes : map class_view c.in-Ok.classes.entries ≡ stated.classes = c.in-Ok.ensures ∙ ap (each_item class_stated) c.items_at-stated.ensures in
+    few_classes c.in-Ok-grants_of.grants.items c.in-Ok.classes.entries
+    (large_kept stated c.in-Ok-grants_of.grants.items c.in-Ok.classes.entries c.in-Ok-grants_of.ensures classes ∙ sym c.if-is_too_large.ensures)
 
 pub invariant_of-result : goal.invariant_of-result
 invariant_of-result c =
     let stated = setup_stated (table_view c.args.table.now) in
-    let classes : map class_view c.in-Ok.classes.entries ≡ stated.classes = c.in-Ok.ensures.stated ∙ ap (each_item class_stated) c.items_at.ensures in
+    let classes : map class_view c.in-Ok.classes.entries ≡ stated.classes = c.in-Ok.ensures ∙ ap (each_item class_stated) c.items_at-stated.ensures in
     let grants : map grant_view c.in-Ok-grants_of.grants.items ≡ stated.grants = c.in-Ok-grants_of.ensures in
     let none : shape_faults (table_view c.args.table.now) ≡ [] = none_found (shape_faults (table_view c.args.table.now)) (sym c.in_default.ensures) in
     record {
       fit = record {
-        sized = sym c.if-is_too_large.ensures;
-        distinct = c.in-Ok.ensures.distinct;
+        sized = large_kept stated _ _ grants classes ∙ sym c.if-is_too_large.ensures;
+        distinct = ap states_twice c.in-Ok.ensures ∙ sym c.in-Ok-false.ensures ∙ c.in-Ok-false.field-0-test;
         spelt = rw (grants, classes) (setup_spelt (table_view c.args.table.now) none);
       };
       settled = rw (← c.as_slice.ensures.value) c.in-Ok-settle.ensures;
@@ -47,9 +47,6 @@ invariant_of-result c =
 
 pub returns-clause-clean : goal.returns-clause-clean
 returns-clause-clean c =
-    let stated = setup_stated (table_view c.args.table.now) in
-    let classes : map class_view c.in-Ok.classes.entries ≡ stated.classes = c.in-Ok.ensures.stated ∙ ap (each_item class_stated) c.items_at.ensures in
-    let grants : map grant_view c.in-Ok-grants_of.grants.items ≡ stated.grants = c.in-Ok-grants_of.ensures in
-    let once : states_twice stated.classes ≡ false = ap states_twice (sym classes) ∙ c.in-Ok.ensures.distinct in
-    none_found (tree_faults (table_view c.args.table.now)) (clean_answers (table_view c.args.table.now) (sym c.in_default.ensures) once (sym (large_kept stated _ _ grants classes)
-    ∙ sym c.if-is_too_large.ensures))
+    let once : states_twice (setup_stated (table_view c.args.table.now)).classes ≡ false =
+    ap (λ items. states_twice (each_item class_stated items)) (sym c.items_at-stated.ensures) ∙ sym c.in-Ok-false.ensures ∙ c.in-Ok-false.field-0-test in
+    none_found (tree_faults (table_view c.args.table.now)) (clean_answers (table_view c.args.table.now) (sym c.in_default.ensures) once (sym c.if-is_too_large.ensures))
