@@ -140,8 +140,7 @@ class Outputs(Cases):
             self.add_over('leaks, error ' + how, (0, rb'T1 - GetEnv = detached\n', rb''), ['--leaks'], device, 'stderr', FAULTY[:12])
         self.add('a fault, error closed', faulty, [], FAULTY, preexec_fn=closing(2))
         self.add('all closed', (4, rb'', rb''), [], preexec_fn=closing(0, 1, 2))
-        # The setup's file gets the number of the closed input, which is then at its end.
-        self.add('a setup, all closed', (0, rb'', rb''), ['--setup', self.setup], preexec_fn=closing(0, 1, 2))
+        self.add('a setup, all closed', (4, rb'', rb''), ['--setup', self.setup], preexec_fn=closing(0, 1, 2))
 
 
 class Inputs(Cases):
@@ -165,9 +164,7 @@ class Inputs(Cases):
         zeros = lambda: opened('/dev/zero', os.O_RDONLY)
         unreadable = lambda: opened('/dev/null', os.O_WRONLY)
         for what, words in {'a script': [], 'a script under a setup': ['--setup', self.setup], 'a journal': ['verify']}.items():
-            # As above: a setup's file takes the place of the closed input.
-            want = (0, rb'', rb'') if '--setup' in words else UNREAD
-            self.add(what + ', input closed', want, words, preexec_fn=closing(0))
+            self.add(what + ', input closed', UNREAD, words, preexec_fn=closing(0))
             self.add_over(what + ', input a folder', UNREAD, words, folder, 'stdin')
             self.add_over(what + ', input written only', UNREAD, words, unreadable, 'stdin')
             self.add_over(what + ', input silent', UNREAD, words, silent, 'stdin')

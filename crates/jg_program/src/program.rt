@@ -102,21 +102,24 @@ fn work_closed<R: BufRead, W: HandsOn>(
 }
 
 /// Does it under the setup that a file states, of which the system told the length. The file is
-/// read before the reader's first byte.
-fn work_under<F: Read, R: BufRead, W: HandsOn>(
+/// read and closed before the reader's first byte.
+fn work_under<F: Read + Drop, R: BufRead, W: HandsOn>(
     alloc: Global,
     job: Job,
-    file: &mut F,
+    mut file: F,
     told: u64,
     limit: u32,
     reader: &mut Watched<R>,
     out: &mut Watched<W>,
 ) -> Result<Ending, Stop>
-    ensures ends { EndsUnder job (F.remaining file.old) told (R.remaining reader.old.device)
+    ensures ends { EndsUnder job (F.remaining file) told (R.remaining reader.old.device)
         (R.remaining reader.new.device) (W.contents out.old.device) (W.contents out.new.device) limit result }
     ensures handed_on { IsHandedOn (W.holds_nothing out.new.device) out.new.failed result }
 {
-    match read_setup(alloc, file, told) {
+    let read = read_setup(alloc, &mut file, told);
+    // Else its number could be that of a standard input that was closed.
+    drop(file);
+    match read {
         Ok(setup) => work(alloc, job, setup, limit, reader, out),
         Err(stop) => Err(stop),
     }
@@ -166,15 +169,7 @@ fn serve<S: Files, R: BufRead + Drop, W: HandsOn + Drop>(
         return work_closed(alloc, job, asked.limit, &mut reader, &mut out);
     };
     match files.open(path) {
-        Ok((mut file, told)) => work_under(
-            alloc,
-            job,
-            &mut file,
-            told,
-            asked.limit,
-            &mut reader,
-            &mut out,
-        ),
+        Ok((file, told)) => work_under(alloc, job, file, told, asked.limit, &mut reader, &mut out),
         Err(error) => Err(stop_of(&error)),
     }
 }
