@@ -66,7 +66,7 @@ use Rattle.jg_laws.specs.Laws.{MakesStated, StaysGone, LiveIsNotGone}
 use Rattle.jg_laws.proofs.Makings.{stated_at, stated_length}
 use Rattle.jg_laws.proofs.Natives.{all_stated}
 use Rattle.jg_laws.proofs.StatedFields.{IsStatedField, stated_field, both_true, same_number}
-use Rattle.jg_laws.proofs.Steps.{Steps, each_since}
+use Rattle.jg_laws.proofs.Steps.{Steps, each_since, heap_steps}
 use Rattle.jg_laws.proofs.Here.{Here, here_made, here_new, known_made, slots_made}
 use Rattle.jg_laws.proofs.Referring.{RaisesMeet, locals_made, pending_more, strong_more, weak_more}
 use Rattle.jg_laws.proofs.NothingGone.{AllHere, named_here}
@@ -414,28 +414,7 @@ live_is_not_gone s h t o r legal is = (named_here s (parts s h) t o r (all_here 
 -- ---- what went
 
 gone_steps : (s : StatedSetup) (o : ℕ) → Steps s (λ p. heap.gone_at (class_count s) p.heap o ≡ true)
-gone_steps s o = record {
-  begins = λ p u is old. old;
-  begun = λ p u is old. old;
-  ends = λ p u old. old;
-  enters = λ p u on old. old;
-  leaves = λ p u on deep old. old;
-  deletes = λ p u k old. old;
-  pushes = λ p u room old. old;
-  widens = λ p u c old. old;
-  pops = λ p u some old. old;
-  to_globals = λ p e none old. old;
-  to_buffers = λ p e none old. old;
-  to_monitors = λ p e old. old;
-  to_heap = λ p e stated old. gone_law (class_count s) e p.heap o old;
-  to_links = λ p e old. old;
-  hands = λ p u n x is old. old;
-  hands_strong = λ p u n x is old. old;
-  hands_weak = λ p u n x is old. old;
-  lends = λ p u b own old. old;
-  raises = λ p u x old. old;
-  calms = λ p u old. old;
-}
+gone_steps s o = heap_steps s (λ h. heap.gone_at (class_count s) h o ≡ true) (λ e h stated old. gone_law (class_count s) e h o old)
 
 pub stays_gone : StaysGone
 stays_gone s later before o legal is = each_since (λ p. heap.gone_at (class_count s) p.heap o ≡ true) s (gone_steps s o) later before legal is

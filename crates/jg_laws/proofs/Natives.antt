@@ -20,7 +20,7 @@ use Rattle.jg_rules.specs.Unbroken.{Unbroken}
 use Rattle.jg_rules.proofs.Kept.{unbroken}
 use Rattle.jg_laws.specs.Laws.{MakesStated, FieldsAreStated, EnteredWasLinked}
 use Rattle.jg_laws.proofs.Makings.{all_append, stated_at, stated_length}
-use Rattle.jg_laws.proofs.Steps.{Steps, each_legal}
+use Rattle.jg_laws.proofs.Steps.{Steps, heap_steps, each_legal}
 use Rattle.jg_laws.proofs.Fresh.{Legal-before}
 
 -- ---- fields
@@ -30,28 +30,7 @@ abbrev pub AllStated : StatedSetup → Parts → Type 0
 AllStated s p = AllByRecursion (MakesStated s) p.heap
 
 pub stated_steps : (s : StatedSetup) → Steps s (AllStated s)
-stated_steps s = record {
-  begins = λ p u is old. old;
-  begun = λ p u is old. old;
-  ends = λ p u old. old;
-  enters = λ p u on old. old;
-  leaves = λ p u on deep old. old;
-  deletes = λ p u k old. old;
-  pushes = λ p u room old. old;
-  widens = λ p u c old. old;
-  pops = λ p u some old. old;
-  to_globals = λ p e none old. old;
-  to_buffers = λ p e none old. old;
-  to_monitors = λ p e old. old;
-  to_heap = λ p e all old. all_append (MakesStated s) e p.heap all old;
-  to_links = λ p e old. old;
-  hands = λ p u n o is old. old;
-  hands_strong = λ p u n o is old. old;
-  hands_weak = λ p u n o is old. old;
-  lends = λ p u b own old. old;
-  raises = λ p u o old. old;
-  calms = λ p u old. old;
-}
+stated_steps s = heap_steps s (AllByRecursion (MakesStated s)) (all_append (MakesStated s))
 
 pub all_stated : (s : StatedSetup) (h : List Entry) → Legal s h → AllStated s (parts s h)
 all_stated s h legal = each_legal (AllStated s) s (stated_steps s) tt h legal

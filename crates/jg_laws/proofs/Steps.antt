@@ -94,6 +94,31 @@ pub record Steps (s : StatedSetup) (P : Parts → Type 0) : Type 0 where
       → P (record p { threads = threads.by t threads.CountBuffer ∷ p.threads; buffers = buffers.Opened b ∷ p.buffers })
   pub raises : (p : Parts) (t o : ℕ) → P p → P (record p { threads = threads.by t (threads.Raise o) ∷ p.threads })
 
+-- what is said of the objects alone, where their events keep it
+pub heap_steps : (s : StatedSetup) (P : List heap.Event → Type 0) → ((e h : List heap.Event) → AllByRecursion (MakesStated s) e → P h → P (e ++ h)) → Steps s (λ p. P p.heap)
+heap_steps s P kept = record {
+  begins = λ p u is old. old;
+  begun = λ p u is old. old;
+  ends = λ p u old. old;
+  enters = λ p u on old. old;
+  leaves = λ p u on deep old. old;
+  deletes = λ p u k old. old;
+  pushes = λ p u room old. old;
+  widens = λ p u c old. old;
+  pops = λ p u some old. old;
+  to_globals = λ p e none old. old;
+  to_buffers = λ p e none old. old;
+  to_monitors = λ p e old. old;
+  to_heap = λ p e stated old. kept e p.heap stated old;
+  to_links = λ p e old. old;
+  hands = λ p u n x is old. old;
+  hands_strong = λ p u n x is old. old;
+  hands_weak = λ p u n x is old. old;
+  lends = λ p u b own old. old;
+  raises = λ p u x old. old;
+  calms = λ p u old. old;
+}
+
 -- ---- own events
 
 -- a call's own events to the tables other than threads and locals
