@@ -142,7 +142,8 @@ fn every_growth_of_a_reading_is_refused_in_turn(rt: HostRuntime) -> Result<(), F
     let mut done = false;
     let block = first_block(rt.alloc())?;
     let mut text = String::from_str(rt.alloc(), "T1 - AttachCurrentThread = E1.1\n")?;
-    for n in 1..40u32 {
+    // As many as a session's frame has room for: those past it would come with a notice.
+    for n in 1..17u32 {
         let line = format!(in rt.alloc(); "T1 E1.1 NewString [72,105] = L1.{n}\n")?;
         text.push_str(line.as_str())?;
     }
