@@ -68,13 +68,6 @@ unmarked_goes k held e o marks made here are =
 
 -- ---- the tables after it
 
-pub marks_at : (s s' : StatedSetup) (rows rows' : TableRows) (p : Parts) (m m' : List Bool) → s' ≡ s → rows' ≡ rows → m' ≡ m → MarksHeld rows'.heap.classes (roots s' p) p.heap m
-    → MarksHeld rows.heap.classes (roots s p) p.heap m'
-marks_at s s' rows rows' p m m' same_setup same_rows same_marks marks =
-    subst (λ (r : TableRows). MarksHeld r.heap.classes (roots s p) p.heap m') same_rows
-    (subst (λ (x : StatedSetup). MarksHeld rows'.heap.classes (roots x p) p.heap m') same_setup
-    (subst (λ (n : List Bool). MarksHeld rows'.heap.classes (roots s' p) p.heap n) (sym same_marks) marks))
-
 pub collected : (s : StatedSetup) (rows : TableRows) (p : Parts) (cleared : global_rows.Rows) (swept : heap_rows.Rows) → TablesStand s rows p
     → global_standing.Stands cleared (map (λ o. globals.Clear o) (going_at rows.heap.classes (roots s p) p.heap) ++ p.globals)
     → heap_standing.Stands swept (Collected (roots s p) ∷ p.heap) → swept.classes ≡ rows.heap.classes

@@ -1,5 +1,5 @@
 -- What a sound guard knows of a call that passes, and that it stays sound.
-use Rattle.std.proofs.Common.{ℕ, ◌≡◌, ◌<◌, List, ◌∷◌, length, Option, Some, None, refl, ap, ◌∙◌, arith}
+use Rattle.std.proofs.Common.{ℕ, ◌≡◌, ◌<◌, List, ◌∷◌, length, Option, Some, None, refl, ap, ◌∙◌, arith, subst}
 use Rattle.jg_words.specs.declared.thread.EnvId.{EnvId}
 use Rattle.jg_words.specs.declared.thread.Tid.{Tid}
 use Rattle.jg_words.specs.declared.call.Call.{Call}
@@ -20,6 +20,8 @@ use Rattle.jg_rules.specs.declared.answer.Answer.{Answer}
 use Rattle.jg_rules.proofs.Kept.{unbroken}
 use Rattle.jg_guard.specs.Guard.{State, IsSound, Takes}
 use Rattle.jg_guard.proofs.Due.{counts}
+use Rattle.jg_guard.specs.declared.collect.Held.{Held}
+use Rattle.jg_guard.specs.Held.{Finds}
 use Rattle.jg_guard.specs.Tables.{IsOrdinary, IsDue, IsAnswered}
 use Rattle.jg_words.specs.declared.value.Value.{Value}
 use Rattle.jg_words.specs.declared.object.ObjId.{ObjId}
@@ -114,9 +116,13 @@ same_answer a b value warned noticed object = ap (λ (v : Value). record { reply
     ∙ (ap (λ (n : Bool). record { reply = record { value = b.reply.value; warned = b.reply.warned; noticed = n }; object = a.object }) noticed
     ∙ ap (λ (o : Option ObjId). record { reply = record { value = b.reply.value; warned = b.reply.warned; noticed = b.reply.noticed }; object = o }) object))
 
-pub answered_due : (state : State) (rows : TableRows) (t : Tid) (env : Option EnvId) (call : Call) (given : Answer) (again : Answer) → IsSound state rows
+pub answered_due : (A : Type 0) (state : State) (rows : TableRows) (t : Tid) (env : Option EnvId) (call : Call) (given : Answer) (again : Answer) (held : Option (Held A)) → IsSound state rows
     → verdict state.setup (parts state.setup state.journal) t.0 env call ≡ None
     → given ≡ unnoticed state.setup (parts state.setup state.journal) t call → again.reply.value ≡ given.reply.value → again.reply.warned ≡ given.reply.warned → again.reply.noticed ≡ given.reply.noticed → again.object ≡ given.object
-    → IsAnswered state.setup rows t call again
-answered_due state rows t env call given again s none is value warned noticed object =
-    record { due = due_of state rows t env call s none; answered = same_answer again given value warned noticed object ∙ is }
+    → Finds state.setup (parts state.setup state.journal) call held → IsAnswered state.setup rows t call again held
+answered_due A state rows t env call given again held s none is value warned noticed object found =
+    record { due = due_of state rows t env call s none; answered = same_answer again given value warned noticed object ∙ is; found = found }
+
+-- what was found under the view's setup was found under the guard's
+pub found_at : (A : Type 0) (s s' : StatedSetup) (p : Parts) (call : Call) (held : Option (Held A)) → s' ≡ s → Finds s' p call held → Finds s p call held
+found_at A s s' p call held same found = subst (λ (r : StatedSetup). Finds r p call held) same found

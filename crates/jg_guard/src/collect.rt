@@ -1,7 +1,7 @@
 //! The collector: each table marks what it holds, once; the store marks what stands in a slot; what
 //! isn't marked then goes, and weak references to it are cleared.
 
-ghost use Rattle.std.specs.Prelude.{◌≡◌, ◌==◌, ◌<◌, ◌≤◌, ◌^◌, ◌++◌, ℕ, false, List, length, map, slice_get, slice_index_or, Some, IfOk, OnOk, OnErr};
+ghost use Rattle.std.specs.Prelude.{◌≡◌, ◌==◌, ◌<◌, ◌≤◌, ◌^◌, ◌++◌, ℕ, false, List, length, map, pos, slice_get, slice_index_or, Some, IfOk, OnErr};
 ghost use Rattle.std.specs.List.{list_any};
 ghost use Rattle.jg_lists.specs.Marks.{Marks};
 ghost use Rattle.jg_globals.specs.History as globals_of;
@@ -14,14 +14,18 @@ ghost use Rattle.jg_rules.specs.Parts.{Parts, TablesStand};
 ghost use Rattle.jg_rules.specs.Holding.{is_root, roots, going};
 ghost use Rattle.jg_rules.specs.View.{ViewStands};
 ghost use Rattle.jg_guard.specs.Tables.{rows_of};
+ghost use Rattle.jg_words.specs.declared.call.Call.TheVariants.{Vm};
+ghost use Rattle.jg_words.specs.declared.call.vm.VmCall.TheVariants.{Collect};
+ghost use Rattle.jg_policy.specs.Stated.{StatedSetup, class_count};
+ghost use Rattle.jg_guard.specs.Cleaning.{cleans_up};
+ghost use Rattle.jg_guard.specs.Held.{Finds};
 ghost use Rattle.jg_guard.specs.Settled.{collected_on};
 
 use crate::tables::Tables;
 use jg_globals::Globals;
 use jg_heap::Heap;
-use jg_policy::Setup;
 use jg_rules::View;
-use jg_words::ObjId;
+use jg_words::{Call, ObjId, VmCall};
 use std::alloc::{AllocError, Allocator};
 
 /// Marks each object that something outside the store holds.
@@ -49,21 +53,48 @@ fn mark_held<A: Allocator + Clone>(view: &View<'_, A>, marks: &mut [bool]) -> u6
     view.heap.count_unheld(marks)
 }
 
-/// A mark for each object, set where something holds it, and how many nothing holds.
-pub(crate) fn marks_of_held<A: Allocator + Clone>(
-    view: &View<'_, A>,
-    alloc: A,
-) -> Result<(Vec<bool, A>, u64), AllocError>
-    ensures len { IfOk result (λ held. count_in view.now.heap.now ≤ length held.0.items) }
+/// What a collection finds: a mark for each object, set where something holds it, and how many of
+/// those in being nothing holds.
+#[derive(Drop)]
+pub(crate) struct Held<A: Allocator> {
+    marks: Vec<bool, A>,
+    pub(crate) unheld: i64,
+}
+
+/// Looks for all that something holds. It only reads.
+fn find_held<A: Allocator + Clone>(view: &View<'_, A>, alloc: A) -> Result<Held<A>, AllocError>
     ensures marks { IfOk result (λ held. (p : Parts) → ViewStands view.now p
-        → MarksHeld view.now.heap.now.classes (roots view.now.setup.now p) p.heap held.0.items) }
-    ensures count { IfOk result (λ held. (p : Parts) → ViewStands view.now p
-        → held.1 ≡ length (going view.now.setup.now p)) }
-    ensures fits { IfOk result (λ held. held.1 < 2 ^ 63) }
+        → MarksHeld view.now.heap.now.classes (roots view.now.setup.now p) p.heap held.marks.items) }
+    ensures unheld { IfOk result (λ held. (p : Parts) → ViewStands view.now p
+        → held.unheld ≡ pos (length (going view.now.setup.now p))) }
 {
     let mut marks = vec![in alloc; false; view.heap.len() as usize]?;
     let unheld = mark_held(view, &mut marks);
-    Ok((marks, unheld))
+    Ok(Held {
+        marks,
+        unheld: unheld as i64,
+    })
+}
+
+/// What the call has to know of what is held: all, where it is a collection.
+pub(crate) fn held_for<A: Allocator + Clone>(
+    view: &View<'_, A>,
+    alloc: &A,
+    call: &Call,
+) -> Result<Option<Held<A>>, AllocError>
+    ensures found { IfOk result (λ held. (p : Parts) → ViewStands view.now p → Finds view.now.setup.now p call.now held) }
+    ensures wants { OnErr result (cleans_up call.now ≡ false) }
+{
+    match call {
+        Call::Vm(call) => match call {
+            VmCall::Collect => {
+                let held = find_held(view, alloc.clone()?)?;
+                Ok(Some(held))
+            }
+            _ => Ok(None),
+        },
+        _ => Ok(None),
+    }
 }
 
 /// Whether the object is marked.
@@ -103,20 +134,26 @@ fn clear_going<A: Allocator + Clone>(heap: &Heap<A>, globals: &mut Globals<A>, m
     );
 }
 
-/// Lets go of what nothing holds, all judged at once. An `Err` leaves all rows as they were.
-pub(crate) fn collect<A: Allocator + Clone>(
-    tables: &mut Tables<A>,
-    setup: &Setup,
-) -> Result<(), AllocError>
-    ensures stands { OnOk result ((p : Parts) → TablesStand setup.now (rows_of tables.old) p
-        → TablesStand setup.now (rows_of tables.new) (collected_on setup.now p)) }
+/// Lets go of what isn't marked, and clears the weak references to it.
+fn let_go<A: Allocator + Clone>(tables: &mut Tables<A>, marks: &[bool])
+    ensures stands { (setup : StatedSetup) (p : Parts) → TablesStand setup (rows_of tables.old) p
+        → MarksHeld (class_count setup) (roots setup p) p.heap marks.now
+        → TablesStand setup (rows_of tables.new) (collected_on setup p) }
     ensures locals { tables.new.locals ≡ tables.old.locals }
     ensures links { tables.new.links ≡ tables.old.links }
-    ensures err { OnErr result (rows_of tables.new ≡ rows_of tables.old) }
 {
-    let alloc = tables.alloc.clone()?;
-    let (marks, _) = marks_of_held(&tables.view(setup), alloc)?;
-    clear_going(&tables.heap, &mut tables.globals, &marks);
-    tables.heap.sweep(&marks);
-    Ok(())
+    clear_going(&tables.heap, &mut tables.globals, marks);
+    tables.heap.sweep(marks);
+}
+
+/// Lets go of what nothing holds, as it was found, all judged at once.
+pub(crate) fn collect<A: Allocator + Clone>(tables: &mut Tables<A>, held: &Option<Held<A>>)
+    ensures stands { (setup : StatedSetup) (p : Parts) → TablesStand setup (rows_of tables.old) p
+        → Finds setup p (Vm Collect) held.now → TablesStand setup (rows_of tables.new) (collected_on setup p) }
+    ensures locals { tables.new.locals ≡ tables.old.locals }
+    ensures links { tables.new.links ≡ tables.old.links }
+{
+    if let Some(held) = held {
+        let_go(tables, &held.marks);
+    }
 }

@@ -10,6 +10,7 @@ ghost use Rattle.jg_guard.specs.Left.{ListsRefs, RefsAscend, ListsBuffers, Buffe
 ghost use Rattle.jg_monitors.specs.Rows.{Ascends};
 
 use crate::answer::answer_to;
+use crate::collect::held_for;
 use crate::leaks::{Leaks, list_buffers, list_refs};
 use crate::perform::perform;
 use crate::settle::is_noticed;
@@ -176,7 +177,10 @@ impl<A: Allocator + Clone> Guard<A> {
         ensures no_place { OnErr result (self.old.spare ≤ self.new.spare) }
     {
         let (view, tables) = (self.tables.view(&self.setup), &self.tables);
-        let Ok(given) = answer_to(&view, &tables.alloc, tables.lists, tid, &call) else {
+        let Ok(held) = held_for(&view, &tables.alloc, &call) else {
+            return Err(Refusal::NoMemory(call));
+        };
+        let Ok(given) = answer_to(&view, &held, tables.lists, tid, &call) else {
             return Err(Refusal::NoMemory(call));
         };
         let Ok(value) = given.reply.value.try_copy() else {
@@ -185,7 +189,7 @@ impl<A: Allocator + Clone> Guard<A> {
         let Ok(()) = self.journal.reserve(1) else {
             return Err(Refusal::NoMemory(call));
         };
-        let Ok(()) = perform(&mut self.tables, &self.setup, tid, &call, &given) else {
+        let Ok(()) = perform(&mut self.tables, &self.setup, &held, tid, &call, &given) else {
             return Err(Refusal::NoMemory(call));
         };
         let noticed = is_noticed(&self.tables, tid, &given.reply.value);

@@ -10,9 +10,11 @@ ghost use Rattle.jg_rules.specs.Effects as effects;
 ghost use Rattle.jg_rules.specs.Effects.{passed_on, done_by};
 ghost use Rattle.jg_rules.specs.View.{ViewStands};
 ghost use Rattle.jg_guard.specs.Cleaning.{cleans_up};
+ghost use Rattle.jg_guard.specs.Held.{Finds};
 ghost use Rattle.jg_guard.specs.Tables as tables_of;
 ghost use Rattle.jg_guard.specs.Tables.{rows_of, StillStand, IsAnswered, IsEffective, KeepsRoom};
 
+use crate::collect::Held;
 use crate::groups::arrays::perform_arrays;
 use crate::groups::buffers::perform_buffers;
 use crate::groups::exceptions::perform_exceptions;
@@ -31,18 +33,19 @@ use jg_rules::{Answer, home_named};
 use jg_words::{Call, Tid};
 use std::alloc::{AllocError, Allocator};
 
-/// Does what a passed call does: its own events, and then those of its answer. An `Err` leaves all
-/// as it stood.
+/// Does what a passed call does: its own events, and then those of its answer. `held` is what a
+/// collection found. An `Err` leaves all as it stood.
 pub(crate) fn perform<A: Allocator + Clone>(
     tables: &mut Tables<A>,
     setup: &Setup,
+    held: &Option<Held<A>>,
     tid: Tid,
     call: &Call,
     given: &Answer,
 ) -> Result<(), AllocError>
-    requires { IsAnswered setup.now (rows_of tables.old) tid call.now given.now }
+    requires { IsAnswered setup.now (rows_of tables.old) tid call.now given.now held.now }
     ensures stands { OnOk result ((p : Parts) → TablesStand setup.now (rows_of tables.old) p
-        → given.now ≡ unnoticed setup.now p tid call.now
+        → given.now ≡ unnoticed setup.now p tid call.now → Finds setup.now p call.now held.now
         → TablesStand setup.now (rows_of tables.new)
         (passed_on setup.now tid.0 call.now given.now.reply given.now.object p)) }
     ensures err { OnErr result (StillStand setup.now (rows_of tables.old) (rows_of tables.new)) }
@@ -56,21 +59,22 @@ pub(crate) fn perform<A: Allocator + Clone>(
         settle_global(tables, tid, given)?;
         return Ok(());
     }
-    do_and_settle(tables, setup, tid, call, given)
+    do_and_settle(tables, setup, held, tid, call, given)
 }
 
 fn do_and_settle<A: Allocator + Clone>(
     tables: &mut Tables<A>,
     setup: &Setup,
+    held: &Option<Held<A>>,
     tid: Tid,
     call: &Call,
     given: &Answer,
 ) -> Result<(), AllocError>
-    requires answered { IsAnswered setup.now (rows_of tables.old) tid call.now given.now }
+    requires answered { IsAnswered setup.now (rows_of tables.old) tid call.now given.now held.now }
     requires effective { effects.is_effective given.now.reply.value ≡ true }
     requires not_global { tables_of.makes_global given.now.reply.value ≡ false }
     ensures stands { OnOk result ((p : Parts) → TablesStand setup.now (rows_of tables.old) p
-        → given.now ≡ unnoticed setup.now p tid call.now
+        → given.now ≡ unnoticed setup.now p tid call.now → Finds setup.now p call.now held.now
         → TablesStand setup.now (rows_of tables.new)
         (passed_on setup.now tid.0 call.now given.now.reply given.now.object p)) }
     ensures err { OnErr result (StillStand setup.now (rows_of tables.old) (rows_of tables.new)) }
@@ -78,7 +82,7 @@ fn do_and_settle<A: Allocator + Clone>(
 {
     make_room(tables, tid, &given.reply)?;
     let home = home_named(&tables.view(setup), tid, call);
-    do_call(tables, setup, tid, call)?;
+    do_call(tables, setup, held, tid, call)?;
     settle(tables, tid, given);
     warn_if(tables, given.reply.warned, home);
     Ok(())
@@ -87,11 +91,13 @@ fn do_and_settle<A: Allocator + Clone>(
 fn do_call<A: Allocator + Clone>(
     tables: &mut Tables<A>,
     setup: &Setup,
+    held: &Option<Held<A>>,
     tid: Tid,
     call: &Call,
 ) -> Result<(), AllocError>
     requires { IsEffective setup.now (rows_of tables.old) tid call.now }
     ensures stands { OnOk result ((p : Parts) → TablesStand setup.now (rows_of tables.old) p
+        → Finds setup.now p call.now held.now
         → TablesStand setup.now (rows_of tables.new) (done_by setup.now tid.0 call.now p)) }
     ensures room { OnOk result (KeepsRoom tables.old tables.new tid.0 call.now) }
     ensures err { OnErr result (rows_of tables.new ≡ rows_of tables.old) }
@@ -99,7 +105,7 @@ fn do_call<A: Allocator + Clone>(
 {
     match call {
         Call::Vm(call) => {
-            perform_vm(tables, setup, tid, call)?;
+            perform_vm(tables, setup, held, tid, call)?;
             Ok(())
         }
         Call::Refs(call) => {

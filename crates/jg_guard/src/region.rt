@@ -64,7 +64,7 @@ pub(crate) fn units_in(
         rest.len()
     };
     let (first, _) = rest.split_at(count);
-    let mut numbers = Vec::new(lists);
+    let mut numbers = Vec::with_capacity(lists, first.len())?;
     for unit in first {
         numbers.push(i64::from(*unit))?;
     }

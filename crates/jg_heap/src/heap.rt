@@ -244,10 +244,8 @@ impl<A: Allocator> Heap<A> {
         count_unmarked(marks, &self.live)
     }
 
-    /// Lets go of what isn't marked, one link of a chain. There is a mark for each object
-    /// ([`Heap::len`]).
+    /// Lets go of what isn't marked, one link of a chain. An object past the end of `marks` isn't.
     pub fn sweep(&mut self, marks: &[bool])
-        requires { count_in self.old ≤ length marks.now }
         ensures stands { (e : List Event) (roots : List ℕ) → Stands self.old e
             → MarksHeld self.old.classes roots e marks.now → Stands self.new (Collected roots ∷ e) }
         ensures classes { self.new.classes ≡ self.old.classes }

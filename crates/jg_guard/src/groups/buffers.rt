@@ -100,7 +100,7 @@ pub(crate) fn answer_buffers<A: Allocator + Clone>(
 fn numbers_of_units<A: Allocator>(alloc: A, units: &[u16]) -> Result<Vec<i64, A>, AllocError>
     ensures { IfOk result (λ numbers. numbers.items ≡ map pos units.now) }
 {
-    let mut numbers = Vec::new(alloc);
+    let mut numbers = Vec::with_capacity(alloc, units.len())?;
     for unit in units {
         numbers.push(i64::from(*unit))?;
     }
@@ -110,7 +110,7 @@ fn numbers_of_units<A: Allocator>(alloc: A, units: &[u16]) -> Result<Vec<i64, A>
 fn numbers_of_bytes<A: Allocator>(alloc: A, bytes: &[u8]) -> Result<Vec<i64, A>, AllocError>
     ensures { IfOk result (λ numbers. numbers.items ≡ map pos bytes.now) }
 {
-    let mut numbers = Vec::new(alloc);
+    let mut numbers = Vec::with_capacity(alloc, bytes.len())?;
     for byte in bytes {
         numbers.push(i64::from(*byte))?;
     }

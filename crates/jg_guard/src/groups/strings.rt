@@ -100,7 +100,7 @@ fn units_from<A: Allocator>(alloc: A, items: &[i64]) -> Result<Vec<u16, A>, Allo
     requires { list_all (is_value_of Char) items.now ≡ true }
     ensures { IfOk result (λ units. units.items ≡ map natural items.now) }
 {
-    let mut units = Vec::new(alloc);
+    let mut units = Vec::with_capacity(alloc, items.len())?;
     for item in items {
         units.push(unit_of_item(*item))?;
     }

@@ -1,7 +1,7 @@
 ghost use Rattle.std.specs.Prelude.{◌≡◌, ◌<◌, ◌≤◌, false, length, IfOk, IfSome, OnOk, OnErr};
 ghost use Rattle.std.specs.Option.{option_map};
 ghost use Rattle.jg_words.specs.declared.call.Call.TheVariants.{Vm};
-ghost use Rattle.jg_words.specs.declared.call.vm.VmCall.TheVariants.{RegisterNatives, UnregisterNatives};
+ghost use Rattle.jg_words.specs.declared.call.vm.VmCall.TheVariants.{RegisterNatives, UnregisterNatives, Collect};
 ghost use Rattle.jg_words.specs.declared.reference.Kind.TheVariants.{Local};
 ghost use Rattle.jg_words.specs.declared.value.Value.TheVariants.{Ok as Done};
 ghost use Rattle.jg_threads.specs.Rows.{CanCount};
@@ -16,11 +16,12 @@ ghost use Rattle.jg_rules.specs.Answers as answers;
 ghost use Rattle.jg_rules.specs.Holding.{going};
 ghost use Rattle.jg_rules.specs.Answers.{vm_answer, amount, handed, unless_pending, registered};
 ghost use Rattle.jg_guard.specs.Cleaning.{cleans_up};
+ghost use Rattle.jg_guard.specs.Held.{Finds};
 ghost use Rattle.jg_guard.specs.Tables.{rows_of, IsDue, IsEffective, KeepsRoom};
 ghost use Rattle.jg_rules.specs.Effects.{done_by};
 ghost use Rattle.jg_guard.specs.Settled.{linked_on, unlinked_on};
 
-use crate::collect::{collect, marks_of_held};
+use crate::collect::{Held, collect};
 use crate::settle::{admitted, handing_out, plain, throwing};
 use crate::tables::Tables;
 use jg_policy::{Operation, Setup};
@@ -98,45 +99,46 @@ fn answer_env<A: Allocator + Clone>(view: &View<'_, A>, tid: Tid) -> Answer
     }
 }
 
-fn answer_collect<A: Allocator + Clone>(view: &View<'_, A>, alloc: &A) -> Result<Answer, AllocError>
-    ensures { IfOk result (λ given. (p : Parts) → ViewStands view.now p
-        → given ≡ amount (length (going view.now.setup.now p))) }
+fn answer_collect<A: Allocator>(held: &Option<Held<A>>) -> Answer
+    ensures { (setup : StatedSetup) (p : Parts) → Finds setup p (Vm Collect) held.now
+        → result ≡ amount (length (going setup p)) }
 {
-    let (_, unheld) = marks_of_held(view, alloc.clone()?)?;
-    Ok(plain(Value::Number(unheld as i64)))
+    match held {
+        Some(held) => plain(Value::Number(held.unheld)),
+        None => plain(Value::Number(0)),
+    }
 }
 
-/// What a call of the group answers, where it breaks no rule. `alloc` is for the collector's marks.
+/// What a call of the group answers, where it breaks no rule. `held` is what a collection found.
 pub(crate) fn answer_vm<A: Allocator + Clone>(
     view: &View<'_, A>,
-    alloc: &A,
+    held: &Option<Held<A>>,
     tid: Tid,
     call: &VmCall,
-) -> Result<Answer, AllocError>
+) -> Answer
     requires { IsDue view.now.setup.now (rows_in view.now) tid.0 (Vm call.now) }
-    ensures given { IfOk result (λ given. (p : Parts) → ViewStands view.now p
-        → given ≡ vm_answer view.now.setup.now p tid call.now) }
-    ensures wants { OnErr result (cleans_up (Vm call.now) ≡ false) }
+    ensures { (p : Parts) → ViewStands view.now p → Finds view.now.setup.now p (Vm call.now) held.now
+        → result ≡ vm_answer view.now.setup.now p tid call.now }
 {
     match call {
-        VmCall::AttachCurrentThread => Ok(plain(Value::Environment(
-            view.threads.env_once_attached(tid),
-        ))),
-        VmCall::DetachCurrentThread => Ok(plain(Value::Ok)),
-        VmCall::GetEnv => Ok(answer_env(view, tid)),
-        VmCall::NativeEnter { class, .. } => Ok(answer_enter(view, tid, class)),
-        VmCall::NativeLeave { kept } => Ok(answer_leave(view, tid, *kept)),
-        VmCall::LoadLibrary { class, .. } => Ok(answer_load(view, class)),
+        VmCall::AttachCurrentThread => {
+            plain(Value::Environment(view.threads.env_once_attached(tid)))
+        }
+        VmCall::DetachCurrentThread => plain(Value::Ok),
+        VmCall::GetEnv => answer_env(view, tid),
+        VmCall::NativeEnter { class, .. } => answer_enter(view, tid, class),
+        VmCall::NativeLeave { kept } => answer_leave(view, tid, *kept),
+        VmCall::LoadLibrary { class, .. } => answer_load(view, class),
         VmCall::RegisterNatives {
             class,
             method,
             signature,
         } => {
             let class = class_meant(view, tid, *class);
-            Ok(answer_register(view, class, method, signature))
+            answer_register(view, class, method, signature)
         }
-        VmCall::UnregisterNatives { .. } => Ok(plain(Value::Ok)),
-        VmCall::Collect => answer_collect(view, alloc),
+        VmCall::UnregisterNatives { .. } => plain(Value::Ok),
+        VmCall::Collect => answer_collect(held),
     }
 }
 
@@ -211,11 +213,13 @@ fn unregister<A: Allocator + Clone>(tables: &mut Tables<A>, setup: &Setup, tid: 
 pub(crate) fn perform_vm<A: Allocator + Clone>(
     tables: &mut Tables<A>,
     setup: &Setup,
+    held: &Option<Held<A>>,
     tid: Tid,
     call: &VmCall,
 ) -> Result<(), AllocError>
     requires { IsEffective setup.now (rows_of tables.old) tid (Vm call.now) }
     ensures stands { OnOk result ((p : Parts) → TablesStand setup.now (rows_of tables.old) p
+        → Finds setup.now p (Vm call.now) held.now
         → TablesStand setup.now (rows_of tables.new) (done_by setup.now tid.0 (Vm call.now) p)) }
     ensures room { OnOk result (KeepsRoom tables.old tables.new tid.0 (Vm call.now)) }
     ensures err { OnErr result (rows_of tables.new ≡ rows_of tables.old) }
@@ -266,7 +270,7 @@ pub(crate) fn perform_vm<A: Allocator + Clone>(
             Ok(())
         }
         VmCall::Collect => {
-            collect(tables, setup)?;
+            collect(tables, held);
             Ok(())
         }
     }

@@ -21,18 +21,18 @@ settle-requires g c =
     let s : StatedSetup = c.args.setup.now in
     let p : Parts = due.events in
     let given = c.args.given.now in
-    let stand = c.in_ok-do_call.ensures.stands p (c.in_ok-make_room.ensures.still s p due.stand) in
+    let stand = c.in_ok-do_call.ensures.stands p (c.in_ok-make_room.ensures.still s p due.stand) c.requires.answered.found in
     can_settle s p c.do_call.new.tables c.args.tid due.env c.args.call.now given.reply.value given.reply.warned given.object
     (own_proper s p c.args.tid c.args.call.now given c.requires.answered.answered) c.requires.effective c.requires.not_global
     (after_done s p c.args.tid.0 due.env c.args.call.now due.unbroken due.ordinary) stand due.unbroken.is_attached
     (λ makes takes. omega (arith, c.in_ok-make_room.ensures.ok.locals makes, c.in_ok-do_call.ensures.room.locals takes))
 
 pub returns-clause-stands : goal.returns-clause-stands
-returns-clause-stands g c = λ p stands is.
+returns-clause-stands g c = λ p stands is found.
     let s : StatedSetup = c.args.setup.now in
     let still = c.in_ok-make_room.ensures.still s p stands in
     let seen = stand_at s c.view.result.setup.now _ _ p c.view.ensures.setup c.view.ensures.rows still in
     let told = c.home_named-home.ensures p seen in
     let home = rw c.view.ensures.setup at told in
     stand_done s _ c.home_named-home.result p c.args.tid c.args.call.now c.args.given.now home c.requires.effective
-    (c.warn_if.ensures s _ (c.settle.ensures.stands s _ (c.in_ok-do_call.ensures.stands p still)))
+    (c.warn_if.ensures s _ (c.settle.ensures.stands s _ (c.in_ok-do_call.ensures.stands p still found)))

@@ -25,7 +25,7 @@ throw_if-requires-clause-exception g c =
 pub returns-then-not-is_effective-clause-stands : goal.returns-then-not-is_effective-clause-stands
 returns-then-not-is_effective-clause-stands g c =
     let none : is_effective c.args.given.now.reply.value ≡ false = search rules in
-    λ p stands is. stand_none c.args.setup.now _ p c.args.tid c.args.call.now c.args.given.now is none (c.in_ok-throw_if.ensures.stands c.args.setup.now p stands)
+    λ p stands is _. stand_none c.args.setup.now _ p c.args.tid c.args.call.now c.args.given.now is none (c.in_ok-throw_if.ensures.stands c.args.setup.now p stands)
 
 pub settle_global-requires : goal.settle_global-requires
 settle_global-requires g c =
@@ -38,4 +38,4 @@ settle_global-requires g c =
 pub returns-then-makes_global-clause-stands : goal.returns-then-makes_global-clause-stands
 returns-then-makes_global-clause-stands g c =
     let global : makes_global c.args.given.now.reply.value ≡ true = search rules in
-    λ p stands is. stand_global c.args.setup.now _ p c.args.tid c.args.call.now c.args.given.now is global (c.in_ok-settle_global.ensures.stands c.args.setup.now p stands)
+    λ p stands is _. stand_global c.args.setup.now _ p c.args.tid c.args.call.now c.args.given.now is global (c.in_ok-settle_global.ensures.stands c.args.setup.now p stands)

@@ -8,7 +8,7 @@ use Rattle.jg_rules.specs.Parts.{Parts}
 use Rattle.jg_rules.specs.Rules.{verdict}
 use Rattle.jg_guard.specs.Guard.{State, Takes}
 use Rattle.jg_guard.specs.Tables.{rows_of}
-use Rattle.jg_guard.proofs.Passing.{due_of, passed_entry, entry_given, noticed_given, takes_entry, sound_after, answered_at, answered_due}
+use Rattle.jg_guard.proofs.Passing.{due_of, passed_entry, entry_given, noticed_given, takes_entry, sound_after, answered_at, answered_due, found_at}
 use Rattle.jg_guard.proofs.Cleaning.{listed}
 use Rattle.jg_guard.proofs.Due.{stand_at, due_at}
 use Rattle.jg_guard.proofs.guard.Guard.pass.Goals as goal
@@ -26,20 +26,25 @@ perform-requires g c =
     let state : State = record { setup = c.self.inside.setup; limit = c.self.inside.limit; journal = reverse c.self.inside.journal.items; spare = c.self.inside.journal.spare } in
     let none : verdict state.setup (parts state.setup state.journal) c.args.tid.0 c.args.env c.args.call ≡ None =
     subst (λ (s : State). verdict s.setup (parts s.setup s.journal) c.args.tid.0 c.args.env c.args.call ≡ None) (sym c.self.view_is) c.requires.passed in
-    let told = c.in-Ok.ensures.given (parts state.setup state.journal) (stand_at state.setup _ (rows_of c.self.inside.tables) _ _ c.view-view.ensures.setup c.view-view.ensures.rows c.self.invariant.tables)
+    let seen = stand_at state.setup _ (rows_of c.self.inside.tables) _ _ c.view-view.ensures.setup c.view-view.ensures.rows c.self.invariant.tables in
+    let told_held = c.in-Ok.ensures.found (parts state.setup state.journal) seen in
+    let told = c.in-Ok-answer_to.ensures.given (parts state.setup state.journal) seen told_held
     in
-    let given : Answer = c.in-Ok.given in
+    let given : Answer = c.in-Ok-answer_to.given in
     let is : given ≡ unnoticed state.setup (parts state.setup state.journal) c.args.tid c.args.call =
     answered_at state.setup c.view-view.result.setup.now (parts state.setup state.journal) c.args.tid c.args.call given c.view-view.ensures.setup told in
-    answered_due state (rows_of c.self.inside.tables) c.args.tid c.args.env c.args.call given _ c.self.invariant none is refl refl refl refl
+    answered_due g.row.A.Denot state (rows_of c.self.inside.tables) c.args.tid c.args.env c.args.call given _ c.in-Ok.held c.self.invariant none is refl refl refl refl
+    (found_at g.row.A.Denot state.setup c.view-view.result.setup.now (parts state.setup state.journal) c.args.call c.in-Ok.held c.view-view.ensures.setup told_held)
 
 -- what gives something back answers no list, so its answer is copied without memory
 pub returns-in_default-try_copy-clause-wants : goal.returns-in_default-try_copy-clause-wants
 returns-in_default-try_copy-clause-wants g c = λ room.
     let state : State = record { setup = c.self.inside.setup; limit = c.self.inside.limit; journal = reverse c.self.inside.journal.items; spare = c.self.inside.journal.spare } in
-    let told = c.in-Ok.ensures.given (parts state.setup state.journal) (stand_at state.setup _ (rows_of c.self.inside.tables) _ _ c.view-view.ensures.setup c.view-view.ensures.rows c.self.invariant.tables)
+    let seen = stand_at state.setup _ (rows_of c.self.inside.tables) _ _ c.view-view.ensures.setup c.view-view.ensures.rows c.self.invariant.tables in
+    let told_held = c.in-Ok.ensures.found (parts state.setup state.journal) seen in
+    let told = c.in-Ok-answer_to.ensures.given (parts state.setup state.journal) seen told_held
     in
-    let given : Answer = c.in-Ok.given in
+    let given : Answer = c.in-Ok-answer_to.given in
     let is : given ≡ unnoticed state.setup (parts state.setup state.journal) c.args.tid c.args.call =
     answered_at state.setup c.view-view.result.setup.now (parts state.setup state.journal) c.args.tid c.args.call given c.view-view.ensures.setup told in
     listed state.setup (parts state.setup state.journal) c.args.tid c.args.call (ap (λ (a : Answer). is_list a.reply.value) (sym is) ∙ c.in_default-try_copy.ensures.wants)
@@ -59,33 +64,39 @@ invariant_of-self-2 g c =
     let room : length state.journal < state.limit = subst (λ (s : State). length s.journal < s.limit) (sym c.self.view_is) c.requires.room in
     let none : verdict state.setup (parts state.setup state.journal) c.args.tid.0 c.args.env c.args.call ≡ None =
     subst (λ (s : State). verdict s.setup (parts s.setup s.journal) c.args.tid.0 c.args.env c.args.call ≡ None) (sym c.self.view_is) c.requires.passed in
-    let told = c.in-Ok.ensures.given (parts state.setup state.journal) (stand_at state.setup _ (rows_of c.self.inside.tables) _ _ c.view-view.ensures.setup c.view-view.ensures.rows c.self.invariant.tables)
+    let seen = stand_at state.setup _ (rows_of c.self.inside.tables) _ _ c.view-view.ensures.setup c.view-view.ensures.rows c.self.invariant.tables in
+    let told_held = c.in-Ok.ensures.found (parts state.setup state.journal) seen in
+    let told = c.in-Ok-answer_to.ensures.given (parts state.setup state.journal) seen told_held
     in
-    let given : Answer = c.in-Ok.given in
+    let given : Answer = c.in-Ok-answer_to.given in
     let is : given ≡ unnoticed state.setup (parts state.setup state.journal) c.args.tid c.args.call =
     answered_at state.setup c.view-view.result.setup.now (parts state.setup state.journal) c.args.tid c.args.call given c.view-view.ensures.setup told in
+    let found = found_at g.row.A.Denot state.setup c.view-view.result.setup.now (parts state.setup state.journal) c.args.call c.in-Ok.held c.view-view.ensures.setup told_held in
     let p : Parts = parts state.setup state.journal in
-    let told_notice = c.is_noticed-noticed.ensures state.setup (passed_on state.setup c.args.tid.0 c.args.call given.reply given.object p) (c.in-Ok-perform.ensures.stands p c.self.invariant.tables is) in
+    let told_notice = c.is_noticed-noticed.ensures state.setup (passed_on state.setup c.args.tid.0 c.args.call given.reply given.object p) (c.in-Ok-perform.ensures.stands p c.self.invariant.tables is found) in
     let whole : Answer = with_notice c.is_noticed-noticed.result given in
     let answers : whole ≡ answer state.setup p c.args.tid c.args.call = noticed_given state.setup p c.args.tid c.args.call given c.is_noticed-noticed.result is told_notice in
     let x : Entry = passed_entry c.args.tid c.args.env c.args.call whole in
     let journal : reverse c.push_reserved.new.journal.items ≡ x ∷ state.journal = search rules in
     sound_after state _ _ x (rows_of c.self.inside.tables) (rows_of c.perform.new.tables) c.self.invariant room journal
     (entry_given state.setup p c.args.tid c.args.env c.args.call whole none answers)
-    (c.in-Ok-perform.ensures.stands (parts state.setup state.journal) c.self.invariant.tables is)
+    (c.in-Ok-perform.ensures.stands (parts state.setup state.journal) c.self.invariant.tables is found)
 
 pub returns-clause-ok : goal.returns-clause-ok
 returns-clause-ok g c =
     let state : State = record { setup = c.self.inside.setup; limit = c.self.inside.limit; journal = reverse c.self.inside.journal.items; spare = c.self.inside.journal.spare } in
     let none : verdict state.setup (parts state.setup state.journal) c.args.tid.0 c.args.env c.args.call ≡ None =
     subst (λ (s : State). verdict s.setup (parts s.setup s.journal) c.args.tid.0 c.args.env c.args.call ≡ None) (sym c.self.view_is) c.requires.passed in
-    let told = c.in-Ok.ensures.given (parts state.setup state.journal) (stand_at state.setup _ (rows_of c.self.inside.tables) _ _ c.view-view.ensures.setup c.view-view.ensures.rows c.self.invariant.tables)
+    let seen = stand_at state.setup _ (rows_of c.self.inside.tables) _ _ c.view-view.ensures.setup c.view-view.ensures.rows c.self.invariant.tables in
+    let told_held = c.in-Ok.ensures.found (parts state.setup state.journal) seen in
+    let told = c.in-Ok-answer_to.ensures.given (parts state.setup state.journal) seen told_held
     in
-    let given : Answer = c.in-Ok.given in
+    let given : Answer = c.in-Ok-answer_to.given in
     let is : given ≡ unnoticed state.setup (parts state.setup state.journal) c.args.tid c.args.call =
     answered_at state.setup c.view-view.result.setup.now (parts state.setup state.journal) c.args.tid c.args.call given c.view-view.ensures.setup told in
+    let found = found_at g.row.A.Denot state.setup c.view-view.result.setup.now (parts state.setup state.journal) c.args.call c.in-Ok.held c.view-view.ensures.setup told_held in
     let p : Parts = parts state.setup state.journal in
-    let told_notice = c.is_noticed-noticed.ensures state.setup (passed_on state.setup c.args.tid.0 c.args.call given.reply given.object p) (c.in-Ok-perform.ensures.stands p c.self.invariant.tables is) in
+    let told_notice = c.is_noticed-noticed.ensures state.setup (passed_on state.setup c.args.tid.0 c.args.call given.reply given.object p) (c.in-Ok-perform.ensures.stands p c.self.invariant.tables is found) in
     let whole : Answer = with_notice c.is_noticed-noticed.result given in
     let answers : whole ≡ answer state.setup p c.args.tid c.args.call = noticed_given state.setup p c.args.tid c.args.call given c.is_noticed-noticed.result is told_notice in
     let x : Entry = passed_entry c.args.tid c.args.env c.args.call whole in
