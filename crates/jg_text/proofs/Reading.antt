@@ -13,8 +13,7 @@ use Rattle.jg_text.specs.Spelling.{spelling, line_fields}
 use Rattle.jg_text.specs.Faults.{fields}
 use Rattle.jg_text.specs.Pieces.{rest_fields}
 use Rattle.jg_text.proofs.Cuts.{join_fields}
-use Rattle.std.proofs.Common.{◌+◌, ◌<◌, length, Bool, false, get_or, take, All, ◌↔◌, subst, sym, arith, take-take, get_or-take, length-take-le}
-use Rattle.std.specs.Prelude.{IsTrue}
+use Rattle.std.proofs.Common.{◌+◌, ◌<◌, length, get_or, take, All, ◌↔◌, subst, sym, arith, take-take, get_or-take, length-take-le}
 use Rattle.std.specs.Int.{IsInRange}
 use Rattle.std.proofs.lemmas.List.Elements.{All-more, All-take, All-get_or}
 
@@ -35,14 +34,14 @@ abbrev Seen : ℕ → Type 0
 Seen b = IsInRange 32 126 b
 
 -- one byte more is printable, or isn't
-pub seen_more : (xs : List ℕ) (i : ℕ) (p q : Bool) → i < length xs → q ≡ p → Seen (get_or xs i 0) → (IsTrue p ↔ All Seen (take i xs)) → IsTrue q ↔ All Seen (take (i + 1) xs)
+pub seen_more : (xs : List ℕ) (i : ℕ) (p q : ℕ) → i < length xs → q ≡ p → Seen (get_or xs i 0) → ((p ≡ 0) ↔ All Seen (take i xs)) → (q ≡ 0) ↔ All Seen (take (i + 1) xs)
 seen_more xs i p q within same seen h = (
-  λ t. All-more Seen xs i 0 within (h.0 (subst IsTrue same t)) seen,
-  λ whole. subst IsTrue (sym same) (h.1 (subst (All Seen) (take-take i (i + 1) xs (omega arith)) (All-take Seen i (take (i + 1) xs) whole))),
+  λ t. All-more Seen xs i 0 within (h.0 (sym same ∙ t)) seen,
+  λ whole. same ∙ h.1 (subst (All Seen) (take-take i (i + 1) xs (omega arith)) (All-take Seen i (take (i + 1) xs) whole)),
 )
 
-pub seen_over : (xs : List ℕ) (i : ℕ) (q : Bool) → i < length xs → q ≡ false → ¬ Seen (get_or xs i 0) → IsTrue q ↔ All Seen (take (i + 1) xs)
+pub seen_over : (xs : List ℕ) (i : ℕ) (q : ℕ) → i < length xs → q ≡ 1 → ¬ Seen (get_or xs i 0) → (q ≡ 0) ↔ All Seen (take (i + 1) xs)
 seen_over xs i q within is odd = (
-  λ t. absurd (cc),
+  λ t. absurd (omega (arith, is, t)),
   λ whole. absurd (odd (subst Seen (get_or-take (i + 1) xs i 0 (omega arith)) (All-get_or Seen (take (i + 1) xs) i 0 (omega (arith, length-take-le (i + 1) xs (omega (arith, within)))) whole))),
 )

@@ -1,8 +1,8 @@
 -- What the readers and writers of a line's parts say to one another. No public contract stands on
 -- these.
-use Rattle.std.specs.Prelude.{◌≡◌, ◌≢◌, ℕ, ℤ, List, [], ◌∷◌, ◌++◌, length, map, slice_index, slice_index_or, Contains, ◌<◌, Option, Some, None, All, FitsSigned}
+use Rattle.std.specs.Prelude.{◌≡◌, ◌≢◌, ℕ, ℤ, List, [], ◌∷◌, ◌++◌, ◌+◌, ◌≤◌, ◌==◌, length, map, slice_index, slice_index_or, Contains, ◌<◌, Option, Some, None, All, FitsSigned}
 use Rattle.std.specs.Borrow.{Bor}
-use Rattle.std.specs.List.{flat_map}
+use Rattle.std.specs.List.{flat_map, slice_split}
 use Rattle.std.specs.Fmt.{signed_decimal}
 use Rattle.std.specs.Int.{w64}
 use Rattle.jg_words.specs.declared.thread.Tid.{Tid}
@@ -45,6 +45,30 @@ IsKindFault kind text f = f ≢ NoMemory → (f ≡ BadOperand) × (¬ SpellsOpe
 -- the text stands between `[` and `]`
 abbrev pub IsBracketed : List ℕ → Type 0
 IsBracketed text = (inner : List ℕ) × (text ≡ 91 ∷ inner ++ 93 ∷ [])
+
+-- the texts between the commas of what is left of a list, where something is
+abbrev pub rest_numbers : Option (List ℕ) → List (List ℕ)
+rest_numbers None = []
+rest_numbers (Some rest) = slice_split (λ b. b == 44) rest
+
+-- how many bytes are left, with one more for the comma before them
+abbrev pub left_length : Option (List ℕ) → ℕ
+left_length None = 0
+left_length (Some rest) = length rest + 1
+
+-- the number stands first in a list's text, before the comma of what is left
+pub record IsFirstNumber (text : List ℕ) (z : ℤ) (rest : Option (List ℕ)) : Type 0 where
+  pub pieces : slice_split (λ b. b == 44) text ≡ signed_decimal z ∷ rest_numbers rest
+  pub fits : FitsSigned w64 z
+  pub shorter : left_length rest ≤ length text
+
+-- no number does
+abbrev pub StartsNoNumber : List ℕ → Type 0
+StartsNoNumber text = (z : ℤ) → FitsSigned w64 z → (later : List (List ℕ)) → slice_split (λ b. b == 44) text ≢ signed_decimal z ∷ later
+
+-- numbers, each after a comma
+abbrev pub after_commas : List ℤ → List ℕ
+after_commas xs = flat_map (λ x. 44 ∷ signed_decimal x) xs
 
 -- one of the pieces is no number
 abbrev pub IsBadNumber : List (List ℕ) → ScriptFault → Type 0

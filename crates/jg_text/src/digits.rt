@@ -1,10 +1,10 @@
 //! Numbers as decimal digits.
 
-ghost use Rattle.std.specs.Prelude.{◌≡◌, ◌++◌, OnOk, string_bytes};
+ghost use Rattle.std.specs.Prelude.{◌≡◌, ◌+◌, ◌<◌, ◌≤◌, ◌++◌, ◌∷◌, length, drop, OnOk, string_bytes};
 ghost use Rattle.std.specs.Fmt.{decimal, signed_decimal};
 ghost use Rattle.jg_text.specs.Words.{dotted_text};
 
-use itoa::Buffer;
+use itoa::{Buffer, write_digits};
 use std::alloc::AllocError;
 
 /// Writes the number.
@@ -23,11 +23,37 @@ pub fn push_signed(out: &mut String, n: i64) -> Result<(), AllocError>
     out.push_str(digits.format(n))
 }
 
+/// Puts the byte before the place, and tells where it stands.
+pub fn put_before(buffer: &mut [u8], end: usize, byte: u8) -> usize
+    requires { (0 < end) × (end ≤ length buffer.old) }
+    ensures place { result + 1 ≡ end }
+    ensures written { drop result buffer.new ≡ byte ∷ drop end buffer.old }
+{
+    let place = end - 1;
+    buffer[place] = byte;
+    place
+}
+
+/// Writes the number before the place, with a minus where it is below 0, and tells where it begins.
+pub fn write_signed(buffer: &mut [u8], end: usize, n: i64) -> usize
+    requires { (20 ≤ end) × (end ≤ length buffer.old) }
+    ensures within { result ≤ end }
+    ensures room { end ≤ result + 20 }
+    ensures written { drop result buffer.new ≡ signed_decimal n ++ drop end buffer.old }
+{
+    let digits = write_digits(n.unsigned_abs(), buffer, end);
+    if n < 0 {
+        put_before(buffer, digits, b'-')
+    } else {
+        digits
+    }
+}
+
 /// Writes two numbers with a full stop between them.
 pub fn push_dotted(out: &mut String, a: u64, b: u64) -> Result<(), AllocError>
     ensures { OnOk result (string_bytes out.new ≡ string_bytes out.old ++ dotted_text a b) }
 {
     push_number(out, a)?;
-    out.push_str(".")?;
+    out.push('.')?;
     push_number(out, b)
 }

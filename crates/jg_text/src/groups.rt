@@ -39,7 +39,6 @@ pub fn arity(fun: Fun) -> usize
 
 /// The call of the function whose operands these fields are.
 pub fn read(alloc: Global, fun: Fun, rest: Option<&[u8]>) -> Result<Call, ScriptFault>
-    requires { length (rest_fields (option_copied rest)) ≡ length (operand_kinds fun) }
     ensures spelt { IfOk result (SpellCall fun (rest_fields (option_copied rest.entry))) }
     ensures fault { IfErr result (IsOperandFault (operand_kinds fun) (rest_fields (option_copied rest.entry))) }
 {

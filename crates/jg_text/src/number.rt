@@ -1,9 +1,8 @@
 //! Decimal numbers in their one spelling: no leading zero, no plus, and no minus before 0.
 
-ghost use Rattle.std.specs.Prelude.{◌≡◌, ◌≢◌, ℕ, ℤ, ◌<◌, ◌≤◌, ◌^◌, ◌++◌, ◌∷◌, ◌==◌, false, IfSome, IfNone, All, FitsSigned, IsTrue, ◌↔◌, MatchOption, length, slice_index, count_by};
+ghost use Rattle.std.specs.Prelude.{◌≡◌, ◌≢◌, ℕ, ℤ, ◌<◌, ◌≤◌, ◌^◌, ◌++◌, ◌∷◌, ◌==◌, false, IfSome, IfNone, All, FitsSigned, IsTrue, ◌↔◌, MatchOption, length, slice_index, count_by, take};
 ghost use Rattle.std.specs.Int.{w32, w64};
 ghost use Rattle.std.specs.Fmt.{decimal, signed_decimal};
-ghost use Rattle.std.specs.Str.Parse.{AllDigits, digits_value};
 ghost use Rattle.jg_text.specs.Words.{dotted_text};
 ghost use Rattle.jg_text.specs.Pieces.{IsPlain};
 
@@ -16,47 +15,33 @@ fn is_plain(text: &[u8]) -> bool
     text.is_empty() || text[0] != b'+' && (text[0] != b'0' || text.len() == 1)
 }
 
-/// The number that so few digits write that any does fit.
-fn value_of(text: &[u8]) -> Option<u64>
-    requires { length text.now ≤ 19 }
-    ensures some { IfSome result (λ n. AllDigits 10 text.now × (n ≡ digits_value 10 text.now)) }
-    ensures none { IfNone result (¬ AllDigits 10 text.now) }
+/// The number in front, of at most 18 digits, and what stands behind it.
+fn leading(text: &[u8]) -> Option<(u64, &[u8])>
+    ensures spelt { IfSome result (λ r. text.now ≡ decimal r.0 ++ r.1.now) }
+    ensures short { IfSome result (λ r. r.0 < 10 ^ 18) }
 {
-    let mut value = 0;
-    for i in 0..text.len() {
-        let byte = text[i];
-        if byte < b'0' || b'9' < byte {
-            return None;
-        }
-        value = value * 10 + u64::from(byte - b'0');
+    let mut n = 0;
+    let mut count = 0;
+    while count < text.len() && count < 18 && b'0' <= text[count] && text[count] <= b'9' {
+        n = n * 10 + u64::from(text[count] - b'0');
+        count += 1;
     }
-    Some(value)
-}
-
-/// The number that a text of at most 19 bytes spells.
-fn short_number(text: &[u8]) -> Option<u64>
-    requires plain { IsPlain text.now }
-    requires short { length text.now ≤ 19 }
-    ensures some { IfSome result (λ n. text.now ≡ decimal n) }
-    ensures fits { IfSome result (λ n. n < 2 ^ 64) }
-    ensures none { IfNone result ((n : ℕ) → n < 2 ^ 64 → text.now ≢ decimal n) }
-{
-    if text.is_empty() {
+    let (digits, rest) = text.split_at(count);
+    if digits.is_empty() || !is_plain(digits) {
         return None;
     }
-    match value_of(text) {
-        Some(n) => Some(n),
-        None => None,
-    }
+    Some((n, rest))
 }
 
 /// The number of at most 64 bits that a text of any length spells.
 fn long_number(text: &[u8]) -> Option<u64>
-    requires plain { IsPlain text.now }
     ensures some { IfSome result (λ n. text.now ≡ decimal n) }
     ensures fits { IfSome result (λ n. n < 2 ^ 64) }
     ensures none { IfNone result ((n : ℕ) → n < 2 ^ 64 → text.now ≢ decimal n) }
 {
+    if !is_plain(text) {
+        return None;
+    }
     let Ok(text) = str::from_utf8(text) else {
         return None;
     };
@@ -72,13 +57,9 @@ pub fn number(text: &[u8]) -> Option<u64>
     ensures fits { IfSome result (λ n. n < 2 ^ 64) }
     ensures none { IfNone result ((n : ℕ) → n < 2 ^ 64 → text.now ≢ decimal n) }
 {
-    if !is_plain(text) {
-        return None;
-    }
-    if text.len() <= 19 {
-        short_number(text)
-    } else {
-        long_number(text)
+    match leading(text) {
+        Some((n, [])) => Some(n),
+        _ => long_number(text),
     }
 }
 
@@ -93,12 +74,34 @@ pub fn small_number(text: &[u8]) -> Option<u16>
     }
 }
 
+/// How often the byte stands in a text so short that a byte holds the count, which goes over many
+/// bytes at once.
+fn count_short(byte: u8, text: &[u8]) -> u8
+    requires { length text.now ≤ 255 }
+    ensures { result ≡ count_by (λ b. b == byte) text.now }
+{
+    let mut count = 0;
+    for i in 0..text.len() {
+        if text[i] == byte {
+            count += 1;
+        }
+    }
+    count
+}
+
 /// How often the byte stands in the text.
 pub fn count_of(byte: u8, text: &[u8]) -> usize
     ensures counted { result ≡ count_by (λ b. b == byte) text.now }
     ensures few { result ≤ length text.now }
 {
-    text.iter().filter(|b| **b == byte).count()
+    let mut count = 0;
+    let mut rest = text;
+    while !rest.is_empty() {
+        let (front, back) = rest.split_at(rest.len().min(255));
+        count += usize::from(count_short(byte, front));
+        rest = back;
+    }
+    count
 }
 
 /// What stands before the first such byte, and what stands after it.
@@ -111,8 +114,22 @@ pub fn cut_at(byte: u8, text: &[u8]) -> Option<(&[u8], &[u8])>
     Some((&text[..i], &text[i + 1..]))
 }
 
+/// The two numbers of at most 18 digits that the text spells, with a full stop between them.
+fn two_short_numbers(text: &[u8]) -> Option<(u64, u64)>
+    ensures some { IfSome result (λ r. text.now ≡ dotted_text r.0 r.1) }
+    ensures fits { IfSome result (λ r. (r.0 < 2 ^ 64) × (r.1 < 2 ^ 64)) }
+{
+    let (a, [b'.', back @ ..]) = leading(text)? else {
+        return None;
+    };
+    match leading(back)? {
+        (b, []) => Some((a, b)),
+        _ => None,
+    }
+}
+
 /// The two numbers that the text spells, of 64 bits at most, with a full stop between them.
-fn two_numbers(text: &[u8]) -> Option<(u64, u64)>
+fn two_long_numbers(text: &[u8]) -> Option<(u64, u64)>
     ensures some { IfSome result (λ r. text.now ≡ dotted_text r.0 r.1) }
     ensures fits { IfSome result (λ r. (r.0 < 2 ^ 64) × (r.1 < 2 ^ 64)) }
     ensures none { IfNone result ((a b : ℕ) → a < 2 ^ 64 → b < 2 ^ 64 → text.now ≢ dotted_text a b) }
@@ -126,6 +143,18 @@ fn two_numbers(text: &[u8]) -> Option<(u64, u64)>
     match number(back) {
         Some(b) => Some((a, b)),
         None => None,
+    }
+}
+
+/// The two numbers that the text spells, of 64 bits at most, with a full stop between them.
+fn two_numbers(text: &[u8]) -> Option<(u64, u64)>
+    ensures some { IfSome result (λ r. text.now ≡ dotted_text r.0 r.1) }
+    ensures fits { IfSome result (λ r. (r.0 < 2 ^ 64) × (r.1 < 2 ^ 64)) }
+    ensures none { IfNone result ((a b : ℕ) → a < 2 ^ 64 → b < 2 ^ 64 → text.now ≢ dotted_text a b) }
+{
+    match two_short_numbers(text) {
+        Some(numbers) => Some(numbers),
+        None => two_long_numbers(text),
     }
 }
 
@@ -159,6 +188,24 @@ fn behind_minus(text: &[u8]) -> Option<&[u8]>
     match text {
         [b'-', back @ ..] => Some(back),
         _ => None,
+    }
+}
+
+/// The number in front, of at most 18 digits, with a minus where it is below 0, and what stands
+/// behind it.
+pub fn leading_signed(text: &[u8]) -> Option<(i64, &[u8])>
+    ensures spelt { IfSome result (λ r. text.now ≡ signed_decimal r.0 ++ r.1.now) }
+    ensures fits { IfSome result (λ r. FitsSigned w64 r.0) }
+{
+    match behind_minus(text) {
+        Some(back) => match leading(back)? {
+            (0, _) => None,
+            (n, rest) => Some((-(n as i64), rest)),
+        },
+        None => {
+            let (n, rest) = leading(text)?;
+            Some((n as i64, rest))
+        }
     }
 }
 

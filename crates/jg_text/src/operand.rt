@@ -188,24 +188,37 @@ pub fn cut(text: &[u8]) -> (&[u8], Option<&[u8]>)
     }
 }
 
-/// The first field of what is left, and what is left behind it.
-fn next_field(rest: Option<&[u8]>) -> (&[u8], Option<&[u8]>)
-    requires { 0 < length (rest_fields (option_copied rest)) }
-    ensures { rest_fields (option_copied rest.entry) ≡ result.0.now ∷ rest_fields (option_copied result.1) }
+/// The first field of what is left, and what is left behind it, where something is left.
+fn next_field(rest: Option<&[u8]>) -> Option<(&[u8], Option<&[u8]>)>
+    ensures { MatchOption result (rest_fields (option_copied rest.entry) ≡ [])
+        (λ r. rest_fields (option_copied rest.entry) ≡ r.0.now ∷ rest_fields (option_copied r.1)) }
 {
     match rest {
-        Some(text) => cut(text),
-        None => unreachable!(),
+        Some(text) => Some(cut(text)),
+        None => None,
+    }
+}
+
+/// Nothing is left.
+pub fn read_none(rest: Option<&[u8]>) -> Result<(), ScriptFault>
+    ensures ok { OnOk result (rest_fields (option_copied rest.entry) ≡ []) }
+    ensures err { IfErr result (IsOperandFault [] (rest_fields (option_copied rest.entry))) }
+{
+    match next_field(rest) {
+        None => Ok(()),
+        Some(_) => Err(ScriptFault::BadOperand),
     }
 }
 
 /// The operand that the one field left spells.
 pub fn read_one<A: Operand>(alloc: Global, rest: Option<&[u8]>) -> Result<A, ScriptFault>
-    requires { length (rest_fields (option_copied rest)) ≡ 1 }
     ensures ok { IfOk result (λ a. (A.spelt a ∷ [] ≡ rest_fields (option_copied rest.entry)) × A.fits a) }
     ensures err { IfErr result (IsOperandFault (A.kind ∷ []) (rest_fields (option_copied rest.entry))) }
 {
-    let (first, _) = next_field(rest);
+    let Some((first, rest)) = next_field(rest) else {
+        return Err(ScriptFault::BadOperand);
+    };
+    read_none(rest)?;
     A::read(alloc, first)
 }
 
@@ -214,12 +227,13 @@ pub fn read_two<A: Operand, B: Operand>(
     alloc: Global,
     rest: Option<&[u8]>,
 ) -> Result<(A, B), ScriptFault>
-    requires { length (rest_fields (option_copied rest)) ≡ 2 }
     ensures ok { IfOk result (λ r. (A.spelt r.0 ∷ B.spelt r.1 ∷ [] ≡ rest_fields (option_copied rest.entry))
         × A.fits r.0 × B.fits r.1) }
     ensures err { IfErr result (IsOperandFault (A.kind ∷ B.kind ∷ []) (rest_fields (option_copied rest.entry))) }
 {
-    let (first, rest) = next_field(rest);
+    let Some((first, rest)) = next_field(rest) else {
+        return Err(ScriptFault::BadOperand);
+    };
     let a = A::read(alloc, first)?;
     let b = read_one(alloc, rest)?;
     Ok((a, b))
@@ -230,13 +244,14 @@ pub fn read_three<A: Operand, B: Operand, C: Operand>(
     alloc: Global,
     rest: Option<&[u8]>,
 ) -> Result<(A, B, C), ScriptFault>
-    requires { length (rest_fields (option_copied rest)) ≡ 3 }
     ensures ok { IfOk result (λ r. (A.spelt r.0 ∷ B.spelt r.1 ∷ C.spelt r.2 ∷ []
         ≡ rest_fields (option_copied rest.entry)) × A.fits r.0 × B.fits r.1 × C.fits r.2) }
     ensures err { IfErr result (IsOperandFault (A.kind ∷ B.kind ∷ C.kind ∷ [])
         (rest_fields (option_copied rest.entry))) }
 {
-    let (first, rest) = next_field(rest);
+    let Some((first, rest)) = next_field(rest) else {
+        return Err(ScriptFault::BadOperand);
+    };
     let a = A::read(alloc, first)?;
     let (b, c) = read_two(alloc, rest)?;
     Ok((a, b, c))
@@ -246,7 +261,7 @@ pub fn read_three<A: Operand, B: Operand, C: Operand>(
 pub fn write_one<A: Operand>(out: &mut String, a: &A) -> Result<(), AllocError>
     ensures { OnOk result (string_bytes out.new ≡ string_bytes out.old ++ after_spaces (A.spelt a.now ∷ [])) }
 {
-    out.push_str(" ")?;
+    out.push(' ')?;
     a.write(out)
 }
 

@@ -29,14 +29,14 @@ pub const MAX_LINE: usize = 65_536;
 fn is_printable(line: &[u8]) -> bool
     ensures { IsTrue result ↔ All (λ b. IsInRange 32 126 b) line.now }
 {
-    // No way out of the loop, so that it goes over many bytes at once.
-    let mut printable = true;
+    // No way out of the loop and no number wider than a byte, so that it goes over many bytes at once.
+    let mut others = 0u8;
     for i in 0..line.len() {
         if line[i] < 0x20 || line[i] > 0x7e {
-            printable = false;
+            others = 1;
         }
     }
-    printable
+    others == 0
 }
 
 /// How many fields stand behind the function's name.
@@ -49,7 +49,8 @@ fn count_fields(rest: Option<&[u8]>) -> usize
     }
 }
 
-/// The functions whose names have so many bytes, at each length up to the longest.
+/// The functions whose names have so many bytes, at each length up to the longest; those that are
+/// called most stand first.
 const BY_LENGTH: [&[Fun]; 30] = [
     &[],
     &[],
@@ -61,27 +62,28 @@ const BY_LENGTH: [&[Fun]; 30] = [
     &[Fun::Vm(VmFun::Collect)],
     &[],
     &[
-        Fun::Objects(ObjectsFun::FindClass),
         Fun::Strings(StringsFun::NewString),
+        Fun::Objects(ObjectsFun::FindClass),
     ],
     &[
-        Fun::Objects(ObjectsFun::GetFieldID),
         Fun::Buffers(BuffersFun::BufferRead),
+        Fun::Objects(ObjectsFun::GetFieldID),
     ],
     &[
+        Fun::Refs(RefsFun::NewLocalRef),
+        Fun::Monitors(MonitorsFun::MonitorExit),
+        Fun::Arrays(ArraysFun::NewArray(Primitive::Int)),
+        Fun::Buffers(BuffersFun::BufferWrite),
         Fun::Vm(VmFun::NativeEnter),
         Fun::Vm(VmFun::NativeLeave),
         Fun::Vm(VmFun::LoadLibrary),
-        Fun::Refs(RefsFun::NewLocalRef),
         Fun::Objects(ObjectsFun::AllocObject),
         Fun::Objects(ObjectsFun::GetField(Primitive::Int)),
         Fun::Objects(ObjectsFun::SetField(Primitive::Int)),
-        Fun::Arrays(ArraysFun::NewArray(Primitive::Int)),
-        Fun::Monitors(MonitorsFun::MonitorExit),
-        Fun::Buffers(BuffersFun::BufferWrite),
     ],
     &[
         Fun::Refs(RefsFun::NewGlobalRef),
+        Fun::Monitors(MonitorsFun::MonitorEnter),
         Fun::Refs(RefsFun::IsSameObject),
         Fun::Objects(ObjectsFun::IsInstanceOf),
         Fun::Objects(ObjectsFun::GetField(Primitive::Byte)),
@@ -94,7 +96,6 @@ const BY_LENGTH: [&[Fun]; 30] = [
         Fun::Arrays(ArraysFun::NewArray(Primitive::Byte)),
         Fun::Arrays(ArraysFun::NewArray(Primitive::Char)),
         Fun::Arrays(ArraysFun::NewArray(Primitive::Long)),
-        Fun::Monitors(MonitorsFun::MonitorEnter),
     ],
     &[
         Fun::Frames(FramesFun::PopLocalFrame),
@@ -104,22 +105,22 @@ const BY_LENGTH: [&[Fun]; 30] = [
     ],
     &[
         Fun::Refs(RefsFun::DeleteLocalRef),
+        Fun::Arrays(ArraysFun::GetArrayLength),
         Fun::Frames(FramesFun::PushLocalFrame),
         Fun::Exceptions(ExceptionsFun::ExceptionClear),
         Fun::Exceptions(ExceptionsFun::ExceptionCheck),
         Fun::Objects(ObjectsFun::GetObjectClass),
         Fun::Objects(ObjectsFun::GetObjectField),
         Fun::Objects(ObjectsFun::SetObjectField),
-        Fun::Arrays(ArraysFun::GetArrayLength),
         Fun::Arrays(ArraysFun::NewObjectArray),
         Fun::Buffers(BuffersFun::GetStringChars),
     ],
     &[
-        Fun::Vm(VmFun::RegisterNatives),
+        Fun::Strings(StringsFun::GetStringLength),
         Fun::Refs(RefsFun::DeleteGlobalRef),
+        Fun::Vm(VmFun::RegisterNatives),
         Fun::Objects(ObjectsFun::GetField(Primitive::Boolean)),
         Fun::Objects(ObjectsFun::SetField(Primitive::Boolean)),
-        Fun::Strings(StringsFun::GetStringLength),
         Fun::Strings(StringsFun::GetStringRegion),
         Fun::Arrays(ArraysFun::NewArray(Primitive::Boolean)),
     ],
@@ -128,11 +129,11 @@ const BY_LENGTH: [&[Fun]; 30] = [
         Fun::Refs(RefsFun::GetObjectRefType),
     ],
     &[
+        Fun::Arrays(ArraysFun::GetArrayRegion(Primitive::Int)),
+        Fun::Arrays(ArraysFun::SetArrayRegion(Primitive::Int)),
         Fun::Vm(VmFun::UnregisterNatives),
         Fun::Exceptions(ExceptionsFun::ExceptionOccurred),
         Fun::Exceptions(ExceptionsFun::ExceptionDescribe),
-        Fun::Arrays(ArraysFun::GetArrayRegion(Primitive::Int)),
-        Fun::Arrays(ArraysFun::SetArrayRegion(Primitive::Int)),
         Fun::Buffers(BuffersFun::GetStringUTFChars),
         Fun::Buffers(BuffersFun::GetStringCritical),
     ],
@@ -147,13 +148,13 @@ const BY_LENGTH: [&[Fun]; 30] = [
         Fun::Buffers(BuffersFun::ReleaseStringChars),
     ],
     &[
+        Fun::Buffers(BuffersFun::GetArrayElements(Primitive::Int)),
+        Fun::Refs(RefsFun::DeleteWeakGlobalRef),
         Fun::Vm(VmFun::AttachCurrentThread),
         Fun::Vm(VmFun::DetachCurrentThread),
-        Fun::Refs(RefsFun::DeleteWeakGlobalRef),
         Fun::Frames(FramesFun::EnsureLocalCapacity),
         Fun::Arrays(ArraysFun::GetArrayRegion(Primitive::Short)),
         Fun::Arrays(ArraysFun::SetArrayRegion(Primitive::Short)),
-        Fun::Buffers(BuffersFun::GetArrayElements(Primitive::Int)),
     ],
     &[
         Fun::Buffers(BuffersFun::GetArrayElements(Primitive::Byte)),
@@ -241,11 +242,9 @@ pub fn read_call(alloc: Global, line: &[u8]) -> Result<(Tid, Option<EnvId>, Call
     let Some(fun) = read_fun(name) else {
         return Err(ScriptFault::UnknownFunction);
     };
-    if count_fields(rest) != groups::arity(fun) {
-        return Err(ScriptFault::WrongCount);
-    }
     match groups::read(alloc, fun, rest) {
         Ok(call) => Ok((tid, env, call)),
+        Err(_) if count_fields(rest) != groups::arity(fun) => Err(ScriptFault::WrongCount),
         Err(fault) => Err(fault),
     }
 }

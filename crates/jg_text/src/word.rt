@@ -104,7 +104,7 @@ pub fn read_field(text: &[u8]) -> Option<FieldId>
 pub fn push_tid(out: &mut String, tid: Tid) -> Result<(), AllocError>
     ensures { OnOk result (string_bytes out.new ≡ string_bytes out.old ++ tid_text tid) }
 {
-    out.push_str("T")?;
+    out.push('T')?;
     push_number(out, u64::from(tid.0))
 }
 
@@ -114,9 +114,9 @@ pub fn push_env(out: &mut String, env: Option<EnvId>) -> Result<(), AllocError>
     ensures fits { OnOk result (FitsEnv env) }
 {
     match env {
-        None => out.push_str("-"),
+        None => out.push('-'),
         Some(env) => {
-            out.push_str("E")?;
+            out.push('E')?;
             push_dotted(out, u64::from(env.tid.0), env.session)
         }
     }
@@ -130,10 +130,10 @@ pub fn push_ref(out: &mut String, r: Ref) -> Result<(), AllocError>
     match r {
         Ref::Null => out.push_str("null"),
         Ref::To { kind, maker, n } => {
-            out.push_str(match kind {
-                Kind::Local => "L",
-                Kind::Global => "G",
-                Kind::Weak => "W",
+            out.push(match kind {
+                Kind::Local => 'L',
+                Kind::Global => 'G',
+                Kind::Weak => 'W',
             })?;
             push_dotted(out, u64::from(maker.0), n)
         }
@@ -145,7 +145,7 @@ pub fn push_buf(out: &mut String, b: BufId) -> Result<(), AllocError>
     ensures written { OnOk result (string_bytes out.new ≡ string_bytes out.old ++ buf_text b) }
     ensures fits { OnOk result (FitsBuf b) }
 {
-    out.push_str("B")?;
+    out.push('B')?;
     push_dotted(out, u64::from(b.maker.0), b.n)
 }
 
@@ -154,6 +154,6 @@ pub fn push_field(out: &mut String, f: FieldId) -> Result<(), AllocError>
     ensures written { OnOk result (string_bytes out.new ≡ string_bytes out.old ++ field_text f) }
     ensures fits { OnOk result (FitsField f) }
 {
-    out.push_str("F")?;
+    out.push('F')?;
     push_dotted(out, u64::from(f.class), u64::from(f.field))
 }

@@ -79,7 +79,7 @@ fn push_outcome(out: &mut String, outcome: &Outcome) -> Result<(), AllocError>
             let name = rule.name();
             out.push_str("deny ")?;
             push_number(out, u64::from(number))?;
-            out.push_str(" ")?;
+            out.push(' ')?;
             out.push_str(name)
         }
     }
@@ -92,7 +92,7 @@ pub fn push_answer(out: &mut String, outcome: &Outcome) -> Result<(), AllocError
 {
     out.push_str(" = ")?;
     push_outcome(out, outcome)?;
-    out.push_str("\n")?;
+    out.push('\n')?;
     Ok(())
 }
 
@@ -102,9 +102,9 @@ pub fn push_entry(out: &mut String, entry: &Entry) -> Result<(), AllocError>
     ensures fits { OnOk result (FitsOutcome entry.now.outcome) }
 {
     push_tid(out, entry.tid)?;
-    out.push_str(" ")?;
+    out.push(' ')?;
     push_env(out, entry.env)?;
-    out.push_str(" ")?;
+    out.push(' ')?;
     out.push_str(entry.call.fun().name())?;
     groups::write(out, &entry.call)?;
     push_answer(out, &entry.outcome)?;

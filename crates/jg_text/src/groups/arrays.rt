@@ -30,7 +30,6 @@ pub fn arity(fun: ArraysFun) -> usize
 
 /// The call of the function whose operands the fields left spell.
 pub fn read(alloc: Global, fun: ArraysFun, rest: Option<&[u8]>) -> Result<ArraysCall, ScriptFault>
-    requires { length (rest_fields (option_copied rest)) ≡ length (arrays_kinds fun) }
     ensures fits { IfOk result (λ c. AllByRecursion FitsWord (arrays_operands c)) }
     ensures fun { IfOk result (λ c. arrays_fun c ≡ fun) }
     ensures texts { IfOk result (λ c. map text_of (arrays_operands c) ≡ rest_fields (option_copied rest.entry)) }

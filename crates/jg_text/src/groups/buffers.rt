@@ -35,7 +35,6 @@ pub fn arity(fun: BuffersFun) -> usize
 
 /// The call of the function whose operands the fields left spell.
 pub fn read(alloc: Global, fun: BuffersFun, rest: Option<&[u8]>) -> Result<BuffersCall, ScriptFault>
-    requires { length (rest_fields (option_copied rest)) ≡ length (buffers_kinds fun) }
     ensures fits { IfOk result (λ c. AllByRecursion FitsWord (buffers_operands c)) }
     ensures fun { IfOk result (λ c. buffers_fun c ≡ fun) }
     ensures texts { IfOk result (λ c. map text_of (buffers_operands c) ≡ rest_fields (option_copied rest.entry)) }

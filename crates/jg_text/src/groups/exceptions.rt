@@ -9,7 +9,7 @@ ghost use Rattle.jg_text.specs.Operands.{exceptions_kinds, exceptions_operands};
 ghost use Rattle.jg_text.specs.Pieces.{rest_fields, after_spaces, IsOperandFault};
 
 use crate::fault::ScriptFault;
-use crate::operand::{read_one, write_one};
+use crate::operand::{read_none, read_one, write_one};
 use jg_words::{ExceptionsCall, ExceptionsFun};
 use std::alloc::{AllocError, Global};
 
@@ -32,7 +32,6 @@ pub fn read(
     fun: ExceptionsFun,
     rest: Option<&[u8]>,
 ) -> Result<ExceptionsCall, ScriptFault>
-    requires { length (rest_fields (option_copied rest)) ≡ length (exceptions_kinds fun) }
     ensures fits { IfOk result (λ c. AllByRecursion FitsWord (exceptions_operands c)) }
     ensures fun { IfOk result (λ c. exceptions_fun c ≡ fun) }
     ensures texts { IfOk result (λ c. map text_of (exceptions_operands c) ≡ rest_fields (option_copied rest.entry)) }
@@ -43,10 +42,22 @@ pub fn read(
             let exception = read_one(alloc, rest)?;
             Ok(ExceptionsCall::Throw { exception })
         }
-        ExceptionsFun::ExceptionOccurred => Ok(ExceptionsCall::ExceptionOccurred),
-        ExceptionsFun::ExceptionDescribe => Ok(ExceptionsCall::ExceptionDescribe),
-        ExceptionsFun::ExceptionClear => Ok(ExceptionsCall::ExceptionClear),
-        ExceptionsFun::ExceptionCheck => Ok(ExceptionsCall::ExceptionCheck),
+        ExceptionsFun::ExceptionOccurred => {
+            read_none(rest)?;
+            Ok(ExceptionsCall::ExceptionOccurred)
+        }
+        ExceptionsFun::ExceptionDescribe => {
+            read_none(rest)?;
+            Ok(ExceptionsCall::ExceptionDescribe)
+        }
+        ExceptionsFun::ExceptionClear => {
+            read_none(rest)?;
+            Ok(ExceptionsCall::ExceptionClear)
+        }
+        ExceptionsFun::ExceptionCheck => {
+            read_none(rest)?;
+            Ok(ExceptionsCall::ExceptionCheck)
+        }
     }
 }
 

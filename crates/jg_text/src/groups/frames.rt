@@ -26,7 +26,6 @@ pub fn arity(fun: FramesFun) -> usize
 
 /// The call of the function whose operands the fields left spell.
 pub fn read(alloc: Global, fun: FramesFun, rest: Option<&[u8]>) -> Result<FramesCall, ScriptFault>
-    requires { length (rest_fields (option_copied rest)) ≡ length (frames_kinds fun) }
     ensures fits { IfOk result (λ c. AllByRecursion FitsWord (frames_operands c)) }
     ensures fun { IfOk result (λ c. frames_fun c ≡ fun) }
     ensures texts { IfOk result (λ c. map text_of (frames_operands c) ≡ rest_fields (option_copied rest.entry)) }

@@ -29,7 +29,6 @@ pub fn read(
     fun: MonitorsFun,
     rest: Option<&[u8]>,
 ) -> Result<MonitorsCall, ScriptFault>
-    requires { length (rest_fields (option_copied rest)) ≡ length (monitors_kinds fun) }
     ensures fits { IfOk result (λ c. AllByRecursion FitsWord (monitors_operands c)) }
     ensures fun { IfOk result (λ c. monitors_fun c ≡ fun) }
     ensures texts { IfOk result (λ c. map text_of (monitors_operands c) ≡ rest_fields (option_copied rest.entry)) }

@@ -32,7 +32,6 @@ pub fn arity(fun: ObjectsFun) -> usize
 
 /// The call of the function whose operands the fields left spell.
 pub fn read(alloc: Global, fun: ObjectsFun, rest: Option<&[u8]>) -> Result<ObjectsCall, ScriptFault>
-    requires { length (rest_fields (option_copied rest)) ≡ length (objects_kinds fun) }
     ensures fits { IfOk result (λ c. AllByRecursion FitsWord (objects_operands c)) }
     ensures fun { IfOk result (λ c. objects_fun c ≡ fun) }
     ensures texts { IfOk result (λ c. map text_of (objects_operands c) ≡ rest_fields (option_copied rest.entry)) }

@@ -31,7 +31,6 @@ pub fn arity(fun: RefsFun) -> usize
 
 /// The call of the function whose operands the fields left spell.
 pub fn read(alloc: Global, fun: RefsFun, rest: Option<&[u8]>) -> Result<RefsCall, ScriptFault>
-    requires { length (rest_fields (option_copied rest)) ≡ length (refs_kinds fun) }
     ensures fits { IfOk result (λ c. AllByRecursion FitsWord (refs_operands c)) }
     ensures fun { IfOk result (λ c. refs_fun c ≡ fun) }
     ensures texts { IfOk result (λ c. map text_of (refs_operands c) ≡ rest_fields (option_copied rest.entry)) }

@@ -28,7 +28,6 @@ pub fn arity(fun: StringsFun) -> usize
 
 /// The call of the function whose operands the fields left spell.
 pub fn read(alloc: Global, fun: StringsFun, rest: Option<&[u8]>) -> Result<StringsCall, ScriptFault>
-    requires { length (rest_fields (option_copied rest)) ≡ length (strings_kinds fun) }
     ensures fits { IfOk result (λ c. AllByRecursion FitsWord (strings_operands c)) }
     ensures fun { IfOk result (λ c. strings_fun c ≡ fun) }
     ensures texts { IfOk result (λ c. map text_of (strings_operands c) ≡ rest_fields (option_copied rest.entry)) }

@@ -10,7 +10,9 @@ ghost use Rattle.jg_text.specs.Operands.{vm_kinds, vm_operands};
 ghost use Rattle.jg_text.specs.Pieces.{rest_fields, after_spaces, IsOperandFault};
 
 use crate::fault::ScriptFault;
-use crate::operand::{read_one, read_three, read_two, write_one, write_three, write_two};
+use crate::operand::{
+    read_none, read_one, read_three, read_two, write_one, write_three, write_two,
+};
 use jg_words::{VmCall, VmFun};
 use std::alloc::{AllocError, Global};
 
@@ -33,16 +35,24 @@ pub fn arity(fun: VmFun) -> usize
 
 /// The call of the function whose operands the fields left spell.
 pub fn read(alloc: Global, fun: VmFun, rest: Option<&[u8]>) -> Result<VmCall, ScriptFault>
-    requires { length (rest_fields (option_copied rest)) ≡ length (vm_kinds fun) }
     ensures fits { IfOk result (λ c. AllByRecursion FitsWord (vm_operands c)) }
     ensures fun { IfOk result (λ c. vm_fun c ≡ fun) }
     ensures texts { IfOk result (λ c. map text_of (vm_operands c) ≡ rest_fields (option_copied rest.entry)) }
     ensures fault { IfErr result (IsOperandFault (vm_kinds fun) (rest_fields (option_copied rest.entry))) }
 {
     match fun {
-        VmFun::AttachCurrentThread => Ok(VmCall::AttachCurrentThread),
-        VmFun::DetachCurrentThread => Ok(VmCall::DetachCurrentThread),
-        VmFun::GetEnv => Ok(VmCall::GetEnv),
+        VmFun::AttachCurrentThread => {
+            read_none(rest)?;
+            Ok(VmCall::AttachCurrentThread)
+        }
+        VmFun::DetachCurrentThread => {
+            read_none(rest)?;
+            Ok(VmCall::DetachCurrentThread)
+        }
+        VmFun::GetEnv => {
+            read_none(rest)?;
+            Ok(VmCall::GetEnv)
+        }
         VmFun::NativeEnter => {
             let (class, method, signature) = read_three(alloc, rest)?;
             Ok(VmCall::NativeEnter {
@@ -71,7 +81,10 @@ pub fn read(alloc: Global, fun: VmFun, rest: Option<&[u8]>) -> Result<VmCall, Sc
             let class = read_one(alloc, rest)?;
             Ok(VmCall::UnregisterNatives { class })
         }
-        VmFun::Collect => Ok(VmCall::Collect),
+        VmFun::Collect => {
+            read_none(rest)?;
+            Ok(VmCall::Collect)
+        }
     }
 }
 

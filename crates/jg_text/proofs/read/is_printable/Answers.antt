@@ -1,6 +1,7 @@
-use Rattle.std.proofs.Common.{arith, subst, All}
-use Rattle.std.specs.Prelude.{IsTrue, ◌↔◌}
+use Rattle.std.proofs.Common.{◌≡◌, arith, subst, All}
+use Rattle.std.specs.Prelude.{◌↔◌}
 use Rattle.std.specs.Int.{IsInRange}
+use Rattle.std.proofs.lemmas.Bool.Decides.{nat_tests}
 use Rattle.std.proofs.lemmas.List.{take_all}
 use Rattle.std.proofs.Common.{List, ℕ}
 use Rattle.jg_text.proofs.Reading.{seen_more, seen_over}
@@ -13,15 +14,16 @@ loop-i-preserved c =
     let i = c.loop-i.i in
     record {
       so_far = elim c.if-line-i-lt32.branch [
-        | then-line-i-lt32 w ↦ seen_over xs i _ c.loop-i-test.true w.printable-is (elim w.then-line-i-lt32.branch [
+        | then-line-i-lt32 w ↦ seen_over xs i _ c.loop-i-test.true w.others-is (elim w.then-line-i-lt32.branch [
           | then-line-i-lt32-via-then-line-i-lt32 v ↦ λ seen. absurd (omega (arith, seen, v.if-line-i-lt32.true))
           | then-line-i-lt32-via-else-line-i-lt32+then-line-i-gt126 v ↦ λ seen. absurd (omega (arith, seen, v.if-line-i-gt126.true))
         ])
-        | else-line-i-lt32+else-line-i-gt126 w ↦ seen_more xs i c.loop-i.printable _ c.loop-i-test.true w.printable-is (omega (arith, w.if-line-i-lt32.false, w.if-line-i-gt126.false))
+        | else-line-i-lt32+else-line-i-gt126 w ↦ seen_more xs i c.loop-i.others _ c.loop-i-test.true w.others-is (omega (arith, w.if-line-i-lt32.false, w.if-line-i-gt126.false))
             c.loop-i.invariant.so_far
       ];
     }
 
 pub returns : goal.returns
 returns c =
-    subst (λ (bs : List ℕ). IsTrue c.loop-i.printable ↔ All (λ b. IsInRange 32 126 b) bs) (take_all c.loop-i.i c.args.line.now (omega (arith, c.loop-i-test.false))) c.loop-i.invariant.so_far
+    let whole = subst (λ (bs : List ℕ). (c.loop-i.others ≡ 0) ↔ All (λ b. IsInRange 32 126 b) bs) (take_all c.loop-i.i c.args.line.now (omega (arith, c.loop-i-test.false))) c.loop-i.invariant.so_far in
+    (λ t. whole.0 (grind (arith, nat_tests, t)), λ all. let none = whole.1 all in grind (arith, nat_tests, none))

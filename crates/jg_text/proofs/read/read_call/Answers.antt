@@ -24,8 +24,8 @@ returns-in-Ok-clause-spelt c =
           operands.fun operands.texts_are;
     }
 
-pub returns-then-count_fields-arity-clause-fault : goal.returns-then-count_fields-arity-clause-fault
-returns-then-count_fields-arity-clause-fault c = λ _.
+pub returns-in-Err-clause-fault : goal.returns-in-Err-clause-fault
+returns-in-Err-clause-fault c = λ _.
     let first = rw c.in-Some-rest.is at c.cut.ensures in
     let second = rw c.in-Some-rest-2.is at c.cut-2.ensures in
     let third = cut_rest (fields c.in-Some-rest-2.rest.now) c.cut-3.result.0.now c.cut-3.result.1 c.cut-3.ensures in
@@ -37,8 +37,8 @@ returns-then-count_fields-arity-clause-fault c = λ _.
     (record { short = omega arith; printable = printable; tid = c.in-Some.ensures.fits; env = c.in-Some-read_env.ensures.fits; split = split })
     (λ same. c.if-count_fields-arity.true (c.count_fields.ensures ∙ same ∙ sym c.arity.ensures))
 
-pub returns-in-Err-clause-fault : goal.returns-in-Err-clause-fault
-returns-in-Err-clause-fault c = λ ne.
+pub returns-in-Err-2-clause-fault : goal.returns-in-Err-2-clause-fault
+returns-in-Err-2-clause-fault c = λ ne.
     let first = rw c.in-Some-rest.is at c.cut.ensures in
     let second = rw c.in-Some-rest-2.is at c.cut-2.ensures in
     let third = cut_rest (fields c.in-Some-rest-2.rest.now) c.cut-3.result.0.now c.cut-3.result.1 c.cut-3.ensures in
@@ -47,6 +47,6 @@ returns-in-Err-clause-fault c = λ ne.
     cc (first, second, third, c.in-Some.ensures.some, c.in-Some-read_env.ensures.some, c.in-Some-read_fun.ensures.some) in
     let printable : All (λ b. IsInRange 32 126 b) c.args.line.now = search rules in
     let bad = c.in-Err.ensures.fault ne in
-    bad_operand c.args.line.now c.in-Some.tid c.in-Some-read_env.env c.in-Some-read_fun.fun rest c.in-Err.fault
+    bad_operand c.args.line.now c.in-Some.tid c.in-Some-read_env.env c.in-Some-read_fun.fun rest c.in-Err.field-0
     (record { short = omega arith; printable = printable; tid = c.in-Some.ensures.fits; env = c.in-Some-read_env.ensures.fits; split = split })
     (sym c.count_fields.ensures ∙ c.if-count_fields-arity.false ∙ c.arity.ensures) bad.0 bad.1

@@ -2,7 +2,7 @@ use Rattle.std.proofs.Common.{sym, ◌∙◌, arith}
 use Rattle.std.specs.Fmt.{decimal}
 use Rattle.jg_text.proofs.Numbers.{clean_decimal}
 use Rattle.jg_text.proofs.Cuts.{same_cut, no_cut}
-use Rattle.jg_text.proofs.number.two_numbers.Goals as goal
+use Rattle.jg_text.proofs.number.two_long_numbers.Goals as goal
 
 pub returns-in_default-clause-none : goal.returns-in_default-clause-none
 returns-in_default-clause-none c = λ a b a_fits b_fits e.

@@ -1,0 +1,12 @@
+use Rattle.std.proofs.Common.{◌∙◌, sym, subst}
+use Rattle.std.specs.Str.{IsUtf8}
+use Rattle.std.proofs.lemmas.Str.{IsUtf8-from_ascii}
+use Rattle.jg_text.specs.Pieces.{after_commas}
+use Rattle.jg_text.proofs.Lists.{ascii_after_commas}
+use Rattle.jg_text.proofs.list.push_block.Goals as goal
+
+pub unreachable-requires : goal.unreachable-requires
+unreachable-requires c =
+    let wrote = c.write_items-start.ensures in
+    let ascii = IsUtf8-from_ascii (after_commas c.args.items.now) (ascii_after_commas c.args.items.now wrote.fits) in
+    c.in-Err.ensures.cases.0 (subst IsUtf8 (sym (c.split_at.ensures.back ∙ wrote.written)) ascii)
