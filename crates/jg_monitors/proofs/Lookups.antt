@@ -8,10 +8,13 @@ use Rattle.std.specs.Map.{lookup, keys_of}
 use Rattle.std.specs.BTreeMap.{is_at}
 use Rattle.std.specs.Ordering.{nat_cmp}
 use Rattle.jg_monitors.specs.declared.entering.Entering.TheVariants.{Entered, Busy}
+use Rattle.jg_monitors.specs.declared.entering.Entering.{Entering}
 use Rattle.jg_monitors.specs.declared.owned.Owned.{Owned}
+use Rattle.jg_monitors.specs.declared.owned.Found.{Found}
+use Rattle.jg_monitors.specs.declared.owned.Found.TheVariants.{Free, Own, Others}
 use Rattle.jg_monitors.specs.History.{Event, count, owner, count_of, owner_count, is_some, held, entering}
 use Rattle.jg_monitors.specs.Rows.{Rows, is_of, row_of, owner_in, count_in}
-use Rattle.jg_monitors.specs.Seen.{seen, count_by_owner}
+use Rattle.jg_monitors.specs.Seen.{seen, count_kept, finds}
 use Rattle.jg_monitors.specs.Standing.{AllAllowed, rows_of, Stands}
 use Rattle.jg_monitors.specs.Laws.{RowTells}
 use Rattle.jg_lists.proofs.Acts.{at_key}
@@ -71,33 +74,38 @@ rows_law rows e o stands =
 
 -- ---- entering
 
-entered_by : (t c : ℕ) (w : Owned) (b : Bool) → (if b then Some w.count else None) ≡ Some c → (if b then Entered else Busy) ≡ Entered
-entered_by t c w true is = refl
-entered_by t c w false is = cc
+-- what a thread is told of what it finds
+abbrev answer_at : Found → Entering
+answer_at Free = Entered
+answer_at Own = Entered
+answer_at Others = Busy
 
-pub may_enter_answer : (t c o : ℕ) (found : Option Owned) → count_by_owner t found ≡ Some c → entering t (owner_in (row_at o found)) ≡ Entered
-may_enter_answer t c o None is = refl
-may_enter_answer t c o (Some w) is = entered_by t c w (w.tid == t) is
+answer_by : (w : Owned) (b : Bool) → (if b then Entered else Busy) ≡ answer_at (if b then Own else Others)
+answer_by w true = refl
+answer_by w false = refl
 
-busy_by : (w : Owned) (b : Bool) → if◌then◌else◌ {A = Option ℕ} b (Some w.count) None ≡ None → (if b then Entered else Busy) ≡ Busy
-busy_by w true is = cc
-busy_by w false is = refl
+answer_law : (t o : ℕ) (found : Option Owned) → answer_at (finds t found) ≡ entering t (owner_in (row_at o found))
+answer_law t o None = refl
+answer_law t o (Some w) = sym (answer_by w (w.tid == t))
 
-pub busy_answer : (t o : ℕ) (found : Option Owned) → count_by_owner t found ≡ None → entering t (owner_in (row_at o found)) ≡ Busy
-busy_answer t o None is = cc
-busy_answer t o (Some w) is = busy_by w (w.tid == t) is
+-- by the rows, and by the events
+pub row_answer : (es : List (ℕ × Owned)) (rows : Rows) (t o : ℕ) (is : Found) → record { owned = map seen es } ≡ rows → is ≡ finds t (lookup (is_at (nat_cmp o)) es)
+    → answer_at is ≡ entering t (owner_in (row_of o rows))
+row_answer es rows t o is same found =
+    ap answer_at found ∙ (answer_law t o (lookup (is_at (nat_cmp o)) es) ∙ ap (λ row. entering t (owner_in row)) (sym (row_law es rows o same)))
+
+pub event_answer : (es : List (ℕ × Owned)) (rows : Rows) (e : List Event) (t o : ℕ) (is : Found) → record { owned = map seen es } ≡ rows → Stands rows e
+    → is ≡ finds t (lookup (is_at (nat_cmp o)) es) → answer_at is ≡ entering t (owner e o)
+event_answer es rows e t o is same stands found =
+    ap answer_at found ∙ (answer_law t o (lookup (is_at (nat_cmp o)) es) ∙ ap (entering t) (sym (owner_law es e o (reopened _ _ e same stands))))
+
+-- the count that is kept is the one in the row
+pub kept_law : (o : ℕ) (found : Option Owned) → count_kept found ≡ count_in (row_at o found)
+kept_law o None = refl
+kept_law o (Some w) = refl
 
 some_is : (a b : ℕ) → Some a ≡ Some b → a ≡ b
 some_is a b is = cc
-
-own_number : (c : ℕ) (w : Owned) (b : Bool) → (if b then Some w.count else None) ≡ Some c → c ≡ w.count
-own_number c w true is = sym (some_is w.count c is)
-own_number c w false is = cc
-
--- what the thread entered is the count in the row
-pub own_count_law : (t c o : ℕ) (found : Option Owned) → count_by_owner t found ≡ Some c → c ≡ count_in (row_at o found)
-own_count_law t c o None is = sym (some_is 0 c is)
-own_count_law t c o (Some w) is = own_number c w (w.tid == t) is
 
 -- ---- exiting
 

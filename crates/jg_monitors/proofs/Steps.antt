@@ -12,9 +12,10 @@ use Rattle.std.proofs.lemmas.Map.{lookup-none}
 use Rattle.std.proofs.lemmas.Map.Entries.{none_past_head, option_filter}
 use Rattle.std.proofs.lemmas.Map.Keys.{sorted_tail, IsDistinct-from_sorted}
 use Rattle.jg_monitors.specs.declared.owned.Owned.{Owned}
+use Rattle.jg_monitors.specs.declared.owned.Found.TheVariants.{Free, Own, Others}
 use Rattle.jg_monitors.specs.History.{Enter, Exit, ReleaseAll, Event, by, count, owner}
 use Rattle.jg_monitors.specs.Rows.{Row, is_of}
-use Rattle.jg_monitors.specs.Seen.{seen, lowered, count_by_owner}
+use Rattle.jg_monitors.specs.Seen.{seen, lowered, raised, finds}
 use Rattle.jg_monitors.specs.Standing.{IsAllowed, AllAllowed, rows_of, Stands}
 use Rattle.jg_lists.proofs.Acts.{at_key}
 use Rattle.jg_lists.proofs.Lists.{first}
@@ -114,48 +115,69 @@ zero_by e t u o (suc n) is all some differ =
 zero_else : (e : List Event) (t u o : ℕ) → AllAllowed e → 0 < count e t o → u ≢ t → count e u o ≡ 0
 zero_else e t u o all some differ = zero_by e t u o (count e u o) refl all some differ
 
-some_is : (a b : ℕ) → Some a ≡ Some b → a ≡ b
-some_is a b is = cc
-
-own_by : (e : List Event) (t o c : ℕ) (w : Owned) (b : Bool) → (w.tid == t) ≡ b → AllAllowed e → Tells e o (Some w) → (if b then Some w.count else None) ≡ Some c
-    → (count e t o ≡ c) × IsAllowed t (Enter o) e
-own_by e t o c w true mine all told is =
+own_by : (e : List Event) (t o : ℕ) (w : Owned) (b : Bool) → (w.tid == t) ≡ b → AllAllowed e → Tells e o (Some w) → (if b then Own else Others) ≡ Own
+    → IsAllowed t (Enter o) e × Tells (by t (Enter o) ∷ e) o (if b then Some (record w { count = w.count + 1 }) else Some w)
+own_by e t o w true mine all told is =
     let same : w.tid ≡ t = eqb-true w.tid t mine in
-    let number : w.count ≡ c = some_is w.count c is in
-    let P : ℕ → Type 0 = λ u. (count e u o ≡ w.count) × (0 < w.count) in
-    let here : (count e t o ≡ w.count) × (0 < w.count) = subst P same told in
-    let some : 0 < count e t o = omega (arith, here.0, here.1) in
-    (here.0 ∙ number, λ u differ. zero_else e t u o all some differ)
-own_by e t o c w false mine all told is = cc
+    let some : 0 < count e w.tid o = omega (arith, told.0, told.1) in
+    let P : ℕ → Type 0 = λ u. count (by u (Enter o) ∷ e) w.tid o ≡ w.count + 1 in
+    let more : count (by w.tid (Enter o) ∷ e) w.tid o ≡ w.count + 1 = count_enter e w.tid o all ∙ ap (λ n. n + 1) told.0 in
+    (λ u differ. zero_else e w.tid u o all some (λ same_too. differ (same_too ∙ same)), (subst P same more, omega arith))
+own_by e t o w false mine all told is = cc
 
--- the count and the condition of a thread that may enter
-pub may_enter : (e : List Event) (t o c : ℕ) (found : Option Owned) → AllAllowed e → Tells e o found → count_by_owner t found ≡ Some c → (count e t o ≡ c) × IsAllowed t (Enter o) e
-may_enter e t o c None all told is =
-    let none : 0 ≡ c = some_is 0 c is in
-    (told t ∙ none, λ u differ. told u)
-may_enter e t o c (Some w) all told is = own_by e t o c w (w.tid == t) refl all told is
+-- the owner may enter once more
+own_entered : (e : List Event) (t o : ℕ) (found : Option Owned) → AllAllowed e → Tells e o found → finds t found ≡ Own
+    → IsAllowed t (Enter o) e × Tells (by t (Enter o) ∷ e) o (raised t found)
+own_entered e t o None all told is = cc
+own_entered e t o (Some w) all told is = own_by e t o w (w.tid == t) refl all told is
 
-pub enter_here : (e : List Event) (t o c : ℕ) → AllAllowed e → count e t o ≡ c → Tells (by t (Enter o) ∷ e) o (Some (record { tid = t; count = c + 1 }))
-enter_here e t o c all is = (count_enter e t o all ∙ ap (λ n. n + 1) is, omega arith)
+not_free : (w : Owned) (b : Bool) → (if b then Own else Others) ≡ Free → ⊥
+not_free w true is = cc
+not_free w false is = cc
+
+pub free_is : (t : ℕ) (found : Option Owned) → finds t found ≡ Free → found ≡ None
+free_is t None is = refl
+free_is t (Some w) is = absurd (not_free w (w.tid == t) is)
+
+-- any thread may enter what is free
+free_entered : (e : List Event) (t o : ℕ) (found : Option Owned) → found ≡ None → AllAllowed e → Tells e o found
+    → IsAllowed t (Enter o) e × Tells (by t (Enter o) ∷ e) o (Some (record { tid = t; count = 1 }))
+free_entered e t o None none all told = (λ u differ. told u, (count_enter e t o all ∙ ap (λ n. n + 1) (told t), omega arith))
+free_entered e t o (Some w) none all told = cc
 
 enter_elsewhere : (e : List Event) (t o q : ℕ) (found : Option Owned) → (o == q) ≡ false → Tells e q found → Tells (by t (Enter o) ∷ e) q found
 enter_elsewhere e t o q None apart told = λ u. count_other_enter e u t q o apart ∙ told u
 enter_elsewhere e t o q (Some w) apart told = (count_other_enter e w.tid t q o apart ∙ told.0, told.1)
 
-enter_each : (e : List Event) (t o c q : ℕ) (found : Option Owned) (b : Bool) → (o == q) ≡ b → AllAllowed e → count e t o ≡ c → Tells e q found
-    → Tells (by t (Enter o) ∷ e) q (if b then Some (record { tid = t; count = c + 1 }) else found)
-enter_each e t o c q found true is all own told =
-    let P : ℕ → Type 0 = λ p. Tells (by t (Enter o) ∷ e) p (Some (record { tid = t; count = c + 1 })) in
-    subst P (eqb-true o q is) (enter_here e t o c all own)
-enter_each e t o c q found false is all own told = enter_elsewhere e t o q found is told
+enter_each : (e : List Event) (t o q : ℕ) (es : List (ℕ × Owned)) (change : Option Owned → Option Owned) (b : Bool) → (o == q) ≡ b
+    → Tells (by t (Enter o) ∷ e) o (change (lookup (is_at (nat_cmp o)) es)) → Tells e q (lookup (is_at (nat_cmp q)) es)
+    → Tells (by t (Enter o) ∷ e) q (if b then change (lookup (is_at (nat_cmp q)) es) else lookup (is_at (nat_cmp q)) es)
+enter_each e t o q es change true is here told =
+    let P : ℕ → Type 0 = λ p. Tells (by t (Enter o) ∷ e) p (change (lookup (is_at (nat_cmp p)) es)) in
+    subst P (eqb-true o q is) here
+enter_each e t o q es change false is here told = enter_elsewhere e t o q (lookup (is_at (nat_cmp q)) es) is told
 
-pub enter_law : (es news : List (ℕ × Owned)) (e : List Event) (t o c : ℕ) → Stands (record { owned = map seen es }) e → count_by_owner t (lookup (is_at (nat_cmp o)) es) ≡ Some c
-    → IsStrictlySortedBy nat_cmp (keys_of news) → ((q : ℕ) → lookup (is_at (nat_cmp q)) news ≡ (if o == q then Some (record { tid = t; count = c + 1 }) else lookup (is_at (nat_cmp q)) es))
+-- the look-up of one object is changed to what its entering makes true
+enter_law : (es news : List (ℕ × Owned)) (e : List Event) (t o : ℕ) (change : Option Owned → Option Owned) → Stands (record { owned = map seen es }) e
+    → IsAllowed t (Enter o) e × Tells (by t (Enter o) ∷ e) o (change (lookup (is_at (nat_cmp o)) es)) → IsStrictlySortedBy nat_cmp (keys_of news)
+    → ((q : ℕ) → lookup (is_at (nat_cmp q)) news ≡ (if o == q then change (lookup (is_at (nat_cmp q)) es) else lookup (is_at (nat_cmp q)) es))
     → Stands (record { owned = map seen news }) (by t (Enter o) ∷ e)
-enter_law es news e t o c stands own sorted put =
-    let may = may_enter e t o c (lookup (is_at (nat_cmp o)) es) stands.allowed (tells es e o stands) own in
-    stands_by news (by t (Enter o) ∷ e) (stands.allowed, may.1) sorted
-    (λ q. rw (put q) (enter_each e t o c q (lookup (is_at (nat_cmp q)) es) (o == q) refl stands.allowed may.0 (tells es e q stands)))
+enter_law es news e t o change stands may sorted changed =
+    stands_by news (by t (Enter o) ∷ e) (stands.allowed, may.0) sorted
+    (λ q. rw (changed q) (enter_each e t o q es change (o == q) refl may.1 (tells es e q stands)))
+
+pub raise_law : (es news : List (ℕ × Owned)) (e : List Event) (t o : ℕ) → Stands (record { owned = map seen es }) e → finds t (lookup (is_at (nat_cmp o)) es) ≡ Own
+    → IsStrictlySortedBy nat_cmp (keys_of news) → ((q : ℕ) → lookup (is_at (nat_cmp q)) news ≡ (if o == q then raised t (lookup (is_at (nat_cmp q)) es) else lookup (is_at (nat_cmp q)) es))
+    → Stands (record { owned = map seen news }) (by t (Enter o) ∷ e)
+raise_law es news e t o stands own = enter_law es news e t o (raised t) stands (own_entered e t o (lookup (is_at (nat_cmp o)) es) stands.allowed (tells es e o stands) own)
+
+pub take_law : (es was news : List (ℕ × Owned)) (e : List Event) (t o : ℕ) → Stands (record { owned = map seen es }) e → finds t (lookup (is_at (nat_cmp o)) es) ≡ Free → was ≡ es
+    → IsStrictlySortedBy nat_cmp (keys_of news) → ((q : ℕ) → lookup (is_at (nat_cmp q)) news ≡ (if o == q then Some (record { tid = t; count = 1 }) else lookup (is_at (nat_cmp q)) was))
+    → Stands (record { owned = map seen news }) (by t (Enter o) ∷ e)
+take_law es was news e t o stands free same sorted taken =
+    enter_law es news e t o (λ found. Some (record { tid = t; count = 1 })) stands
+    (free_entered e t o (lookup (is_at (nat_cmp o)) es) (free_is t (lookup (is_at (nat_cmp o)) es) free) stands.allowed (tells es e o stands)) sorted
+    (λ q. taken q ∙ ap (λ xs. if o == q then Some (record { tid = t; count = 1 }) else lookup (is_at (nat_cmp q)) xs) same)
 
 freed_by : (e : List Event) (t u o : ℕ) (w : Owned) (b : Bool) → (t == u) ≡ b → nat_lt 1 w.count ≡ false → w.tid ≡ t → AllAllowed e → Tells e o (Some w) → count (by t (Exit o) ∷ e) u o ≡ 0
 freed_by e t u o w true is few mine all told =

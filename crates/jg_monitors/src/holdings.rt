@@ -1,39 +1,37 @@
 //! The owned monitors by object, and by thread and object, changed together.
 
 ghost use Rattle.std.specs.Prelude.{◌≡◌, ℕ, ◌==◌, true, not, if◌then◌else◌, None, Some, OnOk, OnErr};
-ghost use Rattle.std.specs.Option.{is_some};
 ghost use Rattle.std.specs.Ordering.{nat_cmp};
 ghost use Rattle.std.specs.BTreeMap.{get, IsOrdered};
 ghost use Rattle.std.proofs.lemmas.Map.Entries.{option_filter};
 ghost use Rattle.jg_monitors.specs.Keys.{Agree, is_owned_by};
-ghost use Rattle.jg_monitors.specs.Seen.{count_by_owner, lowered};
+ghost use Rattle.jg_monitors.specs.Seen.{lowered};
 
 use crate::held::{first_held, hold, let_go};
-use crate::owned::{Owned, free, look, lower_count, set_owner};
+use crate::owned::{Owned, free, lower_count, set_owner};
 use std::alloc::{AllocError, Allocator};
 use std::collections::BTreeMap;
 
-/// Gives a monitor that is free or the thread's own its owner and count.
-pub fn put<A: Allocator + Clone>(
+/// Gives a monitor that is free its owner, who entered it once.
+pub fn take<A: Allocator + Clone>(
     owned: &mut BTreeMap<u64, Owned, A>,
     held: &mut BTreeMap<(u32, u64), (), A>,
+    tid: u16,
     object: u64,
-    row: Owned,
 ) -> Result<(), AllocError>
     requires agree { Agree owned.old held.old }
-    requires own { is_some (count_by_owner row.tid (get nat_cmp owned.old object)) ≡ true }
-    ensures put { OnOk result ((q : ℕ) → get nat_cmp owned.new q
-        ≡ (if object == q then Some row else get nat_cmp owned.old q)) }
+    requires free { get nat_cmp owned.old object ≡ None }
+    ensures taken { OnOk result ((q : ℕ) → get nat_cmp owned.new q
+        ≡ (if object == q then Some (record { tid = tid; count = 1 }) else get nat_cmp owned.old q)) }
     ensures ordered { OnOk result (IsOrdered nat_cmp owned.new) }
     ensures err { OnErr result (owned.new.entries ≡ owned.old.entries) }
-    ensures absent { OnErr result (get nat_cmp owned.old object ≡ None) }
     ensures agree { Agree owned.new held.new }
 {
-    let Ok(()) = hold(held, row.tid, object) else {
+    let Ok(()) = hold(held, tid, object) else {
         return Err(AllocError);
     };
-    let Ok(()) = set_owner(owned, object, row) else {
-        let_go(held, row.tid, object);
+    let Ok(()) = set_owner(owned, object, Owned { tid, count: 1 }) else {
+        let_go(held, tid, object);
         return Err(AllocError);
     };
     Ok(())
@@ -53,8 +51,7 @@ pub fn lower<A: Allocator>(
     ensures ordered { IsOrdered nat_cmp owned.new }
     ensures agree { Agree owned.new held.new }
 {
-    lower_count(owned, object);
-    if look(owned, object).is_none() {
+    if lower_count(owned, object) {
         let_go(held, tid, object);
     }
 }

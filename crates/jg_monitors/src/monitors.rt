@@ -5,8 +5,8 @@ ghost use Rattle.jg_monitors.specs.Standing.{Stands};
 ghost use Rattle.jg_lists.specs.Marks.{Marks};
 
 use crate::entering::Entering;
-use crate::holdings::{lower, put, release};
-use crate::owned::{Owned, list_all, look, mark_keys, own_count};
+use crate::holdings::{lower, release, take};
+use crate::owned::{Found, Owned, list_all, look, mark_keys, raise_own};
 use crate::owned_monitor::OwnedMonitor;
 use jg_words::{ObjId, Tid};
 use std::alloc::{AllocError, Allocator, Global};
@@ -63,20 +63,14 @@ impl<A: Allocator + Clone> Monitors<A> {
         ensures err { OnErr result (self.new ≡ self.old) }
         ensures free { OnErr result (owner_in (row_of object.0 self.old) ≡ None) }
     {
-        let found = look(&self.owned, object.0);
-        let Some(count) = own_count(found, tid.0) else {
-            return Ok(Entering::Busy);
-        };
-        put(
-            &mut self.owned,
-            &mut self.held,
-            object.0,
-            Owned {
-                tid: tid.0,
-                count: count + 1,
-            },
-        )?;
-        Ok(Entering::Entered)
+        match raise_own(&mut self.owned, tid.0, object.0) {
+            Found::Own => Ok(Entering::Entered),
+            Found::Others => Ok(Entering::Busy),
+            Found::Free => {
+                take(&mut self.owned, &mut self.held, tid.0, object.0)?;
+                Ok(Entering::Entered)
+            }
+        }
     }
 
     /// Exits the monitor of the object once; the owner's last exit frees it (chapter 4,

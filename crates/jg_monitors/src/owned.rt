@@ -1,8 +1,9 @@
-ghost use Rattle.std.specs.Prelude.{◌≡◌, ℕ, ◌==◌, if◌then◌else◌, None, Some, IfOk, OnOk, OnErr, map};
+ghost use Rattle.std.specs.Prelude.{◌≡◌, ℕ, ◌==◌, ◌<◌, not, if◌then◌else◌, None, Some, IfOk, OnOk, OnErr, map};
 ghost use Rattle.std.specs.Ordering.{nat_cmp};
 ghost use Rattle.std.specs.List.{list_any};
+ghost use Rattle.std.specs.Option.{is_some};
 ghost use Rattle.jg_monitors.specs.Rows.{owned_monitor};
-ghost use Rattle.jg_monitors.specs.Seen.{count_by_owner, lowered, seen};
+ghost use Rattle.jg_monitors.specs.Seen.{count_kept, finds, raised, lowered, seen};
 ghost use Rattle.std.specs.BTreeMap.{get, keys, IsOrdered};
 ghost use Rattle.jg_lists.specs.Marks.{Marks};
 
@@ -25,20 +26,33 @@ pub fn look<A: Allocator>(map: &BTreeMap<u64, Owned, A>, object: u64) -> Option<
     map.get(&object).copied()
 }
 
-/// How often the thread entered a monitor that is free or its own; `None` where another owns it.
-pub fn own_count(found: Option<Owned>, tid: u16) -> Option<u64>
-    ensures { result ≡ count_by_owner tid found }
+/// What a thread finds that would enter a monitor.
+#[derive(Clone, Copy)]
+pub enum Found {
+    Free,
+    Own,
+    Others,
+}
+
+/// Raises the count of the object's monitor by one where the thread owns it, and changes nothing
+/// else. Takes no memory.
+pub fn raise_own<A: Allocator>(map: &mut BTreeMap<u64, Owned, A>, tid: u16, object: u64) -> Found
+    requires { count_kept (get nat_cmp map.old object) < u64.MAX }
+    ensures found { result ≡ finds tid (get nat_cmp map.old object) }
+    ensures raised { (q : ℕ) → get nat_cmp map.new q
+        ≡ (if object == q then raised tid (get nat_cmp map.old q) else get nat_cmp map.old q) }
+    ensures ordered { IsOrdered nat_cmp map.new }
+    ensures free { result ≡ Found.Free → map.new.entries ≡ map.old.entries }
+    ensures others { result ≡ Found.Others → map.new.entries ≡ map.old.entries }
 {
-    match found {
-        None => Some(0),
-        Some(owned) => {
-            if owned.tid == tid {
-                Some(owned.count)
-            } else {
-                None
-            }
-        }
+    let Some(owned) = map.get_mut(&object) else {
+        return Found::Free;
+    };
+    if owned.tid != tid {
+        return Found::Others;
     }
+    owned.count += 1;
+    Found::Own
 }
 
 pub fn set_owner<A: Allocator + Clone>(
@@ -56,8 +70,10 @@ pub fn set_owner<A: Allocator + Clone>(
     Ok(())
 }
 
-/// Lowers the count of the object's monitor by one, and frees it at 0. Takes no memory.
-pub fn lower_count<A: Allocator>(map: &mut BTreeMap<u64, Owned, A>, object: u64)
+/// Lowers the count of the object's monitor by one, and frees it at 0. Answers whether it is free
+/// then. Takes no memory.
+pub fn lower_count<A: Allocator>(map: &mut BTreeMap<u64, Owned, A>, object: u64) -> bool
+    ensures free { result ≡ not (is_some (lowered (get nat_cmp map.old object))) }
     ensures lowered { (q : ℕ) → get nat_cmp map.new q
         ≡ (if object == q then lowered (get nat_cmp map.old q) else get nat_cmp map.old q) }
     ensures ordered { IsOrdered nat_cmp map.new }
@@ -65,10 +81,11 @@ pub fn lower_count<A: Allocator>(map: &mut BTreeMap<u64, Owned, A>, object: u64)
     if let Some(owned) = map.get_mut(&object) {
         if owned.count > 1 {
             owned.count -= 1;
-            return;
+            return false;
         }
     }
     map.remove(&object);
+    true
 }
 
 /// Frees the object's monitor. Takes no memory.

@@ -113,94 +113,86 @@ stands_more old new e u a was_sorted sorted stands now others here =
     (each_acted (λ t acts. AllAllowed acts) u a e (λ t differ. stands.allowed t) (stands.allowed u, now))
     (each_acted (λ t acts. lookup (is_at (nat_cmp t)) new ≡ row_if (was_attached acts) acts) u a e (λ t differ. others t differ ∙ found_law old e t was_sorted stands) here)
 
--- ---- a row is written
+-- ---- a row is changed
 
--- the row of the thread is this one, where it has a row, and the others are as they were
-abbrev pub Written : List (ℕ × Row) → List (ℕ × Row) → ℕ → Row → Type 0
-Written old new u row = (t : ℕ) → lookup (is_at (nat_cmp t)) new ≡ (if u == t then option_map (λ (r : Row). row) (lookup (is_at (nat_cmp t)) old) else lookup (is_at (nat_cmp t)) old)
+-- the row of the thread is changed, where it has one, and the others are as they were
+abbrev pub Written : List (ℕ × Row) → List (ℕ × Row) → ℕ → (Row → Row) → Type 0
+Written old new u change = (t : ℕ) → lookup (is_at (nat_cmp t)) new ≡ (if u == t then option_map change (lookup (is_at (nat_cmp t)) old) else lookup (is_at (nat_cmp t)) old)
 
-written_other : (old new : List (ℕ × Row)) (u : ℕ) (row : Row) → Written old new u row → (t : ℕ) → t ≢ u → lookup (is_at (nat_cmp t)) new ≡ lookup (is_at (nat_cmp t)) old
-written_other old new u row written t differ =
+written_other : (old new : List (ℕ × Row)) (u : ℕ) (change : Row → Row) → Written old new u change → (t : ℕ) → t ≢ u → lookup (is_at (nat_cmp t)) new ≡ lookup (is_at (nat_cmp t)) old
+written_other old new u change written t differ =
     let other : (u == t) ≡ false = grind (arith, nat_tests) in
     let here = written t in
     rw other at here
 
-written_here : (old new : List (ℕ × Row)) (u : ℕ) (row : Row) → Written old new u row → lookup (is_at (nat_cmp u)) new ≡ option_map (λ (r : Row). row) (lookup (is_at (nat_cmp u)) old)
-written_here old new u row written =
+written_here : (old new : List (ℕ × Row)) (u : ℕ) (change : Row → Row) → Written old new u change → lookup (is_at (nat_cmp u)) new ≡ option_map change (lookup (is_at (nat_cmp u)) old)
+written_here old new u change written =
     let same : (u == u) ≡ true = grind (arith, nat_tests) in
     let here = written u in
     rw same at here
 
-row_written : (acts more : List Act) (row : Row) (b : Bool) → (b ≡ true → row ≡ row_by more) → option_map (λ (r : Row). row) (row_if b acts) ≡ row_if b more
-row_written acts more row true is = ap Some (is refl)
-row_written acts more row false is = refl
+row_written : (acts more : List Act) (change : Row → Row) (b : Bool) → change (row_by acts) ≡ row_by more → option_map change (row_if b acts) ≡ row_if b more
+row_written acts more change true is = ap Some is
+row_written acts more change false is = refl
 
--- an act that attaches nobody writes the row of what was done with it
-written_law : (old new rows : List (ℕ × Row)) (e : List Event) (u : ℕ) (a : Act) (row : Row) → old ≡ rows → IsStrictlySortedBy nat_cmp (keys_of old) → IsStrictlySortedBy nat_cmp (keys_of new)
-    → Stands rows e → IsAllowed a (acts_of u e) → was_attached (a ∷ acts_of u e) ≡ was_attached (acts_of u e) → row ≡ row_by (a ∷ acts_of u e) → Written old new u row → Stands new (by u a ∷ e)
-written_law old new rows e u a row seen was_sorted sorted stands now quiet is written =
+-- an act that attaches nobody changes the row to that of what was done with it
+written_law : (old new rows : List (ℕ × Row)) (e : List Event) (u : ℕ) (a : Act) (change : Row → Row) → old ≡ rows → IsStrictlySortedBy nat_cmp (keys_of old) → IsStrictlySortedBy nat_cmp (keys_of new)
+    → Stands rows e → IsAllowed a (acts_of u e) → was_attached (a ∷ acts_of u e) ≡ was_attached (acts_of u e) → change (row_by (acts_of u e)) ≡ row_by (a ∷ acts_of u e) → Written old new u change
+    → Stands new (by u a ∷ e)
+written_law old new rows e u a change seen was_sorted sorted stands now quiet is written =
     let was : Stands old e = subst (λ (r : List (ℕ × Row)). Stands r e) (sym seen) stands in
-    stands_more old new e u a was_sorted sorted was now (written_other old new u row written)
-    (written_here old new u row written
-    ∙ (ap (option_map (λ (r : Row). row)) (found_law old e u was_sorted was)
-    ∙ (row_written (acts_of u e) (a ∷ acts_of u e) row (was_attached (acts_of u e)) (λ on. is)
+    stands_more old new e u a was_sorted sorted was now (written_other old new u change written)
+    (written_here old new u change written
+    ∙ (ap (option_map change) (found_law old e u was_sorted was)
+    ∙ (row_written (acts_of u e) (a ∷ acts_of u e) change (was_attached (acts_of u e)) is
     ∙ ap (λ b. row_if b (a ∷ acts_of u e)) (sym quiet))))
 
 -- ---- each act
 
-pub detach_law : (old new rows : List (ℕ × Row)) (e : List Event) (u : ℕ) (r : Row) → old ≡ rows → IsStrictlySortedBy nat_cmp (keys_of old) → IsStrictlySortedBy nat_cmp (keys_of new)
-    → Stands rows e → r ≡ row_of rows u → Written old new u (record r { attached = false; depth = 0; pending = None }) → Stands new (by u Detach ∷ e)
-detach_law old new rows e u r seen was_sorted sorted stands is =
-    written_law old new rows e u Detach _ seen was_sorted sorted stands tt refl
-    (ap (λ (r : Row). record r { attached = false; depth = 0; pending = None }) (is ∙ stands.threads u))
+pub detach_law : (old new rows : List (ℕ × Row)) (e : List Event) (u : ℕ) → old ≡ rows → IsStrictlySortedBy nat_cmp (keys_of old) → IsStrictlySortedBy nat_cmp (keys_of new)
+    → Stands rows e → Written old new u (λ (r : Row). record r { attached = false; depth = 0; pending = None }) → Stands new (by u Detach ∷ e)
+detach_law old new rows e u seen was_sorted sorted stands = written_law old new rows e u Detach (λ (r : Row). record r { attached = false; depth = 0; pending = None }) seen was_sorted sorted stands tt refl
+    refl
 
-pub calm_law : (old new rows : List (ℕ × Row)) (e : List Event) (u : ℕ) (r : Row) → old ≡ rows → IsStrictlySortedBy nat_cmp (keys_of old) → IsStrictlySortedBy nat_cmp (keys_of new)
-    → Stands rows e → r ≡ row_of rows u → Written old new u (record r { pending = None }) → Stands new (by u Calm ∷ e)
-calm_law old new rows e u r seen was_sorted sorted stands is =
-    written_law old new rows e u Calm _ seen was_sorted sorted stands tt refl
-    (ap (λ (r : Row). record r { pending = None }) (is ∙ stands.threads u))
+pub calm_law : (old new rows : List (ℕ × Row)) (e : List Event) (u : ℕ) → old ≡ rows → IsStrictlySortedBy nat_cmp (keys_of old) → IsStrictlySortedBy nat_cmp (keys_of new)
+    → Stands rows e → Written old new u (λ (r : Row). record r { pending = None }) → Stands new (by u Calm ∷ e)
+calm_law old new rows e u seen was_sorted sorted stands = written_law old new rows e u Calm (λ (r : Row). record r { pending = None }) seen was_sorted sorted stands tt refl
+    refl
 
 -- the thread is attached, by its row
 on_by : (rows : List (ℕ × Row)) (e : List Event) (u : ℕ) → Stands rows e → IsTrue (row_of rows u).attached → attached (acts_of u e) ≡ true
 on_by rows e u stands on = sym (ap (λ (r : Row). r.attached) (stands.threads u)) ∙ on
 
-pub raise_law : (old new rows : List (ℕ × Row)) (e : List Event) (u o : ℕ) (r : Row) → old ≡ rows → IsStrictlySortedBy nat_cmp (keys_of old) → IsStrictlySortedBy nat_cmp (keys_of new)
-    → Stands rows e → r ≡ row_of rows u → IsTrue (row_of rows u).attached → Written old new u (record r { pending = Some o }) → Stands new (by u (Raise o) ∷ e)
-raise_law old new rows e u o r seen was_sorted sorted stands is on =
-    written_law old new rows e u (Raise o) _ seen was_sorted sorted stands (on_by rows e u stands on) refl
-    (ap (λ (r : Row). record r { pending = Some o }) (is ∙ stands.threads u))
+pub raise_law : (old new rows : List (ℕ × Row)) (e : List Event) (u o : ℕ) → old ≡ rows → IsStrictlySortedBy nat_cmp (keys_of old) → IsStrictlySortedBy nat_cmp (keys_of new)
+    → Stands rows e → IsTrue (row_of rows u).attached → Written old new u (λ (r : Row). record r { pending = Some o }) → Stands new (by u (Raise o) ∷ e)
+raise_law old new rows e u o seen was_sorted sorted stands on = written_law old new rows e u (Raise o) (λ (r : Row). record r { pending = Some o }) seen was_sorted sorted stands (on_by rows e u stands on) refl
+    refl
 
-pub count_ref_law : (old new rows : List (ℕ × Row)) (e : List Event) (u : ℕ) (r : Row) → old ≡ rows → IsStrictlySortedBy nat_cmp (keys_of old) → IsStrictlySortedBy nat_cmp (keys_of new)
-    → Stands rows e → r ≡ row_of rows u → IsTrue (row_of rows u).attached → Written old new u (record r { refs = r.refs + 1 }) → Stands new (by u CountRef ∷ e)
-count_ref_law old new rows e u r seen was_sorted sorted stands is on =
-    written_law old new rows e u CountRef _ seen was_sorted sorted stands (on_by rows e u stands on) refl
-    (ap (λ (r : Row). record r { refs = r.refs + 1 }) (is ∙ stands.threads u))
+pub count_ref_law : (old new rows : List (ℕ × Row)) (e : List Event) (u : ℕ) → old ≡ rows → IsStrictlySortedBy nat_cmp (keys_of old) → IsStrictlySortedBy nat_cmp (keys_of new)
+    → Stands rows e → IsTrue (row_of rows u).attached → Written old new u (λ (r : Row). record r { refs = r.refs + 1 }) → Stands new (by u CountRef ∷ e)
+count_ref_law old new rows e u seen was_sorted sorted stands on = written_law old new rows e u CountRef (λ (r : Row). record r { refs = r.refs + 1 }) seen was_sorted sorted stands (on_by rows e u stands on) refl
+    refl
 
-pub count_buffer_law : (old new rows : List (ℕ × Row)) (e : List Event) (u : ℕ) (r : Row) → old ≡ rows → IsStrictlySortedBy nat_cmp (keys_of old) → IsStrictlySortedBy nat_cmp (keys_of new)
-    → Stands rows e → r ≡ row_of rows u → IsTrue (row_of rows u).attached → Written old new u (record r { buffers = r.buffers + 1 }) → Stands new (by u CountBuffer ∷ e)
-count_buffer_law old new rows e u r seen was_sorted sorted stands is on =
-    written_law old new rows e u CountBuffer _ seen was_sorted sorted stands (on_by rows e u stands on) refl
-    (ap (λ (r : Row). record r { buffers = r.buffers + 1 }) (is ∙ stands.threads u))
+pub count_buffer_law : (old new rows : List (ℕ × Row)) (e : List Event) (u : ℕ) → old ≡ rows → IsStrictlySortedBy nat_cmp (keys_of old) → IsStrictlySortedBy nat_cmp (keys_of new)
+    → Stands rows e → IsTrue (row_of rows u).attached → Written old new u (λ (r : Row). record r { buffers = r.buffers + 1 }) → Stands new (by u CountBuffer ∷ e)
+count_buffer_law old new rows e u seen was_sorted sorted stands on = written_law old new rows e u CountBuffer (λ (r : Row). record r { buffers = r.buffers + 1 }) seen was_sorted sorted stands (on_by rows e u stands on) refl
+    refl
 
 deeper : (acts : List Act) → AllAllowed acts → depth acts + 1 ≡ depth (Enter ∷ acts)
 deeper acts h = omega (arith, leaves_at_most acts h)
 
-pub enter_law : (old new rows : List (ℕ × Row)) (e : List Event) (u : ℕ) (r : Row) → old ≡ rows → IsStrictlySortedBy nat_cmp (keys_of old) → IsStrictlySortedBy nat_cmp (keys_of new)
-    → Stands rows e → r ≡ row_of rows u → IsTrue (row_of rows u).attached → Written old new u (record r { depth = r.depth + 1 }) → Stands new (by u Enter ∷ e)
-enter_law old new rows e u r seen was_sorted sorted stands is on =
-    written_law old new rows e u Enter _ seen was_sorted sorted stands (on_by rows e u stands on) refl
-    (ap (λ (r : Row). record r { depth = r.depth + 1 }) (is ∙ stands.threads u)
-    ∙ ap (λ (d : ℕ). record (row_by (acts_of u e)) { depth = d }) (deeper (acts_of u e) (stands.allowed u)))
+pub enter_law : (old new rows : List (ℕ × Row)) (e : List Event) (u : ℕ) → old ≡ rows → IsStrictlySortedBy nat_cmp (keys_of old) → IsStrictlySortedBy nat_cmp (keys_of new)
+    → Stands rows e → IsTrue (row_of rows u).attached → Written old new u (λ (r : Row). record r { depth = r.depth + 1 }) → Stands new (by u Enter ∷ e)
+enter_law old new rows e u seen was_sorted sorted stands on = written_law old new rows e u Enter (λ (r : Row). record r { depth = r.depth + 1 }) seen was_sorted sorted stands (on_by rows e u stands on) refl
+    (ap (λ (d : ℕ). record (row_by (acts_of u e)) { depth = d }) (deeper (acts_of u e) (stands.allowed u)))
 
 less_deep : (acts : List Act) → depth acts - 1 ≡ depth (Leave ∷ acts)
 less_deep acts = omega arith
 
-pub leave_law : (old new rows : List (ℕ × Row)) (e : List Event) (u : ℕ) (r : Row) → old ≡ rows → IsStrictlySortedBy nat_cmp (keys_of old) → IsStrictlySortedBy nat_cmp (keys_of new)
-    → Stands rows e → r ≡ row_of rows u → 0 < (row_of rows u).depth → Written old new u (record r { depth = r.depth - 1 }) → Stands new (by u Leave ∷ e)
-leave_law old new rows e u r seen was_sorted sorted stands is inside =
-    written_law old new rows e u Leave _ seen was_sorted sorted stands (subst (λ (n : ℕ). 0 < n) (ap (λ (r : Row). r.depth) (stands.threads u)) inside) refl
-    (ap (λ (r : Row). record r { depth = r.depth - 1 }) (is ∙ stands.threads u)
-    ∙ ap (λ (d : ℕ). record (row_by (acts_of u e)) { depth = d }) (less_deep (acts_of u e)))
+pub leave_law : (old new rows : List (ℕ × Row)) (e : List Event) (u : ℕ) → old ≡ rows → IsStrictlySortedBy nat_cmp (keys_of old) → IsStrictlySortedBy nat_cmp (keys_of new)
+    → Stands rows e → 0 < (row_of rows u).depth → Written old new u (λ (r : Row). record r { depth = r.depth - 1 }) → Stands new (by u Leave ∷ e)
+leave_law old new rows e u seen was_sorted sorted stands inside = written_law old new rows e u Leave (λ (r : Row). record r { depth = r.depth - 1 }) seen was_sorted sorted stands (subst (λ (n : ℕ). 0 < n) (ap (λ (r : Row). r.depth) (stands.threads u)) inside) refl
+    (ap (λ (d : ℕ). record (row_by (acts_of u e)) { depth = d }) (less_deep (acts_of u e)))
 
 -- ---- attaching
 

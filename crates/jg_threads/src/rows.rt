@@ -1,7 +1,6 @@
 //! The rows of all threads, by thread.
 
 ghost use Rattle.std.specs.Prelude.{◌≡◌, ℕ, ◌==◌, if◌then◌else◌, None, Some, OnOk, OnErr};
-ghost use Rattle.std.specs.Option.{option_map};
 ghost use Rattle.std.specs.List.{list_any};
 ghost use Rattle.std.specs.Ordering.{nat_cmp};
 ghost use Rattle.std.specs.BTreeMap.{get, IsOrdered, values};
@@ -20,18 +19,6 @@ pub fn row_at<A: Allocator>(rows: &BTreeMap<u16, Row, A>, tid: u16) -> Row
     match rows.get(&tid) {
         Some(row) => *row,
         None => NO_ROW,
-    }
-}
-
-/// Writes the row of a thread that has one, and of no other. Takes no memory.
-pub fn write_row<A: Allocator>(rows: &mut BTreeMap<u16, Row, A>, tid: u16, row: Row)
-    ensures written { (t : ℕ) → get nat_cmp rows.new t
-        ≡ (if tid == t then option_map (λ r. row) (get nat_cmp rows.old t) else get nat_cmp rows.old t) }
-    ensures was_ordered { IsOrdered nat_cmp rows.old }
-    ensures ordered { IsOrdered nat_cmp rows.new }
-{
-    if let Some(kept) = rows.get_mut(&tid) {
-        *kept = row;
     }
 }
 

@@ -9,7 +9,7 @@ ghost use Rattle.jg_lists.specs.Marks.{Marks};
 ghost use Rattle.jg_threads.specs.Standing.{Stands};
 
 use crate::row::{NO_ROW, Row};
-use crate::rows::{is_pending_in, mark_pending_in, put_row, row_at, write_row};
+use crate::rows::{is_pending_in, mark_pending_in, put_row, row_at};
 use jg_words::{EnvId, ObjId, Tid};
 use std::alloc::{AllocError, Allocator, Global};
 use std::collections::BTreeMap;
@@ -81,17 +81,14 @@ impl<A: Allocator + Clone> Threads<A> {
           pending = None;
         } }
     {
-        let row = self.row(tid);
-        write_row(
-            &mut self.rows,
-            tid.0,
-            Row {
+        if let Some(row) = self.rows.get_mut(&tid.0) {
+            *row = Row {
                 attached: false,
                 depth: 0,
                 pending: None,
-                ..row
-            },
-        );
+                ..*row
+            };
+        }
     }
 
     /// The environment of the thread's session, if it has one (chapter 5, `GetEnv`).
@@ -155,9 +152,9 @@ impl<A: Allocator + Clone> Threads<A> {
         ensures row { row_of self.new tid.0
             ≡ record (row_of self.old tid.0) { depth = (row_of self.old tid.0).depth + 1 } }
     {
-        let mut row = self.row(tid);
-        row.depth += 1;
-        write_row(&mut self.rows, tid.0, row);
+        if let Some(row) = self.rows.get_mut(&tid.0) {
+            row.depth += 1;
+        }
     }
 
     /// Leaves the native method that the thread entered last. Asks that the thread is attached
@@ -169,9 +166,9 @@ impl<A: Allocator + Clone> Threads<A> {
         ensures row { row_of self.new tid.0
             ≡ record (row_of self.old tid.0) { depth = (row_of self.old tid.0).depth - 1 } }
     {
-        let mut row = self.row(tid);
-        row.depth -= 1;
-        write_row(&mut self.rows, tid.0, row);
+        if let Some(row) = self.rows.get_mut(&tid.0) {
+            row.depth -= 1;
+        }
     }
 
     /// How many native methods the thread has entered in its session and not left.
@@ -202,9 +199,9 @@ impl<A: Allocator + Clone> Threads<A> {
         ensures stands { (e : List Event) → Stands self.old e → Stands self.new (by tid.0 (Raise object.0) ∷ e) }
         ensures row { row_of self.new tid.0 ≡ record (row_of self.old tid.0) { pending = Some object.0 } }
     {
-        let mut row = self.row(tid);
-        row.pending = Some(object.0);
-        write_row(&mut self.rows, tid.0, row);
+        if let Some(row) = self.rows.get_mut(&tid.0) {
+            row.pending = Some(object.0);
+        }
     }
 
     /// No exception is pending in the thread any more (chapter 4, `ExceptionClear`). Takes no memory,
@@ -213,9 +210,9 @@ impl<A: Allocator + Clone> Threads<A> {
         ensures stands { (e : List Event) → Stands self.old e → Stands self.new (by tid.0 Calm ∷ e) }
         ensures row { row_of self.new tid.0 ≡ record (row_of self.old tid.0) { pending = None } }
     {
-        let mut row = self.row(tid);
-        row.pending = None;
-        write_row(&mut self.rows, tid.0, row);
+        if let Some(row) = self.rows.get_mut(&tid.0) {
+            row.pending = None;
+        }
     }
 
     /// Whether the object is some thread's pending exception.
@@ -252,9 +249,9 @@ impl<A: Allocator + Clone> Threads<A> {
         ensures row { row_of self.new tid.0
             ≡ record (row_of self.old tid.0) { refs = (row_of self.old tid.0).refs + 1 } }
     {
-        let mut row = self.row(tid);
-        row.refs += 1;
-        write_row(&mut self.rows, tid.0, row);
+        if let Some(row) = self.rows.get_mut(&tid.0) {
+            row.refs += 1;
+        }
     }
 
     /// The number of the next buffer that the thread is handed out, from 1 over all its sessions.
@@ -276,9 +273,9 @@ impl<A: Allocator + Clone> Threads<A> {
         ensures row { row_of self.new tid.0
             ≡ record (row_of self.old tid.0) { buffers = (row_of self.old tid.0).buffers + 1 } }
     {
-        let mut row = self.row(tid);
-        row.buffers += 1;
-        write_row(&mut self.rows, tid.0, row);
+        if let Some(row) = self.rows.get_mut(&tid.0) {
+            row.buffers += 1;
+        }
     }
 
     fn row(&self, tid: Tid) -> Row

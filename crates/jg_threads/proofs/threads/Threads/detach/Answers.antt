@@ -1,7 +1,8 @@
+use Rattle.std.proofs.Common.{rules}
 use Rattle.jg_threads.proofs.Steps.{detach_law}
 use Rattle.jg_threads.proofs.threads.Threads.detach.Goals as goal
 
 pub returns-clause-stands : goal.returns-clause-stands
 returns-clause-stands g c = λ e stands.
-    detach_law c.self.inside.rows.entries c.write_row.new.rows.entries c.args.self.now e c.args.tid.0 c.row-row.result c.self.view_is
-    c.write_row.ensures.was_ordered c.write_row.ensures.ordered stands c.row-row.ensures c.write_row.ensures.written
+    detach_law c.self.inside.rows.entries c.match-get_mut.self-inside.rows.entries c.args.self.now e c.args.tid.0 c.self.view_is c.get_mut.ensures.ordered (search rules) stands
+    (search rules)
