@@ -1,6 +1,6 @@
 //! What the program does, over any words, reader and writers.
 
-ghost use Rattle.std.specs.Prelude.{IfOk, ◌≡◌, ◌≤◌};
+ghost use Rattle.std.specs.Prelude.{IfOk, ◌≡◌, ◌≤◌, []};
 ghost use Rattle.jg_program.specs.declared.stop.Status.TheVariants.{Done};
 ghost use Rattle.jg_program.specs.Ended.{Ends, EndsClosed, EndsScript, EndsUnder, IsHandedOn};
 
@@ -17,6 +17,7 @@ use jg_policy::{Setup, SetupFault};
 use jg_script::{HandsOn, RunFault, Watched, check};
 use std::alloc::Global;
 use std::io::{BufRead, Read, Write};
+use std::mem::forget;
 use std::sync::Wait;
 use std::thread::Threads;
 
@@ -29,9 +30,39 @@ pub enum Job {
     Verify,
 }
 
-/// Answers the script that the reader holds, under this setup. What is still buffered is handed on
-/// before it ends, also where it ends by a fault; a failure of that counts as a failed write of the
-/// last line that the guard took.
+/// Answers the script that the reader holds, by a guard that has taken no call. What is still buffered
+/// is handed on before it ends, also where it ends by a fault; a failure of that counts as a failed
+/// write of the last line that the guard took.
+fn answer_by<R: BufRead, W: HandsOn>(
+    alloc: Global,
+    leaks: bool,
+    guard: &mut Guard,
+    reader: &mut Watched<R>,
+    out: &mut Watched<W>,
+) -> Result<Ending, Stop>
+    requires { guard.old.journal ≡ [] }
+    ensures ends { EndsScript leaks guard.old.setup (R.remaining reader.old.device) (R.remaining reader.new.device)
+        (W.contents out.old.device) (W.contents out.new.device) guard.old.limit result }
+    ensures handed_on { IsHandedOn (W.holds_nothing out.new.device) out.new.failed result }
+{
+    let checked = check(alloc, guard, reader, out);
+    let Ok(()) = out.flush() else {
+        let line = guard.journal_len().max(1) as u64;
+        return Err(Stop::Run(RunFault::Write { line }));
+    };
+    match checked {
+        Ok(_) => match leaks_of(alloc, leaks, guard) {
+            Ok(said) => Ok(Ending {
+                status: Status::Done,
+                said,
+            }),
+            Err(_) => Err(Stop::Leaks),
+        },
+        Err(fault) => Err(Stop::Run(fault)),
+    }
+}
+
+/// Answers the script that the reader holds, under this setup.
 fn answer_script<R: BufRead, W: HandsOn>(
     alloc: Global,
     leaks: bool,
@@ -47,21 +78,11 @@ fn answer_script<R: BufRead, W: HandsOn>(
     let Ok(mut guard) = Guard::new(alloc, alloc, setup, limit) else {
         return Err(Stop::Setup(SetupFault::NoMemory));
     };
-    let checked = check(alloc, &mut guard, reader, out);
-    let Ok(()) = out.flush() else {
-        let line = guard.journal_len().max(1) as u64;
-        return Err(Stop::Run(RunFault::Write { line }));
-    };
-    match checked {
-        Ok(_) => match leaks_of(alloc, leaks, &guard) {
-            Ok(said) => Ok(Ending {
-                status: Status::Done,
-                said,
-            }),
-            Err(_) => Err(Stop::Leaks),
-        },
-        Err(fault) => Err(Stop::Run(fault)),
-    }
+    let ended = answer_by(alloc, leaks, &mut guard, reader, out);
+    // Nothing but the ending's text comes after it: the system takes the journal back at once, and
+    // not entry by entry.
+    forget(guard);
+    ended
 }
 
 /// Does what is asked for with the bytes of the reader, under this setup.

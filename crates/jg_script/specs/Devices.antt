@@ -18,7 +18,7 @@ IsOneLine line = All (λ b. (b == 10) ≡ false) line
 -- a piece was added to a line and taken from the reader: all up to a line feed, which was taken
 -- too; some bytes of a line; or nothing
 abbrev pub TakesPiece : Option (List ℕ) → Option (List ℕ) → List ℕ → List ℕ → ℕ → Piece → Type 0
-TakesPiece old new before after room (piece.Feed another) =
+TakesPiece old new before after room (piece.Feed ahead) =
     (bytes : List ℕ) × (after ≡ before ++ bytes) × IsOneLine bytes × Consumes old new (bytes ++ 10 ∷ [])
     × (length bytes < room)
 TakesPiece old new before after room piece.More =

@@ -1,10 +1,10 @@
 //! A piece of a line, of what a buffered device shows.
 
-ghost use Rattle.std.specs.Prelude.{◌≡◌, ◌<◌, IfOk, OnErr};
+ghost use Rattle.std.specs.Prelude.{◌≡◌, ◌<◌, ◌≤◌, length, IfOk, OnErr};
 ghost use Rattle.std.specs.Io.KnownBytes.{Keeps};
 ghost use Rattle.jg_script.specs.Devices.{TakesPiece};
 
-use memchr::memchr;
+use memchr::{memchr, memrchr};
 use std::io::BufRead;
 
 /// Why a line can't be had.
@@ -14,20 +14,36 @@ pub enum LineFault {
     Read,
 }
 
-/// How a piece ended: at a line feed, after which the device shows another whole line or not, or
-/// within its line. `Nothing` is no piece, since the device shows nothing.
+/// How a piece ended: at a line feed, after which the device shows so many bytes `ahead` up to its last
+/// line feed, or within its line. `Nothing` is no piece, since the device shows nothing.
 #[derive(Clone, Copy, Debug, PartialEq, Eq)]
 pub enum Piece {
-    Feed { another: bool },
+    Feed { ahead: usize },
     More,
     Nothing,
 }
 
+/// What is left, behind so many bytes, of the bytes that lie before the last line feed, with it. That
+/// is looked for once for all lines that the device shows, from the end.
+fn ahead_of(shown: &[u8], taken: usize, ahead: usize) -> usize
+    requires { taken ≤ length shown.now }
+{
+    if taken < ahead {
+        return ahead - taken;
+    }
+    match memrchr(b'\n', &shown[taken..]) {
+        Some(last) => last + 1,
+        None => 0,
+    }
+}
+
 /// Takes all up to the next line feed that one look at the device shows, and at most `room` bytes.
-/// They go to the line's end, without the line feed. Where memory runs out nothing is taken.
+/// They go to the line's end, without the line feed. `ahead` is how many bytes it is known to show up to
+/// its last line feed, 0 where that isn't known. Where memory runs out nothing is taken.
 pub fn take_piece<B: BufRead>(
     device: &mut B,
     room: usize,
+    ahead: usize,
     line: &mut Vec<u8>,
 ) -> Result<Piece, LineFault>
     requires { 0 < room }
@@ -48,9 +64,9 @@ pub fn take_piece<B: BufRead>(
             if line.extend_from_slice(&shown[..i]).is_err() {
                 return Err(LineFault::NoMemory);
             }
-            let another = memchr(b'\n', &shown[i + 1..]).is_some();
+            let ahead = ahead_of(shown, i + 1, ahead);
             device.consume(i + 1);
-            Ok(Piece::Feed { another })
+            Ok(Piece::Feed { ahead })
         }
         None => {
             if line.extend_from_slice(&shown[..most]).is_err() {

@@ -15,9 +15,9 @@ use std::marker::Model;
 pub struct Watched<D> {
     device: D,
     failed: bool,
-    /// Whether a reader is known to show another whole line, so that the next one can be had without
-    /// waiting.
-    shows_line: bool,
+    /// How many bytes a reader is known to show up to a line feed, its last one: while there are any,
+    /// the next line can be had without waiting.
+    ahead: usize,
 }
 
 impl<D> Model for Watched<D> {
@@ -41,7 +41,7 @@ impl<D> Watched<D> {
         Watched {
             device,
             failed: false,
-            shows_line: false,
+            ahead: 0,
         }
     }
 
@@ -64,7 +64,7 @@ impl<D> Watched<D> {
 impl<R: BufRead> Watched<R> {
     /// Whether the next line can be had without waiting for the device, as far as is known.
     pub fn shows_line(&self) -> bool {
-        self.shows_line
+        self.ahead > 0
     }
 
     /// Takes a piece of a line: all up to the next line feed that one look at the device shows, and
@@ -79,11 +79,12 @@ impl<R: BufRead> Watched<R> {
         ensures sound { OnOk result (self.new.failed ≡ self.old.failed) }
         ensures fault { IfErr result (FailsLine self.old.failed self.new.failed) }
     {
-        self.shows_line = false;
-        match take_piece(&mut self.device, room, line) {
+        let ahead = self.ahead;
+        self.ahead = 0;
+        match take_piece(&mut self.device, room, ahead, line) {
             Ok(piece) => {
-                if let Piece::Feed { another } = piece {
-                    self.shows_line = another;
+                if let Piece::Feed { ahead } = piece {
+                    self.ahead = ahead;
                 }
                 Ok(piece)
             }
