@@ -8,7 +8,7 @@ use Rattle.jg_policy.specs.Stated.{StatedSetup}
 use Rattle.jg_rules.specs.Parts.{Parts, TableRows, TablesStand}
 use Rattle.jg_rules.specs.Effects.{parts, passed_on}
 use Rattle.jg_rules.specs.Rules.{verdict}
-use Rattle.jg_rules.specs.Answers.{makes_local, with_notice, is_noticed, noticed, unnoticed, answer}
+use Rattle.jg_rules.specs.Answers.{makes_local, with_notice, noticed, unnoticed, answer}
 use Rattle.jg_rules.specs.Legal.{entry_at, entry_by}
 use Rattle.jg_laws.proofs.Kept.{agreed, below, globals_below}
 use Rattle.jg_laws.proofs.Natives.{all_stated}
