@@ -5,7 +5,7 @@ use Rattle.std.specs.List.{range_with_len, list_any}
 use Rattle.std.proofs.lemmas.List.FromFn.{fill_by_all, length-range_with_len}
 use Rattle.std.proofs.lemmas.List.{length-replicate, get_or-replicate, length-map}
 use Rattle.std.proofs.lemmas.Option.{slice_get-get_or, get_or_from_slice_get}
-use Rattle.std.proofs.lemmas.Bool.{lt-ltb, and_right}
+use Rattle.std.proofs.lemmas.Bool.{lt-ltb}
 use Rattle.jg_heap.specs.declared.body.Object.{Object}
 use Rattle.jg_heap.specs.Making.{Plain}
 use Rattle.jg_heap.specs.Rows.{Row, Rows, row_in, no_row, count_in}
@@ -13,7 +13,7 @@ use Rattle.jg_heap.specs.Kept.{row_of, swept_row, ended_row, row_points_at, slot
 use Rattle.jg_heap.specs.Rows.{row_of_making}
 use Rattle.jg_heap.specs.History.{Event, Collected, count_of, gone_at, held_at, points_at, going}
 use Rattle.jg_heap.specs.Standing.{Stands, standing, row_at, slots_at, MarksRoots, MarksHeld}
-use Rattle.jg_heap.proofs.Lists.{any_filter, any_agree, filter_filter, keep_agree, kept_any, or_swapped, goes_alike, gone_alike, length-filter-le}
+use Rattle.jg_heap.proofs.Lists.{any_filter, any_agree, filter_filter, keep_agree, or_swapped, goes_alike, gone_alike, length-filter-le}
 use Rattle.jg_heap.proofs.Pointing.{points_slots}
 use Rattle.jg_heap.proofs.Sweeping.{goes_now}
 use Rattle.jg_heap.proofs.Steps.{standing_is}

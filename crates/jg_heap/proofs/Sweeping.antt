@@ -3,12 +3,12 @@ use Rattle.std.proofs.Common.{ℕ, ◌≡◌, ◌+◌, ◌<◌, ◌≢◌, ◌�
 use Rattle.std.specs.Prelude.{All, filter}
 use Rattle.std.specs.List.{list_any, range_with_len}
 use Rattle.std.proofs.Math.Seq.{get_or-append_seam}
-use Rattle.std.proofs.lemmas.List.{get_or_append_left, get_or-map, length-map, length-set, map-set, map-append}
+use Rattle.std.proofs.lemmas.List.{get_or_append_left, get_or-map, length-map, length-set, map-set, map-append, set-get_or}
 use Rattle.std.proofs.lemmas.List.Elements.{filter-append}
 use Rattle.std.proofs.lemmas.Bool.{cases_eq, eq-eqb, ne_eqb}
 use Rattle.jg_heap.specs.declared.body.Object.{Object}
 use Rattle.jg_heap.specs.Rows.{Row, row_in, no_row}
-use Rattle.jg_heap.specs.Kept.{row_of, ended_row, live_in}
+use Rattle.jg_heap.specs.Kept.{row_of, ended_row, live_in, may_point, Keeps}
 use Rattle.jg_heap.proofs.Lists.{keep_agree, range_more, kept_below, kept_any, any_filter, filter_filter, stays_alike, or_both}
 
 row_set : {A : Type 0} (cur : List (Object A)) (i : ℕ) (y : Object A) → i < length cur → row_in (map row_of (set cur i y)) i ≡ row_of y
@@ -116,3 +116,27 @@ pub live_made : {A : Type 0} (items more : List (Object A)) (kept after : List �
 live_made items more kept after x n keeps is fresh len made =
     made ∙ ap (λ (os : List ℕ). os ++ n ∷ []) keeps ∙ ap (λ m. live_in (map row_of items) ++ m ∷ []) (len ∙ sym (length-map items row_of))
     ∙ live_more (map row_of items) (row_of x) fresh ∙ ap live_in (sym (ap (map row_of) is ∙ map-append row_of items (x ∷ [])))
+
+-- ---- which may point at others
+
+-- a slot written, or an object gone
+pub pointing_set : {A : Type 0} (cur : List (Object A)) (p : ℕ) (d y : Object A) → p < length cur → may_point y ≡ may_point (get_or cur p d)
+    → map may_point (set cur p y) ≡ map may_point cur
+pointing_set cur p d y inside same =
+    map-set may_point cur p y ∙ ap (set (map may_point cur) p) (same ∙ sym (get_or-map may_point cur p d false inside)) ∙ set-get_or (map may_point cur) p false
+
+-- with a slot written
+pub keeps_wrote : {A : Type 0} (cur : List (Object A)) (live : List ℕ) (pointing : List Bool) (p : ℕ) (x y : Object A) → Keeps cur live pointing → p < length cur → x ≡ get_or cur p x
+    → (row_of y).gone ≡ (row_of x).gone → may_point y ≡ may_point x → Keeps (set cur p y) live pointing
+keeps_wrote cur live pointing p x y keeps inside is gone kind = record {
+  live = keeps.live ∙ sym (live_wrote cur p x y inside is gone);
+  pointing = keeps.pointing ∙ sym (pointing_set cur p x y inside (kind ∙ ap may_point is));
+}
+
+-- with an object made
+pub keeps_made : {A : Type 0} (items more : List (Object A)) (kept after : List ℕ) (pointing points : List Bool) (x : Object A) (n : ℕ) → Keeps items kept pointing → more ≡ items ++ x ∷ []
+    → (row_of x).gone ≡ false → n ≡ length items → after ≡ kept ++ n ∷ [] → points ≡ pointing ++ may_point x ∷ [] → Keeps more after points
+keeps_made items more kept after pointing points x n keeps is fresh len made point = record {
+  live = live_made items more kept after x n keeps.live is fresh len made;
+  pointing = point ∙ ap (λ (bs : List Bool). bs ++ may_point x ∷ []) keeps.pointing ∙ sym (ap (map may_point) is ∙ map-append may_point items (x ∷ []));
+}

@@ -1,5 +1,5 @@
 -- The rows of the objects that the store keeps, and what a call does to one row.
-use Rattle.std.specs.Prelude.{ℕ, Bool, not, ◌&&◌, ◌||◌, List, [], ◌+◌, ◌++◌, length, take, drop, map, filter, slice_set}
+use Rattle.std.specs.Prelude.{ℕ, ◌≡◌, Bool, true, false, not, ◌&&◌, ◌||◌, List, [], ◌+◌, ◌++◌, length, take, drop, map, filter, slice_set}
 use Rattle.std.specs.List.{list_any, range_with_len}
 use Rattle.jg_heap.specs.declared.object.Slot.{Slot}
 use Rattle.jg_heap.specs.declared.object.Slot.TheVariants.{Number, Object as ToObject}
@@ -31,6 +31,17 @@ slots_of_body (Fields instance) = instance.slots.items
 slots_of_body (Units text) = []
 slots_of_body (Numbers element items) = map Number items.items
 slots_of_body (References items) = map ToObject items.items
+
+-- its slots may hold objects
+abbrev pub body_may_point : {A : Type 0} → Body A → Bool
+body_may_point Class = false
+body_may_point (Fields instance) = true
+body_may_point (Units text) = false
+body_may_point (Numbers element items) = false
+body_may_point (References items) = true
+
+abbrev pub may_point : {A : Type 0} → Object A → Bool
+may_point x = body_may_point x.body
 
 -- the row of an object
 abbrev pub row_of : {A : Type 0} → Object A → Row
@@ -68,3 +79,8 @@ ended_row goes row = record row { gone = row.gone || goes }
 -- the numbers of the objects that aren't gone, ascending
 abbrev pub live_in : List Row → List ℕ
 live_in rows = filter (λ o. not (row_in rows o).gone) (range_with_len 0 (length rows))
+
+-- what the store keeps beside the objects: which aren't gone, and which may point at others
+pub record Keeps {A : Type 0} (objects : List (Object A)) (numbers : List ℕ) (tests : List Bool) : Type 0 where
+  pub live : numbers ≡ live_in (map row_of objects)
+  pub pointing : tests ≡ map may_point objects

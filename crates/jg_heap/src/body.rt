@@ -1,6 +1,6 @@
 ghost use Rattle.std.specs.Prelude.{◌≡◌, ℕ, ◌+◌, ◌<◌, ◌≤◌, ◌^◌, length, map, slice_get, slice_set, Some, IfOk, replicate, pos, false};
 ghost use Rattle.jg_heap.specs.Making.{making_of, array_class, CanMake, HasFields, IsArrayClass, IsPrimitiveArray, TakesItem};
-ghost use Rattle.jg_heap.specs.Kept.{class_of_body, units_of_body, slots_of_body, row_of, overwritten};
+ghost use Rattle.jg_heap.specs.Kept.{class_of_body, units_of_body, slots_of_body, body_may_point, row_of, overwritten};
 ghost use Rattle.jg_heap.specs.Rows.{row_of_making};
 ghost use Rattle.jg_heap.specs.declared.object.Slot.TheVariants.{Number, Object as ToObject};
 
@@ -143,6 +143,16 @@ impl<A: Allocator> Body<A> {
         }
     }
 
+    /// Whether its slots may hold objects: those of a string and of numbers don't.
+    pub(crate) fn may_point(&self) -> bool
+        ensures { result ≡ body_may_point self.now }
+    {
+        match self {
+            Body::Fields(_) | Body::References(_) => true,
+            Body::Class | Body::Units(_) | Body::Numbers { .. } => false,
+        }
+    }
+
     /// What a slot holds.
     pub(crate) fn slot(&self, index: usize) -> Slot
         requires { index < length (slots_of_body self.now) }
@@ -174,6 +184,7 @@ impl<A: Allocator> Body<A> {
         requires within { index < length (slots_of_body self.old) }
         ensures class { class_of_body self.new ≡ class_of_body self.old }
         ensures units { units_of_body self.new ≡ units_of_body self.old }
+        ensures kind { body_may_point self.new ≡ body_may_point self.old }
         ensures slots { slots_of_body self.new ≡ slice_set (slots_of_body self.old) index value }
     {
         match self {
@@ -191,6 +202,7 @@ impl<A: Allocator> Body<A> {
         requires within { start + length values.now ≤ length (slots_of_body self.old) }
         ensures class { class_of_body self.new ≡ class_of_body self.old }
         ensures units { units_of_body self.new ≡ units_of_body self.old }
+        ensures kind { body_may_point self.new ≡ body_may_point self.old }
         ensures slots { slots_of_body self.new
             ≡ overwritten (slots_of_body self.old) start (map Number values.now) }
     {
@@ -207,6 +219,7 @@ impl<A: Allocator> Body<A> {
         requires within { index < length (slots_of_body self.old) }
         ensures class { class_of_body self.new ≡ class_of_body self.old }
         ensures units { units_of_body self.new ≡ units_of_body self.old }
+        ensures kind { body_may_point self.new ≡ body_may_point self.old }
         ensures slots { slots_of_body self.new ≡ slice_set (slots_of_body self.old) index value }
     {
         match (self, value) {

@@ -2,7 +2,7 @@ ghost use Rattle.std.specs.Prelude.{◌≡◌, ℕ, ◌<◌, ◌≤◌, ◌^◌,
 ghost use Rattle.std.specs.List.{list_any};
 ghost use Rattle.jg_heap.specs.declared.object.Slot.TheVariants.{Object as ToObject};
 ghost use Rattle.jg_heap.specs.History.{holds};
-ghost use Rattle.jg_heap.specs.Kept.{slots_of_body, row_of, ended_row, slot_of_row_holds};
+ghost use Rattle.jg_heap.specs.Kept.{slots_of_body, row_of, ended_row, slot_of_row_holds, may_point};
 ghost use Rattle.jg_heap.specs.Rows.{row_in};
 ghost use Rattle.jg_lists.specs.Marks.{Marks};
 
@@ -76,13 +76,22 @@ fn mark_slots<A: Allocator>(marks: &mut [bool], body: &Body<A>)
     }
 }
 
-/// Marks each object that stands in a slot of one of those in being.
-pub(crate) fn mark_pointed<A: Allocator>(marks: &mut [bool], objects: &[Object<A>], live: &[u64])
-    requires { All (λ p. p < length objects.now) live.now }
+/// Marks each object that stands in a slot of one of those in being. Reads only the objects of
+/// which `pointing` says that their slots may hold some.
+pub(crate) fn mark_pointed<A: Allocator>(
+    marks: &mut [bool],
+    objects: &[Object<A>],
+    live: &[u64],
+    pointing: &[bool],
+)
+    requires made { All (λ p. p < length objects.now) live.now }
+    requires pointing { pointing.now ≡ map may_point objects.now }
     ensures { Marks (λ o. list_any (slot_of_row_holds (map row_of objects.now) o) live.now) marks.old marks.new }
 {
     for object in live {
-        mark_slots(marks, &objects[*object as usize].body);
+        if is_marked(pointing, *object) {
+            mark_slots(marks, &objects[*object as usize].body);
+        }
     }
 }
 
@@ -103,8 +112,9 @@ pub(crate) fn count_unmarked(marks: &[bool], live: &[u64]) -> u64
 /// Lets go of an object, unless it is marked.
 fn end<A: Allocator>(objects: &mut [Object<A>], object: u64, marked: bool)
     requires { object < length objects.old }
-    ensures { (o : ℕ) → row_in (map row_of objects.new) o
+    ensures rows { (o : ℕ) → row_in (map row_of objects.new) o
         ≡ ended_row (not marked && object == o) (row_in (map row_of objects.old) o) }
+    ensures pointing { map may_point objects.new ≡ map may_point objects.old }
 {
     if !marked {
         objects[object as usize].gone = true;
@@ -114,9 +124,10 @@ fn end<A: Allocator>(objects: &mut [Object<A>], object: u64, marked: bool)
 /// Lets go of those in being that aren't marked.
 pub(crate) fn let_go<A: Allocator>(objects: &mut [Object<A>], live: &[u64], marks: &[bool])
     requires { All (λ p. p < length objects.old) live.now }
-    ensures { (o : ℕ) → row_in (map row_of objects.new) o
+    ensures rows { (o : ℕ) → row_in (map row_of objects.new) o
         ≡ ended_row (list_any (λ p. not (slice_index_or marks.now p false) && p == o) live.now)
         (row_in (map row_of objects.old) o) }
+    ensures pointing { map may_point objects.new ≡ map may_point objects.old }
 {
     for object in live {
         end(objects, *object, is_marked(marks, *object));

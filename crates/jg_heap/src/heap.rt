@@ -23,18 +23,21 @@ pub struct Heap<A: Allocator = Global> {
     objects: Vec<Object<A>, A>,
     /// The numbers of the objects that aren't gone, ascending.
     live: Vec<u64, A>,
+    /// Of each object, whether its slots may hold objects. A collection reads this of what is in
+    /// being, and the object itself only where it says so.
+    pointing: Vec<bool, A>,
 }
 
 impl<A: Allocator> Model for Heap<A> {
     ghost use Rattle.std.specs.Prelude.{map, ◌≡◌};
     ghost use Rattle.jg_heap.specs.Rows.{Rows};
-    ghost use Rattle.jg_heap.specs.Kept.{row_of, live_in};
+    ghost use Rattle.jg_heap.specs.Kept.{row_of, Keeps};
 
     ghost Value = { Rows };
 
     ghost view = { λ h. record { classes = h.class_count; objects = map row_of h.objects.items } };
 
-    ghost invariant = { λ h. h.live.items ≡ live_in (map row_of h.objects.items) };
+    ghost invariant = { λ h. Keeps h.objects.items h.live.items h.pointing.items };
 }
 
 impl<A: Allocator + Clone> Heap<A> {
@@ -45,9 +48,11 @@ impl<A: Allocator + Clone> Heap<A> {
         ensures stands { IfOk result (λ heap. Stands heap []) }
     {
         let mut objects = Vec::new(alloc.clone()?);
-        let mut live = Vec::new(alloc);
+        let mut live = Vec::new(alloc.clone()?);
+        let mut pointing = Vec::new(alloc);
         for class in 0..class_count {
             live.push(class)?;
+            pointing.push(false)?;
             objects.push(Object {
                 body: Body::Class,
                 gone: false,
@@ -57,6 +62,7 @@ impl<A: Allocator + Clone> Heap<A> {
             class_count,
             objects,
             live,
+            pointing,
         })
     }
 
@@ -76,9 +82,12 @@ impl<A: Allocator + Clone> Heap<A> {
     {
         let number = self.objects.len();
         let object = object_of(self.objects.allocator(), shape)?;
+        let may_point = object.body.may_point();
         self.live.reserve(1)?;
+        self.pointing.reserve(1)?;
         self.objects.push(object)?;
         self.live.push_reserved(number as u64);
+        self.pointing.push_reserved(may_point);
         Ok(ObjId(number as u64))
     }
 }
@@ -240,7 +249,7 @@ impl<A: Allocator> Heap<A> {
         ensures fits { result < 2 ^ 63 }
     {
         mark_classes(marks, self.class_count);
-        mark_pointed(marks, &self.objects, &self.live);
+        mark_pointed(marks, &self.objects, &self.live, &self.pointing);
         count_unmarked(marks, &self.live)
     }
 

@@ -8,7 +8,6 @@ ghost use Rattle.jg_locals.specs.Seen.{Chain, is_before, is_live, last, passes, 
 ghost use Rattle.jg_locals.specs.declared.row.Frame.{Frame};
 
 use crate::row::{Frame, Slot};
-use jg_lists::mark;
 use jg_words::{Kind, Ref, Tid};
 use std::alloc::{AllocError, Allocator};
 
@@ -185,8 +184,10 @@ fn some_names(slots: &[Slot], object: u64) -> bool
 fn mark_if_live(slot: &Slot, marks: &mut [bool])
     ensures { Marks (λ o. slot.now.live && slot.now.object == o) marks.old marks.new }
 {
-    if slot.live {
-        mark(marks, slot.object);
+    // No way that depends on what is live, which a processor can't foresee.
+    let object = slot.object as usize;
+    if object < marks.len() {
+        marks[object] = marks[object] || slot.live;
     }
 }
 

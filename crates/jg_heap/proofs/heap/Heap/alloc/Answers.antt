@@ -1,5 +1,5 @@
-use Rattle.std.proofs.Common.{ap, ◌∙◌, ◌++◌, ◌∷◌, [], ℕ, List, sym, length}
-use Rattle.jg_heap.proofs.Sweeping.{live_made}
+use Rattle.std.proofs.Common.{ap, ◌∙◌, ◌++◌, ◌∷◌, [], ℕ, Bool, List, sym, length}
+use Rattle.jg_heap.proofs.Sweeping.{keeps_made}
 use Rattle.std.proofs.lemmas.List.{length-map}
 use Rattle.jg_heap.specs.Making.{making_of}
 use Rattle.jg_heap.specs.Rows.{Row, Rows}
@@ -20,5 +20,8 @@ returns-clause-stands g c e s =
 
 pub invariant_of-self-2 : goal.invariant_of-self-2
 invariant_of-self-2 g c =
-    live_made c.self.inside.objects.items _ c.self.inside.live.items _ c.in_ok-object.object _ c.self.invariant c.in_ok-push.ensures.items (ap (λ (r : Row). r.gone) c.in_ok-object.ensures)
-    (c.len-number.ensures ∙ c.self.inside.objects.ok.0) (c.push_reserved.ensures.items ∙ ap (λ (os : List ℕ). os ++ c.len-number.result ∷ []) c.in_ok-reserve.ensures.items)
+    keeps_made c.self.inside.objects.items _ c.self.inside.live.items _ c.self.inside.pointing.items _ c.in_ok-object.object _ c.self.invariant c.in_ok-push.ensures.items
+    (ap (λ (r : Row). r.gone) c.in_ok-object.ensures) (c.len-number.ensures ∙ c.self.inside.objects.ok.0)
+    (c.push_reserved.ensures.items ∙ ap (λ (os : List ℕ). os ++ c.len-number.result ∷ []) c.in_ok-reserve.ensures.items)
+    (c.push_reserved-2.ensures.items ∙ ap (λ (bs : List Bool). bs ++ c.may_point-may_point.result ∷ []) c.in_ok-reserve-2.ensures.items
+    ∙ ap (λ b. c.self.inside.pointing.items ++ b ∷ []) c.may_point-may_point.ensures)

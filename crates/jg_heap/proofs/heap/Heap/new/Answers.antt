@@ -1,7 +1,7 @@
 use Rattle.std.proofs.Common.{arith, ap, refl, ◌∙◌, [], ◌∷◌, ◌++◌, replicate, ◌≡◌, length, map, List}
 use Rattle.std.proofs.lemmas.List.{length-map, length-replicate, map-append, replicate_more}
 use Rattle.jg_heap.specs.Kept.{row_of}
-use Rattle.jg_heap.proofs.Sweeping.{live_made}
+use Rattle.jg_heap.proofs.Sweeping.{keeps_made}
 use Rattle.jg_heap.specs.Making.{Plain}
 use Rattle.jg_heap.specs.Rows.{Row, row_of_making}
 use Rattle.jg_heap.proofs.Collecting.{standing_new}
@@ -23,8 +23,8 @@ loop-class-preserved g c =
     let m : length (map row_of c.loop-class.objects.items) ≡ length (replicate c.loop-class.class (row_of_making (Plain 1 []))) = ap (λ (rs : List Row). length rs) c.loop-class.invariant.rows in
     let i : length (map row_of c.loop-class.objects.items) ≡ length c.loop-class.objects.items = length-map c.loop-class.objects.items row_of in
     record {
-      rows = ap (map row_of) c.in_ok-push-2.ensures.items ∙ map-append row_of c.loop-class.objects.items (_ ∷ [])
+      rows = ap (map row_of) c.in_ok-push-3.ensures.items ∙ map-append row_of c.loop-class.objects.items (_ ∷ [])
           ∙ ap (λ (rs : List Row). rs ++ row_of_making (Plain 1 []) ∷ []) c.loop-class.invariant.rows ∙ replicate_more c.loop-class.class (row_of_making (Plain 1 []));
-      live = live_made c.loop-class.objects.items _ c.loop-class.live.items _ _ c.loop-class.class c.loop-class.invariant.live c.in_ok-push-2.ensures.items refl (omega arith)
-          c.in_ok-push.ensures.items;
+      keeps = keeps_made c.loop-class.objects.items _ c.loop-class.live.items _ c.loop-class.pointing.items _ _ c.loop-class.class c.loop-class.invariant.keeps c.in_ok-push-3.ensures.items refl
+          (omega arith) c.in_ok-push.ensures.items c.in_ok-push-2.ensures.items;
     }

@@ -1,5 +1,5 @@
-use Rattle.std.proofs.Common.{ap, arith, refl, sym, ◌∙◌}
-use Rattle.jg_heap.proofs.Sweeping.{live_wrote}
+use Rattle.std.proofs.Common.{ap, arith, refl}
+use Rattle.jg_heap.proofs.Sweeping.{keeps_wrote}
 use Rattle.jg_heap.specs.Rows.{Rows}
 use Rattle.jg_heap.proofs.Told.{kept, made_inside, slots_within}
 use Rattle.jg_heap.proofs.Calls.{row_written, rows_wrote, shapes_wrote}
@@ -23,6 +23,5 @@ returns-clause-shapes g c =
 
 pub invariant_of-self : goal.invariant_of-self
 invariant_of-self g c =
-    c.self.invariant
-    ∙ sym (live_wrote c.self.inside.objects.items c.args.object.0 c.index_mut.result.now _
-    (made_inside c.self.inside.objects.items c.args.self.now c.args.object.0 (ap (λ (r : Rows). r.objects) c.self.view_is) c.requires.made) c.index_mut.ensures.value refl)
+    keeps_wrote c.self.inside.objects.items _ _ c.args.object.0 c.index_mut.result.now _ c.self.invariant
+    (made_inside c.self.inside.objects.items c.args.self.now c.args.object.0 (ap (λ (r : Rows). r.objects) c.self.view_is) c.requires.made) c.index_mut.ensures.value refl c.set_field.ensures.kind

@@ -1,7 +1,7 @@
-use Rattle.std.proofs.Common.{ap, arith, refl, sym, ◌∙◌, ◌≡◌, length, map}
+use Rattle.std.proofs.Common.{ap, arith, refl, ◌≡◌, length, map}
 use Rattle.std.proofs.lemmas.List.{length-map}
 use Rattle.jg_heap.specs.declared.object.Slot.TheVariants.{Number}
-use Rattle.jg_heap.proofs.Sweeping.{live_wrote}
+use Rattle.jg_heap.proofs.Sweeping.{keeps_wrote}
 use Rattle.jg_heap.specs.Rows.{Rows, length_at, row_in}
 use Rattle.jg_heap.proofs.Told.{kept, made_inside, length_of_slots}
 use Rattle.jg_heap.proofs.Calls.{row_region, rows_region, shapes_region}
@@ -30,6 +30,5 @@ returns-clause-shapes g c =
 
 pub invariant_of-self : goal.invariant_of-self
 invariant_of-self g c =
-    c.self.invariant
-    ∙ sym (live_wrote c.self.inside.objects.items c.args.object.0 c.index_mut.result.now _
-    (made_inside c.self.inside.objects.items c.args.self.now c.args.object.0 (ap (λ (r : Rows). r.objects) c.self.view_is) c.requires.made) c.index_mut.ensures.value refl)
+    keeps_wrote c.self.inside.objects.items _ _ c.args.object.0 c.index_mut.result.now _ c.self.invariant
+    (made_inside c.self.inside.objects.items c.args.self.now c.args.object.0 (ap (λ (r : Rows). r.objects) c.self.view_is) c.requires.made) c.index_mut.ensures.value refl c.set_region.ensures.kind
