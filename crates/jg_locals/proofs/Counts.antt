@@ -1,13 +1,13 @@
 -- Each frame's count is that of the live locals made in it, whatever is done.
-use Rattle.std.proofs.Common.{◌≡◌, ℕ, suc, ◌+◌, ◌-◌, ◌^◌, ◌<◌, ◌≤◌, length, Bool, true, false, List, [], ◌∷◌, ◌++◌, Option, Some, None, refl, ◌∙◌, ap, sym, subst, arith}
+use Rattle.std.proofs.Common.{◌≡◌, ℕ, suc, ◌+◌, ◌≤◌, length, Bool, true, false, List, [], ◌∷◌, ◌++◌, Some, refl, ◌∙◌, ap, sym, arith}
 use Rattle.std.specs.Prelude.{◌==◌, ◌&&◌, not, if◌then◌else◌, filter, map}
-use Rattle.std.specs.List.{AllByRecursion, list_any}
+use Rattle.std.specs.List.{AllByRecursion}
 use Rattle.std.proofs.lemmas.Bool.Decides.{nat_tests}
 use Rattle.jg_lists.specs.Acts.{how_many}
 use Rattle.jg_locals.specs.declared.row.Slot.{Slot}
 use Rattle.jg_locals.specs.declared.row.Frame.{Frame}
 use Rattle.jg_locals.specs.declared.row.Opened.{Opened}
-use Rattle.jg_locals.specs.Seen.{is_in, is_live, is_below, is_under, last, frame_of, is_frame, at_frame, one_more, one_less, with_room, slot_made, held_in, stays, Counted, Sound, IsNext}
+use Rattle.jg_locals.specs.Seen.{is_in, is_live, is_below, is_under, is_frame, at_frame, one_more, one_less, with_room, stays, Counted}
 use Rattle.jg_locals.proofs.Chains.{each-map, filter-twice}
 use Rattle.jg_locals.proofs.Holding.{count-parts}
 

@@ -1,6 +1,6 @@
 -- What a thread's stack keeps, with its counts, whatever is done to it.
 use Rattle.std.proofs.Common.{◌≡◌, ℕ, ◌+◌, ◌^◌, ◌<◌, ◌≤◌, length, Bool, true, false, List, [], ◌∷◌, ◌++◌, Option, Some, None, refl, ◌∙◌, ap, sym, subst, arith}
-use Rattle.std.specs.Prelude.{◌==◌, ◌&&◌, ◌||◌, not, if◌then◌else◌, filter, find, map, All}
+use Rattle.std.specs.Prelude.{◌==◌, not, if◌then◌else◌, filter, find, map, All}
 use Rattle.std.specs.Option.{option_map, option_to_list}
 use Rattle.std.specs.List.{AllByRecursion, list_any}
 use Rattle.std.proofs.lemmas.Bool.Decides.{nat_tests}
@@ -9,8 +9,8 @@ use Rattle.jg_lists.specs.Acts.{how_many}
 use Rattle.jg_locals.specs.declared.row.Slot.{Slot}
 use Rattle.jg_locals.specs.declared.row.Frame.{Frame}
 use Rattle.jg_locals.specs.declared.row.Opened.{Opened}
-use Rattle.jg_locals.specs.Seen.{last, Chain, is_in, is_live, is_below, is_under, is_opened_under, stays, passes, frame_of, is_frame, at_frame, one_more, one_less, with_room, room_set, counted_less, slot_made, held_in, Sound, Kept, Counted, Stacked, IsNext}
-use Rattle.jg_locals.proofs.Chains.{each-map, each-filter, last-map, last-nil, last-split, each-end}
+use Rattle.jg_locals.specs.Seen.{last, Chain, is_in, is_live, is_below, is_under, is_opened_under, stays, passes, frame_of, at_frame, one_more, one_less, with_room, room_set, counted_less, slot_made, held_in, Sound, Kept, Counted, Stacked, IsNext}
+use Rattle.jg_locals.proofs.Chains.{each-map, each-filter, last-map, last-split, each-end}
 use Rattle.jg_locals.proofs.Numbers.{one_live}
 use Rattle.jg_locals.proofs.Opened.{chain_opened, filter_frames, recounted, room_changed, kept_set}
 use Rattle.jg_locals.proofs.Counts.{counted_made, counted_ended, counted_closed, stays_live, counted_opened, counted_set, counted_most}

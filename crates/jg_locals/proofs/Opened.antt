@@ -1,18 +1,18 @@
 -- One thread's list of open frames, each with its count: what is found in it, changed in it and cut from it.
-use Rattle.std.proofs.Common.{◌≡◌, ℕ, zero, suc, ◌+◌, ◌<◌, ◌≤◌, length, get_or, Bool, true, false, List, [], ◌∷◌, ◌++◌, Option, Some, None, refl, ◌∙◌, ap, sym, subst, arith, inl, inr}
-use Rattle.std.specs.Prelude.{◌⊎◌, ◌==◌, ◌&&◌, not, if◌then◌else◌, filter, map, slice_set}
+use Rattle.std.proofs.Common.{◌≡◌, ℕ, zero, suc, ◌<◌, ◌≤◌, length, get_or, Bool, true, false, List, [], ◌∷◌, ◌++◌, Option, Some, None, refl, ◌∙◌, ap, sym, subst, arith, inl, inr}
+use Rattle.std.specs.Prelude.{◌⊎◌, not, if◌then◌else◌, filter, map, slice_set}
 use Rattle.std.specs.Option.{option_map, option_to_list}
-use Rattle.std.specs.Ordering.{ordering_index, ordering_then, nat_cmp}
+use Rattle.std.specs.Ordering.{ordering_index}
 use Rattle.std.specs.declared.cmp.Ordering.TheVariants.{Less, Equal, Greater}
 use Rattle.std.specs.List.{AllByRecursion, list_any}
 use Rattle.std.specs.List.Sorted.{IsNonDecreasingBy, IsPartitionPoint}
 use Rattle.std.proofs.lemmas.Bool.Decides.{nat_tests}
-use Rattle.std.proofs.lemmas.List.{append-nil, map-append}
+use Rattle.std.proofs.lemmas.List.{append-nil}
 use Rattle.std.proofs.lemmas.List.Elements.{filter-append}
 use Rattle.jg_locals.specs.declared.row.Slot.{Slot}
 use Rattle.jg_locals.specs.declared.row.Frame.{Frame}
 use Rattle.jg_locals.specs.declared.row.Opened.{Opened}
-use Rattle.jg_locals.specs.Seen.{last, Chain, is_in, is_under, is_from, frame_of, is_frame, is_opened_under, frame_cmp, at_frame, one_more, one_less, with_room, room_set, Sound, Kept}
+use Rattle.jg_locals.specs.Seen.{last, Chain, is_in, is_under, is_from, frame_of, is_frame, is_opened_under, frame_cmp, at_frame, with_room, room_set, Kept}
 use Rattle.jg_locals.proofs.Chains.{each-map, chain-front, chain-last, last-push, last-nil, filter-all, last-map}
 use Rattle.jg_locals.proofs.Numbers.{each-at, each-from, chain-at, less_or_same, low_or_high}
 

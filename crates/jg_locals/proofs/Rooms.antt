@@ -7,7 +7,7 @@ use Rattle.jg_lists.specs.Acts.{moments}
 use Rattle.jg_lists.proofs.Lists.{none_either}
 use Rattle.jg_locals.specs.Laws.{opens_at, RoomMeans}
 use Rattle.std.proofs.lemmas.Bool.Decides.{nat_tests}
-use Rattle.jg_locals.specs.History.{Act, Start, Make, Push, Ensure, Enter, Delete, Pop, Leave, End, depth, frames}
+use Rattle.jg_locals.specs.History.{Act, Push, Ensure, Enter, depth, frames}
 use Rattle.jg_locals.specs.Room.{promised, held, only_if, greater, if_opened, opened_with, frame_room}
 
 pub greater_none : (a : ℕ) → greater a 0 ≡ a

@@ -1,7 +1,7 @@
 -- One thread's part of the rows, and what changes of one stack do to the rows.
 use Rattle.std.proofs.Common.{◌≡◌, ◌≢◌, ℕ, ◌+◌, ◌<◌, Bool, true, false, List, [], ◌∷◌, ◌++◌, Option, Some, None, refl, ◌∙◌, ap, sym, subst, arith, eqb-true}
 use Rattle.std.specs.Prelude.{◌==◌, ◌&&◌, ◌||◌, not, if◌then◌else◌, filter, find, map, All, IsNone, IsSome, IsTrue, ◌↔◌, ◌≤◌, OnOk, IsOk, Result, nat_lt}
-use Rattle.std.specs.Option.{option_map, option_or, is_some}
+use Rattle.std.specs.Option.{option_map, is_some}
 use Rattle.std.specs.declared.result.Result.TheVariants.{Ok, Err}
 use Rattle.std.specs.List.{AllByRecursion, list_any}
 use Rattle.std.specs.Map.{lookup, keys_of, values_of}
@@ -9,6 +9,7 @@ use Rattle.std.specs.BTreeMap.{BTreeMap, IsOrdered, is_at}
 use Rattle.std.specs.Ordering.{nat_cmp}
 use Rattle.std.specs.Cmp.{nat_cmp_total, eq_by_cmp_equiv}
 use Rattle.std.specs.List.Sorted.{IsStrictlySortedBy}
+use Rattle.std.proofs.lemmas.Bool.{false≢true}
 use Rattle.std.proofs.lemmas.Bool.Decides.{nat_tests}
 use Rattle.std.proofs.lemmas.List.{append-nil}
 use Rattle.std.proofs.lemmas.List.Elements.{filter-append, All-from_recursion, recursion_from_All}
@@ -23,7 +24,7 @@ use Rattle.jg_lists.specs.Acts.{how_many}
 use Rattle.jg_locals.specs.Room.{promised, greater, crowded}
 use Rattle.jg_locals.specs.Rows.{Rows, Table, Room, LocalRow, FrameRow, is_local, is_of_frame, is_crowded, top, room_of, room_or_none, spare, spare_starts, pushed, entered, frame_number, depth_number}
 use Rattle.jg_locals.specs.Standing.{Stands}
-use Rattle.jg_locals.specs.Seen.{last, StackRows, slots_in, frames_in, stack_at, local_row, frame_row, gather, locals_of, frames_of, rows_seen, rooms_seen, room_seen, room_in, Changes, slot_made, room_set, held_in, is_full, is_frame, is_in, IsNext, is_under}
+use Rattle.jg_locals.specs.Seen.{last, StackRows, slots_in, frames_in, stack_at, local_row, frame_row, gather, locals_of, frames_of, rows_seen, rooms_seen, room_seen, room_in, Changes, slot_made, room_set, held_in, is_full, is_frame, IsNext, is_under}
 use Rattle.jg_locals.proofs.Chains.{each-map, each-filter, filter-all, filter-none, filter-twice, filter-alike, last-map}
 use Rattle.jg_lists.proofs.Acts.{each_thread}
 use Rattle.jg_lists.proofs.Lists.{filter_swap}
@@ -479,9 +480,6 @@ crowded_by m t None ordered is = refl
 crowded_by m t (Some f) ordered is = ap (λ n. nat_lt f.room n) (held_seen m t f ordered)
 
 -- the newest frame is the one that was looked up
-pub full_of : (fs : List Frame) (slots : List Slot) (f : Option Frame) → last fs ≡ f → is_full f (held_in (last fs) slots) ≡ is_full (last fs) (held_in (last fs) slots)
-full_of fs slots f is = ap (λ x. is_full x (held_in (last fs) slots)) (sym is)
-
 -- whether the newest frame holds more than its room
 pub crowded_seen : (m : BTreeMap ℕ StackRows) (a : Table) (e : List Event) (t : ℕ) → IsOrdered nat_cmp m → table_seen m ≡ a → Stands a.rows e
     → is_full (last (frames_at m t)) (held_in (last (frames_at m t)) (slots_at m t)) ≡ crowded (acts_of t e)
@@ -617,3 +615,8 @@ by_above x y is h = grind (arith, nat_tests, is, h)
 
 pub above_none : (x y : ℕ) → x ≡ y → IsTrue (nat_lt 0 x) ↔ (0 < y)
 above_none x y is = ((λ h. above_by x y is h), (λ h. by_above x y is h))
+
+-- the newest frame, where there is one
+pub newest_there : (o : Option Frame) → IsSome o → (f : Frame) × (o ≡ Some f)
+newest_there (Some f) some = (f, refl)
+newest_there None some = absurd (false≢true some)

@@ -1,5 +1,5 @@
 -- The definitions at worked lists of acts, the newest first: each fact holds by computing.
-use Rattle.std.proofs.Common.{◌≡◌, Bool, true, false, List, [], ◌∷◌, Some, None, refl}
+use Rattle.std.proofs.Common.{◌≡◌, true, false, List, [], ◌∷◌, Some, None, refl}
 use Rattle.jg_locals.specs.History.{Act, Start, Make, Push, Ensure, Enter, Delete, Pop, Leave, End, depth, frames, live}
 use Rattle.jg_locals.specs.Room.{held, held_here, room_here, crowded}
 

@@ -10,8 +10,9 @@ ghost use Rattle.jg_locals.specs.Seen.{frame_row};
 use crate::row::Frame;
 use crate::stack::Stack;
 use crate::stacks::{
-    add_stack, delete_at, drop_at, held_at, is_above_at, leave_at, list_in, make_at, mark_named_in,
-    names_object_in, object_at, open_at, pop_at, reserve_at, reserve_frame_at, set_room_at, top_at,
+    add_stack, crowded_at, delete_at, drop_at, held_at, is_above_at, leave_at, list_in, make_at,
+    mark_named_in, names_object_in, object_at, open_at, pop_at, reserve_at, reserve_frame_at,
+    set_room_at, top_at,
 };
 use jg_words::{ObjId, Ref, Tid};
 use std::alloc::{AllocError, Allocator, Global};
@@ -89,8 +90,7 @@ impl<A: Allocator + Clone> Locals<A> {
         ensures room { 0 < spare self.old tid.0 → IsOk result }
         ensures lowered { spare self.old tid.0 ≤ spare self.new tid.0 + 1 }
     {
-        let top = top_at(&self.stacks, tid.0).unwrap();
-        make_at(&mut self.stacks, tid.0, top, n, object.0)
+        make_at(&mut self.stacks, tid.0, n, object.0)
     }
 
     /// Makes room for one more local of the thread, so that the next `make` can't fail. Fails only
@@ -247,10 +247,7 @@ impl<A: Allocator + Clone> Locals<A> {
         ensures own_thread { (e f : List Event) → Stands self.now.rows e → acts_of tid.0 e ≡ acts_of tid.0 f
             → result ≡ crowded (acts_of tid.0 f) }
     {
-        match top_at(&self.stacks, tid.0) {
-            None => false,
-            Some(top) => top.room < held_at(&self.stacks, tid.0),
-        }
+        crowded_at(&self.stacks, tid.0)
     }
 
     /// How many frames were pushed at the thread's present depth and aren't popped: 0 where the

@@ -1,8 +1,8 @@
-ghost use Rattle.std.specs.Prelude.{◌≡◌, ◌≤◌, ◌<◌, ◌+◌, ◌^◌, ◌&&◌, ◌==◌, ◌||◌, ◌++◌, ◌∷◌, ◌↔◌, ℕ, [], All, OnOk, OnErr, IsOk, IsTrue, Some, false, not, filter, find, map, length, slice_index_or};
+ghost use Rattle.std.specs.Prelude.{◌≡◌, ◌≤◌, ◌<◌, ◌+◌, ◌^◌, ◌&&◌, ◌==◌, ◌||◌, ◌++◌, ◌∷◌, ◌↔◌, ℕ, [], All, OnOk, OnErr, IsOk, IsSome, IsTrue, Some, false, not, filter, find, map, length, slice_index_or};
 ghost use Rattle.std.specs.Option.{option_map};
 ghost use Rattle.std.specs.List.{list_any};
 ghost use Rattle.jg_lists.specs.Marks.{Marks};
-ghost use Rattle.jg_locals.specs.Seen.{last, slot_made, slot_ref, room_set, held_in, IsNext};
+ghost use Rattle.jg_locals.specs.Seen.{last, slot_made, slot_ref, room_set, held_in, is_full, IsNext};
 
 use crate::frames::{close_from, count_gone, count_more, newest, newest_frame, set_room};
 use crate::row::{Frame, Opened, Slot};
@@ -73,16 +73,18 @@ impl<A: Allocator> Stack<A> {
         Ok(())
     }
 
-    /// Makes local `n` in the newest frame.
-    pub fn make(&mut self, top: Frame, n: u64, object: u64) -> Result<(), AllocError>
-        requires top { last self.old.frames ≡ Some top }
+    /// Makes local `n` in the newest frame, which is there.
+    pub fn make(&mut self, n: u64, object: u64) -> Result<(), AllocError>
+        requires started { IsSome (last self.old.frames) }
         requires above { All (λ s. s.n < n) self.old.locals }
-        ensures ok { OnOk result (self.new.locals ≡ self.old.locals ++ slot_made n object top ∷ []) }
+        ensures ok { OnOk result ((top : Frame) → last self.old.frames ≡ Some top
+            → self.new.locals ≡ self.old.locals ++ slot_made n object top ∷ []) }
         ensures err { OnErr result (self.new.locals ≡ self.old.locals) }
         ensures frames { self.new.frames ≡ self.old.frames }
         ensures room { 0 < self.old.room.locals → IsOk result }
         ensures lowered { self.old.room.locals ≤ self.new.room.locals + 1 }
     {
+        let top = self.top().unwrap();
         self.slots.push(Slot {
             n,
             object,
@@ -179,6 +181,16 @@ impl<A: Allocator> Stack<A> {
         match newest(&self.frames) {
             None => 0,
             Some(opened) => opened.held,
+        }
+    }
+
+    /// Whether the newest frame holds more live locals than it has room for.
+    pub fn crowded(&self) -> bool
+        ensures { result ≡ is_full (last self.now.frames) (held_in (last self.now.frames) self.now.locals) }
+    {
+        match self.top() {
+            None => false,
+            Some(top) => top.room < self.held(),
         }
     }
 

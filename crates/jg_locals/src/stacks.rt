@@ -7,7 +7,7 @@ ghost use Rattle.std.specs.Ordering.{nat_cmp};
 ghost use Rattle.std.specs.List.{list_any};
 ghost use Rattle.jg_lists.specs.Marks.{Marks};
 ghost use Rattle.jg_locals.specs.Rows.{local_ref};
-ghost use Rattle.jg_locals.specs.Seen.{last, slot_made, room_set, held_in, IsNext, stack_at, slots_in, frames_in, room_seen, rows_seen, Changes};
+ghost use Rattle.jg_locals.specs.Seen.{last, slot_made, room_set, held_in, is_full, IsNext, stack_at, slots_in, frames_in, room_seen, rows_seen, Changes};
 
 use crate::row::Frame;
 use crate::stack::Stack;
@@ -37,6 +37,17 @@ pub fn held_at<A: Allocator>(stacks: &BTreeMap<u16, Stack<A>, A>, tid: u16) -> u
     }
 }
 
+/// Whether the thread's newest frame holds more live locals than it has room for.
+pub fn crowded_at<A: Allocator>(stacks: &BTreeMap<u16, Stack<A>, A>, tid: u16) -> bool
+    ensures { result ≡ is_full (last (frames_in (stack_at tid stacks.now.entries)))
+        (held_in (last (frames_in (stack_at tid stacks.now.entries))) (slots_in (stack_at tid stacks.now.entries))) }
+{
+    match stacks.get(&tid) {
+        None => false,
+        Some(stack) => stack.crowded(),
+    }
+}
+
 /// The object of the thread's live local `n`.
 pub fn object_at<A: Allocator>(stacks: &BTreeMap<u16, Stack<A>, A>, tid: u16, n: u64) -> Option<u64>
     ensures { result ≡ option_map (λ s. s.object) (find (λ s. s.n == n) (slots_in (stack_at tid stacks.now.entries))) }
@@ -61,13 +72,13 @@ pub fn is_above_at<A: Allocator>(stacks: &BTreeMap<u16, Stack<A>, A>, tid: u16, 
 pub fn make_at<A: Allocator>(
     stacks: &mut BTreeMap<u16, Stack<A>, A>,
     tid: u16,
-    top: Frame,
     n: u64,
     object: u64,
 ) -> Result<(), AllocError>
-    requires top { last (frames_in (stack_at tid stacks.old.entries)) ≡ Some top }
+    requires started { IsSome (last (frames_in (stack_at tid stacks.old.entries))) }
     requires above { All (λ s. s.n < n) (slots_in (stack_at tid stacks.old.entries)) }
-    ensures ok { OnOk result (Changes tid stacks.old stacks.new (slots_in (stack_at tid stacks.old.entries)
+    ensures ok { OnOk result ((top : Frame) → last (frames_in (stack_at tid stacks.old.entries)) ≡ Some top
+        → Changes tid stacks.old stacks.new (slots_in (stack_at tid stacks.old.entries)
         ++ slot_made n object top ∷ []) (frames_in (stack_at tid stacks.old.entries))) }
     ensures err { OnErr result (rows_seen stacks.new.entries ≡ rows_seen stacks.old.entries) }
     ensures room { 0 < (room_seen stacks.old.entries tid).locals → IsOk result }
@@ -76,7 +87,7 @@ pub fn make_at<A: Allocator>(
 {
     match stacks.get_mut(&tid) {
         None => Ok(()),
-        Some(stack) => stack.make(top, n, object),
+        Some(stack) => stack.make(n, object),
     }
 }
 

@@ -205,10 +205,10 @@ seen_words : (us : List Word) → AllByRecursion FitsWord us → AllByRecursion 
 seen_words [] h = tt
 seen_words (u ∷ us) h = (seen_word u h.0, seen_words us h.1)
 
-seen_tid : (t : Tid) → FitsTid t → IsVisible (tid_text t)
+pub seen_tid : (t : Tid) → FitsTid t → IsVisible (tid_text t)
 seen_tid t h = seen_cons 84 (decimal t.0) (omega arith) (seen_number t.0 (omega (arith, h)))
 
-seen_env : (e : Option EnvId) → FitsEnv e → IsVisible (env_text e)
+pub seen_env : (e : Option EnvId) → FitsEnv e → IsVisible (env_text e)
 seen_env None h = seen_cons 45 [] (omega arith) (All-nil (λ b. IsInRange 33 126 b))
 seen_env (Some e) h = seen_cons 69 (dotted_text e.tid.0 e.session) (omega arith) (seen_dotted e.tid.0 e.session (omega (arith, h.0)) h.1)
 

@@ -1,5 +1,5 @@
 -- A function is found by its name alone.
-use Rattle.std.proofs.Common.{◌≡◌, ◌≢◌, ℕ, List, [], ◌∷◌, Bool, true, false, Some, None, refl, sym, ◌∙◌, ap, subst, length, Contains, Bor, ◌<◌, arith}
+use Rattle.std.proofs.Common.{◌≡◌, ◌≢◌, ℕ, List, [], ◌∷◌, Bool, true, false, Some, None, refl, sym, ◌∙◌, ap, subst, Contains, Bor, ◌<◌, arith}
 use Rattle.std.specs.Prelude.{find, cond, nat_eq, nat_lt, ◌&&◌, slice_index_or}
 use Rattle.std.specs.List.{list_all, list_any}
 use Rattle.std.proofs.lemmas.Bool.Decides.{nat_tests}
@@ -8,7 +8,7 @@ use Rattle.std.specs.Cmp.Lexicographic.{pointwise, same_text}
 use Rattle.jg_words.specs.declared.fun.Fun.{Fun}
 use Rattle.jg_words.specs.Fun.{name_of, named, all}
 use Rattle.jg_words.proofs.Names.{named-name_of}
-use Rattle.jg_text.specs.Pieces.{IsByLength}
+use Rattle.jg_text.specs.Pieces.{IsByKey, name_key}
 
 find_passes : (p : Fun → Bool) (xs : List Fun) (f : Fun) → find p xs ≡ Some f → p f ≡ true
 find_passes p [] f e = absurd (cc)
@@ -56,12 +56,9 @@ stands_in row f e =
     let same : g ≡ f = names_injective g f (same_text (name_of g) (name_of f) (sym passes)) in
     subst (λ (h : Fun). Contains row h) same (k, within, here)
 
--- a table that passes the test for each function is one by length
-pub by_length : (rows : List (Bor (List Fun))) → list_all (λ f. nat_lt (length (name_of f)) (length rows)) all ≡ true
-    → ((d : Bor (List Fun)) → list_all (λ f. has (slice_index_or rows (length (name_of f)) d).now f) all ≡ true) → IsByLength rows
-by_length rows within h = record {
-  within = λ f. below (length (name_of f)) (length rows)
-      (each_passes (λ g. pointwise nat_eq (name_of g) (name_of f)) (λ g. nat_lt (length (name_of g)) (length rows)) all f (named-name_of f) within);
-  stands = λ f d. stands_in (slice_index_or rows (length (name_of f)) d).now f
-      (each_passes (λ g. pointwise nat_eq (name_of g) (name_of f)) (λ g. has (slice_index_or rows (length (name_of g)) d).now g) all f (named-name_of f) (h d));
+-- a table that passes the test for each function is one by key
+pub by_key : (rows : List (Bor (List Fun))) → ((d : Bor (List Fun)) → list_all (λ f. has (slice_index_or rows (name_key (name_of f)) d).now f) all ≡ true) → IsByKey rows
+by_key rows h = record {
+  stands = λ f d. stands_in (slice_index_or rows (name_key (name_of f)) d).now f
+      (each_passes (λ g. pointwise nat_eq (name_of g) (name_of f)) (λ g. has (slice_index_or rows (name_key (name_of g)) d).now g) all f (named-name_of f) (h d));
 }

@@ -1,7 +1,12 @@
 -- What is written piece by piece is the line.
-use Rattle.std.proofs.Common.{◌≡◌, ◌∙◌, ap, sym, ℕ, List, [], ◌∷◌, ◌++◌, Option, append_assoc}
+use Rattle.std.proofs.Common.{◌≡◌, ◌∙◌, ap, sym, ℕ, ◌<◌, ◌^◌, List, [], ◌∷◌, ◌++◌, Option, append_assoc, arith}
 use Rattle.std.specs.List.{join_with_byte}
+use Rattle.std.specs.Fmt.{decimal}
+use Rattle.std.specs.Str.{IsAscii}
 use Rattle.std.proofs.lemmas.List.{append-nil}
+use Rattle.std.proofs.lemmas.Fmt.{IsAscii-decimal}
+use Rattle.std.proofs.lemmas.Str.{IsAscii-append}
+use Rattle.std.proofs.lemmas.Str.Ascii.{IsAscii-cons}
 use Rattle.jg_words.specs.declared.thread.Tid.{Tid}
 use Rattle.jg_words.specs.declared.thread.EnvId.{EnvId}
 use Rattle.jg_words.specs.declared.call.Call.{Call}
@@ -9,7 +14,7 @@ use Rattle.jg_words.specs.declared.entry.Entry.{Entry}
 use Rattle.jg_words.specs.declared.fun.Fun.{Fun}
 use Rattle.jg_words.specs.Fun.{name_of}
 use Rattle.jg_words.specs.Call.{fun_of}
-use Rattle.jg_text.specs.Words.{tid_text, env_text}
+use Rattle.jg_text.specs.Words.{tid_text, env_text, dotted_text}
 use Rattle.jg_text.specs.Operands.{operand_texts}
 use Rattle.jg_text.specs.Pieces.{after_spaces}
 use Rattle.jg_text.specs.Spelling.{spelling}
@@ -46,3 +51,13 @@ entry_written x f name old o1 o2 o3 o4 o5 o6 o7 named is e1 e2 e3 e4 e5 e6 e7 =
 pub completed : (x : Entry) (line : List ℕ) → line ≡ call_line x → line ++ answer_text x.outcome ≡ entry_text x
 unfolding entry_text
 completed x line is = ap (λ (front : List ℕ). front ++ answer_text x.outcome) is ∙ behind (call_line x) (outcome_text x.outcome)
+
+-- a letter and two numbers, written from the last byte to the first
+pub lettered : (letter a b : ℕ) (none second stop first whole : List ℕ) → none ≡ [] → second ≡ decimal b ++ none → stop ≡ 46 ∷ second → first ≡ decimal a ++ stop → whole ≡ letter ∷ first
+    → whole ≡ letter ∷ dotted_text a b
+lettered letter a b none second stop first whole e0 e1 e2 e3 e4 = rw (e4, e3, e2, e1, e0) (ap (λ (t : List ℕ). letter ∷ (decimal a ++ 46 ∷ t)) (append-nil (decimal b)))
+
+pub ascii_lettered : (letter a b : ℕ) → letter < 128 → a < 2 ^ 64 → b < 2 ^ 64 → IsAscii (letter ∷ dotted_text a b)
+ascii_lettered letter a b low ha hb =
+    IsAscii-cons letter (dotted_text a b) low
+    (IsAscii-append (decimal a) (46 ∷ decimal b) (IsAscii-decimal a ha) (IsAscii-cons 46 (decimal b) (omega arith) (IsAscii-decimal b hb)))

@@ -1,6 +1,6 @@
 -- What the readers and writers of a line's parts say to one another. No public contract stands on
 -- these.
-use Rattle.std.specs.Prelude.{◌≡◌, ◌≢◌, ℕ, ℤ, List, [], ◌∷◌, ◌++◌, ◌+◌, ◌≤◌, ◌==◌, length, map, slice_index, slice_index_or, Contains, ◌<◌, Option, Some, None, All, FitsSigned}
+use Rattle.std.specs.Prelude.{◌≡◌, ◌≢◌, ℕ, ℤ, List, [], ◌∷◌, ◌++◌, ◌+◌, ◌*◌, ◌%◌, ◌≤◌, ◌==◌, nat_lt, if◌then◌else◌, length, map, slice_index, slice_index_or, Contains, Option, Some, None, All, FitsSigned}
 use Rattle.std.specs.Borrow.{Bor}
 use Rattle.std.specs.List.{flat_map, slice_split}
 use Rattle.std.specs.Fmt.{signed_decimal}
@@ -22,6 +22,11 @@ use Rattle.jg_text.specs.Faults.{fields}
 abbrev pub rest_fields : Option (List ℕ) → List (List ℕ)
 rest_fields None = []
 rest_fields (Some rest) = fields rest
+
+-- a field ends there: nothing stands behind it, or a space and the rest
+abbrev pub behind_field : Option (List ℕ) → List ℕ
+behind_field None = []
+behind_field (Some rest) = 32 ∷ rest
 
 -- texts, each after a space
 abbrev pub after_spaces : List (List ℕ) → List ℕ
@@ -80,10 +85,13 @@ pub record IsPlain (text : List ℕ) : Type 0 where
   pub no_plus : slice_index text 0 ≢ 43
   pub no_zero : slice_index text 0 ≡ 48 → length text ≡ 1
 
--- a table in which each function stands in the row of its name's length
-pub record IsByLength (rows : List (Bor (List Fun))) : Type 0 where
-  pub within : (f : Fun) → length (name_of f) < length rows
-  pub stands : (f : Fun) (d : Bor (List Fun)) → Contains (slice_index_or rows (length (name_of f)) d).now f
+-- a number that few names have in common
+abbrev pub name_key : List ℕ → ℕ
+name_key text = if nat_lt (length text) 4 then 0 else (length text + slice_index text 0 * 8 + slice_index text 3 * 3) % 64
+
+-- a table in which each function stands in the row of its name's key
+pub record IsByKey (rows : List (Bor (List Fun))) : Type 0 where
+  pub stands : (f : Fun) (d : Bor (List Fun)) → Contains (slice_index_or rows (name_key (name_of f)) d).now f
 
 -- the texts are the operands of this call of the function
 pub record SpellCall (f : Fun) (texts : List (List ℕ)) (c : Call) : Type 0 where

@@ -6,6 +6,10 @@ ghost use Rattle.jg_text.specs.Words.{dotted_text};
 
 use itoa::{Buffer, write_digits};
 use std::alloc::AllocError;
+use std::str;
+
+/// Room for a letter, two numbers of 20 digits at most and the full stop between them.
+const LETTERED: usize = 42;
 
 /// Writes the number.
 pub fn push_number(out: &mut String, n: u64) -> Result<(), AllocError>
@@ -49,11 +53,28 @@ pub fn write_signed(buffer: &mut [u8], end: usize, n: i64) -> usize
     }
 }
 
-/// Writes two numbers with a full stop between them.
-pub fn push_dotted(out: &mut String, a: u64, b: u64) -> Result<(), AllocError>
-    ensures { OnOk result (string_bytes out.new ≡ string_bytes out.old ++ dotted_text a b) }
+/// Writes the letter and two numbers with a full stop between them at the end of the buffer, and
+/// tells where they begin.
+fn write_lettered(buffer: &mut [u8; LETTERED], letter: u8, a: u64, b: u64) -> usize
+    ensures within { result ≤ 42 }
+    ensures written { drop result buffer.new ≡ letter ∷ dotted_text a b }
 {
-    push_number(out, a)?;
-    out.push('.')?;
-    push_number(out, b)
+    let second = write_digits(b, buffer, LETTERED);
+    let stop = put_before(buffer, second, b'.');
+    let first = write_digits(a, buffer, stop);
+    put_before(buffer, first, letter)
+}
+
+/// Writes the letter and two numbers with a full stop between them.
+pub fn push_lettered(out: &mut String, letter: u8, a: u64, b: u64) -> Result<(), AllocError>
+    requires { letter < 128 }
+    ensures { OnOk result (string_bytes out.new ≡ string_bytes out.old ++ letter ∷ dotted_text a b) }
+{
+    let mut buffer = [0; LETTERED];
+    let start = write_lettered(&mut buffer, letter, a, b);
+    let (_, bytes) = buffer.split_at(start);
+    match str::from_utf8(bytes) {
+        Ok(text) => out.push_str(text),
+        Err(_) => unreachable!(),
+    }
 }

@@ -5,6 +5,7 @@
 mod begun;
 mod digits;
 mod fault;
+mod first;
 mod groups;
 mod list;
 mod meanings;

@@ -16,7 +16,7 @@ fn is_plain(text: &[u8]) -> bool
 }
 
 /// The number in front, of at most 18 digits, and what stands behind it.
-fn leading(text: &[u8]) -> Option<(u64, &[u8])>
+pub fn leading(text: &[u8]) -> Option<(u64, &[u8])>
     ensures spelt { IfSome result (λ r. text.now ≡ decimal r.0 ++ r.1.now) }
     ensures short { IfSome result (λ r. r.0 < 10 ^ 18) }
 {
@@ -114,16 +114,26 @@ pub fn cut_at(byte: u8, text: &[u8]) -> Option<(&[u8], &[u8])>
     Some((&text[..i], &text[i + 1..]))
 }
 
-/// The two numbers of at most 18 digits that the text spells, with a full stop between them.
-fn two_short_numbers(text: &[u8]) -> Option<(u64, u64)>
-    ensures some { IfSome result (λ r. text.now ≡ dotted_text r.0 r.1) }
+/// The two numbers in front, of at most 18 digits, with a full stop between them, and what stands
+/// behind them.
+pub fn leading_dotted(text: &[u8]) -> Option<(u64, u64, &[u8])>
+    ensures spelt { IfSome result (λ r. text.now ≡ dotted_text r.0 r.1 ++ r.2.now) }
     ensures fits { IfSome result (λ r. (r.0 < 2 ^ 64) × (r.1 < 2 ^ 64)) }
 {
     let (a, [b'.', back @ ..]) = leading(text)? else {
         return None;
     };
-    match leading(back)? {
-        (b, []) => Some((a, b)),
+    let (b, rest) = leading(back)?;
+    Some((a, b, rest))
+}
+
+/// The two numbers of at most 18 digits that the text spells, with a full stop between them.
+fn two_short_numbers(text: &[u8]) -> Option<(u64, u64)>
+    ensures some { IfSome result (λ r. text.now ≡ dotted_text r.0 r.1) }
+    ensures fits { IfSome result (λ r. (r.0 < 2 ^ 64) × (r.1 < 2 ^ 64)) }
+{
+    match leading_dotted(text)? {
+        (a, b, []) => Some((a, b)),
         _ => None,
     }
 }

@@ -215,11 +215,11 @@ pub fn read_one<A: Operand>(alloc: Global, rest: Option<&[u8]>) -> Result<A, Scr
     ensures ok { IfOk result (λ a. (A.spelt a ∷ [] ≡ rest_fields (option_copied rest.entry)) × A.fits a) }
     ensures err { IfErr result (IsOperandFault (A.kind ∷ []) (rest_fields (option_copied rest.entry))) }
 {
-    let Some((first, rest)) = next_field(rest) else {
-        return Err(ScriptFault::BadOperand);
-    };
-    read_none(rest)?;
-    A::read(alloc, first)
+    // What spells an operand has no space, so that it is one field.
+    match rest {
+        Some(text) => A::read(alloc, text),
+        None => Err(ScriptFault::BadOperand),
+    }
 }
 
 /// The operands that the two fields left spell.

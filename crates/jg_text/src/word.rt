@@ -1,11 +1,11 @@
 //! Threads, environments, references, buffers and fields, each with one spelling.
 
 ghost use Rattle.std.specs.Prelude.{◌≡◌, ◌≢◌, ℕ, ◌<◌, ◌^◌, ◌∷◌, ◌++◌, IfSome, IfNone, IfOk, IfErr, OnOk, string_bytes};
-ghost use Rattle.jg_text.specs.Words.{tid_text, env_text, ref_text, buf_text, field_text, FitsTid, FitsEnv, FitsRef, FitsBuf, FitsField, SpellsOperand};
+ghost use Rattle.jg_text.specs.Words.{tid_text, env_text, kind_letter, ref_text, buf_text, field_text, FitsTid, FitsEnv, FitsRef, FitsBuf, FitsField, SpellsOperand};
 ghost use Rattle.jg_text.specs.Kinds.{OperandKind, Reference, Field, Buffer};
 ghost use Rattle.jg_text.specs.Pieces.{IsNoTid, IsNoEnv};
 
-use crate::digits::{push_dotted, push_number};
+use crate::digits::{push_lettered, push_number};
 use crate::number::{dotted, small_dotted, small_number};
 use jg_words::{BufId, EnvId, FieldId, Kind, Ref, Tid};
 use std::alloc::AllocError;
@@ -115,10 +115,19 @@ pub fn push_env(out: &mut String, env: Option<EnvId>) -> Result<(), AllocError>
 {
     match env {
         None => out.push('-'),
-        Some(env) => {
-            out.push('E')?;
-            push_dotted(out, u64::from(env.tid.0), env.session)
-        }
+        Some(env) => push_lettered(out, b'E', u64::from(env.tid.0), env.session),
+    }
+}
+
+/// The letter with which a reference of the kind begins.
+fn letter_of(kind: Kind) -> u8
+    ensures is { result ≡ kind_letter kind }
+    ensures ascii { result < 128 }
+{
+    match kind {
+        Kind::Local => b'L',
+        Kind::Global => b'G',
+        Kind::Weak => b'W',
     }
 }
 
@@ -129,14 +138,7 @@ pub fn push_ref(out: &mut String, r: Ref) -> Result<(), AllocError>
 {
     match r {
         Ref::Null => out.push_str("null"),
-        Ref::To { kind, maker, n } => {
-            out.push(match kind {
-                Kind::Local => 'L',
-                Kind::Global => 'G',
-                Kind::Weak => 'W',
-            })?;
-            push_dotted(out, u64::from(maker.0), n)
-        }
+        Ref::To { kind, maker, n } => push_lettered(out, letter_of(kind), u64::from(maker.0), n),
     }
 }
 
@@ -145,8 +147,7 @@ pub fn push_buf(out: &mut String, b: BufId) -> Result<(), AllocError>
     ensures written { OnOk result (string_bytes out.new ≡ string_bytes out.old ++ buf_text b) }
     ensures fits { OnOk result (FitsBuf b) }
 {
-    out.push('B')?;
-    push_dotted(out, u64::from(b.maker.0), b.n)
+    push_lettered(out, b'B', u64::from(b.maker.0), b.n)
 }
 
 /// Writes the field's spelling.
@@ -154,6 +155,5 @@ pub fn push_field(out: &mut String, f: FieldId) -> Result<(), AllocError>
     ensures written { OnOk result (string_bytes out.new ≡ string_bytes out.old ++ field_text f) }
     ensures fits { OnOk result (FitsField f) }
 {
-    out.push('F')?;
-    push_dotted(out, u64::from(f.class), u64::from(f.field))
+    push_lettered(out, b'F', u64::from(f.class), u64::from(f.field))
 }

@@ -3,4 +3,4 @@ use Rattle.jg_text.proofs.Plain.{always}
 use Rattle.jg_text.proofs.word.push_field.Goals as goal
 
 pub returns-clause-fits : goal.returns-clause-fits
-returns-clause-fits c = always c.push_dotted.result (omega arith, omega arith)
+returns-clause-fits c = always c.push_lettered.result (omega arith, omega arith)

@@ -1,4 +1,4 @@
-use Rattle.std.proofs.Common.{◌≡◌, ◌+◌, ◌<◌, ◌^◌, ◌∙◌, ap, sym, subst, arith, rules, Some}
+use Rattle.std.proofs.Common.{◌≡◌, ◌+◌, ◌∙◌, ap, subst, Some}
 use Rattle.std.specs.Prelude.{ℕ, map}
 use Rattle.jg_locals.specs.Room.{greater}
 use Rattle.jg_locals.specs.Seen.{last, stack_at, slots_in, frames_in, held_in, room_set, Changes}

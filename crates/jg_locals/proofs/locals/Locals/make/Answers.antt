@@ -1,11 +1,11 @@
-use Rattle.std.proofs.Common.{◌≡◌, Some}
+use Rattle.std.proofs.Common.{refl}
 use Rattle.jg_locals.specs.Seen.{last, stack_at, frames_in}
 use Rattle.jg_locals.proofs.Lookups.{reopened}
-use Rattle.jg_locals.proofs.Threads.{table_seen, make_step, started_top, above_slots, above_in, room_from, room_one, on_ok}
+use Rattle.jg_locals.proofs.Threads.{table_seen, make_step, newest_there, started_top, above_slots, above_in, room_from, room_one, on_ok}
 use Rattle.jg_locals.proofs.locals.Locals.make.Goals as goal
 
-pub unwrap-top-requires : goal.unwrap-top-requires
-unwrap-top-requires g c = started_top c.self.inside.stacks c.args.self.now c.args.tid.0 c.top_at.result c.self.invariant c.self.view_is c.top_at.ensures c.requires.started
+pub make_at-requires-clause-started : goal.make_at-requires-clause-started
+make_at-requires-clause-started g c = started_top c.self.inside.stacks c.args.self.now c.args.tid.0 _ c.self.invariant c.self.view_is refl c.requires.started
 
 pub make_at-requires-clause-above : goal.make_at-requires-clause-above
 make_at-requires-clause-above g c = above_slots c.self.inside.stacks c.args.tid.0 c.args.n c.self.invariant
@@ -13,9 +13,10 @@ make_at-requires-clause-above g c = above_slots c.self.inside.stacks c.args.tid.
 
 pub returns-clause-ok : goal.returns-clause-ok
 returns-clause-ok g c = on_ok c.make_at.result (λ changes. λ e stands.
-    let is : last (frames_in (stack_at c.args.tid.0 c.self.inside.stacks.entries)) ≡ Some c.unwrap-top.result = cc in
-    make_step c.self.inside.stacks c.make_at.new.stacks c.args.tid.0 c.args.n c.args.object.0 c.unwrap-top.result e c.self.invariant (c.make_at.ensures.ordered c.self.invariant) is
-    (above_in c.self.inside.stacks c.args.self.now c.args.tid.0 c.args.n c.self.view_is c.requires.above) changes
+    let top = newest_there (last (frames_in (stack_at c.args.tid.0 c.self.inside.stacks.entries)))
+    (started_top c.self.inside.stacks c.args.self.now c.args.tid.0 _ c.self.invariant c.self.view_is refl c.requires.started) in
+    make_step c.self.inside.stacks c.make_at.new.stacks c.args.tid.0 c.args.n c.args.object.0 top.0 e c.self.invariant (c.make_at.ensures.ordered c.self.invariant) top.1
+    (above_in c.self.inside.stacks c.args.self.now c.args.tid.0 c.args.n c.self.view_is c.requires.above) (changes top.0 top.1)
     (reopened (table_seen c.self.inside.stacks) c.args.self.now e c.self.view_is stands)) c.make_at.ensures.ok
 
 pub returns-clause-room : goal.returns-clause-room

@@ -1,6 +1,8 @@
-use Rattle.std.proofs.Common.{◌≡◌, ◌∙◌, ◌<◌, ◌^◌, ◌+◌, length, ap, sym, subst, arith, rules, Some, refl}
+use Rattle.std.proofs.Common.{◌≡◌, ◌∙◌, ◌<◌, ◌^◌, ◌+◌, ◌++◌, ◌∷◌, [], length, ap, sym, subst, arith, rules, Some, refl}
 use Rattle.std.specs.Prelude.{All, filter, map}
-use Rattle.jg_locals.specs.Seen.{last, StackRows, is_live, frame_of, one_more}
+use Rattle.std.proofs.lemmas.List.Elements.{filter-append}
+use Rattle.jg_locals.specs.declared.row.Frame.{Frame}
+use Rattle.jg_locals.specs.Seen.{last, StackRows, is_live, frame_of, one_more, slot_made}
 use Rattle.jg_locals.proofs.Keeping.{opens_ascending, counts_fit, length-push, make_stacked}
 use Rattle.jg_locals.proofs.Opened.{recounted}
 use Rattle.jg_locals.proofs.stack.Stack.make.Goals as goal
@@ -17,10 +19,17 @@ count_more-requires-clause-fits g c =
 -- the newest has the highest number, and is of the newest frame
 pub invariant_of-self-2 : goal.invariant_of-self-2
 invariant_of-self-2 g c =
-    let is : last (map frame_of c.self.inside.frames.items) ≡ Some c.args.top = ap (λ (r : StackRows). last r.frames) c.self.view_is ∙ c.requires.top in
+    let is : last (map frame_of c.self.inside.frames.items) ≡ Some c.unwrap-top.result = ap (λ (r : StackRows). last r.frames) c.self.view_is ∙ cc in
     let above : All (λ s. s.n < c.args.n) (filter is_live c.self.inside.slots.items) = subst (λ (r : StackRows). All (λ s. s.n < c.args.n) r.locals) (sym c.self.view_is) c.requires.above in
-    rw c.in_ok-push.ensures.items (make_stacked c.self.inside.slots.items c.self.inside.frames.items _ c.args.top c.args.n c.args.object c.self.invariant is above c.count_more.ensures.counted)
+    rw c.in_ok-push.ensures.items (make_stacked c.self.inside.slots.items c.self.inside.frames.items _ c.unwrap-top.result c.args.n c.args.object c.self.invariant is above c.count_more.ensures.counted)
 
 pub returns-clause-frames : goal.returns-clause-frames
 returns-clause-frames g c = ap (map frame_of) c.count_more.ensures.counted
-    ∙ (recounted one_more (λ o. refl) c.args.top.depth c.args.top.frame c.self.inside.frames.items ∙ ap (λ (r : StackRows). r.frames) c.self.view_is)
+    ∙ (recounted one_more (λ o. refl) c.unwrap-top.result.depth c.unwrap-top.result.frame c.self.inside.frames.items ∙ ap (λ (r : StackRows). r.frames) c.self.view_is)
+
+pub returns-clause-ok : goal.returns-clause-ok
+returns-clause-ok g c = λ top is.
+    let same : c.unwrap-top.result ≡ top = cc in
+    ap (filter is_live) c.in_ok-push.ensures.items ∙ filter-append is_live c.self.inside.slots.items (_ ∷ [])
+    ∙ ap (λ (r : StackRows). r.locals ++ slot_made c.args.n c.args.object c.unwrap-top.result ∷ []) c.self.view_is
+    ∙ ap (λ (f : Frame). c.args.self.now.locals ++ slot_made c.args.n c.args.object f ∷ []) same
