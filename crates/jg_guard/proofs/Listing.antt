@@ -6,7 +6,6 @@ use Rattle.jg_words.specs.declared.reference.Ref.{Ref}
 use Rattle.jg_words.specs.declared.reference.Ref.TheVariants.{Null, To}
 use Rattle.jg_words.specs.declared.reference.Kind.TheVariants.{Local, Global, Weak}
 use Rattle.jg_words.specs.declared.buffer.BufId.{BufId}
-use Rattle.jg_lists.proofs.Lists.{map-filter}
 use Rattle.jg_policy.specs.Stated.{StatedSetup}
 use Rattle.jg_policy.specs.LinkRows.{how_many}
 use Rattle.jg_policy.specs.LinkStanding.{once_if}
@@ -23,6 +22,7 @@ use Rattle.jg_buffers.specs.Rows.{is_buffer, name_of}
 use Rattle.jg_buffers.specs.Standing as buffer_standing
 use Rattle.jg_monitors.specs.History as monitors
 use Rattle.jg_monitors.specs.Rows.{is_of, owned_monitor}
+use Rattle.jg_monitors.specs.declared.owned_monitor.OwnedMonitor.{OwnedMonitor}
 use Rattle.jg_monitors.specs.Standing as monitor_standing
 use Rattle.jg_rules.specs.Parts.{Parts, TableRows, TablesStand}
 use Rattle.jg_guard.specs.Left.{ListsRefs, ListsBuffers, ListsMonitors, monitor_owned}
@@ -122,10 +122,10 @@ module _ (s : StatedSetup) (rows : TableRows) (p : Parts) (stands : TablesStand 
 
   -- ---- monitors
 
-  pub monitors_listed : ListsMonitors p (map owned_monitor rows.monitors.owned)
-  monitors_listed o =
-      sym (map-filter owned_monitor (is_of o) (λ m. m.object.0 == o) (λ row. refl) rows.monitors.owned) ∙ ap (map owned_monitor) (stands.monitors.owned o)
-      ∙ one (monitors.owner p.monitors o)
+  -- each list that has of each object what the rows have
+  pub monitors_listed : (listed : List OwnedMonitor) → ((o : ℕ) → filter (λ m. m.object.0 == o) listed ≡ map owned_monitor (filter (is_of o) rows.monitors.owned))
+      → ListsMonitors p listed
+  monitors_listed listed same o = same o ∙ ap (map owned_monitor) (stands.monitors.owned o) ∙ one (monitors.owner p.monitors o)
     where
       one : (t : Option ℕ) → map owned_monitor (monitor_standing.rows_of p.monitors o t) ≡ monitor_owned p o t
       one None = refl

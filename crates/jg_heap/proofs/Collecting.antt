@@ -9,13 +9,13 @@ use Rattle.std.proofs.lemmas.Bool.{lt-ltb}
 use Rattle.jg_heap.specs.declared.body.Object.{Object}
 use Rattle.jg_heap.specs.Making.{Plain}
 use Rattle.jg_heap.specs.Rows.{Row, Rows, row_in, no_row, count_in}
-use Rattle.jg_heap.specs.Kept.{row_of, swept_row, ended_row, row_points_at, slot_of_row_holds, live_in}
+use Rattle.jg_heap.specs.Kept.{row_of, swept_row, ended_row, row_points_at, slot_of_row_holds, live_in, Keeps}
 use Rattle.jg_heap.specs.Rows.{row_of_making}
 use Rattle.jg_heap.specs.History.{Event, Collected, count_of, gone_at, held_at, points_at, going}
 use Rattle.jg_heap.specs.Standing.{Stands, standing, row_at, slots_at, MarksRoots, MarksHeld}
 use Rattle.jg_heap.proofs.Lists.{any_filter, any_agree, filter_filter, keep_agree, or_swapped, goes_alike, gone_alike, length-filter-le}
 use Rattle.jg_heap.proofs.Pointing.{points_slots}
-use Rattle.jg_heap.proofs.Sweeping.{goes_now}
+use Rattle.jg_heap.proofs.Sweeping.{goes_now, pointing_holds}
 use Rattle.jg_heap.proofs.Steps.{standing_is}
 use Rattle.jg_heap.proofs.Told.{length-standing, row_in-standing, gone-row_at, count_stands}
 
@@ -89,21 +89,22 @@ live_is : {A : Type 0} (items : List (Object A)) (live kept : List ℕ) (rows : 
     → record { classes = k; objects = map row_of items } ≡ rows → Stands rows e → live ≡ live_in (standing rows.classes e)
 live_is items live kept rows k e same keeps view stands = same ∙ keeps ∙ ap live_in (ap (λ (r : Rows). r.objects) view ∙ stands)
 
-pub marks_of : {A : Type 0} (items before : List (Object A)) (live kept : List ℕ) (rows : Rows) (k : ℕ) (e : List Event) (roots : List ℕ) (old mid new : List Bool)
-    → before ≡ items → live ≡ kept → kept ≡ live_in (map row_of items) → record { classes = k; objects = map row_of items } ≡ rows → Stands rows e
+pub marks_of : {A : Type 0} (items before : List (Object A)) (pointed live pointing : List ℕ) (rows : Rows) (k : ℕ) (e : List Event) (roots : List ℕ) (old mid new : List Bool)
+    → before ≡ items → pointed ≡ pointing → Keeps items live pointing → record { classes = k; objects = map row_of items } ≡ rows → Stands rows e
     → count_in rows ≤ length old → length mid ≡ length old → length new ≡ length mid
     → ((o : ℕ) → o < length old → get_or mid o false ≡ (get_or old o false || ltb o k))
-    → ((o : ℕ) → o < length mid → get_or new o false ≡ (get_or mid o false || list_any (slot_of_row_holds (map row_of before) o) live))
+    → ((o : ℕ) → o < length mid → get_or new o false ≡ (get_or mid o false || list_any (slot_of_row_holds (map row_of before) o) pointed))
     → MarksRoots rows.classes roots e old → MarksHeld rows.classes roots e new
-marks_of items before live kept rows k e roots old mid new is same keeps view stands room n m classes slots was =
-    let base : map row_of before ≡ standing rows.classes e = ap (map row_of) is ∙ ap (λ (r : Rows). r.objects) view ∙ stands in
-    let all : live ≡ live_in (standing rows.classes e) = live_is items live kept rows k e same keeps view stands in
+marks_of items before pointed live pointing rows k e roots old mid new is same keeps view stands room n m classes slots was =
+    let base : map row_of items ≡ standing rows.classes e = ap (λ (r : Rows). r.objects) view ∙ stands in
+    let all : live ≡ live_in (standing rows.classes e) = live_is items live live rows k e refl keeps.live view stands in
     let many : count_in rows ≡ count_of rows.classes e = count_stands rows e stands in
     marks_held rows.classes roots e old new (omega arith) (m ∙ n) was
-    (λ o h. slots o (omega arith) ∙ ap (λ b. b || list_any (slot_of_row_holds (map row_of before) o) live) (classes o h)
-    ∙ ap (λ c. (get_or old o false || ltb o c) || list_any (slot_of_row_holds (map row_of before) o) live) (ap (λ (r : Rows). r.classes) view)
-    ∙ ap (λ (rs : List Row). (get_or old o false || ltb o rows.classes) || list_any (slot_of_row_holds rs o) live) base
-    ∙ ap (λ (os : List ℕ). (get_or old o false || ltb o rows.classes) || list_any (slot_of_row_holds (standing rows.classes e) o) os) all)
+    (λ o h. slots o (omega arith) ∙ ap (λ b. b || list_any (slot_of_row_holds (map row_of before) o) pointed) (classes o h)
+    ∙ ap (λ c. (get_or old o false || ltb o c) || list_any (slot_of_row_holds (map row_of before) o) pointed) (ap (λ (r : Rows). r.classes) view)
+    ∙ ap (λ b. (get_or old o false || ltb o rows.classes) || b)
+    (ap (λ (xs : List (Object _)). list_any (slot_of_row_holds (map row_of xs) o) pointed) is ∙ ap (list_any (slot_of_row_holds (map row_of items) o)) same ∙ pointing_holds items live pointing o keeps
+    ∙ ap (λ (rs : List Row). list_any (slot_of_row_holds rs o) live) base ∙ ap (list_any (slot_of_row_holds (standing rows.classes e) o)) all))
 
 pub count_of_unmarked : {A : Type 0} (items : List (Object A)) (live kept : List ℕ) (rows : Rows) (k : ℕ) (e : List Event) (roots : List ℕ) (marks : List Bool) → live ≡ kept
     → kept ≡ live_in (map row_of items) → record { classes = k; objects = map row_of items } ≡ rows → Stands rows e

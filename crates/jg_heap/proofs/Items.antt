@@ -1,5 +1,5 @@
 -- The items of an array, seen as slots.
-use Rattle.std.proofs.Common.{ℕ, ℤ, zero, suc, ◌≡◌, ◌<◌, sym, refl, List, [], ◌∷◌, length, map, get_or, arith, false, Option}
+use Rattle.std.proofs.Common.{ℕ, ℤ, zero, suc, ◌≡◌, ◌<◌, sym, refl, List, [], ◌∷◌, length, map, arith, false, Option}
 use Rattle.std.proofs.lemmas.Bool.{false≢true}
 use Rattle.std.proofs.lemmas.List.{map-set}
 use Rattle.std.specs.List.{list_any}
@@ -9,7 +9,7 @@ use Rattle.jg_heap.specs.declared.body.Body.{Body}
 use Rattle.jg_heap.specs.declared.body.Object.{Object}
 use Rattle.jg_heap.specs.declared.body.Body.TheVariants.{Class, Fields, Units, Numbers, References}
 use Rattle.jg_heap.specs.History.{holds}
-use Rattle.jg_heap.specs.Kept.{row_of, slots_of_body, body_may_point, may_point, slot_of_row_holds}
+use Rattle.jg_heap.specs.Kept.{row_of, slots_of_body, body_may_point, may_point_at, slot_of_row_holds}
 use Rattle.jg_heap.proofs.Lists.{list_any_map}
 
 -- a number names no object
@@ -29,7 +29,7 @@ holds_none o (Numbers element items) h = numbers_hold o items.items
 holds_none o (References items) h = absurd (false≢true (sym h))
 
 -- so none of the object of that number does
-pub none_at : {A : Type 0} (o : ℕ) (objects : List (Object A)) (p : ℕ) → p < length objects → get_or (map may_point objects) p false ≡ false
+pub none_at : {A : Type 0} (o : ℕ) (objects : List (Object A)) (p : ℕ) → p < length objects → may_point_at objects p ≡ false
     → slot_of_row_holds (map row_of objects) o p ≡ false
 none_at o [] p within h = absurd (omega arith)
 none_at o (x ∷ objects) zero within h = holds_none o x.body h

@@ -4,7 +4,7 @@ use Rattle.std.specs.Prelude.{All, filter}
 use Rattle.std.specs.List.{list_any, range_with_len}
 use Rattle.std.proofs.lemmas.Bool.{or_cases, or_left, or_right, cases_Bool, eq-eqb, eqb-true}
 use Rattle.std.proofs.lemmas.List.{map-id}
-use Rattle.std.proofs.lemmas.List.Elements.{All-filter, All-from_get_or}
+use Rattle.std.proofs.lemmas.List.Elements.{All-filter, All-from_get_or, All-head, All-tail}
 use Rattle.std.proofs.lemmas.List.Folds.{list_any_at}
 use Rattle.std.proofs.lemmas.List.Filters.{length-filter_both}
 use Rattle.std.proofs.lemmas.Map.Views.{any-filter_same}
@@ -50,6 +50,11 @@ filter_filter p q (x ∷ xs) =
       | inl keeps ↦ elim (cases_Bool (p x)) [ inl t ↦ rw (keeps, t) (ap (λ ys. x ∷ ys) (filter_filter p q xs)) | inr f ↦ rw (keeps, f) (filter_filter p q xs) ]
       | inr drops ↦ rw (drops) (filter_filter p q xs)
     ]
+
+-- a test that all pass keeps all
+pub keeps_all : {X : Type 0} (p : X → Bool) (xs : List X) → All (λ x. p x ≡ true) xs → xs ≡ filter p xs
+keeps_all p [] h = refl
+keeps_all p (x ∷ xs) h = rw (All-head (λ y. p y ≡ true) x xs h) (ap (λ ys. x ∷ ys) (keeps_all p xs (All-tail (λ y. p y ≡ true) x xs h)))
 
 -- two tests that agree on numbers in a row
 pub any_agree : (p q : ℕ → Bool) (a n : ℕ) → ((o : ℕ) → o < a + n → p o ≡ q o) → list_any p (range_with_len a n) ≡ list_any q (range_with_len a n)
@@ -109,6 +114,11 @@ stays_alike false false = refl
 pub or_both : (a b c : Bool) → ((a || b) || c) ≡ (a || (b || c))
 or_both true b c = refl
 or_both false b c = refl
+
+-- a test that another one asks for
+pub and_implied : (a b : Bool) → (a ≡ false → b ≡ false) → (a && b) ≡ b
+and_implied true b h = refl
+and_implied false b h = sym (h refl)
 
 pub length-filter-le : {X : Type 0} (p : X → Bool) (xs : List X) → length (filter p xs) ≤ length xs
 length-filter-le p xs = omega (arith, length-filter_both p (λ x. not (p x)) (λ x. refl) xs)

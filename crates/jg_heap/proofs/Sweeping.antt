@@ -1,15 +1,18 @@
 -- The turns of the loops that let go of objects, and the numbers of those that aren't gone.
-use Rattle.std.proofs.Common.{ℕ, ◌≡◌, ◌+◌, ◌<◌, ◌≢◌, ◌∙◌, sym, ap, refl, List, [], ◌∷◌, ◌++◌, length, map, get_or, set, arith, Bool, true, false, not, ◌&&◌, ◌||◌, eqb, inl, inr, get_or-set_same, get_or-set_other, subst, length-append}
+use Rattle.std.proofs.Common.{ℕ, ◌≡◌, ◌+◌, ◌<◌, ◌≤◌, ◌≢◌, ◌∙◌, sym, ap, refl, List, [], ◌∷◌, ◌++◌, length, map, get_or, set, arith, Bool, true, false, not, ◌&&◌, ◌||◌, eqb, inl, inr, get_or-set_same, get_or-set_other, subst, length-append, take, cond}
 use Rattle.std.specs.Prelude.{All, filter}
 use Rattle.std.specs.List.{list_any, range_with_len}
 use Rattle.std.proofs.Math.Seq.{get_or-append_seam}
-use Rattle.std.proofs.lemmas.List.{get_or_append_left, get_or-map, length-map, length-set, map-set, map-append, set-get_or}
-use Rattle.std.proofs.lemmas.List.Elements.{filter-append}
+use Rattle.std.proofs.lemmas.List.{get_or_append_left, get_or-map, length-map, length-set, map-set, map-append, set-get_or, drop_more}
+use Rattle.std.proofs.lemmas.List.Filters.{FiltersInPlace}
+use Rattle.std.proofs.lemmas.List.Folds.{list_any_more, list_any_none}
+use Rattle.std.proofs.lemmas.List.Elements.{filter-append, All-filter}
 use Rattle.std.proofs.lemmas.Bool.{cases_eq, eq-eqb, ne_eqb}
 use Rattle.jg_heap.specs.declared.body.Object.{Object}
 use Rattle.jg_heap.specs.Rows.{Row, row_in, no_row}
-use Rattle.jg_heap.specs.Kept.{row_of, ended_row, live_in, may_point, Keeps}
-use Rattle.jg_heap.proofs.Lists.{keep_agree, range_more, kept_below, kept_any, any_filter, filter_filter, stays_alike, or_both}
+use Rattle.jg_heap.specs.Kept.{row_of, ended_row, live_in, may_point, may_point_at, slot_of_row_holds, Keeps}
+use Rattle.jg_heap.proofs.Lists.{keep_agree, keeps_all, range_more, kept_below, kept_any, any_agree, any_filter, filter_filter, stays_alike, or_both, and_implied}
+use Rattle.jg_heap.proofs.Items.{none_at}
 
 row_set : {A : Type 0} (cur : List (Object A)) (i : ℕ) (y : Object A) → i < length cur → row_in (map row_of (set cur i y)) i ≡ row_of y
 row_set cur i y h =
@@ -51,6 +54,25 @@ ended_one cur p o d y inside ends =
 -- what goes at one and at the other
 pub ended_both : (row mid new : Row) (b c all : Bool) → mid ≡ ended_row b row → new ≡ ended_row c mid → all ≡ (b || c) → new ≡ ended_row all row
 ended_both row mid new b c all is says both = says ∙ ap (ended_row c) is ∙ ap (λ g. record row { gone = g }) (or_both row.gone b c) ∙ ap (λ d. ended_row d row) (sym both)
+
+-- what is read at the place of a loop that keeps some in front
+pub read_on : {marked : ℕ → Bool} {xs ys : List ℕ} {k i : ℕ} → FiltersInPlace marked xs ys k i → i < length ys → get_or ys i 0 ≡ get_or xs i 0
+read_on {marked} {xs} {ys} {k} {i} kept h = ap (λ (l : List ℕ). get_or l 0 0) (sym (drop_more ys i 0 h) ∙ kept.rest ∙ drop_more xs i 0 (omega (arith, kept.long)))
+
+-- where such a loop starts, behind some that are all marked
+pub kept_first : (marked : ℕ → Bool) (xs : List ℕ) (k : ℕ) → All (λ p. marked p ≡ true) (take k xs) → k ≤ length xs → FiltersInPlace marked xs xs k k
+kept_first marked xs k all within = record { front = keeps_all marked (take k xs) all; rest = refl; behind = omega arith; within = within; long = refl }
+
+pub none_first : (marked : ℕ → Bool) (xs : List ℕ) (o : ℕ) → All (λ p. marked p ≡ true) xs → list_any (λ p. not (marked p) && eqb p o) xs ≡ false
+none_first marked xs o all = list_any_none (λ p. not (marked p) && eqb p o) xs (λ i d h. ap (λ b. not b && eqb (get_or xs i d) o) (all i d h))
+
+-- which go, with one object more
+pub goes_more : (marked : ℕ → Bool) (xs ys : List ℕ) (k i o : ℕ) (m : Bool) → FiltersInPlace marked xs ys k i → i < length ys → m ≡ marked (get_or ys i 0)
+    → list_any (λ p. not (marked p) && eqb p o) (take (i + 1) xs) ≡ (list_any (λ p. not (marked p) && eqb p o) (take i xs) || (not m && eqb (get_or ys i 0) o))
+goes_more marked xs ys k i o m kept h is =
+    let goes : ℕ → Bool = λ p. not (marked p) && eqb p o in
+    list_any_more goes xs i 0 (omega (arith, kept.long)) ∙ ap (λ p. list_any goes (take i xs) || goes p) (sym (read_on kept h))
+    ∙ ap (λ b. list_any goes (take i xs) || (not b && eqb (get_or ys i 0) o)) (sym is)
 
 -- ---- the numbers of those that aren't gone
 
@@ -126,17 +148,60 @@ pointing_set cur p d y inside same =
     map-set may_point cur p y ∙ ap (set (map may_point cur) p) (same ∙ sym (get_or-map may_point cur p d false inside)) ∙ set-get_or (map may_point cur) p false
 
 -- with a slot written
-pub keeps_wrote : {A : Type 0} (cur : List (Object A)) (live : List ℕ) (pointing : List Bool) (p : ℕ) (x y : Object A) → Keeps cur live pointing → p < length cur → x ≡ get_or cur p x
+pub keeps_wrote : {A : Type 0} (cur : List (Object A)) (live pointing : List ℕ) (p : ℕ) (x y : Object A) → Keeps cur live pointing → p < length cur → x ≡ get_or cur p x
     → (row_of y).gone ≡ (row_of x).gone → may_point y ≡ may_point x → Keeps (set cur p y) live pointing
 keeps_wrote cur live pointing p x y keeps inside is gone kind = record {
   live = keeps.live ∙ sym (live_wrote cur p x y inside is gone);
-  pointing = keeps.pointing ∙ sym (pointing_set cur p x y inside (kind ∙ ap may_point is));
+  pointing = keeps.pointing ∙ ap (λ (bs : List Bool). filter (λ o. get_or bs o false) live) (sym (pointing_set cur p x y inside (kind ∙ ap may_point is)));
 }
 
+-- which of those in being may point, with an object made
+pointing_more : {A : Type 0} (items : List (Object A)) (x : Object A) → filter (may_point_at (items ++ x ∷ [])) (live_in (map row_of items) ++ length items ∷ [])
+    ≡ filter (may_point_at items) (live_in (map row_of items)) ++ cond (may_point x) (length items ∷ []) []
+pointing_more items x =
+    let keeps : ℕ → Bool = λ o. not (row_in (map row_of items) o).gone in
+    let n : length (map row_of items) ≡ length items = length-map items row_of in
+    let m : length (map may_point items) ≡ length items = length-map items may_point in
+    let all : map may_point (items ++ x ∷ []) ≡ map may_point items ++ may_point x ∷ [] = map-append may_point items (x ∷ []) in
+    filter-append (may_point_at (items ++ x ∷ [])) (live_in (map row_of items)) (length items ∷ [])
+    ∙ ap (λ (os : List ℕ). os ++ filter (may_point_at (items ++ x ∷ [])) (length items ∷ []))
+    (filter_filter (may_point_at (items ++ x ∷ [])) keeps (range_with_len 0 (length (map row_of items)))
+    ∙ keep_agree (λ o. keeps o && may_point_at (items ++ x ∷ []) o) (λ o. keeps o && may_point_at items o) 0 (length (map row_of items))
+    (λ o h. ap (λ (bs : List Bool). keeps o && get_or bs o false) all ∙ ap (λ b. keeps o && b) (get_or_append_left (map may_point items) (may_point x ∷ []) false o (omega arith)))
+    ∙ sym (filter_filter (may_point_at items) keeps (range_with_len 0 (length (map row_of items)))))
+    ∙ ap (λ b. filter (may_point_at items) (live_in (map row_of items)) ++ cond b (length items ∷ []) [])
+    (ap (λ (bs : List Bool). get_or bs (length items) false) all ∙ ap (λ i. get_or (map may_point items ++ may_point x ∷ []) i false) (sym m) ∙ get_or-append_seam (map may_point items) (may_point x) [] false)
+
 -- with an object made
-pub keeps_made : {A : Type 0} (items more : List (Object A)) (kept after : List ℕ) (pointing points : List Bool) (x : Object A) (n : ℕ) → Keeps items kept pointing → more ≡ items ++ x ∷ []
-    → (row_of x).gone ≡ false → n ≡ length items → after ≡ kept ++ n ∷ [] → points ≡ pointing ++ may_point x ∷ [] → Keeps more after points
+pub keeps_made : {A : Type 0} (items more : List (Object A)) (kept after pointing points : List ℕ) (x : Object A) (n : ℕ) → Keeps items kept pointing → more ≡ items ++ x ∷ []
+    → (row_of x).gone ≡ false → n ≡ length items → after ≡ kept ++ n ∷ [] → points ≡ pointing ++ cond (may_point x) (n ∷ []) [] → Keeps more after points
 keeps_made items more kept after pointing points x n keeps is fresh len made point = record {
   live = live_made items more kept after x n keeps.live is fresh len made;
-  pointing = point ∙ ap (λ (bs : List Bool). bs ++ may_point x ∷ []) keeps.pointing ∙ sym (ap (map may_point) is ∙ map-append may_point items (x ∷ []));
+  pointing = point ∙ ap (λ m. pointing ++ cond (may_point x) (m ∷ []) []) len
+      ∙ ap (λ (os : List ℕ). os ++ cond (may_point x) (length items ∷ []) []) (keeps.pointing ∙ ap (filter (may_point_at items)) keeps.live)
+      ∙ sym (pointing_more items x)
+      ∙ ap (λ (xs : List (Object _)). filter (may_point_at xs) (live_in (map row_of items) ++ length items ∷ [])) (sym is)
+      ∙ ap (filter (may_point_at more)) (sym (made ∙ ap (λ (os : List ℕ). os ++ n ∷ []) keeps.live ∙ ap (λ m. live_in (map row_of items) ++ m ∷ []) len));
 }
+
+-- they are numbers of objects too
+pub pointing_within : {A : Type 0} (items before : List (Object A)) (pointed live pointing : List ℕ) → before ≡ items → pointed ≡ pointing → Keeps items live pointing
+    → All (λ p. p < length before) pointed
+pointing_within items before pointed live pointing is same keeps =
+    subst (All (λ p. p < length before)) (sym (same ∙ keeps.pointing)) (All-filter (may_point_at items) (λ p. p < length before) live (within items before live live is refl keeps.live))
+
+-- no other of those in being points at anything
+pub pointing_holds : {A : Type 0} (items : List (Object A)) (live pointing : List ℕ) (o : ℕ) → Keeps items live pointing
+    → list_any (slot_of_row_holds (map row_of items) o) pointing ≡ list_any (slot_of_row_holds (map row_of items) o) live
+pointing_holds items live pointing o keeps =
+    let rows : List Row = map row_of items in
+    let here : ℕ → Bool = λ p. not (row_in rows p).gone in
+    let holds : ℕ → Bool = slot_of_row_holds rows o in
+    let n : length rows ≡ length items = length-map items row_of in
+    ap (list_any holds) (keeps.pointing ∙ ap (filter (may_point_at items)) keeps.live)
+    ∙ any_filter holds (may_point_at items) (live_in rows)
+    ∙ any_filter (λ p. may_point_at items p && holds p) here (range_with_len 0 (length rows))
+    ∙ any_agree (λ p. here p && (may_point_at items p && holds p)) (λ p. here p && holds p) 0 (length rows)
+    (λ p h. ap (λ b. here p && b) (and_implied (may_point_at items p) (holds p) (λ not. none_at o items p (omega arith) not)))
+    ∙ sym (any_filter holds here (range_with_len 0 (length rows)))
+    ∙ ap (list_any holds) (sym keeps.live)

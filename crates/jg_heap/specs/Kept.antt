@@ -1,5 +1,5 @@
 -- The rows of the objects that the store keeps, and what a call does to one row.
-use Rattle.std.specs.Prelude.{ℕ, ◌≡◌, Bool, true, false, not, ◌&&◌, ◌||◌, List, [], ◌+◌, ◌++◌, length, take, drop, map, filter, slice_set}
+use Rattle.std.specs.Prelude.{ℕ, ◌≡◌, Bool, true, false, not, ◌&&◌, ◌||◌, List, [], ◌+◌, ◌++◌, length, take, drop, map, filter, slice_set, slice_index_or}
 use Rattle.std.specs.List.{list_any, range_with_len}
 use Rattle.jg_heap.specs.declared.object.Slot.{Slot}
 use Rattle.jg_heap.specs.declared.object.Slot.TheVariants.{Number, Object as ToObject}
@@ -80,7 +80,11 @@ ended_row goes row = record row { gone = row.gone || goes }
 abbrev pub live_in : List Row → List ℕ
 live_in rows = filter (λ o. not (row_in rows o).gone) (range_with_len 0 (length rows))
 
--- what the store keeps beside the objects: which aren't gone, and which may point at others
-pub record Keeps {A : Type 0} (objects : List (Object A)) (numbers : List ℕ) (tests : List Bool) : Type 0 where
+-- the slots of the object of this number may hold objects
+abbrev pub may_point_at : {A : Type 0} → List (Object A) → ℕ → Bool
+may_point_at objects o = slice_index_or (map may_point objects) o false
+
+-- what the store keeps beside the objects: which aren't gone, and which of these may point at others
+pub record Keeps {A : Type 0} (objects : List (Object A)) (numbers pointers : List ℕ) : Type 0 where
   pub live : numbers ≡ live_in (map row_of objects)
-  pub pointing : tests ≡ map may_point objects
+  pub pointing : pointers ≡ filter (may_point_at objects) numbers

@@ -1,4 +1,4 @@
-ghost use Rattle.std.specs.Prelude.{◌≡◌, ℕ, ◌<◌, ◌≤◌, ◌^◌, All, false, not, ◌&&◌, ◌==◌, length, slice_index_or, nat_lt, map, filter};
+ghost use Rattle.std.specs.Prelude.{◌≡◌, ℕ, ◌<◌, ◌≤◌, ◌^◌, All, false, true, not, ◌&&◌, ◌==◌, length, slice_index_or, nat_lt, map, filter, take};
 ghost use Rattle.std.specs.List.{list_any};
 ghost use Rattle.jg_heap.specs.declared.object.Slot.TheVariants.{Object as ToObject};
 ghost use Rattle.jg_heap.specs.History.{holds};
@@ -76,22 +76,17 @@ fn mark_slots<A: Allocator>(marks: &mut [bool], body: &Body<A>)
     }
 }
 
-/// Marks each object that stands in a slot of one of those in being. Reads only the objects of
-/// which `pointing` says that their slots may hold some.
+/// Marks each object that stands in a slot of one of these.
 pub(crate) fn mark_pointed<A: Allocator>(
     marks: &mut [bool],
     objects: &[Object<A>],
-    live: &[u64],
-    pointing: &[bool],
+    pointing: &[u64],
 )
-    requires made { All (λ p. p < length objects.now) live.now }
-    requires pointing { pointing.now ≡ map may_point objects.now }
-    ensures { Marks (λ o. list_any (slot_of_row_holds (map row_of objects.now) o) live.now) marks.old marks.new }
+    requires { All (λ p. p < length objects.now) pointing.now }
+    ensures { Marks (λ o. list_any (slot_of_row_holds (map row_of objects.now) o) pointing.now) marks.old marks.new }
 {
-    for object in live {
-        if is_marked(pointing, *object) {
-            mark_slots(marks, &objects[*object as usize].body);
-        }
+    for object in pointing {
+        mark_slots(marks, &objects[*object as usize].body);
     }
 }
 
@@ -109,34 +104,61 @@ pub(crate) fn count_unmarked(marks: &[bool], live: &[u64]) -> u64
     count
 }
 
-/// Lets go of an object, unless it is marked.
-fn end<A: Allocator>(objects: &mut [Object<A>], object: u64, marked: bool)
+/// Lets go of an object.
+fn let_go<A: Allocator>(objects: &mut [Object<A>], object: u64)
     requires { object < length objects.old }
     ensures rows { (o : ℕ) → row_in (map row_of objects.new) o
-        ≡ ended_row (not marked && object == o) (row_in (map row_of objects.old) o) }
+        ≡ ended_row (object == o) (row_in (map row_of objects.old) o) }
     ensures pointing { map may_point objects.new ≡ map may_point objects.old }
 {
-    if !marked {
-        objects[object as usize].gone = true;
-    }
+    objects[object as usize].gone = true;
 }
 
-/// Lets go of those in being that aren't marked.
-pub(crate) fn let_go<A: Allocator>(objects: &mut [Object<A>], live: &[u64], marks: &[bool])
-    requires { All (λ p. p < length objects.old) live.now }
+/// How many are marked before the first that isn't.
+fn count_marked_first(marks: &[bool], live: &[u64]) -> usize
+    ensures marked { All (λ p. slice_index_or marks.now p false ≡ true) (take result live.now) }
+    ensures within { result ≤ length live.now }
+{
+    for at in 0..live.len() {
+        if !is_marked(marks, live[at]) {
+            return at;
+        }
+    }
+    live.len()
+}
+
+/// Lets go of those in being that aren't marked, and moves the numbers of the others to the front of
+/// `live`. Answers how many these are.
+pub(crate) fn keep_marked<A: Allocator>(
+    objects: &mut [Object<A>],
+    live: &mut [u64],
+    marks: &[bool],
+) -> usize
+    requires { All (λ p. p < length objects.old) live.old }
+    ensures kept { take result live.new ≡ filter (λ o. slice_index_or marks.now o false) live.old }
     ensures rows { (o : ℕ) → row_in (map row_of objects.new) o
-        ≡ ended_row (list_any (λ p. not (slice_index_or marks.now p false) && p == o) live.now)
+        ≡ ended_row (list_any (λ p. not (slice_index_or marks.now p false) && p == o) live.old)
         (row_in (map row_of objects.old) o) }
     ensures pointing { map may_point objects.new ≡ map may_point objects.old }
 {
-    for object in live {
-        end(objects, *object, is_marked(marks, *object));
+    // What is old is mostly kept, and needn't be moved.
+    let first = count_marked_first(marks, live);
+    let mut kept = first;
+    for at in first..live.len() {
+        let object = live[at];
+        if is_marked(marks, object) {
+            live[kept] = object;
+            kept += 1;
+        } else {
+            let_go(objects, object);
+        }
     }
+    kept
 }
 
 /// Keeps the numbers of those that are marked.
-pub(crate) fn keep_marked<A: Allocator>(live: &mut Vec<u64, A>, marks: &[bool])
-    ensures { live.new.items ≡ filter (λ o. slice_index_or marks.now o false) live.old.items }
+pub(crate) fn retain_marked<A: Allocator>(pointing: &mut Vec<u64, A>, marks: &[bool])
+    ensures { pointing.new.items ≡ filter (λ o. slice_index_or marks.now o false) pointing.old.items }
 {
-    live.retain(|object| is_marked(marks, *object));
+    pointing.retain(|object| is_marked(marks, *object));
 }

@@ -1,4 +1,4 @@
-ghost use Rattle.std.specs.Prelude.{◌≡◌, ℕ, ◌+◌, ◌<◌, ◌≤◌, ◌^◌, ◌++◌, List, [], ◌∷◌, length, map, IfOk, OnOk, OnErr};
+ghost use Rattle.std.specs.Prelude.{◌≡◌, ℕ, ◌+◌, ◌<◌, ◌≤◌, ◌^◌, ◌++◌, List, [], ◌∷◌, length, map, IfOk, OnOk, OnErr, if◌then◌else◌, vec_len, vec_capacity};
 ghost use Rattle.std.specs.List.{range_with_len};
 ghost use Rattle.jg_heap.specs.declared.object.Slot.TheVariants.{Number};
 ghost use Rattle.jg_heap.specs.Making.{making_of, class_in, units_in, length_in, CanMake, HasFields, IsArrayClass, IsPrimitiveArray, TakesItem};
@@ -7,7 +7,7 @@ ghost use Rattle.jg_heap.specs.Rows.{count_in, class_at, length_at, units_at, sl
 ghost use Rattle.jg_heap.specs.Standing.{Stands, MarksRoots, MarksHeld};
 
 use crate::body::{Body, Object, object_of};
-use crate::collect::{count_unmarked, keep_marked, let_go, mark_classes, mark_pointed};
+use crate::collect::{count_unmarked, keep_marked, mark_classes, mark_pointed, retain_marked};
 use crate::object::{Shape, Slot};
 use jg_words::ObjId;
 use std::alloc::{AllocError, Allocator, Global};
@@ -23,9 +23,9 @@ pub struct Heap<A: Allocator = Global> {
     objects: Vec<Object<A>, A>,
     /// The numbers of the objects that aren't gone, ascending.
     live: Vec<u64, A>,
-    /// Of each object, whether its slots may hold objects. A collection reads this of what is in
-    /// being, and the object itself only where it says so.
-    pointing: Vec<bool, A>,
+    /// The numbers of those whose slots may hold objects, ascending. A collection looks into no
+    /// other.
+    pointing: Vec<u64, A>,
 }
 
 impl<A: Allocator> Model for Heap<A> {
@@ -40,6 +40,16 @@ impl<A: Allocator> Model for Heap<A> {
     ghost invariant = { λ h. Keeps h.objects.items h.live.items h.pointing.items };
 }
 
+/// Adds a number where it is asked for. There is room for it.
+fn add_if<A: Allocator>(numbers: &mut Vec<u64, A>, number: u64, wanted: bool)
+    requires { vec_len numbers.old < vec_capacity numbers.old }
+    ensures { numbers.new.items ≡ numbers.old.items ++ (if wanted then number ∷ [] else []) }
+{
+    if wanted {
+        numbers.push_reserved(number);
+    }
+}
+
 impl<A: Allocator + Clone> Heap<A> {
     /// A store with `class_count` class objects and no other. Fails only for want of memory.
     pub fn new(alloc: A, class_count: u64) -> Result<Heap<A>, AllocError>
@@ -49,10 +59,9 @@ impl<A: Allocator + Clone> Heap<A> {
     {
         let mut objects = Vec::new(alloc.clone()?);
         let mut live = Vec::new(alloc.clone()?);
-        let mut pointing = Vec::new(alloc);
+        let pointing = Vec::new(alloc);
         for class in 0..class_count {
             live.push(class)?;
-            pointing.push(false)?;
             objects.push(Object {
                 body: Body::Class,
                 gone: false,
@@ -87,7 +96,7 @@ impl<A: Allocator + Clone> Heap<A> {
         self.pointing.reserve(1)?;
         self.objects.push(object)?;
         self.live.push_reserved(number as u64);
-        self.pointing.push_reserved(may_point);
+        add_if(&mut self.pointing, number as u64, may_point);
         Ok(ObjId(number as u64))
     }
 }
@@ -249,7 +258,7 @@ impl<A: Allocator> Heap<A> {
         ensures fits { result < 2 ^ 63 }
     {
         mark_classes(marks, self.class_count);
-        mark_pointed(marks, &self.objects, &self.live, &self.pointing);
+        mark_pointed(marks, &self.objects, &self.pointing);
         count_unmarked(marks, &self.live)
     }
 
@@ -260,7 +269,8 @@ impl<A: Allocator> Heap<A> {
         ensures classes { self.new.classes ≡ self.old.classes }
         ensures shapes { KeepsShapes self.old self.new }
     {
-        let_go(&mut self.objects, &self.live, marks);
-        keep_marked(&mut self.live, marks);
+        let kept = keep_marked(&mut self.objects, &mut self.live, marks);
+        self.live.truncate(kept);
+        retain_marked(&mut self.pointing, marks);
     }
 }

@@ -1,13 +1,14 @@
-ghost use Rattle.std.specs.Prelude.{◌≡◌, ℕ, ◌+◌, ◌<◌, List, [], ◌∷◌, None, Some, IfOk, OnErr, map, option_map};
+ghost use Rattle.std.specs.Prelude.{◌≡◌, ℕ, ◌+◌, ◌<◌, List, [], ◌∷◌, ◌==◌, filter, None, Some, IfOk, OnErr, map, option_map};
 ghost use Rattle.jg_monitors.specs.History.{Event, by, Enter, Exit, ReleaseAll, owner, owner_count, held, entering};
-ghost use Rattle.jg_monitors.specs.Rows.{Ascends, owned_monitor, row_of, owner_in, count_in};
+ghost use Rattle.jg_monitors.specs.Rows.{Ascends, is_of, owned_monitor, row_of, owner_in, count_in};
 ghost use Rattle.jg_monitors.specs.Standing.{Stands};
 ghost use Rattle.jg_lists.specs.Marks.{Marks};
 
 use crate::entering::Entering;
 use crate::holdings::{lower, release, take};
-use crate::owned::{Found, Owned, list_all, look, mark_keys, raise_own};
+use crate::owned::{ByObject, Found, Owned, list_all, look, mark_keys, raise_own};
 use crate::owned_monitor::OwnedMonitor;
+use indexmap::IndexMap;
 use jg_words::{ObjId, Tid};
 use std::alloc::{AllocError, Allocator, Global};
 use std::collections::BTreeMap;
@@ -16,7 +17,7 @@ use std::marker::Model;
 /// The owned monitors, by object. Contracts see the rows.
 #[derive(Drop)]
 pub struct Monitors<A: Allocator = Global> {
-    owned: BTreeMap<u64, Owned, A>,
+    owned: ByObject<A>,
     /// The same by thread and object, for a release of all that one thread owns.
     held: BTreeMap<(u32, u64), (), A>,
 }
@@ -26,28 +27,28 @@ impl<A: Allocator> Model for Monitors<A> {
     ghost use Rattle.jg_monitors.specs.Rows.{Rows};
     ghost use Rattle.jg_monitors.specs.Seen.{seen};
     ghost use Rattle.jg_monitors.specs.Keys.{Agree};
-    ghost use Rattle.std.specs.BTreeMap.{IsOrdered};
-    ghost use Rattle.std.specs.Ordering.{nat_cmp};
 
     ghost Value = { Rows };
 
     ghost view = { λ a. record { owned = map seen a.owned.entries } };
 
-    ghost invariant = { λ a. IsOrdered nat_cmp a.owned × Agree a.owned a.held };
+    ghost invariant = { λ a. Agree a.owned a.held };
 }
 
-impl<A: Allocator + Clone> Monitors<A> {
+impl<A: Allocator + Copy> Monitors<A> {
     /// No monitor is owned. Takes no memory; the two maps grow from the two handles.
     pub fn new(owned: A, held: A) -> Monitors<A>
         ensures stands { Stands result [] }
         ensures rows { result ≡ record { owned = [] } }
     {
         Monitors {
-            owned: BTreeMap::new(owned),
+            owned: IndexMap::new(owned),
             held: BTreeMap::new(held),
         }
     }
+}
 
+impl<A: Allocator + Clone> Monitors<A> {
     /// Enters the monitor of the object, once more where the thread owns it already (chapter 4,
     /// `MonitorEnter`). `Busy` where another thread owns it: nothing changes. Asks that its count can
     /// rise (`count` below the greatest `u64`). Fails only for want of memory, at a monitor that is
@@ -131,7 +132,8 @@ impl<A: Allocator + Clone> Monitors<A> {
     /// The owned monitors, ascending by object. Takes time by how many there are. Fails only for
     /// want of memory.
     pub fn list<B: Allocator>(&self, alloc: B) -> Result<Vec<OwnedMonitor, B>, AllocError>
-        ensures rows { IfOk result (λ found. found.items ≡ map owned_monitor self.now.owned) }
+        ensures rows { IfOk result (λ found. (o : ℕ) → filter (λ m. m.object.0 == o) found.items
+            ≡ map owned_monitor (filter (is_of o) self.now.owned)) }
         ensures ascending { IfOk result (λ found. Ascends found.items) }
     {
         list_all(&self.owned, alloc)

@@ -6,6 +6,7 @@ ghost use Rattle.std.specs.Fmt.{decimal, signed_decimal};
 ghost use Rattle.jg_text.specs.Words.{dotted_text};
 ghost use Rattle.jg_text.specs.Pieces.{IsPlain};
 
+use memchr::memchr;
 use std::str;
 
 /// Neither a plus stands in front nor a leading zero.
@@ -110,7 +111,7 @@ pub fn cut_at(byte: u8, text: &[u8]) -> Option<(&[u8], &[u8])>
         × All (λ b. (b == byte) ≡ false) parts.0.now) }
     ensures none { IfNone result (All (λ b. (b == byte) ≡ false) text.now) }
 {
-    let i = text.iter().position(|b| *b == byte)?;
+    let i = memchr(byte, text)?;
     Some((&text[..i], &text[i + 1..]))
 }
 

@@ -1,6 +1,62 @@
-use Rattle.std.proofs.Common.{rules}
-use Rattle.std.proofs.lemmas.Fn.{filter_same}
+use Rattle.std.proofs.Common.{◌∙◌, ap, sym, refl, subst, arith, false, true, not, ◌&&◌, ◌<◌, ◌≡◌, ◌+◌, length, eqb, get_or, map, take, List, ℕ, Bool}
+use Rattle.std.specs.List.{list_any}
+use Rattle.std.proofs.lemmas.List.{take_all, get_or_default}
+use Rattle.std.proofs.lemmas.List.Filters.{FiltersInPlace-all, FiltersInPlace-more_set, FiltersInPlace-more_no}
+use Rattle.jg_heap.specs.Kept.{row_of, ended_row}
+use Rattle.jg_heap.specs.Rows.{Row, row_in}
+use Rattle.jg_heap.proofs.Sweeping.{ended_none, ended_both, read_on, kept_first, none_first, goes_more}
+use Rattle.jg_heap.proofs.collect.keep_marked.Goals.{then-is_marked, else-is_marked}
 use Rattle.jg_heap.proofs.collect.keep_marked.Goals as goal
 
-pub returns : goal.returns
-returns g c = filter_same _ _ _ (λ x b f' k. search rules) _ _ c.retain.ensures.filtered
+pub let_go-requires : goal.let_go-requires
+let_go-requires g c =
+    let n : length c.loop-at.live ≡ length c.args.live.now = c.loop-at.invariant.kept.long in
+    subst (λ p. p < length c.loop-at.objects) (sym (read_on c.loop-at.invariant.kept (omega (arith, c.loop-at-test.true))))
+    (subst (λ m. get_or c.args.live.now c.loop-at.at 0 < m) (sym c.loop-at.auto.objects) (c.requires c.loop-at.at 0 c.loop-at-test.true))
+
+pub loop-at-init : goal.loop-at-init
+loop-at-init g c = record {
+  kept = kept_first (λ p. get_or c.args.marks.now p false) c.args.live.now c.count_marked_first-first.result c.count_marked_first-first.ensures.marked c.count_marked_first-first.ensures.within;
+  rows = λ o. ended_none (row_in (map row_of c.args.objects.now) o) ∙ ap (λ b. ended_row b (row_in (map row_of c.args.objects.now) o))
+      (sym (none_first (λ p. get_or c.args.marks.now p false) (take c.count_marked_first-first.result c.args.live.now) o c.count_marked_first-first.ensures.marked));
+  pointing = refl;
+}
+
+pub loop-at-preserved : goal.loop-at-preserved
+loop-at-preserved g c =
+    let marked : ℕ → Bool = λ p. get_or c.args.marks.now p false in
+    let rows : List Row = map row_of c.args.objects.now in
+    let mid : List Row = map row_of c.loop-at.objects in
+    let xs = c.args.live.now in
+    let ys = c.loop-at.live in
+    let i = c.loop-at.at in
+    let goes : ℕ → List ℕ → Bool = λ o. list_any (λ p. not (marked p) && eqb p o) in
+    let within : i < length ys = omega (arith, c.loop-at-test.true, c.loop-at.invariant.kept.long) in
+    let same : get_or ys i 0 ≡ get_or ys i (get_or ys i 0) = get_or_default ys i 0 (get_or ys i 0) within in
+    elim c.if-is_marked.branch [
+      | then-is_marked w ↦
+          let here : marked (get_or ys i 0) ≡ true = sym c.is_marked.ensures ∙ w.if-is_marked.true in
+          rw (w.objects-is, w.live-is, w.kept-is) (record {
+            kept = FiltersInPlace-more_set c.loop-at.invariant.kept within here same;
+            rows = λ o. ended_both (row_in rows o) (row_in mid o) (row_in mid o) (goes o (take i xs)) false (goes o (take (i + 1) xs)) (c.loop-at.invariant.rows o) (ended_none (row_in mid o))
+                (goes_more marked xs ys c.loop-at.kept i o true c.loop-at.invariant.kept within (sym here));
+            pointing = c.loop-at.invariant.pointing;
+          })
+      | else-is_marked w ↦
+          let here : marked (get_or ys i 0) ≡ false = sym c.is_marked.ensures ∙ w.if-is_marked.false in
+          rw (w.objects-is, w.live-is, w.kept-is) (record {
+            kept = FiltersInPlace-more_no c.loop-at.invariant.kept within here same;
+            rows = λ o. ended_both (row_in rows o) (row_in mid o) _ (goes o (take i xs)) (eqb (get_or ys i 0) o) (goes o (take (i + 1) xs)) (c.loop-at.invariant.rows o) (w.let_go.ensures.rows o)
+                (goes_more marked xs ys c.loop-at.kept i o false c.loop-at.invariant.kept within (sym here));
+            pointing = w.let_go.ensures.pointing ∙ c.loop-at.invariant.pointing;
+          })
+    ]
+
+pub returns-clause-kept : goal.returns-clause-kept
+returns-clause-kept g c = FiltersInPlace-all c.loop-at.invariant.kept (omega (arith, c.loop-at-test.false))
+
+pub returns-clause-rows : goal.returns-clause-rows
+returns-clause-rows g c o =
+    c.loop-at.invariant.rows o
+    ∙ ap (λ (os : List ℕ). ended_row (list_any (λ p. not (get_or c.args.marks.now p false) && eqb p o) os) (row_in (map row_of c.args.objects.now) o))
+    (take_all c.loop-at.at c.args.live.now (omega (arith, c.loop-at-test.false)))

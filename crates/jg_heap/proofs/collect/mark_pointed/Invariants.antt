@@ -5,4 +5,4 @@ use Rattle.jg_heap.specs.Kept.{row_of, slot_of_row_holds}
 use Rattle.jg_heap.proofs.collect.mark_pointed.Given as goal
 
 abbrev pub invariant-loop-object : goal.invariant-loop-object
-invariant-loop-object g l = Marks (λ o. list_any (slot_of_row_holds (map row_of l.objects) o) (take l.object-index l.live)) l.initial.marks l.marks
+invariant-loop-object g l = Marks (λ o. list_any (slot_of_row_holds (map row_of l.objects) o) (take l.object-index l.pointing)) l.initial.marks l.marks

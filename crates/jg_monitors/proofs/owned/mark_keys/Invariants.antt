@@ -2,7 +2,7 @@ use Rattle.std.proofs.Common.{◌≡◌, ℕ}
 use Rattle.std.specs.Prelude.{◌==◌, ◌||◌, slice_get}
 use Rattle.std.specs.List.{list_any}
 use Rattle.std.specs.Option.{option_map}
-use Rattle.std.specs.BTreeMap.{keys}
+use Rattle.indexmap.specs.IndexMap.{keys}
 use Rattle.jg_monitors.proofs.owned.mark_keys.Given as goal
 
 -- with the keys that are left marked, all keys are marked

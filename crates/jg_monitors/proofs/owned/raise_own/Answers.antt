@@ -1,8 +1,6 @@
 use Rattle.std.proofs.Common.{◌≡◌, ◌∙◌, Bool, true, false, List, [], ◌∷◌, Some, refl, ap, rules}
-use Rattle.std.specs.Prelude.{if◌then◌else◌}
+use Rattle.std.specs.Prelude.{nat_eq, if◌then◌else◌}
 use Rattle.std.specs.Map.{lookup, set_value}
-use Rattle.std.specs.BTreeMap.{is_at}
-use Rattle.std.specs.Ordering.{nat_cmp}
 use Rattle.jg_monitors.proofs.owned.raise_own.Goals as goal
 
 stays_by : {K X : Type 0} (test : K → Bool) (e : K × X) (es : List (K × X)) (v : X) (b : Bool) → (lookup test es ≡ Some v → set_value test es v ≡ es) → (if b then Some e.1 else lookup test es) ≡ Some v
@@ -19,5 +17,5 @@ value_stays test (e ∷ es) v is = stays_by test e es v (test e.0) (value_stays 
 
 pub returns-then-owned-tid-clause-others : goal.returns-then-owned-tid-clause-others
 returns-then-owned-tid-clause-others g c = λ _.
-    let is : lookup (is_at (nat_cmp c.args.object)) c.args.map.now.entries ≡ Some c.in-Some.owned.now = search rules in
-    (c.get_mut.follows.holds c.in-Some.owned.now).0 ∙ value_stays (is_at (nat_cmp c.args.object)) c.args.map.now.entries c.in-Some.owned.now is
+    let is : lookup (nat_eq c.args.object) c.args.map.now.entries ≡ Some c.in-Some.owned.now = search rules in
+    (c.get_mut.follows.holds c.in-Some.owned.now).0 ∙ value_stays (nat_eq c.args.object) c.args.map.now.entries c.in-Some.owned.now is

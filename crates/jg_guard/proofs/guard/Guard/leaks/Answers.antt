@@ -1,6 +1,4 @@
-use Rattle.std.proofs.Common.{sym, subst, List, map}
-use Rattle.jg_monitors.specs.Rows.{owned_monitor}
-use Rattle.jg_monitors.specs.declared.owned_monitor.OwnedMonitor.{OwnedMonitor}
+use Rattle.std.proofs.Common.{subst}
 use Rattle.jg_rules.specs.Effects.{parts}
 use Rattle.jg_guard.specs.Guard.{State}
 use Rattle.jg_guard.specs.Left.{ListsRefs, ListsBuffers, ListsMonitors}
@@ -20,8 +18,5 @@ returns-clause-buffers g c =
 
 pub returns-clause-monitors : goal.returns-clause-monitors
 returns-clause-monitors g c =
-    let setup = c.self.inside.setup in
-    let rows = rows_of c.self.inside.tables in
-    let listed = subst (λ (s : State). ListsMonitors (parts s.setup s.journal) (map owned_monitor rows.monitors.owned)) c.self.view_is
-    (monitors_listed setup rows _ c.self.invariant.tables) in
-    subst (λ (owned : List OwnedMonitor). ListsMonitors (parts c.args.self.now.setup c.args.self.now.journal) owned) (sym c.in_ok-list.ensures.rows) listed
+    subst (λ (s : State). ListsMonitors (parts s.setup s.journal) c.in_ok-list.field-0.items) c.self.view_is
+    (monitors_listed c.self.inside.setup (rows_of c.self.inside.tables) _ c.self.invariant.tables _ c.in_ok-list.ensures.rows)

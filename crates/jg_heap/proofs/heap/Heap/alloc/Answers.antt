@@ -1,4 +1,4 @@
-use Rattle.std.proofs.Common.{ap, ◌∙◌, ◌++◌, ◌∷◌, [], ℕ, Bool, List, sym, length}
+use Rattle.std.proofs.Common.{ap, ◌∙◌, ◌++◌, ◌∷◌, [], ℕ, List, cond, sym, length}
 use Rattle.jg_heap.proofs.Sweeping.{keeps_made}
 use Rattle.std.proofs.lemmas.List.{length-map}
 use Rattle.jg_heap.specs.Making.{making_of}
@@ -23,5 +23,5 @@ invariant_of-self-2 g c =
     keeps_made c.self.inside.objects.items _ c.self.inside.live.items _ c.self.inside.pointing.items _ c.in_ok-object.object _ c.self.invariant c.in_ok-push.ensures.items
     (ap (λ (r : Row). r.gone) c.in_ok-object.ensures) (c.len-number.ensures ∙ c.self.inside.objects.ok.0)
     (c.push_reserved.ensures.items ∙ ap (λ (os : List ℕ). os ++ c.len-number.result ∷ []) c.in_ok-reserve.ensures.items)
-    (c.push_reserved-2.ensures.items ∙ ap (λ (bs : List Bool). bs ++ c.may_point-may_point.result ∷ []) c.in_ok-reserve-2.ensures.items
-    ∙ ap (λ b. c.self.inside.pointing.items ++ b ∷ []) c.may_point-may_point.ensures)
+    (c.add_if.ensures ∙ ap (λ (os : List ℕ). os ++ cond c.may_point-may_point.result (c.len-number.result ∷ []) []) c.in_ok-reserve-2.ensures.items
+    ∙ ap (λ b. c.self.inside.pointing.items ++ cond b (c.len-number.result ∷ []) []) c.may_point-may_point.ensures)

@@ -23,8 +23,8 @@ loop-class-preserved g c =
     let m : length (map row_of c.loop-class.objects.items) ≡ length (replicate c.loop-class.class (row_of_making (Plain 1 []))) = ap (λ (rs : List Row). length rs) c.loop-class.invariant.rows in
     let i : length (map row_of c.loop-class.objects.items) ≡ length c.loop-class.objects.items = length-map c.loop-class.objects.items row_of in
     record {
-      rows = ap (map row_of) c.in_ok-push-3.ensures.items ∙ map-append row_of c.loop-class.objects.items (_ ∷ [])
+      rows = ap (map row_of) c.in_ok-push-2.ensures.items ∙ map-append row_of c.loop-class.objects.items (_ ∷ [])
           ∙ ap (λ (rs : List Row). rs ++ row_of_making (Plain 1 []) ∷ []) c.loop-class.invariant.rows ∙ replicate_more c.loop-class.class (row_of_making (Plain 1 []));
-      keeps = keeps_made c.loop-class.objects.items _ c.loop-class.live.items _ c.loop-class.pointing.items _ _ c.loop-class.class c.loop-class.invariant.keeps c.in_ok-push-3.ensures.items refl
-          (omega arith) c.in_ok-push.ensures.items c.in_ok-push-2.ensures.items;
+      keeps = keeps_made c.loop-class.objects.items _ c.loop-class.live.items _ [] [] _ c.loop-class.class c.loop-class.invariant.keeps c.in_ok-push-2.ensures.items refl
+          (omega arith) c.in_ok-push.ensures.items refl;
     }

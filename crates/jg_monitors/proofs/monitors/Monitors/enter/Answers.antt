@@ -1,8 +1,6 @@
 use Rattle.std.proofs.Common.{sym, refl, ◌∙◌, ap, arith}
-use Rattle.std.specs.Prelude.{map}
+use Rattle.std.specs.Prelude.{map, nat_eq}
 use Rattle.std.specs.Map.{lookup}
-use Rattle.std.specs.BTreeMap.{is_at}
-use Rattle.std.specs.Ordering.{nat_cmp}
 use Rattle.jg_monitors.specs.Rows.{count_in, owner_in}
 use Rattle.jg_monitors.specs.Standing.{Stands}
 use Rattle.jg_monitors.specs.Seen.{seen}
@@ -13,7 +11,7 @@ use Rattle.jg_monitors.proofs.monitors.Monitors.enter.Goals as goal
 pub raise_own-requires : goal.raise_own-requires
 raise_own-requires g c =
     let entries = c.self.inside.owned.entries in
-    let kept = kept_law c.args.object.0 (lookup (is_at (nat_cmp c.args.object.0)) entries) in
+    let kept = kept_law c.args.object.0 (lookup (nat_eq c.args.object.0) entries) in
     let row = ap count_in (row_law entries _ c.args.object.0 c.self.view_is) in
     omega (arith, kept, row, c.requires)
 
@@ -40,7 +38,7 @@ pub returns-in-Own-clause-entered : goal.returns-in-Own-clause-entered
 returns-in-Own-clause-entered g c = λ done e stands.
     let entries = c.self.inside.owned.entries in
     let was : Stands (record { owned = map seen entries }) e = reopened _ _ e c.self.view_is stands in
-    raise_law entries c.raise_own.new.map.entries e c.args.tid.0 c.args.object.0 was (sym c.in-Own.ensures.found) c.in-Own.ensures.ordered c.in-Own.ensures.raised
+    raise_law entries c.raise_own.new.map.entries e c.args.tid.0 c.args.object.0 was (sym c.in-Own.ensures.found) c.in-Own.ensures.unique c.in-Own.ensures.raised
 
 -- the thread is the owner, once
 pub returns-in_ok-take-in-Free-clause-entered : goal.returns-in_ok-take-in-Free-clause-entered
@@ -48,11 +46,11 @@ returns-in_ok-take-in-Free-clause-entered g c = λ done e stands.
     let entries = c.self.inside.owned.entries in
     let was : Stands (record { owned = map seen entries }) e = reopened _ _ e c.self.view_is stands in
     take_law entries c.raise_own.new.map.entries c.take.new.owned.entries e c.args.tid.0 c.args.object.0 was (sym c.in-Free.ensures.found) (c.in-Free.ensures.free refl)
-    c.in_ok-take-in-Free.ensures.ordered c.in_ok-take-in-Free.ensures.taken
+    c.in_ok-take-in-Free.ensures.unique c.in_ok-take-in-Free.ensures.taken
 
 -- only what nobody owned can fail
 pub returns-in_err-take-in-Free-clause-free : goal.returns-in_err-take-in-Free-clause-free
 returns-in_err-take-in-Free-clause-free g c =
     let entries = c.self.inside.owned.entries in
     on_err _ _ (ap owner_in (row_law entries _ c.args.object.0 c.self.view_is)
-    ∙ ap (λ found. owner_in (row_at c.args.object.0 found)) (free_is c.args.tid.0 (lookup (is_at (nat_cmp c.args.object.0)) entries) (sym c.in-Free.ensures.found)))
+    ∙ ap (λ found. owner_in (row_at c.args.object.0 found)) (free_is c.args.tid.0 (lookup (nat_eq c.args.object.0) entries) (sym c.in-Free.ensures.found)))

@@ -8,4 +8,4 @@ use Rattle.jg_monitors.proofs.monitors.Monitors.release_all.Goals as goal
 pub returns : goal.returns
 returns g c = λ e stands.
     let was : Stands (record { owned = map seen c.self.inside.owned.entries }) e = reopened _ _ e c.self.view_is stands in
-    release_law c.self.inside.owned.entries c.release.new.owned.entries e c.args.tid.0 was c.release.ensures.ordered c.release.ensures.released
+    release_law c.self.inside.owned.entries c.release.new.owned.entries e c.args.tid.0 was c.release.ensures.unique c.release.ensures.released
