@@ -374,6 +374,15 @@ def weak_collected(lines):
     yield 'T0 - Collect'
 
 
+def collected_each(lines):
+    """A string is made, let go of and collected, over and over: nothing stays, and much has been."""
+    yield attach(1)
+    for n in range(1, lines):
+        yield call('NewString []')
+        yield call(f'DeleteLocalRef L1.{n}')
+        yield 'T0 - Collect'
+
+
 ALL = [strings, locals_kept, globals_kept, frames, arrays, critical, monitors, fields, denied, mixed, collect, long_lists,
        locals_at_random, locals_from_the_front, deep_frames, globals_in_order, globals_at_random, threads_of_locals,
-       weak_collected]
+       weak_collected, collected_each]

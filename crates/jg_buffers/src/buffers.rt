@@ -10,6 +10,7 @@ use crate::info::Info;
 use crate::listing::list_keys;
 use crate::pinned::{Pinned, ViaKey, family_of_pin, mark_objects, names_object, pin_kind, via_key};
 use crate::tally::{count_of, lower, make_room, raise};
+use jg_lists::ObjectMarks;
 use jg_words::{BufId, ObjId, Ref, Tid};
 use std::alloc::{AllocError, Allocator, Global};
 use std::collections::BTreeMap;
@@ -231,8 +232,8 @@ impl<A: Allocator + Clone> Buffers<A> {
     }
 
     /// Sets the mark of each object of which a pinned buffer is open and leaves the other marks. An
-    /// object past the end of `marks` is passed over.
-    pub fn mark_held(&self, marks: &mut [bool])
+    /// object without a mark is passed over.
+    pub fn mark_held(&self, marks: &mut ObjectMarks<A>)
         ensures { (e : List Event) → Stands self.now e → Marks (pins_object e) marks.old marks.new }
     {
         mark_objects(&self.pins, marks);

@@ -6,7 +6,7 @@ ghost use Rattle.jg_buffers.specs.History.{is_critical};
 ghost use Rattle.jg_buffers.specs.Seen.{pin_family, key_of};
 
 use crate::family::Family;
-use jg_lists::mark;
+use jg_lists::ObjectMarks;
 use jg_words::{Kind, Ref};
 use std::alloc::Allocator;
 use std::collections::BTreeMap;
@@ -71,10 +71,13 @@ pub fn names_object<A: Allocator>(pins: &BTreeMap<(u16, u64), Pinned, A>, object
     pins.values().any(|pin| pin.object == object)
 }
 
-pub fn mark_objects<A: Allocator>(pins: &BTreeMap<(u16, u64), Pinned, A>, marks: &mut [bool])
+pub fn mark_objects<A: Allocator>(
+    pins: &BTreeMap<(u16, u64), Pinned, A>,
+    marks: &mut ObjectMarks<A>,
+)
     ensures { Marks (λ o. list_any (λ w. w.object == o) (values pins.now)) marks.old marks.new }
 {
     for pin in pins.values() {
-        mark(marks, pin.object);
+        marks.set(pin.object);
     }
 }

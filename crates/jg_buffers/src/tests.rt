@@ -2,6 +2,7 @@ ghost use Rattle.std.specs.Prelude.{◌≡◌, false};
 ghost use Rattle.jg_buffers.specs.History.{is_null};
 
 use crate::{Buffers, Family, Info};
+use jg_lists::ObjectMarks;
 use jg_words::{BufId, Kind, ObjId, Primitive, Ref, Tid};
 use linked_list_allocator::LocalHeap;
 use std::process::Abort;
@@ -44,9 +45,10 @@ fn nested_pins(rt: HostRuntime) -> Result<(), Fail> {
     let mut table = Buffers::new(rt.alloc(), rt.alloc(), rt.alloc(), rt.alloc(), rt.alloc());
     table.open_pin(T1, 1, ARRAY, Family::ArrayCritical, global(T1, 1), 1)?;
     table.open_pin(T1, 2, ARRAY, Family::ArrayCritical, global(T1, 1), 1)?;
-    let mut marks = [false, false];
+    let mut marks = ObjectMarks::new(rt.alloc());
+    marks.start(2)?;
     table.mark_held(&mut marks);
-    assert_eq!(rt; marks, [false, false]);
+    assert!(rt; !marks.is_set(0) && !marks.is_set(1));
     assert!(rt; table.in_critical(T1));
     assert!(rt; !table.in_critical(T2));
     assert!(rt; table.pinned_by(global(T1, 1)));
@@ -94,9 +96,11 @@ fn marks_of_pins_alone(rt: HostRuntime) -> Result<(), Fail> {
     let mut table = Buffers::new(rt.alloc(), rt.alloc(), rt.alloc(), rt.alloc(), rt.alloc());
     table.open_copy(T1, 1, ObjId(0), INTS, &[])?;
     table.open_pin(T2, 1, ObjId(1), Family::StringCritical, weak(T1, 2), 0)?;
-    let mut marks = [false, false, true];
+    let mut marks = ObjectMarks::new(rt.alloc());
+    marks.start(3)?;
+    marks.set(2);
     table.mark_held(&mut marks);
-    assert_eq!(rt; marks, [false, true, true]);
+    assert!(rt; !marks.is_set(0) && marks.is_set(1) && marks.is_set(2));
     Ok(())
 }
 

@@ -10,7 +10,7 @@ ghost use Rattle.jg_globals.specs.Seen.{ref_named};
 use crate::name::Name;
 use crate::target::Target;
 use indexmap::IndexMap;
-use jg_lists::mark;
+use jg_lists::ObjectMarks;
 use jg_words::{Kind, ObjId, Ref, Tid};
 use std::alloc::{AllocError, Allocator};
 use std::hash::{BuildHasherDefault, FoldHasher};
@@ -24,11 +24,11 @@ pub fn names_object<A: Allocator>(rows: &ByName<ObjId, A>, object: ObjId) -> boo
     rows.values().any(|other| other.0 == object.0)
 }
 
-pub fn mark_objects<A: Allocator>(rows: &ByName<ObjId, A>, marks: &mut [bool])
+pub fn mark_objects<A: Allocator>(rows: &ByName<ObjId, A>, marks: &mut ObjectMarks<A>)
     ensures { Marks (λ o. list_any (λ p. p.0 == o) (values rows.now)) marks.old marks.new }
 {
     for object in rows.values() {
-        mark(marks, object.0);
+        marks.set(object.0);
     }
 }
 

@@ -9,6 +9,7 @@ use crate::by_name::{ByName, clear_rows, list_names, mark_objects, names_object}
 use crate::name::Name;
 use crate::target::Target;
 use indexmap::IndexMap;
+use jg_lists::ObjectMarks;
 use jg_words::{Kind, ObjId, Ref, Tid};
 use std::alloc::{AllocError, Allocator, Global};
 use std::marker::Model;
@@ -148,8 +149,8 @@ impl<A: Allocator> Globals<A> {
     }
 
     /// Sets the mark of each object that a global reference names and leaves the other marks. An
-    /// object past the end of `marks` is passed over.
-    pub fn mark_held(&self, marks: &mut [bool])
+    /// object without a mark is passed over.
+    pub fn mark_held(&self, marks: &mut ObjectMarks<A>)
         ensures { (e : List Event) → Stands self.now e → Marks (holds_object e) marks.old marks.new }
     {
         mark_objects(&self.strong, marks);

@@ -1,4 +1,5 @@
 use crate::{Globals, Target};
+use jg_lists::ObjectMarks;
 use jg_words::{Kind, ObjId, Ref, Tid};
 use linked_list_allocator::LocalHeap;
 use std::process::Abort;
@@ -65,9 +66,11 @@ fn collection(rt: HostRuntime) -> Result<(), Fail> {
     table.make_strong(T2, 1, ObjId(9))?;
     table.make_weak(T1, 2, ObjId(1))?;
     table.make_weak(T1, 3, ObjId(2))?;
-    let mut marks = [true, false, false, false];
+    let mut marks = ObjectMarks::new(rt.alloc());
+    marks.start(4)?;
+    marks.set(0);
     table.mark_held(&mut marks);
-    assert_eq!(rt; marks, [true, false, true, false]);
+    assert!(rt; marks.is_set(0) && !marks.is_set(1) && marks.is_set(2) && !marks.is_set(3));
     table.clear_weak_where(|object: ObjId| object.0 == 1);
     assert_eq!(rt; table.get(weak(T1, 2)), Some(Target::Cleared));
     assert_eq!(rt; table.get(weak(T1, 3)), Some(Target::Object(ObjId(2))));

@@ -1,5 +1,5 @@
 -- What a sound guard knows of a call that passes, and that it stays sound.
-use Rattle.std.proofs.Common.{ℕ, ◌≡◌, ◌<◌, List, ◌∷◌, length, Option, Some, None, refl, ap, ◌∙◌, arith, subst}
+use Rattle.std.proofs.Common.{ℕ, ◌≡◌, ◌<◌, List, ◌∷◌, length, Option, Some, None, refl, ap, ◌∙◌, arith, subst, sym}
 use Rattle.jg_words.specs.declared.thread.EnvId.{EnvId}
 use Rattle.jg_words.specs.declared.thread.Tid.{Tid}
 use Rattle.jg_words.specs.declared.call.Call.{Call}
@@ -19,7 +19,7 @@ use Rattle.jg_words.specs.declared.entry.Outcome.TheVariants.{Passed, Denied}
 use Rattle.jg_rules.specs.declared.answer.Answer.{Answer}
 use Rattle.jg_rules.proofs.Kept.{unbroken}
 use Rattle.jg_guard.specs.Guard.{State, IsSound, Takes}
-use Rattle.jg_guard.proofs.Due.{counts}
+use Rattle.jg_guard.proofs.Due.{counts, stand_at}
 use Rattle.jg_guard.specs.declared.collect.Held.{Held}
 use Rattle.jg_guard.specs.Held.{Finds}
 use Rattle.jg_guard.specs.Tables.{IsOrdinary, IsDue, IsAnswered}
@@ -81,12 +81,12 @@ entry_denied s p t env call rule is = rw is refl
 abbrev pub passed_entry : Tid → Option EnvId → Call → Answer → Entry
 passed_entry t env call given = record { tid = t; env = env; call = call; outcome = Passed given.reply; object = given.object }
 
-pub entry_given : (s : StatedSetup) (p : Parts) (t : Tid) (env : Option EnvId) (call : Call) (given : Answer) → verdict s p t.0 env call ≡ None → given ≡ answer s p t call
+entry_given : (s : StatedSetup) (p : Parts) (t : Tid) (env : Option EnvId) (call : Call) (given : Answer) → verdict s p t.0 env call ≡ None → given ≡ answer s p t call
     → passed_entry t env call given ≡ entry_at s p t env call
 entry_given s p t env call given none is = rw (none, is) refl
 
 -- with its notice, as it stands after the call, it is the whole answer
-pub noticed_given : (s : StatedSetup) (p : Parts) (t : Tid) (call : Call) (given : Answer) (b : Bool) → given ≡ unnoticed s p t call
+noticed_given : (s : StatedSetup) (p : Parts) (t : Tid) (call : Call) (given : Answer) (b : Bool) → given ≡ unnoticed s p t call
     → b ≡ (makes_local given.reply.value && crowded (acts_of t.0 (passed_on s t.0 call given.reply given.object p).locals)) → with_notice b given ≡ answer s p t call
 noticed_given s p t call given b is told = ap (λ (n : Bool). with_notice n given) told ∙ ap (noticed s p t call) is
 
@@ -107,22 +107,48 @@ pub denied_sound : (state : State) (journal : List Entry) (spare : ℕ) (rows : 
 denied_sound state journal spare rows t env call rule s room denied is =
     sound_after state journal spare (denied_entry t env call rule) rows rows s room is (entry_denied state.setup (parts state.setup state.journal) t env call rule denied) s.tables
 
-pub answered_at : (s s' : StatedSetup) (p : Parts) (t : Tid) (call : Call) (given : Answer) → s' ≡ s → given ≡ unnoticed s' p t call → given ≡ unnoticed s p t call
-answered_at s s' p t call given same is = is ∙ ap (λ (r : StatedSetup). unnoticed r p t call) same
-
 same_answer : (a b : Answer) → a.reply.value ≡ b.reply.value → a.reply.warned ≡ b.reply.warned → a.reply.noticed ≡ b.reply.noticed → a.object ≡ b.object → a ≡ b
 same_answer a b value warned noticed object = ap (λ (v : Value). record { reply = record { value = v; warned = a.reply.warned; noticed = a.reply.noticed }; object = a.object }) value
     ∙ (ap (λ (w : Bool). record { reply = record { value = b.reply.value; warned = w; noticed = a.reply.noticed }; object = a.object }) warned
     ∙ (ap (λ (n : Bool). record { reply = record { value = b.reply.value; warned = b.reply.warned; noticed = n }; object = a.object }) noticed
     ∙ ap (λ (o : Option ObjId). record { reply = record { value = b.reply.value; warned = b.reply.warned; noticed = b.reply.noticed }; object = o }) object))
 
-pub answered_due : (A : Type 0) (state : State) (rows : TableRows) (t : Tid) (env : Option EnvId) (call : Call) (given : Answer) (again : Answer) (held : Option (Held A)) → IsSound state rows
-    → verdict state.setup (parts state.setup state.journal) t.0 env call ≡ None
-    → given ≡ unnoticed state.setup (parts state.setup state.journal) t call → again.reply.value ≡ given.reply.value → again.reply.warned ≡ given.reply.warned → again.reply.noticed ≡ given.reply.noticed → again.object ≡ given.object
-    → Finds state.setup (parts state.setup state.journal) call held → IsAnswered state.setup rows t call again held
-answered_due A state rows t env call given again held s none is value warned noticed object found =
-    record { due = due_of state rows t env call s none; answered = same_answer again given value warned noticed object ∙ is; found = found }
+-- what is known of a call that passes, once it is answered: it breaks no rule, its answer is what the history says, but for a
+-- notice, and what a collection found is what the history says is held
+pub record IsPassed (A : Type 0) (state : State) (t : Tid) (env : Option EnvId) (call : Call) (given : Answer) (held : Held A) : Type 0 where
+  pub none : verdict state.setup (parts state.setup state.journal) t.0 env call ≡ None
+  pub answers : given ≡ unnoticed state.setup (parts state.setup state.journal) t call
+  pub found : Finds state.setup (parts state.setup state.journal) call held
 
--- what was found under the view's setup was found under the guard's
-pub found_at : (A : Type 0) (s s' : StatedSetup) (p : Parts) (call : Call) (held : Option (Held A)) → s' ≡ s → Finds s' p call held → Finds s p call held
-found_at A s s' p call held same found = subst (λ (r : StatedSetup). Finds r p call held) same found
+-- what was found and answered under the view is so under the guard
+pub passed_by : (A : Type 0) (state now : State) (s : StatedSetup) (rows rows' : TableRows) (t : Tid) (env : Option EnvId) (call : Call) (given : Answer) (held : Held A) → IsSound state rows → state ≡ now
+    → s ≡ state.setup → rows' ≡ rows → verdict now.setup (parts now.setup now.journal) t.0 env call ≡ None
+    → ((p : Parts) → TablesStand s rows' p → Finds s p call held)
+    → ((p : Parts) → TablesStand s rows' p → Finds s p call held → given ≡ unnoticed s p t call)
+    → IsPassed A state t env call given held
+passed_by A state now s rows rows' t env call given held sound seen same_setup same_rows none found told =
+    let p : Parts = parts state.setup state.journal in
+    let stand : TablesStand s rows' p = stand_at state.setup s rows rows' p same_setup same_rows sound.tables in
+    record {
+      none = subst (λ (g : State). verdict g.setup (parts g.setup g.journal) t.0 env call ≡ None) (sym seen) none;
+      answers = told p stand (found p stand) ∙ ap (λ (r : StatedSetup). unnoticed r p t call) same_setup;
+      found = subst (λ (r : StatedSetup). Finds r p call held) same_setup (found p stand);
+    }
+
+-- so its effects are due
+pub answered_due : (A : Type 0) (state : State) (rows : TableRows) (t : Tid) (env : Option EnvId) (call : Call) (given again : Answer) (held : Held A) → IsSound state rows
+    → IsPassed A state t env call given held → again.reply.value ≡ given.reply.value → again.reply.warned ≡ given.reply.warned → again.reply.noticed ≡ given.reply.noticed → again.object ≡ given.object
+    → IsAnswered state.setup rows t call again held
+answered_due A state rows t env call given again held s passed value warned noticed object = record {
+  due = due_of state rows t env call s passed.none;
+  answered = same_answer again given value warned noticed object ∙ passed.answers;
+  found = passed.found;
+}
+
+-- its entry, with a notice or without as the tables say after it, is the history's next
+pub next_entry : (A : Type 0) (state : State) (t : Tid) (env : Option EnvId) (call : Call) (given : Answer) (held : Held A) (b : Bool) → IsPassed A state t env call given held
+    → b ≡ (makes_local given.reply.value && crowded (acts_of t.0 (passed_on state.setup t.0 call given.reply given.object (parts state.setup state.journal)).locals))
+    → passed_entry t env call (with_notice b given) ≡ entry_at state.setup (parts state.setup state.journal) t env call
+next_entry A state t env call given held b passed told =
+    let p : Parts = parts state.setup state.journal in
+    entry_given state.setup p t env call (with_notice b given) passed.none (noticed_given state.setup p t call given b passed.answers told)

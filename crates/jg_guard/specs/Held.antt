@@ -1,5 +1,5 @@
 -- What a collection finds before it changes anything.
-use Rattle.std.specs.Prelude.{◌≡◌, Option, Some, None, length, pos}
+use Rattle.std.specs.Prelude.{◌≡◌, length, pos}
 use Rattle.jg_words.specs.declared.call.Call.{Call}
 use Rattle.jg_words.specs.declared.call.Call.TheVariants.{Vm}
 use Rattle.jg_words.specs.declared.call.vm.VmCall.TheVariants.{Collect}
@@ -11,11 +11,10 @@ use Rattle.jg_guard.specs.declared.collect.Held.{Held}
 
 -- the marks are those of what something holds, and the others in being are counted
 pub record IsHeld {A : Type 0} (setup : StatedSetup) (p : Parts) (held : Held A) : Type 0 where
-  pub marks : MarksHeld (class_count setup) (roots setup p) p.heap held.marks.items
+  pub marks : MarksHeld (class_count setup) (roots setup p) p.heap held.marks
   pub unheld : held.unheld ≡ pos (length (going setup p))
 
 -- a collection has found what is held; no other call has to
-abbrev pub Finds : {A : Type 0} → StatedSetup → Parts → Call → Option (Held A) → Type 0
-Finds setup p (Vm Collect) (Some held) = IsHeld setup p held
-Finds setup p (Vm Collect) None = ⊥
+abbrev pub Finds : {A : Type 0} → StatedSetup → Parts → Call → Held A → Type 0
+Finds setup p (Vm Collect) held = IsHeld setup p held
 Finds setup p call held = Unit {0}

@@ -77,7 +77,7 @@ pub record IsDue (setup : StatedSetup) (rows : TableRows) (t : ℕ) (call : Call
   pub counts : CanCount rows.threads t
 
 -- such a call, with its answer but for a notice, and what a collection found
-pub record IsAnswered {A : Type 0} (setup : StatedSetup) (rows : TableRows) (t : Tid) (call : Call) (given : Answer) (held : Option (Held A)) : Type 0 where
+pub record IsAnswered {A : Type 0} (setup : StatedSetup) (rows : TableRows) (t : Tid) (call : Call) (given : Answer) (held : Held A) : Type 0 where
   pub due : IsDue setup rows t.0 call
   pub answered : given ≡ unnoticed setup due.events t call
   pub found : Finds setup due.events call held

@@ -26,7 +26,7 @@ use std::alloc::{AllocError, Allocator, Global};
 /// found; `lists` is for the items of a list answer.
 pub(crate) fn answer_to<A: Allocator + Clone>(
     view: &View<'_, A>,
-    held: &Option<Held<A>>,
+    held: &Held<A>,
     lists: Global,
     tid: Tid,
     call: &Call,

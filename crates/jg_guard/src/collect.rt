@@ -1,7 +1,7 @@
 //! The collector: each table marks what it holds, once; the store marks what stands in a slot; what
 //! isn't marked then goes, and weak references to it are cleared.
 
-ghost use Rattle.std.specs.Prelude.{◌≡◌, ◌==◌, ◌<◌, ◌≤◌, ◌^◌, ◌++◌, ℕ, false, List, length, map, pos, slice_get, slice_index_or, Some, IfOk, OnErr};
+ghost use Rattle.std.specs.Prelude.{◌≡◌, ◌==◌, ◌<◌, ◌≤◌, ◌^◌, ◌++◌, ℕ, false, List, length, map, pos, slice_get, slice_index_or, Some, OnOk, OnErr};
 ghost use Rattle.std.specs.List.{list_any};
 ghost use Rattle.jg_lists.specs.Marks.{Marks};
 ghost use Rattle.jg_globals.specs.History as globals_of;
@@ -24,12 +24,13 @@ ghost use Rattle.jg_guard.specs.Settled.{collected_on};
 use crate::tables::Tables;
 use jg_globals::Globals;
 use jg_heap::Heap;
+use jg_lists::ObjectMarks;
 use jg_rules::View;
 use jg_words::{Call, ObjId, VmCall};
 use std::alloc::{AllocError, Allocator};
 
 /// Marks each object that something outside the store holds.
-fn mark_roots<A: Allocator + Clone>(view: &View<'_, A>, marks: &mut [bool])
+fn mark_roots<A: Allocator + Clone>(view: &View<'_, A>, marks: &mut ObjectMarks<A>)
     ensures { (p : Parts) → ViewStands view.now p → Marks (is_root p) marks.old marks.new }
 {
     view.locals.mark_held(marks);
@@ -41,9 +42,8 @@ fn mark_roots<A: Allocator + Clone>(view: &View<'_, A>, marks: &mut [bool])
 
 /// Marks all that something holds, and says how many objects nothing holds. No object is marked
 /// before; there is a mark for each.
-fn mark_held<A: Allocator + Clone>(view: &View<'_, A>, marks: &mut [bool]) -> u64
-    requires len { count_in view.now.heap.now ≤ length marks.old }
-    requires unset { (o : ℕ) → o < count_in view.now.heap.now → slice_get marks.old o ≡ Some false }
+fn mark_held<A: Allocator + Clone>(view: &View<'_, A>, marks: &mut ObjectMarks<A>) -> u64
+    requires { (o : ℕ) → o < count_in view.now.heap.now → slice_get marks.old o ≡ Some false }
     ensures marks { (p : Parts) → ViewStands view.now p
         → MarksHeld view.now.heap.now.classes (roots view.now.setup.now p) p.heap marks.new }
     ensures count { (p : Parts) → ViewStands view.now p → result ≡ length (going view.now.setup.now p) }
@@ -54,71 +54,78 @@ fn mark_held<A: Allocator + Clone>(view: &View<'_, A>, marks: &mut [bool]) -> u6
 }
 
 /// What a collection finds: a mark for each object, set where something holds it, and how many of
-/// those in being nothing holds.
+/// those in being nothing holds. It is kept for the next collection, which then takes no time by what
+/// is gone.
 #[derive(Drop)]
 pub(crate) struct Held<A: Allocator> {
-    marks: Vec<bool, A>,
+    marks: ObjectMarks<A>,
     pub(crate) unheld: i64,
 }
 
-/// Looks for all that something holds. It only reads.
-fn find_held<A: Allocator + Clone>(view: &View<'_, A>, alloc: A) -> Result<Held<A>, AllocError>
-    ensures marks { IfOk result (λ held. (p : Parts) → ViewStands view.now p
-        → MarksHeld view.now.heap.now.classes (roots view.now.setup.now p) p.heap held.marks.items) }
-    ensures unheld { IfOk result (λ held. (p : Parts) → ViewStands view.now p
-        → held.unheld ≡ pos (length (going view.now.setup.now p))) }
-{
-    let mut marks = vec![in alloc; false; view.heap.len() as usize]?;
-    let unheld = mark_held(view, &mut marks);
-    Ok(Held {
-        marks,
-        unheld: unheld as i64,
-    })
+impl<A: Allocator> Held<A> {
+    /// Nothing was found yet. Takes no memory.
+    pub(crate) fn new(alloc: A) -> Held<A> {
+        Held {
+            marks: ObjectMarks::new(alloc),
+            unheld: 0,
+        }
+    }
 }
 
-/// What the call has to know of what is held: all, where it is a collection.
-pub(crate) fn held_for<A: Allocator + Clone>(
+/// Looks for all that something holds. It only reads the tables.
+fn find_held<A: Allocator + Clone>(view: &View<'_, A>, held: &mut Held<A>) -> Result<(), AllocError>
+    ensures marks { OnOk result ((p : Parts) → ViewStands view.now p
+        → MarksHeld view.now.heap.now.classes (roots view.now.setup.now p) p.heap held.new.marks) }
+    ensures unheld { OnOk result ((p : Parts) → ViewStands view.now p
+        → held.new.unheld ≡ pos (length (going view.now.setup.now p))) }
+{
+    held.marks.start(view.heap.len() as usize)?;
+    let unheld = mark_held(view, &mut held.marks);
+    held.unheld = unheld as i64;
+    Ok(())
+}
+
+/// Looks for what the call has to know of what is held: all, where it is a collection.
+pub(crate) fn find_held_for<A: Allocator + Clone>(
     view: &View<'_, A>,
-    alloc: &A,
+    held: &mut Held<A>,
     call: &Call,
-) -> Result<Option<Held<A>>, AllocError>
-    ensures found { IfOk result (λ held. (p : Parts) → ViewStands view.now p → Finds view.now.setup.now p call.now held) }
+) -> Result<(), AllocError>
+    ensures found { OnOk result ((p : Parts) → ViewStands view.now p
+        → Finds view.now.setup.now p call.now held.new) }
     ensures wants { OnErr result (cleans_up call.now ≡ false) }
 {
     match call {
         Call::Vm(call) => match call {
             VmCall::Collect => {
-                let held = find_held(view, alloc.clone()?)?;
-                Ok(Some(held))
+                find_held(view, held)?;
+                Ok(())
             }
-            _ => Ok(None),
+            _ => Ok(()),
         },
-        _ => Ok(None),
+        _ => Ok(()),
     }
 }
 
-/// Whether the object is marked.
-fn is_marked(marks: &[bool], object: ObjId) -> bool
-    ensures { result ≡ slice_index_or marks.now object.0 false }
-{
-    marks.get(object.0 as usize).copied().unwrap_or(false)
-}
-
 /// Whether the object goes now: it was made, isn't gone, and isn't marked.
-fn is_going<A: Allocator>(heap: &Heap<A>, marks: &[bool], object: ObjId) -> bool
+fn is_going<A: Allocator>(heap: &Heap<A>, marks: &ObjectMarks<A>, object: ObjId) -> bool
     ensures { (e : List heap_of.Event) (held : List ℕ) → heap_standing.Stands heap.now e
         → MarksHeld heap.now.classes held e marks.now
         → result ≡ list_any (λ o. o == object.0) (heap_of.going heap.now.classes held e) }
 {
     if object.0 < heap.len() {
-        !heap.is_gone(object) && !is_marked(marks, object)
+        !heap.is_gone(object) && !marks.is_set(object.0)
     } else {
         false
     }
 }
 
 /// Clears the weak references to what goes.
-fn clear_going<A: Allocator + Clone>(heap: &Heap<A>, globals: &mut Globals<A>, marks: &[bool])
+fn clear_going<A: Allocator + Clone>(
+    heap: &Heap<A>,
+    globals: &mut Globals<A>,
+    marks: &ObjectMarks<A>,
+)
     ensures { (e : List heap_of.Event) (g : List globals_of.Event) (held : List ℕ)
         → heap_standing.Stands heap.now e → globals_standing.Stands globals.old g
         → MarksHeld heap.now.classes held e marks.now
@@ -135,7 +142,7 @@ fn clear_going<A: Allocator + Clone>(heap: &Heap<A>, globals: &mut Globals<A>, m
 }
 
 /// Lets go of what isn't marked, and clears the weak references to it.
-fn let_go<A: Allocator + Clone>(tables: &mut Tables<A>, marks: &[bool])
+fn let_go<A: Allocator + Clone>(tables: &mut Tables<A>, marks: &ObjectMarks<A>)
     ensures stands { (setup : StatedSetup) (p : Parts) → TablesStand setup (rows_of tables.old) p
         → MarksHeld (class_count setup) (roots setup p) p.heap marks.now
         → TablesStand setup (rows_of tables.new) (collected_on setup p) }
@@ -147,13 +154,11 @@ fn let_go<A: Allocator + Clone>(tables: &mut Tables<A>, marks: &[bool])
 }
 
 /// Lets go of what nothing holds, as it was found, all judged at once.
-pub(crate) fn collect<A: Allocator + Clone>(tables: &mut Tables<A>, held: &Option<Held<A>>)
+pub(crate) fn collect<A: Allocator + Clone>(tables: &mut Tables<A>, held: &Held<A>)
     ensures stands { (setup : StatedSetup) (p : Parts) → TablesStand setup (rows_of tables.old) p
         → Finds setup p (Vm Collect) held.now → TablesStand setup (rows_of tables.new) (collected_on setup p) }
     ensures locals { tables.new.locals ≡ tables.old.locals }
     ensures links { tables.new.links ≡ tables.old.links }
 {
-    if let Some(held) = held {
-        let_go(tables, &held.marks);
-    }
+    let_go(tables, &held.marks);
 }

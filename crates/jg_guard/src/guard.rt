@@ -10,7 +10,7 @@ ghost use Rattle.jg_guard.specs.Left.{ListsRefs, RefsAscend, ListsBuffers, Buffe
 ghost use Rattle.jg_monitors.specs.Rows.{Ascends};
 
 use crate::answer::answer_to;
-use crate::collect::held_for;
+use crate::collect::{Held, find_held_for};
 use crate::leaks::{Leaks, list_buffers, list_refs};
 use crate::perform::perform;
 use crate::settle::is_noticed;
@@ -50,6 +50,7 @@ pub struct Guard<A: Allocator = Global> {
     limit: u32,
     journal: Blocks<Entry, A>,
     tables: Tables<A>,
+    held: Held<A>,
 }
 
 impl<A: Allocator> Model for Guard<A> {
@@ -97,6 +98,7 @@ impl<A: Allocator + Copy> Guard<A> {
             limit,
             journal,
             tables,
+            held: Held::new(alloc),
         })
     }
 }
@@ -177,10 +179,10 @@ impl<A: Allocator + Clone> Guard<A> {
         ensures no_place { OnErr result (self.old.spare ≤ self.new.spare) }
     {
         let (view, tables) = (self.tables.view(&self.setup), &self.tables);
-        let Ok(held) = held_for(&view, &tables.alloc, &call) else {
+        let Ok(()) = find_held_for(&view, &mut self.held, &call) else {
             return Err(Refusal::NoMemory(call));
         };
-        let Ok(given) = answer_to(&view, &held, tables.lists, tid, &call) else {
+        let Ok(given) = answer_to(&view, &self.held, tables.lists, tid, &call) else {
             return Err(Refusal::NoMemory(call));
         };
         let Ok(value) = given.reply.value.try_copy() else {
@@ -189,7 +191,14 @@ impl<A: Allocator + Clone> Guard<A> {
         let Ok(()) = self.journal.reserve(1) else {
             return Err(Refusal::NoMemory(call));
         };
-        let Ok(()) = perform(&mut self.tables, &self.setup, &held, tid, &call, &given) else {
+        let Ok(()) = perform(
+            &mut self.tables,
+            &self.setup,
+            &self.held,
+            tid,
+            &call,
+            &given,
+        ) else {
             return Err(Refusal::NoMemory(call));
         };
         let noticed = is_noticed(&self.tables, tid, &given.reply.value);

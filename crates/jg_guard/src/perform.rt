@@ -38,7 +38,7 @@ use std::alloc::{AllocError, Allocator};
 pub(crate) fn perform<A: Allocator + Clone>(
     tables: &mut Tables<A>,
     setup: &Setup,
-    held: &Option<Held<A>>,
+    held: &Held<A>,
     tid: Tid,
     call: &Call,
     given: &Answer,
@@ -65,7 +65,7 @@ pub(crate) fn perform<A: Allocator + Clone>(
 fn do_and_settle<A: Allocator + Clone>(
     tables: &mut Tables<A>,
     setup: &Setup,
-    held: &Option<Held<A>>,
+    held: &Held<A>,
     tid: Tid,
     call: &Call,
     given: &Answer,
@@ -91,7 +91,7 @@ fn do_and_settle<A: Allocator + Clone>(
 fn do_call<A: Allocator + Clone>(
     tables: &mut Tables<A>,
     setup: &Setup,
-    held: &Option<Held<A>>,
+    held: &Held<A>,
     tid: Tid,
     call: &Call,
 ) -> Result<(), AllocError>

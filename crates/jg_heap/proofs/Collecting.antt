@@ -4,7 +4,7 @@ use Rattle.std.specs.Prelude.{replicate, filter}
 use Rattle.std.specs.List.{range_with_len, list_any}
 use Rattle.std.proofs.lemmas.List.FromFn.{fill_by_all, length-range_with_len}
 use Rattle.std.proofs.lemmas.List.{length-replicate, get_or-replicate, length-map}
-use Rattle.std.proofs.lemmas.Option.{slice_get-get_or, get_or_from_slice_get}
+use Rattle.std.proofs.lemmas.Option.{slice_get-get_or, slice_get_within, get_or_from_slice_get}
 use Rattle.std.proofs.lemmas.Bool.{lt-ltb}
 use Rattle.jg_heap.specs.declared.body.Object.{Object}
 use Rattle.jg_heap.specs.Making.{Plain}
@@ -41,12 +41,13 @@ live_points k e o =
     (λ p h. ap (λ (r : Row). row_points_at o r) (row_in-standing k e p (omega arith)) ∙ points_row k e p o)
 
 -- with the class objects and what slots hold marked, the marks say what is held
-pub marks_held : (k : ℕ) (roots : List ℕ) (e : List Event) (old new : List Bool) → count_of k e ≤ length old → length new ≡ length old → MarksRoots k roots e old
+pub marks_held : (k : ℕ) (roots : List ℕ) (e : List Event) (old new : List Bool) → length new ≡ length old → MarksRoots k roots e old
     → ((o : ℕ) → o < length old → get_or new o false ≡ ((get_or old o false || ltb o k) || list_any (slot_of_row_holds (standing k e) o) (live_in (standing k e))))
     → MarksHeld k roots e new
-marks_held k roots e old new room len was now o h there =
-    slice_get-get_or new o false (omega arith)
-    ∙ ap Some (now o (omega arith)
+marks_held k roots e old new len was now o h there =
+    let within : o < length old = slice_get_within old o (list_any (λ r. eqb r o) roots) (was o h there) in
+    slice_get-get_or new o false (omega (arith, within, len))
+    ∙ ap Some (now o within
     ∙ ap (λ b. (b || ltb o k) || list_any (slot_of_row_holds (standing k e) o) (live_in (standing k e))) (get_or_from_slice_get old o _ false (was o h there))
     ∙ ap (λ b. (list_any (λ r. eqb r o) roots || ltb o k) || b) (live_points k e o)
     ∙ or_swapped (list_any (λ r. eqb r o) roots) (ltb o k) _)
@@ -91,16 +92,15 @@ live_is items live kept rows k e same keeps view stands = same ∙ keeps ∙ ap 
 
 pub marks_of : {A : Type 0} (items before : List (Object A)) (pointed live pointing : List ℕ) (rows : Rows) (k : ℕ) (e : List Event) (roots : List ℕ) (old mid new : List Bool)
     → before ≡ items → pointed ≡ pointing → Keeps items live pointing → record { classes = k; objects = map row_of items } ≡ rows → Stands rows e
-    → count_in rows ≤ length old → length mid ≡ length old → length new ≡ length mid
+    → length mid ≡ length old → length new ≡ length mid
     → ((o : ℕ) → o < length old → get_or mid o false ≡ (get_or old o false || ltb o k))
     → ((o : ℕ) → o < length mid → get_or new o false ≡ (get_or mid o false || list_any (slot_of_row_holds (map row_of before) o) pointed))
     → MarksRoots rows.classes roots e old → MarksHeld rows.classes roots e new
-marks_of items before pointed live pointing rows k e roots old mid new is same keeps view stands room n m classes slots was =
+marks_of items before pointed live pointing rows k e roots old mid new is same keeps view stands n m classes slots was =
     let base : map row_of items ≡ standing rows.classes e = ap (λ (r : Rows). r.objects) view ∙ stands in
     let all : live ≡ live_in (standing rows.classes e) = live_is items live live rows k e refl keeps.live view stands in
-    let many : count_in rows ≡ count_of rows.classes e = count_stands rows e stands in
-    marks_held rows.classes roots e old new (omega arith) (m ∙ n) was
-    (λ o h. slots o (omega arith) ∙ ap (λ b. b || list_any (slot_of_row_holds (map row_of before) o) pointed) (classes o h)
+    marks_held rows.classes roots e old new (m ∙ n) was
+    (λ o h. slots o (omega (arith, h, n)) ∙ ap (λ b. b || list_any (slot_of_row_holds (map row_of before) o) pointed) (classes o h)
     ∙ ap (λ c. (get_or old o false || ltb o c) || list_any (slot_of_row_holds (map row_of before) o) pointed) (ap (λ (r : Rows). r.classes) view)
     ∙ ap (λ b. (get_or old o false || ltb o rows.classes) || b)
     (ap (λ (xs : List (Object _)). list_any (slot_of_row_holds (map row_of xs) o) pointed) is ∙ ap (list_any (slot_of_row_holds (map row_of items) o)) same ∙ pointing_holds items live pointing o keeps

@@ -8,28 +8,21 @@ ghost use Rattle.jg_lists.specs.Marks.{Marks};
 
 use crate::body::{Body, Object};
 use crate::object::Slot;
-use jg_lists::mark;
+use jg_lists::ObjectMarks;
 use jg_words::ObjId;
 use std::alloc::Allocator;
 
-/// Whether the object is marked.
-fn is_marked(marks: &[bool], object: u64) -> bool
-    ensures { result ≡ slice_index_or marks.now object false }
-{
-    marks.get(object as usize).copied().unwrap_or(false)
-}
-
 /// Marks the object that is named, if one is.
-fn mark_target(marks: &mut [bool], target: Option<ObjId>)
+fn mark_target<A: Allocator>(marks: &mut ObjectMarks<A>, target: Option<ObjId>)
     ensures { Marks (λ o. holds o (ToObject target)) marks.old marks.new }
 {
     if let Some(target) = target {
-        mark(marks, target.0);
+        marks.set(target.0);
     }
 }
 
 /// Marks the object that a slot names, if it names one.
-fn mark_slot(marks: &mut [bool], slot: Slot)
+fn mark_slot<A: Allocator>(marks: &mut ObjectMarks<A>, slot: Slot)
     ensures { Marks (λ o. holds o slot) marks.old marks.new }
 {
     if let Slot::Object(target) = slot {
@@ -38,16 +31,16 @@ fn mark_slot(marks: &mut [bool], slot: Slot)
 }
 
 /// Marks the class objects.
-pub(crate) fn mark_classes(marks: &mut [bool], class_count: u64)
+pub(crate) fn mark_classes<A: Allocator>(marks: &mut ObjectMarks<A>, class_count: u64)
     ensures { Marks (λ o. nat_lt o class_count) marks.old marks.new }
 {
     for object in 0..class_count {
-        mark(marks, object);
+        marks.set(object);
     }
 }
 
 /// Marks each object that a field names.
-fn mark_fields(marks: &mut [bool], slots: &[Slot])
+fn mark_fields<A: Allocator>(marks: &mut ObjectMarks<A>, slots: &[Slot])
     ensures { Marks (λ o. list_any (holds o) slots.now) marks.old marks.new }
 {
     for slot in slots {
@@ -56,7 +49,7 @@ fn mark_fields(marks: &mut [bool], slots: &[Slot])
 }
 
 /// Marks each object that an array's item names.
-fn mark_items(marks: &mut [bool], items: &[Option<ObjId>])
+fn mark_items<A: Allocator>(marks: &mut ObjectMarks<A>, items: &[Option<ObjId>])
     ensures { Marks (λ o. list_any (λ target. holds o (ToObject target)) items.now) marks.old marks.new }
 {
     for target in items {
@@ -65,7 +58,7 @@ fn mark_items(marks: &mut [bool], items: &[Option<ObjId>])
 }
 
 /// Marks each object that stands in a slot.
-fn mark_slots<A: Allocator>(marks: &mut [bool], body: &Body<A>)
+fn mark_slots<A: Allocator>(marks: &mut ObjectMarks<A>, body: &Body<A>)
     ensures { Marks (λ o. list_any (holds o) (slots_of_body body.now)) marks.old marks.new }
 {
     match body {
@@ -78,7 +71,7 @@ fn mark_slots<A: Allocator>(marks: &mut [bool], body: &Body<A>)
 
 /// Marks each object that stands in a slot of one of these.
 pub(crate) fn mark_pointed<A: Allocator>(
-    marks: &mut [bool],
+    marks: &mut ObjectMarks<A>,
     objects: &[Object<A>],
     pointing: &[u64],
 )
@@ -91,13 +84,13 @@ pub(crate) fn mark_pointed<A: Allocator>(
 }
 
 /// How many of those in being aren't marked.
-pub(crate) fn count_unmarked(marks: &[bool], live: &[u64]) -> u64
+pub(crate) fn count_unmarked<A: Allocator>(marks: &ObjectMarks<A>, live: &[u64]) -> u64
     ensures count { result ≡ length (filter (λ o. not (slice_index_or marks.now o false)) live.now) }
     ensures fits { result < 2 ^ 63 }
 {
     let mut count = 0;
     for object in live {
-        if !is_marked(marks, *object) {
+        if !marks.is_set(*object) {
             count += 1;
         }
     }
@@ -115,12 +108,12 @@ fn let_go<A: Allocator>(objects: &mut [Object<A>], object: u64)
 }
 
 /// How many are marked before the first that isn't.
-fn count_marked_first(marks: &[bool], live: &[u64]) -> usize
+fn count_marked_first<A: Allocator>(marks: &ObjectMarks<A>, live: &[u64]) -> usize
     ensures marked { All (λ p. slice_index_or marks.now p false ≡ true) (take result live.now) }
     ensures within { result ≤ length live.now }
 {
     for at in 0..live.len() {
-        if !is_marked(marks, live[at]) {
+        if !marks.is_set(live[at]) {
             return at;
         }
     }
@@ -132,7 +125,7 @@ fn count_marked_first(marks: &[bool], live: &[u64]) -> usize
 pub(crate) fn keep_marked<A: Allocator>(
     objects: &mut [Object<A>],
     live: &mut [u64],
-    marks: &[bool],
+    marks: &ObjectMarks<A>,
 ) -> usize
     requires { All (λ p. p < length objects.old) live.old }
     ensures kept { take result live.new ≡ filter (λ o. slice_index_or marks.now o false) live.old }
@@ -146,7 +139,7 @@ pub(crate) fn keep_marked<A: Allocator>(
     let mut kept = first;
     for at in first..live.len() {
         let object = live[at];
-        if is_marked(marks, object) {
+        if marks.is_set(object) {
             live[kept] = object;
             kept += 1;
         } else {
@@ -157,8 +150,8 @@ pub(crate) fn keep_marked<A: Allocator>(
 }
 
 /// Keeps the numbers of those that are marked.
-pub(crate) fn retain_marked<A: Allocator>(pointing: &mut Vec<u64, A>, marks: &[bool])
+pub(crate) fn retain_marked<A: Allocator>(pointing: &mut Vec<u64, A>, marks: &ObjectMarks<A>)
     ensures { pointing.new.items ≡ filter (λ o. slice_index_or marks.now o false) pointing.old.items }
 {
-    pointing.retain(|object| is_marked(marks, *object));
+    pointing.retain(|object| marks.is_set(*object));
 }

@@ -9,6 +9,7 @@ ghost use Rattle.jg_heap.specs.Standing.{Stands, MarksRoots, MarksHeld};
 use crate::body::{Body, Object, object_of};
 use crate::collect::{count_unmarked, keep_marked, mark_classes, mark_pointed, retain_marked};
 use crate::object::{Shape, Slot};
+use jg_lists::ObjectMarks;
 use jg_words::ObjId;
 use std::alloc::{AllocError, Allocator, Global};
 use std::marker::Model;
@@ -246,10 +247,9 @@ impl<A: Allocator> Heap<A> {
     }
 
     /// How many objects nothing holds (chapter 2, "Global and Local References"), where the roots
-    /// marked theirs. Marks all that is held, for [`Heap::sweep`]. Changes no row, so a collection
-    /// may stop here. There is a mark for each object ([`Heap::len`]).
-    pub fn count_unheld(&self, marks: &mut [bool]) -> u64
-        requires { count_in self.now ≤ length marks.old }
+    /// marked theirs, among marks begun for all objects ([`ObjectMarks::start`], [`Heap::len`]). Marks
+    /// all that is held, for [`Heap::sweep`]. Changes no row, so a collection may stop here.
+    pub fn count_unheld(&self, marks: &mut ObjectMarks<A>) -> u64
         ensures count { (e : List Event) (roots : List ℕ) → Stands self.now e
             → MarksRoots self.now.classes roots e marks.old → result ≡ length (going self.now.classes roots e) }
         ensures marks { (e : List Event) (roots : List ℕ) → Stands self.now e
@@ -262,8 +262,8 @@ impl<A: Allocator> Heap<A> {
         count_unmarked(marks, &self.live)
     }
 
-    /// Lets go of what isn't marked, one link of a chain. An object past the end of `marks` isn't.
-    pub fn sweep(&mut self, marks: &[bool])
+    /// Lets go of what isn't marked, one link of a chain. An object without a mark isn't.
+    pub fn sweep(&mut self, marks: &ObjectMarks<A>)
         ensures stands { (e : List Event) (roots : List ℕ) → Stands self.old e
             → MarksHeld self.old.classes roots e marks.now → Stands self.new (Collected roots ∷ e) }
         ensures classes { self.new.classes ≡ self.old.classes }

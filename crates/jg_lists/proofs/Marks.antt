@@ -1,13 +1,13 @@
 -- Marks that are set one after another.
 use Rattle.std.proofs.Common.{◌≡◌, ◌≢◌, ◌<◌, ◌≤◌, ◌+◌, length, get_or, take, ℕ, Bool, true, false, List, ◌∷◌, Option, Some, None, refl, ◌∙◌, sym, ap, arith, inl, inr}
-use Rattle.std.specs.Prelude.{◌==◌, ◌||◌, ◌⊎◌, slice_get, slice_set}
+use Rattle.std.specs.Prelude.{◌==◌, ◌||◌, ◌&&◌, ◌⊎◌, All, false, if◌then◌else◌, map, slice_get, slice_set}
 use Rattle.std.specs.List.{list_any}
 use Rattle.std.specs.Option.{option_map}
 use Rattle.std.proofs.lemmas.Bool.Decides.{nat_tests}
-use Rattle.std.proofs.lemmas.List.{get_or-set_same, get_or-set_other, length-set, take_all}
+use Rattle.std.proofs.lemmas.List.{get_or-set_same, get_or-set_other, get_or-map, get_or_past, length-map, length-set, map-set, set-get_or, take_all}
 use Rattle.std.proofs.lemmas.List.Folds.{list_any_more}
 use Rattle.std.proofs.lemmas.Bool.{cases_lt}
-use Rattle.std.proofs.lemmas.Option.{slice_get_past, slice_get-get_or}
+use Rattle.std.proofs.lemmas.Option.{get_or_from_slice_get, slice_get_past, slice_get-get_or}
 use Rattle.jg_lists.specs.Marks.{Marks}
 
 pub or_false : (b : Bool) → (b || false) ≡ b
@@ -54,6 +54,61 @@ same_mark (Some m) = ap Some (sym (or_false m))
 pub marks_stay : (marks : List Bool) → Marks (λ o. false) marks marks
 marks_stay marks o = same_mark (slice_get marks o)
 
+-- ---- marks by the turn in which each was set last
+
+noted_by : (turns : List ℕ) (turn i new : ℕ) (wanted : Bool) → new ≡ (if wanted then turn else get_or turns i 0)
+    → Marks (λ o. wanted && i == o) (map (λ t. t == turn) turns) (map (λ t. t == turn) (slice_set turns i new))
+noted_by turns turn i new true is =
+    let now : (new == turn) ≡ true = grind (arith, nat_tests, is) in
+    rw (map-set (λ t. t == turn) turns i new, now) (marked (map (λ t. t == turn) turns) i)
+noted_by turns turn i new false is =
+    rw (is, set-get_or turns i 0) (marks_stay (map (λ t. t == turn) turns))
+
+-- a mark is set in this turn where that is wanted
+pub noted : (turns : List ℕ) (turn i was new : ℕ) (wanted : Bool) → slice_get turns i ≡ Some was → new ≡ (if wanted then turn else was)
+    → Marks (λ o. wanted && i == o) (map (λ t. t == turn) turns) (map (λ t. t == turn) (slice_set turns i new))
+noted turns turn i was new wanted at is = noted_by turns turn i new wanted (is ∙ ap (λ w. if wanted then turn else w) (sym (get_or_from_slice_get turns i was 0 at)))
+
+unset_at : (mark : Option Bool) (a b : Bool) → b ≡ false → mark ≡ option_map (λ m. m || (a && b)) mark
+unset_at None a b unset = refl
+unset_at (Some m) true b unset = rw (unset, or_false m) refl
+unset_at (Some m) false b unset = ap Some (sym (or_false m))
+
+without_mark : (mark : Option Bool) (b : Bool) → mark ≡ None → mark ≡ option_map (λ m. m || b) mark
+without_mark mark b none = rw none refl
+
+within_or_none : {X : Type 0} (xs : List X) (d : X) (i : ℕ) → slice_get xs i ≡ None → (i < length xs) ⊎ (length xs ≤ i) → length xs ≤ i
+within_or_none xs d i none (inl within) =
+    let found : None ≡ Some (get_or xs i d) = sym none ∙ slice_get-get_or xs i d within in
+    cc
+within_or_none xs d i none (inr past) = past
+
+past_of_none : {X : Type 0} (xs : List X) (d : X) (i : ℕ) → slice_get xs i ≡ None → length xs ≤ i
+past_of_none xs d i none = within_or_none xs d i none (cases_lt i (length xs))
+
+passed_by : (turns : List ℕ) (turn i o : ℕ) (wanted : Bool) → slice_get turns i ≡ None → (o < length turns) ⊎ (length turns ≤ o)
+    → slice_get (map (λ t. t == turn) turns) o ≡ option_map (λ mark. mark || (wanted && i == o)) (slice_get (map (λ t. t == turn) turns) o)
+passed_by turns turn i o wanted none (inl within) =
+    let past : length turns ≤ i = past_of_none turns 0 i none in
+    let apart : (i == o) ≡ false = grind (arith, nat_tests) in
+    unset_at (slice_get (map (λ t. t == turn) turns) o) wanted (i == o) apart
+passed_by turns turn i o wanted none (inr past) =
+    let out : length (map (λ t. t == turn) turns) ≤ o = simp length-map past in
+    without_mark (slice_get (map (λ t. t == turn) turns) o) (wanted && i == o) (slice_get_past (map (λ t. t == turn) turns) o out)
+
+-- an object without a mark is passed over
+pub passed_over : (turns : List ℕ) (turn i : ℕ) (wanted : Bool) → slice_get turns i ≡ None
+    → Marks (λ o. wanted && i == o) (map (λ t. t == turn) turns) (map (λ t. t == turn) turns)
+passed_over turns turn i wanted none o = passed_by turns turn i o wanted none (cases_lt o (length turns))
+
+-- in a turn that is past all of them none is set
+pub none_set : (turns : List ℕ) (turn o : ℕ) → All (λ t. t < turn) turns → o < length turns → slice_get (map (λ t. t == turn) turns) o ≡ Some false
+none_set turns turn o past within =
+    let inside : o < length (map (λ t. t == turn) turns) = simp length-map within in
+    let below : get_or turns o 0 < turn = past o 0 within in
+    let unset : (get_or turns o 0 == turn) ≡ false = grind (arith, nat_tests) in
+    slice_get-get_or (map (λ t. t == turn) turns) o (0 == turn) inside ∙ ap Some (get_or-map (λ t. t == turn) turns o 0 (0 == turn) within ∙ unset)
+
 -- marks that are set in two turns
 pub marks_more : (before last all : ℕ → Bool) (old mid new : List Bool) → Marks before old mid → Marks last mid new → ((o : ℕ) → all o ≡ (before o || last o)) → Marks all old new
 marks_more before last all old mid new was now both o =
@@ -80,3 +135,26 @@ marks_left test x left rest o mid new whole is now was =
     ∙ marked_twice (test x o) (list_any (λ y. test y o) rest) (slice_get mid o)
     ∙ ap (λ l. option_map (λ m. m || list_any (λ y. test y o) l) (slice_get mid o)) (sym is)
     ∙ was
+
+-- what is past a turn is not after it
+pub at_most : (turns : List ℕ) (turn : ℕ) → All (λ t. t < turn) turns → All (λ t. t ≤ turn) turns
+at_most turns turn past i d within = omega (arith, past i d within)
+
+-- an object without a mark has none set
+pub none_of_it : (turns : List ℕ) (turn i : ℕ) → slice_get turns i ≡ None → get_or (map (λ t. t == turn) turns) i false ≡ false
+none_of_it turns turn i none =
+    let out : length (map (λ t. t == turn) turns) ≤ i = simp length-map (past_of_none turns 0 i none) in
+    get_or_past (map (λ t. t == turn) turns) i false out
+
+-- ---- how many marks there are
+
+none_before : (b : Bool) (mark : Option Bool) → option_map (λ m. m || b) mark ≡ None → mark ≡ None
+none_before b None none = refl
+none_before b (Some m) none = cc
+
+-- to set marks makes none
+pub marks_length : (test : ℕ → Bool) (old new : List Bool) → Marks test old new → length new ≡ length old
+marks_length test old new are =
+    let fewer : length new ≤ length old = past_of_none new false (length old) (are (length old) ∙ ap (option_map (λ m. m || test (length old))) (slice_get_past old (length old) (omega arith))) in
+    let more : length old ≤ length new = past_of_none old false (length new) (none_before (test (length new)) (slice_get old (length new)) (sym (are (length new)) ∙ slice_get_past new (length new) (omega arith))) in
+    omega (arith, fewer, more)

@@ -14,6 +14,7 @@ use crate::stacks::{
     mark_named_in, names_object_in, object_at, open_at, pop_at, reserve_at, reserve_frame_at,
     set_room_at, top_at,
 };
+use jg_lists::ObjectMarks;
 use jg_words::{ObjId, Ref, Tid};
 use std::alloc::{AllocError, Allocator, Global};
 use std::collections::BTreeMap;
@@ -294,8 +295,8 @@ impl<A: Allocator + Clone> Locals<A> {
     }
 
     /// Sets the mark of each object that a live local of some thread names and leaves the other
-    /// marks. An object past the end of `marks` is passed over.
-    pub fn mark_held(&self, marks: &mut [bool])
+    /// marks. An object without a mark is passed over.
+    pub fn mark_held(&self, marks: &mut ObjectMarks<A>)
         ensures { (e : List Event) → Stands self.now.rows e → Marks (holds_object e) marks.old marks.new }
     {
         mark_named_in(&self.stacks, marks);

@@ -8,6 +8,7 @@ ghost use Rattle.jg_locals.specs.Seen.{Chain, is_before, is_live, last, passes, 
 ghost use Rattle.jg_locals.specs.declared.row.Frame.{Frame};
 
 use crate::row::{Frame, Slot};
+use jg_lists::ObjectMarks;
 use jg_words::{Kind, Ref, Tid};
 use std::alloc::{AllocError, Allocator};
 
@@ -181,24 +182,20 @@ fn some_names(slots: &[Slot], object: u64) -> bool
 }
 
 /// Sets the mark of the slot's object, if the slot is live.
-fn mark_if_live(slot: &Slot, marks: &mut [bool])
+fn mark_if_live<A: Allocator>(slot: &Slot, marks: &mut ObjectMarks<A>)
     ensures { Marks (λ o. slot.now.live && slot.now.object == o) marks.old marks.new }
 {
-    // No way that depends on what is live, which a processor can't foresee.
-    let object = slot.object as usize;
-    if object < marks.len() {
-        marks[object] = marks[object] || slot.live;
-    }
+    marks.set_if(slot.object, slot.live);
 }
 
-/// Marks each object that a live local names. Objects past the end of `marks` are passed over.
-pub fn mark_named(slots: &[Slot], marks: &mut [bool])
+/// Marks each object that a live local names. Objects without a mark are passed over.
+pub fn mark_named<A: Allocator>(slots: &[Slot], marks: &mut ObjectMarks<A>)
     ensures { Marks (λ o. list_any (λ s. s.object == o) (filter is_live slots.now)) marks.old marks.new }
 {
     mark_some(slots, marks);
 }
 
-fn mark_some(slots: &[Slot], marks: &mut [bool])
+fn mark_some<A: Allocator>(slots: &[Slot], marks: &mut ObjectMarks<A>)
     ensures { Marks (λ o. list_any (λ s. s.live && s.object == o) slots.now) marks.old marks.new }
 {
     for slot in slots {

@@ -9,6 +9,7 @@ use crate::row::{Frame, Opened, Slot};
 use crate::slots::{
     close_up_if, cut, end_local, is_above_all, list_live, mark_named, names_object, object_of,
 };
+use jg_lists::ObjectMarks;
 use jg_words::Ref;
 use std::alloc::{AllocError, Allocator};
 use std::marker::Model;
@@ -214,7 +215,7 @@ impl<A: Allocator> Stack<A> {
         names_object(&self.slots, object)
     }
 
-    pub fn mark_held(&self, marks: &mut [bool])
+    pub fn mark_held(&self, marks: &mut ObjectMarks<A>)
         ensures { Marks (λ o. list_any (λ s. s.object == o) self.now.locals) marks.old marks.new }
     {
         mark_named(&self.slots, marks);

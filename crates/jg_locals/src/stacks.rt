@@ -11,6 +11,7 @@ ghost use Rattle.jg_locals.specs.Seen.{last, slot_made, room_set, held_in, is_fu
 
 use crate::row::Frame;
 use crate::stack::Stack;
+use jg_lists::ObjectMarks;
 use jg_words::Ref;
 use std::alloc::{AllocError, Allocator};
 use std::collections::BTreeMap;
@@ -244,7 +245,7 @@ pub fn names_object_in<A: Allocator>(stacks: &BTreeMap<u16, Stack<A>, A>, object
 }
 
 /// Marks each object that a live local of some thread names.
-pub fn mark_named_in<A: Allocator>(stacks: &BTreeMap<u16, Stack<A>, A>, marks: &mut [bool])
+pub fn mark_named_in<A: Allocator>(stacks: &BTreeMap<u16, Stack<A>, A>, marks: &mut ObjectMarks<A>)
     ensures { Marks (λ o. list_any (λ v. list_any (λ s. s.object == o) v.locals) (values stacks.now)) marks.old
         marks.new }
 {

@@ -1,4 +1,5 @@
 use crate::Locals;
+use jg_lists::ObjectMarks;
 use jg_words::{Kind, ObjId, Ref, Tid};
 use linked_list_allocator::LocalHeap;
 use std::alloc::{AllocError, Allocator};
@@ -91,9 +92,10 @@ fn each_way_to_end(rt: HostRuntime) -> Result<(), Fail> {
     assert!(rt; !locals.holds_object(ObjId(3)));
     locals.delete(T, 1);
     assert_eq!(rt; locals.get(T, 1), None);
-    let mut marks = [false; 5];
+    let mut marks = ObjectMarks::new(rt.alloc());
+    marks.start(5)?;
     locals.mark_held(&mut marks);
-    assert_eq!(rt; marks, [false, false, true, false, false]);
+    assert!(rt; !marks.is_set(1) && marks.is_set(2) && !marks.is_set(3));
     locals.drop_thread(T);
     assert!(rt; !locals.has_session(T));
     assert_eq!(rt; locals.get(T, 2), None);

@@ -9,6 +9,7 @@ use crate::holdings::{lower, release, take};
 use crate::owned::{ByObject, Found, Owned, list_all, look, mark_keys, raise_own};
 use crate::owned_monitor::OwnedMonitor;
 use indexmap::IndexMap;
+use jg_lists::ObjectMarks;
 use jg_words::{ObjId, Tid};
 use std::alloc::{AllocError, Allocator, Global};
 use std::collections::BTreeMap;
@@ -122,8 +123,8 @@ impl<A: Allocator + Clone> Monitors<A> {
     }
 
     /// Sets the mark of each object whose monitor is owned and leaves the other marks. An object
-    /// past the end of `marks` is passed over.
-    pub fn mark_held(&self, marks: &mut [bool])
+    /// without a mark is passed over.
+    pub fn mark_held(&self, marks: &mut ObjectMarks<A>)
         ensures { (e : List Event) → Stands self.now e → Marks (held e) marks.old marks.new }
     {
         mark_keys(&self.owned, marks);

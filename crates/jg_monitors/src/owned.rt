@@ -8,7 +8,7 @@ ghost use Rattle.jg_lists.specs.Marks.{Marks};
 
 use crate::owned_monitor::OwnedMonitor;
 use indexmap::IndexMap;
-use jg_lists::mark;
+use jg_lists::ObjectMarks;
 use jg_words::{ObjId, Tid};
 use std::alloc::{AllocError, Allocator};
 use std::hash::{BuildHasherDefault, FoldHasher};
@@ -99,11 +99,11 @@ pub fn free<A: Allocator>(map: &mut ByObject<A>, object: u64)
     map.swap_remove(&object);
 }
 
-pub fn mark_keys<A: Allocator>(map: &ByObject<A>, marks: &mut [bool])
+pub fn mark_keys<A: Allocator>(map: &ByObject<A>, marks: &mut ObjectMarks<A>)
     ensures { Marks (λ o. list_any (λ k. k == o) (keys map.now)) marks.old marks.new }
 {
     for object in map.keys() {
-        mark(marks, *object);
+        marks.set(*object);
     }
 }
 

@@ -1,4 +1,5 @@
 use crate::{Entering, Monitors, OwnedMonitor};
+use jg_lists::ObjectMarks;
 use jg_words::{ObjId, Tid};
 use linked_list_allocator::LocalHeap;
 use std::process::Abort;
@@ -44,9 +45,11 @@ fn released_with_the_session(rt: HostRuntime) -> Result<(), Fail> {
     assert_eq!(rt; table.enter(T2, ObjId(2))?, Entering::Entered);
     assert!(rt; table.count(ObjId(9)) < u64::MAX);
     assert_eq!(rt; table.enter(T1, ObjId(9))?, Entering::Entered);
-    let mut marks = [false, false, false, true];
+    let mut marks = ObjectMarks::new(rt.alloc());
+    marks.start(4)?;
+    marks.set(3);
     table.mark_held(&mut marks);
-    assert_eq!(rt; marks, [false, true, true, true]);
+    assert!(rt; !marks.is_set(0) && marks.is_set(1) && marks.is_set(2) && marks.is_set(3));
     table.release_all(T1);
     assert_eq!(rt; table.owner(ObjId(1)), None);
     assert_eq!(rt; table.owner(ObjId(2)), Some(T2));

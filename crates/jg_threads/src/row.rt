@@ -2,7 +2,8 @@ ghost use Rattle.std.specs.Prelude.{◌≡◌};
 ghost use Rattle.jg_threads.specs.History.{is_object};
 ghost use Rattle.jg_lists.specs.Marks.{Marks};
 
-use jg_lists::mark;
+use jg_lists::ObjectMarks;
+use std::alloc::Allocator;
 
 /// What is kept of a thread.
 #[derive(Clone, Copy, Debug, PartialEq, Eq)]
@@ -44,11 +45,11 @@ impl Row {
 
     /// Sets the mark of the thread's pending exception.
     #[tactic(auto, using(crate::proofs::Pending::none))]
-    pub(crate) fn mark_pending(&self, marks: &mut [bool])
+    pub(crate) fn mark_pending<A: Allocator>(&self, marks: &mut ObjectMarks<A>)
         ensures { Marks (λ o. is_object o self.now.pending) marks.old marks.new }
     {
         if let Some(pending) = self.pending {
-            mark(marks, pending);
+            marks.set(pending);
         }
     }
 }

@@ -9,6 +9,7 @@ ghost use Rattle.jg_threads.specs.Rows.{row_of};
 ghost use Rattle.jg_lists.specs.Marks.{Marks};
 
 use crate::row::{NO_ROW, Row};
+use jg_lists::ObjectMarks;
 use std::alloc::{AllocError, Allocator};
 use std::collections::BTreeMap;
 
@@ -48,7 +49,7 @@ pub fn is_pending_in<A: Allocator>(rows: &BTreeMap<u16, Row, A>, object: u64) ->
 }
 
 /// Marks each object that is pending by some row.
-pub fn mark_pending_in<A: Allocator>(rows: &BTreeMap<u16, Row, A>, marks: &mut [bool])
+pub fn mark_pending_in<A: Allocator>(rows: &BTreeMap<u16, Row, A>, marks: &mut ObjectMarks<A>)
     ensures marks { Marks (λ o. list_any (λ row. is_object o row.pending) (values rows.now)) marks.old marks.new }
     ensures ordered { IsOrdered nat_cmp rows.now }
 {

@@ -1,4 +1,5 @@
 use crate::Threads;
+use jg_lists::ObjectMarks;
 use jg_words::{EnvId, ObjId, Tid};
 use linked_list_allocator::LocalHeap;
 use std::alloc::Allocator;
@@ -76,9 +77,10 @@ fn exceptions(rt: HostRuntime) -> Result<(), Fail> {
     threads.clear_pending(U);
     assert!(rt; threads.is_pending(ObjId(7)));
     assert!(rt; !threads.is_pending(ObjId(8)));
-    let mut marks = [false; 9];
+    let mut marks = ObjectMarks::new(rt.alloc());
+    marks.start(9)?;
     threads.mark_held(&mut marks);
-    assert!(rt; marks[7] && !marks[8]);
+    assert!(rt; marks.is_set(7) && !marks.is_set(8));
     assert!(rt; threads.is_attached(T));
     threads.set_pending(T, ObjId(8));
     assert!(rt; !threads.is_pending(ObjId(7)));

@@ -10,6 +10,7 @@ ghost use Rattle.jg_threads.specs.Standing.{Stands};
 
 use crate::row::{NO_ROW, Row};
 use crate::rows::{is_pending_in, mark_pending_in, put_row, row_at};
+use jg_lists::ObjectMarks;
 use jg_words::{EnvId, ObjId, Tid};
 use std::alloc::{AllocError, Allocator, Global};
 use std::collections::BTreeMap;
@@ -223,8 +224,8 @@ impl<A: Allocator + Clone> Threads<A> {
     }
 
     /// Sets the mark of each object that is pending in some thread and leaves the other marks. An
-    /// object past the end of `marks` is passed over.
-    pub fn mark_held(&self, marks: &mut [bool])
+    /// object without a mark is passed over.
+    pub fn mark_held(&self, marks: &mut ObjectMarks<A>)
         ensures { (e : List Event) → Stands self.now e → Marks (is_pending e) marks.old marks.new }
     {
         mark_pending_in(&self.rows, marks);

@@ -99,20 +99,17 @@ fn answer_env<A: Allocator + Clone>(view: &View<'_, A>, tid: Tid) -> Answer
     }
 }
 
-fn answer_collect<A: Allocator>(held: &Option<Held<A>>) -> Answer
+fn answer_collect<A: Allocator>(held: &Held<A>) -> Answer
     ensures { (setup : StatedSetup) (p : Parts) → Finds setup p (Vm Collect) held.now
         → result ≡ amount (length (going setup p)) }
 {
-    match held {
-        Some(held) => plain(Value::Number(held.unheld)),
-        None => plain(Value::Number(0)),
-    }
+    plain(Value::Number(held.unheld))
 }
 
 /// What a call of the group answers, where it breaks no rule. `held` is what a collection found.
 pub(crate) fn answer_vm<A: Allocator + Clone>(
     view: &View<'_, A>,
-    held: &Option<Held<A>>,
+    held: &Held<A>,
     tid: Tid,
     call: &VmCall,
 ) -> Answer
@@ -213,7 +210,7 @@ fn unregister<A: Allocator + Clone>(tables: &mut Tables<A>, setup: &Setup, tid: 
 pub(crate) fn perform_vm<A: Allocator + Clone>(
     tables: &mut Tables<A>,
     setup: &Setup,
-    held: &Option<Held<A>>,
+    held: &Held<A>,
     tid: Tid,
     call: &VmCall,
 ) -> Result<(), AllocError>

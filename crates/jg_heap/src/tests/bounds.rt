@@ -1,8 +1,9 @@
-ghost use Rattle.std.specs.Prelude.{◌<◌, ◌≤◌, ◌≡◌, length};
+ghost use Rattle.std.specs.Prelude.{◌<◌, ◌≤◌, ◌≡◌};
 ghost use Rattle.jg_heap.specs.Making.{IsPrimitiveArray};
 ghost use Rattle.jg_heap.specs.Rows.{count_in, class_at};
 
 use crate::{Heap, Shape, Slot, from_mutf8_items, mutf8_len};
+use jg_lists::ObjectMarks;
 use jg_words::{ObjId, Primitive};
 use std::test::Fail;
 
@@ -31,9 +32,7 @@ fn item_count(heap: &Heap, array: ObjId) -> i64
 }
 
 /// How many objects go at a collection; no object is marked before.
-fn going(heap: &Heap, marks: &mut [bool]) -> i64
-    requires { count_in heap.now ≤ length marks.old }
-{
+fn going(heap: &Heap, marks: &mut ObjectMarks) -> i64 {
     heap.count_unheld(marks) as i64
 }
 
@@ -58,8 +57,8 @@ fn lengths_and_counts_fit_a_number(rt: HostRuntime) -> Result<(), Fail> {
     })?;
     assert!(rt; array.0 < heap.len() && heap.class_of(array) == 8);
     assert_eq!(rt; item_count(&heap, array), 4);
-    let mut marks = [false; 8];
-    assert!(rt; heap.len() <= 8);
+    let mut marks = ObjectMarks::new(rt.alloc());
+    marks.start(8)?;
     assert_eq!(rt; going(&heap, &mut marks), 2);
     assert_eq!(rt; text_len(rt, &[72, 192, 128])?, 2);
     Ok(())

@@ -1,4 +1,5 @@
 use crate::{Heap, Shape, Slot, from_mutf8, from_mutf8_items, is_mutf8, mutf8_len, to_mutf8};
+use jg_lists::ObjectMarks;
 use jg_words::{ObjId, Primitive};
 use std::test::Fail;
 
@@ -129,20 +130,13 @@ fn fill(heap: &mut Heap) -> Result<(), Fail> {
     Ok(())
 }
 
-/// How many of the objects go at a collection without roots; no object is marked before.
-fn unheld(heap: &Heap, marks: &mut [bool]) -> Option<u64> {
-    if heap.len() != marks.len() as u64 {
-        return None;
-    }
-    Some(heap.count_unheld(marks))
-}
-
 #[test]
 fn a_hundred_thousand_objects(rt: HostRuntime) -> Result<(), Fail> {
     let mut heap = Heap::new(rt.alloc(), 15)?;
     fill(&mut heap)?;
     let size = 15 + largest() as usize / 10;
-    let mut marks = vec![in rt.alloc(); false; size]?;
-    assert_eq!(rt; unheld(&heap, &mut marks), Some(100_000));
+    let mut marks = ObjectMarks::new(rt.alloc());
+    marks.start(size)?;
+    assert_eq!(rt; heap.count_unheld(&mut marks), 100_000);
     Ok(())
 }

@@ -6,4 +6,4 @@ use Rattle.jg_globals.proofs.by_name.mark_objects.Goals as goal
 pub loop-object-preserved : goal.loop-object-preserved
 loop-object-preserved g c o =
     marks_left (λ (p : ObjId) o. p.0 == o) c.in-Some.object.now c.loop-object.object-iterator c.next.new.self o c.loop-object.marks _ _ c.in-Some.ensures.steps
-    c.mark.ensures (c.loop-object.invariant o)
+    c.set.ensures (c.loop-object.invariant o)

@@ -7,10 +7,10 @@ use Rattle.jg_guard.proofs.collect.mark_held.Goals as goal
 pub returns-clause-marks : goal.returns-clause-marks
 returns-clause-marks g c = λ p stands.
     c.count_unheld.ensures.marks p.heap (roots c.args.view.now.setup.now p) stands.heap
-    (roots_marked c.args.view.now.setup.now (rows_in c.args.view.now) p _ _ stands c.requires.unset (c.mark_roots.ensures p stands))
+    (roots_marked c.args.view.now.setup.now (rows_in c.args.view.now) p _ _ stands c.requires (c.mark_roots.ensures p stands))
 
 pub returns-clause-count : goal.returns-clause-count
 returns-clause-count g c = λ p stands.
     c.count_unheld.ensures.count p.heap (roots c.args.view.now.setup.now p) stands.heap
-    (roots_marked c.args.view.now.setup.now (rows_in c.args.view.now) p _ _ stands c.requires.unset (c.mark_roots.ensures p stands))
+    (roots_marked c.args.view.now.setup.now (rows_in c.args.view.now) p _ _ stands c.requires (c.mark_roots.ensures p stands))
     ∙ ap length (same_going c.args.view.now.setup.now (rows_in c.args.view.now) p stands)

@@ -5,7 +5,7 @@ use Rattle.std.proofs.lemmas.List.Filters.{FiltersInPlace-all, FiltersInPlace-mo
 use Rattle.jg_heap.specs.Kept.{row_of, ended_row}
 use Rattle.jg_heap.specs.Rows.{Row, row_in}
 use Rattle.jg_heap.proofs.Sweeping.{ended_none, ended_both, read_on, kept_first, none_first, goes_more}
-use Rattle.jg_heap.proofs.collect.keep_marked.Goals.{then-is_marked, else-is_marked}
+use Rattle.jg_heap.proofs.collect.keep_marked.Goals.{then-is_set, else-is_set}
 use Rattle.jg_heap.proofs.collect.keep_marked.Goals as goal
 
 pub let_go-requires : goal.let_go-requires
@@ -33,17 +33,17 @@ loop-at-preserved g c =
     let goes : ℕ → List ℕ → Bool = λ o. list_any (λ p. not (marked p) && eqb p o) in
     let within : i < length ys = omega (arith, c.loop-at-test.true, c.loop-at.invariant.kept.long) in
     let same : get_or ys i 0 ≡ get_or ys i (get_or ys i 0) = get_or_default ys i 0 (get_or ys i 0) within in
-    elim c.if-is_marked.branch [
-      | then-is_marked w ↦
-          let here : marked (get_or ys i 0) ≡ true = sym c.is_marked.ensures ∙ w.if-is_marked.true in
+    elim c.if-is_set.branch [
+      | then-is_set w ↦
+          let here : marked (get_or ys i 0) ≡ true = sym c.is_set.ensures ∙ w.if-is_set.true in
           rw (w.objects-is, w.live-is, w.kept-is) (record {
             kept = FiltersInPlace-more_set c.loop-at.invariant.kept within here same;
             rows = λ o. ended_both (row_in rows o) (row_in mid o) (row_in mid o) (goes o (take i xs)) false (goes o (take (i + 1) xs)) (c.loop-at.invariant.rows o) (ended_none (row_in mid o))
                 (goes_more marked xs ys c.loop-at.kept i o true c.loop-at.invariant.kept within (sym here));
             pointing = c.loop-at.invariant.pointing;
           })
-      | else-is_marked w ↦
-          let here : marked (get_or ys i 0) ≡ false = sym c.is_marked.ensures ∙ w.if-is_marked.false in
+      | else-is_set w ↦
+          let here : marked (get_or ys i 0) ≡ false = sym c.is_set.ensures ∙ w.if-is_set.false in
           rw (w.objects-is, w.live-is, w.kept-is) (record {
             kept = FiltersInPlace-more_no c.loop-at.invariant.kept within here same;
             rows = λ o. ended_both (row_in rows o) (row_in mid o) _ (goes o (take i xs)) (eqb (get_or ys i 0) o) (goes o (take (i + 1) xs)) (c.loop-at.invariant.rows o) (w.let_go.ensures.rows o)

@@ -3,4 +3,4 @@ use Rattle.jg_lists.specs.Marks.{Marks}
 use Rattle.jg_heap.proofs.collect.mark_classes.Given as goal
 
 abbrev pub invariant-loop-object : goal.invariant-loop-object
-invariant-loop-object l = Marks (λ o. nat_lt o l.object) l.initial.marks l.marks
+invariant-loop-object g l = Marks (λ o. nat_lt o l.object) l.initial.marks l.marks

@@ -5,4 +5,4 @@ use Rattle.jg_heap.specs.History.{holds}
 use Rattle.jg_heap.proofs.collect.mark_fields.Given as goal
 
 abbrev pub invariant-loop-slot : goal.invariant-loop-slot
-invariant-loop-slot l = Marks (λ o. list_any (holds o) (take l.slot-index l.slots)) l.initial.marks l.marks
+invariant-loop-slot g l = Marks (λ o. list_any (holds o) (take l.slot-index l.slots)) l.initial.marks l.marks

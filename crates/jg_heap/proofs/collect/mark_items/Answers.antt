@@ -5,14 +5,14 @@ use Rattle.jg_heap.specs.History.{holds}
 use Rattle.jg_heap.proofs.collect.mark_items.Goals as goal
 
 pub loop-target-init : goal.loop-target-init
-loop-target-init c = marks_stay c.args.marks.now
+loop-target-init g c = marks_stay c.args.marks.now
 
 pub loop-target-preserved : goal.loop-target-preserved
-loop-target-preserved c =
+loop-target-preserved g c =
     marks_item (λ target o. holds o (ToObject target)) c.args.items.now c.loop-target.target-index None c.args.marks.now c.loop-target.marks c.mark_target.new.marks
     c.loop-target-test.true c.loop-target.invariant c.mark_target.ensures
 
 pub returns : goal.returns
-returns c =
+returns g c =
     marks_all (λ target o. holds o (ToObject target)) c.args.items.now c.loop-target.target-index c.args.marks.now c.loop-target.marks (omega (arith, c.loop-target-test.false))
     c.loop-target.invariant

@@ -6,4 +6,4 @@ use Rattle.jg_heap.specs.History.{holds}
 use Rattle.jg_heap.proofs.collect.mark_items.Given as goal
 
 abbrev pub invariant-loop-target : goal.invariant-loop-target
-invariant-loop-target l = Marks (λ o. list_any (λ target. holds o (ToObject target)) (take l.target-index l.items)) l.initial.marks l.marks
+invariant-loop-target g l = Marks (λ o. list_any (λ target. holds o (ToObject target)) (take l.target-index l.items)) l.initial.marks l.marks

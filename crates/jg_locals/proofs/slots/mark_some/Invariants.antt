@@ -5,4 +5,4 @@ use Rattle.jg_locals.proofs.slots.mark_some.Given as goal
 
 -- the marks of the live slots so far are set
 abbrev pub invariant-loop-slot : goal.invariant-loop-slot
-invariant-loop-slot l = Marks (λ o. list_any (λ s. s.live && (s.object == o)) (take l.slot-index l.slots)) l.initial.marks l.marks
+invariant-loop-slot g l = Marks (λ o. list_any (λ s. s.live && (s.object == o)) (take l.slot-index l.slots)) l.initial.marks l.marks

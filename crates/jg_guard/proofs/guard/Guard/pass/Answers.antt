@@ -2,15 +2,15 @@ use Rattle.std.proofs.Common.{ap, ◌∙◌, rules, ◌≡◌, ◌<◌, length, 
 use Rattle.jg_words.specs.declared.entry.Entry.{Entry}
 use Rattle.jg_words.specs.Value.{is_list}
 use Rattle.jg_rules.specs.declared.answer.Answer.{Answer}
-use Rattle.jg_rules.specs.Answers.{unnoticed, answer, with_notice}
+use Rattle.jg_rules.specs.Answers.{with_notice}
 use Rattle.jg_rules.specs.Effects.{parts, passed_on}
 use Rattle.jg_rules.specs.Parts.{Parts}
 use Rattle.jg_rules.specs.Rules.{verdict}
 use Rattle.jg_guard.specs.Guard.{State, Takes}
 use Rattle.jg_guard.specs.Tables.{rows_of}
-use Rattle.jg_guard.proofs.Passing.{due_of, passed_entry, entry_given, noticed_given, takes_entry, sound_after, answered_at, answered_due, found_at}
+use Rattle.jg_guard.proofs.Passing.{due_of, passed_by, passed_entry, next_entry, takes_entry, sound_after, answered_due}
 use Rattle.jg_guard.proofs.Cleaning.{listed}
-use Rattle.jg_guard.proofs.Due.{stand_at, due_at}
+use Rattle.jg_guard.proofs.Due.{due_at}
 use Rattle.jg_guard.proofs.guard.Guard.pass.Goals as goal
 
 pub answer_to-requires : goal.answer_to-requires
@@ -24,30 +24,19 @@ answer_to-requires g c =
 pub perform-requires : goal.perform-requires
 perform-requires g c =
     let state : State = record { setup = c.self.inside.setup; limit = c.self.inside.limit; journal = reverse c.self.inside.journal.items; spare = c.self.inside.journal.spare } in
-    let none : verdict state.setup (parts state.setup state.journal) c.args.tid.0 c.args.env c.args.call ≡ None =
-    subst (λ (s : State). verdict s.setup (parts s.setup s.journal) c.args.tid.0 c.args.env c.args.call ≡ None) (sym c.self.view_is) c.requires.passed in
-    let seen = stand_at state.setup _ (rows_of c.self.inside.tables) _ _ c.view-view.ensures.setup c.view-view.ensures.rows c.self.invariant.tables in
-    let told_held = c.in-Ok.ensures.found (parts state.setup state.journal) seen in
-    let told = c.in-Ok-answer_to.ensures.given (parts state.setup state.journal) seen told_held
-    in
     let given : Answer = c.in-Ok-answer_to.given in
-    let is : given ≡ unnoticed state.setup (parts state.setup state.journal) c.args.tid c.args.call =
-    answered_at state.setup c.view-view.result.setup.now (parts state.setup state.journal) c.args.tid c.args.call given c.view-view.ensures.setup told in
-    answered_due g.row.A.Denot state (rows_of c.self.inside.tables) c.args.tid c.args.env c.args.call given _ c.in-Ok.held c.self.invariant none is refl refl refl refl
-    (found_at g.row.A.Denot state.setup c.view-view.result.setup.now (parts state.setup state.journal) c.args.call c.in-Ok.held c.view-view.ensures.setup told_held)
+    let passed = passed_by g.row.A.Denot state c.args.self.now c.view-view.result.setup.now (rows_of c.self.inside.tables) _ c.args.tid c.args.env c.args.call given c.find_held_for.new.held c.self.invariant c.self.view_is
+    c.view-view.ensures.setup c.view-view.ensures.rows c.requires.passed c.in-Ok.ensures.found c.in-Ok-answer_to.ensures.given in
+    answered_due g.row.A.Denot state (rows_of c.self.inside.tables) c.args.tid c.args.env c.args.call given _ c.find_held_for.new.held c.self.invariant passed refl refl refl refl
 
 -- what gives something back answers no list, so its answer is copied without memory
 pub returns-in_default-try_copy-clause-wants : goal.returns-in_default-try_copy-clause-wants
 returns-in_default-try_copy-clause-wants g c = λ room.
     let state : State = record { setup = c.self.inside.setup; limit = c.self.inside.limit; journal = reverse c.self.inside.journal.items; spare = c.self.inside.journal.spare } in
-    let seen = stand_at state.setup _ (rows_of c.self.inside.tables) _ _ c.view-view.ensures.setup c.view-view.ensures.rows c.self.invariant.tables in
-    let told_held = c.in-Ok.ensures.found (parts state.setup state.journal) seen in
-    let told = c.in-Ok-answer_to.ensures.given (parts state.setup state.journal) seen told_held
-    in
     let given : Answer = c.in-Ok-answer_to.given in
-    let is : given ≡ unnoticed state.setup (parts state.setup state.journal) c.args.tid c.args.call =
-    answered_at state.setup c.view-view.result.setup.now (parts state.setup state.journal) c.args.tid c.args.call given c.view-view.ensures.setup told in
-    listed state.setup (parts state.setup state.journal) c.args.tid c.args.call (ap (λ (a : Answer). is_list a.reply.value) (sym is) ∙ c.in_default-try_copy.ensures.wants)
+    let passed = passed_by g.row.A.Denot state c.args.self.now c.view-view.result.setup.now (rows_of c.self.inside.tables) _ c.args.tid c.args.env c.args.call given c.find_held_for.new.held c.self.invariant c.self.view_is
+    c.view-view.ensures.setup c.view-view.ensures.rows c.requires.passed c.in-Ok.ensures.found c.in-Ok-answer_to.ensures.given in
+    listed state.setup (parts state.setup state.journal) c.args.tid c.args.call (ap (λ (a : Answer). is_list a.reply.value) (sym passed.answers) ∙ c.in_default-try_copy.ensures.wants)
 
 pub invariant_of-self-in_default-perform : goal.invariant_of-self-in_default-perform
 invariant_of-self-in_default-perform g c =
@@ -62,47 +51,29 @@ pub invariant_of-self-2 : goal.invariant_of-self-2
 invariant_of-self-2 g c =
     let state : State = record { setup = c.self.inside.setup; limit = c.self.inside.limit; journal = reverse c.self.inside.journal.items; spare = c.self.inside.journal.spare } in
     let room : length state.journal < state.limit = subst (λ (s : State). length s.journal < s.limit) (sym c.self.view_is) c.requires.room in
-    let none : verdict state.setup (parts state.setup state.journal) c.args.tid.0 c.args.env c.args.call ≡ None =
-    subst (λ (s : State). verdict s.setup (parts s.setup s.journal) c.args.tid.0 c.args.env c.args.call ≡ None) (sym c.self.view_is) c.requires.passed in
-    let seen = stand_at state.setup _ (rows_of c.self.inside.tables) _ _ c.view-view.ensures.setup c.view-view.ensures.rows c.self.invariant.tables in
-    let told_held = c.in-Ok.ensures.found (parts state.setup state.journal) seen in
-    let told = c.in-Ok-answer_to.ensures.given (parts state.setup state.journal) seen told_held
-    in
     let given : Answer = c.in-Ok-answer_to.given in
-    let is : given ≡ unnoticed state.setup (parts state.setup state.journal) c.args.tid c.args.call =
-    answered_at state.setup c.view-view.result.setup.now (parts state.setup state.journal) c.args.tid c.args.call given c.view-view.ensures.setup told in
-    let found = found_at g.row.A.Denot state.setup c.view-view.result.setup.now (parts state.setup state.journal) c.args.call c.in-Ok.held c.view-view.ensures.setup told_held in
+    let passed = passed_by g.row.A.Denot state c.args.self.now c.view-view.result.setup.now (rows_of c.self.inside.tables) _ c.args.tid c.args.env c.args.call given c.find_held_for.new.held c.self.invariant c.self.view_is
+    c.view-view.ensures.setup c.view-view.ensures.rows c.requires.passed c.in-Ok.ensures.found c.in-Ok-answer_to.ensures.given in
     let p : Parts = parts state.setup state.journal in
-    let told_notice = c.is_noticed-noticed.ensures state.setup (passed_on state.setup c.args.tid.0 c.args.call given.reply given.object p) (c.in-Ok-perform.ensures.stands p c.self.invariant.tables is found) in
-    let whole : Answer = with_notice c.is_noticed-noticed.result given in
-    let answers : whole ≡ answer state.setup p c.args.tid c.args.call = noticed_given state.setup p c.args.tid c.args.call given c.is_noticed-noticed.result is told_notice in
-    let x : Entry = passed_entry c.args.tid c.args.env c.args.call whole in
+    let stands = c.in-Ok-perform.ensures.stands p c.self.invariant.tables passed.answers passed.found in
+    let told = c.is_noticed-noticed.ensures state.setup (passed_on state.setup c.args.tid.0 c.args.call given.reply given.object p) stands in
+    let x : Entry = passed_entry c.args.tid c.args.env c.args.call (with_notice c.is_noticed-noticed.result given) in
+    let next = next_entry g.row.A.Denot state c.args.tid c.args.env c.args.call given c.find_held_for.new.held c.is_noticed-noticed.result passed told in
     let journal : reverse c.push_reserved.new.journal.items ≡ x ∷ state.journal = search rules in
-    sound_after state _ _ x (rows_of c.self.inside.tables) (rows_of c.perform.new.tables) c.self.invariant room journal
-    (entry_given state.setup p c.args.tid c.args.env c.args.call whole none answers)
-    (c.in-Ok-perform.ensures.stands (parts state.setup state.journal) c.self.invariant.tables is found)
+    sound_after state _ _ x (rows_of c.self.inside.tables) (rows_of c.perform.new.tables) c.self.invariant room journal next stands
 
 pub returns-clause-ok : goal.returns-clause-ok
 returns-clause-ok g c =
     let state : State = record { setup = c.self.inside.setup; limit = c.self.inside.limit; journal = reverse c.self.inside.journal.items; spare = c.self.inside.journal.spare } in
-    let none : verdict state.setup (parts state.setup state.journal) c.args.tid.0 c.args.env c.args.call ≡ None =
-    subst (λ (s : State). verdict s.setup (parts s.setup s.journal) c.args.tid.0 c.args.env c.args.call ≡ None) (sym c.self.view_is) c.requires.passed in
-    let seen = stand_at state.setup _ (rows_of c.self.inside.tables) _ _ c.view-view.ensures.setup c.view-view.ensures.rows c.self.invariant.tables in
-    let told_held = c.in-Ok.ensures.found (parts state.setup state.journal) seen in
-    let told = c.in-Ok-answer_to.ensures.given (parts state.setup state.journal) seen told_held
-    in
     let given : Answer = c.in-Ok-answer_to.given in
-    let is : given ≡ unnoticed state.setup (parts state.setup state.journal) c.args.tid c.args.call =
-    answered_at state.setup c.view-view.result.setup.now (parts state.setup state.journal) c.args.tid c.args.call given c.view-view.ensures.setup told in
-    let found = found_at g.row.A.Denot state.setup c.view-view.result.setup.now (parts state.setup state.journal) c.args.call c.in-Ok.held c.view-view.ensures.setup told_held in
+    let passed = passed_by g.row.A.Denot state c.args.self.now c.view-view.result.setup.now (rows_of c.self.inside.tables) _ c.args.tid c.args.env c.args.call given c.find_held_for.new.held c.self.invariant c.self.view_is
+    c.view-view.ensures.setup c.view-view.ensures.rows c.requires.passed c.in-Ok.ensures.found c.in-Ok-answer_to.ensures.given in
     let p : Parts = parts state.setup state.journal in
-    let told_notice = c.is_noticed-noticed.ensures state.setup (passed_on state.setup c.args.tid.0 c.args.call given.reply given.object p) (c.in-Ok-perform.ensures.stands p c.self.invariant.tables is found) in
-    let whole : Answer = with_notice c.is_noticed-noticed.result given in
-    let answers : whole ≡ answer state.setup p c.args.tid c.args.call = noticed_given state.setup p c.args.tid c.args.call given c.is_noticed-noticed.result is told_notice in
-    let x : Entry = passed_entry c.args.tid c.args.env c.args.call whole in
+    let stands = c.in-Ok-perform.ensures.stands p c.self.invariant.tables passed.answers passed.found in
+    let told = c.is_noticed-noticed.ensures state.setup (passed_on state.setup c.args.tid.0 c.args.call given.reply given.object p) stands in
+    let x : Entry = passed_entry c.args.tid c.args.env c.args.call (with_notice c.is_noticed-noticed.result given) in
+    let next = next_entry g.row.A.Denot state c.args.tid c.args.env c.args.call given c.find_held_for.new.held c.is_noticed-noticed.result passed told in
     let journal : reverse c.push_reserved.new.journal.items ≡ x ∷ state.journal = search rules in
-    let copied : c.in-Ok-try_copy.value ≡ given.reply.value = c.in-Ok-try_copy.ensures.copy in
-    rw copied (subst (λ (s : State). Takes s (record { setup = c.self.inside.setup; limit = c.self.inside.limit; journal = reverse c.push_reserved.new.journal.items; spare = c.push_reserved.new.journal.spare }) x.tid x.env x.call x.outcome)
+    rw c.in-Ok-try_copy.ensures.copy (subst (λ (s : State). Takes s (record { setup = c.self.inside.setup; limit = c.self.inside.limit; journal = reverse c.push_reserved.new.journal.items; spare = c.push_reserved.new.journal.spare }) x.tid x.env x.call x.outcome)
     c.self.view_is
-    (takes_entry state (rows_of c.self.inside.tables) x (reverse c.push_reserved.new.journal.items) c.push_reserved.new.journal.spare c.self.invariant journal
-    (entry_given state.setup p c.args.tid c.args.env c.args.call whole none answers)))
+    (takes_entry state (rows_of c.self.inside.tables) x (reverse c.push_reserved.new.journal.items) c.push_reserved.new.journal.spare c.self.invariant journal next))

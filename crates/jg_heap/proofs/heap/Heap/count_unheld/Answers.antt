@@ -1,4 +1,5 @@
 use Rattle.std.proofs.Common.{◌∙◌, get_or, false, not}
+use Rattle.jg_lists.proofs.Marks.{marks_length}
 use Rattle.jg_heap.proofs.Sweeping.{pointing_within}
 use Rattle.jg_heap.proofs.Collecting.{marks_of, count_of_unmarked, unmarked_bound}
 use Rattle.jg_heap.proofs.Marking.{mark_is}
@@ -12,7 +13,7 @@ pub returns-clause-marks : goal.returns-clause-marks
 returns-clause-marks g c e roots stands was =
     marks_of c.self.inside.objects.items c.deref.result.now c.deref-2.result.now c.self.inside.live.items c.self.inside.pointing.items c.args.self.now c.self.inside.class_count e roots c.args.marks.now
     c.mark_classes.new.marks c.mark_pointed.new.marks
-    c.deref.ensures.value c.deref-2.ensures.value c.self.invariant c.self.view_is stands c.requires c.mark_classes.auto.marks c.mark_pointed.auto.marks (mark_is _ _ _ c.mark_classes.ensures)
+    c.deref.ensures.value c.deref-2.ensures.value c.self.invariant c.self.view_is stands (marks_length _ _ _ c.mark_classes.ensures) (marks_length _ _ _ c.mark_pointed.ensures) (mark_is _ _ _ c.mark_classes.ensures)
     (mark_is _ _ _ c.mark_pointed.ensures)
     was
 

@@ -1,0 +1,122 @@
+ghost use Rattle.std.specs.Prelude.{◌≡◌, ℕ, ◌<◌, ◌≤◌, ◌&&◌, ◌==◌, [], All, false, if◌then◌else◌, Some, length, map, slice_get, slice_index_or, OnOk};
+ghost use Rattle.jg_lists.specs.Marks.{Marks};
+
+use std::alloc::{AllocError, Allocator, Global};
+use std::marker::Model;
+
+/// A mark for each object, by its number. All are unset at once, so that a collection doesn't go over
+/// what is gone. Contracts see whether each is set.
+#[derive(Drop)]
+pub struct ObjectMarks<A: Allocator = Global> {
+    /// The turn in which each was set last, or 0. One byte each, so that many lie in the processor's
+    /// nearest cache; once in 255 turns all are written anew.
+    turns: Vec<u8, A>,
+    /// The turn that is now. A mark is set where it was set in this turn.
+    turn: u8,
+}
+
+impl<A: Allocator> Model for ObjectMarks<A> {
+    ghost use Rattle.std.specs.Prelude.{List, Bool, map, All, ◌==◌, ◌≤◌};
+
+    ghost Value = { List Bool };
+
+    ghost view = { λ m. map (λ t. t == m.turn) m.turns.items };
+
+    ghost invariant = { λ m. All (λ t. t ≤ m.turn) m.turns.items };
+}
+
+/// The turn after this one, in which no mark was set.
+fn next_turn<A: Allocator>(turns: &mut Vec<u8, A>, turn: u8) -> u8
+    ensures above { 0 < result }
+    ensures past { All (λ t. t ≤ turn) turns.old.items → All (λ t. t < result) turns.new.items }
+{
+    if turn == u8::MAX {
+        turns.clear();
+        return 1;
+    }
+    turn + 1
+}
+
+/// Makes a place, set in no turn, for each of the first `count` objects that has none.
+fn widen<A: Allocator>(turns: &mut Vec<u8, A>, count: usize) -> Result<(), AllocError>
+    ensures ok { OnOk result (count ≤ length turns.new.items) }
+    ensures past { (turn : ℕ) → 0 < turn → All (λ t. t < turn) turns.old.items → All (λ t. t < turn) turns.new.items }
+{
+    if turns.len() < count {
+        turns.resize(count, 0)?;
+    }
+    Ok(())
+}
+
+/// The turn in which the object's mark was set last, if it has one.
+fn turn_of<A: Allocator>(turns: &Vec<u8, A>, object: u64) -> Option<u8>
+    ensures { result ≡ slice_get turns.now.items object }
+{
+    turns.get(object as usize).copied()
+}
+
+/// The turn in which a mark was set last, once it is set in this one where that is wanted.
+fn last_turn(wanted: bool, turn: u8, was: u8) -> u8
+    ensures { result ≡ if wanted then turn else was }
+{
+    if wanted { turn } else { was }
+}
+
+/// Notes the turn for an object where that is wanted.
+fn note<A: Allocator>(turns: &mut Vec<u8, A>, object: u64, wanted: bool, turn: u8)
+    ensures set { Marks (λ o. wanted && object == o) (map (λ t. t == turn) turns.old.items)
+        (map (λ t. t == turn) turns.new.items) }
+    ensures past { All (λ t. t ≤ turn) turns.old.items → All (λ t. t ≤ turn) turns.new.items }
+{
+    // No way that depends on what is wanted, which a processor can't foresee.
+    if let Some(was) = turn_of(turns, object) {
+        turns[object as usize] = last_turn(wanted, turn, was);
+    }
+}
+
+impl<A: Allocator> ObjectMarks<A> {
+    /// No marks. Takes no memory.
+    pub fn new(alloc: A) -> ObjectMarks<A>
+        ensures { result ≡ [] }
+    {
+        ObjectMarks {
+            turns: Vec::new(alloc),
+            turn: 0,
+        }
+    }
+
+    /// Unsets all marks, and makes one for each of the first `count` objects that has none. Fails only
+    /// for want of memory.
+    pub fn start(&mut self, count: usize) -> Result<(), AllocError>
+        ensures { OnOk result ((o : ℕ) → o < count → slice_get self.new o ≡ Some false) }
+    {
+        let turn = next_turn(&mut self.turns, self.turn);
+        self.turn = turn;
+        widen(&mut self.turns, count)?;
+        Ok(())
+    }
+
+    /// Whether the object's mark is set. An object without a mark has none set.
+    pub fn is_set(&self, object: u64) -> bool
+        ensures { result ≡ slice_index_or self.now object false }
+    {
+        match turn_of(&self.turns, object) {
+            Some(turn) => turn == self.turn,
+            None => false,
+        }
+    }
+
+    /// Sets the object's mark. An object without a mark is passed over.
+    pub fn set(&mut self, object: u64)
+        ensures { Marks (λ o. object == o) self.old self.new }
+    {
+        self.set_if(object, true);
+    }
+
+    /// Sets the object's mark where it is wanted. An object without a mark is passed over.
+    pub fn set_if(&mut self, object: u64, wanted: bool)
+        ensures { Marks (λ o. wanted && object == o) self.old self.new }
+    {
+        note(&mut self.turns, object, wanted, self.turn);
+    }
+}
