@@ -1,7 +1,7 @@
 //! The collector: each table marks what it holds, once; the store marks what stands in a slot; what
 //! isn't marked then goes, and weak references to it are cleared.
 
-ghost use Rattle.std.specs.Prelude.{◌≡◌, ◌==◌, ◌<◌, ◌≤◌, ◌^◌, ◌++◌, ℕ, false, List, length, map, pos, slice_get, slice_index_or, Some, OnOk, OnErr};
+ghost use Rattle.std.specs.Prelude.{◌≡◌, ◌==◌, ◌<◌, ◌^◌, ◌++◌, ℕ, false, List, length, map, pos, slice_get, Some, OnOk, OnErr};
 ghost use Rattle.std.specs.List.{list_any};
 ghost use Rattle.jg_lists.specs.Marks.{Marks};
 ghost use Rattle.jg_globals.specs.History as globals_of;
@@ -54,7 +54,7 @@ fn mark_held<A: Allocator + Clone>(view: &View<'_, A>, marks: &mut ObjectMarks<A
 }
 
 /// What a collection finds: a mark for each object, set where something holds it, and how many of
-/// those in being nothing holds. It is kept for the next collection, which then takes no time by what
+/// those in being nothing holds. It is kept for the next collection, which then doesn't go over what
 /// is gone.
 #[derive(Drop)]
 pub(crate) struct Held<A: Allocator> {

@@ -50,6 +50,7 @@ pub struct Guard<A: Allocator = Global> {
     limit: u32,
     journal: Blocks<Entry, A>,
     tables: Tables<A>,
+    /// What the last collection found, whose marks serve the next one.
     held: Held<A>,
 }
 

@@ -5,7 +5,7 @@ ghost use Rattle.std.specs.Prelude.{◌≡◌, IfOk};
 ghost use Rattle.jg_policy.specs.Stated.{StatedSetup};
 ghost use Rattle.jg_rules.specs.Parts.{Parts, TablesStand};
 ghost use Rattle.jg_guard.specs.Tables.{rows_of};
-ghost use Rattle.jg_guard.specs.Left.{ListsRefs, RefsAscend, ListsBuffers, BuffersAscend, ref_key, buffer_key};
+ghost use Rattle.jg_guard.specs.Left.{ListsRefs, RefsAscend, ListsBuffers, BuffersAscend, ref_key};
 
 use crate::tables::Tables;
 use jg_monitors::OwnedMonitor;

@@ -1,14 +1,10 @@
 //! What a call does, group by group.
 
 ghost use Rattle.std.specs.Prelude.{◌≡◌, true, false, OnOk, OnErr};
-ghost use Rattle.jg_policy.specs.Stated.{StatedSetup};
 ghost use Rattle.jg_rules.specs.Parts.{Parts, TablesStand};
-ghost use Rattle.jg_rules.specs.Names.{session};
-ghost use Rattle.jg_rules.specs.Access.{native_class, home_of};
 ghost use Rattle.jg_rules.specs.Answers.{unnoticed};
 ghost use Rattle.jg_rules.specs.Effects as effects;
 ghost use Rattle.jg_rules.specs.Effects.{passed_on, done_by};
-ghost use Rattle.jg_rules.specs.View.{ViewStands};
 ghost use Rattle.jg_guard.specs.Cleaning.{cleans_up};
 ghost use Rattle.jg_guard.specs.Held.{Finds};
 ghost use Rattle.jg_guard.specs.Tables as tables_of;

@@ -1,6 +1,6 @@
 //! Regions of strings and arrays, and numbers of operands as sizes and places.
 
-ghost use Rattle.std.specs.Prelude.{◌≡◌, ◌≤◌, ◌<◌, length, map, pos, take, drop, IfOk, IsTrue};
+ghost use Rattle.std.specs.Prelude.{◌≡◌, ◌≤◌, ◌<◌, length, map, pos, take, drop, IfOk};
 ghost use Rattle.jg_heap.specs.Reading as reading;
 ghost use Rattle.jg_rules.specs.Answers as answers;
 

@@ -1,21 +1,19 @@
 //! What an answer makes, whichever call it was: a reference, a buffer's number, an exception, a
 //! warning.
 
-ghost use Rattle.std.specs.Prelude.{◌≡◌, ◌<◌, ◌&&◌, ◌∷◌, ◌⊎◌, true, false, None, OnOk, OnErr, IsTrue};
+ghost use Rattle.std.specs.Prelude.{◌≡◌, ◌<◌, ◌&&◌, ◌⊎◌, true, false, None, OnOk, OnErr, IsTrue};
 ghost use Rattle.std.specs.Option.{option_map};
-ghost use Rattle.jg_words.specs.declared.call.Call.{Call};
 ghost use Rattle.jg_policy.specs.Stated.{StatedSetup};
 ghost use Rattle.jg_locals.specs.History.{acts_of};
 ghost use Rattle.jg_locals.specs.Room.{crowded};
 ghost use Rattle.jg_threads.specs.Rows.{row_of, CanCount};
 ghost use Rattle.jg_rules.specs.Parts.{Parts, TablesStand};
-ghost use Rattle.jg_rules.specs.Names.{object_count};
 ghost use Rattle.jg_rules.specs.View.{ViewStands};
 ghost use Rattle.jg_rules.specs.Answers.{handed, thrown};
 ghost use Rattle.jg_rules.specs.Effects as effects;
 ghost use Rattle.jg_guard.specs.Tables as tables_of;
-ghost use Rattle.jg_guard.specs.Tables.{rows_of, StillStand, CanHandOut, CanMakeGlobal, CanLend, CanSettle, CanSettleGlobal, CanThrow, HasRoom};
-ghost use Rattle.jg_guard.specs.Settled.{local_on, strong_on, weak_on, thrown_on, lent_on, warned_on, saying_of};
+ghost use Rattle.jg_guard.specs.Tables.{rows_of, StillStand, CanHandOut, CanMakeGlobal, CanSettle, CanSettleGlobal, CanThrow, HasRoom};
+ghost use Rattle.jg_guard.specs.Settled.{local_on, strong_on, weak_on, thrown_on, warned_on, saying_of};
 
 use crate::tables::Tables;
 use jg_heap::Shape;

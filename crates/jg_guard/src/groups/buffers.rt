@@ -1,4 +1,4 @@
-ghost use Rattle.std.specs.Prelude.{◌≡◌, false, ◌≤◌, ℤ, map, pos, slice_index_or, true, IfOk, OnOk, OnErr};
+ghost use Rattle.std.specs.Prelude.{◌≡◌, false, map, pos, slice_index_or, IfOk, OnOk, OnErr};
 ghost use Rattle.jg_words.specs.declared.call.Call.TheVariants.{Buffers};
 ghost use Rattle.jg_words.specs.declared.call.buffers.BuffersCall.TheVariants.{GetArrayElements, ReleaseArrayElements, GetStringChars, GetStringUTFChars, GetPrimitiveArrayCritical, GetStringCritical, BufferRead, BufferWrite};
 ghost use Rattle.jg_policy.specs.Stated.{StatedSetup};

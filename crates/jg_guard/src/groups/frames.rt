@@ -1,6 +1,5 @@
-ghost use Rattle.std.specs.Prelude.{◌≡◌, false, ◌≤◌, OnOk, OnErr};
+ghost use Rattle.std.specs.Prelude.{◌≡◌, false, OnOk, OnErr};
 ghost use Rattle.jg_words.specs.declared.call.Call.TheVariants.{Frames};
-ghost use Rattle.jg_policy.specs.Stated.{StatedSetup};
 ghost use Rattle.jg_rules.specs.Parts.{Parts, TablesStand};
 ghost use Rattle.jg_rules.specs.View.{ViewStands, rows_in};
 ghost use Rattle.jg_rules.specs.Answers.{frames_answer};
