@@ -109,6 +109,15 @@ none_set turns turn o past within =
     let unset : (get_or turns o 0 == turn) ≡ false = grind (arith, nat_tests) in
     slice_get-get_or (map (λ t. t == turn) turns) o (0 == turn) inside ∙ ap Some (get_or-map (λ t. t == turn) turns o 0 (0 == turn) within ∙ unset)
 
+unset_or_past : (turns : List ℕ) (turn o : ℕ) → All (λ t. t < turn) turns → (o < length turns) ⊎ (length turns ≤ o) → get_or (map (λ t. t == turn) turns) o false ≡ false
+unset_or_past turns turn o past (inl within) = get_or_from_slice_get (map (λ t. t == turn) turns) o false false (none_set turns turn o past within)
+unset_or_past turns turn o past (inr out) =
+    let none : length (map (λ t. t == turn) turns) ≤ o = simp length-map out in
+    get_or_past (map (λ t. t == turn) turns) o false none
+
+pub unset : (turns : List ℕ) (turn o : ℕ) → All (λ t. t < turn) turns → get_or (map (λ t. t == turn) turns) o false ≡ false
+unset turns turn o past = unset_or_past turns turn o past (cases_lt o (length turns))
+
 -- marks that are set in two turns
 pub marks_more : (before last all : ℕ → Bool) (old mid new : List Bool) → Marks before old mid → Marks last mid new → ((o : ℕ) → all o ≡ (before o || last o)) → Marks all old new
 marks_more before last all old mid new was now both o =

@@ -86,9 +86,10 @@ impl<A: Allocator> ObjectMarks<A> {
     }
 
     /// Unsets all marks, and makes one for each of the first `count` objects that has none. Fails only
-    /// for want of memory.
+    /// for want of memory, and then too no mark is set.
     pub fn start(&mut self, count: usize) -> Result<(), AllocError>
-        ensures { OnOk result ((o : ℕ) → o < count → slice_get self.new o ≡ Some false) }
+        ensures unset { (o : ℕ) → slice_index_or self.new o false ≡ false }
+        ensures made { OnOk result ((o : ℕ) → o < count → slice_get self.new o ≡ Some false) }
     {
         let turn = next_turn(&mut self.turns, self.turn);
         self.turn = turn;
