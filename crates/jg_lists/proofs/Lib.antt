@@ -2,3 +2,4 @@ pub mod Acts
 pub mod Lists
 pub mod Marks
 pub mod Oldest
+pub mod Seats

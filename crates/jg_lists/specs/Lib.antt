@@ -1,2 +1,4 @@
 pub mod Acts
+pub mod ByThread
+pub mod Lending
 pub mod Marks

@@ -1,0 +1,136 @@
+ghost use Rattle.std.specs.Prelude.{◌≡◌, ℕ, ◌+◌, ◌<◌, ◌≤◌, ◌++◌, ◌∷◌, [], IsSome, None, Some, OnOk, OnErr, length, map, option_copied, slice_index_or};
+ghost use Rattle.std.specs.Option.{is_some, option_copied_mut};
+ghost use Rattle.std.specs.Borrow.{sem};
+ghost use Rattle.jg_lists.specs.ByThread.{at, seen, IsOnce};
+
+use std::alloc::{AllocError, Allocator, Global};
+use std::marker::Model;
+
+/// A thread's number, with its value.
+#[derive(Drop)]
+pub struct Seat<V> {
+    pub tid: u16,
+    pub value: V,
+}
+
+/// A value for each of some threads, found by the thread's number in one step, however many threads
+/// there are. Contracts see the threads with their values, the first that was added first.
+#[derive(Drop)]
+pub struct ByThread<V, A: Allocator = Global> {
+    /// By the thread's number, the place of its seat, counted from 1, or 0 where it has none.
+    places: Vec<usize, A>,
+    seats: Vec<Seat<V>, A>,
+}
+
+impl<V, A: Allocator> Model for ByThread<V, A> {
+    ghost use Rattle.std.specs.Prelude.{List, ℕ, map};
+    ghost use Rattle.jg_lists.specs.ByThread.{seen, Placed};
+
+    ghost Value = { List (ℕ × V) };
+
+    ghost view = { λ a. map seen a.seats.items };
+
+    ghost invariant = { λ a. Placed a.places.items (map (λ s. s.tid) a.seats.items) };
+}
+
+/// The place of the thread's seat, or 0.
+fn place_of<A: Allocator>(places: &Vec<usize, A>, tid: u16) -> usize
+    ensures { result ≡ slice_index_or places.now.items tid 0 }
+{
+    match places.get(usize::from(tid)) {
+        Some(place) => *place,
+        None => 0,
+    }
+}
+
+/// Makes a place for each of the first `count` threads that has none, with no seat there.
+fn widen<A: Allocator>(places: &mut Vec<usize, A>, count: usize) -> Result<(), AllocError>
+    ensures ok { OnOk result (count ≤ length places.new.items) }
+    ensures same { (t : ℕ) → slice_index_or places.new.items t 0 ≡ slice_index_or places.old.items t 0 }
+{
+    if places.len() < count {
+        places.resize(count, 0)?;
+    }
+    Ok(())
+}
+
+impl<V, A: Allocator> ByThread<V, A> {
+    ghost use Rattle.jg_lists.specs.Lending.{lends_get, lends_value};
+
+    /// No thread has a value. Takes no memory; the two lists grow from the two handles.
+    pub fn new(places: A, seats: A) -> ByThread<V, A>
+        ensures { result ≡ [] }
+    {
+        ByThread {
+            places: Vec::new(places),
+            seats: Vec::new(seats),
+        }
+    }
+
+    /// The thread's value, if it has one.
+    pub fn get(&self, tid: u16) -> Option<&V>
+        ensures value { option_copied result ≡ at tid self.now }
+        ensures once { IsOnce self.now }
+    {
+        let place = place_of(&self.places, tid);
+        if place == 0 {
+            return None;
+        }
+        Some(&self.seats[place - 1].value)
+    }
+
+    /// Whether the thread has a value.
+    pub fn contains(&self, tid: u16) -> bool
+        ensures value { result ≡ is_some (at tid self.now) }
+        ensures once { IsOnce self.now }
+    {
+        self.get(tid).is_some()
+    }
+
+    /// The thread's value for writing, if it has one.
+    pub fn get_mut(&mut self, tid: u16) -> Option<&mut V>
+        ensures* writes_back { sem 𝓛 (lends_get V.row A.row A.Allocator self.entry tid result) }
+        ensures value { option_copied_mut result ≡ at tid self.old }
+        ensures once { IsOnce self.old }
+    {
+        if self.contains(tid) {
+            Some(self.value_mut(tid))
+        } else {
+            None
+        }
+    }
+
+    fn value_mut(&mut self, tid: u16) -> &mut V
+        requires { IsSome (at tid self.old) }
+        ensures* writes_back { sem 𝓛 (lends_value V.row A.row A.Allocator self.entry tid result) }
+        ensures value { Some result.now ≡ at tid self.old }
+        ensures once { IsOnce self.old }
+    {
+        let place = place_of(&self.places, tid);
+        &mut self.seats[place - 1].value
+    }
+
+    /// Gives a value to a thread that has none (`contains`). Fails only for want of memory, and then
+    /// leaves all unchanged.
+    pub fn add(&mut self, tid: u16, value: V) -> Result<(), AllocError>
+    where
+        V: Drop,
+        requires { at tid self.old ≡ None }
+        ensures added { OnOk result (self.new ≡ self.old ++ (tid, value) ∷ []) }
+        ensures err { OnErr result (self.new ≡ self.old) }
+        ensures once { IsOnce self.new }
+    {
+        widen(&mut self.places, usize::from(tid) + 1)?;
+        self.seats.push(Seat { tid, value })?;
+        self.places[usize::from(tid)] = self.seats.len();
+        Ok(())
+    }
+
+    /// The threads that have a value, with it.
+    pub fn seats(&self) -> &[Seat<V>]
+        ensures seats { map seen result.now ≡ self.now }
+        ensures once { IsOnce self.now }
+    {
+        &self.seats
+    }
+}
