@@ -1,16 +1,16 @@
 -- What each thread did, one event later, and rows counted by a key.
 use Rattle.std.proofs.Common.{◌≡◌, ◌≢◌, ◌+◌, ℕ, Bool, true, false, List, [], ◌∷◌, Option, Some, None, refl, ◌∙◌, ap, subst, eqb, eqb-true, arith}
 use Rattle.std.specs.Prelude.{◌==◌, if◌then◌else◌}
-use Rattle.std.specs.Map.{lookup, keys_of}
+use Rattle.std.specs.Map.{keys_of}
 use Rattle.std.specs.BTreeMap.{is_at}
-use Rattle.std.specs.Ordering.{nat_cmp}
+use Rattle.std.specs.Ordering.{nat_cmp, eq_by_cmp}
 use Rattle.std.specs.Cmp.{nat_cmp_total, eq_by_cmp_equiv}
-use Rattle.std.specs.List.Sorted.{IsStrictlySortedBy}
 use Rattle.std.proofs.lemmas.Bool.Decides.{nat_tests}
 use Rattle.std.proofs.lemmas.Map.{lookup-none}
 use Rattle.std.proofs.lemmas.Map.Entries.{none_past_head}
-use Rattle.std.proofs.lemmas.Map.Keys.{sorted_tail, IsDistinct-from_sorted}
+use Rattle.std.proofs.lemmas.Map.Keys.{IsDistinct-tail}
 use Rattle.jg_lists.specs.Acts.{Event, by, acts_of, how_many}
+use Rattle.jg_lists.specs.ByThread.{at, IsOnce}
 
 pub acts_more : {Act : Type 0} (t u : ℕ) (a : Act) (e : List (Event Act)) → t ≡ u → acts_of t (by u a ∷ e) ≡ a ∷ acts_of t e
 acts_more t u a e is = grind (arith, nat_tests)
@@ -45,19 +45,17 @@ abbrev pub one_if : {V : Type 0} → Option V → ℕ
 one_if None = 0
 one_if (Some v) = 1
 
-counted_at : {V : Type 0} (t : ℕ) (x : ℕ × V) (rows : List (ℕ × V)) (b : Bool) → (x.0 == t) ≡ b → IsStrictlySortedBy nat_cmp (keys_of (x ∷ rows))
-    → how_many (λ row. row.0 == t) rows ≡ one_if (lookup (is_at (nat_cmp t)) rows)
-    → (if b then how_many (λ row. row.0 == t) rows + 1 else how_many (λ row. row.0 == t) rows) ≡ one_if (if b then Some x.1 else lookup (is_at (nat_cmp t)) rows)
-counted_at t x rows true is sorted later =
-    let none : lookup (is_at (nat_cmp t)) rows ≡ None = lookup-none (is_at (nat_cmp t)) rows
-    (none_past_head (eq_by_cmp_equiv nat_cmp_total) t x rows (IsDistinct-from_sorted nat_cmp (keys_of (x ∷ rows)) sorted) (at_key t x.0 ∙ is)) in
+counted_at : {V : Type 0} (t : ℕ) (x : ℕ × V) (rows : List (ℕ × V)) (b : Bool) → (x.0 == t) ≡ b → IsOnce (x ∷ rows) → how_many (λ row. row.0 == t) rows ≡ one_if (at t rows)
+    → (if b then how_many (λ row. row.0 == t) rows + 1 else how_many (λ row. row.0 == t) rows) ≡ one_if (if b then Some x.1 else at t rows)
+counted_at t x rows true is once later =
+    let none : at t rows ≡ None = lookup-none (is_at (nat_cmp t)) rows (none_past_head (eq_by_cmp_equiv nat_cmp_total) t x rows once (at_key t x.0 ∙ is)) in
     let empty : how_many (λ row. row.0 == t) rows ≡ 0 = later ∙ ap one_if none in
     omega (arith, empty)
-counted_at t x rows false is sorted later = later
+counted_at t x rows false is once later = later
 
--- in a map each key has as many rows as a look-up finds
-pub counted_law : {V : Type 0} (t : ℕ) (rows : List (ℕ × V)) → IsStrictlySortedBy nat_cmp (keys_of rows) → how_many (λ row. row.0 == t) rows ≡ one_if (lookup (is_at (nat_cmp t)) rows)
-counted_law t [] sorted = refl
-counted_law t (x ∷ rows) sorted =
-    let later = counted_law t rows (sorted_tail nat_cmp x.0 (keys_of rows) sorted) in
-    rw (at_key t x.0) (counted_at t x rows (x.0 == t) refl sorted later)
+-- each thread has as many rows as a look-up finds
+pub counted_law : {V : Type 0} (t : ℕ) (rows : List (ℕ × V)) → IsOnce rows → how_many (λ row. row.0 == t) rows ≡ one_if (at t rows)
+counted_law t [] once = refl
+counted_law t (x ∷ rows) once =
+    let later = counted_law t rows (IsDistinct-tail (eq_by_cmp nat_cmp) x.0 (keys_of rows) once) in
+    rw (at_key t x.0) (counted_at t x rows (x.0 == t) refl once later)

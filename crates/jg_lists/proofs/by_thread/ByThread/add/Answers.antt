@@ -1,5 +1,5 @@
-use Rattle.std.proofs.Common.{◌≡◌, ◌<◌, sym, ap, subst, ◌∙◌, refl, arith}
-use Rattle.std.specs.Prelude.{map, length, slice_set}
+use Rattle.std.proofs.Common.{sym, subst, refl, arith}
+use Rattle.std.specs.Prelude.{map, slice_set}
 use Rattle.jg_lists.specs.ByThread.{Placed}
 use Rattle.jg_lists.proofs.Seats.{once, tid_of, placed_same, placed_more}
 use Rattle.jg_lists.proofs.by_thread.ByThread.add.Goals as goal
@@ -23,7 +23,7 @@ invariant_of-self-2 g c =
     let was = placed_same c.self.inside.places.items c.widen.new.places.items (map tid_of c.self.inside.seats.items) c.self.invariant c.widen.ensures.same in
     subst (λ t. Placed (slice_set c.widen.new.places.items t c.len.result) (map tid_of c.push.new.self.items)) (sym c.from-2.ensures)
     (placed_more c.widen.new.places.items c.self.inside.seats.items c.push.new.self.items c.args.self.now c.args.tid c.len.result c.args.value was c.self.view_is c.requires
-    (omega (arith, c.in_ok-widen.ensures.ok, c.from.ensures)) c.in_ok-push.ensures.items (c.len.ensures ∙ c.push.new.self.ok))
+    (omega (arith, c.in_ok-widen.ensures.ok, c.from.ensures)) c.in_ok-push.ensures.items (omega (arith, c.len.ensures, c.push.new.self.ok)))
 
 pub returns-clause-once : goal.returns-clause-once
 returns-clause-once g c = once (slice_set c.widen.new.places.items c.from-2.result c.len.result) c.push.new.self.items _ (invariant_of-self-2 g c) refl

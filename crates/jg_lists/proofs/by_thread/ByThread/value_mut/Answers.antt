@@ -1,4 +1,4 @@
-use Rattle.std.proofs.Common.{◌≡◌, ◌-◌, Some, refl, sym, ap, ◌∙◌, arith}
+use Rattle.std.proofs.Common.{◌-◌, Some, refl, sym, ap, ◌∙◌, arith}
 use Rattle.jg_lists.specs.declared.by_thread.Seat.{Seat}
 use Rattle.jg_lists.proofs.Seats.{once, has_place, within, own_seat, found, written, placed_written}
 use Rattle.jg_lists.proofs.by_thread.ByThread.value_mut.Goals as goal
@@ -21,10 +21,13 @@ pub returns : goal.returns
 returns g c =
     let some = has_place c.self.inside.places.items c.self.inside.seats.items c.args.self.now c.args.tid c.place_of-place.result c.self.invariant c.self.view_is c.place_of-place.ensures c.requires in
     let mine = ap (λ (s : Seat g.row.V.Denot). s.tid) c.index_mut.ensures.value
-        ∙ own_seat c.self.inside.places.items c.self.inside.seats.items c.args.tid c.place_of-place.result c.index_mut.result.now c.self.invariant c.place_of-place.ensures some in
+    ∙ own_seat c.self.inside.places.items c.self.inside.seats.items c.args.tid c.place_of-place.result c.index_mut.result.now c.self.invariant c.place_of-place.ensures some in
     let value = found c.self.inside.places.items c.self.inside.seats.items c.args.self.now c.args.tid c.place_of-place.result c.index_mut.result.now c.self.invariant c.self.view_is c.place_of-place.ensures some in (
-      (refl, λ w. written c.self.inside.places.items c.self.inside.seats.items c.args.self.now c.args.tid c.place_of-place.result c.index_mut.result.now.tid c.index_mut.result.now w c.self.invariant
-      c.self.view_is c.place_of-place.ensures some mine),
+      (
+        refl,
+        λ w. written c.self.inside.places.items c.self.inside.seats.items c.args.self.now c.args.tid c.place_of-place.result c.index_mut.result.now.tid c.index_mut.result.now w c.self.invariant
+            c.self.view_is c.place_of-place.ensures some mine,
+      ),
       record {
         writes_back = tt;
         value = ap (λ (s : Seat g.row.V.Denot). Some s.value) c.index_mut.ensures.value ∙ sym value;
