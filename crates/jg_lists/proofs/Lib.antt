@@ -3,3 +3,4 @@ pub mod Lists
 pub mod Marks
 pub mod Oldest
 pub mod Seats
+pub mod Values

@@ -1,0 +1,76 @@
+-- What look-ups of threads find, once one thread's value is written or added.
+use Rattle.std.proofs.Common.{◌≡◌, ℕ, Bool, true, false, List, [], ◌∷◌, ◌++◌, Option, Some, None, refl, ◌∙◌, sym, ap, subst, arith, eqb-true}
+use Rattle.std.specs.Prelude.{◌==◌, ◌||◌, if◌then◌else◌, IsSome, map}
+use Rattle.std.specs.List.{IsDistinct, list_any}
+use Rattle.std.specs.Option.{option_map}
+use Rattle.std.specs.Map.{values_of, set_value}
+use Rattle.std.specs.BTreeMap.{is_at}
+use Rattle.std.specs.Cmp.{nat_cmp_total, eq_by_cmp_equiv}
+use Rattle.std.specs.Ordering.{nat_cmp, eq_by_cmp}
+use Rattle.std.proofs.lemmas.Bool.Decides.{nat_tests}
+use Rattle.std.proofs.lemmas.Map.{keys-set_value, lookup-set_value}
+use Rattle.jg_lists.specs.declared.by_thread.Seat.{Seat}
+use Rattle.jg_lists.specs.ByThread.{at, seen, IsOnce}
+use Rattle.jg_lists.proofs.Acts.{at_key}
+
+pub set_once : {V : Type 0} (es : List (ℕ × V)) (t : ℕ) (w : V) → IsOnce es → IsOnce (set_value (is_at (nat_cmp t)) es w)
+set_once es t w once = subst (IsDistinct (eq_by_cmp nat_cmp)) (sym (keys-set_value (is_at (nat_cmp t)) es w)) once
+
+alike : (t x y : ℕ) → is_at (nat_cmp t) x ≡ true → is_at (nat_cmp t) y ≡ eq_by_cmp nat_cmp x y
+alike t x y own = grind (arith, nat_tests, own)
+
+turned : (t q : ℕ) → is_at (nat_cmp t) q ≡ (t == q)
+turned t q = grind (arith, nat_tests)
+
+is_some_by : {V : Type 0} (found : Option V) (v : V) → found ≡ Some v → IsSome found
+is_some_by found v is = rw is refl
+
+-- the thread finds what was written, and each other one what it found
+pub set_at : {V : Type 0} (es : List (ℕ × V)) (t q : ℕ) (v w : V) → at t es ≡ Some v → at q (set_value (is_at (nat_cmp t)) es w) ≡ (if t == q then Some w else at q es)
+set_at es t q v w is =
+    lookup-set_value (eq_by_cmp_equiv nat_cmp_total) (is_at (nat_cmp t)) (alike t) q w es (is_some_by (at t es) v is)
+    ∙ ap (λ b. if b then Some w else at q es) (turned t q)
+
+changed_at : {V : Type 0} (es : List (ℕ × V)) (t q : ℕ) (v w : V) (change : V → V) (same : Bool) → (t == q) ≡ same → at t es ≡ Some v → w ≡ change v
+    → (if same then Some w else at q es) ≡ (if same then option_map change (at q es) else at q es)
+changed_at es t q v w change true same is now =
+    let own : at q es ≡ Some v = ap (λ k. at k es) (sym (eqb-true t q same)) ∙ is in
+    rw own (ap Some now)
+changed_at es t q v w change false same is now = refl
+
+pub written_at : {V : Type 0} (es : List (ℕ × V)) (t q : ℕ) (v w : V) (change : V → V) → at t es ≡ Some v → w ≡ change v
+    → at q (set_value (is_at (nat_cmp t)) es w) ≡ (if t == q then option_map change (at q es) else at q es)
+written_at es t q v w change is now = set_at es t q v w is ∙ changed_at es t q v w change (t == q) refl is now
+
+added_by : {V : Type 0} (t q : ℕ) (v : V) (e : ℕ × V) (es : List (ℕ × V)) (mine same : Bool) → (e.0 == q) ≡ mine → (t == q) ≡ same → is_at (nat_cmp t) e.0 ≡ false
+    → at q (es ++ (t, v) ∷ []) ≡ (if t == q then Some v else at q es)
+    → (if mine then Some e.1 else at q (es ++ (t, v) ∷ [])) ≡ (if same then Some v else (if mine then Some e.1 else at q es))
+added_by t q v e es true true mine same other later = absurd (both (grind (arith, nat_tests)) other)
+  where
+    both : {b : Bool} → b ≡ true → b ≡ false → ⊥
+    both own differs = cc
+added_by t q v e es true false mine same other later = refl
+added_by t q v e es false true mine same other later = later ∙ ap (λ b. if b then Some v else at q es) same
+added_by t q v e es false false mine same other later = later ∙ ap (λ b. if b then Some v else at q es) same
+
+none_head : {V : Type 0} (found : Option V) (x : V) (b : Bool) → (if b then Some x else found) ≡ None → b ≡ false
+none_head found x true none = cc
+none_head found x false none = refl
+
+none_tail : {V : Type 0} (found : Option V) (x : V) (b : Bool) → (if b then Some x else found) ≡ None → found ≡ None
+none_tail found x true none = cc
+none_tail found x false none = none
+
+-- the thread finds what was added, and each other one what it found
+pub added_at : {V : Type 0} (es : List (ℕ × V)) (t q : ℕ) (v : V) → at t es ≡ None → at q (es ++ (t, v) ∷ []) ≡ (if t == q then Some v else at q es)
+added_at [] t q v none = ap (λ b. if b then Some v else None) (at_key q t)
+added_at (e ∷ es) t q v none =
+    rw (at_key q e.0) (added_by t q v e es (e.0 == q) (t == q) refl refl (none_head (at t es) e.1 (is_at (nat_cmp t) e.0) none) (added_at es t q v (none_tail (at t es) e.1 (is_at (nat_cmp t) e.0) none)))
+
+any_in : {V : Type 0} (p : V → Bool) (seats : List (Seat V)) → list_any (λ seat. p seat.value) seats ≡ list_any p (values_of (map seen seats))
+any_in p [] = refl
+any_in p (seat ∷ seats) = ap (λ b. p seat.value || b) (any_in p seats)
+
+-- whether some thread's value passes
+pub any_value : {V : Type 0} (p : V → Bool) (seats : List (Seat V)) (es : List (ℕ × V)) → map seen seats ≡ es → list_any (λ seat. p seat.value) seats ≡ list_any p (values_of es)
+any_value p seats es is = any_in p seats ∙ ap (λ l. list_any p (values_of l)) is
