@@ -41,6 +41,12 @@ pub once : {V : Type 0} (places : List ℕ) (seats : List (Seat V)) (es : List (
 once places seats es placed is =
     subst IsOnce is (subst (IsDistinct (eq_by_cmp nat_cmp)) (sym (map-map (λ e. e.0) seen seats)) (tids_once places (map tid_of seats) placed))
 
+pub placed_none : Placed [] []
+placed_none = record {
+  found = λ i inside. absurd (omega (arith, inside));
+  held = λ t i at. absurd (omega (arith, at));
+}
+
 -- a place other than 0 is that of a seat
 pub within : {V : Type 0} (places : List ℕ) (seats : List (Seat V)) (t place : ℕ) → Placed places (map tid_of seats) → place ≡ get_or places t 0 → 1 ≤ place → place - 1 < length seats
 within places seats t place placed is some =
@@ -194,3 +200,6 @@ placed_more old seats new es t count v placed seen_is absent inside is many =
     inside
     (ap (map tid_of) is ∙ map-append tid_of seats (record { tid = t; value = v } ∷ []))
     (many ∙ ap length is ∙ length-append seats (record { tid = t; value = v } ∷ []) ∙ ap (λ n. n + 1) (sym (length-map seats tid_of)))
+
+pub seen_more : {V : Type 0} (seats new : List (Seat V)) (es : List (ℕ × V)) (t : ℕ) (v : V) → map seen seats ≡ es → new ≡ seats ++ record { tid = t; value = v } ∷ [] → map seen new ≡ es ++ (t, v) ∷ []
+seen_more seats new es t v seen_is is = ap (map seen) is ∙ map-append seen seats (record { tid = t; value = v } ∷ []) ∙ ap (λ l. l ++ (t, v) ∷ []) seen_is

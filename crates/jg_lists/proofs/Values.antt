@@ -1,8 +1,8 @@
 -- What look-ups of threads find, once one thread's value is written or added.
 use Rattle.std.proofs.Common.{◌≡◌, ℕ, Bool, true, false, List, [], ◌∷◌, ◌++◌, Option, Some, None, refl, ◌∙◌, sym, ap, subst, arith, eqb-true}
-use Rattle.std.specs.Prelude.{◌==◌, ◌||◌, if◌then◌else◌, IsSome, map}
+use Rattle.std.specs.Prelude.{◌==◌, ◌||◌, if◌then◌else◌, IsSome, map, slice_get}
 use Rattle.std.specs.List.{IsDistinct, list_any}
-use Rattle.std.specs.Option.{option_map}
+use Rattle.std.specs.Option.{is_some, option_map}
 use Rattle.std.specs.Map.{values_of, set_value}
 use Rattle.std.specs.BTreeMap.{is_at}
 use Rattle.std.specs.Cmp.{nat_cmp_total, eq_by_cmp_equiv}
@@ -11,6 +11,8 @@ use Rattle.std.proofs.lemmas.Bool.Decides.{nat_tests}
 use Rattle.std.proofs.lemmas.Map.{keys-set_value, lookup-set_value}
 use Rattle.jg_lists.specs.declared.by_thread.Seat.{Seat}
 use Rattle.jg_lists.specs.ByThread.{at, seen, IsOnce}
+use Rattle.jg_lists.specs.Lending.{WritesThrough}
+use Rattle.jg_lists.specs.Marks.{Marks}
 use Rattle.jg_lists.proofs.Acts.{at_key}
 
 pub set_once : {V : Type 0} (es : List (ℕ × V)) (t : ℕ) (w : V) → IsOnce es → IsOnce (set_value (is_at (nat_cmp t)) es w)
@@ -74,3 +76,42 @@ any_in p (seat ∷ seats) = ap (λ b. p seat.value || b) (any_in p seats)
 -- whether some thread's value passes
 pub any_value : {V : Type 0} (p : V → Bool) (seats : List (Seat V)) (es : List (ℕ × V)) → map seen seats ≡ es → list_any (λ seat. p seat.value) seats ≡ list_any p (values_of es)
 any_value p seats es is = any_in p seats ∙ ap (λ l. list_any p (values_of l)) is
+
+-- the marks of what some thread's value names
+pub marks_value : {V : Type 0} (test : V → ℕ → Bool) (seats : List (Seat V)) (es : List (ℕ × V)) (old new : List Bool) → map seen seats ≡ es → Marks (λ o. list_any (λ seat. test seat.value o) seats) old new
+    → Marks (λ o. list_any (λ v. test v o) (values_of es)) old new
+marks_value test seats es old new is marks o = marks o ∙ ap (λ b. option_map (λ mark. mark || b) (slice_get old o)) (any_value (λ v. test v o) seats es is)
+
+set_past : {V : Type 0} (e : ℕ × V) (es new : List (ℕ × V)) (w : V) (mine : Bool) → mine ≡ false → new ≡ es → (if mine then (e.0, w) ∷ es else e ∷ new) ≡ e ∷ es
+set_past e es new w true other same = cc
+set_past e es new w false other same = ap (λ l. e ∷ l) same
+
+-- nothing is written where the thread has no value
+pub set_none : {V : Type 0} (es : List (ℕ × V)) (t : ℕ) (w : V) → at t es ≡ None → set_value (is_at (nat_cmp t)) es w ≡ es
+set_none [] t w none = refl
+set_none (e ∷ es) t w none =
+    set_past e es (set_value (is_at (nat_cmp t)) es w) w (is_at (nat_cmp t) e.0) (none_head (at t es) e.1 (is_at (nat_cmp t) e.0) none)
+    (set_none es t w (none_tail (at t es) e.1 (is_at (nat_cmp t) e.0) none))
+
+pub absent : {V : Type 0} (value : Option V) → is_some value ≡ false → value ≡ None
+absent None is = refl
+absent (Some v) is = cc
+
+none_some : {V : Type 0} {Q : Type 0} (value : Option V) → value ≡ None → IsSome value → Q
+none_some None none some = cc
+none_some (Some v) none some = cc
+
+-- what is known once a value is written through a reference to it
+pub through : {V : Type 0} (es : List (ℕ × V)) (t : ℕ) (v w : V) → IsOnce es → at t es ≡ Some v → WritesThrough t es w (set_value (is_at (nat_cmp t)) es w)
+through es t v w once is = record {
+  entries = refl;
+  values = λ some q. set_at es t q v w is;
+  once = set_once es t w once;
+}
+
+pub through_none : {V : Type 0} (es : List (ℕ × V)) (t : ℕ) (w : V) → IsOnce es → at t es ≡ None → WritesThrough t es w es
+through_none es t w once none = record {
+  entries = sym (set_none es t w none);
+  values = λ some. none_some (at t es) none some;
+  once = once;
+}

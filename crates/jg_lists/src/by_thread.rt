@@ -1,4 +1,4 @@
-ghost use Rattle.std.specs.Prelude.{◌≡◌, ℕ, ◌+◌, ◌<◌, ◌≤◌, ◌++◌, ◌∷◌, [], IsSome, None, Some, OnOk, OnErr, length, map, option_copied, slice_index_or};
+ghost use Rattle.std.specs.Prelude.{◌≡◌, ℕ, ◌+◌, ◌<◌, ◌≤◌, ◌++◌, ◌∷◌, ◌==◌, if◌then◌else◌, [], IsSome, None, Some, OnOk, OnErr, length, map, option_copied, slice_index_or};
 ghost use Rattle.std.specs.Option.{is_some, option_copied_mut};
 ghost use Rattle.std.specs.Borrow.{sem};
 ghost use Rattle.jg_lists.specs.ByThread.{at, seen, IsOnce};
@@ -59,7 +59,8 @@ impl<V, A: Allocator> ByThread<V, A> {
 
     /// No thread has a value. Takes no memory; the two lists grow from the two handles.
     pub fn new(places: A, seats: A) -> ByThread<V, A>
-        ensures { result ≡ [] }
+        ensures empty { result ≡ [] }
+        ensures once { IsOnce result }
     {
         ByThread {
             places: Vec::new(places),
@@ -117,6 +118,7 @@ impl<V, A: Allocator> ByThread<V, A> {
         V: Drop,
         requires { at tid self.old ≡ None }
         ensures added { OnOk result (self.new ≡ self.old ++ (tid, value) ∷ []) }
+        ensures found { OnOk result ((t : ℕ) → at t self.new ≡ (if tid == t then Some value else at t self.old)) }
         ensures err { OnErr result (self.new ≡ self.old) }
         ensures once { IsOnce self.new }
     {

@@ -1,15 +1,10 @@
 -- The rows of all threads, gathered from their stacks.
-use Rattle.std.proofs.Common.{◌≡◌, ℕ, Bool, true, false, List, [], ◌∷◌, ◌++◌, Option, Some, None, refl, ◌∙◌, ap, sym, arith}
-use Rattle.std.specs.Prelude.{◌==◌, if◌then◌else◌, map, OnErr}
+use Rattle.std.proofs.Common.{◌≡◌, ℕ, Bool, true, false, List, [], ◌∷◌, ◌++◌, Some, refl, ◌∙◌, ap, sym}
+use Rattle.std.specs.Prelude.{if◌then◌else◌, map, OnErr}
 use Rattle.std.specs.Prelude.{Result}
 use Rattle.std.specs.declared.result.Result.TheVariants.{Ok, Err}
-use Rattle.std.specs.Option.{is_some}
 use Rattle.std.specs.Map.{lookup, set_value}
-use Rattle.std.specs.Ordering.{nat_cmp, match_ordering}
-use Rattle.std.specs.declared.cmp.Ordering.{Ordering}
-use Rattle.std.specs.declared.cmp.Ordering.TheVariants.{Less, Equal, Greater}
-use Rattle.std.specs.BTreeMap.{is_at, insert_entry}
-use Rattle.std.proofs.lemmas.Bool.Decides.{nat_tests}
+use Rattle.std.proofs.lemmas.List.{append_assoc, append-nil}
 use Rattle.jg_locals.specs.Seen.{StackRows, gather, locals_of, frames_of, rows_seen, local_row, frame_row}
 use Rattle.jg_locals.specs.Rows.{Rows, LocalRow, FrameRow}
 
@@ -44,34 +39,16 @@ pub on_err : {T E P Q : Type 0} (r : Result T E) → OnErr r P → (P → Q) →
 on_err (Ok x) h f = tt
 on_err (Err x) h f = f h
 
-keyed : (u q : ℕ) → (is_at (nat_cmp u) q) ≡ (u == q)
-keyed u q = grind (arith, nat_tests)
-
-inserted_at : {V X : Type 0} (f : ℕ → V → List X) (u : ℕ) (e : ℕ × V) (es : List (ℕ × V)) (w : V) (r : Ordering) → nat_cmp u e.0 ≡ r → f u w ≡ [] → lookup (is_at (nat_cmp u)) (e ∷ es) ≡ None
-    → (lookup (is_at (nat_cmp u)) es ≡ None → gather f (insert_entry nat_cmp es u w) ≡ gather f es)
-    → gather f (match_ordering r ((u, w) ∷ e ∷ es) ((e.0, w) ∷ es) (e ∷ insert_entry nat_cmp es u w)) ≡ f e.0 e.1 ++ gather f es
-inserted_at f u e es w Less is none absent later = ap (λ l. l ++ (f e.0 e.1 ++ gather f es)) none
-inserted_at f u e es w Equal is none absent later = absurd (found u e es is absent)
-  where
-    found : {V : Type 0} (u : ℕ) (e : ℕ × V) (es : List (ℕ × V)) → nat_cmp u e.0 ≡ Equal → lookup (is_at (nat_cmp u)) (e ∷ es) ≡ None → ⊥
-    found u e es is absent = some_none (rw is at absent)
-      where
-        some_none : {V : Type 0} {v : V} → Some v ≡ None → ⊥
-        some_none is = cc
-inserted_at f u e es w Greater is none absent later = ap (λ l. f e.0 e.1 ++ l) (later (rw is at absent))
+pub gather-append : {V X : Type 0} (f : ℕ → V → List X) (xs ys : List (ℕ × V)) → gather f (xs ++ ys) ≡ gather f xs ++ gather f ys
+gather-append f [] ys = refl
+gather-append f (x ∷ xs) ys = ap (λ l. f x.0 x.1 ++ l) (gather-append f xs ys) ∙ sym (append_assoc (f x.0 x.1) (gather f xs) (gather f ys))
 
 -- a stack without rows adds none
-pub gather-insert : {V X : Type 0} (f : ℕ → V → List X) (u : ℕ) (es : List (ℕ × V)) (w : V) → f u w ≡ [] → lookup (is_at (nat_cmp u)) es ≡ None → gather f (insert_entry nat_cmp es u w) ≡ gather f es
-gather-insert f u [] w none absent = ap (λ l. l ++ []) none
-gather-insert f u (e ∷ es) w none absent = inserted_at f u e es w (nat_cmp u e.0) refl none absent (λ h. gather-insert f u es w none h)
+gather-empty : {V X : Type 0} (f : ℕ → V → List X) (u : ℕ) (es : List (ℕ × V)) (w : V) → f u w ≡ [] → gather f (es ++ (u, w) ∷ []) ≡ gather f es
+gather-empty f u es w none = gather-append f es ((u, w) ∷ []) ∙ ap (λ l. gather f es ++ (l ++ [])) none ∙ append-nil (gather f es)
 
-pub rows_added : (old new : List (ℕ × StackRows)) (u : ℕ) (w : StackRows) → new ≡ insert_entry nat_cmp old u w → lookup (is_at (nat_cmp u)) old ≡ None → w.locals ≡ [] → w.frames ≡ []
-    → rows_seen new ≡ rows_seen old
-rows_added old new u w added absent locals frames =
-    let a = gather-insert locals_of u old w (ap (map (local_row u)) locals) absent in
-    let b = gather-insert frames_of u old w (ap (map (frame_row u)) frames) absent in
-    ap rows_seen added ∙ both (gather locals_of (insert_entry nat_cmp old u w)) (gather locals_of old) (gather frames_of (insert_entry nat_cmp old u w)) (gather frames_of old) a b
-
-pub absent : {V : Type 0} (found : Option V) → false ≡ is_some found → found ≡ None
-absent None is = refl
-absent (Some v) is = cc
+pub rows_added : (old new : List (ℕ × StackRows)) (u : ℕ) (w : StackRows) → new ≡ old ++ (u, w) ∷ [] → w.locals ≡ [] → w.frames ≡ [] → rows_seen new ≡ rows_seen old
+rows_added old new u w added locals frames =
+    let a = gather-empty locals_of u old w (ap (map (local_row u)) locals) in
+    let b = gather-empty frames_of u old w (ap (map (frame_row u)) frames) in
+    ap rows_seen added ∙ both (gather locals_of (old ++ (u, w) ∷ [])) (gather locals_of old) (gather frames_of (old ++ (u, w) ∷ [])) (gather frames_of old) a b

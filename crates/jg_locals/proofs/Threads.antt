@@ -5,10 +5,9 @@ use Rattle.std.specs.Option.{option_map, is_some}
 use Rattle.std.specs.declared.result.Result.TheVariants.{Ok, Err}
 use Rattle.std.specs.List.{AllByRecursion, list_any}
 use Rattle.std.specs.Map.{lookup, keys_of, values_of}
-use Rattle.std.specs.BTreeMap.{BTreeMap, IsOrdered, is_at}
-use Rattle.std.specs.Ordering.{nat_cmp}
+use Rattle.std.specs.BTreeMap.{is_at}
+use Rattle.std.specs.Ordering.{nat_cmp, eq_by_cmp}
 use Rattle.std.specs.Cmp.{nat_cmp_total, eq_by_cmp_equiv}
-use Rattle.std.specs.List.Sorted.{IsStrictlySortedBy}
 use Rattle.std.proofs.lemmas.Bool.{false≢true}
 use Rattle.std.proofs.lemmas.Bool.Decides.{nat_tests}
 use Rattle.std.proofs.lemmas.List.{append-nil}
@@ -16,11 +15,12 @@ use Rattle.std.proofs.lemmas.List.Elements.{filter-append, All-from_recursion, r
 use Rattle.std.proofs.lemmas.List.Folds.{list_any-append}
 use Rattle.std.proofs.lemmas.Map.{lookup-none}
 use Rattle.std.proofs.lemmas.Map.Entries.{none_past_head}
-use Rattle.std.proofs.lemmas.Map.Keys.{sorted_tail, IsDistinct-from_sorted}
+use Rattle.std.proofs.lemmas.Map.Keys.{IsDistinct-tail}
 use Rattle.jg_locals.specs.declared.row.Slot.{Slot}
 use Rattle.jg_locals.specs.declared.row.Frame.{Frame}
 use Rattle.jg_locals.specs.History.{Event, by, acts_of, Start, Make, Push, Ensure, Enter, Delete, Pop, Leave, End}
 use Rattle.jg_lists.specs.Acts.{how_many}
+use Rattle.jg_lists.specs.ByThread.{IsOnce}
 use Rattle.jg_locals.specs.Room.{promised, greater, crowded}
 use Rattle.jg_locals.specs.Rows.{Rows, Table, Room, LocalRow, FrameRow, is_local, is_of_frame, is_crowded, top, room_of, room_or_none, spare, spare_starts, pushed, entered, frame_number, depth_number}
 use Rattle.jg_locals.specs.Standing.{Stands}
@@ -77,13 +77,13 @@ in_entry f t None = []
 in_entry f t (Some v) = f t v
 
 own_at : {V X : Type 0} (f : ℕ → V → List X) (tid : X → ℕ) (own : (k : ℕ) (v : V) → AllByRecursion (λ x. tid x ≡ k) (f k v)) (t : ℕ) (e : ℕ × V) (es : List (ℕ × V)) (b : Bool) → (e.0 == t) ≡ b
-    → IsStrictlySortedBy nat_cmp (keys_of (e ∷ es))
+    → IsOnce (e ∷ es)
     → filter (λ x. tid x == t) (gather f es) ≡ in_entry f t (lookup (is_at (nat_cmp t)) es)
     → filter (λ x. tid x == t) (f e.0 e.1 ++ gather f es) ≡ in_entry f t (if b then Some e.1 else lookup (is_at (nat_cmp t)) es)
-own_at f tid own t e es true is sorted later =
+own_at f tid own t e es true is once later =
     let key : is_at (nat_cmp t) e.0 ≡ true = grind (arith, nat_tests, is) in
     let none : lookup (is_at (nat_cmp t)) es ≡ None = lookup-none (is_at (nat_cmp t)) es
-    (none_past_head (eq_by_cmp_equiv nat_cmp_total) t e es (IsDistinct-from_sorted nat_cmp (keys_of (e ∷ es)) sorted) key) in
+    (none_past_head (eq_by_cmp_equiv nat_cmp_total) t e es once key) in
     let empty = later ∙ ap (in_entry f t) none in
     let same : e.0 ≡ t = eqb-true e.0 t is in
     let all = filter-all (λ x. tid x == t) (f e.0 e.1) (each-map (λ x. tid x ≡ e.0) (λ x. (tid x == t) ≡ true) (λ x h. here (tid x) e.0 t h same) (f e.0 e.1) (own e.0 e.1)) in
@@ -91,7 +91,7 @@ own_at f tid own t e es true is sorted later =
   where
     here : (a k t : ℕ) → a ≡ k → k ≡ t → (a == t) ≡ true
     here a k t is same = grind (arith, nat_tests, is, same)
-own_at f tid own t e es false is sorted later =
+own_at f tid own t e es false is once later =
     let none = filter-none (λ x. tid x == t) (f e.0 e.1) (each-map (λ x. tid x ≡ e.0) (λ x. (tid x == t) ≡ false) (λ x h. there (tid x) e.0 t h is) (f e.0 e.1) (own e.0 e.1)) in
     rw (filter-append, none) later
   where
@@ -101,11 +101,11 @@ own_at f tid own t e es false is sorted later =
 at_key : (o k : ℕ) → is_at (nat_cmp o) k ≡ (k == o)
 at_key o k = grind (arith, nat_tests)
 
-own_part : {V X : Type 0} (f : ℕ → V → List X) (tid : X → ℕ) (own : (k : ℕ) (v : V) → AllByRecursion (λ x. tid x ≡ k) (f k v)) (t : ℕ) (es : List (ℕ × V)) → IsStrictlySortedBy nat_cmp (keys_of es)
+own_part : {V X : Type 0} (f : ℕ → V → List X) (tid : X → ℕ) (own : (k : ℕ) (v : V) → AllByRecursion (λ x. tid x ≡ k) (f k v)) (t : ℕ) (es : List (ℕ × V)) → IsOnce es
     → filter (λ x. tid x == t) (gather f es) ≡ in_entry f t (lookup (is_at (nat_cmp t)) es)
-own_part f tid own t [] sorted = refl
-own_part f tid own t (e ∷ es) sorted =
-    rw (at_key t e.0) (own_at f tid own t e es (e.0 == t) refl sorted (own_part f tid own t es (sorted_tail nat_cmp e.0 (keys_of es) sorted)))
+own_part f tid own t [] once = refl
+own_part f tid own t (e ∷ es) once =
+    rw (at_key t e.0) (own_at f tid own t e es (e.0 == t) refl once (own_part f tid own t es (IsDistinct-tail (eq_by_cmp nat_cmp) e.0 (keys_of es) once)))
 
 locals_own : (k : ℕ) (v : StackRows) → AllByRecursion (λ row. row.tid ≡ k) (locals_of k v)
 locals_own k v = at k v.locals
@@ -129,15 +129,15 @@ frames_in_entry : (t : ℕ) (found : Option StackRows) → in_entry frames_of t 
 frames_in_entry t None = refl
 frames_in_entry t (Some v) = refl
 
-pub own_locals : (m : BTreeMap ℕ StackRows) (t : ℕ) → IsOrdered nat_cmp m → filter (λ row. row.tid == t) (gather locals_of m.entries) ≡ map (local_row t) (slots_in (stack_at t m.entries))
-own_locals m t ordered = own_part locals_of (λ row. row.tid) locals_own t m.entries ordered ∙ locals_in t (stack_at t m.entries)
+pub own_locals : (m : List (ℕ × StackRows)) (t : ℕ) → IsOnce m → filter (λ row. row.tid == t) (gather locals_of m) ≡ map (local_row t) (slots_in (stack_at t m))
+own_locals m t ordered = own_part locals_of (λ row. row.tid) locals_own t m ordered ∙ locals_in t (stack_at t m)
 
-pub own_frames : (m : BTreeMap ℕ StackRows) (t : ℕ) → IsOrdered nat_cmp m → filter (λ row. row.tid == t) (gather frames_of m.entries) ≡ map (frame_row t) (frames_in (stack_at t m.entries))
-own_frames m t ordered = own_part frames_of (λ row. row.tid) frames_own t m.entries ordered ∙ frames_in_entry t (stack_at t m.entries)
+pub own_frames : (m : List (ℕ × StackRows)) (t : ℕ) → IsOnce m → filter (λ row. row.tid == t) (gather frames_of m) ≡ map (frame_row t) (frames_in (stack_at t m))
+own_frames m t ordered = own_part frames_of (λ row. row.tid) frames_own t m ordered ∙ frames_in_entry t (stack_at t m)
 
 -- the thread's newest frame is its stack's
-pub top_seen : (m : BTreeMap ℕ StackRows) (t : ℕ) → IsOrdered nat_cmp m → top t (rows_seen m.entries).frames ≡ option_map (frame_row t) (last (frames_in (stack_at t m.entries)))
-top_seen m t ordered = find-reverse (λ row. row.tid == t) (gather frames_of m.entries) ∙ (ap last (own_frames m t ordered) ∙ last-map (frame_row t) (frames_in (stack_at t m.entries)))
+pub top_seen : (m : List (ℕ × StackRows)) (t : ℕ) → IsOnce m → top t (rows_seen m).frames ≡ option_map (frame_row t) (last (frames_in (stack_at t m)))
+top_seen m t ordered = find-reverse (λ row. row.tid == t) (gather frames_of m) ∙ (ap last (own_frames m t ordered) ∙ last-map (frame_row t) (frames_in (stack_at t m)))
 
 -- ---- rows that are alike for each thread
 
@@ -200,11 +200,11 @@ module _ {Y X : Type 0} (g : ℕ → Y → X) (tid : X → ℕ) (tied : (t : ℕ
 
 -- ---- changes of a map of stacks
 
-abbrev slots_at : BTreeMap ℕ StackRows → ℕ → List Slot
-slots_at m t = slots_in (stack_at t m.entries)
+abbrev slots_at : List (ℕ × StackRows) → ℕ → List Slot
+slots_at m t = slots_in (stack_at t m)
 
-abbrev frames_at : BTreeMap ℕ StackRows → ℕ → List Frame
-frames_at m t = frames_in (stack_at t m.entries)
+abbrev frames_at : List (ℕ × StackRows) → ℕ → List Frame
+frames_at m t = frames_in (stack_at t m)
 
 abbrev local_tid : LocalRow → ℕ
 local_tid row = row.tid
@@ -212,104 +212,104 @@ local_tid row = row.tid
 abbrev frame_tid : FrameRow → ℕ
 frame_tid row = row.tid
 
-thin_locals : (old new : BTreeMap ℕ StackRows) (u : ℕ) (p : LocalRow → Bool) (q : Slot → Bool) (fs : List Frame) → IsOrdered nat_cmp old → IsOrdered nat_cmp new
+thin_locals : (old new : List (ℕ × StackRows)) (u : ℕ) (p : LocalRow → Bool) (q : Slot → Bool) (fs : List Frame) → IsOnce old → IsOnce new
     → Changes u old new (filter q (slots_at old u)) fs
     → ((s : Slot) → p (local_row u s) ≡ q s) → ((t : ℕ) (s : Slot) → t ≢ u → p (local_row t s) ≡ true)
-    → (t : ℕ) → filter (λ row. row.tid == t) (filter p (gather locals_of old.entries)) ≡ filter (λ row. row.tid == t) (gather locals_of new.entries)
+    → (t : ℕ) → filter (λ row. row.tid == t) (filter p (gather locals_of old)) ≡ filter (λ row. row.tid == t) (gather locals_of new)
 thin_locals old new u p q fs a b c mine rest =
-    thinned local_row local_tid (λ t s. refl) u p q (slots_at old) (slots_at new) (gather locals_of old.entries) (gather locals_of new.entries) (λ t. own_locals old t a) (λ t. own_locals new t b)
+    thinned local_row local_tid (λ t s. refl) u p q (slots_at old) (slots_at new) (gather locals_of old) (gather locals_of new) (λ t. own_locals old t a) (λ t. own_locals new t b)
     c.locals (λ t d. ap slots_in (c.others t d)) mine rest
 
-thin_frames : (old new : BTreeMap ℕ StackRows) (u : ℕ) (p : FrameRow → Bool) (q : Frame → Bool) (ls : List Slot) → IsOrdered nat_cmp old → IsOrdered nat_cmp new
+thin_frames : (old new : List (ℕ × StackRows)) (u : ℕ) (p : FrameRow → Bool) (q : Frame → Bool) (ls : List Slot) → IsOnce old → IsOnce new
     → Changes u old new ls (filter q (frames_at old u))
     → ((f : Frame) → p (frame_row u f) ≡ q f) → ((t : ℕ) (f : Frame) → t ≢ u → p (frame_row t f) ≡ true)
-    → (t : ℕ) → filter (λ row. row.tid == t) (filter p (gather frames_of old.entries)) ≡ filter (λ row. row.tid == t) (gather frames_of new.entries)
+    → (t : ℕ) → filter (λ row. row.tid == t) (filter p (gather frames_of old)) ≡ filter (λ row. row.tid == t) (gather frames_of new)
 thin_frames old new u p q ls a b c mine rest =
-    thinned frame_row frame_tid (λ t s. refl) u p q (frames_at old) (frames_at new) (gather frames_of old.entries) (gather frames_of new.entries) (λ t. own_frames old t a) (λ t. own_frames new t b)
+    thinned frame_row frame_tid (λ t s. refl) u p q (frames_at old) (frames_at new) (gather frames_of old) (gather frames_of new) (λ t. own_frames old t a) (λ t. own_frames new t b)
     c.frames (λ t d. ap frames_in (c.others t d)) mine rest
 
-grow_locals : (old new : BTreeMap ℕ StackRows) (u : ℕ) (s : Slot) (fs : List Frame) → IsOrdered nat_cmp old → IsOrdered nat_cmp new → Changes u old new (slots_at old u ++ s ∷ []) fs
-    → (t : ℕ) → filter (λ row. row.tid == t) (gather locals_of old.entries ++ local_row u s ∷ []) ≡ filter (λ row. row.tid == t) (gather locals_of new.entries)
+grow_locals : (old new : List (ℕ × StackRows)) (u : ℕ) (s : Slot) (fs : List Frame) → IsOnce old → IsOnce new → Changes u old new (slots_at old u ++ s ∷ []) fs
+    → (t : ℕ) → filter (λ row. row.tid == t) (gather locals_of old ++ local_row u s ∷ []) ≡ filter (λ row. row.tid == t) (gather locals_of new)
 grow_locals old new u s fs a b c =
-    grown local_row local_tid (λ t s. refl) u s (slots_at old) (slots_at new) (gather locals_of old.entries) (gather locals_of new.entries) (λ t. own_locals old t a) (λ t. own_locals new t b) c.locals
+    grown local_row local_tid (λ t s. refl) u s (slots_at old) (slots_at new) (gather locals_of old) (gather locals_of new) (λ t. own_locals old t a) (λ t. own_locals new t b) c.locals
     (λ t d. ap slots_in (c.others t d))
 
-grow_frames : (old new : BTreeMap ℕ StackRows) (u : ℕ) (f : Frame) (ls : List Slot) → IsOrdered nat_cmp old → IsOrdered nat_cmp new → Changes u old new ls (frames_at old u ++ f ∷ [])
-    → (t : ℕ) → filter (λ row. row.tid == t) (gather frames_of old.entries ++ frame_row u f ∷ []) ≡ filter (λ row. row.tid == t) (gather frames_of new.entries)
+grow_frames : (old new : List (ℕ × StackRows)) (u : ℕ) (f : Frame) (ls : List Slot) → IsOnce old → IsOnce new → Changes u old new ls (frames_at old u ++ f ∷ [])
+    → (t : ℕ) → filter (λ row. row.tid == t) (gather frames_of old ++ frame_row u f ∷ []) ≡ filter (λ row. row.tid == t) (gather frames_of new)
 grow_frames old new u f ls a b c =
-    grown frame_row frame_tid (λ t s. refl) u f (frames_at old) (frames_at new) (gather frames_of old.entries) (gather frames_of new.entries) (λ t. own_frames old t a) (λ t. own_frames new t b)
+    grown frame_row frame_tid (λ t s. refl) u f (frames_at old) (frames_at new) (gather frames_of old) (gather frames_of new) (λ t. own_frames old t a) (λ t. own_frames new t b)
     c.frames (λ t d. ap frames_in (c.others t d))
 
-same_locals : (old new : BTreeMap ℕ StackRows) (u : ℕ) (fs : List Frame) → IsOrdered nat_cmp old → IsOrdered nat_cmp new → Changes u old new (slots_at old u) fs
-    → (t : ℕ) → filter (λ row. row.tid == t) (gather locals_of old.entries) ≡ filter (λ row. row.tid == t) (gather locals_of new.entries)
+same_locals : (old new : List (ℕ × StackRows)) (u : ℕ) (fs : List Frame) → IsOnce old → IsOnce new → Changes u old new (slots_at old u) fs
+    → (t : ℕ) → filter (λ row. row.tid == t) (gather locals_of old) ≡ filter (λ row. row.tid == t) (gather locals_of new)
 same_locals old new u fs a b c =
-    unchanged local_row local_tid (λ t s. refl) u (slots_at old) (slots_at new) (gather locals_of old.entries) (gather locals_of new.entries) (λ t. own_locals old t a) (λ t. own_locals new t b)
+    unchanged local_row local_tid (λ t s. refl) u (slots_at old) (slots_at new) (gather locals_of old) (gather locals_of new) (λ t. own_locals old t a) (λ t. own_locals new t b)
     c.locals (λ t d. ap slots_in (c.others t d))
 
-same_frames : (old new : BTreeMap ℕ StackRows) (u : ℕ) (ls : List Slot) → IsOrdered nat_cmp old → IsOrdered nat_cmp new → Changes u old new ls (frames_at old u)
-    → (t : ℕ) → filter (λ row. row.tid == t) (gather frames_of old.entries) ≡ filter (λ row. row.tid == t) (gather frames_of new.entries)
+same_frames : (old new : List (ℕ × StackRows)) (u : ℕ) (ls : List Slot) → IsOnce old → IsOnce new → Changes u old new ls (frames_at old u)
+    → (t : ℕ) → filter (λ row. row.tid == t) (gather frames_of old) ≡ filter (λ row. row.tid == t) (gather frames_of new)
 same_frames old new u ls a b c =
-    unchanged frame_row frame_tid (λ t s. refl) u (frames_at old) (frames_at new) (gather frames_of old.entries) (gather frames_of new.entries) (λ t. own_frames old t a) (λ t. own_frames new t b)
+    unchanged frame_row frame_tid (λ t s. refl) u (frames_at old) (frames_at new) (gather frames_of old) (gather frames_of new) (λ t. own_frames old t a) (λ t. own_frames new t b)
     c.frames (λ t d. ap frames_in (c.others t d))
 
-top_row : (m : BTreeMap ℕ StackRows) (t : ℕ) (f : Frame) → IsOrdered nat_cmp m → last (frames_at m t) ≡ Some f → top t (gather frames_of m.entries) ≡ Some (frame_row t f)
+top_row : (m : List (ℕ × StackRows)) (t : ℕ) (f : Frame) → IsOnce m → last (frames_at m t) ≡ Some f → top t (gather frames_of m) ≡ Some (frame_row t f)
 top_row m t f a is = top_seen m t a ∙ ap (option_map (frame_row t)) is
 
-pub start_step : (old new : BTreeMap ℕ StackRows) (u : ℕ) (e : List Event) → IsOrdered nat_cmp old → IsOrdered nat_cmp new → top u (gather frames_of old.entries) ≡ None
+pub start_step : (old new : List (ℕ × StackRows)) (u : ℕ) (e : List Event) → IsOnce old → IsOnce new → top u (gather frames_of old) ≡ None
     → Changes u old new (slots_at old u) (frames_at old u ++ record { depth = 0; frame = 0; room = promised } ∷ [])
-    → Stands (rows_seen old.entries) e → Stands (rows_seen new.entries) (by u Start ∷ e)
+    → Stands (rows_seen old) e → Stands (rows_seen new) (by u Start ∷ e)
 start_step old new u e a b none c stands =
-    alike_stand _ (rows_seen new.entries) (by u Start ∷ e) (same_locals old new u _ a b c) (grow_frames old new u (record { depth = 0; frame = 0; room = promised }) _ a b c)
-    (start_law (rows_seen old.entries) e u stands none)
+    alike_stand _ (rows_seen new) (by u Start ∷ e) (same_locals old new u _ a b c) (grow_frames old new u (record { depth = 0; frame = 0; room = promised }) _ a b c)
+    (start_law (rows_seen old) e u stands none)
 
-pub make_step : (old new : BTreeMap ℕ StackRows) (u n o : ℕ) (f : Frame) (e : List Event) → IsOrdered nat_cmp old → IsOrdered nat_cmp new → last (frames_at old u) ≡ Some f
-    → All (λ row. row.tid ≡ u → row.n < n) (gather locals_of old.entries)
+pub make_step : (old new : List (ℕ × StackRows)) (u n o : ℕ) (f : Frame) (e : List Event) → IsOnce old → IsOnce new → last (frames_at old u) ≡ Some f
+    → All (λ row. row.tid ≡ u → row.n < n) (gather locals_of old)
     → Changes u old new (slots_at old u ++ slot_made n o f ∷ []) (frames_at old u)
-    → Stands (rows_seen old.entries) e → Stands (rows_seen new.entries) (by u (Make n o) ∷ e)
+    → Stands (rows_seen old) e → Stands (rows_seen new) (by u (Make n o) ∷ e)
 make_step old new u n o f e a b is above c stands =
-    alike_stand _ (rows_seen new.entries) (by u (Make n o) ∷ e) (grow_locals old new u (slot_made n o f) _ a b c) (same_frames old new u _ a b c)
-    (make_law (rows_seen old.entries) e u n o (frame_row u f) stands (top_row old u f a is) (fresh u n (gather locals_of old.entries) above))
+    alike_stand _ (rows_seen new) (by u (Make n o) ∷ e) (grow_locals old new u (slot_made n o f) _ a b c) (same_frames old new u _ a b c)
+    (make_law (rows_seen old) e u n o (frame_row u f) stands (top_row old u f a is) (fresh u n (gather locals_of old) above))
 
-pub push_step : (old new : BTreeMap ℕ StackRows) (u room : ℕ) (f : Frame) (e : List Event) → IsOrdered nat_cmp old → IsOrdered nat_cmp new → last (frames_at old u) ≡ Some f
+pub push_step : (old new : List (ℕ × StackRows)) (u room : ℕ) (f : Frame) (e : List Event) → IsOnce old → IsOnce new → last (frames_at old u) ≡ Some f
     → Changes u old new (slots_at old u) (frames_at old u ++ record { depth = f.depth; frame = f.frame + 1; room = room } ∷ [])
-    → Stands (rows_seen old.entries) e → Stands (rows_seen new.entries) (by u (Push room) ∷ e)
+    → Stands (rows_seen old) e → Stands (rows_seen new) (by u (Push room) ∷ e)
 push_step old new u room f e a b is c stands =
-    alike_stand _ (rows_seen new.entries) (by u (Push room) ∷ e) (same_locals old new u _ a b c) (grow_frames old new u (record { depth = f.depth; frame = f.frame + 1; room = room }) _ a b c)
-    (push_law (rows_seen old.entries) e u room (frame_row u f) stands (top_row old u f a is))
+    alike_stand _ (rows_seen new) (by u (Push room) ∷ e) (same_locals old new u _ a b c) (grow_frames old new u (record { depth = f.depth; frame = f.frame + 1; room = room }) _ a b c)
+    (push_law (rows_seen old) e u room (frame_row u f) stands (top_row old u f a is))
 
-pub enter_step : (old new : BTreeMap ℕ StackRows) (u : ℕ) (f : Frame) (e : List Event) → IsOrdered nat_cmp old → IsOrdered nat_cmp new → last (frames_at old u) ≡ Some f
+pub enter_step : (old new : List (ℕ × StackRows)) (u : ℕ) (f : Frame) (e : List Event) → IsOnce old → IsOnce new → last (frames_at old u) ≡ Some f
     → Changes u old new (slots_at old u) (frames_at old u ++ record { depth = f.depth + 1; frame = 0; room = promised } ∷ [])
-    → Stands (rows_seen old.entries) e → Stands (rows_seen new.entries) (by u Enter ∷ e)
+    → Stands (rows_seen old) e → Stands (rows_seen new) (by u Enter ∷ e)
 enter_step old new u f e a b is c stands =
-    alike_stand _ (rows_seen new.entries) (by u Enter ∷ e) (same_locals old new u _ a b c) (grow_frames old new u (record { depth = f.depth + 1; frame = 0; room = promised }) _ a b c)
-    (enter_law (rows_seen old.entries) e u (frame_row u f) stands (top_row old u f a is))
+    alike_stand _ (rows_seen new) (by u Enter ∷ e) (same_locals old new u _ a b c) (grow_frames old new u (record { depth = f.depth + 1; frame = 0; room = promised }) _ a b c)
+    (enter_law (rows_seen old) e u (frame_row u f) stands (top_row old u f a is))
 
-pub delete_step : (old new : BTreeMap ℕ StackRows) (u n : ℕ) (e : List Event) → IsOrdered nat_cmp old → IsOrdered nat_cmp new
+pub delete_step : (old new : List (ℕ × StackRows)) (u n : ℕ) (e : List Event) → IsOnce old → IsOnce new
     → Changes u old new (filter (λ s. not (s.n == n)) (slots_at old u)) (frames_at old u)
-    → Stands (rows_seen old.entries) e → Stands (rows_seen new.entries) (by u (Delete n) ∷ e)
+    → Stands (rows_seen old) e → Stands (rows_seen new) (by u (Delete n) ∷ e)
 delete_step old new u n e a b c stands =
-    alike_stand _ (rows_seen new.entries) (by u (Delete n) ∷ e)
+    alike_stand _ (rows_seen new) (by u (Delete n) ∷ e)
     (thin_locals old new u (λ row. not (row.tid == u && row.n == n)) (λ s. not (s.n == n)) _ a b c (λ s. grind (arith, nat_tests)) (λ t s d. grind (arith, nat_tests)))
     (same_frames old new u _ a b c)
-    (delete_law (rows_seen old.entries) e u n stands)
+    (delete_law (rows_seen old) e u n stands)
 
-pub pop_step : (old new : BTreeMap ℕ StackRows) (u : ℕ) (f : Frame) (e : List Event) → IsOrdered nat_cmp old → IsOrdered nat_cmp new → last (frames_at old u) ≡ Some f → 0 < f.frame
+pub pop_step : (old new : List (ℕ × StackRows)) (u : ℕ) (f : Frame) (e : List Event) → IsOnce old → IsOnce new → last (frames_at old u) ≡ Some f → 0 < f.frame
     → Changes u old new (filter (λ s. not (s.depth == f.depth && s.frame == f.frame)) (slots_at old u)) (filter (λ g. not (g.depth == f.depth && g.frame == f.frame)) (frames_at old u))
-    → Stands (rows_seen old.entries) e → Stands (rows_seen new.entries) (by u Pop ∷ e)
+    → Stands (rows_seen old) e → Stands (rows_seen new) (by u Pop ∷ e)
 pop_step old new u f e a b is some c stands =
-    alike_stand _ (rows_seen new.entries) (by u Pop ∷ e)
+    alike_stand _ (rows_seen new) (by u Pop ∷ e)
     (thin_locals old new u (is_not_in u f.depth f.frame) (λ s. not (s.depth == f.depth && s.frame == f.frame)) _ a b c (λ s. grind (arith, nat_tests)) (λ t s d. grind (arith, nat_tests)))
     (thin_frames old new u (is_not_frame u f.depth f.frame) (λ g. not (g.depth == f.depth && g.frame == f.frame)) _ a b c (λ g. grind (arith, nat_tests)) (λ t g d. grind (arith, nat_tests)))
-    (pop_law (rows_seen old.entries) e u (frame_row u f) stands (top_row old u f a is) some)
+    (pop_law (rows_seen old) e u (frame_row u f) stands (top_row old u f a is) some)
 
-pub leave_step : (old new : BTreeMap ℕ StackRows) (u : ℕ) (f : Frame) (e : List Event) → IsOrdered nat_cmp old → IsOrdered nat_cmp new → last (frames_at old u) ≡ Some f → 0 < f.depth
+pub leave_step : (old new : List (ℕ × StackRows)) (u : ℕ) (f : Frame) (e : List Event) → IsOnce old → IsOnce new → last (frames_at old u) ≡ Some f → 0 < f.depth
     → Changes u old new (filter (λ s. not (s.depth == f.depth)) (slots_at old u)) (filter (λ g. not (g.depth == f.depth)) (frames_at old u))
-    → Stands (rows_seen old.entries) e → Stands (rows_seen new.entries) (by u Leave ∷ e)
+    → Stands (rows_seen old) e → Stands (rows_seen new) (by u Leave ∷ e)
 leave_step old new u f e a b is some c stands =
-    alike_stand _ (rows_seen new.entries) (by u Leave ∷ e)
+    alike_stand _ (rows_seen new) (by u Leave ∷ e)
     (thin_locals old new u (is_not_at u f.depth) (λ s. not (s.depth == f.depth)) _ a b c (λ s. grind (arith, nat_tests)) (λ t s d. grind (arith, nat_tests)))
     (thin_frames old new u (is_not_depth u f.depth) (λ g. not (g.depth == f.depth)) _ a b c (λ g. grind (arith, nat_tests)) (λ t g d. grind (arith, nat_tests)))
-    (leave_law (rows_seen old.entries) e u (frame_row u f) stands (top_row old u f a is) some)
+    (leave_law (rows_seen old) e u (frame_row u f) stands (top_row old u f a is) some)
 
 -- ---- what the newest frame holds, and its room
 
@@ -318,9 +318,9 @@ count-map p g [] = refl
 count-map p g (x ∷ xs) = ap (λ n. if p (g x) then n + 1 else n) (count-map p g xs)
 
 -- the rows of the frame's locals are as many as its stack's
-pub held_seen : (m : BTreeMap ℕ StackRows) (t : ℕ) (f : Frame) → IsOrdered nat_cmp m → how_many (is_of_frame (frame_row t f)) (gather locals_of m.entries) ≡ held_in (Some f) (slots_at m t)
+pub held_seen : (m : List (ℕ × StackRows)) (t : ℕ) (f : Frame) → IsOnce m → how_many (is_of_frame (frame_row t f)) (gather locals_of m) ≡ held_in (Some f) (slots_at m t)
 held_seen m t f ordered =
-    count-filter (λ row. row.depth == f.depth && row.frame == f.frame) (λ row. row.tid == t) (gather locals_of m.entries)
+    count-filter (λ row. row.depth == f.depth && row.frame == f.frame) (λ row. row.tid == t) (gather locals_of m)
     ∙ (ap (how_many (λ row. row.depth == f.depth && row.frame == f.frame)) (own_locals m t ordered) ∙ count-map (λ row. row.depth == f.depth && row.frame == f.frame) (local_row t) (slots_at m t))
 
 row_set : (t d k room : ℕ) (f : Frame) → raised t d k room (frame_row t f) ≡ frame_row t (room_set room d k f)
@@ -344,11 +344,11 @@ raised_other t d k room row differ =
     let fails : (row.tid == t && (row.depth == d && row.frame == k)) ≡ false = grind (arith, nat_tests) in
     rw fails refl
 
-raise_frames : (old new : BTreeMap ℕ StackRows) (u d k room : ℕ) (ls : List Slot) → IsOrdered nat_cmp old → IsOrdered nat_cmp new → Changes u old new ls (map (room_set room d k) (frames_at old u))
-    → (t : ℕ) → filter (λ row. row.tid == t) (map (raised u d k room) (gather frames_of old.entries)) ≡ filter (λ row. row.tid == t) (gather frames_of new.entries)
+raise_frames : (old new : List (ℕ × StackRows)) (u d k room : ℕ) (ls : List Slot) → IsOnce old → IsOnce new → Changes u old new ls (map (room_set room d k) (frames_at old u))
+    → (t : ℕ) → filter (λ row. row.tid == t) (map (raised u d k room) (gather frames_of old)) ≡ filter (λ row. row.tid == t) (gather frames_of new)
 raise_frames old new u d k room ls a b c t =
-    let olds = gather frames_of old.entries in
-    let news = gather frames_of new.entries in
+    let olds = gather frames_of old in
+    let news = gather frames_of new in
     each_thread (λ v. filter (λ row. row.tid == v) (map (raised u d k room) olds) ≡ filter (λ row. row.tid == v) news) u
     (own_alike u (raised u d k room) olds (λ row. raised_tid u d k room row)
     ∙ (ap (map (raised u d k room)) (own_frames old u a) ∙ (rows_set u d k room (frames_at old u) ∙ (ap (map (frame_row u)) (sym c.frames) ∙ sym (own_frames new u b)))))
@@ -356,31 +356,31 @@ raise_frames old new u d k room ls a b c t =
     ∙ (own_frames old v a ∙ (ap (λ x. map (frame_row v) (frames_in x)) (sym (c.others v differ)) ∙ sym (own_frames new v b))))
     t
 
-pub ensure_step : (old new : BTreeMap ℕ StackRows) (u c : ℕ) (f : Frame) (e : List Event) → IsOrdered nat_cmp old → IsOrdered nat_cmp new → last (frames_at old u) ≡ Some f
+pub ensure_step : (old new : List (ℕ × StackRows)) (u c : ℕ) (f : Frame) (e : List Event) → IsOnce old → IsOnce new → last (frames_at old u) ≡ Some f
     → Changes u old new (slots_at old u) (map (room_set (greater f.room (c + held_in (Some f) (slots_at old u))) f.depth f.frame) (frames_at old u))
-    → Stands (rows_seen old.entries) e → Stands (rows_seen new.entries) (by u (Ensure c) ∷ e)
+    → Stands (rows_seen old) e → Stands (rows_seen new) (by u (Ensure c) ∷ e)
 ensure_step old new u c f e a b is changes stands =
     let room = greater f.room (c + held_in (Some f) (slots_at old u)) in
-    let same : room_made c (frame_row u f) (gather locals_of old.entries) ≡ room = ap (λ n. greater f.room (c + n)) (held_seen old u f a) in
-    let P : ℕ → Type 0 = λ x. Stands (record { locals = gather locals_of old.entries; frames = map (raised u f.depth f.frame x) (gather frames_of old.entries) }) (by u (Ensure c) ∷ e) in
-    let law = subst P same (ensure_law (rows_seen old.entries) e u c (frame_row u f) stands (top_row old u f a is)) in
-    alike_stand _ (rows_seen new.entries) (by u (Ensure c) ∷ e) (same_locals old new u _ a b changes) (raise_frames old new u f.depth f.frame room _ a b changes) law
+    let same : room_made c (frame_row u f) (gather locals_of old) ≡ room = ap (λ n. greater f.room (c + n)) (held_seen old u f a) in
+    let P : ℕ → Type 0 = λ x. Stands (record { locals = gather locals_of old; frames = map (raised u f.depth f.frame x) (gather frames_of old) }) (by u (Ensure c) ∷ e) in
+    let law = subst P same (ensure_law (rows_seen old) e u c (frame_row u f) stands (top_row old u f a is)) in
+    alike_stand _ (rows_seen new) (by u (Ensure c) ∷ e) (same_locals old new u _ a b changes) (raise_frames old new u f.depth f.frame room _ a b changes) law
 
 none_left : {X : Type 0} (xs : List X) → [] ≡ filter (λ x. false) xs
 none_left [] = refl
 none_left (x ∷ xs) = none_left xs
 
-as_filtered : (u : ℕ) (old new : BTreeMap ℕ StackRows) → Changes u old new [] [] → Changes u old new (filter (λ s. false) (slots_at old u)) (filter (λ f. false) (frames_at old u))
+as_filtered : (u : ℕ) (old new : List (ℕ × StackRows)) → Changes u old new [] [] → Changes u old new (filter (λ s. false) (slots_at old u)) (filter (λ f. false) (frames_at old u))
 as_filtered u old new c = record { locals = c.locals ∙ none_left (slots_at old u); frames = c.frames ∙ none_left (frames_at old u); others = c.others }
 
-pub end_step : (old new : BTreeMap ℕ StackRows) (u : ℕ) (e : List Event) → IsOrdered nat_cmp old → IsOrdered nat_cmp new → Changes u old new [] []
-    → Stands (rows_seen old.entries) e → Stands (rows_seen new.entries) (by u End ∷ e)
+pub end_step : (old new : List (ℕ × StackRows)) (u : ℕ) (e : List Event) → IsOnce old → IsOnce new → Changes u old new [] []
+    → Stands (rows_seen old) e → Stands (rows_seen new) (by u End ∷ e)
 end_step old new u e a b c stands =
     let d = as_filtered u old new c in
-    alike_stand _ (rows_seen new.entries) (by u End ∷ e)
+    alike_stand _ (rows_seen new) (by u End ∷ e)
     (thin_locals old new u (λ row. not (row.tid == u)) (λ s. false) _ a b d (λ s. grind (arith, nat_tests)) (λ t s d. grind (arith, nat_tests)))
     (thin_frames old new u (λ row. not (row.tid == u)) (λ f. false) _ a b d (λ g. grind (arith, nat_tests)) (λ t g d. grind (arith, nat_tests)))
-    (end_law (rows_seen old.entries) e u stands)
+    (end_law (rows_seen old) e u stands)
 
 -- ---- what is looked up
 
@@ -391,10 +391,10 @@ object_same : (t : ℕ) (found : Option Slot) → option_map (λ row. row.object
 object_same t None = refl
 object_same t (Some s) = refl
 
-pub object_seen : (m : BTreeMap ℕ StackRows) (t n : ℕ) → IsOrdered nat_cmp m
-    → option_map (λ s. s.object) (find (λ s. s.n == n) (slots_at m t)) ≡ option_map (λ row. row.object) (find (is_local t n) (gather locals_of m.entries))
+pub object_seen : (m : List (ℕ × StackRows)) (t n : ℕ) → IsOnce m
+    → option_map (λ s. s.object) (find (λ s. s.n == n) (slots_at m t)) ≡ option_map (λ row. row.object) (find (is_local t n) (gather locals_of m))
 object_seen m t n a =
-    let found = find_one t n (gather locals_of m.entries) ∙ (ap (find (λ row. row.n == n)) (own_locals m t a) ∙ find-map (λ row. row.n == n) (local_row t) (slots_at m t)) in
+    let found = find_one t n (gather locals_of m) ∙ (ap (find (λ row. row.n == n)) (own_locals m t a) ∙ find-map (λ row. row.n == n) (local_row t) (slots_at m t)) in
     sym (ap (option_map (λ row. row.object)) found ∙ object_same t (find (λ s. s.n == n) (slots_at m t)))
 
 each_unmap : {X Y : Type 0} (P : Y → Type 0) (g : X → Y) (xs : List X) → AllByRecursion P (map g xs) → AllByRecursion (λ x. P (g x)) xs
@@ -418,18 +418,18 @@ each_of_one t P (row ∷ rows) all = at t P row rows (row.tid == t) refl all (ea
         apart : (a t : ℕ) → (a == t) ≡ false → a ≡ t → ⊥
         apart a t is mine = grind (arith, nat_tests, is, mine)
 
-pub above_slots : (m : BTreeMap ℕ StackRows) (t n : ℕ) → IsOrdered nat_cmp m → All (λ row. row.tid ≡ t → row.n < n) (gather locals_of m.entries) → All (λ s. s.n < n) (slots_at m t)
+pub above_slots : (m : List (ℕ × StackRows)) (t n : ℕ) → IsOnce m → All (λ row. row.tid ≡ t → row.n < n) (gather locals_of m) → All (λ s. s.n < n) (slots_at m t)
 above_slots m t n a all =
-    let kept = each-filter (λ row. row.tid ≡ t → row.n < n) (λ row. row.tid == t) (gather locals_of m.entries) (recursion_from_All _ _ all) in
+    let kept = each-filter (λ row. row.tid ≡ t → row.n < n) (λ row. row.tid == t) (gather locals_of m) (recursion_from_All _ _ all) in
     let P : List LocalRow → Type 0 = λ l. AllByRecursion (λ row. row.tid ≡ t → row.n < n) l in
     let there = each_unmap (λ row. row.tid ≡ t → row.n < n) (local_row t) (slots_at m t) (subst P (own_locals m t a) kept) in
     All-from_recursion (λ s. s.n < n) (slots_at m t) (each-map (λ (s : Slot). t ≡ t → s.n < n) (λ s. s.n < n) (λ s h. h refl) (slots_at m t) there)
 
-pub above_rows : (m : BTreeMap ℕ StackRows) (t n : ℕ) → IsOrdered nat_cmp m → All (λ s. s.n < n) (slots_at m t) → All (λ row. row.tid ≡ t → row.n < n) (gather locals_of m.entries)
+pub above_rows : (m : List (ℕ × StackRows)) (t n : ℕ) → IsOnce m → All (λ s. s.n < n) (slots_at m t) → All (λ row. row.tid ≡ t → row.n < n) (gather locals_of m)
 above_rows m t n a all =
     let P : List LocalRow → Type 0 = λ l. AllByRecursion (λ row. row.n < n) l in
     let there = subst P (sym (own_locals m t a)) (each_tomap (λ row. row.n < n) (local_row t) (slots_at m t) (recursion_from_All _ _ all)) in
-    All-from_recursion _ _ (each_of_one t (λ row. row.n < n) (gather locals_of m.entries) there)
+    All-from_recursion _ _ (each_of_one t (λ row. row.n < n) (gather locals_of m) there)
 
 any_row : (o t : ℕ) (slots : List Slot) → list_any (λ row. row.object == o) (map (local_row t) slots) ≡ list_any (λ s. s.object == o) slots
 any_row o t [] = refl
@@ -456,8 +456,8 @@ room_is (e ∷ es) t = at e es t (is_at (nat_cmp t) e.0) (room_is es t)
 
 -- ---- what the table shows
 
-abbrev pub table_seen : BTreeMap ℕ StackRows → Table
-table_seen m = record { rows = rows_seen m.entries; room = rooms_seen m.entries }
+abbrev pub table_seen : List (ℕ × StackRows) → Table
+table_seen m = record { rows = rows_seen m; room = rooms_seen m }
 
 pub on_ok : {T E P Q : Type 0} (r : Result T E) → (P → Q) → OnOk r P → OnOk r Q
 on_ok (Ok x) f h = f h
@@ -467,28 +467,28 @@ pub ok_not_err : {T E : Type 0} (r : Result T E) (x : E) → IsOk r → r ≡ Er
 ok_not_err (Ok y) x ok is = cc
 ok_not_err (Err y) x ok is = cc
 
-pub top_in : (m : BTreeMap ℕ StackRows) (a : Table) (t : ℕ) → IsOrdered nat_cmp m → table_seen m ≡ a → top t a.rows.frames ≡ option_map (frame_row t) (last (frames_at m t))
+pub top_in : (m : List (ℕ × StackRows)) (a : Table) (t : ℕ) → IsOnce m → table_seen m ≡ a → top t a.rows.frames ≡ option_map (frame_row t) (last (frames_at m t))
 top_in m a t ordered is = ap (λ (v : Table). top t v.rows.frames) (sym is) ∙ top_seen m t ordered
 
-pub pushed_seen : (m : BTreeMap ℕ StackRows) (a : Table) (t x : ℕ) (f : Option Frame) → IsOrdered nat_cmp m → table_seen m ≡ a → f ≡ last (frames_at m t)
+pub pushed_seen : (m : List (ℕ × StackRows)) (a : Table) (t x : ℕ) (f : Option Frame) → IsOnce m → table_seen m ≡ a → f ≡ last (frames_at m t)
     → x ≡ frame_number (option_map (frame_row t) f) → x ≡ pushed t a.rows
 pushed_seen m a t x f ordered is at found = found ∙ (ap (λ o. frame_number (option_map (frame_row t) o)) at ∙ ap frame_number (sym (top_in m a t ordered is)))
 
-crowded_by : (m : BTreeMap ℕ StackRows) (t : ℕ) (f : Option Frame) → IsOrdered nat_cmp m → last (frames_at m t) ≡ f
-    → is_crowded (gather locals_of m.entries) (option_map (frame_row t) f) ≡ is_full f (held_in f (slots_at m t))
+crowded_by : (m : List (ℕ × StackRows)) (t : ℕ) (f : Option Frame) → IsOnce m → last (frames_at m t) ≡ f
+    → is_crowded (gather locals_of m) (option_map (frame_row t) f) ≡ is_full f (held_in f (slots_at m t))
 crowded_by m t None ordered is = refl
 crowded_by m t (Some f) ordered is = ap (λ n. nat_lt f.room n) (held_seen m t f ordered)
 
 -- the newest frame is the one that was looked up
 -- whether the newest frame holds more than its room
-pub crowded_seen : (m : BTreeMap ℕ StackRows) (a : Table) (e : List Event) (t : ℕ) → IsOrdered nat_cmp m → table_seen m ≡ a → Stands a.rows e
+pub crowded_seen : (m : List (ℕ × StackRows)) (a : Table) (e : List Event) (t : ℕ) → IsOnce m → table_seen m ≡ a → Stands a.rows e
     → is_full (last (frames_at m t)) (held_in (last (frames_at m t)) (slots_at m t)) ≡ crowded (acts_of t e)
 crowded_seen m a e t ordered is stands =
     let by_rows = crowded_by m t (last (frames_at m t)) ordered refl in
     let P : Table → Type 0 = λ v. Stands v.rows e in
-    sym (ap (is_crowded (gather locals_of m.entries)) (top_seen m t ordered) ∙ by_rows) ∙ crowded_law (rows_seen m.entries) e t (subst P (sym is) stands)
+    sym (ap (is_crowded (gather locals_of m)) (top_seen m t ordered) ∙ by_rows) ∙ crowded_law (rows_seen m) e t (subst P (sym is) stands)
 
-pub depth_seen : (m : BTreeMap ℕ StackRows) (a : Table) (t x : ℕ) (f : Option Frame) → IsOrdered nat_cmp m → table_seen m ≡ a → f ≡ last (frames_at m t) → x ≡ depth_number (option_map (frame_row t) f)
+pub depth_seen : (m : List (ℕ × StackRows)) (a : Table) (t x : ℕ) (f : Option Frame) → IsOnce m → table_seen m ≡ a → f ≡ last (frames_at m t) → x ≡ depth_number (option_map (frame_row t) f)
     → x ≡ entered t a.rows
 depth_seen m a t x f ordered is at found = found ∙ (ap (λ o. depth_number (option_map (frame_row t) o)) at ∙ ap depth_number (sym (top_in m a t ordered is)))
 
@@ -496,10 +496,10 @@ some_same : (t : ℕ) (f : Option Frame) → is_some f ≡ is_some (option_map (
 some_same t None = refl
 some_same t (Some f) = refl
 
-pub session_seen : (m : BTreeMap ℕ StackRows) (a : Table) (t : ℕ) (f : Option Frame) → IsOrdered nat_cmp m → table_seen m ≡ a → f ≡ last (frames_at m t) → is_some f ≡ is_some (top t a.rows.frames)
+pub session_seen : (m : List (ℕ × StackRows)) (a : Table) (t : ℕ) (f : Option Frame) → IsOnce m → table_seen m ≡ a → f ≡ last (frames_at m t) → is_some f ≡ is_some (top t a.rows.frames)
 session_seen m a t f ordered is at = some_same t f ∙ (ap (λ o. is_some (option_map (frame_row t) o)) at ∙ ap is_some (sym (top_in m a t ordered is)))
 
-pub started_top : (m : BTreeMap ℕ StackRows) (a : Table) (t : ℕ) (f : Option Frame) → IsOrdered nat_cmp m → table_seen m ≡ a → f ≡ last (frames_at m t) → IsSome (top t a.rows.frames) → IsSome f
+pub started_top : (m : List (ℕ × StackRows)) (a : Table) (t : ℕ) (f : Option Frame) → IsOnce m → table_seen m ≡ a → f ≡ last (frames_at m t) → IsSome (top t a.rows.frames) → IsSome f
 started_top m a t f ordered is at some =
     let Q : Option FrameRow → Type 0 = λ o. IsSome o in
     let R : Option Frame → Type 0 = λ o. IsSome o in
@@ -513,31 +513,31 @@ depth_some : (t : ℕ) (f : Option Frame) → 0 < depth_number (option_map (fram
 depth_some t None some = absurd (omega (arith, some))
 depth_some t (Some f) some = refl
 
-pub pushed_some : (m : BTreeMap ℕ StackRows) (a : Table) (t : ℕ) (f : Option Frame) → IsOrdered nat_cmp m → table_seen m ≡ a → f ≡ last (frames_at m t) → 0 < pushed t a.rows → IsSome f
+pub pushed_some : (m : List (ℕ × StackRows)) (a : Table) (t : ℕ) (f : Option Frame) → IsOnce m → table_seen m ≡ a → f ≡ last (frames_at m t) → 0 < pushed t a.rows → IsSome f
 pushed_some m a t f ordered is at some =
     let P : Option FrameRow → Type 0 = λ o. 0 < frame_number o in
     let R : Option Frame → Type 0 = λ o. IsSome o in
     subst R (sym at) (frame_some t (last (frames_at m t)) (subst P (top_in m a t ordered is) some))
 
-pub entered_some : (m : BTreeMap ℕ StackRows) (a : Table) (t : ℕ) (f : Option Frame) → IsOrdered nat_cmp m → table_seen m ≡ a → f ≡ last (frames_at m t) → 0 < entered t a.rows → IsSome f
+pub entered_some : (m : List (ℕ × StackRows)) (a : Table) (t : ℕ) (f : Option Frame) → IsOnce m → table_seen m ≡ a → f ≡ last (frames_at m t) → 0 < entered t a.rows → IsSome f
 entered_some m a t f ordered is at some =
     let P : Option FrameRow → Type 0 = λ o. 0 < depth_number o in
     let R : Option Frame → Type 0 = λ o. IsSome o in
     subst R (sym at) (depth_some t (last (frames_at m t)) (subst P (top_in m a t ordered is) some))
 
-pub pushed_is : (m : BTreeMap ℕ StackRows) (a : Table) (t : ℕ) (f : Frame) → IsOrdered nat_cmp m → table_seen m ≡ a → last (frames_at m t) ≡ Some f → pushed t a.rows ≡ f.frame
+pub pushed_is : (m : List (ℕ × StackRows)) (a : Table) (t : ℕ) (f : Frame) → IsOnce m → table_seen m ≡ a → last (frames_at m t) ≡ Some f → pushed t a.rows ≡ f.frame
 pushed_is m a t f ordered is at = ap frame_number (top_in m a t ordered is) ∙ ap (λ o. frame_number (option_map (frame_row t) o)) at
 
-pub entered_is : (m : BTreeMap ℕ StackRows) (a : Table) (t : ℕ) (f : Frame) → IsOrdered nat_cmp m → table_seen m ≡ a → last (frames_at m t) ≡ Some f → entered t a.rows ≡ f.depth
+pub entered_is : (m : List (ℕ × StackRows)) (a : Table) (t : ℕ) (f : Frame) → IsOnce m → table_seen m ≡ a → last (frames_at m t) ≡ Some f → entered t a.rows ≡ f.depth
 entered_is m a t f ordered is at = ap depth_number (top_in m a t ordered is) ∙ ap (λ o. depth_number (option_map (frame_row t) o)) at
 
-pub above_in : (m : BTreeMap ℕ StackRows) (a : Table) (t n : ℕ) → table_seen m ≡ a → All (λ row. row.tid ≡ t → row.n < n) a.rows.locals
-    → All (λ row. row.tid ≡ t → row.n < n) (gather locals_of m.entries)
+pub above_in : (m : List (ℕ × StackRows)) (a : Table) (t n : ℕ) → table_seen m ≡ a → All (λ row. row.tid ≡ t → row.n < n) a.rows.locals
+    → All (λ row. row.tid ≡ t → row.n < n) (gather locals_of m)
 above_in m a t n is all =
     let P : Table → Type 0 = λ v. All (λ row. row.tid ≡ t → row.n < n) v.rows.locals in
     subst P (sym is) all
 
-pub above_seen : (m : BTreeMap ℕ StackRows) (a : Table) (t n : ℕ) (b : Bool) → IsOrdered nat_cmp m → table_seen m ≡ a → IsTrue b ↔ All (λ s. s.n < n) (slots_at m t)
+pub above_seen : (m : List (ℕ × StackRows)) (a : Table) (t n : ℕ) (b : Bool) → IsOnce m → table_seen m ≡ a → IsTrue b ↔ All (λ s. s.n < n) (slots_at m t)
     → IsTrue b ↔ All (λ row. row.tid ≡ t → row.n < n) a.rows.locals
 above_seen m a t n b ordered is test =
     let P : Table → Type 0 = λ v. All (λ row. row.tid ≡ t → row.n < n) v.rows.locals in
@@ -554,7 +554,7 @@ no_row (Some x) h = cc
 pub none_top : (r s : Rows) (t : ℕ) → r ≡ s → IsNone (top t s.frames) → top t r.frames ≡ None
 none_top r s t is none = ap (λ (v : Rows). top t v.frames) is ∙ no_row _ none
 
-pub next_first : (m : BTreeMap ℕ StackRows) (t : ℕ) (f : Frame) → IsOrdered nat_cmp m → top t (rows_seen m.entries).frames ≡ None → IsNext (last (frames_at m t)) f
+pub next_first : (m : List (ℕ × StackRows)) (t : ℕ) (f : Frame) → IsOnce m → top t (rows_seen m).frames ≡ None → IsNext (last (frames_at m t)) f
 next_first m t f ordered none =
     let P : Option Frame → Type 0 = λ o. IsNext o f in
     subst P (sym (none_of_top t (last (frames_at m t)) (sym (top_seen m t ordered) ∙ none))) tt
@@ -567,42 +567,42 @@ next_enter top room = grind (arith, nat_tests)
 
 -- ---- room
 
-spare_is : (m : BTreeMap ℕ StackRows) (a : Table) (t : ℕ) → table_seen m ≡ a → spare a t ≡ (room_seen m.entries t).locals
-spare_is m a t is = ap (λ (v : Table). spare v t) (sym is) ∙ ap (λ (r : Room). r.locals) (room_is m.entries t)
+spare_is : (m : List (ℕ × StackRows)) (a : Table) (t : ℕ) → table_seen m ≡ a → spare a t ≡ (room_seen m t).locals
+spare_is m a t is = ap (λ (v : Table). spare v t) (sym is) ∙ ap (λ (r : Room). r.locals) (room_is m t)
 
-starts_is : (m : BTreeMap ℕ StackRows) (a : Table) (t : ℕ) → table_seen m ≡ a → spare_starts a t ≡ (room_seen m.entries t).frames
-starts_is m a t is = ap (λ (v : Table). spare_starts v t) (sym is) ∙ ap (λ (r : Room). r.frames) (room_is m.entries t)
+starts_is : (m : List (ℕ × StackRows)) (a : Table) (t : ℕ) → table_seen m ≡ a → spare_starts a t ≡ (room_seen m t).frames
+starts_is m a t is = ap (λ (v : Table). spare_starts v t) (sym is) ∙ ap (λ (r : Room). r.frames) (room_is m t)
 
-pub room_up : (old new : BTreeMap ℕ StackRows) (a : Table) (t : ℕ) → table_seen old ≡ a → (room_seen old.entries t).locals ≤ (room_seen new.entries t).locals → spare a t ≤ spare (table_seen new) t
+pub room_up : (old new : List (ℕ × StackRows)) (a : Table) (t : ℕ) → table_seen old ≡ a → (room_seen old t).locals ≤ (room_seen new t).locals → spare a t ≤ spare (table_seen new) t
 room_up old new a t is up = let x = spare_is old a t is in let y = spare_is new (table_seen new) t refl in omega (arith, x, y, up)
 
-pub starts_up : (old new : BTreeMap ℕ StackRows) (a : Table) (t : ℕ) → table_seen old ≡ a → (room_seen old.entries t).frames ≤ (room_seen new.entries t).frames
+pub starts_up : (old new : List (ℕ × StackRows)) (a : Table) (t : ℕ) → table_seen old ≡ a → (room_seen old t).frames ≤ (room_seen new t).frames
     → spare_starts a t ≤ spare_starts (table_seen new) t
 starts_up old new a t is up = let x = starts_is old a t is in let y = starts_is new (table_seen new) t refl in omega (arith, x, y, up)
 
-pub room_one : (old new : BTreeMap ℕ StackRows) (a : Table) (t : ℕ) → table_seen old ≡ a → (room_seen old.entries t).locals ≤ (room_seen new.entries t).locals + 1
+pub room_one : (old new : List (ℕ × StackRows)) (a : Table) (t : ℕ) → table_seen old ≡ a → (room_seen old t).locals ≤ (room_seen new t).locals + 1
     → spare a t ≤ spare (table_seen new) t + 1
 room_one old new a t is up = let x = spare_is old a t is in let y = spare_is new (table_seen new) t refl in omega (arith, x, y, up)
 
-pub room_from : (old : BTreeMap ℕ StackRows) (a : Table) (t : ℕ) → table_seen old ≡ a → 0 < spare a t → 0 < (room_seen old.entries t).locals
+pub room_from : (old : List (ℕ × StackRows)) (a : Table) (t : ℕ) → table_seen old ≡ a → 0 < spare a t → 0 < (room_seen old t).locals
 room_from old a t is some = let x = spare_is old a t is in omega (arith, x, some)
 
-pub starts_from : (old new : BTreeMap ℕ StackRows) (a : Table) (t : ℕ) → table_seen old ≡ a → (room_seen old.entries t).frames ≤ (room_seen new.entries t).frames → 0 < spare_starts a t
-    → 0 < (room_seen new.entries t).frames
+pub starts_from : (old new : List (ℕ × StackRows)) (a : Table) (t : ℕ) → table_seen old ≡ a → (room_seen old t).frames ≤ (room_seen new t).frames → 0 < spare_starts a t
+    → 0 < (room_seen new t).frames
 starts_from old new a t is up some = let x = starts_is old a t is in omega (arith, x, up, some)
 
-pub room_to : (new : BTreeMap ℕ StackRows) (t : ℕ) → 0 < (room_seen new.entries t).locals → 0 < spare (table_seen new) t
+pub room_to : (new : List (ℕ × StackRows)) (t : ℕ) → 0 < (room_seen new t).locals → 0 < spare (table_seen new) t
 room_to new t some = let y = spare_is new (table_seen new) t refl in omega (arith, y, some)
 
-pub starts_to : (new : BTreeMap ℕ StackRows) (t : ℕ) → 0 < (room_seen new.entries t).frames → 0 < spare_starts (table_seen new) t
+pub starts_to : (new : List (ℕ × StackRows)) (t : ℕ) → 0 < (room_seen new t).frames → 0 < spare_starts (table_seen new) t
 starts_to new t some = let y = starts_is new (table_seen new) t refl in omega (arith, y, some)
 
 stack_if : (found : Option StackRows) → 0 < (room_in found).frames → IsSome found
 stack_if None some = absurd (omega (arith, some))
 stack_if (Some v) some = refl
 
-pub has_stack : (old : BTreeMap ℕ StackRows) (a : Table) (t : ℕ) → table_seen old ≡ a → 0 < spare_starts a t → IsSome (stack_at t old.entries)
-has_stack old a t is some = let x = starts_is old a t is in stack_if (stack_at t old.entries) (omega (arith, x, some))
+pub has_stack : (old : List (ℕ × StackRows)) (a : Table) (t : ℕ) → table_seen old ≡ a → 0 < spare_starts a t → IsSome (stack_at t old)
+has_stack old a t is some = let x = starts_is old a t is in stack_if (stack_at t old) (omega (arith, x, some))
 
 pub restand : (r s : Rows) (e : List Event) → r ≡ s → Stands s e → Stands r e
 restand r s e is stands = let P : Rows → Type 0 = λ v. Stands v e in subst P (sym is) stands

@@ -6,7 +6,7 @@ use Rattle.std.specs.Map.{lookup}
 use Rattle.std.specs.Ordering.{nat_cmp, ordering_then}
 use Rattle.std.specs.declared.cmp.Ordering.{Ordering}
 use Rattle.jg_lists.specs.Acts.{how_many}
-use Rattle.std.specs.BTreeMap.{BTreeMap, is_at}
+use Rattle.std.specs.BTreeMap.{is_at}
 use Rattle.jg_locals.specs.declared.row.Slot.{Slot}
 use Rattle.jg_locals.specs.declared.row.Frame.{Frame}
 use Rattle.jg_locals.specs.declared.row.Opened.{Opened}
@@ -193,7 +193,7 @@ abbrev pub room_seen : List (ℕ × StackRows) → ℕ → Room
 room_seen es t = room_in (stack_at t es)
 
 -- the thread's stack now has these locals and frames, and the other stacks are as they were
-pub record Changes (u : ℕ) (old new : BTreeMap ℕ StackRows) (slots : List Slot) (opened : List Frame) : Type 0 where
-  pub locals : slots_in (stack_at u new.entries) ≡ slots
-  pub frames : frames_in (stack_at u new.entries) ≡ opened
-  pub others : (t : ℕ) → t ≢ u → stack_at t new.entries ≡ stack_at t old.entries
+pub record Changes (u : ℕ) (old new : List (ℕ × StackRows)) (slots : List Slot) (opened : List Frame) : Type 0 where
+  pub locals : slots_in (stack_at u new) ≡ slots
+  pub frames : frames_in (stack_at u new) ≡ opened
+  pub others : (t : ℕ) → t ≢ u → stack_at t new ≡ stack_at t old

@@ -14,10 +14,9 @@ use crate::stacks::{
     mark_named_in, names_object_in, object_at, open_at, pop_at, reserve_at, reserve_frame_at,
     set_room_at, top_at,
 };
-use jg_lists::ObjectMarks;
+use jg_lists::{ByThread, ObjectMarks};
 use jg_words::{ObjId, Ref, Tid};
 use std::alloc::{AllocError, Allocator, Global};
-use std::collections::BTreeMap;
 use std::marker::Model;
 
 /// For how many locals a native method has room that asks for no more.
@@ -27,32 +26,32 @@ const PROMISED: u64 = 16;
 /// beside them the room that `reserve` and `reserve_start` make.
 #[derive(Drop)]
 pub struct Locals<A: Allocator = Global> {
-    stacks: BTreeMap<u16, Stack<A>, A>,
+    stacks: ByThread<Stack<A>, A>,
     alloc: A,
 }
 
 impl<A: Allocator> Model for Locals<A> {
-    ghost use Rattle.std.specs.BTreeMap.{IsOrdered};
-    ghost use Rattle.std.specs.Ordering.{nat_cmp};
+    ghost use Rattle.jg_lists.specs.ByThread.{IsOnce};
     ghost use Rattle.jg_locals.specs.Rows.{Table};
     ghost use Rattle.jg_locals.specs.Seen.{rows_seen, rooms_seen};
 
     ghost Value = { Table };
 
-    ghost view = { λ a. record { rows = rows_seen a.stacks.entries; room = rooms_seen a.stacks.entries } };
+    ghost view = { λ a. record { rows = rows_seen a.stacks; room = rooms_seen a.stacks } };
 
-    ghost invariant = { λ a. IsOrdered nat_cmp a.stacks };
+    ghost invariant = { λ a. IsOnce a.stacks };
 }
 
 impl<A: Allocator + Clone> Locals<A> {
-    /// No thread has a session. Takes no memory; each thread's lists grow from a clone of a handle.
-    pub fn new(locals: A, frames: A) -> Locals<A>
+    /// No thread has a session. Takes no memory; two lists grow from the first two handles, and each
+    /// thread's lists from a clone of the third.
+    pub fn new(places: A, stacks: A, alloc: A) -> Locals<A>
         ensures stands { Stands result.rows [] }
         ensures rows { result.rows ≡ record { locals = []; frames = [] } }
     {
         Locals {
-            stacks: BTreeMap::new(locals),
-            alloc: frames,
+            stacks: ByThread::new(places, stacks),
+            alloc,
         }
     }
 
@@ -302,8 +301,8 @@ impl<A: Allocator + Clone> Locals<A> {
         mark_named_in(&self.stacks, marks);
     }
 
-    /// Appends the live locals, by thread and then by number. Takes time by the locals and threads
-    /// that the table keeps. Fails only for want of memory; the list then holds a part of them.
+    /// Appends the live locals, thread by thread and then by number. Takes time by the locals and
+    /// threads that the table keeps. Fails only for want of memory; the list then holds a part of them.
     pub fn list<B: Allocator>(&self, refs: &mut Vec<Ref, B>) -> Result<(), AllocError>
         ensures ok { OnOk result (refs.new.items ≡ refs.old.items ++ map local_ref self.now.rows.locals) }
     {

@@ -163,6 +163,18 @@ impl<A: Allocator> Stack<A> {
         self.dead = dead;
     }
 
+    /// Ends all its locals and frames, and gives their memory back.
+    pub fn clear(&mut self)
+        ensures locals { self.new.locals ≡ [] }
+        ensures frames { self.new.frames ≡ [] }
+    {
+        self.slots.clear();
+        self.slots.shrink_to_fit();
+        self.frames.clear();
+        self.frames.shrink_to_fit();
+        self.dead = 0;
+    }
+
     /// Sets the room of the frame.
     pub fn set_room(&mut self, frame: Frame, room: u64)
         ensures frames { self.new.frames ≡ map (room_set room frame.depth frame.frame) self.old.frames }

@@ -61,7 +61,7 @@ fn pop<A: Allocator + Clone>(rt: &impl Abort, locals: &mut Locals<A>) {
 /// A leave cuts all frames of its activation, and nothing below it.
 #[test]
 fn leave_cuts_frames(rt: HostRuntime) -> Result<(), Fail> {
-    let mut locals = Locals::new(rt.alloc(), rt.alloc());
+    let mut locals = Locals::new(rt.alloc(), rt.alloc(), rt.alloc());
     start(&rt, &mut locals, T)?;
     make(&rt, &mut locals, 1)?;
     enter(&rt, &mut locals)?;
@@ -81,7 +81,7 @@ fn leave_cuts_frames(rt: HostRuntime) -> Result<(), Fail> {
 /// A pop ends the locals of its frame, a deletion one local, and the session's end all.
 #[test]
 fn each_way_to_end(rt: HostRuntime) -> Result<(), Fail> {
-    let mut locals = Locals::new(rt.alloc(), rt.alloc());
+    let mut locals = Locals::new(rt.alloc(), rt.alloc(), rt.alloc());
     start(&rt, &mut locals, T)?;
     make(&rt, &mut locals, 1)?;
     make(&rt, &mut locals, 2)?;
@@ -105,7 +105,7 @@ fn each_way_to_end(rt: HostRuntime) -> Result<(), Fail> {
 /// Deletions in any order leave exactly the others, and an ended number can be made again.
 #[test]
 fn deletions_close_up(rt: HostRuntime) -> Result<(), Fail> {
-    let mut locals = Locals::new(rt.alloc(), rt.alloc());
+    let mut locals = Locals::new(rt.alloc(), rt.alloc(), rt.alloc());
     start(&rt, &mut locals, T)?;
     for n in 1..101u64 {
         make(&rt, &mut locals, n)?;
@@ -131,7 +131,7 @@ fn deletions_close_up(rt: HostRuntime) -> Result<(), Fail> {
 #[test]
 fn deletions_in_any_order(rt: HostRuntime) -> Result<(), Fail> {
     for step in [1u64, 100, 37] {
-        let mut locals = Locals::new(rt.alloc(), rt.alloc());
+        let mut locals = Locals::new(rt.alloc(), rt.alloc(), rt.alloc());
         let mut kept = Vec::new(rt.alloc());
         start(&rt, &mut locals, T)?;
         for n in 1..101u64 {
@@ -153,7 +153,7 @@ fn deletions_in_any_order(rt: HostRuntime) -> Result<(), Fail> {
 /// The last local of a frame below the newest is deleted, then all of the newest, which is popped.
 #[test]
 fn dead_ends(rt: HostRuntime) -> Result<(), Fail> {
-    let mut locals = Locals::new(rt.alloc(), rt.alloc());
+    let mut locals = Locals::new(rt.alloc(), rt.alloc(), rt.alloc());
     start(&rt, &mut locals, T)?;
     make(&rt, &mut locals, 1)?;
     make(&rt, &mut locals, 2)?;
@@ -195,7 +195,7 @@ fn ensure<A: Allocator + Clone>(rt: &impl Abort, locals: &mut Locals<A>, capacit
 /// asked for in it. A deletion lowers what its own frame holds.
 #[test]
 fn room_of_frames(rt: HostRuntime) -> Result<(), Fail> {
-    let mut locals = Locals::new(rt.alloc(), rt.alloc());
+    let mut locals = Locals::new(rt.alloc(), rt.alloc(), rt.alloc());
     assert!(rt; !locals.crowded(T));
     start(&rt, &mut locals, T)?;
     assert!(rt; !crowded_after(&rt, &mut locals, 1, 16)?);
@@ -222,7 +222,7 @@ fn room_of_frames(rt: HostRuntime) -> Result<(), Fail> {
 /// popped: the 50 that are left of the first are found, and no other.
 #[test]
 fn a_thousand_frames(rt: HostRuntime) -> Result<(), Fail> {
-    let mut locals = Locals::new(rt.alloc(), rt.alloc());
+    let mut locals = Locals::new(rt.alloc(), rt.alloc(), rt.alloc());
     start(&rt, &mut locals, T)?;
     for n in 0..100_000u64 {
         if n % 100 == 0 {
@@ -257,7 +257,7 @@ fn local(maker: Tid, n: u64) -> Ref {
 #[test]
 fn listed(rt: HostRuntime) -> Result<(), Fail> {
     let other = Tid(2);
-    let mut locals = Locals::new(rt.alloc(), rt.alloc());
+    let mut locals = Locals::new(rt.alloc(), rt.alloc(), rt.alloc());
     start(&rt, &mut locals, other)?;
     make_for(&rt, &mut locals, other, 1)?;
     start(&rt, &mut locals, T)?;
@@ -276,7 +276,7 @@ fn listed(rt: HostRuntime) -> Result<(), Fail> {
 #[test]
 fn threads_apart(rt: HostRuntime) -> Result<(), Fail> {
     let other = Tid(2);
-    let mut locals = Locals::new(rt.alloc(), rt.alloc());
+    let mut locals = Locals::new(rt.alloc(), rt.alloc(), rt.alloc());
     start(&rt, &mut locals, other)?;
     start(&rt, &mut locals, T)?;
     push(&rt, &mut locals)?;
@@ -293,7 +293,7 @@ fn threads_apart(rt: HostRuntime) -> Result<(), Fail> {
 /// 65,535 threads have a session and a local each, one of them as many more, and none is refused.
 #[test]
 fn many_threads(rt: HostRuntime) -> Result<(), Fail> {
-    let mut locals = Locals::new(rt.alloc(), rt.alloc());
+    let mut locals = Locals::new(rt.alloc(), rt.alloc(), rt.alloc());
     for t in 0..u16::MAX {
         start(&rt, &mut locals, Tid(t))?;
         make_for(&rt, &mut locals, Tid(t), 1)?;
@@ -378,7 +378,7 @@ fn fill<A: Allocator + Clone>(rt: &impl Abort, locals: &mut Locals<A>, growth: G
 /// Makes the call until it is refused, which changes nothing; then memory is given back, and the
 /// same call answers.
 fn goes_on<'a>(rt: &impl Abort, heap: &'a LocalHeap, growth: Growth) -> Result<(), Fail> {
-    let mut locals = Locals::new(heap, heap);
+    let mut locals = Locals::new(heap, heap, heap);
     start(rt, &mut locals, T)?;
     let mut ballast: Vec<u8, &'a LocalHeap> = Vec::new(heap);
     ballast.try_reserve(12000)?;

@@ -3,15 +3,14 @@ use Rattle.std.proofs.Common.{◌≡◌, ℕ, Bool, true, false, List, [], ◌�
 use Rattle.std.specs.Prelude.{◌==◌, IfSome}
 use Rattle.std.specs.List.{list_any}
 use Rattle.std.specs.Cmp.{eq_by_cmp_equiv, nat_cmp_total}
-use Rattle.std.specs.List.Sorted.{IsStrictlySortedBy}
 use Rattle.std.specs.Ordering.{nat_cmp}
 use Rattle.std.specs.BTreeMap.{is_at}
-use Rattle.std.specs.Map.{lookup, keys_of, values_of}
+use Rattle.std.specs.Map.{lookup, values_of}
 use Rattle.std.proofs.lemmas.Bool.Decides.{nat_tests}
 use Rattle.std.proofs.lemmas.List.Folds.{list_any_none}
-use Rattle.std.proofs.lemmas.Map.Keys.{IsDistinct-from_sorted}
 use Rattle.std.proofs.lemmas.Map.Views.{All-values_from_lookup}
 use Rattle.jg_lists.proofs.Marks.{marks_stay}
+use Rattle.jg_lists.specs.ByThread.{IsOnce}
 use Rattle.jg_threads.specs.History.{Event, acts_of, pending, is_object, is_pending}
 use Rattle.jg_threads.specs.Rows.{Row, row_or_none}
 use Rattle.jg_threads.specs.Standing.{row_after, Stands}
@@ -81,19 +80,19 @@ some_value rows e o t None looked is here =
     cc
 some_value rows e o t (Some row) looked is here = value_there (λ row. is_object o row.pending) (is_at (nat_cmp t)) rows row looked (pending_in e o t (Some row) is ∙ here)
 
-by_cases : (rows : List (ℕ × Row)) (e : List Event) (o : ℕ) (b : Bool) → IsStrictlySortedBy nat_cmp (keys_of rows) → Stands rows e → is_pending e o ≡ b
+by_cases : (rows : List (ℕ × Row)) (e : List Event) (o : ℕ) (b : Bool) → IsOnce rows → Stands rows e → is_pending e o ≡ b
     → list_any (λ row. is_object o row.pending) (values_of rows) ≡ b
-by_cases rows e o true sorted stands is =
+by_cases rows e o true once stands is =
     let found = some_event (λ ev. is_object o (pending (acts_of ev.tid e))) e is in
     some_value rows e o found.0.tid (lookup (is_at (nat_cmp found.0.tid)) rows) refl (stands.threads found.0.tid) found.1
-by_cases rows e o false sorted stands is =
+by_cases rows e o false once stands is =
     list_any_none (λ row. is_object o row.pending) (values_of rows)
-    (All-values_from_lookup (eq_by_cmp_equiv nat_cmp_total) (λ row. is_object o row.pending ≡ false) rows (IsDistinct-from_sorted nat_cmp (keys_of rows) sorted)
+    (All-values_from_lookup (eq_by_cmp_equiv nat_cmp_total) (λ row. is_object o row.pending ≡ false) rows once
     (λ t. row_at e o t (is_object o (pending (acts_of t e))) (lookup (is_at (nat_cmp t)) rows) (stands.threads t) refl (no_row_at rows e o t _ stands is refl)))
 
 -- the rows tell which objects are pending
-pub pending_law : (rows : List (ℕ × Row)) (e : List Event) (o : ℕ) → IsStrictlySortedBy nat_cmp (keys_of rows) → Stands rows e
+pub pending_law : (rows : List (ℕ × Row)) (e : List Event) (o : ℕ) → IsOnce rows → Stands rows e
     → list_any (λ row. is_object o row.pending) (values_of rows) ≡ is_pending e o
-pending_law rows e o sorted stands = by_cases rows e o (is_pending e o) sorted stands refl
+pending_law rows e o once stands = by_cases rows e o (is_pending e o) once stands refl
 
 pub ruleset none = (marks_stay)

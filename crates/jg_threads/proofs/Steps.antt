@@ -2,12 +2,12 @@
 use Rattle.std.proofs.Common.{◌≡◌, ◌≢◌, ◌<◌, ◌≤◌, ◌+◌, ◌-◌, ℕ, Bool, true, false, List, [], ◌∷◌, Option, Some, None, refl, ◌∙◌, ap, sym, subst, arith}
 use Rattle.std.specs.Prelude.{◌==◌, not, if◌then◌else◌, IsTrue}
 use Rattle.std.specs.Option.{option_map}
-use Rattle.std.specs.Map.{lookup, keys_of}
+use Rattle.std.specs.Map.{lookup}
 use Rattle.std.specs.BTreeMap.{is_at}
 use Rattle.std.specs.Ordering.{nat_cmp}
-use Rattle.std.specs.List.Sorted.{IsStrictlySortedBy}
 use Rattle.std.proofs.lemmas.Bool.Decides.{nat_tests}
 use Rattle.jg_lists.proofs.Acts.{each_acted, one_if, counted_law}
+use Rattle.jg_lists.specs.ByThread.{IsOnce}
 use Rattle.jg_threads.specs.History.{Act, Attach, Detach, Enter, Leave, Raise, Calm, CountRef, CountBuffer, Event, by, acts_of, how_many, is_enter, is_leave, since, attached, was_attached, sessions, depth}
 use Rattle.jg_threads.specs.Rows.{Row, no_row, row_or_none, row_of}
 use Rattle.jg_threads.specs.Standing.{IsAllowed, AllAllowed, row_by, rows_wanted, Stands}
@@ -83,10 +83,10 @@ found_is acts false None is one = refl
 found_is acts true (Some row) is one = ap Some is
 found_is acts false (Some row) is one = cc
 
-found_law : (rows : List (ℕ × Row)) (e : List Event) (t : ℕ) → IsStrictlySortedBy nat_cmp (keys_of rows) → Stands rows e
+found_law : (rows : List (ℕ × Row)) (e : List Event) (t : ℕ) → IsOnce rows → Stands rows e
     → lookup (is_at (nat_cmp t)) rows ≡ row_if (was_attached (acts_of t e)) (acts_of t e)
-found_law rows e t sorted stands =
-    found_is (acts_of t e) (was_attached (acts_of t e)) (lookup (is_at (nat_cmp t)) rows) (stands.threads t) (sym (counted_law t rows sorted) ∙ stands.once t)
+found_law rows e t once stands =
+    found_is (acts_of t e) (was_attached (acts_of t e)) (lookup (is_at (nat_cmp t)) rows) (stands.threads t) (sym (counted_law t rows once) ∙ stands.once t)
 
 row_found : (acts : List Act) (b : Bool) → was_attached acts ≡ b → AllAllowed acts → row_or_none (row_if b acts) ≡ row_by acts
 row_found acts true is h = refl
@@ -96,22 +96,22 @@ one_found : (acts : List Act) (b : Bool) → one_if (row_if b acts) ≡ (if b th
 one_found acts true = refl
 one_found acts false = refl
 
-stands_by : (rows : List (ℕ × Row)) (e : List Event) → IsStrictlySortedBy nat_cmp (keys_of rows) → ((t : ℕ) → AllAllowed (acts_of t e))
+stands_by : (rows : List (ℕ × Row)) (e : List Event) → IsOnce rows → ((t : ℕ) → AllAllowed (acts_of t e))
     → ((t : ℕ) → lookup (is_at (nat_cmp t)) rows ≡ row_if (was_attached (acts_of t e)) (acts_of t e)) → Stands rows e
-stands_by rows e sorted allowed found = record {
+stands_by rows e once allowed found = record {
   threads = λ t. ap row_or_none (found t) ∙ row_found (acts_of t e) (was_attached (acts_of t e)) refl (allowed t);
-  once = λ t. counted_law t rows sorted ∙ (ap one_if (found t) ∙ one_found (acts_of t e) (was_attached (acts_of t e)));
+  once = λ t. counted_law t rows once ∙ (ap one_if (found t) ∙ one_found (acts_of t e) (was_attached (acts_of t e)));
   allowed = allowed;
 }
 
 -- after one more act of a thread, the look-up finds its new row, and the other rows as they were
-stands_more : (old new : List (ℕ × Row)) (e : List Event) (u : ℕ) (a : Act) → IsStrictlySortedBy nat_cmp (keys_of old) → IsStrictlySortedBy nat_cmp (keys_of new) → Stands old e
+stands_more : (old new : List (ℕ × Row)) (e : List Event) (u : ℕ) (a : Act) → IsOnce old → IsOnce new → Stands old e
     → IsAllowed a (acts_of u e) → ((t : ℕ) → t ≢ u → lookup (is_at (nat_cmp t)) new ≡ lookup (is_at (nat_cmp t)) old)
     → lookup (is_at (nat_cmp u)) new ≡ row_if (was_attached (a ∷ acts_of u e)) (a ∷ acts_of u e) → Stands new (by u a ∷ e)
-stands_more old new e u a was_sorted sorted stands now others here =
-    stands_by new (by u a ∷ e) sorted
+stands_more old new e u a was_once once stands now others here =
+    stands_by new (by u a ∷ e) once
     (each_acted (λ t acts. AllAllowed acts) u a e (λ t differ. stands.allowed t) (stands.allowed u, now))
-    (each_acted (λ t acts. lookup (is_at (nat_cmp t)) new ≡ row_if (was_attached acts) acts) u a e (λ t differ. others t differ ∙ found_law old e t was_sorted stands) here)
+    (each_acted (λ t acts. lookup (is_at (nat_cmp t)) new ≡ row_if (was_attached acts) acts) u a e (λ t differ. others t differ ∙ found_law old e t was_once stands) here)
 
 -- ---- a row is changed
 
@@ -136,62 +136,62 @@ row_written acts more change true is = ap Some is
 row_written acts more change false is = refl
 
 -- an act that attaches nobody changes the row to that of what was done with it
-written_law : (old new rows : List (ℕ × Row)) (e : List Event) (u : ℕ) (a : Act) (change : Row → Row) → old ≡ rows → IsStrictlySortedBy nat_cmp (keys_of old) → IsStrictlySortedBy nat_cmp (keys_of new)
+written_law : (old new rows : List (ℕ × Row)) (e : List Event) (u : ℕ) (a : Act) (change : Row → Row) → old ≡ rows → IsOnce old → IsOnce new
     → Stands rows e → IsAllowed a (acts_of u e) → was_attached (a ∷ acts_of u e) ≡ was_attached (acts_of u e) → change (row_by (acts_of u e)) ≡ row_by (a ∷ acts_of u e) → Written old new u change
     → Stands new (by u a ∷ e)
-written_law old new rows e u a change seen was_sorted sorted stands now quiet is written =
+written_law old new rows e u a change seen was_once once stands now quiet is written =
     let was : Stands old e = subst (λ (r : List (ℕ × Row)). Stands r e) (sym seen) stands in
-    stands_more old new e u a was_sorted sorted was now (written_other old new u change written)
+    stands_more old new e u a was_once once was now (written_other old new u change written)
     (written_here old new u change written
-    ∙ (ap (option_map change) (found_law old e u was_sorted was)
+    ∙ (ap (option_map change) (found_law old e u was_once was)
     ∙ (row_written (acts_of u e) (a ∷ acts_of u e) change (was_attached (acts_of u e)) is
     ∙ ap (λ b. row_if b (a ∷ acts_of u e)) (sym quiet))))
 
 -- ---- each act
 
-pub detach_law : (old new rows : List (ℕ × Row)) (e : List Event) (u : ℕ) → old ≡ rows → IsStrictlySortedBy nat_cmp (keys_of old) → IsStrictlySortedBy nat_cmp (keys_of new)
+pub detach_law : (old new rows : List (ℕ × Row)) (e : List Event) (u : ℕ) → old ≡ rows → IsOnce old → IsOnce new
     → Stands rows e → Written old new u (λ (r : Row). record r { attached = false; depth = 0; pending = None }) → Stands new (by u Detach ∷ e)
-detach_law old new rows e u seen was_sorted sorted stands = written_law old new rows e u Detach (λ (r : Row). record r { attached = false; depth = 0; pending = None }) seen was_sorted sorted stands tt refl
+detach_law old new rows e u seen was_once once stands = written_law old new rows e u Detach (λ (r : Row). record r { attached = false; depth = 0; pending = None }) seen was_once once stands tt refl
     refl
 
-pub calm_law : (old new rows : List (ℕ × Row)) (e : List Event) (u : ℕ) → old ≡ rows → IsStrictlySortedBy nat_cmp (keys_of old) → IsStrictlySortedBy nat_cmp (keys_of new)
+pub calm_law : (old new rows : List (ℕ × Row)) (e : List Event) (u : ℕ) → old ≡ rows → IsOnce old → IsOnce new
     → Stands rows e → Written old new u (λ (r : Row). record r { pending = None }) → Stands new (by u Calm ∷ e)
-calm_law old new rows e u seen was_sorted sorted stands = written_law old new rows e u Calm (λ (r : Row). record r { pending = None }) seen was_sorted sorted stands tt refl
+calm_law old new rows e u seen was_once once stands = written_law old new rows e u Calm (λ (r : Row). record r { pending = None }) seen was_once once stands tt refl
     refl
 
 -- the thread is attached, by its row
 on_by : (rows : List (ℕ × Row)) (e : List Event) (u : ℕ) → Stands rows e → IsTrue (row_of rows u).attached → attached (acts_of u e) ≡ true
 on_by rows e u stands on = sym (ap (λ (r : Row). r.attached) (stands.threads u)) ∙ on
 
-pub raise_law : (old new rows : List (ℕ × Row)) (e : List Event) (u o : ℕ) → old ≡ rows → IsStrictlySortedBy nat_cmp (keys_of old) → IsStrictlySortedBy nat_cmp (keys_of new)
+pub raise_law : (old new rows : List (ℕ × Row)) (e : List Event) (u o : ℕ) → old ≡ rows → IsOnce old → IsOnce new
     → Stands rows e → IsTrue (row_of rows u).attached → Written old new u (λ (r : Row). record r { pending = Some o }) → Stands new (by u (Raise o) ∷ e)
-raise_law old new rows e u o seen was_sorted sorted stands on = written_law old new rows e u (Raise o) (λ (r : Row). record r { pending = Some o }) seen was_sorted sorted stands (on_by rows e u stands on) refl
+raise_law old new rows e u o seen was_once once stands on = written_law old new rows e u (Raise o) (λ (r : Row). record r { pending = Some o }) seen was_once once stands (on_by rows e u stands on) refl
     refl
 
-pub count_ref_law : (old new rows : List (ℕ × Row)) (e : List Event) (u : ℕ) → old ≡ rows → IsStrictlySortedBy nat_cmp (keys_of old) → IsStrictlySortedBy nat_cmp (keys_of new)
+pub count_ref_law : (old new rows : List (ℕ × Row)) (e : List Event) (u : ℕ) → old ≡ rows → IsOnce old → IsOnce new
     → Stands rows e → IsTrue (row_of rows u).attached → Written old new u (λ (r : Row). record r { refs = r.refs + 1 }) → Stands new (by u CountRef ∷ e)
-count_ref_law old new rows e u seen was_sorted sorted stands on = written_law old new rows e u CountRef (λ (r : Row). record r { refs = r.refs + 1 }) seen was_sorted sorted stands (on_by rows e u stands on) refl
+count_ref_law old new rows e u seen was_once once stands on = written_law old new rows e u CountRef (λ (r : Row). record r { refs = r.refs + 1 }) seen was_once once stands (on_by rows e u stands on) refl
     refl
 
-pub count_buffer_law : (old new rows : List (ℕ × Row)) (e : List Event) (u : ℕ) → old ≡ rows → IsStrictlySortedBy nat_cmp (keys_of old) → IsStrictlySortedBy nat_cmp (keys_of new)
+pub count_buffer_law : (old new rows : List (ℕ × Row)) (e : List Event) (u : ℕ) → old ≡ rows → IsOnce old → IsOnce new
     → Stands rows e → IsTrue (row_of rows u).attached → Written old new u (λ (r : Row). record r { buffers = r.buffers + 1 }) → Stands new (by u CountBuffer ∷ e)
-count_buffer_law old new rows e u seen was_sorted sorted stands on = written_law old new rows e u CountBuffer (λ (r : Row). record r { buffers = r.buffers + 1 }) seen was_sorted sorted stands (on_by rows e u stands on) refl
+count_buffer_law old new rows e u seen was_once once stands on = written_law old new rows e u CountBuffer (λ (r : Row). record r { buffers = r.buffers + 1 }) seen was_once once stands (on_by rows e u stands on) refl
     refl
 
 deeper : (acts : List Act) → AllAllowed acts → depth acts + 1 ≡ depth (Enter ∷ acts)
 deeper acts h = omega (arith, leaves_at_most acts h)
 
-pub enter_law : (old new rows : List (ℕ × Row)) (e : List Event) (u : ℕ) → old ≡ rows → IsStrictlySortedBy nat_cmp (keys_of old) → IsStrictlySortedBy nat_cmp (keys_of new)
+pub enter_law : (old new rows : List (ℕ × Row)) (e : List Event) (u : ℕ) → old ≡ rows → IsOnce old → IsOnce new
     → Stands rows e → IsTrue (row_of rows u).attached → Written old new u (λ (r : Row). record r { depth = r.depth + 1 }) → Stands new (by u Enter ∷ e)
-enter_law old new rows e u seen was_sorted sorted stands on = written_law old new rows e u Enter (λ (r : Row). record r { depth = r.depth + 1 }) seen was_sorted sorted stands (on_by rows e u stands on) refl
+enter_law old new rows e u seen was_once once stands on = written_law old new rows e u Enter (λ (r : Row). record r { depth = r.depth + 1 }) seen was_once once stands (on_by rows e u stands on) refl
     (ap (λ (d : ℕ). record (row_by (acts_of u e)) { depth = d }) (deeper (acts_of u e) (stands.allowed u)))
 
 less_deep : (acts : List Act) → depth acts - 1 ≡ depth (Leave ∷ acts)
 less_deep acts = omega arith
 
-pub leave_law : (old new rows : List (ℕ × Row)) (e : List Event) (u : ℕ) → old ≡ rows → IsStrictlySortedBy nat_cmp (keys_of old) → IsStrictlySortedBy nat_cmp (keys_of new)
+pub leave_law : (old new rows : List (ℕ × Row)) (e : List Event) (u : ℕ) → old ≡ rows → IsOnce old → IsOnce new
     → Stands rows e → 0 < (row_of rows u).depth → Written old new u (λ (r : Row). record r { depth = r.depth - 1 }) → Stands new (by u Leave ∷ e)
-leave_law old new rows e u seen was_sorted sorted stands inside = written_law old new rows e u Leave (λ (r : Row). record r { depth = r.depth - 1 }) seen was_sorted sorted stands (subst (λ (n : ℕ). 0 < n) (ap (λ (r : Row). r.depth) (stands.threads u)) inside) refl
+leave_law old new rows e u seen was_once once stands inside = written_law old new rows e u Leave (λ (r : Row). record r { depth = r.depth - 1 }) seen was_once once stands (subst (λ (n : ℕ). 0 < n) (ap (λ (r : Row). r.depth) (stands.threads u)) inside) refl
     (ap (λ (d : ℕ). record (row_by (acts_of u e)) { depth = d }) (less_deep (acts_of u e)))
 
 -- ---- attaching
@@ -217,12 +217,12 @@ attached_now acts off =
     let next : sessions acts + 1 ≡ sessions (Attach ∷ acts) = rw off refl in
     ap (λ (n : ℕ). record (row_by acts) { attached = true; sessions = n }) next
 
-pub attach_law : (old new rows : List (ℕ × Row)) (e : List Event) (u : ℕ) (r : Row) → old ≡ rows → IsStrictlySortedBy nat_cmp (keys_of old) → IsStrictlySortedBy nat_cmp (keys_of new)
+pub attach_law : (old new rows : List (ℕ × Row)) (e : List Event) (u : ℕ) (r : Row) → old ≡ rows → IsOnce old → IsOnce new
     → Stands rows e → r ≡ row_of rows u → r.attached ≡ false → Put old new u (record r { attached = true; sessions = r.sessions + 1 }) → Stands new (by u Attach ∷ e)
-attach_law old new rows e u r seen was_sorted sorted stands is off put =
+attach_law old new rows e u r seen was_once once stands is off put =
     let was : Stands old e = subst (λ (r : List (ℕ × Row)). Stands r e) (sym seen) stands in
     let row = is ∙ stands.threads u in
-    stands_more old new e u Attach was_sorted sorted was tt (put_other old new u _ put)
+    stands_more old new e u Attach was_once once was tt (put_other old new u _ put)
     (put_here old new u _ put
     ∙ ap Some (ap (λ (r : Row). record r { attached = true; sessions = r.sessions + 1 }) row ∙ attached_now (acts_of u e) (sym (ap (λ (r : Row). r.attached) row) ∙ off)))
 

@@ -17,7 +17,7 @@ fn env(tid: Tid, session: u64) -> EnvId {
 /// Attaching twice and detaching twice do what once does; the next session has the next number.
 #[test]
 fn attach_no_ops(rt: HostRuntime) -> Result<(), Fail> {
-    let mut threads = Threads::new(rt.alloc());
+    let mut threads = Threads::new(rt.alloc(), rt.alloc());
     assert_eq!(rt; threads.env_of(T), None);
     threads.detach(T);
     assert!(rt; threads.can_count(T));
@@ -39,7 +39,7 @@ fn attach_no_ops(rt: HostRuntime) -> Result<(), Fail> {
 /// References and buffers are counted apart, and on over a detachment.
 #[test]
 fn numbers_go_on(rt: HostRuntime) -> Result<(), Fail> {
-    let mut threads = Threads::new(rt.alloc());
+    let mut threads = Threads::new(rt.alloc(), rt.alloc());
     assert!(rt; threads.can_count(T));
     threads.attach(T)?;
     assert!(rt; threads.can_count(T));
@@ -63,7 +63,7 @@ fn numbers_go_on(rt: HostRuntime) -> Result<(), Fail> {
 /// thread detaches.
 #[test]
 fn exceptions(rt: HostRuntime) -> Result<(), Fail> {
-    let mut threads = Threads::new(rt.alloc());
+    let mut threads = Threads::new(rt.alloc(), rt.alloc());
     assert!(rt; threads.can_count(T));
     threads.attach(T)?;
     assert!(rt; threads.can_count(T));
@@ -95,7 +95,7 @@ fn exceptions(rt: HostRuntime) -> Result<(), Fail> {
 /// 65,535 threads have each its own session and numbers, and no attachment is refused.
 #[test]
 fn many_threads(rt: HostRuntime) -> Result<(), Fail> {
-    let mut threads = Threads::new(rt.alloc());
+    let mut threads = Threads::new(rt.alloc(), rt.alloc());
     for t in 0..u16::MAX {
         let tid = Tid(t);
         assert!(rt; threads.can_count(tid));
@@ -122,7 +122,7 @@ fn many_threads(rt: HostRuntime) -> Result<(), Fail> {
 /// Attaches one thread after another until that is refused; then memory is given back, and the
 /// same call answers.
 fn goes_on<'a>(rt: &impl Abort, heap: &'a LocalHeap, ballast: usize) -> Result<bool, Fail> {
-    let mut threads = Threads::new(heap);
+    let mut threads = Threads::new(heap, heap);
     let mut kept: Vec<u8, &'a LocalHeap> = Vec::new(heap);
     if kept.try_reserve(ballast).is_err() {
         return Ok(false);

@@ -1,8 +1,6 @@
 ghost use Rattle.std.specs.Prelude.{◌≡◌, ◌+◌, ◌-◌, ◌<◌, ◌^◌, ◌↔◌, List, [], ◌∷◌, false, true, if◌then◌else◌, None, Some, IfOk, OnOk, OnErr, IsTrue};
 ghost use Rattle.std.specs.Option.{option_map};
 ghost use Rattle.std.specs.List.{list_any};
-ghost use Rattle.std.specs.Ordering.{nat_cmp};
-ghost use Rattle.std.specs.BTreeMap.{IsOrdered, values};
 ghost use Rattle.jg_threads.specs.History.{Event, by, Attach, Detach, Enter, Leave, Raise, Calm, CountRef, CountBuffer, acts_of, attached, sessions, session, depth, pending, refs, buffers, is_object, is_pending};
 ghost use Rattle.jg_threads.specs.Rows.{row_of, no_row, CanCount};
 ghost use Rattle.jg_lists.specs.Marks.{Marks};
@@ -10,16 +8,15 @@ ghost use Rattle.jg_threads.specs.Standing.{Stands};
 
 use crate::row::{NO_ROW, Row};
 use crate::rows::{is_pending_in, mark_pending_in, put_row, row_at};
-use jg_lists::ObjectMarks;
+use jg_lists::{ByThread, ObjectMarks};
 use jg_words::{EnvId, ObjId, Tid};
 use std::alloc::{AllocError, Allocator, Global};
-use std::collections::BTreeMap;
 use std::marker::Model;
 
 /// What is kept of each thread that was ever attached. Contracts see the rows, by thread.
 #[derive(Drop)]
 pub struct Threads<A: Allocator = Global> {
-    rows: BTreeMap<u16, Row, A>,
+    rows: ByThread<Row, A>,
 }
 
 impl<A: Allocator> Model for Threads<A> {
@@ -28,17 +25,17 @@ impl<A: Allocator> Model for Threads<A> {
 
     ghost Value = { List (ℕ × Row) };
 
-    ghost view = { λ a. a.rows.entries };
+    ghost view = { λ a. a.rows };
 }
 
 impl<A: Allocator + Clone> Threads<A> {
-    /// No thread did anything yet. Takes no memory.
-    pub fn new(alloc: A) -> Threads<A>
+    /// No thread did anything yet. Takes no memory; the two lists grow from the two handles.
+    pub fn new(places: A, rows: A) -> Threads<A>
         ensures stands { Stands result [] }
         ensures rows { result ≡ [] }
     {
         Threads {
-            rows: BTreeMap::new(alloc),
+            rows: ByThread::new(places, rows),
         }
     }
 
@@ -82,7 +79,7 @@ impl<A: Allocator + Clone> Threads<A> {
           pending = None;
         } }
     {
-        if let Some(row) = self.rows.get_mut(&tid.0) {
+        if let Some(row) = self.rows.get_mut(tid.0) {
             *row = Row {
                 attached: false,
                 depth: 0,
@@ -153,7 +150,7 @@ impl<A: Allocator + Clone> Threads<A> {
         ensures row { row_of self.new tid.0
             ≡ record (row_of self.old tid.0) { depth = (row_of self.old tid.0).depth + 1 } }
     {
-        if let Some(row) = self.rows.get_mut(&tid.0) {
+        if let Some(row) = self.rows.get_mut(tid.0) {
             row.depth += 1;
         }
     }
@@ -167,7 +164,7 @@ impl<A: Allocator + Clone> Threads<A> {
         ensures row { row_of self.new tid.0
             ≡ record (row_of self.old tid.0) { depth = (row_of self.old tid.0).depth - 1 } }
     {
-        if let Some(row) = self.rows.get_mut(&tid.0) {
+        if let Some(row) = self.rows.get_mut(tid.0) {
             row.depth -= 1;
         }
     }
@@ -200,7 +197,7 @@ impl<A: Allocator + Clone> Threads<A> {
         ensures stands { (e : List Event) → Stands self.old e → Stands self.new (by tid.0 (Raise object.0) ∷ e) }
         ensures row { row_of self.new tid.0 ≡ record (row_of self.old tid.0) { pending = Some object.0 } }
     {
-        if let Some(row) = self.rows.get_mut(&tid.0) {
+        if let Some(row) = self.rows.get_mut(tid.0) {
             row.pending = Some(object.0);
         }
     }
@@ -211,7 +208,7 @@ impl<A: Allocator + Clone> Threads<A> {
         ensures stands { (e : List Event) → Stands self.old e → Stands self.new (by tid.0 Calm ∷ e) }
         ensures row { row_of self.new tid.0 ≡ record (row_of self.old tid.0) { pending = None } }
     {
-        if let Some(row) = self.rows.get_mut(&tid.0) {
+        if let Some(row) = self.rows.get_mut(tid.0) {
             row.pending = None;
         }
     }
@@ -250,7 +247,7 @@ impl<A: Allocator + Clone> Threads<A> {
         ensures row { row_of self.new tid.0
             ≡ record (row_of self.old tid.0) { refs = (row_of self.old tid.0).refs + 1 } }
     {
-        if let Some(row) = self.rows.get_mut(&tid.0) {
+        if let Some(row) = self.rows.get_mut(tid.0) {
             row.refs += 1;
         }
     }
@@ -274,7 +271,7 @@ impl<A: Allocator + Clone> Threads<A> {
         ensures row { row_of self.new tid.0
             ≡ record (row_of self.old tid.0) { buffers = (row_of self.old tid.0).buffers + 1 } }
     {
-        if let Some(row) = self.rows.get_mut(&tid.0) {
+        if let Some(row) = self.rows.get_mut(tid.0) {
             row.buffers += 1;
         }
     }

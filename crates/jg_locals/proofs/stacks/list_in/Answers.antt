@@ -1,6 +1,10 @@
-use Rattle.jg_locals.proofs.Listed.{listed_left}
+use Rattle.std.proofs.Common.{◌++◌, List, ℕ, ap, ◌∙◌}
+use Rattle.std.specs.Prelude.{map}
+use Rattle.jg_locals.specs.Rows.{local_ref}
+use Rattle.jg_locals.specs.Seen.{StackRows, rows_seen}
+use Rattle.jg_locals.proofs.Threads.{on_ok}
 use Rattle.jg_locals.proofs.stacks.list_in.Goals as goal
 
-pub loop-tid-preserved : goal.loop-tid-preserved
-loop-tid-preserved g c = listed_left c.in-Some.tid.now c.in-Some.stack.now c.loop-tid.tid-iterator c.next.new.self c.loop-tid.refs.items c.list.new.refs.items _ c.in-Some.ensures.steps
-    c.in_ok-list.ensures c.loop-tid.invariant
+pub returns : goal.returns
+returns g c = on_ok c.list_seats.result
+    (λ listed. listed ∙ ap (λ (es : List (ℕ × StackRows)). c.args.refs.now.items ++ map local_ref (rows_seen es).locals) c.seats.ensures.seats) c.list_seats.ensures

@@ -5,6 +5,6 @@ use Rattle.jg_locals.proofs.stacks.open_at.Goals as goal
 
 pub returns-in-Some-clause-err : goal.returns-in-Some-clause-err
 returns-in-Some-clause-err g c =
-    let is : stack_at c.args.tid c.args.stacks.now.entries ≡ Some c.in-Some.stack.now = search rules in
-    on_err c.open.result c.open.ensures.err (λ same. rows_written c.args.stacks.now.entries (c.get_mut.follows.lender c.open.new.self).entries _ c.in-Some.stack.now c.open.new.self
-    (c.get_mut.follows.holds c.open.new.self).0 is c.open.ensures.locals same)
+    let is : stack_at c.args.tid c.args.stacks.now ≡ Some c.in-Some.stack.now = search rules in
+    on_err c.open.result c.open.ensures.err (λ same. rows_written c.args.stacks.now (c.get_mut.follows.lender c.open.new.self) _ c.in-Some.stack.now c.open.new.self
+    (c.get_mut.follows.holds c.open.new.self).entries is c.open.ensures.locals same)

@@ -1,7 +1,8 @@
-use Rattle.std.proofs.Common.{sym, subst, refl, arith}
+use Rattle.std.proofs.Common.{◌≡◌, ◌++◌, ◌∷◌, [], sym, subst, refl, arith}
 use Rattle.std.specs.Prelude.{map, slice_set}
-use Rattle.jg_lists.specs.ByThread.{Placed}
-use Rattle.jg_lists.proofs.Seats.{once, tid_of, placed_same, placed_more}
+use Rattle.jg_lists.specs.ByThread.{seen, Placed}
+use Rattle.jg_lists.proofs.Values.{added_at}
+use Rattle.jg_lists.proofs.Seats.{once, tid_of, placed_same, placed_more, seen_more}
 use Rattle.jg_lists.proofs.by_thread.ByThread.add.Goals as goal
 
 pub invariant_of-self : goal.invariant_of-self
@@ -27,3 +28,9 @@ invariant_of-self-2 g c =
 
 pub returns-clause-once : goal.returns-clause-once
 returns-clause-once g c = once (slice_set c.widen.new.places.items c.from-2.result c.len.result) c.push.new.self.items _ (invariant_of-self-2 g c) refl
+
+pub returns-clause-found : goal.returns-clause-found
+returns-clause-found g c = λ t.
+    let added : map seen c.push.new.self.items ≡ c.args.self.now ++ (c.args.tid, c.args.value) ∷ [] =
+    seen_more c.self.inside.seats.items c.push.new.self.items c.args.self.now c.args.tid c.args.value c.self.view_is c.in_ok-push.ensures.items in
+    rw added (added_at c.args.self.now c.args.tid t c.args.value c.requires)

@@ -11,14 +11,14 @@ unwrap-top-requires g c = started_top c.self.inside.stacks c.args.self.now c.arg
 
 pub returns-clause-stands : goal.returns-clause-stands
 returns-clause-stands g c = λ e stands.
-    let slots = slots_in (stack_at c.args.tid.0 c.self.inside.stacks.entries) in
-    let frames = frames_in (stack_at c.args.tid.0 c.self.inside.stacks.entries) in
+    let slots = slots_in (stack_at c.args.tid.0 c.self.inside.stacks) in
+    let frames = frames_in (stack_at c.args.tid.0 c.self.inside.stacks) in
     let is : last frames ≡ Some c.unwrap-top.result = cc in
     let holds : c.held_at.result ≡ held_in (Some c.unwrap-top.result) slots = c.held_at.ensures.held ∙ ap (λ f. held_in f slots) is in
     let room : c.greater.result ≡ greater c.unwrap-top.result.room (c.args.capacity + held_in (Some c.unwrap-top.result) slots) =
     c.greater.ensures ∙ ap (λ n. greater c.unwrap-top.result.room (c.args.capacity + n)) holds in
     let P : ℕ → Type 0 = λ n. Changes c.args.tid.0 c.self.inside.stacks c.set_room_at.new.stacks slots (map (room_set n c.unwrap-top.result.depth c.unwrap-top.result.frame) frames) in
-    ensure_step c.self.inside.stacks c.set_room_at.new.stacks c.args.tid.0 c.args.capacity c.unwrap-top.result e c.self.invariant (c.set_room_at.ensures.ordered c.self.invariant) is
+    ensure_step c.self.inside.stacks c.set_room_at.new.stacks c.args.tid.0 c.args.capacity c.unwrap-top.result e c.self.invariant (c.set_room_at.ensures.once c.self.invariant) is
     (subst P room c.set_room_at.ensures.changes) (reopened (table_seen c.self.inside.stacks) c.args.self.now e c.self.view_is stands)
 
 pub returns-clause-room : goal.returns-clause-room

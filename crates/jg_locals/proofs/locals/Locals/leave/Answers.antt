@@ -9,9 +9,9 @@ unwrap-top-requires g c = entered_some c.self.inside.stacks c.args.self.now c.ar
 
 pub returns-clause-stands : goal.returns-clause-stands
 returns-clause-stands g c = λ e stands.
-    let is : last (frames_in (stack_at c.args.tid.0 c.self.inside.stacks.entries)) ≡ Some c.unwrap-top.result = cc in
+    let is : last (frames_in (stack_at c.args.tid.0 c.self.inside.stacks)) ≡ Some c.unwrap-top.result = cc in
     let some : 0 < c.unwrap-top.result.depth = omega (arith, entered_is c.self.inside.stacks c.args.self.now c.args.tid.0 c.unwrap-top.result c.self.invariant c.self.view_is is, c.requires) in
-    leave_step c.self.inside.stacks c.leave_at.new.stacks c.args.tid.0 c.unwrap-top.result e c.self.invariant (c.leave_at.ensures.ordered c.self.invariant) is some c.leave_at.ensures.changes
+    leave_step c.self.inside.stacks c.leave_at.new.stacks c.args.tid.0 c.unwrap-top.result e c.self.invariant (c.leave_at.ensures.once c.self.invariant) is some c.leave_at.ensures.changes
     (reopened (table_seen c.self.inside.stacks) c.args.self.now e c.self.view_is stands)
 
 pub returns-clause-room : goal.returns-clause-room

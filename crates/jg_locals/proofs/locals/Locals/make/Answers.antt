@@ -13,9 +13,9 @@ make_at-requires-clause-above g c = above_slots c.self.inside.stacks c.args.tid.
 
 pub returns-clause-ok : goal.returns-clause-ok
 returns-clause-ok g c = on_ok c.make_at.result (λ changes. λ e stands.
-    let top = newest_there (last (frames_in (stack_at c.args.tid.0 c.self.inside.stacks.entries)))
+    let top = newest_there (last (frames_in (stack_at c.args.tid.0 c.self.inside.stacks)))
     (started_top c.self.inside.stacks c.args.self.now c.args.tid.0 _ c.self.invariant c.self.view_is refl c.requires.started) in
-    make_step c.self.inside.stacks c.make_at.new.stacks c.args.tid.0 c.args.n c.args.object.0 top.0 e c.self.invariant (c.make_at.ensures.ordered c.self.invariant) top.1
+    make_step c.self.inside.stacks c.make_at.new.stacks c.args.tid.0 c.args.n c.args.object.0 top.0 e c.self.invariant (c.make_at.ensures.once c.self.invariant) top.1
     (above_in c.self.inside.stacks c.args.self.now c.args.tid.0 c.args.n c.self.view_is c.requires.above) (changes top.0 top.1)
     (reopened (table_seen c.self.inside.stacks) c.args.self.now e c.self.view_is stands)) c.make_at.ensures.ok
 

@@ -9,15 +9,15 @@ unwrap-top-requires g c = started_top c.self.inside.stacks c.args.self.now c.arg
 
 pub overflow_add-top : goal.overflow_add-top
 overflow_add-top g c =
-    let is : last (frames_in (stack_at c.args.tid.0 c.self.inside.stacks.entries)) ≡ Some c.unwrap-top.result = cc in
+    let is : last (frames_in (stack_at c.args.tid.0 c.self.inside.stacks)) ≡ Some c.unwrap-top.result = cc in
     let at = pushed_is c.self.inside.stacks c.args.self.now c.args.tid.0 c.unwrap-top.result c.self.invariant c.self.view_is is in
     let below : c.unwrap-top.result.frame + 1 < 2 ^ 64 = omega (arith, at, c.requires.fits) in
     search rules
 
 pub returns-clause-ok : goal.returns-clause-ok
 returns-clause-ok g c = on_ok c.open_at.result (λ changes. λ e stands.
-    let is : last (frames_in (stack_at c.args.tid.0 c.self.inside.stacks.entries)) ≡ Some c.unwrap-top.result = cc in
-    push_step c.self.inside.stacks c.open_at.new.stacks c.args.tid.0 c.args.room c.unwrap-top.result e c.self.invariant (c.open_at.ensures.ordered c.self.invariant) is changes
+    let is : last (frames_in (stack_at c.args.tid.0 c.self.inside.stacks)) ≡ Some c.unwrap-top.result = cc in
+    push_step c.self.inside.stacks c.open_at.new.stacks c.args.tid.0 c.args.room c.unwrap-top.result e c.self.invariant (c.open_at.ensures.once c.self.invariant) is changes
     (reopened (table_seen c.self.inside.stacks) c.args.self.now e c.self.view_is stands)) c.open_at.ensures.ok
 
 pub returns-clause-room : goal.returns-clause-room

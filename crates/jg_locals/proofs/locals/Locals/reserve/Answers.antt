@@ -11,6 +11,6 @@ returns-clause-ok g c = on_ok c.reserve_at.result (λ some. room_to c.reserve_at
 
 pub returns-clause-starts : goal.returns-clause-starts
 returns-clause-starts g c =
-    let up : (room_seen c.self.inside.stacks.entries c.args.tid.0).frames ≤ (room_seen c.reserve_at.new.stacks.entries c.args.tid.0).frames =
+    let up : (room_seen c.self.inside.stacks c.args.tid.0).frames ≤ (room_seen c.reserve_at.new.stacks c.args.tid.0).frames =
     omega (arith, c.add_stack.ensures.starts, c.reserve_at.ensures.starts) in
     starts_up c.self.inside.stacks c.reserve_at.new.stacks c.args.self.now c.args.tid.0 c.self.view_is up

@@ -11,6 +11,6 @@ returns-clause-ok g c = on_ok c.reserve_frame_at.result (λ some. starts_to c.re
 
 pub returns-clause-locals : goal.returns-clause-locals
 returns-clause-locals g c =
-    let up : (room_seen c.self.inside.stacks.entries c.args.tid.0).locals ≤ (room_seen c.reserve_frame_at.new.stacks.entries c.args.tid.0).locals =
+    let up : (room_seen c.self.inside.stacks c.args.tid.0).locals ≤ (room_seen c.reserve_frame_at.new.stacks c.args.tid.0).locals =
     omega (arith, c.add_stack.ensures.room, c.reserve_frame_at.ensures.room) in
     room_up c.self.inside.stacks c.reserve_frame_at.new.stacks c.args.self.now c.args.tid.0 c.self.view_is up

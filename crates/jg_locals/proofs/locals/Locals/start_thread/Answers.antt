@@ -10,17 +10,17 @@ returns-in_err-add_stack-clause-room g c = λ some. absurd (ok_not_err c.add_sta
 
 pub open_at-requires-clause-next : goal.open_at-requires-clause-next
 open_at-requires-clause-next g c =
-    let same : rows_seen c.add_stack.new.stacks.entries ≡ c.args.self.now.rows = c.add_stack.ensures.rows ∙ ap (λ (t : Table). t.rows) c.self.view_is in
-    next_first c.add_stack.new.stacks c.args.tid.0 _ (c.add_stack.ensures.ordered c.self.invariant)
-    (none_top (rows_seen c.add_stack.new.stacks.entries) c.args.self.now.rows c.args.tid.0 same c.requires)
+    let same : rows_seen c.add_stack.new.stacks ≡ c.args.self.now.rows = c.add_stack.ensures.rows ∙ ap (λ (t : Table). t.rows) c.self.view_is in
+    next_first c.add_stack.new.stacks c.args.tid.0 _ (c.add_stack.ensures.once c.self.invariant)
+    (none_top (rows_seen c.add_stack.new.stacks) c.args.self.now.rows c.args.tid.0 same c.requires)
 
 pub returns-clause-ok : goal.returns-clause-ok
 returns-clause-ok g c = on_ok c.open_at.result (λ changes. λ e stands.
-    let same : rows_seen c.add_stack.new.stacks.entries ≡ c.args.self.now.rows = c.add_stack.ensures.rows ∙ ap (λ (t : Table). t.rows) c.self.view_is in
-    let ordered = c.add_stack.ensures.ordered c.self.invariant in
-    start_step c.add_stack.new.stacks c.open_at.new.stacks c.args.tid.0 e ordered (c.open_at.ensures.ordered ordered)
-    (none_top (rows_seen c.add_stack.new.stacks.entries) c.args.self.now.rows c.args.tid.0 same c.requires) changes
-    (restand (rows_seen c.add_stack.new.stacks.entries) c.args.self.now.rows e same stands)) c.open_at.ensures.ok
+    let same : rows_seen c.add_stack.new.stacks ≡ c.args.self.now.rows = c.add_stack.ensures.rows ∙ ap (λ (t : Table). t.rows) c.self.view_is in
+    let ordered = c.add_stack.ensures.once c.self.invariant in
+    start_step c.add_stack.new.stacks c.open_at.new.stacks c.args.tid.0 e ordered (c.open_at.ensures.once ordered)
+    (none_top (rows_seen c.add_stack.new.stacks) c.args.self.now.rows c.args.tid.0 same c.requires) changes
+    (restand (rows_seen c.add_stack.new.stacks) c.args.self.now.rows e same stands)) c.open_at.ensures.ok
 
 pub returns-clause-room : goal.returns-clause-room
 returns-clause-room g c = λ some. c.open_at.ensures.has_room (starts_from c.self.inside.stacks c.add_stack.new.stacks c.args.self.now c.args.tid.0 c.self.view_is c.add_stack.ensures.starts some)

@@ -3,8 +3,8 @@ use Rattle.jg_threads.proofs.threads.Threads.attach.Goals as goal
 
 pub returns-in_ok-put_row-clause-ok : goal.returns-in_ok-put_row-clause-ok
 returns-in_ok-put_row-clause-ok g c = λ e stands.
-    attach_law c.self.inside.rows.entries c.put_row.new.rows.entries c.args.self.now e c.args.tid.0 c.row-row.result c.self.view_is
-    c.put_row.ensures.was_ordered c.put_row.ensures.ordered stands c.row-row.ensures (not_off _ c.if-not-row.true) c.in_ok-put_row.ensures.put
+    attach_law c.self.inside.rows c.put_row.new.rows c.args.self.now e c.args.tid.0 c.row-row.result c.self.view_is
+    c.put_row.ensures.was_once c.put_row.ensures.once stands c.row-row.ensures (not_off _ c.if-not-row.true) c.in_ok-put_row.ensures.put
 
 pub returns-else-not-row-clause-ok : goal.returns-else-not-row-clause-ok
 returns-else-not-row-clause-ok g c = λ e stands. attach_again_law c.args.self.now e c.args.tid.0 c.row-row.result stands c.row-row.ensures (not_on _ c.if-not-row.false)

@@ -8,4 +8,4 @@ pub returns : goal.returns
 returns g c = λ e stands.
     let P : List (ℕ × Row) → Type 0 = λ rows. Stands rows e in
     let was = subst P (sym c.self.view_is) stands in
-    c.is_pending_in.ensures.any ∙ pending_law _ e c.args.object.0 c.is_pending_in.ensures.ordered was
+    c.is_pending_in.ensures.any ∙ pending_law _ e c.args.object.0 c.is_pending_in.ensures.once was

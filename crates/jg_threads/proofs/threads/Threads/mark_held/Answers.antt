@@ -10,4 +10,4 @@ pub returns : goal.returns
 returns g c = λ e stands o.
     let P : List (ℕ × Row) → Type 0 = λ rows. Stands rows e in
     let was = subst P (sym c.self.view_is) stands in
-    c.mark_pending_in.ensures.marks o ∙ ap (λ b. option_map (λ mark. mark || b) (slice_get c.args.marks.now o)) (pending_law _ e o c.mark_pending_in.ensures.ordered was)
+    c.mark_pending_in.ensures.marks o ∙ ap (λ b. option_map (λ mark. mark || b) (slice_get c.args.marks.now o)) (pending_law _ e o c.mark_pending_in.ensures.once was)
