@@ -75,8 +75,8 @@ impl<A: Allocator + Copy> Guard<A> {
         ensures limit { IfOk result (λ guard. guard.limit ≡ limit) }
         ensures journal { IfOk result (λ guard. guard.journal ≡ []) }
     {
-        let threads = Threads::new(alloc);
-        let locals = Locals::new(alloc, alloc);
+        let threads = Threads::new(alloc, alloc);
+        let locals = Locals::new(alloc, alloc, alloc);
         let globals = Globals::new(alloc, alloc);
         let buffers = Buffers::new(alloc, alloc, alloc, alloc, alloc);
         let monitors = Monitors::new(alloc, alloc);
