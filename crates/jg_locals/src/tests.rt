@@ -253,7 +253,7 @@ fn local(maker: Tid, n: u64) -> Ref {
     }
 }
 
-/// The live locals, by thread and then by number.
+/// The live locals, thread by thread, the first that was attached first, and then by number.
 #[test]
 fn listed(rt: HostRuntime) -> Result<(), Fail> {
     let other = Tid(2);
@@ -267,7 +267,7 @@ fn listed(rt: HostRuntime) -> Result<(), Fail> {
     locals.delete(T, 2);
     let mut refs = Vec::new(rt.alloc());
     locals.list(&mut refs)?;
-    let wanted = [local(T, 1), local(T, 3), local(other, 1)];
+    let wanted = [local(other, 1), local(T, 1), local(T, 3)];
     assert_eq!(rt; refs.as_slice(), wanted.as_slice());
     Ok(())
 }
