@@ -79,7 +79,7 @@ impl<A: Allocator + Copy> Guard<A> {
         let locals = Locals::new(alloc, alloc, alloc);
         let globals = Globals::new(alloc, alloc);
         let buffers = Buffers::new(alloc, alloc, alloc, alloc, alloc);
-        let monitors = Monitors::new(alloc, alloc);
+        let monitors = Monitors::new(alloc);
         let links = Links::new(alloc, alloc);
         let heap = Heap::new(alloc, u64::from(setup.class_count()))?;
         let journal = Blocks::new(alloc, alloc);

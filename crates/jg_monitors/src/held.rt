@@ -1,40 +1,98 @@
-ghost use Rattle.std.specs.Prelude.{◌≡◌, ℕ, ◌+◌, ◌<◌, ◌||◌, ◌&&◌, true, false, not, OnOk, OnErr, IfSome, IfNone};
-ghost use Rattle.std.specs.BTreeMap.{btree_map_len};
-ghost use Rattle.jg_monitors.specs.Keys.{has, same_pair};
+//! The objects whose monitors each thread owns.
 
+ghost use Rattle.std.specs.Prelude.{◌≡◌, ℕ, ◌==◌, ◌||◌, ◌&&◌, if◌then◌else◌, not, nat_eq, None, OnOk, OnErr, IsSome};
+ghost use Rattle.indexmap.specs.IndexMap.{get, IsUnique};
+ghost use Rattle.jg_lists.specs.ByThread.{at};
+ghost use Rattle.jg_monitors.specs.Keys.{has, same_pair, freed};
+
+use crate::owned::{ByObject, free};
+use jg_lists::ByThread;
 use std::alloc::{AllocError, Allocator};
-use std::collections::BTreeMap;
+use std::collections::HashSet;
+use std::hash::{BuildHasherDefault, FoldHasher};
 
-/// The first object whose monitor the thread owns.
-pub fn first_held<A: Allocator>(map: &BTreeMap<(u32, u64), (), A>, tid: u16) -> Option<u64>
-    ensures some { IfSome result (λ o. has map.now (tid, o) ≡ true) }
-    ensures none { IfNone result ((o : ℕ) → has map.now (tid, o) ≡ false) }
+/// The objects whose monitors a thread owns.
+pub type Objects<A> = HashSet<u64, BuildHasherDefault<FoldHasher>, A>;
+
+/// The same of each thread that ever owned one.
+pub type ByOwner<A> = ByThread<Objects<A>, A>;
+
+/// Makes a set for the thread, if it has none.
+#[tactic(auto, unfolding(crate::specs::Keys::has))]
+fn open<A: Allocator + Clone>(held: &mut ByOwner<A>, alloc: &A, tid: u16) -> Result<(), AllocError>
+    ensures some { OnOk result (IsSome (at tid held.new)) }
+    ensures same { (q : ℕ × ℕ) → has held.new q ≡ has held.old q }
 {
-    let thread = tid as u32;
-    match map.range((thread, 0)..(thread + 1, 0)).next() {
-        Some((key, _)) => Some(key.1),
-        None => None,
+    if held.contains(tid) {
+        return Ok(());
+    }
+    let objects = HashSet::new(alloc.clone()?);
+    held.add(tid, objects)?;
+    Ok(())
+}
+
+/// Puts the object into the thread's set, which is there.
+#[tactic(auto, unfolding(crate::specs::Keys::has))]
+fn put<A: Allocator + Clone>(held: &mut ByOwner<A>, tid: u16, object: u64) -> Result<(), AllocError>
+    requires { IsSome (at tid held.old) }
+    ensures held { OnOk result ((q : ℕ × ℕ) → has held.new q ≡ (same_pair (tid, object) q || has held.old q)) }
+    ensures err { OnErr result ((q : ℕ × ℕ) → has held.new q ≡ has held.old q) }
+{
+    match held.get_mut(tid) {
+        None => Ok(()),
+        Some(objects) => {
+            objects.insert(object)?;
+            Ok(())
+        }
     }
 }
 
 /// Notes that the thread owns the object's monitor.
 pub fn hold<A: Allocator + Clone>(
-    map: &mut BTreeMap<(u32, u64), (), A>,
+    held: &mut ByOwner<A>,
+    alloc: &A,
     tid: u16,
     object: u64,
 ) -> Result<(), AllocError>
-    ensures held { OnOk result ((q : ℕ × ℕ) → has map.new q ≡ (same_pair (tid, object) q || has map.old q)) }
-    ensures err { OnErr result ((q : ℕ × ℕ) → has map.new q ≡ has map.old q) }
-    ensures absent { OnErr result (has map.old (tid, object) ≡ false) }
+    ensures held { OnOk result ((q : ℕ × ℕ) → has held.new q ≡ (same_pair (tid, object) q || has held.old q)) }
+    ensures err { OnErr result ((q : ℕ × ℕ) → has held.new q ≡ has held.old q) }
 {
-    map.insert((tid as u32, object), ())?;
+    open(held, alloc, tid)?;
+    put(held, tid, object)?;
     Ok(())
 }
 
 /// Notes that the thread doesn't own the object's monitor. Takes no memory.
-pub fn let_go<A: Allocator>(map: &mut BTreeMap<(u32, u64), (), A>, tid: u16, object: u64)
-    ensures held { (q : ℕ × ℕ) → has map.new q ≡ (not (same_pair (tid, object) q) && has map.old q) }
-    ensures less { has map.old (tid, object) ≡ true → btree_map_len map.new + 1 ≡ btree_map_len map.old }
+#[tactic(auto, unfolding(crate::specs::Keys::has))]
+pub fn let_go<A: Allocator>(held: &mut ByOwner<A>, tid: u16, object: u64)
+    ensures { (q : ℕ × ℕ) → has held.new q ≡ (not (same_pair (tid, object) q) && has held.old q) }
 {
-    map.remove(&(tid as u32, object));
+    if let Some(objects) = held.get_mut(tid) {
+        objects.remove(&object);
+    }
+}
+
+/// Frees the monitors of the objects.
+fn free_all<A: Allocator>(owned: &mut ByObject<A>, objects: &Objects<A>)
+    ensures freed { (q : ℕ) → get nat_eq owned.new q ≡ freed objects.now.keys q (get nat_eq owned.old q) }
+    ensures unique { IsUnique nat_eq owned.old → IsUnique nat_eq owned.new }
+{
+    for object in objects.iter() {
+        free(owned, *object);
+    }
+}
+
+/// Frees the thread's monitors, and gives the memory of its set back.
+#[tactic(auto, unfolding(crate::specs::Keys::has))]
+pub fn free_held<A: Allocator + Clone>(owned: &mut ByObject<A>, held: &mut ByOwner<A>, tid: u16)
+    ensures freed { (q : ℕ) → get nat_eq owned.new q
+        ≡ (if has held.old (tid, q) then None else get nat_eq owned.old q) }
+    ensures unique { IsUnique nat_eq owned.old → IsUnique nat_eq owned.new }
+    ensures held { (q : ℕ × ℕ) → has held.new q ≡ (not (tid == q.0) && has held.old q) }
+{
+    if let Some(objects) = held.get_mut(tid) {
+        free_all(owned, objects);
+        objects.clear();
+        objects.shrink_to_fit();
+    }
 }

@@ -1,4 +1,4 @@
-//! The owned monitors by object, and by thread and object, changed together.
+//! The owned monitors by object, and what each thread owns, changed together.
 
 ghost use Rattle.std.specs.Prelude.{◌≡◌, ℕ, ◌==◌, true, not, nat_eq, if◌then◌else◌, None, Some, OnOk, OnErr};
 ghost use Rattle.indexmap.specs.IndexMap.{get, IsUnique};
@@ -6,15 +6,15 @@ ghost use Rattle.std.proofs.lemmas.Map.Entries.{option_filter};
 ghost use Rattle.jg_monitors.specs.Keys.{Agree, is_owned_by};
 ghost use Rattle.jg_monitors.specs.Seen.{lowered};
 
-use crate::held::{first_held, hold, let_go};
-use crate::owned::{ByObject, Owned, free, lower_count, set_owner};
+use crate::held::{ByOwner, free_held, hold, let_go};
+use crate::owned::{ByObject, Owned, lower_count, set_owner};
 use std::alloc::{AllocError, Allocator};
-use std::collections::BTreeMap;
 
 /// Gives a monitor that is free its owner, who entered it once.
 pub fn take<A: Allocator + Clone>(
     owned: &mut ByObject<A>,
-    held: &mut BTreeMap<(u32, u64), (), A>,
+    held: &mut ByOwner<A>,
+    alloc: &A,
     tid: u16,
     object: u64,
 ) -> Result<(), AllocError>
@@ -26,7 +26,7 @@ pub fn take<A: Allocator + Clone>(
     ensures err { OnErr result (owned.new.entries ≡ owned.old.entries) }
     ensures agree { Agree owned.new held.new }
 {
-    let Ok(()) = hold(held, tid, object) else {
+    let Ok(()) = hold(held, alloc, tid, object) else {
         return Err(AllocError);
     };
     let Ok(()) = set_owner(owned, object, Owned { tid, count: 1 }) else {
@@ -37,12 +37,7 @@ pub fn take<A: Allocator + Clone>(
 }
 
 /// Lowers the count of the thread's monitor by one, and frees it at 0. Takes no memory.
-pub fn lower<A: Allocator>(
-    owned: &mut ByObject<A>,
-    held: &mut BTreeMap<(u32, u64), (), A>,
-    tid: u16,
-    object: u64,
-)
+pub fn lower<A: Allocator>(owned: &mut ByObject<A>, held: &mut ByOwner<A>, tid: u16, object: u64)
     requires agree { Agree owned.old held.old }
     requires mine { is_owned_by tid (get nat_eq owned.old object) ≡ true }
     ensures lowered { (q : ℕ) → get nat_eq owned.new q
@@ -56,11 +51,7 @@ pub fn lower<A: Allocator>(
 }
 
 /// Frees the thread's monitors. Takes no memory, and visits no other thread's.
-pub fn release<A: Allocator>(
-    owned: &mut ByObject<A>,
-    held: &mut BTreeMap<(u32, u64), (), A>,
-    tid: u16,
-)
+pub fn release<A: Allocator + Clone>(owned: &mut ByObject<A>, held: &mut ByOwner<A>, tid: u16)
     requires agree { Agree owned.old held.old }
     ensures released { (q : ℕ) → get nat_eq owned.new q
         ≡ option_filter (λ w. not (w.tid == tid)) (get nat_eq owned.old q) }
@@ -69,8 +60,5 @@ pub fn release<A: Allocator>(
 {
     // A map tells with its length that no object is there twice.
     let _owned = owned.len();
-    while let Some(object) = first_held(held, tid) {
-        let_go(held, tid, object);
-        free(owned, object);
-    }
+    free_held(owned, held, tid);
 }

@@ -5,22 +5,23 @@ ghost use Rattle.jg_monitors.specs.Standing.{Stands};
 ghost use Rattle.jg_lists.specs.Marks.{Marks};
 
 use crate::entering::Entering;
+use crate::held::ByOwner;
 use crate::holdings::{lower, release, take};
 use crate::owned::{ByObject, Found, Owned, list_all, look, mark_keys, raise_own};
 use crate::owned_monitor::OwnedMonitor;
 use indexmap::IndexMap;
-use jg_lists::ObjectMarks;
+use jg_lists::{ByThread, ObjectMarks};
 use jg_words::{ObjId, Tid};
 use std::alloc::{AllocError, Allocator, Global};
-use std::collections::BTreeMap;
 use std::marker::Model;
 
 /// The owned monitors, by object. Contracts see the rows.
 #[derive(Drop)]
 pub struct Monitors<A: Allocator = Global> {
     owned: ByObject<A>,
-    /// The same by thread and object, for a release of all that one thread owns.
-    held: BTreeMap<(u32, u64), (), A>,
+    /// The objects by owner, for a release of all that one thread owns.
+    held: ByOwner<A>,
+    alloc: A,
 }
 
 impl<A: Allocator> Model for Monitors<A> {
@@ -37,14 +38,16 @@ impl<A: Allocator> Model for Monitors<A> {
 }
 
 impl<A: Allocator + Copy> Monitors<A> {
-    /// No monitor is owned. Takes no memory; the two maps grow from the two handles.
-    pub fn new(owned: A, held: A) -> Monitors<A>
+    /// No monitor is owned. Takes no memory; the lists and maps grow from the handle.
+    #[tactic(auto, unfolding(crate::specs::Keys::has))]
+    pub fn new(alloc: A) -> Monitors<A>
         ensures stands { Stands result [] }
         ensures rows { result ≡ record { owned = [] } }
     {
         Monitors {
-            owned: IndexMap::new(owned),
-            held: BTreeMap::new(held),
+            owned: IndexMap::new(alloc),
+            held: ByThread::new(alloc, alloc),
+            alloc,
         }
     }
 }
@@ -69,7 +72,13 @@ impl<A: Allocator + Clone> Monitors<A> {
             Found::Own => Ok(Entering::Entered),
             Found::Others => Ok(Entering::Busy),
             Found::Free => {
-                take(&mut self.owned, &mut self.held, tid.0, object.0)?;
+                take(
+                    &mut self.owned,
+                    &mut self.held,
+                    &self.alloc,
+                    tid.0,
+                    object.0,
+                )?;
                 Ok(Entering::Entered)
             }
         }

@@ -13,7 +13,7 @@ const TEXT: ObjId = ObjId(15);
 
 #[test]
 fn entered_twice(rt: HostRuntime) -> Result<(), Fail> {
-    let mut table = Monitors::new(rt.alloc(), rt.alloc());
+    let mut table = Monitors::new(rt.alloc());
     assert_eq!(rt; table.owner(TEXT), None);
     assert_eq!(rt; table.count(TEXT), 0);
     assert!(rt; table.count(TEXT) < u64::MAX);
@@ -38,7 +38,7 @@ fn entered_twice(rt: HostRuntime) -> Result<(), Fail> {
 
 #[test]
 fn released_with_the_session(rt: HostRuntime) -> Result<(), Fail> {
-    let mut table = Monitors::new(rt.alloc(), rt.alloc());
+    let mut table = Monitors::new(rt.alloc());
     assert!(rt; table.count(ObjId(1)) < u64::MAX);
     assert_eq!(rt; table.enter(T1, ObjId(1))?, Entering::Entered);
     assert!(rt; table.count(ObjId(2)) < u64::MAX);
@@ -59,7 +59,7 @@ fn released_with_the_session(rt: HostRuntime) -> Result<(), Fail> {
 
 #[test]
 fn listed(rt: HostRuntime) -> Result<(), Fail> {
-    let mut table = Monitors::new(rt.alloc(), rt.alloc());
+    let mut table = Monitors::new(rt.alloc());
     assert!(rt; table.count(ObjId(9)) < u64::MAX);
     assert_eq!(rt; table.enter(T1, ObjId(9))?, Entering::Entered);
     assert!(rt; table.count(ObjId(9)) < u64::MAX);
@@ -90,7 +90,7 @@ fn listed(rt: HostRuntime) -> Result<(), Fail> {
 /// 65,535 threads enter a monitor each, again and again, and none is refused.
 #[test]
 fn many_threads(rt: HostRuntime) -> Result<(), Fail> {
-    let mut table = Monitors::new(rt.alloc(), rt.alloc());
+    let mut table = Monitors::new(rt.alloc());
     for t in 0..u16::MAX {
         let object = ObjId(t as u64);
         assert!(rt; table.count(object) < u64::MAX);
@@ -122,7 +122,7 @@ fn ballast<'a>(heap: &'a LocalHeap) -> Vec<u8, &'a LocalHeap> {
 #[test]
 fn refused_growth(rt: HostRuntime) -> Result<(), Fail> {
     let heap = LocalHeap::new(rt.alloc(), 4096)?;
-    let mut table = Monitors::new(&heap, &heap);
+    let mut table = Monitors::new(&heap);
     let block = ballast(&heap);
     assert!(rt; table.count(TEXT) < u64::MAX);
     assert!(rt; table.enter(T1, TEXT).is_err());
