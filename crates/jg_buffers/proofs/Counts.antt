@@ -1,9 +1,8 @@
 -- The counts of the pinned buffers, from one call to the next.
-use Rattle.std.proofs.Common.{◌≡◌, ℕ, ◌+◌, ◌-◌, ◌≤◌, length, Bool, true, false, List, Some, None, refl, ◌∙◌, ap, arith, eqb-true}
-use Rattle.std.specs.Prelude.{◌==◌, ◌&&◌, if◌then◌else◌}
-use Rattle.std.specs.Map.{lookup, remove_entry}
-use Rattle.std.specs.BTreeMap.{BTreeMap, get, is_at, insert_entry}
-use Rattle.std.specs.Ordering.{nat_cmp}
+use Rattle.std.proofs.Common.{◌≡◌, ℕ, ◌+◌, ◌-◌, ◌≤◌, length, Bool, true, false, List, [], ◌∷◌, ◌++◌, Some, refl, ◌∙◌, ap, arith, eqb-true}
+use Rattle.std.specs.Prelude.{◌==◌, ◌&&◌, nat_eq, if◌then◌else◌}
+use Rattle.std.specs.Map.{lookup}
+use Rattle.indexmap.specs.IndexMap.{IndexMap, get, swap_remove_entry}
 use Rattle.std.proofs.lemmas.Bool.Decides.{nat_tests}
 use Rattle.jg_words.specs.declared.thread.Tid.{Tid}
 use Rattle.jg_words.specs.declared.reference.Ref.{Ref}
@@ -12,14 +11,14 @@ use Rattle.jg_words.specs.declared.reference.Kind.{Kind}
 use Rattle.jg_words.specs.declared.reference.Kind.TheVariants.{Local, Global, Weak}
 use Rattle.jg_buffers.specs.declared.pinned.Pinned.{Pinned}
 use Rattle.jg_buffers.specs.History.{same_ref}
-use Rattle.jg_buffers.specs.Keys.{pair_cmp, triple_cmp}
+use Rattle.jg_buffers.specs.Keys.{same_pair, same_triple}
 use Rattle.jg_buffers.specs.Seen.{key_of, count_at}
 use Rattle.jg_buffers.specs.Tallies.{how_many, Counted}
-use Rattle.jg_buffers.proofs.Maps.{at_number, at_key, how_many-insert, how_many-remove, counted_below}
+use Rattle.jg_buffers.proofs.Maps.{at_key, how_many-push, how_many-remove, counted_below}
 
 -- equal counts count the same
-pub counts_same : (pins : List ((ℕ × ℕ) × Pinned)) (makers makers' : BTreeMap ℕ ℕ) (vias vias' : BTreeMap (ℕ × ℕ × ℕ) ℕ) → Counted pins makers vias
-    → ((q : ℕ) → count_at (get nat_cmp makers' q) ≡ count_at (get nat_cmp makers q)) → ((q : ℕ × ℕ × ℕ) → count_at (get triple_cmp vias' q) ≡ count_at (get triple_cmp vias q))
+pub counts_same : {S T : Type 0} (pins : List ((ℕ × ℕ) × Pinned)) (makers makers' : IndexMap ℕ ℕ S) (vias vias' : IndexMap (ℕ × ℕ × ℕ) ℕ T) → Counted pins makers vias
+    → ((q : ℕ) → count_at (get nat_eq makers' q) ≡ count_at (get nat_eq makers q)) → ((q : ℕ × ℕ × ℕ) → count_at (get same_triple vias' q) ≡ count_at (get same_triple vias q))
     → Counted pins makers' vias'
 counts_same pins makers makers' vias vias' was same alike = record {
   by_maker = λ t. same t ∙ was.by_maker t;
@@ -27,13 +26,15 @@ counts_same pins makers makers' vias vias' was same alike = record {
 }
 
 -- the count of a thread fits
-pub maker_below : (pins : List ((ℕ × ℕ) × Pinned)) (makers : BTreeMap ℕ ℕ) (vias : BTreeMap (ℕ × ℕ × ℕ) ℕ) (t : ℕ) → Counted pins makers vias → count_at (get nat_cmp makers t) ≤ length pins
+pub maker_below : {S T : Type 0} (pins : List ((ℕ × ℕ) × Pinned)) (makers : IndexMap ℕ ℕ S) (vias : IndexMap (ℕ × ℕ × ℕ) ℕ T) (t : ℕ) → Counted pins makers vias
+    → count_at (get nat_eq makers t) ≤ length pins
 maker_below pins makers vias t was =
     let is = was.by_maker t in
     let below = counted_below (λ e. e.0.0 == t) pins in
     omega (arith, is, below)
 
-pub via_below : (pins : List ((ℕ × ℕ) × Pinned)) (makers : BTreeMap ℕ ℕ) (vias : BTreeMap (ℕ × ℕ × ℕ) ℕ) (r : Ref) → Counted pins makers vias → count_at (get triple_cmp vias (key_of r)) ≤ length pins
+pub via_below : {S T : Type 0} (pins : List ((ℕ × ℕ) × Pinned)) (makers : IndexMap ℕ ℕ S) (vias : IndexMap (ℕ × ℕ × ℕ) ℕ T) (r : Ref) → Counted pins makers vias
+    → count_at (get same_triple vias (key_of r)) ≤ length pins
 via_below pins makers vias r was =
     let is = was.by_via r in
     let below = counted_below (λ e. same_ref e.1.via r) pins in
@@ -70,27 +71,26 @@ lower_by a b new true alike is =
 lower_by a b new false alike is = is
 
 -- one more pinned buffer
-pub counts_raised : (pins : List ((ℕ × ℕ) × Pinned)) (makers makers' : BTreeMap ℕ ℕ) (vias vias' : BTreeMap (ℕ × ℕ × ℕ) ℕ) (t n : ℕ) (w : Pinned) → Counted pins makers vias
-    → lookup (is_at (pair_cmp (t, n))) pins ≡ None
-    → ((q : ℕ) → count_at (get nat_cmp makers' q) ≡ (if is_at (nat_cmp t) q then count_at (get nat_cmp makers t) + 1 else count_at (get nat_cmp makers q)))
-    → ((q : ℕ × ℕ × ℕ) → count_at (get triple_cmp vias' q) ≡ (if is_at (triple_cmp (key_of w.via)) q then count_at (get triple_cmp vias (key_of w.via)) + 1 else count_at (get triple_cmp vias q)))
-    → Counted (insert_entry pair_cmp pins (t, n) w) makers' vias'
-counts_raised pins makers makers' vias vias' t n w was none maker via = record {
-  by_maker = λ q. maker q ∙ rw (at_number t q, was.by_maker t, was.by_maker q, how_many-insert (λ e. e.0.0 == q) (t, n) w pins none)
+pub counts_raised : {S T : Type 0} (pins : List ((ℕ × ℕ) × Pinned)) (makers makers' : IndexMap ℕ ℕ S) (vias vias' : IndexMap (ℕ × ℕ × ℕ) ℕ T) (t n : ℕ) (w : Pinned) → Counted pins makers vias
+    → ((q : ℕ) → count_at (get nat_eq makers' q) ≡ (if nat_eq t q then count_at (get nat_eq makers t) + 1 else count_at (get nat_eq makers q)))
+    → ((q : ℕ × ℕ × ℕ) → count_at (get same_triple vias' q) ≡ (if same_triple (key_of w.via) q then count_at (get same_triple vias (key_of w.via)) + 1 else count_at (get same_triple vias q)))
+    → Counted (pins ++ ((t, n), w) ∷ []) makers' vias'
+counts_raised pins makers makers' vias vias' t n w was maker via = record {
+  by_maker = λ q. maker q ∙ rw (was.by_maker t, was.by_maker q, how_many-push (λ e. e.0.0 == q) ((t, n), w) pins)
       (raise_by (how_many (λ e. e.0.0 == t) pins) (how_many (λ e. e.0.0 == q) pins) (t == q) (λ is. ap (λ u. how_many (λ e. e.0.0 == u) pins) (eqb-true t q is)));
-  by_via = λ r. via (key_of r) ∙ rw (at_key w.via r, was.by_via w.via, was.by_via r, how_many-insert (λ e. same_ref e.1.via r) (t, n) w pins none)
+  by_via = λ r. via (key_of r) ∙ rw (at_key w.via r, was.by_via w.via, was.by_via r, how_many-push (λ e. same_ref e.1.via r) ((t, n), w) pins)
       (raise_by (how_many (λ e. same_ref e.1.via w.via) pins) (how_many (λ e. same_ref e.1.via r) pins) (same_ref w.via r)
       (λ is. ap (λ u. how_many (λ e. same_ref e.1.via u) pins) (same_ref_is w.via r is)));
 }
 
 -- one pinned buffer less
-pub counts_lowered : (pins : List ((ℕ × ℕ) × Pinned)) (makers makers' : BTreeMap ℕ ℕ) (vias vias' : BTreeMap (ℕ × ℕ × ℕ) ℕ) (t n : ℕ) (w : Pinned) → Counted pins makers vias
-    → lookup (is_at (pair_cmp (t, n))) pins ≡ Some w
-    → ((q : ℕ) → count_at (get nat_cmp makers' q) ≡ (if is_at (nat_cmp t) q then count_at (get nat_cmp makers t) - 1 else count_at (get nat_cmp makers q)))
-    → ((q : ℕ × ℕ × ℕ) → count_at (get triple_cmp vias' q) ≡ (if is_at (triple_cmp (key_of w.via)) q then count_at (get triple_cmp vias (key_of w.via)) - 1 else count_at (get triple_cmp vias q)))
-    → Counted (remove_entry (is_at (pair_cmp (t, n))) pins) makers' vias'
+pub counts_lowered : {S T : Type 0} (pins : List ((ℕ × ℕ) × Pinned)) (makers makers' : IndexMap ℕ ℕ S) (vias vias' : IndexMap (ℕ × ℕ × ℕ) ℕ T) (t n : ℕ) (w : Pinned) → Counted pins makers vias
+    → lookup (same_pair (t, n)) pins ≡ Some w
+    → ((q : ℕ) → count_at (get nat_eq makers' q) ≡ (if nat_eq t q then count_at (get nat_eq makers t) - 1 else count_at (get nat_eq makers q)))
+    → ((q : ℕ × ℕ × ℕ) → count_at (get same_triple vias' q) ≡ (if same_triple (key_of w.via) q then count_at (get same_triple vias (key_of w.via)) - 1 else count_at (get same_triple vias q)))
+    → Counted (swap_remove_entry (same_pair (t, n)) pins) makers' vias'
 counts_lowered pins makers makers' vias vias' t n w was found maker via = record {
-  by_maker = λ q. maker q ∙ rw (at_number t q, was.by_maker t, was.by_maker q)
+  by_maker = λ q. maker q ∙ rw (was.by_maker t, was.by_maker q)
       (lower_by (how_many (λ e. e.0.0 == t) pins) (how_many (λ e. e.0.0 == q) pins) _ (t == q) (λ is. ap (λ u. how_many (λ e. e.0.0 == u) pins) (eqb-true t q is))
       (how_many-remove (λ e. e.0.0 == q) t n w pins found));
   by_via = λ r. via (key_of r) ∙ rw (at_key w.via r, was.by_via w.via, was.by_via r)

@@ -1,10 +1,9 @@
 -- What the look-ups answer where the rows stand.
 use Rattle.std.proofs.Common.{◌≡◌, ℕ, ◌<◌, length, Bool, true, false, List, [], ◌++◌, Option, Some, None, refl, ◌∙◌, ap, sym, subst, arith, zero-add}
-use Rattle.std.specs.Prelude.{◌||◌, ℤ, pos, if◌then◌else◌, map, find, slice_index_or}
+use Rattle.std.specs.Prelude.{ℤ, pos, if◌then◌else◌, map, find, slice_index_or}
 use Rattle.std.specs.List.{range_with_len}
 use Rattle.std.specs.Option.{option_map}
 use Rattle.std.specs.Map.{lookup}
-use Rattle.std.specs.BTreeMap.{is_at}
 use Rattle.std.proofs.lemmas.List.FromFn.{get_or-map-range_with_len}
 use Rattle.jg_buffers.specs.declared.copied.CopyKind.{CopyKind}
 use Rattle.jg_buffers.specs.declared.copied.CopyKind.TheVariants.{Elements as ElementsKind, Chars as CharsKind, UtfChars as UtfCharsKind}
@@ -13,7 +12,7 @@ use Rattle.jg_buffers.specs.declared.pinned.PinKind.{PinKind}
 use Rattle.jg_buffers.specs.declared.pinned.PinKind.TheVariants.{Array, String}
 use Rattle.jg_buffers.specs.declared.pinned.Pinned.{Pinned}
 use Rattle.jg_buffers.specs.History.{Buffer, Event, is_critical, opened, content, items_of, contents, info_of}
-use Rattle.jg_buffers.specs.Keys.{pair_cmp}
+use Rattle.jg_buffers.specs.Keys.{same_pair}
 use Rattle.jg_buffers.specs.Rows.{Rows, is_buffer, row_of, copy_length, items_in, IsAbove}
 use Rattle.jg_buffers.specs.Seen.{copy_seen, pin_seen, copy_family, pin_family}
 use Rattle.jg_buffers.specs.Standing.{Stands}
@@ -28,11 +27,11 @@ reopened a b e is stands =
 
 -- the row of a buffer is what the look-ups find
 pub row_is : {A : Type 0} (es : List ((ℕ × ℕ) × Copied A)) (fs : List ((ℕ × ℕ) × Pinned)) (rows : Rows) (m n : ℕ) → record { lent = map copy_seen es ++ map pin_seen fs } ≡ rows
-    → row_of m n rows ≡ first_of (option_map (λ w. copy_seen ((m, n), w)) (lookup (is_at (pair_cmp (m, n))) es)) (option_map (λ w. pin_seen ((m, n), w)) (lookup (is_at (pair_cmp (m, n))) fs))
+    → row_of m n rows ≡ first_of (option_map (λ w. copy_seen ((m, n), w)) (lookup (same_pair (m, n)) es)) (option_map (λ w. pin_seen ((m, n), w)) (lookup (same_pair (m, n)) fs))
 row_is es fs rows m n is =
     ap (row_of m n) (sym is) ∙ (find_both (is_buffer m n) (map copy_seen es) (map pin_seen fs)
     ∙ (ap (λ c. first_of c (find (is_buffer m n) (map pin_seen fs))) (found_row copy_seen (λ i j e. refl) m n es)
-    ∙ ap (first_of (option_map (λ w. copy_seen ((m, n), w)) (lookup (is_at (pair_cmp (m, n))) es))) (found_row pin_seen (λ i j e. refl) m n fs)))
+    ∙ ap (first_of (option_map (λ w. copy_seen ((m, n), w)) (lookup (same_pair (m, n)) es))) (found_row pin_seen (λ i j e. refl) m n fs)))
 
 info_now : (e : List Event) (m n : ℕ) (found : Option Buffer) → option_map info_of (row_now e m n found) ≡ option_map info_of found
 info_now e m n None = refl
@@ -84,20 +83,13 @@ pub long_law : {A : Type 0} (es : List ((ℕ × ℕ) × Copied A)) (fs : List ((
     → copy_length (row_of m n rows) ≡ length (items_in (row_of m n rows))
 long_law es fs rows m n is =
     let row = row_is es fs rows m n is in
-    ap copy_length row ∙ (long_by (m, n) (lookup (is_at (pair_cmp (m, n))) es) (lookup (is_at (pair_cmp (m, n))) fs) ∙ ap (λ r. length (items_in r)) (sym row))
+    ap copy_length row ∙ (long_by (m, n) (lookup (same_pair (m, n)) es) (lookup (same_pair (m, n)) fs) ∙ ap (λ r. length (items_in r)) (sym row))
 
 -- ---- critical buffers
 
 -- a test of buffers that doesn't look at the items
 abbrev pub IsBlind : (Buffer → Bool) → Type 0
 IsBlind P = (b : Buffer) (items : List ℤ) → P (record b { items = items }) ≡ P b
-
-either : (a b : Bool) → b ≡ true → (a || b) ≡ true
-either true b is = refl
-either false b is = is
-
-some_buffer : (a b : Buffer) → Some a ≡ Some b → a ≡ b
-some_buffer a b is = cc
 
 pub still_open : (found : Option Buffer) (c : Bool) (b : Buffer) → if◌then◌else◌ {A = Option Buffer} c None found ≡ Some b → found ≡ Some b
 still_open found true b now = cc

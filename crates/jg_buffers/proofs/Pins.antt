@@ -4,12 +4,11 @@ use Rattle.std.specs.Prelude.{◌==◌, ◌||◌, if◌then◌else◌, filter, m
 use Rattle.std.specs.List.{list_any, filter_map, cons_option}
 use Rattle.std.specs.Option.{option_map}
 use Rattle.std.specs.Map.{lookup, values_of}
-use Rattle.std.specs.BTreeMap.{is_at}
 use Rattle.std.proofs.lemmas.Bool.Decides.{nat_tests}
 use Rattle.jg_buffers.specs.declared.copied.Copied.{Copied}
 use Rattle.jg_buffers.specs.declared.pinned.Pinned.{Pinned}
 use Rattle.jg_buffers.specs.History.{Buffer, Event, Opened, Wrote, Closed, is_same, is_critical, opened, critical_only, pin_of, pins, pins_object}
-use Rattle.jg_buffers.specs.Keys.{pair_cmp}
+use Rattle.jg_buffers.specs.Keys.{same_pair}
 use Rattle.jg_buffers.specs.Rows.{is_buffer}
 use Rattle.jg_buffers.specs.Seen.{copy_seen, pin_seen}
 use Rattle.jg_buffers.specs.Standing.{rows_of, Stands}
@@ -148,7 +147,7 @@ pinned_row P blind es fs e stands some =
     let told = tells (map copy_seen es) (map pin_seen fs) e pin.maker pin.n stands in
     let row : Buffer = record pin.buffer { items = [] } in
     let rows : rows_of e pin.maker pin.n (opened e pin.maker pin.n) ≡ row ∷ [] = rw (pin.is_open, pin.critical) refl in
-    let free = λ (x : Buffer) (is : find (is_buffer pin.maker pin.n) (map copy_seen es) ≡ Some x). free_copy (pin.maker, pin.n) (lookup (is_at (pair_cmp (pin.maker, pin.n))) es) x
+    let free = λ (x : Buffer) (is : find (is_buffer pin.maker pin.n) (map copy_seen es) ≡ Some x). free_copy (pin.maker, pin.n) (lookup (same_pair (pin.maker, pin.n)) es) x
     (sym (found_row copy_seen (λ i j y. refl) pin.maker pin.n es) ∙ is) in
     let found = the_pin (find (is_buffer pin.maker pin.n) (map copy_seen es)) (find (is_buffer pin.maker pin.n) (map pin_seen fs)) row (told.agrees ∙ rows) free pin.critical in
     let kept : filter (is_buffer pin.maker pin.n) (map pin_seen fs) ≡ row ∷ [] = told.pin ∙ ap listed found in

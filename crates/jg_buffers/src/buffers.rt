@@ -4,27 +4,40 @@ ghost use Rattle.jg_buffers.specs.Rows.{AddsNumber, IsAbove, KeepsBuffers, Keeps
 ghost use Rattle.jg_buffers.specs.Standing.{Stands};
 ghost use Rattle.jg_lists.specs.Marks.{Marks};
 
+use crate::by_number::{ByNumber, list_keys};
 use crate::copied::{Copied, copy_kind, family_of_copy, item_at, set_item};
 use crate::family::Family;
 use crate::info::Info;
-use crate::listing::list_keys;
 use crate::pinned::{Pinned, ViaKey, family_of_pin, mark_objects, names_object, pin_kind, via_key};
-use crate::tally::{count_of, lower, make_room, raise};
+use crate::tally::{Tally, count_of, lower, make_room, raise};
+use indexmap::IndexMap;
 use jg_lists::ObjectMarks;
 use jg_words::{BufId, ObjId, Ref, Tid};
 use std::alloc::{AllocError, Allocator, Global};
-use std::collections::BTreeMap;
 use std::marker::Model;
 
 /// The open buffers. Contracts see the rows. Copies and pinned buffers are kept apart, and the
 /// pinned ones are counted by thread and by reference, so that no look-up goes over all of them.
-#[derive(Drop)]
 pub struct Buffers<A: Allocator = Global> {
-    copies: BTreeMap<(u16, u64), Copied<A>, A>,
-    pins: BTreeMap<(u16, u64), Pinned, A>,
-    makers: BTreeMap<u16, u64, A>,
-    vias: BTreeMap<ViaKey, u64, A>,
+    copies: ByNumber<Copied<A>, A>,
+    pins: ByNumber<Pinned, A>,
+    makers: Tally<u16, A>,
+    vias: Tally<ViaKey, A>,
     alloc: A,
+}
+
+// Not derived, so that who owns a table lets it go by one call: else each way out of a function
+// drops each part of the four maps, which its proof goes through one by one.
+impl<A: Allocator> Drop for Buffers<A> {
+    fn drop(self) {
+        let Buffers {
+            copies: _copies,
+            pins: _pins,
+            makers: _makers,
+            vias: _vias,
+            alloc: _alloc,
+        } = self;
+    }
 }
 
 impl<A: Allocator> Model for Buffers<A> {
@@ -40,7 +53,7 @@ impl<A: Allocator> Model for Buffers<A> {
     ghost invariant = { λ a. Counted a.pins.entries a.makers a.vias };
 }
 
-impl<A: Allocator + Clone> Buffers<A> {
+impl<A: Allocator + Copy> Buffers<A> {
     /// No buffer is open. Takes no memory; the four maps grow from the first four handles, and the
     /// items of copies from clones of the last.
     pub fn new(copies: A, pins: A, makers: A, vias: A, alloc: A) -> Buffers<A>
@@ -49,14 +62,16 @@ impl<A: Allocator + Clone> Buffers<A> {
         ensures numbers { (k i : ℕ) → IsAbove k i result }
     {
         Buffers {
-            copies: BTreeMap::new(copies),
-            pins: BTreeMap::new(pins),
-            makers: BTreeMap::new(makers),
-            vias: BTreeMap::new(vias),
+            copies: IndexMap::new(copies),
+            pins: IndexMap::new(pins),
+            makers: IndexMap::new(makers),
+            vias: IndexMap::new(vias),
             alloc,
         }
     }
+}
 
+impl<A: Allocator + Clone> Buffers<A> {
     /// Opens buffer `n` of the thread, a copy with these items (chapter 4,
     /// `Get<PrimitiveType>ArrayElements`, `GetStringChars` and `GetStringUTFChars`), of a family
     /// that copies. The number is above those of all open buffers of the thread, which
@@ -203,8 +218,8 @@ impl<A: Allocator + Clone> Buffers<A> {
         ensures stands { (e : List Event) → Stands self.old e → Stands self.new (Closed buf.maker.0 buf.n ∷ e) }
         ensures numbers { KeepsNumbers self.old self.new }
     {
-        self.copies.remove(&(buf.maker.0, buf.n));
-        if let Some(pin) = self.pins.remove(&(buf.maker.0, buf.n)) {
+        self.copies.swap_remove(&(buf.maker.0, buf.n));
+        if let Some(pin) = self.pins.swap_remove(&(buf.maker.0, buf.n)) {
             lower(&mut self.makers, &buf.maker.0);
             lower(&mut self.vias, &via_key(pin.via));
         }
@@ -239,9 +254,9 @@ impl<A: Allocator + Clone> Buffers<A> {
         mark_objects(&self.pins, marks);
     }
 
-    /// Appends the open copies and then the open pinned buffers, each by thread and then by number.
-    /// Takes time by how many there are. Fails only for want of memory; the list then holds a part
-    /// of them.
+    /// Appends the open copies and then the open pinned buffers, each kind in no order that means
+    /// anything. Takes time by how many there are. Fails only for want of memory; the list then
+    /// holds a part of them.
     pub fn list<B: Allocator>(&self, buffers: &mut Vec<BufId, B>) -> Result<(), AllocError>
         ensures ok { OnOk result (buffers.new.items ≡ buffers.old.items ++ map name_of self.now.lent) }
     {

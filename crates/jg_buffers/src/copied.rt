@@ -1,13 +1,13 @@
 ghost use Rattle.std.specs.Prelude.{◌≡◌, ◌<◌, ℕ, pos, false, if◌then◌else◌, length, slice_index_or};
 ghost use Rattle.jg_buffers.specs.History.{is_critical};
 ghost use Rattle.jg_buffers.specs.Seen.{copy_family, copy_at, copy_item_set};
-ghost use Rattle.std.specs.BTreeMap.{get, IsOrdered};
-ghost use Rattle.jg_buffers.specs.Keys.{pair_cmp, same_pair};
+ghost use Rattle.indexmap.specs.IndexMap.{get, IsUnique};
+ghost use Rattle.jg_buffers.specs.Keys.{same_pair};
 
+use crate::by_number::ByNumber;
 use crate::family::Family;
 use jg_words::Primitive;
 use std::alloc::{Allocator, Global};
-use std::collections::BTreeMap;
 
 /// The families that copy.
 #[derive(Clone, Copy, Debug, PartialEq, Eq)]
@@ -50,15 +50,15 @@ pub fn family_of_copy(kind: CopyKind) -> Family
 
 /// Writes an item of the copy, if it is there.
 pub fn set_item<A: Allocator>(
-    map: &mut BTreeMap<(u16, u64), Copied<A>, A>,
+    map: &mut ByNumber<Copied<A>, A>,
     key: (u16, u64),
     index: usize,
     value: i64,
 )
-    ensures ordered { IsOrdered pair_cmp map.new }
-    ensures set { (q : ℕ × ℕ) → copy_at q (get pair_cmp map.new q)
-        ≡ (if same_pair key q then copy_item_set index value (copy_at q (get pair_cmp map.old q))
-        else copy_at q (get pair_cmp map.old q)) }
+    ensures unique { IsUnique same_pair map.new }
+    ensures set { (q : ℕ × ℕ) → copy_at q (get same_pair map.new q)
+        ≡ (if same_pair key q then copy_item_set index value (copy_at q (get same_pair map.old q))
+        else copy_at q (get same_pair map.old q)) }
 {
     if let Some(copy) = map.get_mut(&key) {
         if index < copy.items.len() {

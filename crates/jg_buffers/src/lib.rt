@@ -4,10 +4,10 @@
 #![tactic(auto)]
 
 mod buffers;
+mod by_number;
 mod copied;
 mod family;
 mod info;
-mod listing;
 mod meanings;
 mod pinned;
 mod tally;

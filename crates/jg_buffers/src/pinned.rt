@@ -1,15 +1,15 @@
 ghost use Rattle.std.specs.Prelude.{◌≡◌, true, ◌==◌};
-ghost use Rattle.std.specs.BTreeMap.{values};
+ghost use Rattle.indexmap.specs.IndexMap.{values};
 ghost use Rattle.std.specs.List.{list_any};
 ghost use Rattle.jg_lists.specs.Marks.{Marks};
 ghost use Rattle.jg_buffers.specs.History.{is_critical};
 ghost use Rattle.jg_buffers.specs.Seen.{pin_family, key_of};
 
+use crate::by_number::ByNumber;
 use crate::family::Family;
 use jg_lists::ObjectMarks;
 use jg_words::{Kind, Ref};
 use std::alloc::Allocator;
-use std::collections::BTreeMap;
 
 /// The families that pin.
 #[derive(Clone, Copy, Debug, PartialEq, Eq)]
@@ -27,7 +27,8 @@ pub struct Pinned {
     pub length: u64,
 }
 
-/// A reference as the key of a map: null, then the local ones, the global ones and the weak ones.
+/// A reference as the key of a map: 0 for null, 1 for local, 2 for global and 3 for weak, then its
+/// maker and its number.
 pub type ViaKey = (u8, u16, u64);
 
 pub fn pin_kind(family: Family) -> PinKind
@@ -65,16 +66,13 @@ pub fn via_key(via: Ref) -> ViaKey
     }
 }
 
-pub fn names_object<A: Allocator>(pins: &BTreeMap<(u16, u64), Pinned, A>, object: u64) -> bool
+pub fn names_object<A: Allocator>(pins: &ByNumber<Pinned, A>, object: u64) -> bool
     ensures { result ≡ list_any (λ w. w.object == object) (values pins.now) }
 {
     pins.values().any(|pin| pin.object == object)
 }
 
-pub fn mark_objects<A: Allocator>(
-    pins: &BTreeMap<(u16, u64), Pinned, A>,
-    marks: &mut ObjectMarks<A>,
-)
+pub fn mark_objects<A: Allocator>(pins: &ByNumber<Pinned, A>, marks: &mut ObjectMarks<A>)
     ensures { Marks (λ o. list_any (λ w. w.object == o) (values pins.now)) marks.old marks.new }
 {
     for pin in pins.values() {

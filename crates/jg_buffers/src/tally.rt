@@ -1,13 +1,17 @@
 ghost use Rattle.std.specs.Prelude.{◌≡◌, ◌+◌, ◌-◌, ◌<◌, OnOk, IsSome, if◌then◌else◌};
-ghost use Rattle.std.specs.BTreeMap.{get, is_at};
+ghost use Rattle.indexmap.specs.IndexMap.{get};
 ghost use Rattle.jg_buffers.specs.Seen.{count_at};
 
+use indexmap::IndexMap;
 use std::alloc::{AllocError, Allocator};
-use std::collections::BTreeMap;
+use std::hash::{BuildHasherDefault, FoldHasher, Hash};
+
+/// How many there are of each key.
+pub type Tally<K, A> = IndexMap<K, u64, BuildHasherDefault<FoldHasher>, A>;
 
 /// How many there are of the key.
-pub fn count_of<K: Ord, A: Allocator>(map: &BTreeMap<K, u64, A>, key: &K) -> u64
-    ensures { result ≡ count_at (get K.cmp map.now key.now) }
+pub fn count_of<K: Eq + Hash, A: Allocator>(map: &Tally<K, A>, key: &K) -> u64
+    ensures { result ≡ count_at (get K.eq map.now key.now) }
 {
     match map.get(key) {
         Some(count) => *count,
@@ -16,12 +20,12 @@ pub fn count_of<K: Ord, A: Allocator>(map: &BTreeMap<K, u64, A>, key: &K) -> u64
 }
 
 /// Makes room for a count of the key, which may be 0 from then on.
-pub fn make_room<K: Ord + Drop, A: Allocator + Clone>(
-    map: &mut BTreeMap<K, u64, A>,
+pub fn make_room<K: Eq + Hash + Drop, A: Allocator + Clone>(
+    map: &mut Tally<K, A>,
     key: K,
 ) -> Result<(), AllocError>
-    ensures same { (q : K) → count_at (get K.cmp map.new q) ≡ count_at (get K.cmp map.old q) }
-    ensures room { OnOk result (IsSome (get K.cmp map.new key)) }
+    ensures same { (q : K) → count_at (get K.eq map.new q) ≡ count_at (get K.eq map.old q) }
+    ensures room { OnOk result (IsSome (get K.eq map.new key)) }
 {
     if !map.contains_key(&key) {
         map.insert(key, 0)?;
@@ -30,12 +34,12 @@ pub fn make_room<K: Ord + Drop, A: Allocator + Clone>(
 }
 
 /// One more of the key.
-pub fn raise<K: Ord, A: Allocator>(map: &mut BTreeMap<K, u64, A>, key: &K)
-    requires room { IsSome (get K.cmp map.old key.now) }
-    requires fits { count_at (get K.cmp map.old key.now) < u64.MAX }
-    ensures { (q : K) → count_at (get K.cmp map.new q)
-        ≡ (if is_at (K.cmp key.now) q then count_at (get K.cmp map.old key.now) + 1
-        else count_at (get K.cmp map.old q)) }
+pub fn raise<K: Eq + Hash, A: Allocator>(map: &mut Tally<K, A>, key: &K)
+    requires room { IsSome (get K.eq map.old key.now) }
+    requires fits { count_at (get K.eq map.old key.now) < u64.MAX }
+    ensures { (q : K) → count_at (get K.eq map.new q)
+        ≡ (if K.eq key.now q then count_at (get K.eq map.old key.now) + 1
+        else count_at (get K.eq map.old q)) }
 {
     if let Some(count) = map.get_mut(key) {
         *count += 1;
@@ -43,10 +47,10 @@ pub fn raise<K: Ord, A: Allocator>(map: &mut BTreeMap<K, u64, A>, key: &K)
 }
 
 /// One less of the key, which is forgotten at 0.
-pub fn lower<K: Ord + Drop, A: Allocator>(map: &mut BTreeMap<K, u64, A>, key: &K)
-    ensures { (q : K) → count_at (get K.cmp map.new q)
-        ≡ (if is_at (K.cmp key.now) q then count_at (get K.cmp map.old key.now) - 1
-        else count_at (get K.cmp map.old q)) }
+pub fn lower<K: Eq + Hash + Drop, A: Allocator>(map: &mut Tally<K, A>, key: &K)
+    ensures { (q : K) → count_at (get K.eq map.new q)
+        ≡ (if K.eq key.now q then count_at (get K.eq map.old key.now) - 1
+        else count_at (get K.eq map.old q)) }
 {
     if let Some(count) = map.get_mut(key) {
         if *count > 1 {
@@ -54,5 +58,5 @@ pub fn lower<K: Ord + Drop, A: Allocator>(map: &mut BTreeMap<K, u64, A>, key: &K
             return;
         }
     }
-    map.remove(key);
+    map.swap_remove(key);
 }

@@ -114,7 +114,7 @@ fn listed(rt: HostRuntime) -> Result<(), Fail> {
     table.close(buffer(T1, 2));
     let mut buffers = Vec::new(rt.alloc());
     table.list(&mut buffers)?;
-    let wanted = [buffer(T1, 3), buffer(T2, 1), buffer(T1, 1)];
+    let wanted = [buffer(T2, 1), buffer(T1, 3), buffer(T1, 1)];
     assert_eq!(rt; buffers.as_slice(), wanted.as_slice());
     Ok(())
 }

@@ -2,7 +2,7 @@ use Rattle.std.proofs.Common.{◌≡◌, ℕ}
 use Rattle.std.specs.Prelude.{◌==◌, ◌||◌, slice_get}
 use Rattle.std.specs.List.{list_any}
 use Rattle.std.specs.Option.{option_map}
-use Rattle.std.specs.BTreeMap.{values}
+use Rattle.indexmap.specs.IndexMap.{values}
 use Rattle.jg_buffers.proofs.pinned.mark_objects.Given as goal
 
 -- with the objects that are left marked, all are marked

@@ -1,13 +1,12 @@
 use Rattle.std.proofs.Common.{◌≡◌, length, ◌∙◌, ap, sym, Some, None}
 use Rattle.std.specs.Map.{lookup}
-use Rattle.std.specs.BTreeMap.{is_at}
-use Rattle.jg_buffers.specs.Keys.{pair_cmp}
+use Rattle.jg_buffers.specs.Keys.{same_pair}
 use Rattle.jg_buffers.proofs.Lookups.{row_is, long_law, contents_law, pin_items}
 use Rattle.jg_buffers.proofs.buffers.Buffers.commit.Goals as goal
 
 pub returns-in-Some-clause-row : goal.returns-in-Some-clause-row
 returns-in-Some-clause-row g c =
-    let found : lookup (is_at (pair_cmp (c.args.buf.maker.0, c.args.buf.n))) c.self.inside.copies.entries ≡ Some c.in-Some.copy.now = sym c.in-Some.ensures.value in
+    let found : lookup (same_pair (c.args.buf.maker.0, c.args.buf.n)) c.self.inside.copies.entries ≡ Some c.in-Some.copy.now = sym c.in-Some.ensures.value in
     rw (row_is c.self.inside.copies.entries c.self.inside.pins.entries _ c.args.buf.maker.0 c.args.buf.n c.self.view_is, found) c.as_slice.ensures.value
 
 pub returns-in-Some-clause-stands : goal.returns-in-Some-clause-stands
@@ -15,9 +14,9 @@ returns-in-Some-clause-stands g c = λ e stands. returns-in-Some-clause-row g c 
 
 pub returns-in-None-clause-row : goal.returns-in-None-clause-row
 returns-in-None-clause-row g c =
-    let found : lookup (is_at (pair_cmp (c.args.buf.maker.0, c.args.buf.n))) c.self.inside.copies.entries ≡ None = sym c.in-None.ensures.value in
+    let found : lookup (same_pair (c.args.buf.maker.0, c.args.buf.n)) c.self.inside.copies.entries ≡ None = sym c.in-None.ensures.value in
     rw (row_is c.self.inside.copies.entries c.self.inside.pins.entries _ c.args.buf.maker.0 c.args.buf.n c.self.view_is, found)
-    (pin_items (c.args.buf.maker.0, c.args.buf.n) (lookup (is_at (pair_cmp (c.args.buf.maker.0, c.args.buf.n))) c.self.inside.pins.entries))
+    (pin_items (c.args.buf.maker.0, c.args.buf.n) (lookup (same_pair (c.args.buf.maker.0, c.args.buf.n)) c.self.inside.pins.entries))
 
 pub returns-in-None-clause-stands : goal.returns-in-None-clause-stands
 returns-in-None-clause-stands g c = λ e stands. returns-in-None-clause-row g c ∙ contents_law _ e c.args.buf.maker.0 c.args.buf.n stands

@@ -1,4 +1,6 @@
 use Rattle.std.proofs.Common.{refl, arith}
+use Rattle.indexmap.proofs.CallerLemmas.{insert_entry-new}
+use Rattle.jg_buffers.specs.Keys.{same_pair}
 use Rattle.jg_buffers.specs.Seen.{key_of}
 use Rattle.jg_buffers.specs.Standing.{Stands}
 use Rattle.jg_buffers.specs.Tallies.{Counted}
@@ -32,15 +34,15 @@ invariant_of-self-2 g c =
     let was : Counted c.self.inside.pins.entries c.make_room.new.map c.make_room-2.new.map = counts_same _ _ _ _ _ c.self.invariant c.make_room.ensures.same c.make_room-2.ensures.same in
     let none = no_pin c.self.inside.copies.entries c.self.inside.pins.entries c.args.tid.0 c.args.n (above_in _ _ c.args.tid.0 c.args.n c.self.view_is c.requires.above) in
     let vias = rw c.via_key-key.ensures at c.raise-2.ensures in
-    rw c.in_ok-insert.ensures.entries (counts_raised c.self.inside.pins.entries c.make_room.new.map c.raise.new.map c.make_room-2.new.map c.raise-2.new.map c.args.tid.0 c.args.n _ was none
-    c.raise.ensures vias)
+    rw (c.in_ok-insert.ensures.entries, insert_entry-new same_pair c.self.inside.pins (c.args.tid.0, c.args.n) _ none)
+    (counts_raised c.self.inside.pins.entries c.make_room.new.map c.raise.new.map c.make_room-2.new.map c.raise-2.new.map c.args.tid.0 c.args.n _ was c.raise.ensures vias)
 
 -- the pinned buffer is added
 pub returns-clause-ok : goal.returns-clause-ok
 returns-clause-ok g c = λ e stands.
     let was : Stands (seen c.self.inside.copies.entries c.self.inside.pins.entries) e = reopened _ _ e c.self.view_is stands in
     open_pin_law c.self.inside.copies.entries c.self.inside.pins.entries c.insert.new.self.entries e c.args.tid.0 c.args.n c.args.object.0 c.args.family c.args.via c.args.length _ c.requires.pins was
-    (above_in _ _ c.args.tid.0 c.args.n c.self.view_is c.requires.above) c.in_ok-insert.ensures.ordered c.in_ok-insert.ensures.updates.0 (rw c.pin_kind.ensures refl)
+    (above_in _ _ c.args.tid.0 c.args.n c.self.view_is c.requires.above) c.in_ok-insert.ensures.unique c.in_ok-insert.ensures.updates.0 (rw c.pin_kind.ensures refl)
 
 -- no other number is there
 pub returns-clause-numbers : goal.returns-clause-numbers

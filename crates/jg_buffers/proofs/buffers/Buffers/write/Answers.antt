@@ -14,7 +14,7 @@ returns-clause-stands g c = λ e stands.
     let P : Rows → Type 0 = λ r. c.args.index < copy_length (row_of c.args.buf.maker.0 c.args.buf.n r) in
     let within : c.args.index < copy_length (row_of c.args.buf.maker.0 c.args.buf.n (seen c.self.inside.copies.entries c.self.inside.pins.entries)) = subst P (sym c.self.view_is) c.requires in
     let plain : to_z w64 (of_z w64 c.args.value) ≡ c.args.value = search rules in
-    write_law c.self.inside.copies.entries c.set_item.new.map.entries c.self.inside.pins.entries e c.args.buf.maker.0 c.args.buf.n c.args.index c.args.value was within c.set_item.ensures.ordered
+    write_law c.self.inside.copies.entries c.set_item.new.map.entries c.self.inside.pins.entries e c.args.buf.maker.0 c.args.buf.n c.args.index c.args.value was within c.set_item.ensures.unique
     (λ q. rw plain at (c.set_item.ensures.set q))
 
 -- the numbers stay

@@ -1,8 +1,8 @@
 use Rattle.std.proofs.Common.{◌≡◌, ◌++◌}
 use Rattle.std.specs.Prelude.{map}
-use Rattle.std.specs.BTreeMap.{keys}
+use Rattle.indexmap.specs.IndexMap.{keys}
 use Rattle.jg_buffers.specs.Seen.{key_name}
-use Rattle.jg_buffers.proofs.listing.list_keys.Given as goal
+use Rattle.jg_buffers.proofs.by_number.list_keys.Given as goal
 
 -- with the names of the keys that are left, those of all are appended
 abbrev pub invariant-loop-key : goal.invariant-loop-key
