@@ -13,6 +13,10 @@ pub type Tally<K, A> = IndexMap<K, u64, BuildHasherDefault<FoldHasher>, A>;
 pub fn count_of<K: Eq + Hash, A: Allocator>(map: &Tally<K, A>, key: &K) -> u64
     ensures { result ≡ count_at (get K.eq map.now key.now) }
 {
+    // Mostly no buffer is pinned, and then nothing need be hashed.
+    if map.is_empty() {
+        return 0;
+    }
     match map.get(key) {
         Some(count) => *count,
         None => 0,
