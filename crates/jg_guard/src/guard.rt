@@ -44,7 +44,6 @@ pub struct NoMemory;
 /// A guard. Contracts see its setup, its limit, its journal, the newest entry first, and `spare`, for
 /// how many entries more there is room; its type keeps that the journal is a legal history, no longer
 /// than the limit.
-#[derive(Drop)]
 pub struct Guard<A: Allocator = Global> {
     setup: Setup,
     limit: u32,
@@ -52,6 +51,20 @@ pub struct Guard<A: Allocator = Global> {
     tables: Tables<A>,
     /// What the last collection found, whose marks serve the next one.
     held: Held<A>,
+}
+
+// Not derived, so that who owns a guard lets it go by one call: else each way out of a function
+// drops each part of each table, which its proof goes through one by one.
+impl<A: Allocator> Drop for Guard<A> {
+    fn drop(self) {
+        let Guard {
+            setup: _setup,
+            limit: _,
+            journal: _journal,
+            tables: _tables,
+            held: _held,
+        } = self;
+    }
 }
 
 impl<A: Allocator> Model for Guard<A> {
