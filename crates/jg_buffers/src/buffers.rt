@@ -1,4 +1,4 @@
-ghost use Rattle.std.specs.Prelude.{◌≡◌, ℕ, ℤ, pos, true, false, ◌<◌, ◌||◌, ◌++◌, List, [], ◌∷◌, map, length, OnOk, OnErr, option_map, slice_get, slice_index_or};
+ghost use Rattle.std.specs.Prelude.{◌≡◌, ℕ, pos, true, false, ◌<◌, ◌++◌, List, [], ◌∷◌, map, length, OnOk, OnErr, option_map, slice_index_or};
 ghost use Rattle.jg_buffers.specs.History.{Event, Opened, Wrote, Closed, is_critical, copy_with, pin_through, opened, content, contents, in_critical, pinned_by, pins_object, info_of, is_null};
 ghost use Rattle.jg_buffers.specs.Rows.{AddsNumber, IsAbove, KeepsBuffers, KeepsNumbers, name_of, row_of, copy_length, items_in};
 ghost use Rattle.jg_buffers.specs.Standing.{Stands};

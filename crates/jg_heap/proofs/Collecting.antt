@@ -17,7 +17,7 @@ use Rattle.jg_heap.proofs.Lists.{any_filter, any_agree, filter_filter, keep_agre
 use Rattle.jg_heap.proofs.Pointing.{points_slots}
 use Rattle.jg_heap.proofs.Sweeping.{goes_now, pointing_holds}
 use Rattle.jg_heap.proofs.Steps.{standing_is}
-use Rattle.jg_heap.proofs.Told.{length-standing, row_in-standing, gone-row_at, count_stands}
+use Rattle.jg_heap.proofs.Told.{length-standing, row_in-standing, gone-row_at}
 
 row_collected : (k : ℕ) (roots : List ℕ) (e : List Event) (o : ℕ) → o < count_of k e → row_at k (Collected roots ∷ e) o ≡ swept_row (held_at k roots e o) (row_at k e o)
 unfolding row_at slots_at

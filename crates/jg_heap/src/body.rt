@@ -1,8 +1,8 @@
-ghost use Rattle.std.specs.Prelude.{◌≡◌, ℕ, ◌+◌, ◌<◌, ◌≤◌, ◌^◌, length, map, slice_get, slice_set, Some, IfOk, replicate, pos, false};
+ghost use Rattle.std.specs.Prelude.{◌≡◌, ◌+◌, ◌<◌, ◌≤◌, ◌^◌, length, map, slice_get, slice_set, Some, IfOk, replicate, pos, false};
 ghost use Rattle.jg_heap.specs.Making.{making_of, array_class, CanMake, HasFields, IsArrayClass, IsPrimitiveArray, TakesItem};
 ghost use Rattle.jg_heap.specs.Kept.{class_of_body, units_of_body, slots_of_body, body_may_point, row_of, overwritten};
 ghost use Rattle.jg_heap.specs.Rows.{row_of_making};
-ghost use Rattle.jg_heap.specs.declared.object.Slot.TheVariants.{Number, Object as ToObject};
+ghost use Rattle.jg_heap.specs.declared.object.Slot.TheVariants.{Number};
 
 use crate::instance::{Instance, Text};
 use crate::object::{Shape, Slot};

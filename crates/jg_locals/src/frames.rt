@@ -1,9 +1,9 @@
 //! One thread's list of open frames, each with how many live locals were made in it.
 
-ghost use Rattle.std.specs.Prelude.{◌≡◌, ◌≤◌, ◌<◌, ◌-◌, ◌+◌, ◌^◌, ℕ, MatchOption, true, false, filter, map, length, slice_index_or, vec_len, vec_capacity};
+ghost use Rattle.std.specs.Prelude.{◌≡◌, ◌≤◌, ◌<◌, ◌-◌, ◌+◌, ◌^◌, MatchOption, true, false, filter, map, length, slice_index_or, vec_len, vec_capacity};
 ghost use Rattle.std.specs.Option.{option_map};
 ghost use Rattle.std.specs.List.{AllByRecursion};
-ghost use Rattle.jg_locals.specs.Seen.{Chain, last, frame_of, is_in, is_frame, is_under, is_opened_under, is_from, frame_cmp, at_frame, one_more, one_less, counted_less, with_room};
+ghost use Rattle.jg_locals.specs.Seen.{Chain, last, frame_of, is_frame, is_under, is_opened_under, is_from, frame_cmp, at_frame, one_more, one_less, counted_less, with_room};
 ghost use Rattle.jg_locals.specs.declared.row.Opened.{Opened};
 
 use crate::row::{Frame, Opened, Slot};

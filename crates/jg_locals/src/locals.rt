@@ -1,4 +1,4 @@
-ghost use Rattle.std.specs.Prelude.{◌≡◌, ℕ, ◌+◌, ◌<◌, ◌≤◌, ◌↔◌, ◌||◌, ◌++◌, List, [], ◌∷◌, OnOk, OnErr, IsOk, IsNone, IsSome, IsTrue, All, false, map, length, slice_index_or};
+ghost use Rattle.std.specs.Prelude.{◌≡◌, ℕ, ◌+◌, ◌<◌, ◌≤◌, ◌↔◌, ◌++◌, List, [], ◌∷◌, OnOk, OnErr, IsOk, IsNone, IsSome, IsTrue, All, map};
 ghost use Rattle.std.specs.Option.{is_some, option_map};
 ghost use Rattle.jg_locals.specs.History.{Event, by, Start, Make, Push, Ensure, Enter, Delete, Pop, Leave, End, acts_of, has_session, depth, frames, live, holds_object};
 ghost use Rattle.jg_lists.specs.Marks.{Marks};

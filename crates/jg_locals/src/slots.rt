@@ -1,7 +1,7 @@
 //! One thread's list of locals, which ascends by number.
 
-ghost use Rattle.std.specs.Prelude.{◌≡◌, ◌≢◌, ◌≤◌, ◌<◌, ◌-◌, ◌&&◌, ◌==◌, ◌||◌, ◌++◌, ◌∷◌, ◌↔◌, ℕ, [], IfSome, IsTrue, List, All, OnOk, map, Some, None, MatchOption, true, false, not, nat_le, if◌then◌else◌, filter, find, length, slice_index_or, vec_len, vec_capacity};
-ghost use Rattle.std.specs.Option.{option_map, option_to_list};
+ghost use Rattle.std.specs.Prelude.{◌≡◌, ◌≤◌, ◌<◌, ◌-◌, ◌&&◌, ◌==◌, ◌||◌, ◌++◌, ◌∷◌, ◌↔◌, [], IfSome, IsTrue, List, All, OnOk, map, Some, None, MatchOption, true, false, not, if◌then◌else◌, filter, find, length, slice_index_or, vec_len, vec_capacity};
+ghost use Rattle.std.specs.Option.{option_map};
 ghost use Rattle.std.specs.List.{AllByRecursion, list_any};
 ghost use Rattle.jg_lists.specs.Marks.{Marks};
 ghost use Rattle.jg_locals.specs.Seen.{Chain, is_before, is_live, last, passes, stays, is_below, IsBelowAll, Sound, slot_ref};

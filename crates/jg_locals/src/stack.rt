@@ -1,4 +1,4 @@
-ghost use Rattle.std.specs.Prelude.{◌≡◌, ◌≤◌, ◌<◌, ◌+◌, ◌^◌, ◌&&◌, ◌==◌, ◌||◌, ◌++◌, ◌∷◌, ◌↔◌, ℕ, [], All, OnOk, OnErr, IsOk, IsSome, IsTrue, Some, false, not, filter, find, map, length, slice_index_or};
+ghost use Rattle.std.specs.Prelude.{◌≡◌, ◌≤◌, ◌<◌, ◌+◌, ◌^◌, ◌&&◌, ◌==◌, ◌++◌, ◌∷◌, ◌↔◌, [], All, OnOk, OnErr, IsOk, IsSome, IsTrue, Some, false, not, filter, find, map};
 ghost use Rattle.std.specs.Option.{option_map};
 ghost use Rattle.std.specs.List.{list_any};
 ghost use Rattle.jg_lists.specs.Marks.{Marks};

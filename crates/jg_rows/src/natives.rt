@@ -2,7 +2,7 @@
 
 ghost use Rattle.jg_rows.specs.Lines.{ComesOut, HasText};
 ghost use Rattle.jg_rows.specs.Setups.{two_modules};
-ghost use Rattle.jg_policy.specs.declared.mode.Mode.TheVariants.{Allow, Warn, Deny};
+ghost use Rattle.jg_policy.specs.declared.mode.Mode.TheVariants.{Deny};
 ghost use Rattle.jg_rows.specs.Natives as rows;
 
 /// A frame is popped in the activation alone that pushed it.

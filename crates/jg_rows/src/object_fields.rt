@@ -2,7 +2,7 @@
 
 ghost use Rattle.jg_rows.specs.Lines.{ComesOut, HasText};
 ghost use Rattle.jg_rows.specs.Setups.{two_modules, all_types};
-ghost use Rattle.jg_policy.specs.declared.mode.Mode.TheVariants.{Allow, Warn, Deny};
+ghost use Rattle.jg_policy.specs.declared.mode.Mode.TheVariants.{Deny};
 ghost use Rattle.jg_rows.specs.ObjectFields as rows;
 
 /// A field holds what was written last, of its own type alone.

@@ -1,5 +1,5 @@
 -- What the lines of a file taken so far, and the next one, say of the whole.
-use Rattle.std.proofs.Common.{◌≡◌, ℕ, ◌+◌, ◌<◌, ◌≤◌, ◌==◌, Bool, true, false, List, [], ◌∷◌, ◌++◌, length, map, Option, Some, None, Ok, Err, ap, sym, ◌∙◌, subst, append_assoc, append-nil, length-append, refl, arith, inl, inr, ◌⊎◌, if◌then◌else◌}
+use Rattle.std.proofs.Common.{◌≡◌, ℕ, ◌+◌, ◌≤◌, ◌==◌, Bool, true, false, List, [], ◌∷◌, ◌++◌, length, map, Option, Ok, Err, ap, sym, ◌∙◌, subst, append_assoc, append-nil, length-append, refl, arith, inl, inr, if◌then◌else◌}
 use Rattle.std.specs.Io.KnownBytes.{Consumes, IsAtEnd}
 use Rattle.std.proofs.KnownBytes.{Consumes-trans}
 use Rattle.std.proofs.lemmas.List.{map-append}
@@ -7,8 +7,8 @@ use Rattle.jg_text.specs.declared.fault.ScriptFault.TheVariants.{LineTooLong}
 use Rattle.jg_text.specs.Spelling.{Spells}
 use Rattle.jg_script.specs.Checked.{IsWellFormed}
 use Rattle.jg_script.specs.Devices.{TakesFront}
-use Rattle.jg_script.specs.TextLines.{LinesTaken, BeginsTooLong, BeginsWith}
-use Rattle.jg_script.specs.ScriptFile.{CallLine, text_of, file_text, AreSpelt, lines_by, script_of, AreScriptsOf, IsFile, IsRefused, ReadsScripts}
+use Rattle.jg_script.specs.TextLines.{LinesTaken, BeginsTooLong}
+use Rattle.jg_script.specs.ScriptFile.{CallLine, text_of, file_text, AreSpelt, lines_by, IsFile, IsRefused, ReadsScripts}
 use Rattle.jg_script.specs.Threads.{Adds, TakesLine}
 use Rattle.jg_script.specs.declared.run_fault.RunFault.{RunFault}
 use Rattle.jg_script.specs.declared.run_fault.RunFault.TheVariants.{Script, Limit, NoMemory, Read, Write}

@@ -1,6 +1,6 @@
 -- Scripts by thread: what a search finds among them, and what one line more does to them.
 use Rattle.std.proofs.Common.{◌≡◌, ◌≢◌, ℕ, zero, suc, ◌+◌, ◌-◌, ◌<◌, ◌≤◌, ◌==◌, List, [], ◌∷◌, ◌++◌, length, get_or, set, if◌then◌else◌, Result, Ok, Err, IfOk, IfErr, sym, ap, subst, refl, inl, inr, ◌∙◌, arith, length-append, length-set}
-use Rattle.std.specs.Prelude.{All, vec_len, Option, OnOk, ◌⊎◌}
+use Rattle.std.specs.Prelude.{All, vec_len, Option, OnOk}
 use Rattle.std.specs.List.{insert}
 use Rattle.std.specs.List.Sorted.{IsSearchInRange, IsBinarySearchResult, IsNonDecreasingBy}
 use Rattle.std.specs.Ordering.{nat_cmp, ordering_index}

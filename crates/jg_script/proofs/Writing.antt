@@ -1,12 +1,12 @@
 -- A journal whose oldest entries are written.
-use Rattle.std.proofs.Common.{◌≡◌, ◌+◌, ◌<◌, ◌≤◌, ℕ, suc, List, ◌∷◌, ◌++◌, length, drop, Option, Some, Err, ap, sym, subst, ◌∙◌, arith}
+use Rattle.std.proofs.Common.{◌≡◌, ◌+◌, ℕ, suc, List, drop, Option, Some, Err, sym, subst, arith}
 use Rattle.std.specs.Prelude.{reverse, slice_get}
 use Rattle.std.specs.Io.KnownBytes.{Appends}
 use Rattle.std.proofs.KnownBytes.{Appends-trans}
 use Rattle.std.proofs.lemmas.List.{length-reverse}
 use Rattle.std.proofs.lemmas.Option.{slice_get_within}
 use Rattle.jg_words.specs.declared.entry.Entry.{Entry}
-use Rattle.jg_text.specs.Journal.{entry_text, journal_text}
+use Rattle.jg_text.specs.Journal.{entry_text}
 use Rattle.jg_script.specs.Checked.{WritesAll}
 use Rattle.jg_script.specs.Written.{WritesLine, WritesJournal}
 use Rattle.jg_script.specs.declared.run_fault.RunFault.{RunFault}

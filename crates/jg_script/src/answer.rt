@@ -1,6 +1,6 @@
 //! One call is taken, and one line is answered.
 
-ghost use Rattle.std.specs.Prelude.{◌≡◌, ◌<◌, ◌≤◌, Some, length, slice_get, string_bytes, IfOk, IfErr, OnOk};
+ghost use Rattle.std.specs.Prelude.{◌≡◌, ◌<◌, ◌≤◌, Some, length, slice_get, IfErr, OnOk};
 ghost use Rattle.jg_rules.specs.Legal.{Legal};
 ghost use Rattle.jg_text.specs.Journal.{call_line, entry_text};
 ghost use Rattle.jg_script.specs.Answered.{Answers};

@@ -1,8 +1,5 @@
 //! A guard's journal is written.
 
-ghost use Rattle.std.specs.Prelude.{◌≡◌, ◌++◌, IfErr, OnOk};
-ghost use Rattle.std.specs.Io.KnownBytes.{Appends};
-ghost use Rattle.jg_text.specs.Journal.{entry_text};
 ghost use Rattle.jg_script.specs.Checked.{WriterFails};
 ghost use Rattle.jg_script.specs.Written.{WritesJournal, WritesLine};
 

@@ -1,6 +1,6 @@
 //! A journal is read line by line, and its calls are made again.
 
-ghost use Rattle.std.specs.Prelude.{◌≡◌, ◌<◌, ◌≤◌, ◌++◌, ◌∷◌, [], length, IsTrue, ◌↔◌};
+ghost use Rattle.std.specs.Prelude.{◌≡◌, ◌<◌, ◌++◌, ◌∷◌, [], length, IsTrue, ◌↔◌};
 ghost use Rattle.jg_rules.specs.Legal.{Legal};
 ghost use Rattle.jg_script.specs.Checked.{ReaderFails};
 ghost use Rattle.jg_script.specs.Entries.{Replays, IsPast};

@@ -1,6 +1,6 @@
 //! Readers and writers that keep whether they failed.
 
-ghost use Rattle.std.specs.Prelude.{◌≡◌, ℕ, true, false, length, take, ◌<◌, ◌≤◌, IfOk, IfErr, OnOk, OnErr, MatchOption, ◌∷◌, []};
+ghost use Rattle.std.specs.Prelude.{◌≡◌, true, false, length, take, ◌<◌, ◌≤◌, IfOk, IfErr, OnOk, OnErr, MatchOption, ◌∷◌, []};
 ghost use Rattle.std.specs.Io.KnownBytes.{Keeps, Consumes, Appends, IsAtEnd};
 ghost use Rattle.jg_script.specs.Devices.{TakesPiece, FailsLine};
 

@@ -1,6 +1,6 @@
 //! A text that goes on after its call.
 
-ghost use Rattle.std.specs.Prelude.{◌≡◌, ℕ, List, ◌<◌, ◌+◌, ◌==◌, ◌++◌, ◌∷◌, length, take, drop, codes, count_by, slice_get, Option, Some, IfOk, IfSome, IfNone, IsTrue, ◌↔◌};
+ghost use Rattle.std.specs.Prelude.{◌≡◌, ℕ, List, ◌<◌, ◌+◌, ◌==◌, ◌++◌, ◌∷◌, length, take, codes, count_by, slice_get, Option, Some, IfOk, IfSome, IfNone, IsTrue, ◌↔◌};
 ghost use Rattle.std.specs.Option.{option_copied};
 ghost use Rattle.jg_words.specs.declared.thread.Tid.{Tid as TidOf};
 ghost use Rattle.jg_words.specs.declared.thread.EnvId.{EnvId as EnvOf};

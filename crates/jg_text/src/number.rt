@@ -1,6 +1,6 @@
 //! Decimal numbers in their one spelling: no leading zero, no plus, and no minus before 0.
 
-ghost use Rattle.std.specs.Prelude.{◌≡◌, ◌≢◌, ℕ, ℤ, ◌<◌, ◌≤◌, ◌^◌, ◌++◌, ◌∷◌, ◌==◌, false, IfSome, IfNone, All, FitsSigned, IsTrue, ◌↔◌, MatchOption, length, slice_index, count_by, take};
+ghost use Rattle.std.specs.Prelude.{◌≡◌, ◌≢◌, ℕ, ℤ, ◌<◌, ◌≤◌, ◌^◌, ◌++◌, ◌∷◌, ◌==◌, false, IfSome, IfNone, All, FitsSigned, IsTrue, ◌↔◌, MatchOption, length, slice_index, count_by};
 ghost use Rattle.std.specs.Int.{w32, w64};
 ghost use Rattle.std.specs.Fmt.{decimal, signed_decimal};
 ghost use Rattle.jg_text.specs.Words.{dotted_text};

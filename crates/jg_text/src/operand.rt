@@ -1,6 +1,6 @@
 //! Operands, one to three of them.
 
-ghost use Rattle.std.specs.Prelude.{◌≡◌, ◌++◌, ◌∷◌, [], ◌<◌, length, IfOk, IfErr, OnOk, MatchOption, string_bytes};
+ghost use Rattle.std.specs.Prelude.{◌≡◌, ◌++◌, ◌∷◌, [], ◌<◌, IfOk, IfErr, OnOk, MatchOption, string_bytes};
 ghost use Rattle.std.specs.Option.{option_copied};
 ghost use Rattle.jg_text.specs.Kinds.{OperandKind};
 ghost use Rattle.jg_text.specs.Words.{SpellsOperand};

@@ -1,15 +1,13 @@
 //! A line of a script.
 
-ghost use Rattle.std.specs.Prelude.{◌≡◌, ℕ, ◌<◌, ◌≤◌, ◌∷◌, [], length, IfOk, IfErr, IfSome, IfNone, IsTrue, ◌↔◌, ◌≢◌, All, Contains};
+ghost use Rattle.std.specs.Prelude.{◌≡◌, ◌<◌, ◌≤◌, [], length, IfOk, IfErr, IfSome, IfNone, IsTrue, ◌↔◌, ◌≢◌, All, Contains};
 ghost use Rattle.std.specs.Int.{IsInRange};
 ghost use Rattle.std.specs.Option.{option_copied};
-ghost use Rattle.jg_words.specs.Fun.{name_of, named};
+ghost use Rattle.jg_words.specs.Fun.{name_of};
 ghost use Rattle.jg_words.specs.declared.fun.Fun.{Fun as FunOf};
 ghost use Rattle.jg_text.specs.Spelling.{Spells};
-ghost use Rattle.jg_text.specs.Pieces.{SpellCall};
-ghost use Rattle.jg_text.specs.Operands.{operand_kinds};
 ghost use Rattle.jg_text.specs.Faults.{fields, NamesFirstFault};
-ghost use Rattle.jg_text.specs.Pieces.{rest_fields, IsOperandFault, IsByKey, name_key};
+ghost use Rattle.jg_text.specs.Pieces.{rest_fields, IsByKey, name_key};
 
 use crate::fault::ScriptFault;
 use crate::first::{first_env, first_tid};

@@ -1,8 +1,8 @@
 //! Threads, environments, references, buffers and fields, each with one spelling.
 
-ghost use Rattle.std.specs.Prelude.{◌≡◌, ◌≢◌, ℕ, ◌<◌, ◌^◌, ◌∷◌, ◌++◌, IfSome, IfNone, IfOk, IfErr, OnOk, string_bytes};
+ghost use Rattle.std.specs.Prelude.{◌≡◌, ◌<◌, ◌++◌, IfSome, IfNone, OnOk, string_bytes};
 ghost use Rattle.jg_text.specs.Words.{tid_text, env_text, kind_letter, ref_text, buf_text, field_text, FitsTid, FitsEnv, FitsRef, FitsBuf, FitsField, SpellsOperand};
-ghost use Rattle.jg_text.specs.Kinds.{OperandKind, Reference, Field, Buffer};
+ghost use Rattle.jg_text.specs.Kinds.{Reference, Field, Buffer};
 ghost use Rattle.jg_text.specs.Pieces.{IsNoTid, IsNoEnv};
 
 use crate::digits::{push_lettered, push_number};

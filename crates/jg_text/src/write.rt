@@ -1,9 +1,6 @@
 //! An entry as a line of the journal.
 
-ghost use Rattle.std.specs.Prelude.{◌≡◌, ◌++◌, ◌∷◌, IfOk, OnOk, string_bytes};
-ghost use Rattle.jg_text.specs.Operands.{operand_texts};
-ghost use Rattle.jg_text.specs.Pieces.{after_spaces};
-ghost use Rattle.jg_text.specs.Words.{env_id_text};
+ghost use Rattle.std.specs.Prelude.{◌≡◌, ◌++◌, IfOk, OnOk, string_bytes};
 ghost use Rattle.jg_text.specs.Journal.{entry_text, answer_text, outcome_text, value_text, reply_text, thrown_name, FitsValue, FitsOutcome};
 
 use crate::digits::{push_number, push_signed};

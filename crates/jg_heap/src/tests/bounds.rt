@@ -1,4 +1,4 @@
-ghost use Rattle.std.specs.Prelude.{◌<◌, ◌≤◌, ◌≡◌};
+ghost use Rattle.std.specs.Prelude.{◌<◌};
 ghost use Rattle.jg_heap.specs.Making.{IsPrimitiveArray};
 ghost use Rattle.jg_heap.specs.Rows.{count_in, class_at};
 

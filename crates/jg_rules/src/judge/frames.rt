@@ -1,7 +1,7 @@
 ghost use Rattle.std.specs.Prelude.{◌≡◌};
 ghost use Rattle.jg_words.specs.declared.call.Call.TheVariants.{Frames};
 ghost use Rattle.jg_rules.specs.Parts.{Parts};
-ghost use Rattle.jg_rules.specs.Rules.{own_verdict, frames_bad_argument};
+ghost use Rattle.jg_rules.specs.Rules.{own_verdict};
 ghost use Rattle.jg_rules.specs.View.{ViewStands};
 
 use crate::view::View;

@@ -1,4 +1,4 @@
-use Rattle.std.proofs.Common.{◌∙◌, subst}
+use Rattle.std.proofs.Common.{◌∙◌}
 use Rattle.jg_script.proofs.Taking.{not_taken, not_made, line_made, written, not_written}
 use Rattle.jg_script.proofs.answer.answer_line.Goals as goal
 

@@ -1,4 +1,4 @@
-use Rattle.std.proofs.Common.{◌≡◌, refl, inr, rules, arith}
+use Rattle.std.proofs.Common.{refl, inr, rules, arith}
 use Rattle.jg_script.proofs.Threads.{in_no_gap, script_of-absent, added, begun}
 use Rattle.jg_script.proofs.scripts.add.Goals as goal
 

@@ -1,5 +1,5 @@
 use Rattle.std.proofs.Common.{◌∙◌}
-use Rattle.jg_script.proofs.Filing.{goes_on, last_read, all_read, refused, too_long, no_memory, not_read}
+use Rattle.jg_script.proofs.Filing.{goes_on, last_read, refused, too_long, no_memory, not_read}
 use Rattle.jg_script.proofs.scripts.read_scripts.Goals as goal
 
 pub returns-in-Err-Read-clause-reads : goal.returns-in-Err-Read-clause-reads

@@ -1,6 +1,6 @@
-use Rattle.std.proofs.Common.{rules, arith, ◌≡◌, ◌+◌, ◌-◌, ◌++◌, ◌<◌, [], length, take, drop, ap, sym, ◌∙◌}
+use Rattle.std.proofs.Common.{arith, ◌≡◌, ◌+◌, ◌-◌, take, drop, ap, sym, ◌∙◌}
 use Rattle.std.proofs.Math.ListN.{drop_of_length-le}
-use Rattle.std.proofs.lemmas.List.{length-append, length-take-le, length-drop}
+use Rattle.std.proofs.lemmas.List.{length-drop}
 use Rattle.jg_script.proofs.Unread.{gives_front}
 use Rattle.jg_script.proofs.faulty.FaultyRead.read.Goals as goal
 
