@@ -1,10 +1,10 @@
 -- Marks that are set one after another.
 use Rattle.std.proofs.Common.{◌≡◌, ◌≢◌, ◌<◌, ◌≤◌, ◌+◌, length, get_or, take, ℕ, Bool, true, false, List, ◌∷◌, Option, Some, None, refl, ◌∙◌, sym, ap, arith, inl, inr}
-use Rattle.std.specs.Prelude.{◌==◌, ◌||◌, ◌&&◌, ◌⊎◌, All, false, if◌then◌else◌, map, slice_get, slice_set}
+use Rattle.std.specs.Prelude.{◌==◌, ◌||◌, ◌⊎◌, All, false, map, slice_get, slice_set}
 use Rattle.std.specs.List.{list_any}
 use Rattle.std.specs.Option.{option_map}
 use Rattle.std.proofs.lemmas.Bool.Decides.{nat_tests}
-use Rattle.std.proofs.lemmas.List.{get_or-set_same, get_or-set_other, get_or-map, get_or_past, length-map, length-set, map-set, set-get_or, take_all}
+use Rattle.std.proofs.lemmas.List.{get_or-set_same, get_or-set_other, get_or-map, get_or_past, length-map, length-set, map-set, take_all}
 use Rattle.std.proofs.lemmas.List.Folds.{list_any_more}
 use Rattle.std.proofs.lemmas.Bool.{cases_lt}
 use Rattle.std.proofs.lemmas.Option.{get_or_from_slice_get, slice_get_past, slice_get-get_or}
@@ -56,23 +56,15 @@ marks_stay marks o = same_mark (slice_get marks o)
 
 -- ---- marks by the turn in which each was set last
 
-noted_by : (turns : List ℕ) (turn i new : ℕ) (wanted : Bool) → new ≡ (if wanted then turn else get_or turns i 0)
-    → Marks (λ o. wanted && i == o) (map (λ t. t == turn) turns) (map (λ t. t == turn) (slice_set turns i new))
-noted_by turns turn i new true is =
-    let now : (new == turn) ≡ true = grind (arith, nat_tests, is) in
-    rw (map-set (λ t. t == turn) turns i new, now) (marked (map (λ t. t == turn) turns) i)
-noted_by turns turn i new false is =
-    rw (is, set-get_or turns i 0) (marks_stay (map (λ t. t == turn) turns))
+-- a mark is set in this turn
+pub noted : (turns : List ℕ) (turn i : ℕ) → Marks (λ o. i == o) (map (λ t. t == turn) turns) (map (λ t. t == turn) (slice_set turns i turn))
+noted turns turn i =
+    let now : (turn == turn) ≡ true = grind (arith, nat_tests) in
+    rw (map-set (λ t. t == turn) turns i turn, now) (marked (map (λ t. t == turn) turns) i)
 
--- a mark is set in this turn where that is wanted
-pub noted : (turns : List ℕ) (turn i was new : ℕ) (wanted : Bool) → slice_get turns i ≡ Some was → new ≡ (if wanted then turn else was)
-    → Marks (λ o. wanted && i == o) (map (λ t. t == turn) turns) (map (λ t. t == turn) (slice_set turns i new))
-noted turns turn i was new wanted at is = noted_by turns turn i new wanted (is ∙ ap (λ w. if wanted then turn else w) (sym (get_or_from_slice_get turns i was 0 at)))
-
-unset_at : (mark : Option Bool) (a b : Bool) → b ≡ false → mark ≡ option_map (λ m. m || (a && b)) mark
-unset_at None a b unset = refl
-unset_at (Some m) true b unset = rw (unset, or_false m) refl
-unset_at (Some m) false b unset = ap Some (sym (or_false m))
+unset_at : (mark : Option Bool) (b : Bool) → b ≡ false → mark ≡ option_map (λ m. m || b) mark
+unset_at None b unset = refl
+unset_at (Some m) b unset = rw (unset, or_false m) refl
 
 without_mark : (mark : Option Bool) (b : Bool) → mark ≡ None → mark ≡ option_map (λ m. m || b) mark
 without_mark mark b none = rw none refl
@@ -86,20 +78,18 @@ within_or_none xs d i none (inr past) = past
 past_of_none : {X : Type 0} (xs : List X) (d : X) (i : ℕ) → slice_get xs i ≡ None → length xs ≤ i
 past_of_none xs d i none = within_or_none xs d i none (cases_lt i (length xs))
 
-passed_by : (turns : List ℕ) (turn i o : ℕ) (wanted : Bool) → slice_get turns i ≡ None → (o < length turns) ⊎ (length turns ≤ o)
-    → slice_get (map (λ t. t == turn) turns) o ≡ option_map (λ mark. mark || (wanted && i == o)) (slice_get (map (λ t. t == turn) turns) o)
-passed_by turns turn i o wanted none (inl within) =
-    let past : length turns ≤ i = past_of_none turns 0 i none in
+passed_by : (turns : List ℕ) (turn i o : ℕ) → length turns ≤ i → (o < length turns) ⊎ (length turns ≤ o)
+    → slice_get (map (λ t. t == turn) turns) o ≡ option_map (λ mark. mark || i == o) (slice_get (map (λ t. t == turn) turns) o)
+passed_by turns turn i o past (inl within) =
     let apart : (i == o) ≡ false = grind (arith, nat_tests) in
-    unset_at (slice_get (map (λ t. t == turn) turns) o) wanted (i == o) apart
-passed_by turns turn i o wanted none (inr past) =
-    let out : length (map (λ t. t == turn) turns) ≤ o = simp length-map past in
-    without_mark (slice_get (map (λ t. t == turn) turns) o) (wanted && i == o) (slice_get_past (map (λ t. t == turn) turns) o out)
+    unset_at (slice_get (map (λ t. t == turn) turns) o) (i == o) apart
+passed_by turns turn i o past (inr out) =
+    let none : length (map (λ t. t == turn) turns) ≤ o = simp length-map out in
+    without_mark (slice_get (map (λ t. t == turn) turns) o) (i == o) (slice_get_past (map (λ t. t == turn) turns) o none)
 
 -- an object without a mark is passed over
-pub passed_over : (turns : List ℕ) (turn i : ℕ) (wanted : Bool) → slice_get turns i ≡ None
-    → Marks (λ o. wanted && i == o) (map (λ t. t == turn) turns) (map (λ t. t == turn) turns)
-passed_over turns turn i wanted none o = passed_by turns turn i o wanted none (cases_lt o (length turns))
+pub passed_over : (turns : List ℕ) (turn i : ℕ) → length turns ≤ i → Marks (λ o. i == o) (map (λ t. t == turn) turns) (map (λ t. t == turn) turns)
+passed_over turns turn i past o = passed_by turns turn i o past (cases_lt o (length turns))
 
 -- in a turn that is past all of them none is set
 pub none_set : (turns : List ℕ) (turn o : ℕ) → All (λ t. t < turn) turns → o < length turns → slice_get (map (λ t. t == turn) turns) o ≡ Some false

@@ -1,4 +1,5 @@
-ghost use Rattle.std.specs.Prelude.{◌≡◌, ℕ, ◌<◌, ◌≤◌, ◌&&◌, ◌==◌, [], All, false, if◌then◌else◌, Some, length, map, slice_get, slice_index_or, OnOk};
+ghost use Rattle.std.specs.Prelude.{◌≡◌, ℕ, ◌<◌, ◌≤◌, ◌^◌, ◌==◌, [], All, false, Some, length, map, slice_get, slice_index_or, OnOk};
+ghost use Rattle.std.specs.List.{list_any};
 ghost use Rattle.jg_lists.specs.Marks.{Marks};
 
 use std::alloc::{AllocError, Allocator, Global};
@@ -49,28 +50,31 @@ fn widen<A: Allocator>(turns: &mut Vec<u8, A>, count: usize) -> Result<(), Alloc
 }
 
 /// The turn in which the object's mark was set last, if it has one.
-fn turn_of<A: Allocator>(turns: &Vec<u8, A>, object: u64) -> Option<u8>
-    ensures { result ≡ slice_get turns.now.items object }
+fn turn_of(turns: &[u8], object: u64) -> Option<u8>
+    ensures { result ≡ slice_get turns.now object }
 {
     turns.get(object as usize).copied()
 }
 
-/// The turn in which a mark was set last, once it is set in this one where that is wanted.
-fn last_turn(wanted: bool, turn: u8, was: u8) -> u8
-    ensures { result ≡ if wanted then turn else was }
+/// Notes the turn for an object, if it has a mark.
+fn note(turns: &mut [u8], object: u64, turn: u8)
+    ensures set { Marks (λ o. object == o) (map (λ t. t == turn) turns.old) (map (λ t. t == turn) turns.new) }
+    ensures past { All (λ t. t ≤ turn) turns.old → All (λ t. t ≤ turn) turns.new }
 {
-    if wanted { turn } else { was }
+    let place = object as usize;
+    if place < turns.len() {
+        turns[place] = turn;
+    }
 }
 
-/// Notes the turn for an object where that is wanted.
-fn note<A: Allocator>(turns: &mut Vec<u8, A>, object: u64, wanted: bool, turn: u8)
-    ensures set { Marks (λ o. wanted && object == o) (map (λ t. t == turn) turns.old.items)
-        (map (λ t. t == turn) turns.new.items) }
-    ensures past { All (λ t. t ≤ turn) turns.old.items → All (λ t. t ≤ turn) turns.new.items }
+/// Notes the turn for each of the objects.
+fn note_all(turns: &mut [u8], objects: &[u64], turn: u8)
+    ensures set { Marks (λ o. list_any (λ x. x == o) objects.now) (map (λ t. t == turn) turns.old)
+        (map (λ t. t == turn) turns.new) }
+    ensures past { All (λ t. t ≤ turn) turns.old → All (λ t. t ≤ turn) turns.new }
 {
-    // No way that depends on what is wanted, which a processor can't foresee.
-    if let Some(was) = turn_of(turns, object) {
-        turns[object as usize] = last_turn(wanted, turn, was);
+    for object in objects {
+        note(turns, *object, turn);
     }
 }
 
@@ -111,13 +115,16 @@ impl<A: Allocator> ObjectMarks<A> {
     pub fn set(&mut self, object: u64)
         ensures { Marks (λ o. object == o) self.old self.new }
     {
-        self.set_if(object, true);
+        note(&mut self.turns, object, self.turn);
     }
 
-    /// Sets the object's mark where it is wanted. An object without a mark is passed over.
-    pub fn set_if(&mut self, object: u64, wanted: bool)
-        ensures { Marks (λ o. wanted && object == o) self.old self.new }
+    /// Sets the mark of each of the objects. One without a mark is passed over, and so is the greatest
+    /// number of all: there are never so many marks.
+    pub fn set_all(&mut self, objects: &[u64])
+        ensures set { Marks (λ o. list_any (λ x. x == o) objects.now) self.old self.new }
+        ensures few { length self.old < 2 ^ 63 }
     {
-        note(&mut self.turns, object, wanted, self.turn);
+        let _marks = self.turns.len();
+        note_all(&mut self.turns, objects, self.turn);
     }
 }

@@ -14,6 +14,7 @@ mod Lives
 mod LocalSteps
 mod Looking
 mod Lookups
+mod Named
 mod Numbers
 mod OpenFrames
 mod Opened

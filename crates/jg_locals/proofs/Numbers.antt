@@ -11,7 +11,7 @@ use Rattle.std.proofs.lemmas.List.{append-nil}
 use Rattle.std.proofs.lemmas.List.Elements.{filter-append}
 use Rattle.jg_locals.specs.declared.row.Slot.{Slot}
 use Rattle.jg_locals.specs.declared.row.Frame.{Frame}
-use Rattle.jg_locals.specs.Seen.{last, Chain, is_live, is_in, is_below, is_before, stays, IsBelowAll, passes, Sound}
+use Rattle.jg_locals.specs.Seen.{ended, last, Chain, is_live, is_in, is_below, is_before, stays, IsBelowAll, passes, Sound}
 use Rattle.jg_locals.proofs.Chains.{each-map, each-front, each-filter, chain-front, chain-filter, chain-last, last-push, last-nil, filter-all, filter-none, filter-alike}
 
 some_or : {X : Type 0} (a : Option X) (x y : X) → option_or a (Some y) ≡ option_or (option_or a (Some y)) (Some x)
@@ -165,9 +165,6 @@ one_live n slots chain = one_of_number n (filter is_live slots) (chain-filter is
 
 -- ---- marked dead
 
-abbrev pub hide : Slot → Slot
-hide s = record s { live = false }
-
 marked_at : (x : Slot) (n : ℕ) (rest : List Slot) (b : Bool) → (x.n == n) ≡ true → filter (λ s. not (s.n == n)) rest ≡ rest
     → rest ≡ filter (λ s. not (s.n == n)) (if b then x ∷ rest else rest)
 marked_at x n rest true is same = rw is (sym same)
@@ -179,7 +176,7 @@ marked_past x n rest old true is same = rw is (ap (λ l. x ∷ l) same)
 marked_past x n rest old false is same = same
 
 pub marked : (slots : List Slot) (n i : ℕ) (d : Slot) → Chain is_before slots → i < length slots → (get_or slots i d).n ≡ n
-    → filter is_live (slice_set slots i (hide (get_or slots i d))) ≡ filter (λ s. not (s.n == n)) (filter is_live slots)
+    → filter is_live (slice_set slots i (ended (get_or slots i d))) ≡ filter (λ s. not (s.n == n)) (filter is_live slots)
 marked [] n i d chain within is = absurd (omega (arith, within))
 marked (x ∷ xs) n zero d chain within is =
     let apart = each-filter (λ s. (s.n == n) ≡ false) is_live xs (later_apart x n xs is chain.0) in
@@ -188,30 +185,30 @@ marked (x ∷ xs) n zero d chain within is =
 marked (x ∷ xs) n (suc i) d chain within is =
     let later = marked xs n i d chain.1 (omega (arith, within)) is in
     let apart = before_it x n xs i d chain.0 (omega (arith, within)) is in
-    marked_past x n (filter is_live (slice_set xs i (hide (get_or xs i d)))) (filter is_live xs) x.live apart later
+    marked_past x n (filter is_live (slice_set xs i (ended (get_or xs i d)))) (filter is_live xs) x.live apart later
 
 pub unmarked : (slots : List Slot) (n : ℕ) → AllByRecursion (λ s. (s.n == n) ≡ false) slots → filter is_live slots ≡ filter (λ s. not (s.n == n)) (filter is_live slots)
 unmarked slots n all =
     let apart = each-filter (λ s. (s.n == n) ≡ false) is_live slots all in
     sym (filter-all (λ s. not (s.n == n)) (filter is_live slots) (each-map (λ s. (s.n == n) ≡ false) (λ s. not (s.n == n) ≡ true) (λ s h. ap not h) (filter is_live slots) apart))
 
-each-hide : (P : Slot → Type 0) → ((s : Slot) → P s → P (hide s)) → (xs : List Slot) (i : ℕ) (d : Slot) → AllByRecursion P xs → AllByRecursion P (slice_set xs i (hide (get_or xs i d)))
-each-hide P f [] i d all = tt
-each-hide P f (x ∷ xs) zero d all = (f x all.0, all.1)
-each-hide P f (x ∷ xs) (suc i) d all = (all.0, each-hide P f xs i d all.1)
+each-ended : (P : Slot → Type 0) → ((s : Slot) → P s → P (ended s)) → (xs : List Slot) (i : ℕ) (d : Slot) → AllByRecursion P xs → AllByRecursion P (slice_set xs i (ended (get_or xs i d)))
+each-ended P f [] i d all = tt
+each-ended P f (x ∷ xs) zero d all = (f x all.0, all.1)
+each-ended P f (x ∷ xs) (suc i) d all = (all.0, each-ended P f xs i d all.1)
 
-chain-hide : (xs : List Slot) (i : ℕ) (d : Slot) → Chain is_before xs → Chain is_before (slice_set xs i (hide (get_or xs i d)))
-chain-hide [] i d chain = tt
-chain-hide (x ∷ xs) zero d chain = (chain.0, chain.1)
-chain-hide (x ∷ xs) (suc i) d chain = (each-hide (λ y. is_before x y ≡ true) (λ s h. h) xs i d chain.0, chain-hide xs i d chain.1)
+chain-ended : (xs : List Slot) (i : ℕ) (d : Slot) → Chain is_before xs → Chain is_before (slice_set xs i (ended (get_or xs i d)))
+chain-ended [] i d chain = tt
+chain-ended (x ∷ xs) zero d chain = (chain.0, chain.1)
+chain-ended (x ∷ xs) (suc i) d chain = (each-ended (λ y. is_before x y ≡ true) (λ s h. h) xs i d chain.0, chain-ended xs i d chain.1)
 
-pub chain-hidden : (xs : List Slot) (i : ℕ) (d : Slot) → Chain is_before xs → Chain is_before (slice_set xs i (hide (get_or xs i d)))
-chain-hidden xs i d chain = chain-hide xs i d chain
+pub chain-hidden : (xs : List Slot) (i : ℕ) (d : Slot) → Chain is_before xs → Chain is_before (slice_set xs i (ended (get_or xs i d)))
+chain-hidden xs i d chain = chain-ended xs i d chain
 
-pub sound-hide : (slots : List Slot) (frames : List Frame) (i : ℕ) (d : Slot) → Sound slots frames → Sound (slice_set slots i (hide (get_or slots i d))) frames
-sound-hide slots frames i d sound = record {
-  rises = chain-hide slots i d sound.rises;
-  inside = each-hide (λ s. list_any (is_in s) frames ≡ true) (λ s h. h) slots i d sound.inside;
+pub sound-ended : (slots : List Slot) (frames : List Frame) (i : ℕ) (d : Slot) → Sound slots frames → Sound (slice_set slots i (ended (get_or slots i d))) frames
+sound-ended slots frames i d sound = record {
+  rises = chain-ended slots i d sound.rises;
+  inside = each-ended (λ s. list_any (is_in s) frames ≡ true) (λ s h. h) slots i d sound.inside;
 }
 
 -- ---- cut at the end
@@ -286,21 +283,21 @@ any_live p (x ∷ xs) = at p x xs x.live (any_live p xs)
 -- ---- the same, as the code comes upon it: `l` is the list as the search saw it, and w what stands at the place
 
 pub marked_there : (l slots : List Slot) (n i : ℕ) (w : Slot) → l ≡ slots → w ≡ get_or slots i w → Chain is_before slots → (i < length l) × ((s : Slot) → (get_or l i s).n ≡ n)
-    → filter is_live (slice_set slots i (hide w)) ≡ filter (λ s. not (s.n == n)) (filter is_live slots)
+    → filter is_live (slice_set slots i (ended w)) ≡ filter (λ s. not (s.n == n)) (filter is_live slots)
 marked_there l slots n i w is at chain place =
-    let P : Slot → Type 0 = λ x. filter is_live (slice_set slots i (hide x)) ≡ filter (λ s. not (s.n == n)) (filter is_live slots) in
+    let P : Slot → Type 0 = λ x. filter is_live (slice_set slots i (ended x)) ≡ filter (λ s. not (s.n == n)) (filter is_live slots) in
     let Q : List Slot → Type 0 = λ k. (i < length k) × ((s : Slot) → (get_or k i s).n ≡ n) in
     let here = subst Q is place in
     subst P (sym at) (marked slots n i w chain here.0 (here.1 w))
 
-pub sound_there : (slots : List Slot) (frames : List Frame) (i : ℕ) (w : Slot) → w ≡ get_or slots i w → Sound slots frames → Sound (slice_set slots i (hide w)) frames
+pub sound_there : (slots : List Slot) (frames : List Frame) (i : ℕ) (w : Slot) → w ≡ get_or slots i w → Sound slots frames → Sound (slice_set slots i (ended w)) frames
 sound_there slots frames i w at sound =
-    let P : Slot → Type 0 = λ x. Sound (slice_set slots i (hide x)) frames in
-    subst P (sym at) (sound-hide slots frames i w sound)
+    let P : Slot → Type 0 = λ x. Sound (slice_set slots i (ended x)) frames in
+    subst P (sym at) (sound-ended slots frames i w sound)
 
-pub rises_there : (slots : List Slot) (i : ℕ) (w : Slot) → w ≡ get_or slots i w → Chain is_before slots → Chain is_before (slice_set slots i (hide w))
+pub rises_there : (slots : List Slot) (i : ℕ) (w : Slot) → w ≡ get_or slots i w → Chain is_before slots → Chain is_before (slice_set slots i (ended w))
 rises_there slots i w at chain =
-    let P : Slot → Type 0 = λ x. Chain is_before (slice_set slots i (hide x)) in
+    let P : Slot → Type 0 = λ x. Chain is_before (slice_set slots i (ended x)) in
     subst P (sym at) (chain-hidden slots i w chain)
 
 pub slot_found : (l slots : List Slot) (n i : ℕ) (w : Slot) → l ≡ slots → w ≡ get_or slots i w → Chain is_before slots → (i < length l) × ((s : Slot) → (get_or l i s).n ≡ n)

@@ -27,6 +27,19 @@ Chain r (x ∷ xs) = AllByRecursion (λ y. r x y ≡ true) xs × Chain r xs
 abbrev pub is_live : Slot → Bool
 is_live s = s.live
 
+-- the slot, marked dead
+abbrev pub ended : Slot → Slot
+ended s = record s { live = false }
+
+-- the object of a live slot; for a dead one a number at which there is no mark
+abbrev pub named : Slot → ℕ
+named s = if s.live then s.object else 18446744073709551615
+
+-- a thread's slots, and for how many more there is room
+pub record SlotsSeen : Type 0 where
+  pub items : List Slot
+  pub room : ℕ
+
 -- the slot was made in the frame, in one below it, in that one or one below it
 abbrev pub is_in : Slot → Frame → Bool
 is_in s f = s.depth == f.depth && s.frame == f.frame

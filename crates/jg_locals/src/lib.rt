@@ -7,6 +7,7 @@ mod frames;
 mod locals;
 mod meanings;
 mod row;
+mod slot_list;
 mod slots;
 mod stack;
 mod stacks;

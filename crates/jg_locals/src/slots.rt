@@ -3,12 +3,11 @@
 ghost use Rattle.std.specs.Prelude.{◌≡◌, ◌≤◌, ◌<◌, ◌-◌, ◌&&◌, ◌==◌, ◌||◌, ◌++◌, ◌∷◌, ◌↔◌, [], IfSome, IsTrue, List, All, OnOk, map, Some, None, MatchOption, true, false, not, if◌then◌else◌, filter, find, length, slice_index_or, vec_len, vec_capacity};
 ghost use Rattle.std.specs.Option.{option_map};
 ghost use Rattle.std.specs.List.{AllByRecursion, list_any};
-ghost use Rattle.jg_lists.specs.Marks.{Marks};
 ghost use Rattle.jg_locals.specs.Seen.{Chain, is_before, is_live, last, passes, stays, is_below, IsBelowAll, Sound, slot_ref};
 ghost use Rattle.jg_locals.specs.declared.row.Frame.{Frame};
 
 use crate::row::{Frame, Slot};
-use jg_lists::ObjectMarks;
+use crate::slot_list::SlotList;
 use jg_words::{Kind, Ref, Tid};
 use std::alloc::{AllocError, Allocator};
 
@@ -50,20 +49,16 @@ pub fn object_of(slots: &[Slot], n: u64) -> Option<u64>
 }
 
 /// Marks the local `n` dead, and answers it if it was live.
-fn mark_dead<A: Allocator>(slots: &mut Vec<Slot, A>, n: u64) -> Option<Slot>
+fn mark_dead<A: Allocator>(slots: &mut SlotList<A>, n: u64) -> Option<Slot>
     requires { Chain is_before slots.old.items }
     ensures was { result ≡ find (λ s. s.n == n) (filter is_live slots.old.items) }
     ensures marked { filter is_live slots.new.items ≡ filter (λ s. not (s.n == n)) (filter is_live slots.old.items) }
     ensures sound { (frames : List Frame) → Sound slots.old.items frames → Sound slots.new.items frames }
     ensures rises { Chain is_before slots.new.items }
-    ensures room { vec_capacity slots.old - vec_len slots.old ≤ vec_capacity slots.new - vec_len slots.new }
+    ensures room { slots.old.room ≤ slots.new.room }
 {
-    match place_of(slots, n) {
-        Some(i) => {
-            let was = live_slot(slots[i]);
-            slots[i].live = false;
-            was
-        }
+    match place_of(slots.as_slice(), n) {
+        Some(i) => live_slot(slots.end(i)),
         None => None,
     }
 }
@@ -102,35 +97,27 @@ fn ends_well(slots: &[Slot], from: Option<Frame>) -> bool
 }
 
 /// Cuts off the newest slots that are dead or, where a frame is named, not below it.
-pub fn cut<A: Allocator>(slots: &mut Vec<Slot, A>, from: Option<Frame>)
+pub fn cut<A: Allocator>(slots: &mut SlotList<A>, from: Option<Frame>)
     requires { Chain is_before slots.old.items }
     ensures live { filter is_live slots.new.items ≡ filter (stays from) slots.old.items }
     ensures below { IsBelowAll from slots.new.items }
     ensures sound { (frames : List Frame) → Sound slots.old.items frames → Sound slots.new.items frames }
     ensures ends { passes is_live (last slots.new.items) ≡ true }
-    ensures room { vec_capacity slots.old - vec_len slots.old ≤ vec_capacity slots.new - vec_len slots.new }
+    ensures room { slots.old.room ≤ slots.new.room }
 {
-    while !ends_well(slots, from) {
+    while !ends_well(slots.as_slice(), from) {
         slots.pop();
     }
 }
 
-/// Closes the list up: the dead slots go.
-pub fn close_up<A: Allocator>(slots: &mut Vec<Slot, A>)
-    ensures kept { slots.new.items ≡ filter is_live slots.old.items }
-    ensures room { vec_capacity slots.old - vec_len slots.old ≤ vec_capacity slots.new - vec_len slots.new }
-{
-    slots.retain(|slot| slot.live);
-}
-
 /// Ends the local `n`, and answers it if it was live.
-pub fn end_local<A: Allocator>(slots: &mut Vec<Slot, A>, n: u64) -> Option<Slot>
+pub fn end_local<A: Allocator>(slots: &mut SlotList<A>, n: u64) -> Option<Slot>
     requires { Chain is_before slots.old.items }
     ensures was { result ≡ find (λ s. s.n == n) (filter is_live slots.old.items) }
     ensures live { filter is_live slots.new.items ≡ filter (λ s. not (s.n == n)) (filter is_live slots.old.items) }
     ensures sound { (frames : List Frame) → Sound slots.old.items frames → Sound slots.new.items frames }
     ensures ends { passes is_live (last slots.new.items) ≡ true }
-    ensures room { vec_capacity slots.old - vec_len slots.old ≤ vec_capacity slots.new - vec_len slots.new }
+    ensures room { slots.old.room ≤ slots.new.room }
 {
     let was = mark_dead(slots, n);
     cut(slots, None);
@@ -139,17 +126,18 @@ pub fn end_local<A: Allocator>(slots: &mut Vec<Slot, A>, n: u64) -> Option<Slot>
 
 /// Closes the list up if more than half of it may be dead. `dead` is at least the number of the
 /// dead slots, and so is the answer.
-pub fn close_up_if<A: Allocator>(slots: &mut Vec<Slot, A>, dead: usize) -> usize
+pub fn close_up_if<A: Allocator>(slots: &mut SlotList<A>, dead: usize) -> usize
     ensures live { filter is_live slots.new.items ≡ filter is_live slots.old.items }
     ensures sound { (frames : List Frame) → Sound slots.old.items frames → Sound slots.new.items frames }
     ensures below { (frame : Frame) → IsBelowAll (Some frame) slots.old.items
         → IsBelowAll (Some frame) slots.new.items }
     ensures ends { passes is_live (last slots.old.items) ≡ true → passes is_live (last slots.new.items) ≡ true }
-    ensures room { vec_capacity slots.old - vec_len slots.old ≤ vec_capacity slots.new - vec_len slots.new }
+    ensures room { slots.old.room ≤ slots.new.room }
 {
-    let dead = dead.min(slots.len());
-    if dead > slots.len() / 2 {
-        close_up(slots);
+    let count = slots.as_slice().len();
+    let dead = dead.min(count);
+    if dead > count / 2 {
+        slots.close_up();
         0
     } else {
         dead
@@ -179,28 +167,6 @@ fn some_names(slots: &[Slot], object: u64) -> bool
     ensures { result ≡ list_any (λ s. s.live && s.object == object) slots.now }
 {
     slots.iter().any(|slot| slot.live && slot.object == object)
-}
-
-/// Sets the mark of the slot's object, if the slot is live.
-fn mark_if_live<A: Allocator>(slot: &Slot, marks: &mut ObjectMarks<A>)
-    ensures { Marks (λ o. slot.now.live && slot.now.object == o) marks.old marks.new }
-{
-    marks.set_if(slot.object, slot.live);
-}
-
-/// Marks each object that a live local names. Objects without a mark are passed over.
-pub fn mark_named<A: Allocator>(slots: &[Slot], marks: &mut ObjectMarks<A>)
-    ensures { Marks (λ o. list_any (λ s. s.object == o) (filter is_live slots.now)) marks.old marks.new }
-{
-    mark_some(slots, marks);
-}
-
-fn mark_some<A: Allocator>(slots: &[Slot], marks: &mut ObjectMarks<A>)
-    ensures { Marks (λ o. list_any (λ s. s.live && s.object == o) slots.now) marks.old marks.new }
-{
-    for slot in slots {
-        mark_if_live(slot, marks);
-    }
 }
 
 /// Appends a reference to the slot's local, if the slot is live.

@@ -6,9 +6,8 @@ ghost use Rattle.jg_locals.specs.Seen.{last, slot_made, slot_ref, room_set, held
 
 use crate::frames::{close_from, count_gone, count_more, newest, newest_frame, set_room};
 use crate::row::{Frame, Opened, Slot};
-use crate::slots::{
-    close_up_if, cut, end_local, is_above_all, list_live, mark_named, names_object, object_of,
-};
+use crate::slot_list::SlotList;
+use crate::slots::{close_up_if, cut, end_local, is_above_all, list_live, names_object, object_of};
 use jg_lists::ObjectMarks;
 use jg_words::Ref;
 use std::alloc::{AllocError, Allocator};
@@ -18,7 +17,7 @@ use std::marker::Model;
 /// more than half of the list may be dead, it is closed up. Contracts see the live ones.
 #[derive(Drop)]
 pub struct Stack<A: Allocator> {
-    slots: Vec<Slot, A>,
+    slots: SlotList<A>,
     frames: Vec<Opened, A>,
     /// At least as many as are dead.
     dead: usize,
@@ -34,7 +33,7 @@ impl<A: Allocator> Model for Stack<A> {
       locals = filter is_live a.slots.items;
       frames = map frame_of a.frames.items;
       room = record {
-        locals = vec_capacity a.slots - vec_len a.slots;
+        locals = a.slots.room;
         frames = vec_capacity a.frames - vec_len a.frames;
       };
     } };
@@ -43,12 +42,12 @@ impl<A: Allocator> Model for Stack<A> {
 }
 
 impl<A: Allocator> Stack<A> {
-    pub fn new(slots: A, frames: A) -> Stack<A>
+    pub fn new(slots: A, objects: A, frames: A) -> Stack<A>
         ensures locals { result.locals ≡ [] }
         ensures frames { result.frames ≡ [] }
     {
         Stack {
-            slots: Vec::new(slots),
+            slots: SlotList::new(slots, objects),
             frames: Vec::new(frames),
             dead: 0,
         }
@@ -94,7 +93,7 @@ impl<A: Allocator> Stack<A> {
             live: true,
         })?;
         // A frame counts no more than all slots, which fit a `usize`.
-        let _slots = self.slots.len();
+        let _slots = self.slots.as_slice();
         count_more(&mut self.frames, top.depth, top.frame);
         Ok(())
     }
@@ -105,7 +104,7 @@ impl<A: Allocator> Stack<A> {
         ensures frames { self.new.frames ≡ self.old.frames }
         ensures starts { self.old.room.frames ≤ self.new.room.frames }
     {
-        self.slots.try_reserve(1)
+        self.slots.reserve()
     }
 
     pub fn reserve_frame(&mut self) -> Result<(), AllocError>
@@ -169,7 +168,6 @@ impl<A: Allocator> Stack<A> {
         ensures frames { self.new.frames ≡ [] }
     {
         self.slots.clear();
-        self.slots.shrink_to_fit();
         self.frames.clear();
         self.frames.shrink_to_fit();
         self.dead = 0;
@@ -190,7 +188,7 @@ impl<A: Allocator> Stack<A> {
         ensures small { result < 2 ^ 63 }
     {
         // A frame counts no more than all slots, which a `Vec` bounds.
-        let _slots = self.slots.len();
+        let _slots = self.slots.as_slice();
         match newest(&self.frames) {
             None => 0,
             Some(opened) => opened.held,
@@ -211,32 +209,32 @@ impl<A: Allocator> Stack<A> {
     pub fn get(&self, n: u64) -> Option<u64>
         ensures { result ≡ option_map (λ s. s.object) (find (λ s. s.n == n) self.now.locals) }
     {
-        object_of(&self.slots, n)
+        object_of(self.slots.as_slice(), n)
     }
 
     /// Whether `n` is above the number of each live local.
     pub fn is_above(&self, n: u64) -> bool
         ensures { IsTrue result ↔ All (λ s. s.n < n) self.now.locals }
     {
-        is_above_all(&self.slots, n)
+        is_above_all(self.slots.as_slice(), n)
     }
 
     pub fn holds_object(&self, object: u64) -> bool
         ensures { result ≡ list_any (λ s. s.object == object) self.now.locals }
     {
-        names_object(&self.slots, object)
+        names_object(self.slots.as_slice(), object)
     }
 
     pub fn mark_held(&self, marks: &mut ObjectMarks<A>)
         ensures { Marks (λ o. list_any (λ s. s.object == o) self.now.locals) marks.old marks.new }
     {
-        mark_named(&self.slots, marks);
+        self.slots.mark_named(marks);
     }
 
     /// Appends a reference to each live local of the thread.
     pub fn list<B: Allocator>(&self, tid: u16, refs: &mut Vec<Ref, B>) -> Result<(), AllocError>
         ensures { OnOk result (refs.new.items ≡ refs.old.items ++ map (slot_ref tid) self.now.locals) }
     {
-        list_live(&self.slots, tid, refs)
+        list_live(self.slots.as_slice(), tid, refs)
     }
 }

@@ -33,7 +33,7 @@ fn fault_after(alloc: Global, head: &str, rest: &str) -> Result<Option<SetupFaul
 }
 
 fn name(alloc: Global, text: &str) -> Result<Name, Fail> {
-    match Name::new(String::from_str(alloc, text)?) {
+    match Name::new(alloc, text) {
         Ok(name) => Ok(name),
         Err(_) => Err(Fail::from("no name")),
     }

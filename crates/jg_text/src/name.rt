@@ -7,7 +7,7 @@ ghost use Rattle.jg_text.specs.Words.{name_text};
 ghost use Rattle.jg_text.specs.Pieces.{IsKindFault};
 
 use crate::fault::ScriptFault;
-use jg_words::Name;
+use jg_words::{Name, NameFault};
 use std::alloc::Global;
 use std::str;
 
@@ -16,14 +16,12 @@ pub fn read_name(alloc: Global, text: &[u8]) -> Result<Name, ScriptFault>
     ensures ok { IfOk result (λ name. (text.now ≡ name_text name) × IsName name) }
     ensures err { IfErr result (IsKindFault name_kind text.now) }
 {
-    let Ok(name) = str::from_utf8(text) else {
+    let Ok(text) = str::from_utf8(text) else {
         return Err(ScriptFault::BadOperand);
     };
-    let Ok(name) = String::from_str(alloc, name) else {
-        return Err(ScriptFault::NoMemory);
-    };
-    match Name::new(name) {
+    match Name::new(alloc, text) {
         Ok(name) => Ok(name),
-        Err(_) => Err(ScriptFault::BadOperand),
+        Err(NameFault::NotAName) => Err(ScriptFault::BadOperand),
+        Err(NameFault::NoMemory) => Err(ScriptFault::NoMemory),
     }
 }

@@ -24,9 +24,7 @@ const BUFFER: BufId = BufId {
 };
 
 fn named(alloc: Global, text: &str) -> Result<Name, Fail> {
-    let name = Name::new(String::from_str(alloc, text)?)
-        .ok()
-        .ok_or("name")?;
+    let name = Name::new(alloc, text).ok().ok_or("name")?;
     Ok(name)
 }
 

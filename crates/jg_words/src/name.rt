@@ -1,17 +1,27 @@
-ghost use Rattle.std.specs.Prelude.{◌≡◌, ◌≤◌, ◌↔◌, IsOk, IfOk, IfErr, string_bytes, IsTrue};
+ghost use Rattle.std.specs.Prelude.{◌≡◌, ◌↔◌, Err, IfOk, IsTrue};
 ghost use Rattle.jg_words.specs.Name.{IsName};
 
-use std::alloc::AllocError;
+use std::alloc::{AllocError, Global};
 use std::marker::Model;
 
 /// The most bytes that a name has.
 pub const MAX_NAME: usize = 255;
 
+/// Why there is no name.
+#[derive(Clone, Copy, Debug, PartialEq, Eq)]
+pub enum NameFault {
+    /// The text isn't one.
+    NotAName,
+    /// Memory ran out.
+    NoMemory,
+}
+
 /// A name operand, as of a class or a library: 1 to 255 bytes from 0x21 to 0x7E. Contracts see
 /// it as its bytes.
 #[derive(Debug, Drop)]
 pub struct Name {
-    text: String,
+    // One word wide, so that a call with three names, and with it each entry of a journal, is short.
+    text: Box<String>,
 }
 
 impl Model for Name {
@@ -20,22 +30,27 @@ impl Model for Name {
 
     ghost Value = { List ℕ };
 
-    ghost view = { λ a. string_bytes a.text };
+    ghost view = { λ a. string_bytes a.text.value };
 
-    ghost invariant = { λ a. IsName (string_bytes a.text) };
+    ghost invariant = { λ a. IsName (string_bytes a.text.value) };
 }
 
 impl Name {
-    /// The name, where the text is one; else it is handed back.
-    pub fn new(text: String) -> Result<Name, String>
-        ensures fits { IsOk result ↔ IsName (string_bytes text) }
-        ensures ok { IfOk result (λ name. name ≡ string_bytes text) }
-        ensures err { IfErr result (λ back. back ≡ text) }
+    /// The name that the text is.
+    pub fn new(alloc: Global, text: &str) -> Result<Name, NameFault>
+        ensures ok { IfOk result (λ name. name ≡ text.now) }
+        ensures fits { IfOk result (λ _. IsName text.now) }
+        ensures not_a_name { (result ≡ Err NameFault.NotAName) ↔ ¬ IsName text.now }
     {
-        if is_name(text.as_str()) {
-            Ok(Name { text })
-        } else {
-            Err(text)
+        if !is_name(text) {
+            return Err(NameFault::NotAName);
+        }
+        let Ok(text) = String::from_str(alloc, text) else {
+            return Err(NameFault::NoMemory);
+        };
+        match Box::new(alloc, text) {
+            Ok(text) => Ok(Name { text }),
+            Err(_) => Err(NameFault::NoMemory),
         }
     }
 

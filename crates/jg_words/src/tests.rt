@@ -1,4 +1,4 @@
-use crate::{Call, Fun, Items, MAX_ITEMS, MAX_NAME, Name, StringsCall};
+use crate::{Call, Fun, Items, MAX_ITEMS, MAX_NAME, Name, NameFault, StringsCall};
 use std::test::Fail;
 
 #[test]
@@ -11,15 +11,24 @@ fn lists_of_a_thousand_items_are_the_longest(rt: HostRuntime) -> Result<(), Fail
 #[test]
 fn names_have_1_to_255_printable_bytes(rt: HostRuntime) -> Result<(), Fail> {
     let mut text = String::new(rt.alloc());
-    assert!(rt; Name::new(text.clone()?).is_err());
+    assert_eq!(rt;
+        Name::new(rt.alloc(), text.as_str()),
+        Err(NameFault::NotAName)
+    );
     for _ in 0..MAX_NAME {
         text.push_str("a")?;
     }
-    assert!(rt; Name::new(text.clone()?).is_ok());
+    assert!(rt; Name::new(rt.alloc(), text.as_str()).is_ok());
     text.push_str("a")?;
-    assert!(rt; Name::new(text).is_err());
-    assert!(rt; Name::new(String::from_str(rt.alloc(), "app/Main")?).is_ok());
-    assert!(rt; Name::new(String::from_str(rt.alloc(), "two words")?).is_err());
+    assert_eq!(rt;
+        Name::new(rt.alloc(), text.as_str()),
+        Err(NameFault::NotAName)
+    );
+    assert!(rt; Name::new(rt.alloc(), "app/Main").is_ok());
+    assert_eq!(rt;
+        Name::new(rt.alloc(), "two words"),
+        Err(NameFault::NotAName)
+    );
     Ok(())
 }
 

@@ -10,7 +10,7 @@ loop-from-preserved g c =
       cut_one (stays c.args.from) c.pop.new.self.items c.loop-from.slots.items c.pop.result was fails ∙ c.loop-from.invariant.0,
       rises_front c.pop.new.self.items c.loop-from.slots.items c.pop.result was c.loop-from.invariant.1,
       (λ frames sound. sound_front c.pop.new.self.items c.loop-from.slots.items c.pop.result frames was (c.loop-from.invariant.2 frames sound)),
-      omega (arith, c.loop-from.invariant.3, c.pop.ensures.len, c.pop.ensures.capacity),
+      omega (arith, c.loop-from.invariant.3, c.pop.ensures.room),
     )
 
 pub returns-clause-live : goal.returns-clause-live

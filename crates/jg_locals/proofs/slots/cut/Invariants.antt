@@ -1,5 +1,5 @@
-use Rattle.std.proofs.Common.{◌≡◌, ◌≤◌, ◌-◌, List}
-use Rattle.std.specs.Prelude.{filter, vec_len, vec_capacity}
+use Rattle.std.proofs.Common.{◌≡◌, ◌≤◌, List}
+use Rattle.std.specs.Prelude.{filter, length}
 use Rattle.jg_locals.specs.declared.row.Frame.{Frame}
 use Rattle.jg_locals.specs.Seen.{Chain, is_before, stays, Sound}
 use Rattle.jg_locals.proofs.slots.cut.Given as goal
@@ -10,7 +10,7 @@ invariant-loop-from g l =
     (filter (stays l.from) l.slots.items ≡ filter (stays l.from) l.initial.slots.items)
     × Chain is_before l.slots.items
     × ((frames : List Frame) → Sound l.initial.slots.items frames → Sound l.slots.items frames)
-    × (vec_capacity l.initial.slots - vec_len l.initial.slots ≤ vec_capacity l.slots - vec_len l.slots)
+    × (l.initial.slots.room ≤ l.slots.room)
 
 abbrev pub decreases-loop-from : goal.decreases-loop-from
-decreases-loop-from g l = vec_len l.slots
+decreases-loop-from g l = length l.slots.items

@@ -6,23 +6,23 @@ use Rattle.jg_locals.proofs.Numbers.{marked_there, sound_there, rises_there, unm
 use Rattle.jg_locals.proofs.slots.mark_dead.Goals as goal
 
 pub returns-in-Some-clause-marked : goal.returns-in-Some-clause-marked
-returns-in-Some-clause-marked g c = marked_there c.deref.result.now c.args.slots.now.items c.args.n c.in-Some.i c.index_mut.result.now c.deref.ensures.value c.index_mut.ensures.value c.requires
-    c.in-Some.ensures
+returns-in-Some-clause-marked g c = rw c.end.ensures.items (marked_there c.as_slice.result.now c.args.slots.now.items c.args.n c.in-Some.i c.end.result c.as_slice.ensures c.end.ensures.was c.requires
+    c.in-Some.ensures)
 
 pub returns-in-Some-clause-sound : goal.returns-in-Some-clause-sound
-returns-in-Some-clause-sound g c = λ frames sound. sound_there c.args.slots.now.items frames c.in-Some.i c.index_mut.result.now c.index_mut.ensures.value sound
+returns-in-Some-clause-sound g c = λ frames sound. rw c.end.ensures.items (sound_there c.args.slots.now.items frames c.in-Some.i c.end.result c.end.ensures.was sound)
 
 pub returns-in-Some-clause-rises : goal.returns-in-Some-clause-rises
-returns-in-Some-clause-rises g c = rises_there c.args.slots.now.items c.in-Some.i c.index_mut.result.now c.index_mut.ensures.value c.requires
+returns-in-Some-clause-rises g c = rw c.end.ensures.items (rises_there c.args.slots.now.items c.in-Some.i c.end.result c.end.ensures.was c.requires)
 
 pub returns-in-None-clause-marked : goal.returns-in-None-clause-marked
-returns-in-None-clause-marked g c = unmarked_there c.deref.result.now c.args.slots.now.items c.args.n c.deref.ensures.value c.in-None.ensures
+returns-in-None-clause-marked g c = unmarked_there c.as_slice.result.now c.args.slots.now.items c.args.n c.as_slice.ensures c.in-None.ensures
 
 pub returns-in-Some-clause-was : goal.returns-in-Some-clause-was
-returns-in-Some-clause-was g c = c.live_slot-was.ensures ∙ slot_found c.deref.result.now c.args.slots.now.items c.args.n c.in-Some.i c.index.result.now c.deref.ensures.value c.index.ensures c.requires
+returns-in-Some-clause-was g c = c.live_slot.ensures ∙ slot_found c.as_slice.result.now c.args.slots.now.items c.args.n c.in-Some.i c.end.result c.as_slice.ensures c.end.ensures.was c.requires
     c.in-Some.ensures
 
 pub returns-in-None-clause-was : goal.returns-in-None-clause-was
 returns-in-None-clause-was g c =
     let Q : List Slot → Type 0 = λ l. AllByRecursion (λ s. (s.n == c.args.n) ≡ false) l in
-    sym (no_slot c.args.slots.now.items c.args.n (subst Q c.deref.ensures.value c.in-None.ensures))
+    sym (no_slot c.args.slots.now.items c.args.n (subst Q c.as_slice.ensures c.in-None.ensures))

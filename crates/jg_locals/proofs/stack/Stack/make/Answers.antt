@@ -12,7 +12,7 @@ count_more-requires-clause-opened g c = opens_ascending c.self.inside.slots.item
 
 pub count_more-requires-clause-fits : goal.count_more-requires-clause-fits
 count_more-requires-clause-fits g c =
-    let more : length c.push.new.self.items ≡ length c.self.inside.slots.items + 1 = ap length c.in_ok-push.ensures.items ∙ length-push c.self.inside.slots.items _ in
+    let more : length c.push.new.self.items ≡ length c.self.inside.slots.items + 1 = ap length c.in_ok-push.ensures.ok ∙ length-push c.self.inside.slots.items _ in
     let most : length c.push.new.self.items < 2 ^ 64 = search rules in
     counts_fit c.self.inside.slots.items c.self.inside.frames.items c.self.invariant (omega (arith, more, most))
 
@@ -21,7 +21,7 @@ pub invariant_of-self-2 : goal.invariant_of-self-2
 invariant_of-self-2 g c =
     let is : last (map frame_of c.self.inside.frames.items) ≡ Some c.unwrap-top.result = ap (λ (r : StackRows). last r.frames) c.self.view_is ∙ cc in
     let above : All (λ s. s.n < c.args.n) (filter is_live c.self.inside.slots.items) = subst (λ (r : StackRows). All (λ s. s.n < c.args.n) r.locals) (sym c.self.view_is) c.requires.above in
-    rw c.in_ok-push.ensures.items (make_stacked c.self.inside.slots.items c.self.inside.frames.items _ c.unwrap-top.result c.args.n c.args.object c.self.invariant is above c.count_more.ensures.counted)
+    rw c.in_ok-push.ensures.ok (make_stacked c.self.inside.slots.items c.self.inside.frames.items _ c.unwrap-top.result c.args.n c.args.object c.self.invariant is above c.count_more.ensures.counted)
 
 pub returns-clause-frames : goal.returns-clause-frames
 returns-clause-frames g c = ap (map frame_of) c.count_more.ensures.counted
@@ -30,6 +30,6 @@ returns-clause-frames g c = ap (map frame_of) c.count_more.ensures.counted
 pub returns-clause-ok : goal.returns-clause-ok
 returns-clause-ok g c = λ top is.
     let same : c.unwrap-top.result ≡ top = cc in
-    ap (filter is_live) c.in_ok-push.ensures.items ∙ filter-append is_live c.self.inside.slots.items (_ ∷ [])
+    ap (filter is_live) c.in_ok-push.ensures.ok ∙ filter-append is_live c.self.inside.slots.items (_ ∷ [])
     ∙ ap (λ (r : StackRows). r.locals ++ slot_made c.args.n c.args.object c.unwrap-top.result ∷ []) c.self.view_is
     ∙ ap (λ (f : Frame). c.args.self.now.locals ++ slot_made c.args.n c.args.object f ∷ []) same

@@ -1,0 +1,149 @@
+ghost use Rattle.std.specs.Prelude.{◌≡◌, ◌≤◌, ◌<◌, ◌+◌, ◌++◌, ◌∷◌, ◌&&◌, ◌==◌, [], IsOk, OnOk, OnErr, filter, length, map, take, slice_index_or, slice_set, option_to_list, vec_capacity};
+ghost use Rattle.std.specs.List.{list_any};
+ghost use Rattle.jg_lists.specs.Marks.{Marks};
+ghost use Rattle.jg_locals.specs.Seen.{is_live, named, ended};
+
+use crate::row::Slot;
+use jg_lists::ObjectMarks;
+use std::alloc::{AllocError, Allocator};
+use std::marker::Model;
+
+/// A thread's slots, and beside them the objects that the live ones name, so that a collection reads
+/// these alone. Contracts see the slots, and for how many more there is room.
+#[derive(Drop)]
+pub struct SlotList<A: Allocator> {
+    slots: Vec<Slot, A>,
+    /// The object of each slot; of a dead one the greatest number, at which there is no mark.
+    objects: Vec<u64, A>,
+}
+
+impl<A: Allocator> Model for SlotList<A> {
+    ghost use Rattle.std.specs.Prelude.{◌≡◌, ◌-◌, map, min, vec_len, vec_capacity};
+    ghost use Rattle.jg_locals.specs.Seen.{SlotsSeen, named};
+
+    ghost Value = { SlotsSeen };
+
+    ghost view = { λ a. record {
+      items = a.slots.items;
+      room = min (vec_capacity a.slots - vec_len a.slots) (vec_capacity a.objects - vec_len a.objects);
+    } };
+
+    ghost invariant = { λ a. a.objects.items ≡ map named a.slots.items };
+}
+
+/// The object that the slot names, if it is live.
+fn named(slot: Slot) -> u64
+    ensures { result ≡ named slot }
+{
+    if slot.live { slot.object } else { u64::MAX }
+}
+
+/// Lists the objects of the slots, for which there is room.
+fn name_all<A: Allocator>(objects: &mut Vec<u64, A>, slots: &[Slot])
+    requires { length slots.now ≤ vec_capacity objects.old }
+    ensures items { objects.new.items ≡ map named slots.now }
+    ensures capacity { vec_capacity objects.old ≤ vec_capacity objects.new }
+{
+    objects.clear();
+    for slot in slots {
+        match objects.push(named(*slot)) {
+            Ok(()) => {}
+            Err(_) => unreachable!(),
+        }
+    }
+}
+
+impl<A: Allocator> SlotList<A> {
+    /// No slots. Takes no memory.
+    pub fn new(slots: A, objects: A) -> SlotList<A>
+        ensures { result.items ≡ [] }
+    {
+        SlotList {
+            slots: Vec::new(slots),
+            objects: Vec::new(objects),
+        }
+    }
+
+    pub fn as_slice(&self) -> &[Slot]
+        ensures { result.now ≡ self.now.items }
+    {
+        let _objects = &self.objects;
+        self.slots.as_slice()
+    }
+
+    /// Makes room for one more.
+    pub fn reserve(&mut self) -> Result<(), AllocError>
+        ensures items { self.new.items ≡ self.old.items }
+        ensures ok { OnOk result (0 < self.new.room) }
+        ensures room { self.old.room ≤ self.new.room }
+        ensures has_room { 0 < self.old.room → IsOk result }
+    {
+        self.slots.try_reserve(1)?;
+        self.objects.try_reserve(1)
+    }
+
+    /// Adds a slot behind the others.
+    pub fn push(&mut self, slot: Slot) -> Result<(), AllocError>
+        ensures ok { OnOk result (self.new.items ≡ self.old.items ++ slot ∷ []) }
+        ensures err { OnErr result (self.new.items ≡ self.old.items) }
+        ensures room { self.old.room ≤ self.new.room + 1 }
+        ensures has_room { 0 < self.old.room → IsOk result }
+    {
+        self.slots.try_reserve(1)?;
+        self.objects.push(named(slot))?;
+        match self.slots.push(slot) {
+            Ok(()) => Ok(()),
+            Err(_) => unreachable!(),
+        }
+    }
+
+    /// Marks a slot dead. The answer is the slot as it was.
+    pub fn end(&mut self, place: usize) -> Slot
+        requires { place < length self.old.items }
+        ensures was { result ≡ slice_index_or self.old.items place result }
+        ensures items { self.new.items ≡ slice_set self.old.items place (ended result) }
+        ensures room { self.new.room ≡ self.old.room }
+    {
+        let was = self.slots[place];
+        self.slots[place].live = false;
+        self.objects[place] = u64::MAX;
+        was
+    }
+
+    /// Takes the last slot off.
+    pub fn pop(&mut self) -> Option<Slot>
+        ensures items { self.old.items ≡ self.new.items ++ option_to_list result }
+        ensures fewer { 0 < length self.old.items → length self.new.items < length self.old.items }
+        ensures room { self.old.room ≤ self.new.room }
+    {
+        self.objects.pop();
+        self.slots.pop()
+    }
+
+    /// The dead slots go.
+    pub fn close_up(&mut self)
+        ensures items { self.new.items ≡ filter is_live self.old.items }
+        ensures room { self.old.room ≤ self.new.room }
+    {
+        self.slots.retain(|slot| slot.live);
+        name_all(&mut self.objects, &self.slots);
+    }
+
+    /// All slots go, and their memory is given back.
+    pub fn clear(&mut self)
+        ensures { self.new.items ≡ [] }
+    {
+        self.slots.clear();
+        self.slots.shrink_to_fit();
+        self.objects.clear();
+        self.objects.shrink_to_fit();
+    }
+
+    /// Marks each object that a live slot names. Objects without a mark are passed over.
+    pub fn mark_named(&self, marks: &mut ObjectMarks<A>)
+        ensures { Marks (λ o. list_any (λ s. s.object == o) (filter is_live self.now.items)) marks.old marks.new }
+    {
+        let _slots = &self.slots;
+        marks.set_all(&self.objects);
+    }
+}
