@@ -11,7 +11,7 @@ use crate::info::Info;
 use crate::pinned::{Pinned, ViaKey, family_of_pin, mark_objects, names_object, pin_kind, via_key};
 use crate::tally::{Tally, count_of, lower, make_room, raise};
 use indexmap::IndexMap;
-use jg_lists::ObjectMarks;
+use jg_lists::{ObjectMarks, Recent};
 use jg_words::{BufId, ObjId, Ref, Tid};
 use std::alloc::{AllocError, Allocator, Global};
 use std::marker::Model;
@@ -24,6 +24,8 @@ pub struct Buffers<A: Allocator = Global> {
     makers: Tally<u16, A>,
     vias: Tally<ViaKey, A>,
     alloc: A,
+    recent_copy: Recent,
+    recent_pin: Recent,
 }
 
 // Not derived, so that who owns a table lets it go by one call: else each way out of a function
@@ -36,6 +38,8 @@ impl<A: Allocator> Drop for Buffers<A> {
             makers: _makers,
             vias: _vias,
             alloc: _alloc,
+            recent_copy: _recent_copy,
+            recent_pin: _recent_pin,
         } = self;
     }
 }
@@ -67,6 +71,8 @@ impl<A: Allocator + Copy> Buffers<A> {
             makers: IndexMap::new(makers),
             vias: IndexMap::new(vias),
             alloc,
+            recent_copy: Recent::new(),
+            recent_pin: Recent::new(),
         }
     }
 }
@@ -150,7 +156,7 @@ impl<A: Allocator + Clone> Buffers<A> {
         ensures stands { (e : List Event) → Stands self.now e
             → result ≡ option_map info_of (opened e buf.maker.0 buf.n) }
     {
-        if let Some(copy) = self.copies.get(&(buf.maker.0, buf.n)) {
+        if let Some(copy) = self.recent_copy.find(&self.copies, &(buf.maker.0, buf.n)) {
             return Some(Info {
                 maker: buf.maker,
                 object: ObjId(copy.object),
@@ -159,7 +165,7 @@ impl<A: Allocator + Clone> Buffers<A> {
                 length: copy.items.as_slice().len() as u64,
             });
         }
-        match self.pins.get(&(buf.maker.0, buf.n)) {
+        match self.recent_pin.find(&self.pins, &(buf.maker.0, buf.n)) {
             None => None,
             Some(pin) => Some(Info {
                 maker: buf.maker,
@@ -206,7 +212,7 @@ impl<A: Allocator + Clone> Buffers<A> {
         ensures length { length result.now ≡ copy_length (row_of buf.maker.0 buf.n self.now) }
         ensures stands { (e : List Event) → Stands self.now e → result.now ≡ contents e buf.maker.0 buf.n }
     {
-        match self.copies.get(&(buf.maker.0, buf.n)) {
+        match self.recent_copy.find(&self.copies, &(buf.maker.0, buf.n)) {
             Some(copy) => copy.items.as_slice(),
             None => &[],
         }

@@ -9,7 +9,7 @@ use crate::by_name::{ByName, clear_rows, list_names, mark_objects, names_object}
 use crate::name::Name;
 use crate::target::Target;
 use indexmap::IndexMap;
-use jg_lists::ObjectMarks;
+use jg_lists::{ObjectMarks, Recent};
 use jg_words::{Kind, ObjId, Ref, Tid};
 use std::alloc::{AllocError, Allocator, Global};
 use std::marker::Model;
@@ -19,6 +19,8 @@ use std::marker::Model;
 pub struct Globals<A: Allocator = Global> {
     strong: ByName<ObjId, A>,
     weak: ByName<Target, A>,
+    recent_strong: Recent,
+    recent_weak: Recent,
 }
 
 impl<A: Allocator> Model for Globals<A> {
@@ -41,6 +43,8 @@ impl<A: Allocator + Copy> Globals<A> {
         Globals {
             strong: IndexMap::new(strong),
             weak: IndexMap::new(weak),
+            recent_strong: Recent::new(),
+            recent_weak: Recent::new(),
         }
     }
 }
@@ -112,8 +116,10 @@ impl<A: Allocator> Globals<A> {
                 let name = Name { maker: maker.0, n };
                 match kind {
                     Kind::Local => None,
-                    Kind::Global => object_target(self.strong.get(&name).copied()),
-                    Kind::Weak => self.weak.get(&name).copied(),
+                    Kind::Global => {
+                        object_target(self.recent_strong.find(&self.strong, &name).copied())
+                    },
+                    Kind::Weak => self.recent_weak.find(&self.weak, &name).copied(),
                 }
             }
         }

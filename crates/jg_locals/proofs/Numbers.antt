@@ -282,12 +282,10 @@ any_live p (x ∷ xs) = at p x xs x.live (any_live p xs)
 
 -- ---- the same, as the code comes upon it: `l` is the list as the search saw it, and w what stands at the place
 
-pub marked_there : (l slots : List Slot) (n i : ℕ) (w : Slot) → l ≡ slots → w ≡ get_or slots i w → Chain is_before slots → (i < length l) × ((s : Slot) → (get_or l i s).n ≡ n)
+pub marked_there : (slots : List Slot) (n i : ℕ) (w : Slot) → w ≡ get_or slots i w → Chain is_before slots → (i < length slots) × ((s : Slot) → (get_or slots i s).n ≡ n)
     → filter is_live (slice_set slots i (ended w)) ≡ filter (λ s. not (s.n == n)) (filter is_live slots)
-marked_there l slots n i w is at chain place =
+marked_there slots n i w at chain here =
     let P : Slot → Type 0 = λ x. filter is_live (slice_set slots i (ended x)) ≡ filter (λ s. not (s.n == n)) (filter is_live slots) in
-    let Q : List Slot → Type 0 = λ k. (i < length k) × ((s : Slot) → (get_or k i s).n ≡ n) in
-    let here = subst Q is place in
     subst P (sym at) (marked slots n i w chain here.0 (here.1 w))
 
 pub sound_there : (slots : List Slot) (frames : List Frame) (i : ℕ) (w : Slot) → w ≡ get_or slots i w → Sound slots frames → Sound (slice_set slots i (ended w)) frames
@@ -300,15 +298,8 @@ rises_there slots i w at chain =
     let P : Slot → Type 0 = λ x. Chain is_before (slice_set slots i (ended x)) in
     subst P (sym at) (chain-hidden slots i w chain)
 
-pub slot_found : (l slots : List Slot) (n i : ℕ) (w : Slot) → l ≡ slots → w ≡ get_or slots i w → Chain is_before slots → (i < length l) × ((s : Slot) → (get_or l i s).n ≡ n)
+pub slot_found : (slots : List Slot) (n i : ℕ) (w : Slot) → w ≡ get_or slots i w → Chain is_before slots → (i < length slots) × ((s : Slot) → (get_or slots i s).n ≡ n)
     → (if w.live then Some w else None) ≡ find (λ s. s.n == n) (filter is_live slots)
-slot_found l slots n i w is at chain place =
+slot_found slots n i w at chain here =
     let P : Slot → Type 0 = λ x. (if x.live then Some x else None) ≡ find (λ s. s.n == n) (filter is_live slots) in
-    let Q : List Slot → Type 0 = λ k. (i < length k) × ((s : Slot) → (get_or k i s).n ≡ n) in
-    let here = subst Q is place in
     subst P (sym at) (sym (slot_there slots n i w chain here.0 (here.1 w)))
-
-pub unmarked_there : (l slots : List Slot) (n : ℕ) → l ≡ slots → AllByRecursion (λ s. (s.n == n) ≡ false) l → filter is_live slots ≡ filter (λ s. not (s.n == n)) (filter is_live slots)
-unmarked_there l slots n is all =
-    let Q : List Slot → Type 0 = λ k. AllByRecursion (λ s. (s.n == n) ≡ false) k in
-    unmarked slots n (subst Q is all)

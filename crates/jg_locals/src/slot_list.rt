@@ -1,11 +1,13 @@
-ghost use Rattle.std.specs.Prelude.{◌≡◌, ◌≤◌, ◌<◌, ◌+◌, ◌++◌, ◌∷◌, ◌&&◌, ◌==◌, [], IsOk, OnOk, OnErr, filter, length, map, take, slice_index_or, slice_set, option_to_list, vec_capacity};
-ghost use Rattle.std.specs.List.{list_any};
+ghost use Rattle.std.specs.Prelude.{◌≡◌, ◌≤◌, ◌<◌, ◌+◌, ◌++◌, ◌∷◌, ◌&&◌, ◌==◌, [], IsOk, IsTrue, MatchOption, false, OnOk, OnErr, filter, length, map, take, slice_index_or, slice_set, option_to_list, vec_capacity};
+ghost use Rattle.std.specs.List.{AllByRecursion, list_any};
 ghost use Rattle.jg_lists.specs.Marks.{Marks};
-ghost use Rattle.jg_locals.specs.Seen.{is_live, named, ended};
+ghost use Rattle.jg_locals.specs.Seen.{Chain, is_before, is_live, named, ended};
 
 use crate::row::Slot;
+use crate::slots::place_among;
 use jg_lists::ObjectMarks;
 use std::alloc::{AllocError, Allocator};
+use std::cell::Cell;
 use std::marker::Model;
 
 /// A thread's slots, and beside them the objects that the live ones name, so that a collection reads
@@ -15,6 +17,9 @@ pub struct SlotList<A: Allocator> {
     slots: Vec<Slot, A>,
     /// The object of each slot; of a dead one the greatest number, at which there is no mark.
     objects: Vec<u64, A>,
+    /// Where a local was found last, since a call's operand is asked for more than once. It is a guess,
+    /// which each look-up checks.
+    recent: Cell<usize>,
 }
 
 impl<A: Allocator> Model for SlotList<A> {
@@ -36,6 +41,16 @@ fn named(slot: Slot) -> u64
     ensures { result ≡ named slot }
 {
     if slot.live { slot.object } else { u64::MAX }
+}
+
+/// Whether the local `n` stands at the place.
+fn stands_at(slots: &[Slot], place: usize, n: u64) -> bool
+    ensures { IsTrue result → (place < length slots.now) × ((s : Slot) → (slice_index_or slots.now place s).n ≡ n) }
+{
+    match slots.get(place) {
+        Some(slot) => slot.n == n,
+        None => false,
+    }
 }
 
 /// Lists the objects of the slots, for which there is room.
@@ -61,6 +76,7 @@ impl<A: Allocator> SlotList<A> {
         SlotList {
             slots: Vec::new(slots),
             objects: Vec::new(objects),
+            recent: Cell::new(0),
         }
     }
 
@@ -69,6 +85,21 @@ impl<A: Allocator> SlotList<A> {
     {
         let _objects = &self.objects;
         self.slots.as_slice()
+    }
+
+    /// Where the local `n` stands, live or dead.
+    pub fn place_of(&self, n: u64) -> Option<usize>
+        requires { Chain is_before self.now.items }
+        ensures { MatchOption result (AllByRecursion (λ s. (s.n == n) ≡ false) self.now.items)
+            (λ i. (i < length self.now.items) × ((s : Slot) → (slice_index_or self.now.items i s).n ≡ n)) }
+    {
+        let recent = self.recent.get();
+        if stands_at(self.as_slice(), recent, n) {
+            return Some(recent);
+        }
+        let place = place_among(self.as_slice(), n)?;
+        self.recent.set(place);
+        Some(place)
     }
 
     /// Makes room for one more.

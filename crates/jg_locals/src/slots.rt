@@ -20,7 +20,7 @@ fn place_in_row(slots: &[Slot], n: u64) -> Option<usize>
 }
 
 /// Where the local `n` stands, live or dead.
-pub fn place_of(slots: &[Slot], n: u64) -> Option<usize>
+pub fn place_among(slots: &[Slot], n: u64) -> Option<usize>
     requires { Chain is_before slots.now }
     ensures { MatchOption result (AllByRecursion (λ s. (s.n == n) ≡ false) slots.now) (λ i. (i < length slots.now)
         × ((s : Slot) → (slice_index_or slots.now i s).n ≡ n)) }
@@ -36,16 +36,13 @@ pub fn place_of(slots: &[Slot], n: u64) -> Option<usize>
 }
 
 /// The object of the live local `n`.
-pub fn object_of(slots: &[Slot], n: u64) -> Option<u64>
-    requires { Chain is_before slots.now }
-    ensures { result ≡ option_map (λ s. s.object) (find (λ s. s.n == n) (filter is_live slots.now)) }
+pub fn object_of<A: Allocator>(slots: &SlotList<A>, n: u64) -> Option<u64>
+    requires { Chain is_before slots.now.items }
+    ensures { result ≡ option_map (λ s. s.object) (find (λ s. s.n == n) (filter is_live slots.now.items)) }
 {
-    let i = place_of(slots, n)?;
-    if slots[i].live {
-        Some(slots[i].object)
-    } else {
-        None
-    }
+    let i = slots.place_of(n)?;
+    let slot = slots.as_slice()[i];
+    if slot.live { Some(slot.object) } else { None }
 }
 
 /// Marks the local `n` dead, and answers it if it was live.
@@ -57,7 +54,7 @@ fn mark_dead<A: Allocator>(slots: &mut SlotList<A>, n: u64) -> Option<Slot>
     ensures rises { Chain is_before slots.new.items }
     ensures room { slots.old.room ≤ slots.new.room }
 {
-    match place_of(slots.as_slice(), n) {
+    match slots.place_of(n) {
         Some(i) => live_slot(slots.end(i)),
         None => None,
     }

@@ -209,7 +209,7 @@ impl<A: Allocator> Stack<A> {
     pub fn get(&self, n: u64) -> Option<u64>
         ensures { result ≡ option_map (λ s. s.object) (find (λ s. s.n == n) self.now.locals) }
     {
-        object_of(self.slots.as_slice(), n)
+        object_of(&self.slots, n)
     }
 
     /// Whether `n` is above the number of each live local.

@@ -130,5 +130,5 @@ fn is_in_critical<A: Allocator + Clone>(view: &View<'_, A>, tid: Tid, call: &Cal
 fn is_while_pending<A: Allocator + Clone>(view: &View<'_, A>, tid: Tid, call: &Call) -> bool
     ensures { (p : Parts) → ViewStands view.now p → result ≡ while_pending p tid.0 call.now }
 {
-    !passes_pending_exception(call.fun()) && view.threads.pending(tid).is_some()
+    view.threads.pending(tid).is_some() && !passes_pending_exception(call.fun())
 }

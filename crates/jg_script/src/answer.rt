@@ -1,6 +1,7 @@
 //! One call is taken, and one line is answered.
 
 ghost use Rattle.std.specs.Prelude.{◌≡◌, ◌<◌, ◌≤◌, Some, length, slice_get, IfErr, OnOk};
+ghost use Rattle.std.specs.Str.{IsUtf8};
 ghost use Rattle.jg_rules.specs.Legal.{Legal};
 ghost use Rattle.jg_text.specs.Journal.{call_line, entry_text};
 ghost use Rattle.jg_script.specs.Answered.{Answers};
@@ -15,6 +16,7 @@ use jg_text::{ScriptFault, push_answer, read_call};
 use jg_words::{Call, Entry, EnvId, Tid};
 use std::alloc::{AllocError, Allocator, Global};
 use std::io::Write;
+use std::mem;
 
 /// The newest entry of the journal.
 pub fn newest<A: Allocator + Clone>(guard: &Guard<A>) -> &Entry
@@ -49,30 +51,31 @@ pub fn take_call<A: Allocator + Clone>(
     }
 }
 
-/// The line of the newest entry's call becomes that of the entry, with its line feed. What is added
-/// is made in `out`.
+/// The line of the newest entry's call becomes that of the entry, with its line feed.
 fn complete<A: Allocator + Clone>(
+    alloc: Global,
     guard: &Guard<A>,
     text: &mut Vec<u8>,
-    out: &mut String,
 ) -> Result<(), AllocError>
-    requires { 0 < length guard.now.journal }
+    requires some { 0 < length guard.now.journal }
+    requires text { IsUtf8 text.old.items }
     ensures { OnOk result ((e : Entry) → slice_get guard.now.journal 0 ≡ Some e → text.old.items ≡ call_line e
         → text.new.items ≡ entry_text e) }
 {
-    out.clear();
-    push_answer(out, &newest(guard).outcome)?;
-    text.extend_from_slice(out.as_bytes())?;
-    Ok(())
+    let bytes = mem::replace(text, Vec::new(alloc));
+    // SAFETY: it is text, as the caller says and `rt` checks.
+    let mut line = unsafe { String::from_utf8_unchecked(bytes) };
+    let pushed = push_answer(&mut line, &newest(guard).outcome);
+    *text = line.into_bytes();
+    pushed
 }
 
 /// Answers line number `line` of a script: the guard takes its call, and its entry is written. The
-/// line becomes the entry's; what is added to it is made in `out`.
+/// line becomes the entry's.
 pub fn answer_line<A: Allocator + Clone, W: Write>(
     alloc: Global,
     guard: &mut Guard<A>,
     writer: &mut Watched<W>,
-    out: &mut String,
     text: &mut Vec<u8>,
     line: u64,
 ) -> Result<(), RunFault>
@@ -92,7 +95,7 @@ pub fn answer_line<A: Allocator + Clone, W: Write>(
     if let Err(fault) = take_call(guard, tid, env, call, line) {
         return Err(fault);
     }
-    let Ok(()) = complete(guard, text, out) else {
+    let Ok(()) = complete(alloc, guard, text) else {
         return Err(RunFault::NoMemory { line });
     };
     match write_text(writer, text) {

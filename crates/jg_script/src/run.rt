@@ -52,7 +52,6 @@ pub fn check<A: Allocator + Clone, R: BufRead, W: Write>(
     let Ok(mut text) = Vec::with_capacity(alloc, MAX_LINE + 1) else {
         return Err(RunFault::NoMemory { line: 1 });
     };
-    let mut out = String::new(alloc);
     for line in 1..limit + 2 {
         hand_over(reader, writer);
         let taken = match next_line(reader, &mut text) {
@@ -69,12 +68,12 @@ pub fn check<A: Allocator + Clone, R: BufRead, W: Write>(
                 });
             }
             Taken::Line => {
-                if let Err(fault) = answer_line(alloc, guard, writer, &mut out, &mut text, line) {
+                if let Err(fault) = answer_line(alloc, guard, writer, &mut text, line) {
                     return Err(fault);
                 }
             }
             Taken::LastLine => {
-                return match answer_line(alloc, guard, writer, &mut out, &mut text, line) {
+                return match answer_line(alloc, guard, writer, &mut text, line) {
                     Ok(()) => Ok(line),
                     Err(fault) => Err(fault),
                 };

@@ -1,11 +1,18 @@
 -- An entry's line is printable and has at most 65,536 bytes.
-use Rattle.std.proofs.Common.{◌≡◌, ℕ, ◌<◌, ◌≤◌, ◌+◌, ◌^◌, List, [], ◌∷◌, ◌++◌, length, All, Bool, true, false, arith, codes, refl, length-append, Result, Ok, Err, OnOk}
+use Rattle.std.proofs.Common.{◌≡◌, ℕ, ◌<◌, ◌≤◌, ◌+◌, ◌^◌, List, [], ◌∷◌, ◌++◌, length, All, Bool, true, false, arith, codes, refl, length-append, Option, Result, Ok, Err, OnOk, inl, inr}
 use Rattle.std.specs.Int.{IsInRange}
-use Rattle.std.specs.Prelude.{nat_lt, ◌&&◌}
+use Rattle.std.specs.Prelude.{nat_lt, ◌&&◌, ◌⊎◌, slice_index}
+use Rattle.std.specs.Str.{IsUtf8}
 use Rattle.std.specs.List.{list_all, AllByRecursion}
 use Rattle.std.specs.Fmt.{decimal, signed_decimal}
 use Rattle.std.proofs.lemmas.Fmt.{length-decimal-le}
+use Rattle.std.proofs.lemmas.Bool.{cases_lt}
+use Rattle.std.proofs.lemmas.List.{get_or_past}
+use Rattle.std.proofs.lemmas.Str.{IsUtf8-from_ascii}
 use Rattle.std.proofs.lemmas.List.Elements.{All-append, All-cons, All-from_recursion}
+use Rattle.jg_words.specs.declared.call.Call.{Call}
+use Rattle.jg_words.specs.declared.thread.EnvId.{EnvId}
+use Rattle.jg_words.specs.declared.thread.Tid.{Tid}
 use Rattle.jg_words.specs.declared.entry.Entry.{Entry}
 use Rattle.jg_words.specs.declared.entry.Outcome.{Outcome}
 use Rattle.jg_words.specs.declared.entry.Outcome.TheVariants.{Passed, Denied}
@@ -20,6 +27,7 @@ use Rattle.jg_words.specs.declared.value.Value.{Value}
 use Rattle.jg_words.specs.declared.value.Value.TheVariants as value
 use Rattle.jg_text.specs.Words.{FitsTid, FitsEnv, ref_text, items_text, FitsRef, of_ref, of_items, dotted_text}
 use Rattle.jg_text.specs.Operands.{FitsCall}
+use Rattle.jg_text.specs.Spelling.{Spells}
 use Rattle.jg_text.specs.Journal.{value_text, notice_text, warning_text, outcome_text, thrown_name, entry_text, call_line, FitsValue, FitsOutcome}
 use Rattle.jg_text.proofs.Laws.{dotted_short, signed_short, joined_short, short_call, printable_line, seen_word, seen_number, seen_signed, seen_dotted, wide}
 use Rattle.jg_text.proofs.Named.{both_true, below}
@@ -166,3 +174,13 @@ line_plain x ht he hc ho =
       refl,
       more ((22000 + 3) + 21040) 65536 _ (both (22000 + 3) 21040 (call_line x ++ codes " = ") (outcome_text x.outcome) begun (outcome_plain x.outcome ho)) (omega arith),
     )
+
+ascii_at : (bs : List ℕ) (i : ℕ) → All (λ b. IsInRange 32 126 b) bs → (i < length bs) ⊎ (length bs ≤ i) → slice_index bs i < 128
+ascii_at bs i printable (inl within) = omega (arith, printable i 0 within)
+ascii_at bs i printable (inr past) = rw (get_or_past bs i 0 past) (omega arith)
+
+-- the line of a call is text
+pub line_is_text : (line : List ℕ) (t : Tid) (e : Option EnvId) (c : Call) → Spells line t e c → IsUtf8 line
+line_is_text line t e c spelt =
+    let printable : All (λ b. IsInRange 32 126 b) line = rw spelt.text (printable_line t e c spelt.tid spelt.env spelt.call) in
+    IsUtf8-from_ascii line (λ i. ascii_at line i printable (cases_lt i (length line)))

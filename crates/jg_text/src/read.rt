@@ -1,8 +1,9 @@
 //! A line of a script.
 
-ghost use Rattle.std.specs.Prelude.{◌≡◌, ◌<◌, ◌≤◌, [], length, IfOk, IfErr, IfSome, IfNone, IsTrue, ◌↔◌, ◌≢◌, All, Contains};
+ghost use Rattle.std.specs.Prelude.{◌≡◌, ◌<◌, ◌≤◌, [], length, IfOk, IfErr, IfSome, IfNone, OnOk, IsTrue, ◌↔◌, ◌≢◌, All, Contains};
 ghost use Rattle.std.specs.Int.{IsInRange};
 ghost use Rattle.std.specs.Option.{option_copied};
+ghost use Rattle.std.specs.Str.{IsUtf8};
 ghost use Rattle.jg_words.specs.Fun.{name_of};
 ghost use Rattle.jg_words.specs.declared.fun.Fun.{Fun as FunOf};
 ghost use Rattle.jg_text.specs.Spelling.{Spells};
@@ -279,9 +280,10 @@ fn read_fields(alloc: Global, line: &[u8]) -> Result<(Tid, Option<EnvId>, Call),
 /// between them, each in its one spelling. Else the fault is the first that the line has of
 /// `LineTooLong`, `NotAscii`, `NoThread`, `NoEnv`, `UnknownFunction`, `WrongCount` and
 /// `BadOperand`; or `NoMemory`, in the place of any answer. The line is handed in without its
-/// line feed.
+/// line feed; one that spells a call is text.
 pub fn read_call(alloc: Global, line: &[u8]) -> Result<(Tid, Option<EnvId>, Call), ScriptFault>
     ensures spelt { IfOk result (λ r. Spells line.now r.0 r.1 r.2) }
+    ensures text { OnOk result (IsUtf8 line.now) }
     ensures fault { IfErr result (NamesFirstFault line.now) }
 {
     if line.len() > MAX_LINE {

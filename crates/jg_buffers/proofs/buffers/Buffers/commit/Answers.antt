@@ -6,7 +6,7 @@ use Rattle.jg_buffers.proofs.buffers.Buffers.commit.Goals as goal
 
 pub returns-in-Some-clause-row : goal.returns-in-Some-clause-row
 returns-in-Some-clause-row g c =
-    let found : lookup (same_pair (c.args.buf.maker.0, c.args.buf.n)) c.self.inside.copies.entries ≡ Some c.in-Some.copy.now = sym c.in-Some.ensures.value in
+    let found : lookup (same_pair (c.args.buf.maker.0, c.args.buf.n)) c.self.inside.copies.entries ≡ Some c.in-Some.copy.now = sym c.in-Some.ensures in
     rw (row_is c.self.inside.copies.entries c.self.inside.pins.entries _ c.args.buf.maker.0 c.args.buf.n c.self.view_is, found) c.as_slice.ensures.value
 
 pub returns-in-Some-clause-stands : goal.returns-in-Some-clause-stands
@@ -14,7 +14,7 @@ returns-in-Some-clause-stands g c = λ e stands. returns-in-Some-clause-row g c 
 
 pub returns-in-None-clause-row : goal.returns-in-None-clause-row
 returns-in-None-clause-row g c =
-    let found : lookup (same_pair (c.args.buf.maker.0, c.args.buf.n)) c.self.inside.copies.entries ≡ None = sym c.in-None.ensures.value in
+    let found : lookup (same_pair (c.args.buf.maker.0, c.args.buf.n)) c.self.inside.copies.entries ≡ None = sym c.in-None.ensures in
     rw (row_is c.self.inside.copies.entries c.self.inside.pins.entries _ c.args.buf.maker.0 c.args.buf.n c.self.view_is, found)
     (pin_items (c.args.buf.maker.0, c.args.buf.n) (lookup (same_pair (c.args.buf.maker.0, c.args.buf.n)) c.self.inside.pins.entries))
 

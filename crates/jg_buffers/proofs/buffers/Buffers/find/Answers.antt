@@ -6,7 +6,7 @@ use Rattle.jg_buffers.proofs.buffers.Buffers.find.Goals as goal
 
 pub returns-in-Some-clause-row : goal.returns-in-Some-clause-row
 returns-in-Some-clause-row g c =
-    let found : lookup (same_pair (c.args.buf.maker.0, c.args.buf.n)) c.self.inside.copies.entries ≡ Some c.in-Some.copy.now = sym c.in-Some.ensures.value in
+    let found : lookup (same_pair (c.args.buf.maker.0, c.args.buf.n)) c.self.inside.copies.entries ≡ Some c.in-Some.copy.now = sym c.in-Some.ensures in
     rw (row_is c.self.inside.copies.entries c.self.inside.pins.entries _ c.args.buf.maker.0 c.args.buf.n c.self.view_is, found, c.family_of_copy.ensures, c.as_slice.ensures.value) refl
 
 pub returns-in-Some-clause-stands : goal.returns-in-Some-clause-stands
@@ -14,18 +14,18 @@ returns-in-Some-clause-stands g c = λ e stands. returns-in-Some-clause-row g c 
 
 pub returns-in-None-clause-row : goal.returns-in-None-clause-row
 returns-in-None-clause-row g c =
-    let copy : lookup (same_pair (c.args.buf.maker.0, c.args.buf.n)) c.self.inside.copies.entries ≡ None = sym c.in_default.ensures.value in
-    let pin : lookup (same_pair (c.args.buf.maker.0, c.args.buf.n)) c.self.inside.pins.entries ≡ None = sym c.in-None.ensures.value in
+    let copy : lookup (same_pair (c.args.buf.maker.0, c.args.buf.n)) c.self.inside.copies.entries ≡ None = sym c.in_default.ensures in
+    let pin : lookup (same_pair (c.args.buf.maker.0, c.args.buf.n)) c.self.inside.pins.entries ≡ None = sym c.in-None.ensures in
     rw (row_is c.self.inside.copies.entries c.self.inside.pins.entries _ c.args.buf.maker.0 c.args.buf.n c.self.view_is, copy, pin) refl
 
 pub returns-in-None-clause-stands : goal.returns-in-None-clause-stands
 returns-in-None-clause-stands g c = λ e stands. returns-in-None-clause-row g c ∙ info_law _ e c.args.buf.maker.0 c.args.buf.n stands
 
-pub returns-in-Some-get-clause-row : goal.returns-in-Some-get-clause-row
-returns-in-Some-get-clause-row g c =
-    let copy : lookup (same_pair (c.args.buf.maker.0, c.args.buf.n)) c.self.inside.copies.entries ≡ None = sym c.in_default.ensures.value in
-    let pin : lookup (same_pair (c.args.buf.maker.0, c.args.buf.n)) c.self.inside.pins.entries ≡ Some c.in-Some-get.pin.now = sym c.in-Some-get.ensures.value in
+pub returns-in-Some-find-clause-row : goal.returns-in-Some-find-clause-row
+returns-in-Some-find-clause-row g c =
+    let copy : lookup (same_pair (c.args.buf.maker.0, c.args.buf.n)) c.self.inside.copies.entries ≡ None = sym c.in_default.ensures in
+    let pin : lookup (same_pair (c.args.buf.maker.0, c.args.buf.n)) c.self.inside.pins.entries ≡ Some c.in-Some-find.pin.now = sym c.in-Some-find.ensures in
     rw (row_is c.self.inside.copies.entries c.self.inside.pins.entries _ c.args.buf.maker.0 c.args.buf.n c.self.view_is, copy, pin, c.family_of_pin.ensures) refl
 
-pub returns-in-Some-get-clause-stands : goal.returns-in-Some-get-clause-stands
-returns-in-Some-get-clause-stands g c = λ e stands. returns-in-Some-get-clause-row g c ∙ info_law _ e c.args.buf.maker.0 c.args.buf.n stands
+pub returns-in-Some-find-clause-stands : goal.returns-in-Some-find-clause-stands
+returns-in-Some-find-clause-stands g c = λ e stands. returns-in-Some-find-clause-row g c ∙ info_law _ e c.args.buf.maker.0 c.args.buf.n stands

@@ -2,7 +2,7 @@ use Rattle.std.proofs.Common.{rules}
 use Rattle.jg_locals.specs.declared.row.Slot.{Slot}
 use Rattle.std.proofs.lemmas.Fn.{always_returns_same}
 use Rattle.jg_locals.proofs.Numbers.{no_place, equal_is}
-use Rattle.jg_locals.proofs.slots.place_of.Goals as goal
+use Rattle.jg_locals.proofs.slots.place_among.Goals as goal
 
 pub returns-in-Ok : goal.returns-in-Ok
 returns-in-Ok c =
