@@ -34,7 +34,8 @@ use Rattle.jg_monitors.proofs.Callers.{rows_tell_law, bounded_law}
 use Rattle.jg_rules.specs.Parts.{Parts, TableRows, TablesStand}
 use Rattle.jg_rules.specs.Names.{next_ref, next_buffer, open_frames, object_in, depth as depth_of}
 use Rattle.std.specs.Option.{unwrap_or}
-use Rattle.jg_rules.specs.Effects.{done_by, done_if, is_effective, settled, passed_on, call_threads, call_buffers}
+use Rattle.jg_policy.specs.Links as links
+use Rattle.jg_rules.specs.Effects.{done_by, done_if, is_effective, settled, passed_on, warning, call_threads, call_buffers}
 use Rattle.jg_rules.specs.Access.{native_class, home_of}
 use Rattle.jg_rules.specs.declared.named.Named.{Named}
 use Rattle.jg_rules.specs.declared.named.Named.TheVariants.{Nothing, Null as NamesNull, Object}
@@ -295,8 +296,11 @@ stand_global s rows p t call given is global stand =
     let own : ProperAnswer s p t call given = rw is (proper s p t call) in
     subst (λ (q : Parts). TablesStand s rows q) (settled_globals s (home_of s (native_class s p t.0 call)) p t call given.reply.value given.reply.warned given.object own global) stand
 
-pub stand_done : (s : StatedSetup) (rows : TableRows) (home : Option ℕ) (p : Parts) (t : Tid) (call : Call) (given : Answer) → home ≡ home_of s (native_class s p t.0 call)
+pub stand_done : (s : StatedSetup) (rows : TableRows) (home : Option ℕ) (p : Parts) (t : Tid) (call : Call) (given : Answer)
+    → warning given.reply.warned home ≡ warning given.reply.warned (home_of s (native_class s p t.0 call))
     → is_effective given.reply.value ≡ true
     → TablesStand s rows (warned_on given.reply.warned home (settled None t.0 (saying_of given.reply.value) given.object (done_by s t.0 call p)))
     → TablesStand s rows (passed_on s t.0 call given.reply given.object p)
-stand_done s rows home p t call given is effective stand = rw (effective, sym is) stand
+stand_done s rows home p t call given is effective stand =
+    let done : Parts = settled None t.0 (saying_of given.reply.value) given.object (done_by s t.0 call p) in
+    rw effective (subst (λ (w : List links.Event). TablesStand s rows (record done { links = w ++ done.links })) is stand)

@@ -4,7 +4,8 @@ ghost use Rattle.std.specs.Prelude.{◌≡◌, true, false, OnOk, OnErr};
 ghost use Rattle.jg_rules.specs.Parts.{Parts, TablesStand};
 ghost use Rattle.jg_rules.specs.Answers.{unnoticed};
 ghost use Rattle.jg_rules.specs.Effects as effects;
-ghost use Rattle.jg_rules.specs.Effects.{passed_on, done_by};
+ghost use Rattle.jg_rules.specs.Access.{home_of, native_class};
+ghost use Rattle.jg_rules.specs.Effects.{passed_on, done_by, warning};
 ghost use Rattle.jg_guard.specs.Cleaning.{cleans_up};
 ghost use Rattle.jg_guard.specs.Held.{Finds};
 ghost use Rattle.jg_guard.specs.Tables as tables_of;
@@ -58,6 +59,24 @@ pub(crate) fn perform<A: Allocator + Clone>(
     do_and_settle(tables, setup, held, tid, call, given)
 }
 
+/// The number of the module that a warning names, where the call comes with one.
+fn home_warned<A: Allocator + Clone>(
+    tables: &Tables<A>,
+    setup: &Setup,
+    tid: Tid,
+    call: &Call,
+    warned: bool,
+) -> Option<u32>
+    ensures { (p : Parts) → TablesStand setup.now (rows_of tables.now) p
+        → warning warned result ≡ warning warned (home_of setup.now (native_class setup.now p tid.0 call.now)) }
+{
+    if warned {
+        home_named(&tables.view(setup), tid, call)
+    } else {
+        None
+    }
+}
+
 fn do_and_settle<A: Allocator + Clone>(
     tables: &mut Tables<A>,
     setup: &Setup,
@@ -77,7 +96,7 @@ fn do_and_settle<A: Allocator + Clone>(
     ensures wants { OnErr result (cleans_up call.now ≡ false) }
 {
     make_room(tables, tid, &given.reply)?;
-    let home = home_named(&tables.view(setup), tid, call);
+    let home = home_warned(tables, setup, tid, call, given.reply.warned);
     do_call(tables, setup, held, tid, call)?;
     settle(tables, tid, given);
     warn_if(tables, given.reply.warned, home);

@@ -68,6 +68,7 @@ impl Operand {
     }
 }
 
+#[inline(always)]
 fn of_vm(call: &VmCall) -> Operands
     ensures { listed result ≡ vm_operands call.now }
 {
@@ -84,6 +85,7 @@ fn of_vm(call: &VmCall) -> Operands
     }
 }
 
+#[inline(always)]
 fn of_refs(call: &RefsCall) -> Operands
     ensures { listed result ≡ refs_operands call.now }
 {
@@ -101,6 +103,7 @@ fn of_refs(call: &RefsCall) -> Operands
     }
 }
 
+#[inline(always)]
 fn of_frames(call: &FramesCall) -> Operands
     ensures { listed result ≡ frames_operands call.now }
 {
@@ -111,6 +114,7 @@ fn of_frames(call: &FramesCall) -> Operands
     }
 }
 
+#[inline(always)]
 fn of_exceptions(call: &ExceptionsCall) -> Operands
     ensures { listed result ≡ exceptions_operands call.now }
 {
@@ -123,6 +127,7 @@ fn of_exceptions(call: &ExceptionsCall) -> Operands
     }
 }
 
+#[inline(always)]
 fn of_objects(call: &ObjectsCall) -> Operands
     ensures { listed result ≡ objects_operands call.now }
 {
@@ -145,6 +150,7 @@ fn of_objects(call: &ObjectsCall) -> Operands
     }
 }
 
+#[inline(always)]
 fn of_strings(call: &StringsCall) -> Operands
     ensures { listed result ≡ strings_operands call.now }
 {
@@ -157,6 +163,7 @@ fn of_strings(call: &StringsCall) -> Operands
     }
 }
 
+#[inline(always)]
 fn of_arrays(call: &ArraysCall) -> Operands
     ensures { listed result ≡ arrays_operands call.now }
 {
@@ -183,6 +190,7 @@ fn of_arrays(call: &ArraysCall) -> Operands
     }
 }
 
+#[inline(always)]
 fn of_monitors(call: &MonitorsCall) -> Operands
     ensures { listed result ≡ monitors_operands call.now }
 {
@@ -192,6 +200,7 @@ fn of_monitors(call: &MonitorsCall) -> Operands
     }
 }
 
+#[inline(always)]
 fn of_buffers(call: &BuffersCall) -> Operands
     ensures { listed result ≡ buffers_operands call.now }
 {
@@ -226,6 +235,7 @@ fn of_buffers(call: &BuffersCall) -> Operands
 }
 
 /// One operand that must name an object of the type.
+#[inline(always)]
 fn required(reference: Ref, object_type: ObjectType) -> Operands
     ensures { listed result ≡ required_operand reference object_type ∷ [] }
 {
@@ -233,6 +243,7 @@ fn required(reference: Ref, object_type: ObjectType) -> Operands
 }
 
 /// The references among the call's operands.
+#[inline(always)]
 pub fn operands_of(call: &Call) -> Operands
     ensures { listed result ≡ operands call.now }
 {

@@ -3,7 +3,7 @@ use Rattle.jg_rules.specs.Parts.{Parts}
 use Rattle.jg_rules.specs.declared.answer.Answer.{Answer}
 use Rattle.jg_rules.specs.Effects.{is_effective}
 use Rattle.jg_policy.specs.Stated.{StatedSetup}
-use Rattle.jg_guard.proofs.Due.{due_still, can_settle, after_done, own_proper, stand_done, stand_at}
+use Rattle.jg_guard.proofs.Due.{due_still, can_settle, after_done, own_proper, stand_done}
 use Rattle.jg_guard.proofs.perform.do_and_settle.Goals as goal
 
 pub do_call-requires : goal.do_call-requires
@@ -31,8 +31,5 @@ pub returns-clause-stands : goal.returns-clause-stands
 returns-clause-stands g c = λ p stands is found.
     let s : StatedSetup = c.args.setup.now in
     let still = c.in_ok-make_room.ensures.still s p stands in
-    let seen = stand_at s c.view.result.setup.now _ _ p c.view.ensures.setup c.view.ensures.rows still in
-    let told = c.home_named-home.ensures p seen in
-    let home = rw c.view.ensures.setup at told in
-    stand_done s _ c.home_named-home.result p c.args.tid c.args.call.now c.args.given.now home c.requires.effective
+    stand_done s _ c.home_warned-home.result p c.args.tid c.args.call.now c.args.given.now (c.home_warned-home.ensures p still) c.requires.effective
     (c.warn_if.ensures s _ (c.settle.ensures.stands s _ (c.in_ok-do_call.ensures.stands p still found)))
