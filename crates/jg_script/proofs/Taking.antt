@@ -1,5 +1,5 @@
 -- A call that the guard took is in front of its journal.
-use Rattle.std.proofs.Common.{◌≡◌, ◌∙◌, ap, ℕ, List, ◌∷◌, ◌++◌, [], Option, Some, None, Ok, Err, inl, inr, refl, subst, length, take, slice_get, ◌<◌}
+use Rattle.std.proofs.Common.{◌≡◌, ◌∙◌, ap, ℕ, List, ◌∷◌, ◌++◌, [], Option, Some, None, Result, Ok, Err, OnOk, inl, inr, refl, subst, length, take, slice_get, ◌<◌}
 use Rattle.std.specs.Io.KnownBytes.{Appends}
 use Rattle.jg_words.specs.declared.entry.Entry.{Entry}
 use Rattle.jg_words.specs.declared.thread.Tid.{Tid}
@@ -45,11 +45,14 @@ journals old new text t env call took spelt = record {
 }
 
 -- behind the line of its call the newest entry's answer is put
-pub completes : (front : Option Entry) (x e : Entry) (text out new : List ℕ) → front ≡ Some x → front ≡ Some e → out ≡ [] ++ answer_text x.outcome → text ≡ call_line e → new ≡ text ++ out
-    → new ≡ entry_text e
-completes front x e text out new seen first made is added =
+pub completes : (front : Option Entry) (x e : Entry) (text new : List ℕ) → front ≡ Some x → front ≡ Some e → text ≡ call_line e → new ≡ text ++ answer_text x.outcome → new ≡ entry_text e
+completes front x e text new seen first is added =
     let same : x ≡ e = cc in
-    added ∙ ap (λ (back : List ℕ). text ++ back) (made ∙ ap (λ (y : Entry). answer_text y.outcome) same) ∙ completed e text is
+    added ∙ ap (λ (y : Entry). text ++ answer_text y.outcome) same ∙ completed e text is
+
+pub on_ok : {T E P Q : Type 0} (r : Result T E) → (P → Q) → OnOk r P → OnOk r Q
+on_ok (Ok x) f p = f p
+on_ok (Err e) f p = tt
 
 pub not_taken : (bytes : Option (List ℕ)) (old new : State) (text : List ℕ) (t : Tid) (env : Option EnvId) (call : Call) (n : ℕ) (fault : RunFault)
     → FailsCall old new (next_entry old t env call) n fault → Spells text t env call → Answers bytes bytes old new text n (Err fault)

@@ -19,6 +19,7 @@ use std::io::Write;
 use std::mem;
 
 /// The newest entry of the journal.
+#[inline(always)]
 pub fn newest<A: Allocator + Clone>(guard: &Guard<A>) -> &Entry
     requires { 0 < length guard.now.journal }
     ensures { slice_get guard.now.journal 0 ≡ Some result.now }
@@ -30,6 +31,7 @@ pub fn newest<A: Allocator + Clone>(guard: &Guard<A>) -> &Entry
 }
 
 /// The guard takes the call of line number `line`.
+#[inline(always)]
 pub fn take_call<A: Allocator + Clone>(
     guard: &mut Guard<A>,
     tid: Tid,
@@ -52,6 +54,7 @@ pub fn take_call<A: Allocator + Clone>(
 }
 
 /// The line of the newest entry's call becomes that of the entry, with its line feed.
+#[inline(always)]
 fn complete<A: Allocator + Clone>(
     alloc: Global,
     guard: &Guard<A>,
@@ -72,6 +75,7 @@ fn complete<A: Allocator + Clone>(
 
 /// Answers line number `line` of a script: the guard takes its call, and its entry is written. The
 /// line becomes the entry's.
+#[inline(always)]
 pub fn answer_line<A: Allocator + Clone, W: Write>(
     alloc: Global,
     guard: &mut Guard<A>,

@@ -18,6 +18,7 @@ enum Ending {
 }
 
 /// Takes the next line into the buffer.
+#[inline(always)]
 fn read_line<R: BufRead>(reader: &mut Watched<R>, line: &mut Vec<u8>) -> Result<Ending, LineFault>
     ensures taken { IfOk result (TakesLine (R.remaining reader.old.device) (R.remaining reader.new.device)
         line.new.items) }
@@ -58,6 +59,7 @@ pub enum Taken {
 }
 
 /// Takes the next line into the buffer, without its line feed.
+#[inline(always)]
 pub fn next_line<R: BufRead>(
     reader: &mut Watched<R>,
     line: &mut Vec<u8>,
@@ -85,6 +87,7 @@ pub fn next_line<R: BufRead>(
 }
 
 /// Writes all of the bytes, by single writes. Where the device fails, a front of them is written.
+#[inline(always)]
 pub fn write_text<W: Write>(writer: &mut Watched<W>, text: &[u8]) -> Result<(), DeviceFailed>
     ensures written { OnOk result (Appends (W.contents writer.old.device) (W.contents writer.new.device) text.now) }
     ensures front { OnErr result ((k : ℕ) × (k < length text.now)

@@ -25,6 +25,7 @@ pub enum Piece {
 
 /// What is left, behind so many bytes, of the bytes that lie before the last line feed, with it. That
 /// is looked for once for all lines that the device shows, from the end.
+#[inline(always)]
 fn ahead_of(shown: &[u8], taken: usize, ahead: usize) -> usize
     requires { taken ≤ length shown.now }
 {
@@ -40,6 +41,7 @@ fn ahead_of(shown: &[u8], taken: usize, ahead: usize) -> usize
 /// Takes all up to the next line feed that one look at the device shows, and at most `room` bytes.
 /// They go to the line's end, without the line feed. `ahead` is how many bytes it is known to show up to
 /// its last line feed, 0 where that isn't known. Where memory runs out nothing is taken.
+#[inline(always)]
 pub fn take_piece<B: BufRead>(
     device: &mut B,
     room: usize,

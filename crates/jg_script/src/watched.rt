@@ -63,6 +63,7 @@ impl<D> Watched<D> {
 
 impl<R: BufRead> Watched<R> {
     /// Whether the next line can be had without waiting for the device, as far as is known.
+    #[inline(always)]
     pub fn shows_line(&self) -> bool {
         self.ahead > 0
     }
@@ -70,6 +71,7 @@ impl<R: BufRead> Watched<R> {
     /// Takes a piece of a line: all up to the next line feed that one look at the device shows, and
     /// at most `room` bytes. They go to the line's end, without the line feed. After an error the
     /// reader is marked as failed.
+    #[inline(always)]
     pub fn take_piece(&mut self, room: usize, line: &mut Vec<u8>) -> Result<Piece, LineFault>
         requires { 0 < room }
         ensures taken { IfOk result (TakesPiece (R.remaining self.old.device) (R.remaining self.new.device)
@@ -122,6 +124,7 @@ impl<R: Read> Watched<R> {
 impl<W: Write> Watched<W> {
     /// Writes some of the bytes, at least one, and answers how many. After an error, or where no
     /// byte was taken, the writer is marked as failed.
+    #[inline(always)]
     pub fn write_some(&mut self, bytes: &[u8]) -> Result<usize, DeviceFailed>
         requires { 0 < length bytes.now }
         ensures some { IfOk result (λ n. (0 < n) × (n ≤ length bytes.now)) }

@@ -17,6 +17,7 @@ fn is_plain(text: &[u8]) -> bool
 }
 
 /// The number in front, of at most 18 digits, and what stands behind it.
+#[inline(always)]
 pub fn leading(text: &[u8]) -> Option<(u64, &[u8])>
     ensures spelt { IfSome result (λ r. text.now ≡ decimal r.0 ++ r.1.now) }
     ensures short { IfSome result (λ r. r.0 < 10 ^ 18) }
@@ -117,6 +118,7 @@ pub fn cut_at(byte: u8, text: &[u8]) -> Option<(&[u8], &[u8])>
 
 /// The two numbers in front, of at most 18 digits, with a full stop between them, and what stands
 /// behind them.
+#[inline(always)]
 pub fn leading_dotted(text: &[u8]) -> Option<(u64, u64, &[u8])>
     ensures spelt { IfSome result (λ r. text.now ≡ dotted_text r.0 r.1 ++ r.2.now) }
     ensures fits { IfSome result (λ r. (r.0 < 2 ^ 64) × (r.1 < 2 ^ 64)) }
@@ -129,6 +131,7 @@ pub fn leading_dotted(text: &[u8]) -> Option<(u64, u64, &[u8])>
 }
 
 /// The two numbers of at most 18 digits that the text spells, with a full stop between them.
+#[inline(always)]
 fn two_short_numbers(text: &[u8]) -> Option<(u64, u64)>
     ensures some { IfSome result (λ r. text.now ≡ dotted_text r.0 r.1) }
     ensures fits { IfSome result (λ r. (r.0 < 2 ^ 64) × (r.1 < 2 ^ 64)) }
@@ -158,6 +161,7 @@ fn two_long_numbers(text: &[u8]) -> Option<(u64, u64)>
 }
 
 /// The two numbers that the text spells, of 64 bits at most, with a full stop between them.
+#[inline(always)]
 fn two_numbers(text: &[u8]) -> Option<(u64, u64)>
     ensures some { IfSome result (λ r. text.now ≡ dotted_text r.0 r.1) }
     ensures fits { IfSome result (λ r. (r.0 < 2 ^ 64) × (r.1 < 2 ^ 64)) }
@@ -170,6 +174,7 @@ fn two_numbers(text: &[u8]) -> Option<(u64, u64)>
 }
 
 /// The two numbers that the text spells, of 16 and 64 bits at most, with a full stop between them.
+#[inline(always)]
 pub fn dotted(text: &[u8]) -> Option<(u16, u64)>
     ensures some { IfSome result (λ r. text.now ≡ dotted_text r.0 r.1) }
     ensures none { IfNone result ((a b : ℕ) → a < 2 ^ 16 → b < 2 ^ 64 → text.now ≢ dotted_text a b) }
