@@ -121,8 +121,8 @@ pub fn end_local<A: Allocator>(slots: &mut SlotList<A>, n: u64) -> Option<Slot>
     was
 }
 
-/// Closes the list up if more than half of it may be dead. `dead` is at least the number of the
-/// dead slots, and so is the answer.
+/// Closes the list up if more than an eighth of it and eight may be dead, so that a collection goes
+/// over few slots in vain. `dead` is at least the number of the dead slots, and so is the answer.
 pub fn close_up_if<A: Allocator>(slots: &mut SlotList<A>, dead: usize) -> usize
     ensures live { filter is_live slots.new.items ≡ filter is_live slots.old.items }
     ensures sound { (frames : List Frame) → Sound slots.old.items frames → Sound slots.new.items frames }
@@ -133,7 +133,7 @@ pub fn close_up_if<A: Allocator>(slots: &mut SlotList<A>, dead: usize) -> usize
 {
     let count = slots.as_slice().len();
     let dead = dead.min(count);
-    if dead > count / 2 {
+    if dead > count / 8 + 8 {
         slots.close_up();
         0
     } else {
