@@ -118,7 +118,7 @@ impl<A: Allocator> Globals<A> {
                     Kind::Local => None,
                     Kind::Global => {
                         object_target(self.recent_strong.find(&self.strong, &name).copied())
-                    },
+                    }
                     Kind::Weak => self.recent_weak.find(&self.weak, &name).copied(),
                 }
             }

@@ -83,7 +83,6 @@ impl<A: Allocator> SlotList<A> {
     pub fn as_slice(&self) -> &[Slot]
         ensures { result.now ≡ self.now.items }
     {
-        let _objects = &self.objects;
         self.slots.as_slice()
     }
 
@@ -174,7 +173,6 @@ impl<A: Allocator> SlotList<A> {
     pub fn mark_named(&self, marks: &mut ObjectMarks<A>)
         ensures { Marks (λ o. list_any (λ s. s.object == o) (filter is_live self.now.items)) marks.old marks.new }
     {
-        let _slots = &self.slots;
         marks.set_all(&self.objects);
     }
 }
