@@ -1,5 +1,5 @@
 -- An entry's line is printable and has at most 65,536 bytes.
-use Rattle.std.proofs.Common.{◌≡◌, ℕ, ◌<◌, ◌≤◌, ◌+◌, ◌^◌, List, [], ◌∷◌, ◌++◌, length, All, Bool, true, false, arith, codes, refl, length-append, Option, Result, Ok, Err, IfOk, OnOk, inl, inr}
+use Rattle.std.proofs.Common.{◌≡◌, ℕ, ◌<◌, ◌≤◌, ◌+◌, ◌^◌, List, [], ◌∷◌, ◌++◌, length, All, Bool, true, false, arith, codes, refl, length-append, Option, Result, Ok, Err, OnOk, inl, inr}
 use Rattle.std.specs.Int.{IsInRange}
 use Rattle.std.specs.Prelude.{nat_lt, ◌&&◌, ◌⊎◌, slice_index}
 use Rattle.std.specs.Str.{IsUtf8}
@@ -184,7 +184,3 @@ pub line_is_text : (line : List ℕ) (t : Tid) (e : Option EnvId) (c : Call) →
 line_is_text line t e c spelt =
     let printable : All (λ b. IsInRange 32 126 b) line = rw spelt.text (printable_line t e c spelt.tid spelt.env spelt.call) in
     IsUtf8-from_ascii line (λ i. ascii_at line i printable (cases_lt i (length line)))
-
-pub if_ok : {T E Q : Type 0} {P : T → Type 0} (r : Result T E) → ((x : T) → P x → Q) → IfOk r P → OnOk r Q
-if_ok (Ok x) f p = f x p
-if_ok (Err e) f p = tt

@@ -290,9 +290,9 @@ pub fn read_call(alloc: Global, line: &[u8]) -> Result<(Tid, Option<EnvId>, Call
         return Err(ScriptFault::LineTooLong);
     }
     // What spells a call is printable, so the bytes are looked through only where nothing is spelt.
-    let read = read_fields(alloc, line);
-    if read.is_err() && !is_printable(line) {
-        return Err(ScriptFault::NotAscii);
+    match read_fields(alloc, line) {
+        Ok(spelt) => Ok(spelt),
+        Err(fault) if is_printable(line) => Err(fault),
+        Err(_) => Err(ScriptFault::NotAscii),
     }
-    read
 }

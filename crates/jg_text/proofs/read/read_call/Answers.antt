@@ -1,5 +1,5 @@
-use Rattle.jg_text.proofs.Plain.{line_is_text, if_ok}
+use Rattle.jg_text.proofs.Plain.{line_is_text}
 use Rattle.jg_text.proofs.read.read_call.Goals as goal
 
-pub returns-clause-text : goal.returns-clause-text
-returns-clause-text c = if_ok c.read_fields-read.result (λ spelling spelt. line_is_text c.args.line.now spelling.0 spelling.1 spelling.2 spelt) c.read_fields-read.ensures.spelt
+pub returns-in-Ok-clause-text : goal.returns-in-Ok-clause-text
+returns-in-Ok-clause-text c = line_is_text c.args.line.now c.in-Ok.spelt.0 c.in-Ok.spelt.1 c.in-Ok.spelt.2 c.in-Ok.ensures.spelt
