@@ -1,13 +1,15 @@
--- What look-ups of threads find, once one thread's value is written or added.
+-- What look-ups of numbers find, once one number's value is written, added or taken out.
 use Rattle.std.proofs.Common.{◌≡◌, ℕ, Bool, true, false, List, [], ◌∷◌, ◌++◌, Option, Some, None, refl, ◌∙◌, sym, ap, subst, arith, eqb-true}
-use Rattle.std.specs.Prelude.{◌==◌, ◌||◌, if◌then◌else◌, IsSome, map, slice_get}
+use Rattle.std.specs.Prelude.{◌==◌, ◌||◌, if◌then◌else◌, IsPermutation, IsSome, map, slice_get}
 use Rattle.std.specs.List.{IsDistinct, list_any}
 use Rattle.std.specs.Option.{is_some, option_map}
-use Rattle.std.specs.Map.{values_of, set_value}
+use Rattle.std.specs.Map.{keys_of, values_of, set_value}
 use Rattle.std.specs.BTreeMap.{is_at}
 use Rattle.std.specs.Cmp.{nat_cmp_total, eq_by_cmp_equiv}
 use Rattle.std.specs.Ordering.{nat_cmp, eq_by_cmp}
 use Rattle.std.proofs.lemmas.Bool.Decides.{nat_tests}
+use Rattle.std.proofs.lemmas.List.Sorted.{IsPermutation-map}
+use Rattle.indexmap.proofs.MapLemmas.{distinct_permutation, lookup_permutation}
 use Rattle.std.proofs.lemmas.Map.{keys-set_value, lookup-set_value}
 use Rattle.jg_lists.specs.declared.by_thread.Seat.{Seat}
 use Rattle.jg_lists.specs.ByThread.{at, seen, IsOnce}
@@ -27,7 +29,7 @@ turned t q = grind (arith, nat_tests)
 is_some_by : {V : Type 0} (found : Option V) (v : V) → found ≡ Some v → IsSome found
 is_some_by found v is = rw is refl
 
--- the thread finds what was written, and each other one what it found
+-- the number finds what was written, and each other one what it found
 pub set_at : {V : Type 0} (es : List (ℕ × V)) (t q : ℕ) (v w : V) → at t es ≡ Some v → at q (set_value (is_at (nat_cmp t)) es w) ≡ (if t == q then Some w else at q es)
 set_at es t q v w is =
     lookup-set_value (eq_by_cmp_equiv nat_cmp_total) (is_at (nat_cmp t)) (alike t) q w es (is_some_by (at t es) v is)
@@ -63,11 +65,37 @@ none_tail : {V : Type 0} (found : Option V) (x : V) (b : Bool) → (if b then So
 none_tail found x true none = cc
 none_tail found x false none = none
 
--- the thread finds what was added, and each other one what it found
+-- the number finds what was added, and each other one what it found
 pub added_at : {V : Type 0} (es : List (ℕ × V)) (t q : ℕ) (v : V) → at t es ≡ None → at q (es ++ (t, v) ∷ []) ≡ (if t == q then Some v else at q es)
 added_at [] t q v none = ap (λ b. if b then Some v else None) (at_key q t)
 added_at (e ∷ es) t q v none =
     rw (at_key q e.0) (added_by t q v e es (e.0 == q) (t == q) refl refl (none_head (at t es) e.1 (is_at (nat_cmp t) e.0) none) (added_at es t q v (none_tail (at t es) e.1 (is_at (nat_cmp t) e.0) none)))
+
+removed_by : {V : Type 0} (n q : ℕ) (v : V) (es fs : List (ℕ × V)) (b : Bool) → (n == q) ≡ b → at n fs ≡ None → at q ((n, v) ∷ fs) ≡ at q es → at q fs ≡ (if b then None else at q es)
+removed_by n q v es fs true same none all = ap (λ k. at k fs) (sym (eqb-true n q same)) ∙ none
+removed_by n q v es fs false differ none all =
+    let other : is_at (nat_cmp q) n ≡ false = grind (arith, nat_tests, differ) in
+    rw other at all
+
+-- in another order no number is there twice
+pub moved_once : {V : Type 0} (es fs : List (ℕ × V)) → IsOnce es → IsPermutation es fs → IsOnce fs
+moved_once es fs once moves = distinct_permutation (eq_by_cmp_equiv nat_cmp_total) (keys_of es) (keys_of fs) (IsPermutation-map (λ e. e.0) es fs moves) once
+
+-- and each number finds what it found
+pub moved_at : {V : Type 0} (es fs : List (ℕ × V)) (q : ℕ) → IsOnce es → IsPermutation es fs → at q fs ≡ at q es
+moved_at es fs q once moves = lookup_permutation (eq_by_cmp_equiv nat_cmp_total) es fs moves (moved_once es fs once moves) (is_at (nat_cmp q)) (alike q)
+
+-- the number finds nothing once its value was taken out, and each other one what it found
+pub removed_at : {V : Type 0} (es fs : List (ℕ × V)) (n q : ℕ) (v : V) → IsOnce es → IsPermutation es ((n, v) ∷ fs) → at n fs ≡ None → at q fs ≡ (if n == q then None else at q es)
+removed_at es fs n q v once moves none = removed_by n q v es fs (n == q) refl none (moved_at es ((n, v) ∷ fs) q once moves)
+
+-- nothing is taken out where the number has no value
+pub removed_none : {V : Type 0} (es : List (ℕ × V)) (n q : ℕ) → at n es ≡ None → at q es ≡ (if n == q then None else at q es)
+removed_none es n q none = none_by (n == q) refl
+  where
+    none_by : (b : Bool) → (n == q) ≡ b → at q es ≡ (if b then None else at q es)
+    none_by true same = ap (λ k. at k es) (sym (eqb-true n q same)) ∙ none
+    none_by false differ = refl
 
 any_in : {V : Type 0} (p : V → Bool) (seats : List (Seat V)) → list_any (λ seat. p seat.value) seats ≡ list_any p (values_of (map seen seats))
 any_in p [] = refl
@@ -86,7 +114,7 @@ set_past : {V : Type 0} (e : ℕ × V) (es new : List (ℕ × V)) (w : V) (mine 
 set_past e es new w true other same = cc
 set_past e es new w false other same = ap (λ l. e ∷ l) same
 
--- nothing is written where the thread has no value
+-- nothing is written where the number has no value
 pub set_none : {V : Type 0} (es : List (ℕ × V)) (t : ℕ) (w : V) → at t es ≡ None → set_value (is_at (nat_cmp t)) es w ≡ es
 set_none [] t w none = refl
 set_none (e ∷ es) t w none =

@@ -1,8 +1,9 @@
-ghost use Rattle.std.specs.Prelude.{◌≡◌, ℕ, ◌+◌, ◌<◌, ◌≤◌, ◌++◌, ◌∷◌, ◌==◌, if◌then◌else◌, [], IsSome, None, Some, OnOk, OnErr, length, map, option_copied, slice_index_or};
+ghost use Rattle.std.specs.Prelude.{◌≡◌, ℕ, ◌++◌, ◌∷◌, ◌==◌, if◌then◌else◌, [], IsSome, None, Some, OnOk, OnErr, map, option_copied};
 ghost use Rattle.std.specs.Option.{is_some, option_copied_mut};
 ghost use Rattle.std.specs.Borrow.{sem};
 ghost use Rattle.jg_lists.specs.ByThread.{at, seen, IsOnce};
 
+use crate::places::{place_of, widen};
 use std::alloc::{AllocError, Allocator, Global};
 use std::marker::Model;
 
@@ -33,27 +34,6 @@ impl<V, A: Allocator> Model for ByThread<V, A> {
     ghost invariant = { λ a. Placed a.places.items (map (λ s. s.tid) a.seats.items) };
 }
 
-/// The place of the thread's seat, or 0.
-fn place_of<A: Allocator>(places: &Vec<usize, A>, tid: u16) -> usize
-    ensures { result ≡ slice_index_or places.now.items tid 0 }
-{
-    match places.get(usize::from(tid)) {
-        Some(place) => *place,
-        None => 0,
-    }
-}
-
-/// Makes a place for each of the first `count` threads that has none, with no seat there.
-fn widen<A: Allocator>(places: &mut Vec<usize, A>, count: usize) -> Result<(), AllocError>
-    ensures ok { OnOk result (count ≤ length places.new.items) }
-    ensures same { (t : ℕ) → slice_index_or places.new.items t 0 ≡ slice_index_or places.old.items t 0 }
-{
-    if places.len() < count {
-        places.resize(count, 0)?;
-    }
-    Ok(())
-}
-
 impl<V, A: Allocator> ByThread<V, A> {
     ghost use Rattle.jg_lists.specs.Lending.{lends_get, lends_value};
 
@@ -73,7 +53,7 @@ impl<V, A: Allocator> ByThread<V, A> {
         ensures value { option_copied result ≡ at tid self.now }
         ensures once { IsOnce self.now }
     {
-        let place = place_of(&self.places, tid);
+        let place = place_of(&self.places, tid as usize);
         if place == 0 {
             return None;
         }
@@ -107,7 +87,7 @@ impl<V, A: Allocator> ByThread<V, A> {
         ensures value { Some result.now ≡ at tid self.old }
         ensures once { IsOnce self.old }
     {
-        let place = place_of(&self.places, tid);
+        let place = place_of(&self.places, tid as usize);
         &mut self.seats[place - 1].value
     }
 
@@ -122,9 +102,9 @@ impl<V, A: Allocator> ByThread<V, A> {
         ensures err { OnErr result (self.new ≡ self.old) }
         ensures once { IsOnce self.new }
     {
-        widen(&mut self.places, usize::from(tid) + 1)?;
+        widen(&mut self.places, tid as usize)?;
         self.seats.push(Seat { tid, value })?;
-        self.places[usize::from(tid)] = self.seats.len();
+        self.places[tid as usize] = self.seats.len();
         Ok(())
     }
 

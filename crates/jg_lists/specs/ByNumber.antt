@@ -1,0 +1,7 @@
+-- Values by number.
+use Rattle.std.specs.Prelude.{ℕ}
+use Rattle.jg_lists.specs.declared.by_number.Numbered.{Numbered}
+
+-- the seat's number, with its value
+abbrev pub seen : {V : Type 0} → Numbered V → ℕ × V
+seen seat = (seat.number, seat.value)

@@ -1,0 +1,121 @@
+ghost use Rattle.std.specs.Prelude.{◌≡◌, ℕ, ◌++◌, ◌∷◌, ◌==◌, if◌then◌else◌, [], IsPermutation, IsSome, IfSome, None, Some, OnOk, OnErr, map, option_copied};
+ghost use Rattle.std.specs.Map.{set_value};
+ghost use Rattle.std.specs.BTreeMap.{is_at};
+ghost use Rattle.std.specs.Ordering.{nat_cmp};
+ghost use Rattle.jg_lists.specs.ByThread.{at, IsOnce};
+ghost use Rattle.jg_lists.specs.ByNumber.{seen};
+
+use crate::places::{place_of, widen};
+use std::alloc::{AllocError, Allocator, Global};
+use std::marker::Model;
+
+/// A number, with its value.
+#[derive(Drop)]
+pub struct Numbered<V> {
+    pub number: u64,
+    pub value: V,
+}
+
+/// A value for each of some numbers, found by the number in one step, however many there are. Takes 8
+/// bytes for each number up to the greatest that ever had a value, beside the values: it is meant for
+/// numbers that lie close together. Contracts see the numbers with their values.
+#[derive(Drop)]
+pub struct ByNumber<V, A: Allocator = Global> {
+    /// By the number, the place of its seat, counted from 1, or 0 where it has none.
+    places: Vec<usize, A>,
+    seats: Vec<Numbered<V>, A>,
+}
+
+impl<V, A: Allocator> Model for ByNumber<V, A> {
+    ghost use Rattle.std.specs.Prelude.{List, ℕ, map};
+    ghost use Rattle.jg_lists.specs.ByThread.{Placed};
+    ghost use Rattle.jg_lists.specs.ByNumber.{seen};
+
+    ghost Value = { List (ℕ × V) };
+
+    ghost view = { λ a. map seen a.seats.items };
+
+    ghost invariant = { λ a. Placed a.places.items (map (λ s. s.number) a.seats.items) };
+}
+
+impl<V, A: Allocator> ByNumber<V, A> {
+    /// No number has a value. Takes no memory; the two lists grow from the two handles.
+    pub fn new(places: A, seats: A) -> ByNumber<V, A>
+        ensures empty { result ≡ [] }
+        ensures once { IsOnce result }
+    {
+        ByNumber {
+            places: Vec::new(places),
+            seats: Vec::new(seats),
+        }
+    }
+
+    /// The number's value, if it has one.
+    pub fn get(&self, number: u64) -> Option<&V>
+        ensures value { option_copied result ≡ at number self.now }
+        ensures once { IsOnce self.now }
+    {
+        let place = place_of(&self.places, number as usize);
+        if place == 0 {
+            return None;
+        }
+        Some(&self.seats[place - 1].value)
+    }
+
+    /// Gives another value to a number that has one. Takes no memory.
+    pub fn set(&mut self, number: u64, value: V)
+    where
+        V: Drop,
+        requires { IsSome (at number self.old) }
+        ensures entries { self.new ≡ set_value (is_at (nat_cmp number)) self.old value }
+        ensures set { (q : ℕ) → at q self.new ≡ (if number == q then Some value else at q self.old) }
+        ensures once { IsOnce self.new }
+    {
+        let place = place_of(&self.places, number as usize);
+        self.seats[place - 1].value = value;
+    }
+
+    /// Gives a value to a number that has none. Fails for want of memory, and for the greatest number
+    /// of all, and then leaves all unchanged.
+    pub fn add(&mut self, number: u64, value: V) -> Result<(), AllocError>
+    where
+        V: Drop,
+        requires { at number self.old ≡ None }
+        ensures added { OnOk result (self.new ≡ self.old ++ (number, value) ∷ []) }
+        ensures found { OnOk result ((q : ℕ) → at q self.new ≡ (if number == q then Some value else at q self.old)) }
+        ensures err { OnErr result (self.new ≡ self.old) }
+        ensures once { IsOnce self.new }
+    {
+        widen(&mut self.places, number as usize)?;
+        self.seats.push(Numbered { number, value })?;
+        self.places[number as usize] = self.seats.len();
+        Ok(())
+    }
+
+    /// Takes the number's value out, if it has one. The seat that was the last goes to its place. Takes
+    /// no memory.
+    pub fn remove(&mut self, number: u64) -> Option<V>
+        ensures was { result ≡ at number self.old }
+        ensures removed { (q : ℕ) → at q self.new ≡ (if number == q then None else at q self.old) }
+        ensures taken { IfSome result (λ v. IsPermutation self.old ((number, v) ∷ self.new)) }
+        ensures once { IsOnce self.new }
+    {
+        let place = place_of(&self.places, number as usize);
+        if place == 0 {
+            return None;
+        }
+        let last = self.seats[self.seats.len() - 1].number;
+        self.places[last as usize] = place;
+        self.places[number as usize] = 0;
+        let seat = self.seats.swap_remove(place - 1);
+        Some(seat.value)
+    }
+
+    /// The numbers that have a value, with it.
+    pub fn seats(&self) -> &[Numbered<V>]
+        ensures seats { map seen result.now ≡ self.now }
+        ensures once { IsOnce self.now }
+    {
+        &self.seats
+    }
+}
