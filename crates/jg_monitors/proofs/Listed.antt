@@ -1,19 +1,22 @@
 -- What the list of owned monitors has.
-use Rattle.std.proofs.Common.{◌≡◌, ℕ, ◌<◌, List, [], ◌∷◌, ◌++◌, length, refl, ◌∙◌, ap, sym, subst, arith}
-use Rattle.std.specs.Prelude.{◌==◌, nat_eq, filter, map, IsPermutation, IsSortedByKey}
-use Rattle.std.specs.Cmp.{nat_eq_equiv}
+use Rattle.std.proofs.Common.{◌≡◌, ℕ, ◌<◌, ◌≤◌, take, List, [], ◌∷◌, length, refl, ◌∙◌, ap, sym, subst, arith}
+use Rattle.std.specs.Prelude.{◌==◌, filter, map, IsPermutation, IsSortedByKey}
+use Rattle.std.specs.Cmp.{unsigned_tied}
 use Rattle.std.specs.List.{AllByRecursion, IsDistinct}
 use Rattle.std.specs.List.Sorted.{IsNonDecreasing, IsStrictlySortedBy}
 use Rattle.std.specs.Map.{keys_of}
 use Rattle.std.specs.Ordering.{nat_cmp}
 use Rattle.std.specs.declared.cmp.Ordering.TheVariants.{Less}
 use Rattle.std.proofs.lemmas.Cmp.{ranked}
-use Rattle.std.proofs.lemmas.List.{append-nil, append_assoc, get_or-map, length-map}
+use Rattle.std.proofs.lemmas.List.{get_or-map, length-map, take_all}
 use Rattle.std.proofs.lemmas.List.Elements.{All-from_recursion}
 use Rattle.std.proofs.lemmas.List.Sorted.{IsPermutation-map, IsNonDecreasingBy-from_default, IsNonDecreasingBy-from_sort}
-use Rattle.std.proofs.lemmas.Map.Keys.{sorted_head, sorted_tail, sorted_from_strictly_increasing, IsStrictlyIncreasing-from_distinct, IsDistinct-IsPermutation}
-use Rattle.indexmap.proofs.MapLemmas.{lookup_permutation}
+use Rattle.std.proofs.lemmas.Map.Keys.{sorted_head, sorted_tail, sorted_from_strictly_increasing, IsStrictlyIncreasing-from_distinct}
+use Rattle.jg_lists.specs.ByThread.{IsOnce}
+use Rattle.jg_lists.specs.declared.by_number.Numbered.{Numbered}
+use Rattle.jg_lists.specs.ByNumber.{seen as pair}
 use Rattle.jg_lists.proofs.Lists.{map-filter}
+use Rattle.jg_lists.proofs.Values.{moved_at, moved_once}
 use Rattle.jg_monitors.specs.declared.owned.Owned.{Owned}
 use Rattle.jg_monitors.specs.declared.owned_monitor.OwnedMonitor.{OwnedMonitor}
 use Rattle.jg_monitors.specs.Rows.{Ascends, is_of, owned_monitor}
@@ -24,11 +27,9 @@ use Rattle.jg_monitors.proofs.Steps.{rows_at, filter_lookup}
 abbrev pub listed : List (ℕ × Owned) → List OwnedMonitor
 listed es = map owned_monitor (map seen es)
 
--- with one monitor appended, those of the rest are left
-pub listed_left : (e : ℕ × Owned) (left rest : List (ℕ × Owned)) (old new whole : List OwnedMonitor) → left ≡ e ∷ rest → new ≡ old ++ owned_monitor (seen e) ∷ []
-    → old ++ listed left ≡ whole → new ++ listed rest ≡ whole
-listed_left e left rest old new whole is now was =
-    ap (λ l. l ++ listed rest) now ∙ append_assoc old (owned_monitor (seen e) ∷ []) (listed rest) ∙ ap (λ l. old ++ listed l) (sym is) ∙ was
+-- with the monitors of all seats, those of all entries are listed
+pub listed_all : (seats : List (Numbered Owned)) (es : List (ℕ × Owned)) (i : ℕ) (found : List OwnedMonitor) → length seats ≤ i → found ≡ listed (map pair (take i seats)) → map pair seats ≡ es → found ≡ listed es
+listed_all seats es i found past so_far is = so_far ∙ ap (λ l. listed (map pair l)) (take_all i seats past) ∙ ap listed is
 
 -- ---- in another order
 
@@ -75,16 +76,15 @@ objects_rise ms sorted = IsNonDecreasingBy-from_default (λ n. n) (map object_of
     omega (arith, first, second, rise))
 
 -- with the monitors of all entries found and then moved
-module _ (es left : List (ℕ × Owned)) (found ms : List OwnedMonitor) (distinct : IsDistinct nat_eq (keys_of es))
-    (none : left ≡ []) (all : found ++ listed left ≡ listed es) (moved : IsPermutation found ms) where
+module _ (es : List (ℕ × Owned)) (found ms : List OwnedMonitor) (distinct : IsOnce es) (all : found ≡ listed es) (moved : IsPermutation found ms) where
   all_found : map entry_of found ≡ es
-  all_found = ap (map entry_of) (sym (append-nil found) ∙ ap (λ l. found ++ listed l) (sym none) ∙ all) ∙ entries_back es
+  all_found = ap (map entry_of) all ∙ entries_back es
 
   moved_entries : IsPermutation es (map entry_of ms)
   moved_entries = subst (λ l. IsPermutation l (map entry_of ms)) all_found (IsPermutation-map entry_of found ms moved)
 
-  distinct_still : IsDistinct nat_eq (keys_of (map entry_of ms))
-  distinct_still = IsDistinct-IsPermutation nat_eq nat_eq_equiv.symm (keys_of es) (keys_of (map entry_of ms)) (IsPermutation-map (λ e. e.0) es (map entry_of ms) moved_entries) distinct
+  distinct_still : IsOnce (map entry_of ms)
+  distinct_still = moved_once es (map entry_of ms) distinct moved_entries
 
   -- each object has the monitor that it had
   pub listed_law : (o : ℕ) → filter (λ m. object_of m == o) ms ≡ map owned_monitor (filter (is_of o) (map seen es))
@@ -93,7 +93,7 @@ module _ (es left : List (ℕ × Owned)) (found ms : List OwnedMonitor) (distinc
       ap (filter (λ m. object_of m == o)) (sym (monitors_back ms))
       ∙ sym (map-filter owned_monitor (is_of o) (λ m. object_of m == o) (λ row. refl) (map seen fs))
       ∙ ap (map owned_monitor) (filter_lookup o fs distinct_still
-      ∙ ap (rows_at o) (lookup_permutation nat_eq_equiv es fs moved_entries distinct_still (nat_eq o) (nat_eq_equiv.congr o))
+      ∙ ap (rows_at o) (moved_at es fs o distinct moved_entries)
       ∙ sym (filter_lookup o es distinct))
 
   -- sorted by object, they ascend
@@ -102,4 +102,4 @@ module _ (es left : List (ℕ × Owned)) (found ms : List OwnedMonitor) (distinc
       let rise = subst IsNonDecreasing (sym (keys_back ms)) (objects_rise ms sorted) in
       let keys = keys_of (map entry_of ms) in
       subst Ascends (monitors_back ms)
-      (ascends_law (map entry_of ms) (sorted_from_strictly_increasing keys (IsStrictlyIncreasing-from_distinct keys rise distinct_still)))
+      (ascends_law (map entry_of ms) (sorted_from_strictly_increasing keys (IsStrictlyIncreasing-from_distinct keys rise (subst (λ e. IsDistinct e keys) (λ i x y. unsigned_tied x y i) distinct_still))))

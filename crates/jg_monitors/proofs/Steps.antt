@@ -1,9 +1,11 @@
 -- What a look-up by object tells of the counts, and how that changes with one more event.
 use Rattle.std.proofs.Common.{◌≡◌, ◌≢◌, ℕ, ◌+◌, ◌-◌, ◌<◌, Bool, true, false, zero, suc, List, [], ◌∷◌, Option, Some, None, refl, ◌∙◌, ap, sym, subst, arith, eqb-true}
-use Rattle.std.specs.Prelude.{◌==◌, not, nat_eq, nat_lt, if◌then◌else◌, filter, map}
-use Rattle.std.specs.List.{find, IsDistinct}
-use Rattle.std.specs.Map.{lookup, keys_of}
-use Rattle.std.specs.Cmp.{nat_eq_equiv}
+use Rattle.std.specs.Prelude.{◌==◌, not, nat_lt, if◌then◌else◌, filter, map}
+use Rattle.std.specs.List.{find}
+use Rattle.std.specs.Map.{keys_of}
+use Rattle.std.specs.BTreeMap.{is_at}
+use Rattle.std.specs.Cmp.{nat_cmp_total, eq_by_cmp_equiv}
+use Rattle.std.specs.Ordering.{nat_cmp, eq_by_cmp}
 use Rattle.std.proofs.lemmas.Bool.Decides.{nat_tests}
 use Rattle.std.proofs.lemmas.Map.{lookup-none}
 use Rattle.std.proofs.lemmas.Map.Entries.{none_past_head, option_filter}
@@ -14,6 +16,8 @@ use Rattle.jg_monitors.specs.History.{Enter, Exit, ReleaseAll, Event, by, count,
 use Rattle.jg_monitors.specs.Rows.{Row, is_of}
 use Rattle.jg_monitors.specs.Seen.{seen, lowered, raised, finds}
 use Rattle.jg_monitors.specs.Standing.{IsAllowed, AllAllowed, rows_of, Stands}
+use Rattle.jg_lists.specs.ByThread.{at, IsOnce}
+use Rattle.jg_lists.proofs.Acts.{at_key}
 use Rattle.jg_lists.proofs.Lists.{first}
 use Rattle.jg_monitors.proofs.Counting.{count_enter, count_exit, count_release, count_other_thread, count_other_enter, count_other_exit, one_owner, owner_is, owner_has, no_owner, all_free}
 
@@ -28,29 +32,29 @@ abbrev pub rows_at : ℕ → Option Owned → List Row
 rows_at o None = []
 rows_at o (Some w) = seen (o, w) ∷ []
 
-found_by : (o : ℕ) (e : ℕ × Owned) (es : List (ℕ × Owned)) (b : Bool) → (e.0 == o) ≡ b → find (is_of o) (map seen es) ≡ row_at o (lookup (nat_eq o) es)
-    → (if b then Some (seen e) else find (is_of o) (map seen es)) ≡ row_at o (if b then Some e.1 else lookup (nat_eq o) es)
+found_by : (o : ℕ) (e : ℕ × Owned) (es : List (ℕ × Owned)) (b : Bool) → (e.0 == o) ≡ b → find (is_of o) (map seen es) ≡ row_at o (at o es)
+    → (if b then Some (seen e) else find (is_of o) (map seen es)) ≡ row_at o (if b then Some e.1 else at o es)
 found_by o e es true is later = ap (λ k. Some (seen (k, e.1))) (eqb-true e.0 o is)
 found_by o e es false is later = later
 
-pub found_row : (o : ℕ) (es : List (ℕ × Owned)) → find (is_of o) (map seen es) ≡ row_at o (lookup (nat_eq o) es)
+pub found_row : (o : ℕ) (es : List (ℕ × Owned)) → find (is_of o) (map seen es) ≡ row_at o (at o es)
 found_row o [] = refl
-found_row o (e ∷ es) = rw (nat_eq_equiv.symm o e.0) (found_by o e es (e.0 == o) refl (found_row o es))
+found_row o (e ∷ es) = rw (at_key o e.0) (found_by o e es (e.0 == o) refl (found_row o es))
 
-kept_by : (o : ℕ) (e : ℕ × Owned) (es : List (ℕ × Owned)) (b : Bool) → (e.0 == o) ≡ b → IsDistinct nat_eq (keys_of (e ∷ es))
-    → filter (is_of o) (map seen es) ≡ rows_at o (lookup (nat_eq o) es)
-    → (if b then seen e ∷ filter (is_of o) (map seen es) else filter (is_of o) (map seen es)) ≡ rows_at o (if b then Some e.1 else lookup (nat_eq o) es)
+kept_by : (o : ℕ) (e : ℕ × Owned) (es : List (ℕ × Owned)) (b : Bool) → (e.0 == o) ≡ b → IsOnce (e ∷ es)
+    → filter (is_of o) (map seen es) ≡ rows_at o (at o es)
+    → (if b then seen e ∷ filter (is_of o) (map seen es) else filter (is_of o) (map seen es)) ≡ rows_at o (if b then Some e.1 else at o es)
 kept_by o e es true is distinct later =
-    let none : lookup (nat_eq o) es ≡ None = lookup-none (nat_eq o) es (none_past_head nat_eq_equiv o e es distinct (nat_eq_equiv.symm o e.0 ∙ is)) in
+    let none : at o es ≡ None = lookup-none (is_at (nat_cmp o)) es (none_past_head (eq_by_cmp_equiv nat_cmp_total) o e es distinct (at_key o e.0 ∙ is)) in
     let empty : filter (is_of o) (map seen es) ≡ [] = later ∙ ap (rows_at o) none in
     rw (empty, eqb-true e.0 o is) refl
 kept_by o e es false is distinct later = later
 
-pub filter_lookup : (o : ℕ) (es : List (ℕ × Owned)) → IsDistinct nat_eq (keys_of es) → filter (is_of o) (map seen es) ≡ rows_at o (lookup (nat_eq o) es)
+pub filter_lookup : (o : ℕ) (es : List (ℕ × Owned)) → IsOnce es → filter (is_of o) (map seen es) ≡ rows_at o (at o es)
 filter_lookup o [] distinct = refl
 filter_lookup o (e ∷ es) distinct =
-    let later = filter_lookup o es (IsDistinct-tail nat_eq e.0 (keys_of es) distinct) in
-    rw (nat_eq_equiv.symm o e.0) (kept_by o e es (e.0 == o) refl distinct later)
+    let later = filter_lookup o es (IsDistinct-tail (eq_by_cmp nat_cmp) e.0 (keys_of es) distinct) in
+    rw (at_key o e.0) (kept_by o e es (e.0 == o) refl distinct later)
 
 -- ---- what a look-up tells of the counts
 
@@ -80,9 +84,9 @@ pub find_first : {X : Type 0} (p : X → Bool) (xs : List X) → find p xs ≡ f
 find_first p [] = refl
 find_first p (x ∷ xs) = rw (find_first p xs) (elim (p x) as (λ b. (if b then Some x else first (filter p xs)) ≡ first (if b then x ∷ filter p xs else filter p xs)) [ true ↦ refl | false ↦ refl ])
 
-pub tells : (es : List (ℕ × Owned)) (e : List Event) (o : ℕ) → Stands (record { owned = map seen es }) e → Tells e o (lookup (nat_eq o) es)
+pub tells : (es : List (ℕ × Owned)) (e : List Event) (o : ℕ) → Stands (record { owned = map seen es }) e → Tells e o (at o es)
 tells es e o stands =
-    told_by e o (lookup (nat_eq o) es) (owner e o) refl stands.allowed
+    told_by e o (at o es) (owner e o) refl stands.allowed
     (sym (found_row o es) ∙ (find_first (is_of o) (map seen es) ∙ ap first (stands.owned o)))
 
 rows_told : (e : List Event) (o : ℕ) (found : Option Owned) → AllAllowed e → Tells e o found → rows_at o found ≡ rows_of e o (owner e o)
@@ -91,10 +95,10 @@ rows_told e o (Some w) all told =
     let some : 0 < count e w.tid o = omega (arith, told.0, told.1) in
     rw (owner_is e w.tid o all some, told.0) refl
 
-pub stands_by : (es : List (ℕ × Owned)) (e : List Event) → AllAllowed e → IsDistinct nat_eq (keys_of es) → ((o : ℕ) → Tells e o (lookup (nat_eq o) es))
+pub stands_by : (es : List (ℕ × Owned)) (e : List Event) → AllAllowed e → IsOnce es → ((o : ℕ) → Tells e o (at o es))
     → Stands (record { owned = map seen es }) e
 stands_by es e all distinct each = record {
-  owned = λ o. filter_lookup o es distinct ∙ rows_told e o (lookup (nat_eq o) es) all (each o);
+  owned = λ o. filter_lookup o es distinct ∙ rows_told e o (at o es) all (each o);
   allowed = all;
 }
 
@@ -145,34 +149,34 @@ enter_elsewhere e t o q None apart told = λ u. count_other_enter e u t q o apar
 enter_elsewhere e t o q (Some w) apart told = (count_other_enter e w.tid t q o apart ∙ told.0, told.1)
 
 enter_each : (e : List Event) (t o q : ℕ) (es : List (ℕ × Owned)) (change : Option Owned → Option Owned) (b : Bool) → (o == q) ≡ b
-    → Tells (by t (Enter o) ∷ e) o (change (lookup (nat_eq o) es)) → Tells e q (lookup (nat_eq q) es)
-    → Tells (by t (Enter o) ∷ e) q (if b then change (lookup (nat_eq q) es) else lookup (nat_eq q) es)
+    → Tells (by t (Enter o) ∷ e) o (change (at o es)) → Tells e q (at q es)
+    → Tells (by t (Enter o) ∷ e) q (if b then change (at q es) else at q es)
 enter_each e t o q es change true is here told =
-    let P : ℕ → Type 0 = λ p. Tells (by t (Enter o) ∷ e) p (change (lookup (nat_eq p) es)) in
+    let P : ℕ → Type 0 = λ p. Tells (by t (Enter o) ∷ e) p (change (at p es)) in
     subst P (eqb-true o q is) here
-enter_each e t o q es change false is here told = enter_elsewhere e t o q (lookup (nat_eq q) es) is told
+enter_each e t o q es change false is here told = enter_elsewhere e t o q (at q es) is told
 
 -- the look-up of one object is changed to what its entering makes true
 enter_law : (es news : List (ℕ × Owned)) (e : List Event) (t o : ℕ) (change : Option Owned → Option Owned) → Stands (record { owned = map seen es }) e
-    → IsAllowed t (Enter o) e × Tells (by t (Enter o) ∷ e) o (change (lookup (nat_eq o) es)) → IsDistinct nat_eq (keys_of news)
-    → ((q : ℕ) → lookup (nat_eq q) news ≡ (if o == q then change (lookup (nat_eq q) es) else lookup (nat_eq q) es))
+    → IsAllowed t (Enter o) e × Tells (by t (Enter o) ∷ e) o (change (at o es)) → IsOnce news
+    → ((q : ℕ) → at q news ≡ (if o == q then change (at q es) else at q es))
     → Stands (record { owned = map seen news }) (by t (Enter o) ∷ e)
 enter_law es news e t o change stands may distinct changed =
     stands_by news (by t (Enter o) ∷ e) (stands.allowed, may.0) distinct
     (λ q. rw (changed q) (enter_each e t o q es change (o == q) refl may.1 (tells es e q stands)))
 
-pub raise_law : (es news : List (ℕ × Owned)) (e : List Event) (t o : ℕ) → Stands (record { owned = map seen es }) e → finds t (lookup (nat_eq o) es) ≡ Own
-    → IsDistinct nat_eq (keys_of news) → ((q : ℕ) → lookup (nat_eq q) news ≡ (if o == q then raised t (lookup (nat_eq q) es) else lookup (nat_eq q) es))
+pub raise_law : (es news : List (ℕ × Owned)) (e : List Event) (t o : ℕ) → Stands (record { owned = map seen es }) e → finds t (at o es) ≡ Own
+    → IsOnce news → ((q : ℕ) → at q news ≡ (if o == q then raised t (at q es) else at q es))
     → Stands (record { owned = map seen news }) (by t (Enter o) ∷ e)
-raise_law es news e t o stands own = enter_law es news e t o (raised t) stands (own_entered e t o (lookup (nat_eq o) es) stands.allowed (tells es e o stands) own)
+raise_law es news e t o stands own = enter_law es news e t o (raised t) stands (own_entered e t o (at o es) stands.allowed (tells es e o stands) own)
 
-pub take_law : (es was news : List (ℕ × Owned)) (e : List Event) (t o : ℕ) → Stands (record { owned = map seen es }) e → finds t (lookup (nat_eq o) es) ≡ Free → was ≡ es
-    → IsDistinct nat_eq (keys_of news) → ((q : ℕ) → lookup (nat_eq q) news ≡ (if o == q then Some (record { tid = t; count = 1 }) else lookup (nat_eq q) was))
+pub take_law : (es was news : List (ℕ × Owned)) (e : List Event) (t o : ℕ) → Stands (record { owned = map seen es }) e → finds t (at o es) ≡ Free → was ≡ es
+    → IsOnce news → ((q : ℕ) → at q news ≡ (if o == q then Some (record { tid = t; count = 1 }) else at q was))
     → Stands (record { owned = map seen news }) (by t (Enter o) ∷ e)
 take_law es was news e t o stands free same distinct taken =
     enter_law es news e t o (λ found. Some (record { tid = t; count = 1 })) stands
-    (free_entered e t o (lookup (nat_eq o) es) (free_is t (lookup (nat_eq o) es) free) stands.allowed (tells es e o stands)) distinct
-    (λ q. taken q ∙ ap (λ xs. if o == q then Some (record { tid = t; count = 1 }) else lookup (nat_eq q) xs) same)
+    (free_entered e t o (at o es) (free_is t (at o es) free) stands.allowed (tells es e o stands)) distinct
+    (λ q. taken q ∙ ap (λ xs. if o == q then Some (record { tid = t; count = 1 }) else at q xs) same)
 
 freed_by : (e : List Event) (t u o : ℕ) (w : Owned) (b : Bool) → (t == u) ≡ b → nat_lt 1 w.count ≡ false → w.tid ≡ t → AllAllowed e → Tells e o (Some w) → count (by t (Exit o) ∷ e) u o ≡ 0
 freed_by e t u o w true is few mine all told =
@@ -208,8 +212,8 @@ exit_each e t o q w found true is mine all here same told =
     rw (same at) (subst P at (exit_here e t o w (nat_lt 1 w.count) refl mine all here))
 exit_each e t o q w found false is mine all here same told = exit_elsewhere e t o q found is told
 
-pub exit_law : (es news : List (ℕ × Owned)) (e : List Event) (t o : ℕ) (w : Owned) → Stands (record { owned = map seen es }) e → lookup (nat_eq o) es ≡ Some w → w.tid ≡ t
-    → IsDistinct nat_eq (keys_of news) → ((q : ℕ) → lookup (nat_eq q) news ≡ (if o == q then lowered (lookup (nat_eq q) es) else lookup (nat_eq q) es))
+pub exit_law : (es news : List (ℕ × Owned)) (e : List Event) (t o : ℕ) (w : Owned) → Stands (record { owned = map seen es }) e → at o es ≡ Some w → w.tid ≡ t
+    → IsOnce news → ((q : ℕ) → at q news ≡ (if o == q then lowered (at q es) else at q es))
     → Stands (record { owned = map seen news }) (by t (Exit o) ∷ e)
 exit_law es news e t o w stands found mine distinct put =
     let P : Option Owned → Type 0 = λ f. Tells e o f in
@@ -217,8 +221,8 @@ exit_law es news e t o w stands found mine distinct put =
     let R : ℕ → Type 0 = λ u. 0 < count e u o in
     let some : 0 < count e w.tid o = omega (arith, here.0, here.1) in
     stands_by news (by t (Exit o) ∷ e) (stands.allowed, subst R mine some) distinct
-    (λ q. rw (put q) (exit_each e t o q w (lookup (nat_eq q) es) (o == q) refl mine stands.allowed here
-    (λ same. ap (λ p. lookup (nat_eq p) es) (sym same) ∙ found) (tells es e q stands)))
+    (λ q. rw (put q) (exit_each e t o q w (at q es) (o == q) refl mine stands.allowed here
+    (λ same. ap (λ p. at p es) (sym same) ∙ found) (tells es e q stands)))
 
 released_by : (e : List Event) (t u q : ℕ) (b : Bool) → (t == u) ≡ b → count e u q ≡ 0 → count (by t ReleaseAll ∷ e) u q ≡ 0
 released_by e t u q true is was =
@@ -248,8 +252,8 @@ release_each e t q None all told = λ u. released_by e t u q (t == u) refl (told
 release_each e t q (Some w) all told = release_owned e t q w (w.tid == t) refl all told
 
 pub release_law : (es news : List (ℕ × Owned)) (e : List Event) (t : ℕ) → Stands (record { owned = map seen es }) e
-    → IsDistinct nat_eq (keys_of news) → ((q : ℕ) → lookup (nat_eq q) news ≡ option_filter (λ w. not (w.tid == t)) (lookup (nat_eq q) es))
+    → IsOnce news → ((q : ℕ) → at q news ≡ option_filter (λ w. not (w.tid == t)) (at q es))
     → Stands (record { owned = map seen news }) (by t ReleaseAll ∷ e)
 release_law es news e t stands distinct is =
     stands_by news (by t ReleaseAll ∷ e) (stands.allowed, tt) distinct
-    (λ q. rw (is q) (release_each e t q (lookup (nat_eq q) es) stands.allowed (tells es e q stands)))
+    (λ q. rw (is q) (release_each e t q (at q es) stands.allowed (tells es e q stands)))

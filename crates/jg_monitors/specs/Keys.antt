@@ -2,7 +2,6 @@
 use Rattle.std.specs.Prelude.{ℕ, ◌≡◌, Bool, false, nat_eq, ◌==◌, ◌&&◌, if◌then◌else◌, List, Option, Some, None}
 use Rattle.std.specs.List.{list_any}
 use Rattle.std.specs.HashSet.{HashSet, contains}
-use Rattle.indexmap.specs.IndexMap.{IndexMap, get}
 use Rattle.jg_lists.specs.ByThread.{at}
 use Rattle.jg_monitors.specs.declared.owned.Owned.{Owned}
 
@@ -26,5 +25,5 @@ is_owned_by t None = false
 is_owned_by t (Some w) = w.tid == t
 
 -- each thread holds what it owns
-abbrev pub Agree : {S T : Type 0} → IndexMap ℕ Owned S → List (ℕ × HashSet ℕ T) → Type 0
-Agree owned held = (t o : ℕ) → has held (t, o) ≡ is_owned_by t (get nat_eq owned o)
+abbrev pub Agree : {S : Type 0} → List (ℕ × Owned) → List (ℕ × HashSet ℕ S) → Type 0
+Agree owned held = (t o : ℕ) → has held (t, o) ≡ is_owned_by t (at o owned)

@@ -1,8 +1,7 @@
 //! The objects whose monitors each thread owns.
 
-ghost use Rattle.std.specs.Prelude.{◌≡◌, ℕ, ◌==◌, ◌||◌, ◌&&◌, if◌then◌else◌, not, nat_eq, None, OnOk, OnErr, IsSome};
-ghost use Rattle.indexmap.specs.IndexMap.{get, IsUnique};
-ghost use Rattle.jg_lists.specs.ByThread.{at};
+ghost use Rattle.std.specs.Prelude.{◌≡◌, ℕ, ◌==◌, ◌||◌, ◌&&◌, if◌then◌else◌, not, None, OnOk, OnErr, IsSome};
+ghost use Rattle.jg_lists.specs.ByThread.{at, IsOnce};
 ghost use Rattle.jg_monitors.specs.Keys.{has, same_pair, freed};
 
 use crate::owned::{ByObject, free};
@@ -74,8 +73,8 @@ pub fn let_go<A: Allocator>(held: &mut ByOwner<A>, tid: u16, object: u64)
 
 /// Frees the monitors of the objects.
 fn free_all<A: Allocator>(owned: &mut ByObject<A>, objects: &Objects<A>)
-    ensures freed { (q : ℕ) → get nat_eq owned.new q ≡ freed objects.now.keys q (get nat_eq owned.old q) }
-    ensures unique { IsUnique nat_eq owned.old → IsUnique nat_eq owned.new }
+    ensures freed { (q : ℕ) → at q owned.new ≡ freed objects.now.keys q (at q owned.old) }
+    ensures once { IsOnce owned.old → IsOnce owned.new }
 {
     for object in objects.iter() {
         free(owned, *object);
@@ -85,9 +84,9 @@ fn free_all<A: Allocator>(owned: &mut ByObject<A>, objects: &Objects<A>)
 /// Frees the thread's monitors, and gives the memory of its set back.
 #[tactic(auto, unfolding(crate::specs::Keys::has))]
 pub fn free_held<A: Allocator + Clone>(owned: &mut ByObject<A>, held: &mut ByOwner<A>, tid: u16)
-    ensures freed { (q : ℕ) → get nat_eq owned.new q
-        ≡ (if has held.old (tid, q) then None else get nat_eq owned.old q) }
-    ensures unique { IsUnique nat_eq owned.old → IsUnique nat_eq owned.new }
+    ensures freed { (q : ℕ) → at q owned.new
+        ≡ (if has held.old (tid, q) then None else at q owned.old) }
+    ensures once { IsOnce owned.old → IsOnce owned.new }
     ensures held { (q : ℕ × ℕ) → has held.new q ≡ (not (tid == q.0) && has held.old q) }
 {
     if let Some(objects) = held.get_mut(tid) {

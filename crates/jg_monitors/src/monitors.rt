@@ -9,13 +9,13 @@ use crate::held::ByOwner;
 use crate::holdings::{lower, release, take};
 use crate::owned::{ByObject, Found, Owned, list_all, look, mark_keys, raise_own};
 use crate::owned_monitor::OwnedMonitor;
-use indexmap::IndexMap;
-use jg_lists::{ByThread, ObjectMarks};
+use jg_lists::{ByNumber, ByThread, ObjectMarks};
 use jg_words::{ObjId, Tid};
 use std::alloc::{AllocError, Allocator, Global};
 use std::marker::Model;
 
-/// The owned monitors, by object. Contracts see the rows.
+/// The owned monitors, by object, each found in one step. Takes 8 bytes for each object up to the
+/// greatest number whose monitor was ever entered, beside what is owned. Contracts see the rows.
 #[derive(Drop)]
 pub struct Monitors<A: Allocator = Global> {
     owned: ByObject<A>,
@@ -32,7 +32,7 @@ impl<A: Allocator> Model for Monitors<A> {
 
     ghost Value = { Rows };
 
-    ghost view = { λ a. record { owned = map seen a.owned.entries } };
+    ghost view = { λ a. record { owned = map seen a.owned } };
 
     ghost invariant = { λ a. Agree a.owned a.held };
 }
@@ -45,7 +45,7 @@ impl<A: Allocator + Copy> Monitors<A> {
         ensures rows { result ≡ record { owned = [] } }
     {
         Monitors {
-            owned: IndexMap::new(alloc),
+            owned: ByNumber::new(alloc, alloc),
             held: ByThread::new(alloc, alloc),
             alloc,
         }

@@ -1,17 +1,16 @@
-ghost use Rattle.std.specs.Prelude.{◌≡◌, ℕ, ◌==◌, ◌<◌, not, nat_eq, if◌then◌else◌, filter, None, Some, IfOk, OnOk, OnErr, map};
+ghost use Rattle.std.specs.Prelude.{◌≡◌, ℕ, ◌==◌, ◌<◌, not, if◌then◌else◌, filter, None, IfOk, map};
 ghost use Rattle.std.specs.List.{list_any};
+ghost use Rattle.std.specs.Map.{keys_of};
 ghost use Rattle.std.specs.Option.{is_some};
+ghost use Rattle.jg_lists.specs.ByThread.{at, IsOnce};
+ghost use Rattle.jg_lists.specs.Marks.{Marks};
 ghost use Rattle.jg_monitors.specs.Rows.{Ascends, is_of, owned_monitor};
 ghost use Rattle.jg_monitors.specs.Seen.{count_kept, finds, raised, lowered, seen};
-ghost use Rattle.indexmap.specs.IndexMap.{get, keys, IsUnique};
-ghost use Rattle.jg_lists.specs.Marks.{Marks};
 
 use crate::owned_monitor::OwnedMonitor;
-use indexmap::IndexMap;
-use jg_lists::ObjectMarks;
+use jg_lists::{ByNumber, ObjectMarks};
 use jg_words::{ObjId, Tid};
 use std::alloc::{AllocError, Allocator};
-use std::hash::{BuildHasherDefault, FoldHasher};
 
 /// The owner of a monitor, and how often it entered it and didn't exit: at least once.
 #[derive(Clone, Copy, Debug, PartialEq, Eq)]
@@ -21,12 +20,12 @@ pub struct Owned {
 }
 
 /// The owners, by object.
-pub type ByObject<A> = IndexMap<u64, Owned, BuildHasherDefault<FoldHasher>, A>;
+pub type ByObject<A> = ByNumber<Owned, A>;
 
 pub fn look<A: Allocator>(map: &ByObject<A>, object: u64) -> Option<Owned>
-    ensures { result ≡ get nat_eq map.now object }
+    ensures { result ≡ at object map.now }
 {
-    map.get(&object).copied()
+    map.get(object).copied()
 }
 
 /// What a thread finds that would enter a monitor.
@@ -40,70 +39,67 @@ pub enum Found {
 /// Raises the count of the object's monitor by one where the thread owns it, and changes nothing
 /// else. Takes no memory.
 pub fn raise_own<A: Allocator>(map: &mut ByObject<A>, tid: u16, object: u64) -> Found
-    requires { count_kept (get nat_eq map.old object) < u64.MAX }
-    ensures found { result ≡ finds tid (get nat_eq map.old object) }
-    ensures raised { (q : ℕ) → get nat_eq map.new q
-        ≡ (if object == q then raised tid (get nat_eq map.old q) else get nat_eq map.old q) }
-    ensures unique { IsUnique nat_eq map.new }
-    ensures free { result ≡ Found.Free → map.new.entries ≡ map.old.entries }
-    ensures others { result ≡ Found.Others → map.new.entries ≡ map.old.entries }
+    requires { count_kept (at object map.old) < u64.MAX }
+    ensures found { result ≡ finds tid (at object map.old) }
+    ensures raised { (q : ℕ) → at q map.new
+        ≡ (if object == q then raised tid (at q map.old) else at q map.old) }
+    ensures once { IsOnce map.new }
+    ensures free { result ≡ Found.Free → map.new ≡ map.old }
+    ensures others { result ≡ Found.Others → map.new ≡ map.old }
 {
-    let Some(owned) = map.get_mut(&object) else {
+    let Some(owned) = map.get(object).copied() else {
         return Found::Free;
     };
     if owned.tid != tid {
         return Found::Others;
     }
-    owned.count += 1;
+    map.set(
+        object,
+        Owned {
+            count: owned.count + 1,
+            ..owned
+        },
+    );
     Found::Own
-}
-
-pub fn set_owner<A: Allocator + Clone>(
-    map: &mut ByObject<A>,
-    object: u64,
-    owned: Owned,
-) -> Result<(), AllocError>
-    ensures put { OnOk result ((q : ℕ) → get nat_eq map.new q
-        ≡ (if object == q then Some owned else get nat_eq map.old q)) }
-    ensures unique { OnOk result (IsUnique nat_eq map.new) }
-    ensures err { OnErr result (map.new.entries ≡ map.old.entries) }
-    ensures absent { OnErr result (get nat_eq map.old object ≡ None) }
-{
-    map.insert(object, owned)?;
-    Ok(())
 }
 
 /// Lowers the count of the object's monitor by one, and frees it at 0. Answers whether it is free
 /// then. Takes no memory.
 pub fn lower_count<A: Allocator>(map: &mut ByObject<A>, object: u64) -> bool
-    ensures free { result ≡ not (is_some (lowered (get nat_eq map.old object))) }
-    ensures lowered { (q : ℕ) → get nat_eq map.new q
-        ≡ (if object == q then lowered (get nat_eq map.old q) else get nat_eq map.old q) }
-    ensures unique { IsUnique nat_eq map.new }
+    ensures free { result ≡ not (is_some (lowered (at object map.old))) }
+    ensures lowered { (q : ℕ) → at q map.new
+        ≡ (if object == q then lowered (at q map.old) else at q map.old) }
+    ensures once { IsOnce map.new }
 {
-    if let Some(owned) = map.get_mut(&object) {
+    if let Some(owned) = look(map, object) {
         if owned.count > 1 {
-            owned.count -= 1;
+            map.set(
+                object,
+                Owned {
+                    count: owned.count - 1,
+                    ..owned
+                },
+            );
             return false;
         }
     }
-    map.swap_remove(&object);
+    map.remove(object);
     true
 }
 
 /// Frees the object's monitor. Takes no memory.
 pub fn free<A: Allocator>(map: &mut ByObject<A>, object: u64)
-    ensures freed { (q : ℕ) → get nat_eq map.new q ≡ (if object == q then None else get nat_eq map.old q) }
-    ensures unique { IsUnique nat_eq map.new }
+    ensures freed { (q : ℕ) → at q map.new ≡ (if object == q then None else at q map.old) }
+    ensures once { IsOnce map.new }
 {
-    map.swap_remove(&object);
+    map.remove(object);
 }
 
 pub fn mark_keys<A: Allocator>(map: &ByObject<A>, marks: &mut ObjectMarks<A>)
-    ensures { Marks (λ o. list_any (λ k. k == o) (keys map.now)) marks.old marks.new }
+    ensures { Marks (λ o. list_any (λ k. k == o) (keys_of map.now)) marks.old marks.new }
 {
-    for object in map.keys() {
-        marks.set(*object);
+    for seat in map.seats() {
+        marks.set(seat.number);
     }
 }
 
@@ -113,15 +109,15 @@ pub fn list_all<A: Allocator, B: Allocator>(
     alloc: B,
 ) -> Result<Vec<OwnedMonitor, B>, AllocError>
     ensures rows { IfOk result (λ found. (o : ℕ) → filter (λ m. m.object.0 == o) found.items
-        ≡ map owned_monitor (filter (is_of o) (map seen owned.now.entries))) }
+        ≡ map owned_monitor (filter (is_of o) (map seen owned.now))) }
     ensures ascending { IfOk result (λ found. Ascends found.items) }
 {
     let mut found = Vec::new(alloc);
-    for (object, row) in owned.iter() {
+    for seat in owned.seats() {
         found.push(OwnedMonitor {
-            object: ObjId(*object),
-            owner: Tid(row.tid),
-            count: row.count,
+            object: ObjId(seat.number),
+            owner: Tid(seat.value.tid),
+            count: seat.value.count,
         })?;
     }
     found.sort_unstable_by_key(|monitor| monitor.object.0);

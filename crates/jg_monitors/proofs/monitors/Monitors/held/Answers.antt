@@ -6,5 +6,5 @@ use Rattle.jg_monitors.proofs.monitors.Monitors.held.Goals as goal
 
 pub returns : goal.returns
 returns g c = λ e stands.
-    let was : Stands (record { owned = map seen c.self.inside.owned.entries }) e = reopened _ _ e c.self.view_is stands in
-    rw (c.is_some.ensures, c.look.ensures) (held_law c.self.inside.owned.entries e c.args.object.0 was)
+    let was : Stands (record { owned = map seen c.self.inside.owned }) e = reopened _ _ e c.self.view_is stands in
+    rw (c.is_some.ensures, c.look.ensures) (held_law c.self.inside.owned e c.args.object.0 was)

@@ -7,5 +7,5 @@ use Rattle.jg_monitors.proofs.monitors.Monitors.mark_held.Goals as goal
 
 pub returns : goal.returns
 returns g c = λ e stands o.
-    let was : Stands (record { owned = map seen c.self.inside.owned.entries }) e = reopened _ _ e c.self.view_is stands in
-    rw (c.mark_keys.ensures o, any_key_law c.self.inside.owned.entries e o was) refl
+    let was : Stands (record { owned = map seen c.self.inside.owned }) e = reopened _ _ e c.self.view_is stands in
+    rw (c.mark_keys.ensures o, any_key_law c.self.inside.owned e o was) refl

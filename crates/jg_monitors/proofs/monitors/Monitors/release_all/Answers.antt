@@ -7,5 +7,5 @@ use Rattle.jg_monitors.proofs.monitors.Monitors.release_all.Goals as goal
 
 pub returns : goal.returns
 returns g c = λ e stands.
-    let was : Stands (record { owned = map seen c.self.inside.owned.entries }) e = reopened _ _ e c.self.view_is stands in
-    release_law c.self.inside.owned.entries c.release.new.owned.entries e c.args.tid.0 was c.release.ensures.unique c.release.ensures.released
+    let was : Stands (record { owned = map seen c.self.inside.owned }) e = reopened _ _ e c.self.view_is stands in
+    release_law c.self.inside.owned c.release.new.owned e c.args.tid.0 was c.release.ensures.once c.release.ensures.released
