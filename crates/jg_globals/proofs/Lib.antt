@@ -1,4 +1,5 @@
 pub mod Callers
+mod Changed
 mod Ended
 mod Listed
 mod Lookups
@@ -6,3 +7,5 @@ mod Means
 mod Named
 mod Numbers
 mod Steps
+mod Tables
+mod Visited

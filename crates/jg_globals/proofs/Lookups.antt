@@ -2,7 +2,7 @@
 use Rattle.std.proofs.Common.{◌≡◌, ℕ, Bool, true, false, List, [], ◌∷◌, Option, Some, None, refl, ◌∙◌, ap, sym, subst, arith, inl, inr, eqb-true}
 use Rattle.std.specs.Prelude.{◌==◌, ◌||◌, if◌then◌else◌, filter, map}
 use Rattle.std.specs.List.{list_any}
-use Rattle.std.specs.Map.{lookup, values_of}
+use Rattle.std.specs.Map.{lookup}
 use Rattle.std.specs.Option.{option_map}
 use Rattle.std.proofs.lemmas.Bool.Decides.{nat_tests}
 use Rattle.jg_words.specs.declared.object.ObjId.{ObjId}
@@ -10,10 +10,10 @@ use Rattle.jg_globals.specs.declared.name.Name.{Name}
 use Rattle.jg_globals.specs.declared.target.Target.{Target}
 use Rattle.jg_globals.specs.History.{Event, MakeStrong, MakeWeak, DeleteStrong, DeleteWeak, Clear, is_same, strong, weak_target, is_now, made_and_held, holds_object}
 use Rattle.jg_globals.specs.Rows.{Rows, Strong, is_strong, is_weak, IsAbove}
-use Rattle.jg_globals.specs.Seen.{strong_seen, weak_seen}
+use Rattle.jg_globals.specs.Seen.{name, same_name, strong_seen, weak_seen}
 use Rattle.jg_globals.specs.Standing.{Stands, strong_rows, weak_rows}
-use Rattle.jg_globals.proofs.Named.{name, same_name, first_named}
-use Rattle.jg_lists.proofs.Lists.{first, Member, any_member, member_filter, any_of_filter, both_ways}
+use Rattle.jg_globals.proofs.Named.{first_named}
+use Rattle.jg_lists.proofs.Lists.{first, list_any-map, Member, any_member, member_filter, any_of_filter, both_ways}
 
 pub strong_tests : (m n : ℕ) (e : Name × ObjId) → is_strong m n (strong_seen e) ≡ same_name (name m n) e.0
 strong_tests m n e = grind (arith, nat_tests)
@@ -118,13 +118,9 @@ held_row rows e o stands is =
     let here = any_of_strong found.0 found.1.0 o (strong e found.0 found.1.0) found.1.1 in
     any_of_filter (λ row. row.object == o) (is_strong found.0 found.1.0) rows.strong (rw (stands.strong found.0 found.1.0) here)
 
-values_any : (es : List (Name × ObjId)) (o : ℕ) → list_any (λ p. p.0 == o) (values_of es) ≡ list_any (λ row. row.object == o) (map strong_seen es)
-values_any [] o = refl
-values_any (e ∷ es) o = ap (λ b. (e.1.0 == o) || b) (values_any es o)
-
-pub holds_law : (rows : Rows) (e : List Event) (es : List (Name × ObjId)) (o : ℕ) → rows.strong ≡ map strong_seen es → Stands rows e → list_any (λ p. p.0 == o) (values_of es) ≡ holds_object e o
+pub holds_law : (rows : Rows) (e : List Event) (es : List (Name × ObjId)) (o : ℕ) → rows.strong ≡ map strong_seen es → Stands rows e → list_any (λ entry. entry.1.0 == o) es ≡ holds_object e o
 holds_law rows e es o seen stands =
-    values_any es o
+    list_any-map strong_seen (λ entry. entry.1.0 == o) (λ row. row.object == o) (λ entry. refl) es
     ∙ (ap (list_any (λ row. row.object == o)) (sym seen)
     ∙ both_ways (list_any (λ row. row.object == o) rows.strong) (holds_object e o) (row_holds rows e o stands) (held_row rows e o stands))
 

@@ -1,24 +1,18 @@
--- What a map by name has of one reference: the rows that contracts see, and its numbers.
-use Rattle.std.proofs.Common.{◌≡◌, ℕ, Bool, true, false, cond, List, [], ◌∷◌, Some, refl, ◌∙◌, ap, sym, subst, arith}
-use Rattle.std.specs.Prelude.{◌==◌, ◌&&◌, if◌then◌else◌, filter, map, All}
+-- What entries by name have of one reference: the rows that contracts see, and its numbers.
+use Rattle.std.proofs.Common.{◌≡◌, ◌≤◌, Bool, true, false, cond, length, List, [], ◌∷◌, Some, refl, ◌∙◌, ap, sym, subst, arith}
+use Rattle.std.specs.Prelude.{if◌then◌else◌, filter, map, All}
 use Rattle.std.specs.Cmp.{IsEquivalence}
-use Rattle.std.specs.List.{AllByRecursion, IsDistinct}
+use Rattle.std.specs.List.{AllByRecursion}
 use Rattle.std.specs.Map.{keys_of, lookup}
 use Rattle.std.specs.Option.{option_map, option_to_list, IsSome}
 use Rattle.std.proofs.lemmas.Bool.Decides.{nat_tests}
 use Rattle.std.proofs.lemmas.Cmp.{and_equiv, on_equiv, nat_eq_equiv}
+use Rattle.std.proofs.lemmas.List.{length-map}
 use Rattle.std.proofs.lemmas.List.Elements.{recursion_from_All, All-from_recursion, All-contains}
 use Rattle.std.proofs.lemmas.Map.Views.{All-keys_from_lookup, Contains-keys_from_lookup}
-use Rattle.std.proofs.lemmas.Map.Keys.{IsDistinct-head, IsDistinct-tail}
 use Rattle.jg_globals.specs.declared.name.Name.{Name}
-use Rattle.jg_lists.proofs.Lists.{first}
-
-abbrev pub name : ℕ → ℕ → Name
-name maker n = record { maker = maker; n = n }
-
--- the test by which the maps find a name
-abbrev pub same_name : Name → Name → Bool
-same_name a b = (a.maker == b.maker) && (a.n == b.n)
+use Rattle.jg_globals.specs.Seen.{same_name, IsThereOnce}
+use Rattle.jg_lists.proofs.Lists.{first, map-filter}
 
 pub name_laws : IsEquivalence same_name
 name_laws = and_equiv (on_equiv (λ a. a.maker) nat_eq_equiv) (on_equiv (λ a. a.n) nat_eq_equiv)
@@ -47,26 +41,21 @@ module _ {V R : Type 0} (seen : Name × V → R) (test : R → Bool) (q : Name) 
       by true is rest = ap Some (entry_seen e is)
       by false is rest = rest
 
-  none_named : (es : List (Name × V)) → AllByRecursion (λ k. same_name q k ≡ false) (keys_of es) → filter test (map seen es) ≡ []
-  none_named [] none = refl
-  none_named (e ∷ es) none = rw (tests e, none.0) (none_named es none.1)
+  same_length : (es : List (Name × V)) → length (filter test (map seen es)) ≡ length (filter (λ e. same_name q e.0) es)
+  same_length es = ap length (sym (map-filter seen (λ e. same_name q e.0) test (λ e. sym (tests e)) es)) ∙ length-map (filter (λ e. same_name q e.0) es) seen
 
-  others : (k : Name) (ks : List Name) → same_name q k ≡ true → AllByRecursion (λ other. same_name k other ≡ false) ks → AllByRecursion (λ other. same_name q other ≡ false) ks
-  others k [] is none = tt
-  others k (other ∷ ks) is none = (name_laws.congr q k other is ∙ none.0, others k ks is none.1)
+  -- one row at most passes the test where no two entries have the name, and the other way
+  pub once_named : (es : List (Name × V)) → length (filter test (map seen es)) ≤ 1 → IsThereOnce q es
+  once_named es few = omega (arith, few, same_length es)
 
-  -- the rows that pass the test are that of the name, where it is in the map
-  pub rows_named : (es : List (Name × V)) → IsDistinct same_name (keys_of es)
-      → filter test (map seen es) ≡ option_to_list (option_map (λ v. seen (q, v)) (lookup (same_name q) es))
-  rows_named [] distinct = refl
-  rows_named (e ∷ es) distinct =
-      let P : Bool → Type 0 = λ b. (if b then seen e ∷ filter test (map seen es) else filter test (map seen es)) ≡ option_to_list (option_map (λ v. seen (q, v)) (lookup (same_name q) (e ∷ es))) in
-      subst P (sym (tests e)) (by (same_name q e.0) refl (rows_named es (IsDistinct-tail same_name e.0 (keys_of es) distinct)))
-    where
-      by : (b : Bool) → same_name q e.0 ≡ b → filter test (map seen es) ≡ option_to_list (option_map (λ v. seen (q, v)) (lookup (same_name q) es))
-          → (if b then seen e ∷ filter test (map seen es) else filter test (map seen es)) ≡ option_to_list (option_map (λ v. seen (q, v)) (cond b (Some e.1) (lookup (same_name q) es)))
-      by true is rest = rw (none_named es (others e.0 (keys_of es) is (IsDistinct-head same_name e.0 (keys_of es) distinct))) (ap (λ row. row ∷ []) (entry_seen e is))
-      by false is rest = rest
+  one_or_none : (rows : List R) → length rows ≤ 1 → rows ≡ option_to_list (first rows)
+  one_or_none [] few = refl
+  one_or_none (row ∷ []) few = refl
+  one_or_none (row ∷ other ∷ rows) few = absurd (omega (arith, few))
+
+  -- the rows that pass the test are that of the name, where it is found
+  pub rows_named : (es : List (Name × V)) → IsThereOnce q es → filter test (map seen es) ≡ option_to_list (option_map (λ v. seen (q, v)) (lookup (same_name q) es))
+  rows_named es once = one_or_none (filter test (map seen es)) (omega (arith, once, same_length es)) ∙ ap option_to_list (first_named es)
 
 -- a map in which only names of another are found has only names of it
 pub names_kept : {V W : Type 0} (P : Name → Type 0) (es : List (Name × V)) (news : List (Name × W))

@@ -1,28 +1,41 @@
 -- What a call leaves of the numbers in the rows.
-use Rattle.std.proofs.Common.{◌≡◌, ℕ, ◌<◌, Bool, true, false, cond, List, [], ◌∷◌, ◌++◌, Option, None, sym, subst}
+use Rattle.std.proofs.Common.{◌≡◌, ℕ, ◌<◌, Bool, true, false, cond, List, [], ◌∷◌, ◌++◌, Option, None, ◌∙◌, ap, sym, subst}
 use Rattle.std.specs.Prelude.{map, All}
 use Rattle.std.specs.List.{AllByRecursion}
 use Rattle.std.specs.Map.{lookup}
 use Rattle.std.specs.Option.{IsSome}
-use Rattle.std.proofs.lemmas.List.Elements.{All-push, recursion_from_All, All-from_recursion}
+use Rattle.std.proofs.lemmas.List.Elements.{recursion_from_All, All-from_recursion}
 use Rattle.jg_words.specs.declared.object.ObjId.{ObjId}
 use Rattle.jg_globals.specs.declared.name.Name.{Name}
 use Rattle.jg_globals.specs.declared.target.Target.{Target}
 use Rattle.jg_globals.specs.Rows.{Rows, Strong, Weak, IsAbove}
-use Rattle.jg_globals.specs.Seen.{strong_seen, weak_seen}
+use Rattle.jg_globals.specs.Seen.{same_name, strong_seen, weak_seen, Adds}
 use Rattle.jg_globals.specs.Clearing.{EachCleared}
-use Rattle.jg_globals.proofs.Named.{same_name, names_kept, all_keys, all_rows}
+use Rattle.jg_globals.proofs.Named.{names_kept, all_keys, all_rows}
 
-pub strong_number : (rows : Rows) (row : Strong) (k i : ℕ) → IsAbove k i rows → (k ≡ row.maker → row.n < i) → IsAbove k i (record { strong = rows.strong ++ row ∷ []; weak = rows.weak })
-strong_number rows row k i above below = record {
-  strong = All-push (λ r. r.maker ≡ k → r.n < i) rows.strong row above.strong (λ is. below (sym is));
+all_added : {X Y : Type 0} (f : X → Y) (Q : Y → Type 0) (front back : List X) (x : X) → Q (f x) → AllByRecursion Q (map f (front ++ back)) → AllByRecursion Q (map f (front ++ x ∷ back))
+all_added f Q [] back x own all = (own, all)
+all_added f Q (y ∷ front) back x own all = (all.0, all_added f Q front back x own all.1)
+
+-- what holds of each row holds where an entry is added of which it holds
+rows_added : {V R : Type 0} (seen : Name × V → R) (Q : R → Type 0) (q : Name) (v : V) (rows : List R) (es news : List (Name × V)) → rows ≡ map seen es → Adds q v es news → Q (seen (q, v)) → All Q rows
+    → All Q (map seen news)
+rows_added {V} {R} seen Q q v rows es news is adds own all =
+    let was : AllByRecursion Q (map seen (adds.front ++ adds.back)) = subst (λ (l : List R). AllByRecursion Q l) (is ∙ ap (map seen) adds.was) (recursion_from_All _ _ all) in
+    subst (λ (l : List (Name × V)). All Q (map seen l)) (sym adds.now) (All-from_recursion _ _ (all_added seen Q adds.front adds.back (q, v) own was))
+
+pub strong_number : (rows : Rows) (q : Name) (o : ObjId) (es news : List (Name × ObjId)) (k i : ℕ) → rows.strong ≡ map strong_seen es → Adds q o es news → IsAbove k i rows → (k ≡ q.maker → q.n < i)
+    → IsAbove k i (record { strong = map strong_seen news; weak = rows.weak })
+strong_number rows q o es news k i seen adds above below = record {
+  strong = rows_added strong_seen (λ row. row.maker ≡ k → row.n < i) q o rows.strong es news seen adds (λ is. below (sym is)) above.strong;
   weak = above.weak;
 }
 
-pub weak_number : (rows : Rows) (row : Weak) (k i : ℕ) → IsAbove k i rows → (k ≡ row.maker → row.n < i) → IsAbove k i (record { strong = rows.strong; weak = rows.weak ++ row ∷ [] })
-weak_number rows row k i above below = record {
+pub weak_number : (rows : Rows) (q : Name) (t : Target) (es news : List (Name × Target)) (k i : ℕ) → rows.weak ≡ map weak_seen es → Adds q t es news → IsAbove k i rows → (k ≡ q.maker → q.n < i)
+    → IsAbove k i (record { strong = rows.strong; weak = map weak_seen news })
+weak_number rows q t es news k i seen adds above below = record {
   strong = above.strong;
-  weak = All-push (λ r. r.maker ≡ k → r.n < i) rows.weak row above.weak (λ is. below (sym is));
+  weak = rows_added weak_seen (λ row. row.maker ≡ k → row.n < i) q t rows.weak es news seen adds (λ is. below (sym is)) above.weak;
 }
 
 pub strong_kept : (rows : Rows) (es news : List (Name × ObjId)) (k i : ℕ) → rows.strong ≡ map strong_seen es → ((q : Name) → IsSome (lookup (same_name q) news) → IsSome (lookup (same_name q) es))

@@ -1,24 +1,22 @@
 -- How the rows stand after one more event.
-use Rattle.std.proofs.Common.{◌≡◌, ℕ, zero, suc, ◌<◌, ◌≤◌, take, drop, length, Bool, true, false, cond, List, [], ◌∷◌, ◌++◌, Option, Some, None, refl, ◌∙◌, ap, sym, subst, arith}
-use Rattle.std.specs.Prelude.{◌==◌, ◌||◌, if◌then◌else◌, filter, map, slice_get, All}
-use Rattle.std.specs.List.{list_any, AllByRecursion, IsDistinct}
-use Rattle.std.specs.Map.{keys_of, values_of, lookup}
+use Rattle.std.proofs.Common.{◌≡◌, ℕ, ◌<◌, ◌≤◌, length, Bool, true, false, cond, List, [], ◌∷◌, ◌++◌, Option, Some, None, refl, ◌∙◌, ap, sym, subst, arith}
+use Rattle.std.specs.Prelude.{◌==◌, ◌||◌, if◌then◌else◌, filter, map, All}
+use Rattle.std.specs.List.{list_any, AllByRecursion}
+use Rattle.std.specs.Map.{lookup}
 use Rattle.std.specs.Option.{option_map, option_to_list}
 use Rattle.std.proofs.lemmas.Bool.Decides.{nat_tests}
-use Rattle.std.proofs.lemmas.List.Elements.{filter-append, recursion_from_All}
-use Rattle.std.proofs.lemmas.List.{append-nil, take_all}
-use Rattle.indexmap.specs.Layout.{set_value_at}
+use Rattle.std.proofs.lemmas.List.Elements.{recursion_from_All}
 use Rattle.jg_words.specs.declared.object.ObjId.{ObjId}
 use Rattle.jg_globals.specs.declared.name.Name.{Name}
 use Rattle.jg_globals.specs.declared.target.Target.{Target}
 use Rattle.jg_globals.specs.declared.target.Target.TheVariants.{Object, Cleared}
 use Rattle.jg_globals.specs.History.{Event, MakeStrong, MakeWeak, DeleteStrong, DeleteWeak, Clear, is_same, strong, weak, after_making, clears, unless_cleared, weak_target}
 use Rattle.jg_globals.specs.Rows.{Rows, Strong, Weak, is_strong, is_weak, IsAbove}
-use Rattle.jg_globals.specs.Seen.{strong_seen, weak_seen}
+use Rattle.jg_globals.specs.Seen.{name, same_name, strong_seen, weak_seen, Adds, Drops, IsThereOnce}
 use Rattle.jg_globals.specs.Standing.{Stands, strong_rows, weak_rows, IsListOf}
 use Rattle.jg_globals.specs.Clearing.{IsCleared, EachCleared}
 use Rattle.jg_lists.proofs.Lists.{first}
-use Rattle.jg_globals.proofs.Named.{name, same_name, first_named, rows_named}
+use Rattle.jg_globals.proofs.Named.{first_named, once_named, rows_named}
 use Rattle.jg_globals.proofs.Lookups.{strong_tests, weak_tests, no_value, get_strong_law, get_weak_law}
 
 -- what an event that isn't about weak references does to what they name: nothing
@@ -26,26 +24,37 @@ quiet : (maker n : ℕ) (later : List Event) (ev : Event) (found : Option ℕ) �
 quiet maker n later ev None none = refl
 quiet maker n later ev (Some o) none = rw (none o) refl
 
--- the row of a new strong reference
-strong_added : (m n k i o : ℕ) (b : Bool) (rows : List Strong) (was : Option ℕ) → is_same m n k i ≡ b → filter (is_strong m n) rows ≡ strong_rows m n was
-    → (is_same m n k i ≡ true → filter (is_strong m n) rows ≡ [])
-    → filter (is_strong m n) rows ++ (if b then record { maker = k; n = i; object = o } ∷ [] else []) ≡ strong_rows m n (if b then Some o else was)
-strong_added m n k i o true rows was is stands new =
-    let none = new is in
-    let maker : k ≡ m = grind (arith, nat_tests) in
-    let number : i ≡ n = grind (arith, nat_tests) in
-    rw (none, maker, number) refl
-strong_added m n k i o false rows was is stands new = append-nil _ ∙ stands
+-- the rows of one name once an entry is added, which had none where the entry has the name
+rows_added : {X Y : Type 0} (f : X → Y) (p : Y → Bool) (front back : List X) (x : X) (b : Bool) → p (f x) ≡ b → (b ≡ true → filter p (map f (front ++ back)) ≡ [])
+    → filter p (map f (front ++ x ∷ back)) ≡ (if b then f x ∷ [] else filter p (map f (front ++ back)))
+rows_added f p [] back x true is none = rw (is, none refl) refl
+rows_added f p [] back x false is none = rw is refl
+rows_added f p (y ∷ front) back x b is none = by f p y front back x b (p (f y)) none (λ later. rows_added f p front back x b is later)
+  where
+    by : {X Y : Type 0} (f : X → Y) (p : Y → Bool) (y : X) (front back : List X) (x : X) (b c : Bool)
+        → (b ≡ true → (if c then f y ∷ filter p (map f (front ++ back)) else filter p (map f (front ++ back))) ≡ [])
+        → ((b ≡ true → filter p (map f (front ++ back)) ≡ []) → filter p (map f (front ++ x ∷ back)) ≡ (if b then f x ∷ [] else filter p (map f (front ++ back))))
+        → (if c then f y ∷ filter p (map f (front ++ x ∷ back)) else filter p (map f (front ++ x ∷ back)))
+        ≡ (if b then f x ∷ [] else (if c then f y ∷ filter p (map f (front ++ back)) else filter p (map f (front ++ back))))
+    by f p y front back x true true none later = let never = none refl in cc
+    by f p y front back x false true none later = ap (λ l. f y ∷ l) (later (λ is. cc))
+    by f p y front back x b false none later = later none
 
-weak_added : (m n k i o : ℕ) (b : Bool) (rows : List Weak) (was : Option Target) (t : Target) → is_same m n k i ≡ b → filter (is_weak m n) rows ≡ weak_rows m n was
-    → (is_same m n k i ≡ true → filter (is_weak m n) rows ≡ [])
-    → filter (is_weak m n) rows ++ (if b then record { maker = k; n = i; target = t } ∷ [] else []) ≡ weak_rows m n (if b then Some t else was)
-weak_added m n k i o true rows was t is stands new =
-    let none = new is in
+strong_new : (m n k i : ℕ) (o : ObjId) (b : Bool) (rows : List Strong) (was : Option ℕ) → is_same m n k i ≡ b → rows ≡ strong_rows m n was
+    → (if b then strong_seen (name k i, o) ∷ [] else rows) ≡ strong_rows m n (if b then Some o.0 else was)
+strong_new m n k i o true rows was is stands =
     let maker : k ≡ m = grind (arith, nat_tests) in
     let number : i ≡ n = grind (arith, nat_tests) in
-    rw (none, maker, number) refl
-weak_added m n k i o false rows was t is stands new = append-nil _ ∙ stands
+    rw (maker, number) refl
+strong_new m n k i o false rows was is stands = stands
+
+weak_new : (m n k i : ℕ) (t : Target) (b : Bool) (rows : List Weak) (was : Option Target) → is_same m n k i ≡ b → rows ≡ weak_rows m n was
+    → (if b then weak_seen (name k i, t) ∷ [] else rows) ≡ weak_rows m n (if b then Some t else was)
+weak_new m n k i t true rows was is stands =
+    let maker : k ≡ m = grind (arith, nat_tests) in
+    let number : i ≡ n = grind (arith, nat_tests) in
+    rw (maker, number) refl
+weak_new m n k i t false rows was is stands = stands
 
 strong_above : (k i : ℕ) (rows : List Strong) → AllByRecursion (λ row. row.maker ≡ k → row.n < i) rows → (m n : ℕ) → is_same m n k i ≡ true → filter (is_strong m n) rows ≡ []
 strong_above k i [] above m n is = refl
@@ -61,13 +70,19 @@ weak_above k i (row ∷ rows) above m n is =
     let below = above.0 in
     grind (arith, nat_tests, tail, below)
 
-pub make_strong_law : (rows : Rows) (e : List Event) (k i o : ℕ) → IsAbove k i rows → Stands rows e
-    → Stands (record { strong = rows.strong ++ record { maker = k; n = i; object = o } ∷ []; weak = rows.weak }) (MakeStrong k i o ∷ e)
-make_strong_law rows e k i o above stands = record {
-  strong = λ m n. rw filter-append (strong_added m n k i o (is_same m n k i) rows.strong (strong e m n) refl (stands.strong m n)
-      (strong_above k i rows.strong (recursion_from_All _ _ above.strong) m n));
-  weak = λ m n. stands.weak m n ∙ ap (weak_rows m n) (sym (quiet m n (after_making m n e) (MakeStrong k i o) (weak e m n) (λ p. refl)));
-}
+pub make_strong_law : (rows : Rows) (e : List Event) (k i : ℕ) (o : ObjId) (es news : List (Name × ObjId)) → rows.strong ≡ map strong_seen es → Adds (name k i) o es news → IsAbove k i rows → Stands rows e
+    → Stands (record { strong = map strong_seen news; weak = rows.weak }) (MakeStrong k i o.0 ∷ e)
+make_strong_law rows e k i o es news seen adds above stands =
+    let same : rows.strong ≡ map strong_seen (adds.front ++ adds.back) = seen ∙ ap (map strong_seen) adds.was in
+    record {
+      strong = λ m n.
+          ap (λ (l : List (Name × ObjId)). filter (is_strong m n) (map strong_seen l)) adds.now
+          ∙ rows_added strong_seen (is_strong m n) adds.front adds.back (name k i, o) (is_same m n k i) refl
+          (λ is. ap (filter (is_strong m n)) (sym same) ∙ strong_above k i rows.strong (recursion_from_All _ _ above.strong) m n is)
+          ∙ strong_new m n k i o (is_same m n k i) (filter (is_strong m n) (map strong_seen (adds.front ++ adds.back))) (strong e m n) refl
+          (ap (filter (is_strong m n)) (sym same) ∙ stands.strong m n);
+      weak = λ m n. stands.weak m n ∙ ap (weak_rows m n) (sym (quiet m n (after_making m n e) (MakeStrong k i o.0) (weak e m n) (λ p. refl)));
+    }
 
 -- what a weak reference names once another or itself is made
 weak_target-make : (m n k i o : ℕ) (e : List Event) (b : Bool)
@@ -75,16 +90,19 @@ weak_target-make : (m n k i o : ℕ) (e : List Event) (b : Bool)
 weak_target-make m n k i o e true = refl
 weak_target-make m n k i o e false = quiet m n (after_making m n e) (MakeWeak k i o) (weak e m n) (λ p. refl)
 
-pub make_weak_law : (rows : Rows) (e : List Event) (k i o : ℕ) → IsAbove k i rows → Stands rows e
-    → Stands (record { strong = rows.strong; weak = rows.weak ++ record { maker = k; n = i; target = Object (record { 0 = o }) } ∷ [] }) (MakeWeak k i o ∷ e)
-make_weak_law rows e k i o above stands = record {
-  strong = stands.strong;
-  weak = λ m n. rw (
-    weak_target-make m n k i o e (is_same m n k i),
-    filter-append,
-  ) (weak_added m n k i o (is_same m n k i) rows.weak (weak_target e m n) (Object (record { 0 = o })) refl (stands.weak m n)
-      (weak_above k i rows.weak (recursion_from_All _ _ above.weak) m n));
-}
+pub make_weak_law : (rows : Rows) (e : List Event) (k i o : ℕ) (es news : List (Name × Target)) → rows.weak ≡ map weak_seen es → Adds (name k i) (Object (record { 0 = o })) es news → IsAbove k i rows → Stands rows e
+    → Stands (record { strong = rows.strong; weak = map weak_seen news }) (MakeWeak k i o ∷ e)
+make_weak_law rows e k i o es news seen adds above stands =
+    let same : rows.weak ≡ map weak_seen (adds.front ++ adds.back) = seen ∙ ap (map weak_seen) adds.was in
+    record {
+      strong = stands.strong;
+      weak = λ m n. rw (weak_target-make m n k i o e (is_same m n k i))
+          (ap (λ (l : List (Name × Target)). filter (is_weak m n) (map weak_seen l)) adds.now
+          ∙ rows_added weak_seen (is_weak m n) adds.front adds.back (name k i, Object (record { 0 = o })) (is_same m n k i) refl
+          (λ is. ap (filter (is_weak m n)) (sym same) ∙ weak_above k i rows.weak (recursion_from_All _ _ above.weak) m n is)
+          ∙ weak_new m n k i (Object (record { 0 = o })) (is_same m n k i) (filter (is_weak m n) (map weak_seen (adds.front ++ adds.back))) (weak_target e m n) refl
+          (ap (filter (is_weak m n)) (sym same) ∙ stands.weak m n));
+    }
 
 -- the row of a reference that is deleted goes, and no other does
 strong_left : (m n : ℕ) (b : Bool) (found : Option ObjId) (was : Option ℕ) → option_map (λ o. o.0) found ≡ was
@@ -99,16 +117,22 @@ weak_left m n true found was is = refl
 weak_left m n false None was is = ap (weak_rows m n) is
 weak_left m n false (Some t) was is = ap (weak_rows m n) is
 
--- each name but that one is found as before
-abbrev pub Drops : {V : Type 0} → Name → List (Name × V) → List (Name × V) → Type 0
-Drops gone es news = (q : Name) → lookup (same_name q) news ≡ cond (same_name gone q) None (lookup (same_name q) es)
+few_strong : (m n : ℕ) (found : Option ℕ) → length (strong_rows m n found) ≤ 1
+few_strong m n None = omega arith
+few_strong m n (Some o) = omega arith
 
-pub delete_strong_law : (rows : Rows) (e : List Event) (k i : ℕ) (es news : List (Name × ObjId)) → rows.strong ≡ map strong_seen es → IsDistinct same_name (keys_of news)
-    → Drops (name k i) es news → Stands rows e
+few_weak : (m n : ℕ) (found : Option Target) → length (weak_rows m n found) ≤ 1
+few_weak m n None = omega arith
+few_weak m n (Some t) = omega arith
+
+pub delete_strong_law : (rows : Rows) (e : List Event) (k i : ℕ) (es news : List (Name × ObjId)) → rows.strong ≡ map strong_seen es → Drops (name k i) es news
+    → ((q : Name) → IsThereOnce q es → IsThereOnce q news) → Stands rows e
     → Stands (record { strong = map strong_seen news; weak = rows.weak }) (DeleteStrong k i ∷ e)
-delete_strong_law rows e k i es news seen distinct drops stands = record {
+delete_strong_law rows e k i es news seen drops once stands = record {
   strong = λ m n.
-      rows_named strong_seen (is_strong m n) (name m n) (strong_tests m n) news distinct
+      let was : filter (is_strong m n) (map strong_seen es) ≡ strong_rows m n (strong e m n) = ap (filter (is_strong m n)) (sym seen) ∙ stands.strong m n in
+      let few : length (filter (is_strong m n) (map strong_seen es)) ≤ 1 = subst (λ (l : List Strong). length l ≤ 1) (sym was) (few_strong m n (strong e m n)) in
+      rows_named strong_seen (is_strong m n) (name m n) (strong_tests m n) news (once (name m n) (once_named strong_seen (is_strong m n) (name m n) (strong_tests m n) es few))
       ∙ ap (λ found. option_to_list (option_map (λ o. strong_seen (name m n, o)) found)) (drops (name m n))
       ∙ strong_left m n (is_same m n k i) (lookup (same_name (name m n)) es) (strong e m n) (get_strong_law rows e es m n seen stands);
   weak = λ m n. stands.weak m n ∙ ap (weak_rows m n) (sym (quiet m n (after_making m n e) (DeleteStrong k i) (weak e m n) (λ p. refl)));
@@ -119,13 +143,16 @@ weak_target-delete : (m n k i : ℕ) (e : List Event) (b : Bool)
 weak_target-delete m n k i e true = refl
 weak_target-delete m n k i e false = quiet m n (after_making m n e) (DeleteWeak k i) (weak e m n) (λ p. refl)
 
-pub delete_weak_law : (rows : Rows) (e : List Event) (k i : ℕ) (es news : List (Name × Target)) → rows.weak ≡ map weak_seen es → IsDistinct same_name (keys_of news)
-    → Drops (name k i) es news → Stands rows e
+pub delete_weak_law : (rows : Rows) (e : List Event) (k i : ℕ) (es news : List (Name × Target)) → rows.weak ≡ map weak_seen es → Drops (name k i) es news
+    → ((q : Name) → IsThereOnce q es → IsThereOnce q news) → Stands rows e
     → Stands (record { strong = rows.strong; weak = map weak_seen news }) (DeleteWeak k i ∷ e)
-delete_weak_law rows e k i es news seen distinct drops stands = record {
+delete_weak_law rows e k i es news seen drops once stands = record {
   strong = stands.strong;
-  weak = λ m n. rw (weak_target-delete m n k i e (is_same m n k i))
-      (rows_named weak_seen (is_weak m n) (name m n) (weak_tests m n) news distinct
+  weak = λ m n.
+      let was : filter (is_weak m n) (map weak_seen es) ≡ weak_rows m n (weak_target e m n) = ap (filter (is_weak m n)) (sym seen) ∙ stands.weak m n in
+      let few : length (filter (is_weak m n) (map weak_seen es)) ≤ 1 = subst (λ (l : List Weak). length l ≤ 1) (sym was) (few_weak m n (weak_target e m n)) in
+      rw (weak_target-delete m n k i e (is_same m n k i))
+      (rows_named weak_seen (is_weak m n) (name m n) (weak_tests m n) news (once (name m n) (once_named weak_seen (is_weak m n) (name m n) (weak_tests m n) es few))
       ∙ ap (λ found. option_to_list (option_map (λ t. weak_seen (name m n, t)) found)) (drops (name m n))
       ∙ weak_left m n (is_same m n k i) (lookup (same_name (name m n)) es) (weak_target e m n) (get_weak_law rows e es m n seen stands));
 }
@@ -243,35 +270,3 @@ clear_law test rows olds news e objects seen cleared listed stands = record {
   strong = λ m n. rw (strong-clear m n objects e) (stands.strong m n);
   weak = λ m n. rw (weak_target-clear m n objects e) (rows_cleared test m n objects olds news (weak_target e m n) (λ o answer. listed m n o answer) cleared (rw (sym seen) (stands.weak m n)));
 }
-
--- with one more row cleared, the rows so far are cleared, and the others are as they were
-pub record ClearedSoFar (test : ObjId → Bool → Type 0) (olds rows : List (Name × Target)) (i : ℕ) : Type 0 where
-  pub done : EachCleared test (take i olds) (take i rows)
-  pub rest : drop i rows ≡ drop i olds
-  pub long : length rows ≡ length olds
-
-pub one_more : (test : ObjId → Bool → Type 0) (olds rows : List (Name × Target)) (i : ℕ) (was now : Target) → ClearedSoFar test olds rows i
-    → slice_get (values_of rows) i ≡ Some was → IsCleared test was now → ClearedSoFar test olds (set_value_at rows i now) (suc i)
-one_more test [] [] zero was now so is cleared = cc
-one_more test (old ∷ olds) [] zero was now so is cleared = cc
-one_more test [] (row ∷ rows) zero was now so is cleared = cc
-one_more test (old ∷ olds) (row ∷ rows) zero was now so is cleared =
-    let same : row ∷ rows ≡ old ∷ olds = so.rest in
-    let head : row ≡ old = cc in
-    let tail : rows ≡ olds = cc in
-    let there : was ≡ row.1 = cc in
-    let P : Target → Type 0 = λ t. IsCleared test t now in
-    record { done = ((ap (λ e. e.0) head, subst P (there ∙ ap (λ e. e.1) head) cleared), refl); rest = tail; long = so.long }
-one_more test [] [] (suc i) was now so is cleared = cc
-one_more test (old ∷ olds) [] (suc i) was now so is cleared = cc
-one_more test [] (row ∷ rows) (suc i) was now so is cleared = cc
-one_more test (old ∷ olds) (row ∷ rows) (suc i) was now so is cleared =
-    let more = one_more test olds rows i was now (record { done = so.done.1; rest = so.rest; long = omega arith }) is cleared in
-    record { done = (so.done.0, more.done); rest = more.rest; long = ap suc more.long }
-
-pub all_cleared : (test : ObjId → Bool → Type 0) (olds rows : List (Name × Target)) (i : ℕ) → ClearedSoFar test olds rows i → length olds ≤ i → EachCleared test olds rows
-all_cleared test olds rows i so reached =
-    let P : List (Name × Target) → Type 0 = λ l. EachCleared test l rows in
-    let Q : List (Name × Target) → Type 0 = λ l. EachCleared test (take i olds) l in
-    let long = so.long in
-    subst P (take_all i olds reached) (subst Q (take_all i rows (omega arith)) so.done)

@@ -1,4 +1,4 @@
--- What clearing by a test does to the rows that the code keeps.
+-- What clearing by a test does to the entries that the code keeps.
 use Rattle.std.specs.Prelude.{◌≡◌, Bool, if◌then◌else◌, List, [], ◌∷◌}
 use Rattle.jg_words.specs.declared.object.ObjId.{ObjId}
 use Rattle.jg_globals.specs.declared.name.Name.{Name}
@@ -10,9 +10,12 @@ abbrev pub IsCleared : (ObjId → Bool → Type 0) → Target → Target → Typ
 IsCleared test Cleared now = now ≡ Cleared
 IsCleared test (Object o) now = (answer : Bool) × (test o answer × (now ≡ (if answer then Cleared else Object o)))
 
--- each row keeps its name, and its target is cleared by the test
+-- each entry keeps its key, and its value is changed by the relation
+abbrev pub EachChanged : {K V : Type 0} → (V → V → Type 0) → List (K × V) → List (K × V) → Type 0
+EachChanged change [] news = news ≡ []
+EachChanged change (e ∷ es) [] = ⊥
+EachChanged change (e ∷ es) (new ∷ news) = ((new.0 ≡ e.0) × change e.1 new.1) × EachChanged change es news
+
+-- each target is cleared by the test
 abbrev pub EachCleared : (ObjId → Bool → Type 0) → List (Name × Target) → List (Name × Target) → Type 0
-EachCleared test [] rows = rows ≡ []
-EachCleared test (row ∷ rows) [] = ⊥
-EachCleared test (row ∷ rows) (new ∷ news) =
-    ((new.0 ≡ row.0) × IsCleared test row.1 new.1) × EachCleared test rows news
+EachCleared test olds news = EachChanged (IsCleared test) olds news

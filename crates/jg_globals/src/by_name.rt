@@ -1,77 +1,84 @@
 //! What the references of one kind name, by their names.
 
-ghost use Rattle.std.specs.Prelude.{◌≡◌, ◌==◌, ◌++◌, OnOk, map};
-ghost use Rattle.std.specs.List.{list_any};
-ghost use Rattle.indexmap.specs.IndexMap.{keys, values};
-ghost use Rattle.jg_lists.specs.Marks.{Marks};
-ghost use Rattle.jg_globals.specs.Clearing.{IsCleared, EachCleared};
-ghost use Rattle.jg_globals.specs.Seen.{ref_named};
+ghost use Rattle.std.specs.Prelude.{◌≡◌, None, IsSome, OnOk, OnErr, option_copied};
+ghost use Rattle.std.specs.Map.{lookup};
+ghost use Rattle.jg_lists.specs.ByThread.{at, IsOnce};
+ghost use Rattle.jg_globals.specs.Seen.{same_name, named, table_at, Adds, Drops, IsThereOnce};
 
 use crate::name::Name;
-use crate::target::Target;
-use indexmap::IndexMap;
-use jg_lists::ObjectMarks;
-use jg_words::{Kind, ObjId, Ref, Tid};
+use jg_lists::{ByNumber, ByThread};
 use std::alloc::{AllocError, Allocator};
-use std::hash::{BuildHasherDefault, FoldHasher};
 
-/// What each reference of one kind stands for, by name.
-pub type ByName<V, A> = IndexMap<Name, V, BuildHasherDefault<FoldHasher>, A>;
+/// What each reference of one kind stands for: by its maker, and then by its number.
+pub type ByName<V, A> = ByThread<ByNumber<V, A>, A>;
 
-pub fn names_object<A: Allocator>(rows: &ByName<ObjId, A>, object: ObjId) -> bool
-    ensures { result ≡ list_any (λ o. o.0 == object.0) (values rows.now) }
+/// What the reference of that name stands for, if it is in being.
+pub fn find<V, A: Allocator>(rows: &ByName<V, A>, name: Name) -> Option<&V>
+    ensures { option_copied result ≡ lookup (same_name name) (named rows.now) }
 {
-    rows.values().any(|other| other.0 == object.0)
-}
-
-pub fn mark_objects<A: Allocator>(rows: &ByName<ObjId, A>, marks: &mut ObjectMarks<A>)
-    ensures { Marks (λ o. list_any (λ p. p.0 == o) (values rows.now)) marks.old marks.new }
-{
-    for object in rows.values() {
-        marks.set(object.0);
+    match rows.get(name.maker) {
+        None => None,
+        Some(numbers) => numbers.get(name.n),
     }
 }
 
-/// Clears the references whose object meets the test.
-pub fn clear_rows<A: Allocator, F: Fn(ObjId) -> bool>(rows: &mut ByName<Target, A>, test: &F)
-    requires { F.IsAlwaysCallable test.now }
-    ensures { EachCleared (F.post test.now) rows.old.entries rows.new.entries }
-{
-    for i in 0..rows.len() {
-        rows[i] = unless_it_meets(rows[i], test);
-    }
-}
-
-fn unless_it_meets<F: Fn(ObjId) -> bool>(target: Target, test: &F) -> Target
-    requires { F.IsAlwaysCallable test.now }
-    ensures { IsCleared (F.post test.now) target result }
-{
-    match target {
-        Target::Cleared => Target::Cleared,
-        Target::Object(object) => {
-            if test(object) {
-                Target::Cleared
-            } else {
-                target
-            }
-        }
-    }
-}
-
-/// Appends the references of that kind.
-pub fn list_names<V, A: Allocator, B: Allocator>(
-    rows: &ByName<V, A>,
-    kind: Kind,
-    refs: &mut Vec<Ref, B>,
+/// Gives the maker a table, if it has none. No reference comes into being.
+fn open<V: Drop, A: Allocator + Clone>(
+    rows: &mut ByName<V, A>,
+    alloc: &A,
+    maker: u16,
 ) -> Result<(), AllocError>
-    ensures { OnOk result (refs.new.items ≡ refs.old.items ++ map (ref_named kind) (keys rows.now)) }
+    ensures table { OnOk result (IsSome (at maker rows.new)) }
+    ensures same { named rows.new ≡ named rows.old }
+    ensures once { IsOnce rows.new }
 {
-    for name in rows.keys() {
-        refs.push(Ref::To {
-            kind,
-            maker: Tid(name.maker),
-            n: name.n,
-        })?;
+    if rows.contains(maker) {
+        return Ok(());
     }
+    let numbers = ByNumber::new(alloc.clone()?, alloc.clone()?);
+    rows.add(maker, numbers)?;
     Ok(())
+}
+
+/// Puts the reference into its maker's table, which is there.
+fn put<V: Drop, A: Allocator>(
+    rows: &mut ByName<V, A>,
+    name: Name,
+    value: V,
+) -> Result<(), AllocError>
+    requires table { IsSome (at name.maker rows.old) }
+    requires absent { at name.n (table_at name.maker rows.old) ≡ None }
+    ensures ok { OnOk result (Adds name value (named rows.old) (named rows.new)) }
+    ensures err { OnErr result (named rows.new ≡ named rows.old) }
+{
+    match rows.get_mut(name.maker) {
+        None => Ok(()),
+        Some(numbers) => numbers.add(name.n, value),
+    }
+}
+
+/// Puts in what a new reference stands for. Fails only for want of memory, and then each reference in
+/// being stays as it was.
+pub fn add<V: Drop, A: Allocator + Clone>(
+    rows: &mut ByName<V, A>,
+    alloc: &A,
+    name: Name,
+    value: V,
+) -> Result<(), AllocError>
+    requires { lookup (same_name name) (named rows.old) ≡ None }
+    ensures ok { OnOk result (Adds name value (named rows.old) (named rows.new)) }
+    ensures err { OnErr result (named rows.new ≡ named rows.old) }
+{
+    open(rows, alloc, name.maker)?;
+    put(rows, name, value)
+}
+
+/// Ends the reference, if it is in being. Takes no memory.
+pub fn remove<V: Drop, A: Allocator>(rows: &mut ByName<V, A>, name: Name)
+    ensures drops { Drops name (named rows.old) (named rows.new) }
+    ensures once { (q : Name) → IsThereOnce q (named rows.old) → IsThereOnce q (named rows.new) }
+{
+    if let Some(numbers) = rows.get_mut(name.maker) {
+        numbers.remove(name.n);
+    }
 }

@@ -5,51 +5,53 @@ ghost use Rattle.jg_globals.specs.Rows.{AddsNumber, IsAbove, KeepsNumbers, stron
 ghost use Rattle.jg_globals.specs.Standing.{Stands, IsListOf};
 ghost use Rattle.jg_lists.specs.Marks.{Marks};
 
-use crate::by_name::{ByName, clear_rows, list_names, mark_objects, names_object};
+use crate::by_name::{ByName, add, find, remove};
 use crate::name::Name;
+use crate::sweep::clear_rows;
 use crate::target::Target;
-use indexmap::IndexMap;
-use jg_lists::{ObjectMarks, Recent};
+use crate::visits::{list_names, mark_objects, names_object};
+use jg_lists::{ByThread, ObjectMarks};
 use jg_words::{Kind, ObjId, Ref, Tid};
 use std::alloc::{AllocError, Allocator, Global};
 use std::marker::Model;
 
-/// The global and weak global references in being. Contracts see the rows.
+/// The global and weak global references in being. Beside what is in being, each maker takes 8 bytes
+/// for each reference that it was handed out, up to its newest global one, and 8 for each up to its
+/// newest weak one. Contracts see the rows.
 #[derive(Drop)]
 pub struct Globals<A: Allocator = Global> {
     strong: ByName<ObjId, A>,
     weak: ByName<Target, A>,
-    recent_strong: Recent,
-    recent_weak: Recent,
+    alloc: A,
 }
 
 impl<A: Allocator> Model for Globals<A> {
     ghost use Rattle.std.specs.Prelude.{map};
     ghost use Rattle.jg_globals.specs.Rows.{Rows};
-    ghost use Rattle.jg_globals.specs.Seen.{strong_seen, weak_seen};
+    ghost use Rattle.jg_globals.specs.Seen.{named, strong_seen, weak_seen};
 
     ghost Value = { Rows };
 
-    ghost view = { λ a. record { strong = map strong_seen a.strong.entries; weak = map weak_seen a.weak.entries } };
+    ghost view = { λ a. record { strong = map strong_seen (named a.strong); weak = map weak_seen (named a.weak) } };
 }
 
 impl<A: Allocator + Copy> Globals<A> {
-    /// No reference is in being. Takes no memory; the two maps grow from the two handles.
-    pub fn new(strong: A, weak: A) -> Globals<A>
+    /// No reference is in being. Takes no memory: the lists of makers grow from the first handle, and
+    /// what each maker has from the second.
+    pub fn new(makers: A, alloc: A) -> Globals<A>
         ensures stands { Stands result [] }
         ensures rows { result ≡ record { strong = []; weak = [] } }
         ensures numbers { (k i : ℕ) → IsAbove k i result }
     {
         Globals {
-            strong: IndexMap::new(strong),
-            weak: IndexMap::new(weak),
-            recent_strong: Recent::new(),
-            recent_weak: Recent::new(),
+            strong: ByThread::new(makers, makers),
+            weak: ByThread::new(makers, makers),
+            alloc,
         }
     }
 }
 
-impl<A: Allocator> Globals<A> {
+impl<A: Allocator + Clone> Globals<A> {
     /// Makes global reference `n` of `maker`, which names the object (chapter 4, `NewGlobalRef`).
     /// Asks that `n` is above each number of the maker's references in being, of both kinds: who
     /// counts them knows it (`new_number_is_above`). Fails only for want of memory, and then leaves
@@ -62,7 +64,7 @@ impl<A: Allocator> Globals<A> {
         ensures numbers { AddsNumber maker.0 n self.old self.new }
     {
         let name = Name { maker: maker.0, n };
-        self.strong.insert(name, object)?;
+        add(&mut self.strong, &self.alloc, name, object)?;
         Ok(())
     }
 
@@ -77,10 +79,12 @@ impl<A: Allocator> Globals<A> {
         ensures numbers { AddsNumber maker.0 n self.old self.new }
     {
         let name = Name { maker: maker.0, n };
-        self.weak.insert(name, Target::Object(object))?;
+        add(&mut self.weak, &self.alloc, name, Target::Object(object))?;
         Ok(())
     }
+}
 
+impl<A: Allocator> Globals<A> {
     /// Ends a global or weak global reference, if it is in being (chapter 4, `DeleteGlobalRef` and
     /// `DeleteWeakGlobalRef`). Null and local references are none of this table's: nothing changes.
     /// Takes no memory, and asks for nothing.
@@ -94,12 +98,8 @@ impl<A: Allocator> Globals<A> {
                 let name = Name { maker: maker.0, n };
                 match kind {
                     Kind::Local => {}
-                    Kind::Global => {
-                        self.strong.swap_remove(&name);
-                    }
-                    Kind::Weak => {
-                        self.weak.swap_remove(&name);
-                    }
+                    Kind::Global => remove(&mut self.strong, name),
+                    Kind::Weak => remove(&mut self.weak, name),
                 }
             }
         }
@@ -116,10 +116,8 @@ impl<A: Allocator> Globals<A> {
                 let name = Name { maker: maker.0, n };
                 match kind {
                     Kind::Local => None,
-                    Kind::Global => {
-                        object_target(self.recent_strong.find(&self.strong, &name).copied())
-                    }
-                    Kind::Weak => self.recent_weak.find(&self.weak, &name).copied(),
+                    Kind::Global => object_target(find(&self.strong, name).copied()),
+                    Kind::Weak => find(&self.weak, name).copied(),
                 }
             }
         }

@@ -8,7 +8,9 @@ mod by_name;
 mod globals;
 mod meanings;
 mod name;
+mod sweep;
 mod target;
+mod visits;
 
 pub use globals::Globals;
 pub use meanings::{

@@ -1,5 +1,5 @@
 /// What tells a reference from the others of its kind: it is number `n` of its maker.
-#[derive(Clone, Copy, Debug, PartialEq, Eq, Hash)]
+#[derive(Clone, Copy)]
 pub struct Name {
     pub maker: u16,
     pub n: u64,

@@ -1,12 +1,13 @@
 use Rattle.std.proofs.lemmas.Result.{on_ok_weaker}
+use Rattle.jg_globals.specs.Seen.{named}
 use Rattle.jg_globals.proofs.Listed.{listed_law}
 use Rattle.jg_globals.proofs.globals.Globals.list.Goals as goal
 
 -- the references of both kinds are appended
 pub returns : goal.returns
 returns g c =
-    let strong = c.self.inside.strong.entries in
-    let weak = c.self.inside.weak.entries in
+    let strong = named c.self.inside.strong in
+    let weak = named c.self.inside.weak in
     let refs = c.list_names-2.new.refs.items in
     record {
       ok = on_ok_weaker c.list_names-2.result

@@ -1,0 +1,122 @@
+//! Passes over all references of one kind. Each visits what is in being, and no more.
+
+ghost use Rattle.std.specs.Prelude.{◌≡◌, ◌==◌, ◌++◌, OnOk, map};
+ghost use Rattle.std.specs.List.{list_any};
+ghost use Rattle.jg_lists.specs.ByThread.{seen};
+ghost use Rattle.jg_lists.specs.Marks.{Marks};
+ghost use Rattle.jg_globals.specs.Seen.{name, named, ref_named};
+
+use crate::by_name::ByName;
+use jg_lists::{ByNumber, Numbered, ObjectMarks, Seat};
+use jg_words::{Kind, ObjId, Ref, Tid};
+use std::alloc::{AllocError, Allocator};
+
+fn some_names(numbers: &[Numbered<ObjId>], object: ObjId) -> bool
+    ensures { result ≡ list_any (λ seat. seat.value.0 == object.0) numbers.now }
+{
+    numbers.iter().any(|seat| seat.value.0 == object.0)
+}
+
+fn names_in<A: Allocator>(numbers: &ByNumber<ObjId, A>, object: ObjId) -> bool
+    ensures { result ≡ list_any (λ e. e.1.0 == object.0) numbers.now }
+{
+    some_names(numbers.seats(), object)
+}
+
+fn some_table_names<A: Allocator>(tables: &[Seat<ByNumber<ObjId, A>>], object: ObjId) -> bool
+    ensures { result ≡ list_any (λ table. list_any (λ e. e.1.0 == object.0) table.value) tables.now }
+{
+    tables.iter().any(|table| names_in(&table.value, object))
+}
+
+/// Whether a reference names the object.
+pub fn names_object<A: Allocator>(rows: &ByName<ObjId, A>, object: ObjId) -> bool
+    ensures { result ≡ list_any (λ e. e.1.0 == object.0) (named rows.now) }
+{
+    some_table_names(rows.seats(), object)
+}
+
+fn mark_numbers<A: Allocator>(numbers: &[Numbered<ObjId>], marks: &mut ObjectMarks<A>)
+    ensures { Marks (λ o. list_any (λ seat. seat.value.0 == o) numbers.now) marks.old marks.new }
+{
+    for seat in numbers {
+        marks.set(seat.value.0);
+    }
+}
+
+fn mark_in<A: Allocator>(numbers: &ByNumber<ObjId, A>, marks: &mut ObjectMarks<A>)
+    ensures { Marks (λ o. list_any (λ e. e.1.0 == o) numbers.now) marks.old marks.new }
+{
+    mark_numbers(numbers.seats(), marks);
+}
+
+fn mark_tables<A: Allocator>(tables: &[Seat<ByNumber<ObjId, A>>], marks: &mut ObjectMarks<A>)
+    ensures { Marks (λ o. list_any (λ table. list_any (λ e. e.1.0 == o) table.value) tables.now) marks.old marks.new }
+{
+    for table in tables {
+        mark_in(&table.value, marks);
+    }
+}
+
+/// Sets the mark of each object that a reference names.
+pub fn mark_objects<A: Allocator>(rows: &ByName<ObjId, A>, marks: &mut ObjectMarks<A>)
+    ensures { Marks (λ o. list_any (λ e. e.1.0 == o) (named rows.now)) marks.old marks.new }
+{
+    mark_tables(rows.seats(), marks);
+}
+
+fn list_numbers<V, B: Allocator>(
+    numbers: &[Numbered<V>],
+    kind: Kind,
+    maker: u16,
+    refs: &mut Vec<Ref, B>,
+) -> Result<(), AllocError>
+    ensures { OnOk result (refs.new.items
+        ≡ refs.old.items ++ map (λ seat. ref_named kind (name maker seat.number)) numbers.now) }
+{
+    for seat in numbers {
+        refs.push(Ref::To {
+            kind,
+            maker: Tid(maker),
+            n: seat.number,
+        })?;
+    }
+    Ok(())
+}
+
+fn list_in<V, A: Allocator, B: Allocator>(
+    numbers: &ByNumber<V, A>,
+    kind: Kind,
+    maker: u16,
+    refs: &mut Vec<Ref, B>,
+) -> Result<(), AllocError>
+    ensures { OnOk result (refs.new.items
+        ≡ refs.old.items ++ map (λ e. ref_named kind (name maker e.0)) numbers.now) }
+{
+    list_numbers(numbers.seats(), kind, maker, refs)
+}
+
+fn list_tables<V, A: Allocator, B: Allocator>(
+    tables: &[Seat<ByNumber<V, A>>],
+    kind: Kind,
+    refs: &mut Vec<Ref, B>,
+) -> Result<(), AllocError>
+    ensures { OnOk result (refs.new.items
+        ≡ refs.old.items ++ map (λ e. ref_named kind e.0) (named (map seen tables.now))) }
+{
+    for table in tables {
+        list_in(&table.value, kind, table.tid, refs)?;
+    }
+    Ok(())
+}
+
+/// Appends the references of that kind.
+pub fn list_names<V, A: Allocator, B: Allocator>(
+    rows: &ByName<V, A>,
+    kind: Kind,
+    refs: &mut Vec<Ref, B>,
+) -> Result<(), AllocError>
+    ensures { OnOk result (refs.new.items ≡ refs.old.items ++ map (λ e. ref_named kind e.0) (named rows.now)) }
+{
+    list_tables(rows.seats(), kind, refs)
+}
