@@ -1,5 +1,5 @@
 -- What contracts see of the stacks that the code keeps.
-use Rattle.std.specs.Prelude.{◌≡◌, ◌≢◌, ℕ, ◌+◌, ◌-◌, Bool, true, false, ◌==◌, ◌&&◌, ◌||◌, not, if◌then◌else◌, nat_lt, nat_le, List, [], ◌∷◌, ◌++◌, map, filter, Option, Some, None}
+use Rattle.std.specs.Prelude.{◌≡◌, ◌≢◌, ℕ, ◌+◌, ◌-◌, ◌<◌, length, slice_index_or, Bool, true, false, ◌==◌, ◌&&◌, ◌||◌, not, if◌then◌else◌, nat_lt, nat_le, List, [], ◌∷◌, ◌++◌, map, filter, Option, Some, None}
 use Rattle.std.specs.Option.{option_or}
 use Rattle.std.specs.List.{AllByRecursion, list_any}
 use Rattle.std.specs.Map.{lookup}
@@ -34,6 +34,18 @@ ended s = record s { live = false }
 -- the object of a live slot; for a dead one a number at which there is no mark
 abbrev pub named : Slot → ℕ
 named s = if s.live then s.object else 18446744073709551615
+
+abbrev pub number : Slot → ℕ
+number s = s.n
+
+-- each slot's number and object, in lists beside the slots
+pub record StandBeside (slots : List Slot) (numbers objects : List ℕ) : Type 0 where
+  pub numbered : numbers ≡ map number slots
+  pub named : objects ≡ map named slots
+
+-- the number stands at the place
+abbrev pub IsPlaceOf : ℕ → List ℕ → ℕ → Type 0
+IsPlaceOf n numbers i = (i < length numbers) × ((k : ℕ) → slice_index_or numbers i k ≡ n)
 
 -- a thread's slots, and for how many more there is room
 pub record SlotsSeen : Type 0 where

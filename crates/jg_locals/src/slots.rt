@@ -11,30 +11,6 @@ use crate::slot_list::SlotList;
 use jg_words::{Kind, Ref, Tid};
 use std::alloc::{AllocError, Allocator};
 
-/// Where the local `n` stands, if none is missing from the oldest up to it.
-fn place_in_row(slots: &[Slot], n: u64) -> Option<usize>
-    ensures { IfSome result (λ i. (i < length slots.now) × ((s : Slot) → (slice_index_or slots.now i s).n ≡ n)) }
-{
-    let i = n.checked_sub(slots.first()?.n)? as usize;
-    if slots.get(i)?.n == n { Some(i) } else { None }
-}
-
-/// Where the local `n` stands, live or dead.
-pub fn place_among(slots: &[Slot], n: u64) -> Option<usize>
-    requires { Chain is_before slots.now }
-    ensures { MatchOption result (AllByRecursion (λ s. (s.n == n) ≡ false) slots.now) (λ i. (i < length slots.now)
-        × ((s : Slot) → (slice_index_or slots.now i s).n ≡ n)) }
-{
-    // Most lists have a local of each number, and then no search is needed.
-    if let Some(i) = place_in_row(slots, n) {
-        return Some(i);
-    }
-    match slots.binary_search_by_key(&n, |slot| slot.n) {
-        Ok(i) => Some(i),
-        Err(_place) => None,
-    }
-}
-
 /// The object of the live local `n`.
 pub fn object_of<A: Allocator>(slots: &SlotList<A>, n: u64) -> Option<u64>
     requires { Chain is_before slots.now.items }

@@ -130,7 +130,12 @@ pub fn add_stack<A: Allocator + Clone>(
     if stacks.contains(tid) {
         return Ok(());
     }
-    let stack = Stack::new(alloc.clone()?, alloc.clone()?, alloc.clone()?);
+    let stack = Stack::new(
+        alloc.clone()?,
+        alloc.clone()?,
+        alloc.clone()?,
+        alloc.clone()?,
+    );
     stacks.add(tid, stack)?;
     Ok(())
 }
