@@ -1,20 +1,26 @@
 -- What a collection finds before it changes anything.
-use Rattle.std.specs.Prelude.{◌≡◌, length, pos}
+use Rattle.std.specs.Prelude.{◌≡◌}
 use Rattle.jg_words.specs.declared.call.Call.{Call}
 use Rattle.jg_words.specs.declared.call.Call.TheVariants.{Vm}
 use Rattle.jg_words.specs.declared.call.vm.VmCall.TheVariants.{Collect}
 use Rattle.jg_policy.specs.Stated.{StatedSetup, class_count}
-use Rattle.jg_heap.specs.Standing.{MarksHeld}
+use Rattle.jg_heap.specs.Rows.{Rows}
+use Rattle.jg_heap.specs.Standing.{AreListed, MarksHeld}
 use Rattle.jg_rules.specs.Parts.{Parts}
 use Rattle.jg_rules.specs.Holding.{roots, going}
 use Rattle.jg_guard.specs.declared.collect.Held.{Held}
 
--- the marks are those of what something holds, and the others in being are counted
+-- the marks are those of what something holds, and the others in being are listed
 pub record IsHeld {A : Type 0} (setup : StatedSetup) (p : Parts) (held : Held A) : Type 0 where
   pub marks : MarksHeld (class_count setup) (roots setup p) p.heap held.marks
-  pub unheld : held.unheld ≡ pos (length (going setup p))
+  pub unheld : held.unheld.items ≡ going setup p
 
 -- a collection has found what is held; no other call has to
 abbrev pub Finds : {A : Type 0} → StatedSetup → Parts → Call → Held A → Type 0
 Finds setup p (Vm Collect) held = IsHeld setup p held
 Finds setup p call held = Unit {0}
+
+-- what a collection found is listed as the store stands
+abbrev pub IsReady : {A : Type 0} → Rows → Call → Held A → Type 0
+IsReady rows (Vm Collect) held = AreListed rows held.marks held.unheld.items
+IsReady rows call held = Unit {0}

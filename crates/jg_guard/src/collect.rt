@@ -9,7 +9,7 @@ ghost use Rattle.jg_globals.specs.Standing as globals_standing;
 ghost use Rattle.jg_heap.specs.History as heap_of;
 ghost use Rattle.jg_heap.specs.Rows.{count_in};
 ghost use Rattle.jg_heap.specs.Standing as heap_standing;
-ghost use Rattle.jg_heap.specs.Standing.{MarksHeld};
+ghost use Rattle.jg_heap.specs.Standing.{AreListed, MarksHeld};
 ghost use Rattle.jg_rules.specs.Parts.{Parts, TablesStand};
 ghost use Rattle.jg_rules.specs.Holding.{is_root, roots, going};
 ghost use Rattle.jg_rules.specs.View.{ViewStands};
@@ -18,7 +18,7 @@ ghost use Rattle.jg_words.specs.declared.call.Call.TheVariants.{Vm};
 ghost use Rattle.jg_words.specs.declared.call.vm.VmCall.TheVariants.{Collect};
 ghost use Rattle.jg_policy.specs.Stated.{StatedSetup, class_count};
 ghost use Rattle.jg_guard.specs.Cleaning.{cleans_up};
-ghost use Rattle.jg_guard.specs.Held.{Finds};
+ghost use Rattle.jg_guard.specs.Held.{Finds, IsReady};
 ghost use Rattle.jg_guard.specs.Settled.{collected_on};
 
 use crate::tables::Tables;
@@ -40,34 +40,40 @@ fn mark_roots<A: Allocator + Clone>(view: &View<'_, A>, marks: &mut ObjectMarks<
     view.monitors.mark_held(marks);
 }
 
-/// Marks all that something holds, and says how many objects nothing holds. No object is marked
+/// Marks all that something holds, and lists the objects that nothing holds. No object is marked
 /// before; there is a mark for each.
-fn mark_held<A: Allocator + Clone>(view: &View<'_, A>, marks: &mut ObjectMarks<A>) -> u64
+fn mark_held<A: Allocator + Clone>(
+    view: &View<'_, A>,
+    marks: &mut ObjectMarks<A>,
+    unheld: &mut Vec<u64, A>,
+) -> Result<(), AllocError>
     requires { (o : ℕ) → o < count_in view.now.heap.now → slice_get marks.old o ≡ Some false }
-    ensures marks { (p : Parts) → ViewStands view.now p
-        → MarksHeld view.now.heap.now.classes (roots view.now.setup.now p) p.heap marks.new }
-    ensures count { (p : Parts) → ViewStands view.now p → result ≡ length (going view.now.setup.now p) }
-    ensures fits { result < 2 ^ 63 }
+    ensures marks { OnOk result ((p : Parts) → ViewStands view.now p
+        → MarksHeld view.now.heap.now.classes (roots view.now.setup.now p) p.heap marks.new) }
+    ensures unheld { OnOk result ((p : Parts) → ViewStands view.now p
+        → unheld.new.items ≡ going view.now.setup.now p) }
+    ensures listed { OnOk result (AreListed view.now.heap.now marks.new unheld.new.items) }
 {
     mark_roots(view, marks);
-    view.heap.count_unheld(marks)
+    view.heap.find_unheld(marks, unheld)?;
+    Ok(())
 }
 
-/// What a collection finds: a mark for each object, set where something holds it, and how many of
-/// those in being nothing holds. It is kept for the next collection, which then doesn't go over what
+/// What a collection finds: a mark for each object, set where something holds it, and a list of those
+/// in being that nothing holds. It is kept for the next collection, which then doesn't go over what
 /// is gone.
 #[derive(Drop)]
 pub(crate) struct Held<A: Allocator> {
     marks: ObjectMarks<A>,
-    pub(crate) unheld: i64,
+    pub(crate) unheld: Vec<u64, A>,
 }
 
 impl<A: Allocator> Held<A> {
     /// Nothing was found yet. Takes no memory.
-    pub(crate) fn new(alloc: A) -> Held<A> {
+    pub(crate) fn new(marks: A, unheld: A) -> Held<A> {
         Held {
-            marks: ObjectMarks::new(alloc),
-            unheld: 0,
+            marks: ObjectMarks::new(marks),
+            unheld: Vec::new(unheld),
         }
     }
 }
@@ -77,11 +83,11 @@ fn find_held<A: Allocator + Clone>(view: &View<'_, A>, held: &mut Held<A>) -> Re
     ensures marks { OnOk result ((p : Parts) → ViewStands view.now p
         → MarksHeld view.now.heap.now.classes (roots view.now.setup.now p) p.heap held.new.marks) }
     ensures unheld { OnOk result ((p : Parts) → ViewStands view.now p
-        → held.new.unheld ≡ pos (length (going view.now.setup.now p))) }
+        → held.new.unheld.items ≡ going view.now.setup.now p) }
+    ensures listed { OnOk result (AreListed view.now.heap.now held.new.marks held.new.unheld.items) }
 {
     held.marks.start(view.heap.len() as usize)?;
-    let unheld = mark_held(view, &mut held.marks);
-    held.unheld = unheld as i64;
+    mark_held(view, &mut held.marks, &mut held.unheld)?;
     Ok(())
 }
 
@@ -93,6 +99,7 @@ pub(crate) fn find_held_for<A: Allocator + Clone>(
 ) -> Result<(), AllocError>
     ensures found { OnOk result ((p : Parts) → ViewStands view.now p
         → Finds view.now.setup.now p call.now held.new) }
+    ensures ready { OnOk result (IsReady view.now.heap.now call.now held.new) }
     ensures wants { OnErr result (cleans_up call.now ≡ false) }
 {
     match call {
@@ -141,8 +148,9 @@ fn clear_going<A: Allocator + Clone>(
     );
 }
 
-/// Lets go of what isn't marked, and clears the weak references to it.
-fn let_go<A: Allocator + Clone>(tables: &mut Tables<A>, marks: &ObjectMarks<A>)
+/// Lets go of what isn't marked, which is listed, and clears the weak references to it.
+fn let_go<A: Allocator + Clone>(tables: &mut Tables<A>, marks: &ObjectMarks<A>, unheld: &[u64])
+    requires { AreListed tables.old.heap marks.now unheld.now }
     ensures stands { (setup : StatedSetup) (p : Parts) → TablesStand setup (rows_of tables.old) p
         → MarksHeld (class_count setup) (roots setup p) p.heap marks.now
         → TablesStand setup (rows_of tables.new) (collected_on setup p) }
@@ -150,15 +158,16 @@ fn let_go<A: Allocator + Clone>(tables: &mut Tables<A>, marks: &ObjectMarks<A>)
     ensures links { tables.new.links ≡ tables.old.links }
 {
     clear_going(&tables.heap, &mut tables.globals, marks);
-    tables.heap.sweep(marks);
+    tables.heap.sweep(marks, unheld);
 }
 
 /// Lets go of what nothing holds, as it was found, all judged at once.
 pub(crate) fn collect<A: Allocator + Clone>(tables: &mut Tables<A>, held: &Held<A>)
+    requires { IsReady tables.old.heap (Vm Collect) held.now }
     ensures stands { (setup : StatedSetup) (p : Parts) → TablesStand setup (rows_of tables.old) p
         → Finds setup p (Vm Collect) held.now → TablesStand setup (rows_of tables.new) (collected_on setup p) }
     ensures locals { tables.new.locals ≡ tables.old.locals }
     ensures links { tables.new.links ≡ tables.old.links }
 {
-    let_go(tables, &held.marks);
+    let_go(tables, &held.marks, &held.unheld);
 }

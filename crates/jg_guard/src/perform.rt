@@ -7,7 +7,7 @@ ghost use Rattle.jg_rules.specs.Effects as effects;
 ghost use Rattle.jg_rules.specs.Access.{home_of, native_class};
 ghost use Rattle.jg_rules.specs.Effects.{passed_on, done_by, warning};
 ghost use Rattle.jg_guard.specs.Cleaning.{cleans_up};
-ghost use Rattle.jg_guard.specs.Held.{Finds};
+ghost use Rattle.jg_guard.specs.Held.{Finds, IsReady};
 ghost use Rattle.jg_guard.specs.Tables as tables_of;
 ghost use Rattle.jg_guard.specs.Tables.{rows_of, StillStand, IsAnswered, IsEffective, KeepsRoom};
 
@@ -40,7 +40,8 @@ pub(crate) fn perform<A: Allocator + Clone>(
     call: &Call,
     given: &Answer,
 ) -> Result<(), AllocError>
-    requires { IsAnswered setup.now (rows_of tables.old) tid call.now given.now held.now }
+    requires answered { IsAnswered setup.now (rows_of tables.old) tid call.now given.now held.now }
+    requires ready { IsReady tables.old.heap call.now held.now }
     ensures stands { OnOk result ((p : Parts) → TablesStand setup.now (rows_of tables.old) p
         → given.now ≡ unnoticed setup.now p tid call.now → Finds setup.now p call.now held.now
         → TablesStand setup.now (rows_of tables.new)
@@ -88,6 +89,7 @@ fn do_and_settle<A: Allocator + Clone>(
     requires answered { IsAnswered setup.now (rows_of tables.old) tid call.now given.now held.now }
     requires effective { effects.is_effective given.now.reply.value ≡ true }
     requires not_global { tables_of.makes_global given.now.reply.value ≡ false }
+    requires ready { IsReady tables.old.heap call.now held.now }
     ensures stands { OnOk result ((p : Parts) → TablesStand setup.now (rows_of tables.old) p
         → given.now ≡ unnoticed setup.now p tid call.now → Finds setup.now p call.now held.now
         → TablesStand setup.now (rows_of tables.new)
@@ -110,7 +112,8 @@ fn do_call<A: Allocator + Clone>(
     tid: Tid,
     call: &Call,
 ) -> Result<(), AllocError>
-    requires { IsEffective setup.now (rows_of tables.old) tid call.now }
+    requires effective { IsEffective setup.now (rows_of tables.old) tid call.now }
+    requires ready { IsReady tables.old.heap call.now held.now }
     ensures stands { OnOk result ((p : Parts) → TablesStand setup.now (rows_of tables.old) p
         → Finds setup.now p call.now held.now
         → TablesStand setup.now (rows_of tables.new) (done_by setup.now tid.0 call.now p)) }

@@ -168,6 +168,7 @@ pub(crate) fn make_room<A: Allocator + Clone>(
     ensures wants { OnErr result ((reply.now.warned ≡ true) ⊎ (tables_of.makes_local reply.now.value ≡ true)) }
     ensures still { (setup : StatedSetup) → StillStand setup (rows_of tables.old) (rows_of tables.new) }
     ensures threads { tables.new.threads ≡ tables.old.threads }
+    ensures heap { tables.new.heap ≡ tables.old.heap }
 {
     if reply.warned {
         tables.links.reserve()?;

@@ -1,19 +1,19 @@
 -- What a collection does to the rows that the history tells.
-use Rattle.std.proofs.Common.{ℕ, ◌≡◌, ◌<◌, ◌≤◌, ◌∙◌, sym, ap, refl, List, ◌∷◌, [], length, map, get_or, arith, Bool, false, not, ◌&&◌, ◌||◌, ltb, eqb, Some}
+use Rattle.std.proofs.Common.{ℕ, ◌≡◌, ◌<◌, ◌∙◌, sym, ap, refl, List, ◌∷◌, [], length, map, get_or, arith, Bool, false, not, ◌&&◌, ◌||◌, ltb, eqb, Some}
 use Rattle.std.specs.Prelude.{replicate, filter}
 use Rattle.std.specs.List.{range_with_len, list_any}
-use Rattle.std.proofs.lemmas.List.FromFn.{fill_by_all, length-range_with_len}
+use Rattle.std.proofs.lemmas.List.FromFn.{fill_by_all}
 use Rattle.std.proofs.lemmas.List.{length-replicate, get_or-replicate, length-map}
 use Rattle.std.proofs.lemmas.Option.{slice_get-get_or, slice_get_within, get_or_from_slice_get}
 use Rattle.std.proofs.lemmas.Bool.{lt-ltb}
 use Rattle.jg_heap.specs.declared.body.Object.{Object}
 use Rattle.jg_heap.specs.Making.{Plain}
-use Rattle.jg_heap.specs.Rows.{Row, Rows, row_in, no_row, count_in}
+use Rattle.jg_heap.specs.Rows.{Row, Rows, row_in, no_row}
 use Rattle.jg_heap.specs.Kept.{row_of, swept_row, ended_row, row_points_at, slot_of_row_holds, live_in, Keeps}
 use Rattle.jg_heap.specs.Rows.{row_of_making}
 use Rattle.jg_heap.specs.History.{Event, Collected, count_of, gone_at, held_at, points_at, going}
 use Rattle.jg_heap.specs.Standing.{Stands, standing, row_at, slots_at, MarksRoots, MarksHeld}
-use Rattle.jg_heap.proofs.Lists.{any_filter, any_agree, filter_filter, keep_agree, or_swapped, goes_alike, gone_alike, length-filter-le}
+use Rattle.jg_heap.proofs.Lists.{any_filter, any_agree, filter_filter, keep_agree, or_swapped, goes_alike, gone_alike}
 use Rattle.jg_heap.proofs.Pointing.{points_slots}
 use Rattle.jg_heap.proofs.Sweeping.{goes_now, pointing_holds}
 use Rattle.jg_heap.proofs.Steps.{standing_is}
@@ -52,16 +52,16 @@ marks_held k roots e old new len was now o h there =
     ∙ ap (λ b. (list_any (λ r. eqb r o) roots || ltb o k) || b) (live_points k e o)
     ∙ or_swapped (list_any (λ r. eqb r o) roots) (ltb o k) _)
 
--- how many of those in being aren't marked
-pub unmarked_going : (k : ℕ) (roots : List ℕ) (e : List Event) (marks : List Bool) → MarksHeld k roots e marks
-    → length (filter (λ o. not (get_or marks o false)) (live_in (standing k e))) ≡ length (going k roots e)
+-- those in being that aren't marked
+unmarked_going : (k : ℕ) (roots : List ℕ) (e : List Event) (marks : List Bool) → MarksHeld k roots e marks
+    → filter (λ o. not (get_or marks o false)) (live_in (standing k e)) ≡ going k roots e
 unmarked_going k roots e marks held =
     let rows : List Row = standing k e in
-    ap length (filter_filter (λ o. not (get_or marks o false)) (λ o. not (row_in rows o).gone) (range_with_len 0 (length rows))
+    filter_filter (λ o. not (get_or marks o false)) (λ o. not (row_in rows o).gone) (range_with_len 0 (length rows))
     ∙ ap (λ n. filter (λ o. not (row_in rows o).gone && not (get_or marks o false)) (range_with_len 0 n)) (length-standing k e)
     ∙ keep_agree (λ o. not (row_in rows o).gone && not (get_or marks o false)) (λ o. not (gone_at k e o) && not (held_at k roots e o)) 0 (count_of k e)
     (λ o h. ap (λ b. not b && not (get_or marks o false)) (gone_there k e o (omega arith))
-    ∙ goes_alike (gone_at k e o) (get_or marks o false) (held_at k roots e o) (λ there. get_or_from_slice_get marks o _ false (held o (omega arith) there))))
+    ∙ goes_alike (gone_at k e o) (get_or marks o false) (held_at k roots e o) (λ there. get_or_from_slice_get marks o _ false (held o (omega arith) there)))
 
 -- what a collection leaves, where it ends what isn't marked
 row_swept : (k : ℕ) (roots : List ℕ) (e : List Event) (marks : List Bool) → MarksHeld k roots e marks → (o : ℕ) → o < count_of k e
@@ -106,21 +106,11 @@ marks_of items before pointed live pointing rows k e roots old mid new is same k
     (ap (λ (xs : List (Object _)). list_any (slot_of_row_holds (map row_of xs) o) pointed) is ∙ ap (list_any (slot_of_row_holds (map row_of items) o)) same ∙ pointing_holds items live pointing o keeps
     ∙ ap (λ (rs : List Row). list_any (slot_of_row_holds rs o) live) base ∙ ap (list_any (slot_of_row_holds (standing rows.classes e) o)) all))
 
-pub count_of_unmarked : {A : Type 0} (items : List (Object A)) (live kept : List ℕ) (rows : Rows) (k : ℕ) (e : List Event) (roots : List ℕ) (marks : List Bool) → live ≡ kept
+pub list_of_unmarked : {A : Type 0} (items : List (Object A)) (live kept : List ℕ) (rows : Rows) (k : ℕ) (e : List Event) (roots : List ℕ) (marks : List Bool) → live ≡ kept
     → kept ≡ live_in (map row_of items) → record { classes = k; objects = map row_of items } ≡ rows → Stands rows e
-    → MarksHeld rows.classes roots e marks → length (filter (λ o. not (get_or marks o false)) live) ≡ length (going rows.classes roots e)
-count_of_unmarked items live kept rows k e roots marks same keeps view stands held =
-    ap (λ (os : List ℕ). length (filter (λ o. not (get_or marks o false)) os)) (live_is items live kept rows k e same keeps view stands) ∙ unmarked_going rows.classes roots e marks held
-
--- no more go than there are
-pub unmarked_bound : {A : Type 0} (items : List (Object A)) (live kept : List ℕ) (rows : Rows) (k count : ℕ) (p : ℕ → Bool) → live ≡ kept → kept ≡ live_in (map row_of items)
-    → record { classes = k; objects = map row_of items } ≡ rows → count ≡ length (filter p live) → count ≤ count_in rows
-unmarked_bound items live kept rows k count p same keeps view is =
-    let n : length live ≡ length (live_in rows.objects) = ap length (same ∙ keeps ∙ ap live_in (ap (λ (r : Rows). r.objects) view)) in
-    let r : length (range_with_len 0 (count_in rows)) ≡ count_in rows = length-range_with_len 0 (count_in rows) in
-    let a : length (filter p live) ≤ length live = length-filter-le p live in
-    let b : length (live_in rows.objects) ≤ length (range_with_len 0 (count_in rows)) = length-filter-le (λ o. not (row_in rows.objects o).gone) (range_with_len 0 (count_in rows)) in
-    omega arith
+    → MarksHeld rows.classes roots e marks → filter (λ o. not (get_or marks o false)) live ≡ going rows.classes roots e
+list_of_unmarked items live kept rows k e roots marks same keeps view stands held =
+    ap (filter (λ o. not (get_or marks o false))) (live_is items live kept rows k e same keeps view stands) ∙ unmarked_going rows.classes roots e marks held
 
 pub rows_swept : {A : Type 0} (items before new : List (Object A)) (live kept : List ℕ) (rows : Rows) (k : ℕ) (e : List Event) (roots : List ℕ) (marks : List Bool)
     → before ≡ items → live ≡ kept → kept ≡ live_in (map row_of items) → record { classes = k; objects = map row_of items } ≡ rows → Stands rows e → length new ≡ length before

@@ -1,10 +1,11 @@
 -- The turns of the loops that let go of objects, and the numbers of those that aren't gone.
-use Rattle.std.proofs.Common.{ℕ, ◌≡◌, ◌+◌, ◌<◌, ◌≤◌, ◌≢◌, ◌∙◌, sym, ap, refl, List, [], ◌∷◌, ◌++◌, length, map, get_or, set, arith, Bool, true, false, not, ◌&&◌, ◌||◌, eqb, inl, inr, get_or-set_same, get_or-set_other, subst, length-append, take, cond}
-use Rattle.std.specs.Prelude.{All, filter}
+use Rattle.std.proofs.Common.{ℕ, zero, suc, Some, drop, ◌≡◌, ◌+◌, ◌<◌, ◌≤◌, ◌≢◌, ◌∙◌, sym, ap, refl, List, [], ◌∷◌, ◌++◌, length, map, get_or, set, arith, Bool, true, false, not, ◌&&◌, ◌||◌, eqb, inl, inr, get_or-set_same, get_or-set_other, subst, length-append, take, cond}
+use Rattle.std.specs.Prelude.{All, filter, slice_get}
 use Rattle.std.specs.List.{list_any, range_with_len}
 use Rattle.std.proofs.Math.Seq.{get_or-append_seam}
 use Rattle.std.proofs.lemmas.List.{get_or_append_left, get_or-map, length-map, length-set, map-set, map-append, set-get_or, drop_more}
 use Rattle.std.proofs.lemmas.List.Filters.{FiltersInPlace}
+use Rattle.std.proofs.lemmas.Option.{slice_get_within, get_or_from_slice_get}
 use Rattle.std.proofs.lemmas.List.Folds.{list_any_more, list_any_none}
 use Rattle.std.proofs.lemmas.List.Elements.{filter-append, All-filter}
 use Rattle.std.proofs.lemmas.Bool.{cases_eq, eq-eqb, ne_eqb}
@@ -73,6 +74,55 @@ goes_more marked xs ys k i o m kept h is =
     let goes : ℕ → Bool = λ p. not (marked p) && eqb p o in
     list_any_more goes xs i 0 (omega (arith, kept.long)) ∙ ap (λ p. list_any goes (take i xs) || goes p) (sym (read_on kept h))
     ∙ ap (λ b. list_any goes (take i xs) || (not b && eqb (get_or ys i 0) o)) (sym is)
+
+-- ---- what is listed, in turn
+
+-- what a filter keeps passes it
+front_passes : (q : ℕ → Bool) (xs rest : List ℕ) (x : ℕ) → filter q xs ≡ x ∷ rest → q x ≡ true
+front_passes q [] rest x is = absurd (cc is)
+front_passes q (y ∷ ys) rest x is = at (q y) refl is (front_passes q ys rest x)
+  where
+    at : (b : Bool) → q y ≡ b → cond b (y ∷ filter q ys) (filter q ys) ≡ x ∷ rest → (filter q ys ≡ x ∷ rest → q x ≡ true) → q x ≡ true
+    at true passes same later = ap q (sym (ap (λ (l : List ℕ). get_or l 0 0) same)) ∙ passes
+    at false fails same later = later same
+
+-- what a list goes on with
+goes_on : (listed rest : List ℕ) (next x : ℕ) → drop next listed ≡ x ∷ rest → (slice_get listed next ≡ Some x) × (drop (suc next) listed ≡ rest)
+goes_on [] rest zero x is = absurd (cc is)
+goes_on [] rest (suc next) x is = absurd (cc is)
+goes_on (y ∷ ys) rest zero x is = (cc is, cc is)
+goes_on (y ∷ ys) rest (suc next) x is = goes_on ys rest next x is
+
+-- the next on a list of those that pass is at hand just where it passes
+pub next_passes : (q : ℕ → Bool) (xs listed : List ℕ) (i next : ℕ) → i < length xs → drop next listed ≡ filter q (drop i xs)
+    → slice_get listed next ≡ Some (get_or xs i 0) → q (get_or xs i 0) ≡ true
+next_passes q xs listed i next within left is =
+    let x = get_or xs i 0 in
+    let below : next < length listed = slice_get_within listed next x is in
+    let front : drop next listed ≡ x ∷ drop (next + 1) listed = drop_more listed next 0 below ∙ ap (λ y. y ∷ drop (next + 1) listed) (get_or_from_slice_get listed next x 0 is) in
+    front_passes q (drop i xs) (drop (next + 1) listed) x (sym left ∙ front)
+
+pub next_listed : (q : ℕ → Bool) (xs listed : List ℕ) (i next : ℕ) → i < length xs → drop next listed ≡ filter q (drop i xs) → q (get_or xs i 0) ≡ true
+    → (slice_get listed next ≡ Some (get_or xs i 0)) × (drop (next + 1) listed ≡ filter q (drop (i + 1) xs))
+next_listed q xs listed i next within left passes =
+    let x = get_or xs i 0 in
+    let on = goes_on listed (filter q (drop (i + 1) xs)) next x (left ∙ ap (filter q) (drop_more xs i 0 within) ∙ ap (λ b. cond b (x ∷ filter q (drop (i + 1) xs)) (filter q (drop (i + 1) xs))) passes) in
+    let n : next + 1 ≡ suc next = omega arith in
+    (on.0, ap (λ k. drop k listed) n ∙ on.1)
+
+pub next_stays : (q : ℕ → Bool) (xs listed : List ℕ) (i next : ℕ) → i < length xs → drop next listed ≡ filter q (drop i xs) → q (get_or xs i 0) ≡ false
+    → drop next listed ≡ filter q (drop (i + 1) xs)
+next_stays q xs listed i next within left fails =
+    let x = get_or xs i 0 in
+    left ∙ ap (filter q) (drop_more xs i 0 within) ∙ ap (λ b. cond b (x ∷ filter q (drop (i + 1) xs)) (filter q (drop (i + 1) xs))) fails
+
+-- behind some that all are marked
+pub listed_first : (marked : ℕ → Bool) (xs : List ℕ) (k : ℕ) → All (λ p. marked p ≡ true) (take k xs) → filter (λ p. not (marked p)) xs ≡ filter (λ p. not (marked p)) (drop k xs)
+listed_first marked xs zero all = refl
+listed_first marked [] (suc k) all = refl
+listed_first marked (x ∷ xs) (suc k) all =
+    ap (λ b. cond (not b) (x ∷ filter (λ p. not (marked p)) xs) (filter (λ p. not (marked p)) xs)) (all 0 0 (omega arith))
+    ∙ listed_first marked xs k (λ i d within. all (suc i) d (omega (arith, within)))
 
 -- ---- the numbers of those that aren't gone
 

@@ -1,9 +1,10 @@
 -- When rows stand for a history.
-use Rattle.std.specs.Prelude.{ℕ, ◌≡◌, ◌<◌, ◌==◌, Bool, false, List, Some, map, filter, slice_get}
+use Rattle.std.specs.Prelude.{ℕ, ◌≡◌, ◌<◌, ◌==◌, Bool, false, not, List, Some, map, filter, slice_get, slice_index_or}
 use Rattle.std.specs.List.{list_any, range_with_len}
 use Rattle.jg_heap.specs.declared.object.Slot.{Slot}
 use Rattle.jg_heap.specs.Making.{class_in, units_in, slots_in}
 use Rattle.jg_heap.specs.Rows.{Row, Rows}
+use Rattle.jg_heap.specs.Kept.{live_in}
 use Rattle.jg_heap.specs.History.{Event, count_of, making_at, value_at, gone_at, held_at}
 
 -- what the slots of an object hold
@@ -40,3 +41,7 @@ MarksRoots k roots e marks = (o : ℕ) → o < count_of k e → gone_at k e o �
 abbrev pub MarksHeld : ℕ → List ℕ → List Event → List Bool → Type 0
 MarksHeld k roots e marks = (o : ℕ) → o < count_of k e → gone_at k e o ≡ false
     → slice_get marks o ≡ Some (held_at k roots e o)
+
+-- the list is that of the objects in being whose marks aren't set, ascending
+abbrev pub AreListed : Rows → List Bool → List ℕ → Type 0
+AreListed rows marks unmarked = unmarked ≡ filter (λ o. not (slice_index_or marks o false)) (live_in rows.objects)

@@ -1,4 +1,4 @@
-ghost use Rattle.std.specs.Prelude.{◌≡◌, ℕ, ◌<◌, ◌≤◌, ◌^◌, All, false, true, not, ◌&&◌, ◌==◌, length, slice_index_or, nat_lt, map, filter, take};
+ghost use Rattle.std.specs.Prelude.{◌≡◌, ℕ, ◌<◌, ◌≤◌, ◌^◌, All, false, true, not, ◌&&◌, ◌==◌, ◌↔◌, IsTrue, OnOk, Some, length, slice_get, slice_index_or, nat_lt, map, filter, take};
 ghost use Rattle.std.specs.List.{list_any};
 ghost use Rattle.jg_heap.specs.declared.object.Slot.TheVariants.{Object as ToObject};
 ghost use Rattle.jg_heap.specs.History.{holds};
@@ -10,7 +10,7 @@ use crate::body::{Body, Object};
 use crate::object::Slot;
 use jg_lists::ObjectMarks;
 use jg_words::ObjId;
-use std::alloc::Allocator;
+use std::alloc::{AllocError, Allocator};
 
 /// Marks the object that is named, if one is.
 fn mark_target<A: Allocator>(marks: &mut ObjectMarks<A>, target: Option<ObjId>)
@@ -83,18 +83,21 @@ pub(crate) fn mark_pointed<A: Allocator>(
     }
 }
 
-/// How many of those in being aren't marked.
-pub(crate) fn count_unmarked<A: Allocator>(marks: &ObjectMarks<A>, live: &[u64]) -> u64
-    ensures count { result ≡ length (filter (λ o. not (slice_index_or marks.now o false)) live.now) }
-    ensures fits { result < 2 ^ 63 }
+/// Lists those in being that aren't marked.
+pub(crate) fn list_unmarked<A: Allocator>(
+    marks: &ObjectMarks<A>,
+    live: &[u64],
+    unmarked: &mut Vec<u64, A>,
+) -> Result<(), AllocError>
+    ensures { OnOk result (unmarked.new.items ≡ filter (λ o. not (slice_index_or marks.now o false)) live.now) }
 {
-    let mut count = 0;
+    unmarked.clear();
     for object in live {
         if !marks.is_set(*object) {
-            count += 1;
+            unmarked.push(*object)?;
         }
     }
-    count
+    Ok(())
 }
 
 /// Lets go of an object.
@@ -120,14 +123,26 @@ fn count_marked_first<A: Allocator>(marks: &ObjectMarks<A>, live: &[u64]) -> usi
     live.len()
 }
 
-/// Lets go of those in being that aren't marked, and moves the numbers of the others to the front of
-/// `live`. Answers how many these are.
+/// Whether the object is the one that stands there.
+fn is_at(numbers: &[u64], place: usize, object: u64) -> bool
+    ensures { IsTrue result ↔ (slice_get numbers.now place ≡ Some object) }
+{
+    match numbers.get(place) {
+        Some(number) => *number == object,
+        None => false,
+    }
+}
+
+/// Lets go of those in being that aren't marked, which are listed, and moves the numbers of the others
+/// to the front of `live`. Answers how many these are. The list saves a look at each mark.
 pub(crate) fn keep_marked<A: Allocator>(
     objects: &mut [Object<A>],
     live: &mut [u64],
     marks: &ObjectMarks<A>,
+    unmarked: &[u64],
 ) -> usize
-    requires { All (λ p. p < length objects.old) live.old }
+    requires within { All (λ p. p < length objects.old) live.old }
+    requires listed { unmarked.now ≡ filter (λ o. not (slice_index_or marks.now o false)) live.old }
     ensures kept { take result live.new ≡ filter (λ o. slice_index_or marks.now o false) live.old }
     ensures rows { (o : ℕ) → row_in (map row_of objects.new) o
         ≡ ended_row (list_any (λ p. not (slice_index_or marks.now p false) && p == o) live.old)
@@ -137,13 +152,15 @@ pub(crate) fn keep_marked<A: Allocator>(
     // What is old is mostly kept, and needn't be moved.
     let first = count_marked_first(marks, live);
     let mut kept = first;
+    let mut next = 0;
     for at in first..live.len() {
         let object = live[at];
-        if marks.is_set(object) {
+        if is_at(unmarked, next, object) {
+            let_go(objects, object);
+            next += 1;
+        } else {
             live[kept] = object;
             kept += 1;
-        } else {
-            let_go(objects, object);
         }
     }
     kept

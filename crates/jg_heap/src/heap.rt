@@ -4,10 +4,10 @@ ghost use Rattle.jg_heap.specs.declared.object.Slot.TheVariants.{Number};
 ghost use Rattle.jg_heap.specs.Making.{making_of, class_in, units_in, length_in, CanMake, HasFields, IsArrayClass, IsPrimitiveArray, TakesItem};
 ghost use Rattle.jg_heap.specs.History.{Event, Event.Made as Made, Event.Wrote as Wrote, Event.Collected as Collected, count_of, making_at, value_at, gone_at, going, region_writes};
 ghost use Rattle.jg_heap.specs.Rows.{count_in, class_at, length_at, units_at, slot_at, class_rows, row_of_making, KeepsShapes};
-ghost use Rattle.jg_heap.specs.Standing.{Stands, MarksRoots, MarksHeld};
+ghost use Rattle.jg_heap.specs.Standing.{Stands, MarksRoots, MarksHeld, AreListed};
 
 use crate::body::{Body, Object, object_of};
-use crate::collect::{count_unmarked, keep_marked, mark_classes, mark_pointed, retain_marked};
+use crate::collect::{keep_marked, list_unmarked, mark_classes, mark_pointed, retain_marked};
 use crate::object::{Shape, Slot};
 use jg_lists::ObjectMarks;
 use jg_words::ObjId;
@@ -246,30 +246,37 @@ impl<A: Allocator> Heap<A> {
         self.objects[object.0 as usize].gone
     }
 
-    /// How many objects nothing holds (chapter 2, "Global and Local References"), where the roots
-    /// marked theirs, among marks begun for all objects ([`ObjectMarks::start`], [`Heap::len`]). Marks
-    /// all that is held, for [`Heap::sweep`]. Changes no row, so a collection may stop here.
-    pub fn count_unheld(&self, marks: &mut ObjectMarks<A>) -> u64
-        ensures count { (e : List Event) (roots : List ℕ) → Stands self.now e
-            → MarksRoots self.now.classes roots e marks.old → result ≡ length (going self.now.classes roots e) }
-        ensures marks { (e : List Event) (roots : List ℕ) → Stands self.now e
-            → MarksRoots self.now.classes roots e marks.old → MarksHeld self.now.classes roots e marks.new }
-        ensures bound { result ≤ count_in self.now }
-        ensures fits { result < 2 ^ 63 }
+    /// Lists the objects that nothing holds, ascending (chapter 2, "Global and Local References"),
+    /// where the roots marked theirs, among marks begun for all objects ([`ObjectMarks::start`],
+    /// [`Heap::len`]); and marks all that is held. Both are for [`Heap::sweep`]. Changes no row, so a
+    /// collection may stop here. Fails only for want of memory; the list then means nothing.
+    pub fn find_unheld(
+        &self,
+        marks: &mut ObjectMarks<A>,
+        unheld: &mut Vec<u64, A>,
+    ) -> Result<(), AllocError>
+        ensures unheld { OnOk result ((e : List Event) (roots : List ℕ) → Stands self.now e
+            → MarksRoots self.now.classes roots e marks.old → unheld.new.items ≡ going self.now.classes roots e) }
+        ensures listed { OnOk result (AreListed self.now marks.new unheld.new.items) }
+        ensures marks { OnOk result ((e : List Event) (roots : List ℕ) → Stands self.now e
+            → MarksRoots self.now.classes roots e marks.old → MarksHeld self.now.classes roots e marks.new) }
     {
         mark_classes(marks, self.class_count);
         mark_pointed(marks, &self.objects, &self.pointing);
-        count_unmarked(marks, &self.live)
+        list_unmarked(marks, &self.live, unheld)?;
+        Ok(())
     }
 
-    /// Lets go of what isn't marked, one link of a chain. An object without a mark isn't.
-    pub fn sweep(&mut self, marks: &ObjectMarks<A>)
+    /// Lets go of what isn't marked, which is listed ([`Heap::find_unheld`]), one link of a chain. Takes
+    /// no memory.
+    pub fn sweep(&mut self, marks: &ObjectMarks<A>, unheld: &[u64])
+        requires { AreListed self.old marks.now unheld.now }
         ensures stands { (e : List Event) (roots : List ℕ) → Stands self.old e
             → MarksHeld self.old.classes roots e marks.now → Stands self.new (Collected roots ∷ e) }
         ensures classes { self.new.classes ≡ self.old.classes }
         ensures shapes { KeepsShapes self.old self.new }
     {
-        let kept = keep_marked(&mut self.objects, &mut self.live, marks);
+        let kept = keep_marked(&mut self.objects, &mut self.live, marks, unheld);
         self.live.truncate(kept);
         retain_marked(&mut self.pointing, marks);
     }

@@ -16,7 +16,7 @@ ghost use Rattle.jg_rules.specs.Answers as answers;
 ghost use Rattle.jg_rules.specs.Holding.{going};
 ghost use Rattle.jg_rules.specs.Answers.{vm_answer, amount, handed, unless_pending, registered};
 ghost use Rattle.jg_guard.specs.Cleaning.{cleans_up};
-ghost use Rattle.jg_guard.specs.Held.{Finds};
+ghost use Rattle.jg_guard.specs.Held.{Finds, IsReady};
 ghost use Rattle.jg_guard.specs.Tables.{rows_of, IsDue, IsEffective, KeepsRoom};
 ghost use Rattle.jg_rules.specs.Effects.{done_by};
 ghost use Rattle.jg_guard.specs.Settled.{linked_on, unlinked_on};
@@ -103,7 +103,7 @@ fn answer_collect<A: Allocator>(held: &Held<A>) -> Answer
     ensures { (setup : StatedSetup) (p : Parts) → Finds setup p (Vm Collect) held.now
         → result ≡ amount (length (going setup p)) }
 {
-    plain(Value::Number(held.unheld))
+    plain(Value::Number(held.unheld.len() as i64))
 }
 
 /// What a call of the group answers, where it breaks no rule. `held` is what a collection found.
@@ -214,7 +214,8 @@ pub(crate) fn perform_vm<A: Allocator + Clone>(
     tid: Tid,
     call: &VmCall,
 ) -> Result<(), AllocError>
-    requires { IsEffective setup.now (rows_of tables.old) tid (Vm call.now) }
+    requires effective { IsEffective setup.now (rows_of tables.old) tid (Vm call.now) }
+    requires ready { IsReady tables.old.heap (Vm call.now) held.now }
     ensures stands { OnOk result ((p : Parts) → TablesStand setup.now (rows_of tables.old) p
         → Finds setup.now p (Vm call.now) held.now
         → TablesStand setup.now (rows_of tables.new) (done_by setup.now tid.0 (Vm call.now) p)) }

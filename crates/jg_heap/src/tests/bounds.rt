@@ -5,6 +5,7 @@ ghost use Rattle.jg_heap.specs.Rows.{count_in, class_at};
 use crate::{Heap, Shape, Slot, from_mutf8_items, mutf8_len};
 use jg_lists::ObjectMarks;
 use jg_words::{ObjId, Primitive};
+use std::alloc::Global;
 use std::test::Fail;
 
 /// How many objects there are, as a number of a journal.
@@ -32,8 +33,10 @@ fn item_count(heap: &Heap, array: ObjId) -> i64
 }
 
 /// How many objects go at a collection; no object is marked before.
-fn going(heap: &Heap, marks: &mut ObjectMarks) -> i64 {
-    heap.count_unheld(marks) as i64
+fn going(alloc: Global, heap: &Heap, marks: &mut ObjectMarks) -> Result<i64, Fail> {
+    let mut unheld = Vec::new(alloc);
+    heap.find_unheld(marks, &mut unheld)?;
+    Ok(unheld.len() as i64)
 }
 
 /// How many units a text of these bytes has.
@@ -59,7 +62,7 @@ fn lengths_and_counts_fit_a_number(rt: HostRuntime) -> Result<(), Fail> {
     assert_eq!(rt; item_count(&heap, array), 4);
     let mut marks = ObjectMarks::new(rt.alloc());
     marks.start(8)?;
-    assert_eq!(rt; going(&heap, &mut marks), 2);
+    assert_eq!(rt; going(rt.alloc(), &heap, &mut marks)?, 2);
     assert_eq!(rt; text_len(rt, &[72, 192, 128])?, 2);
     Ok(())
 }

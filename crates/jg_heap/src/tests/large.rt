@@ -137,6 +137,8 @@ fn a_hundred_thousand_objects(rt: HostRuntime) -> Result<(), Fail> {
     let size = 15 + largest() as usize / 10;
     let mut marks = ObjectMarks::new(rt.alloc());
     marks.start(size)?;
-    assert_eq!(rt; heap.count_unheld(&mut marks), 100_000);
+    let mut unheld = Vec::new(rt.alloc());
+    heap.find_unheld(&mut marks, &mut unheld)?;
+    assert_eq!(rt; unheld.len(), 100_000);
     Ok(())
 }

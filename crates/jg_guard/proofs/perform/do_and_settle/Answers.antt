@@ -6,14 +6,17 @@ use Rattle.jg_policy.specs.Stated.{StatedSetup}
 use Rattle.jg_guard.proofs.Due.{due_still, can_settle, after_done, own_proper, stand_done}
 use Rattle.jg_guard.proofs.perform.do_and_settle.Goals as goal
 
-pub do_call-requires : goal.do_call-requires
-do_call-requires g c =
+pub do_call-requires-clause-effective : goal.do_call-requires-clause-effective
+do_call-requires-clause-effective g c =
     let due = c.requires.answered.due in
     let stand = c.in_ok-make_room.ensures.still c.args.setup.now due.events due.stand in
     record {
       due = due_still _ _ _ _ c.args.call.now due stand;
       effective = ap (λ (a : Answer). is_effective a.reply.value) (sym c.requires.answered.answered) ∙ c.requires.effective;
     }
+
+pub do_call-requires-clause-ready : goal.do_call-requires-clause-ready
+do_call-requires-clause-ready g c = rw c.in_ok-make_room.ensures.heap c.requires.ready
 
 pub settle-requires : goal.settle-requires
 settle-requires g c =

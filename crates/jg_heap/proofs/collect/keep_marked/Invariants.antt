@@ -1,5 +1,5 @@
-use Rattle.std.proofs.Common.{◌≡◌, ℕ, false, not, ◌&&◌, map, slice_index_or, take}
-use Rattle.std.specs.Prelude.{◌==◌}
+use Rattle.std.proofs.Common.{◌≡◌, ℕ, false, not, ◌&&◌, drop, map, slice_index_or, take}
+use Rattle.std.specs.Prelude.{◌==◌, filter}
 use Rattle.std.specs.List.{list_any}
 use Rattle.std.proofs.lemmas.List.Filters.{FiltersInPlace}
 use Rattle.jg_heap.specs.Kept.{row_of, ended_row, may_point}
@@ -12,4 +12,5 @@ invariant-loop-at g l = record {
   rows : (o : ℕ) → row_in (map row_of l.objects) o
       ≡ ended_row (list_any (λ p. not (slice_index_or l.marks p false) && p == o) (take l.at l.initial.live)) (row_in (map row_of l.initial.objects) o);
   pointing : map may_point l.objects ≡ map may_point l.initial.objects;
+  listed : drop l.next l.unmarked ≡ filter (λ p. not (slice_index_or l.marks p false)) (drop l.at l.initial.live);
 }

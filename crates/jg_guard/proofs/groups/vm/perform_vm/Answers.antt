@@ -4,41 +4,41 @@ use Rattle.jg_guard.proofs.Due.{counts, can_start, can_enter, can_leave, can_lea
 use Rattle.jg_guard.proofs.groups.vm.perform_vm.Goals as goal
 
 pub attach-requires : goal.attach-requires
-attach-requires g c = counts c.requires.due.events c.args.tables.now.threads c.args.tid.0 c.requires.due.ordinary c.requires.due.stand.threads
+attach-requires g c = counts c.requires.effective.due.events c.args.tables.now.threads c.args.tid.0 c.requires.effective.due.ordinary c.requires.effective.due.stand.threads
 
 pub attach-requires-else-is_attached : goal.attach-requires-else-is_attached
-attach-requires-else-is_attached g c = counts c.requires.due.events c.args.tables.now.threads c.args.tid.0 c.requires.due.ordinary c.requires.due.stand.threads
+attach-requires-else-is_attached g c = counts c.requires.effective.due.events c.args.tables.now.threads c.args.tid.0 c.requires.effective.due.ordinary c.requires.effective.due.stand.threads
 
 pub start_thread-requires : goal.start_thread-requires
 start_thread-requires g c =
-    rw c.in_ok-reserve_start-in-AttachCurrentThread.ensures.rows (can_start c.requires.due.events c.args.tables.now.locals.rows c.args.tid.0 c.requires.due.ordinary c.requires.due.stand.locals
-    (sym (c.is_attached.ensures.history c.requires.due.events.threads c.requires.due.stand.threads) ∙ c.if-is_attached.false))
+    rw c.in_ok-reserve_start-in-AttachCurrentThread.ensures.rows (can_start c.requires.effective.due.events c.args.tables.now.locals.rows c.args.tid.0 c.requires.effective.due.ordinary c.requires.effective.due.stand.locals
+    (sym (c.is_attached.ensures.history c.requires.effective.due.events.threads c.requires.effective.due.stand.threads) ∙ c.if-is_attached.false))
 
 pub enter-requires-clause-started : goal.enter-requires-clause-started
 enter-requires-clause-started g c =
-    has_frame c.requires.due.events c.args.tables.now.locals.rows c.args.tid.0 c.requires.due.ordinary c.requires.due.stand.locals
-    (attached_caller c.requires.due.events c.args.tid.0 c.requires.due.env _ refl (rw c.in-NativeEnter.is at c.requires.due.unbroken.is_attached))
+    has_frame c.requires.effective.due.events c.args.tables.now.locals.rows c.args.tid.0 c.requires.effective.due.ordinary c.requires.effective.due.stand.locals
+    (attached_caller c.requires.effective.due.events c.args.tid.0 c.requires.effective.due.env _ refl (rw c.in-NativeEnter.is at c.requires.effective.due.unbroken.is_attached))
 
 pub enter-requires-clause-fits : goal.enter-requires-clause-fits
-enter-requires-clause-fits g c = can_enter c.requires.due.events c.args.tables.now.locals.rows c.args.tid.0 c.requires.due.ordinary c.requires.due.stand.locals
+enter-requires-clause-fits g c = can_enter c.requires.effective.due.events c.args.tables.now.locals.rows c.args.tid.0 c.requires.effective.due.ordinary c.requires.effective.due.stand.locals
 
 pub enter_native-requires-clause-seen : goal.enter_native-requires-clause-seen
 enter_native-requires-clause-seen g c =
-    is_on c.requires.due.events c.args.tables.now.threads c.args.tid.0 c.requires.due.stand.threads
-    (attached_caller c.requires.due.events c.args.tid.0 c.requires.due.env _ refl (rw c.in-NativeEnter.is at c.requires.due.unbroken.is_attached))
+    is_on c.requires.effective.due.events c.args.tables.now.threads c.args.tid.0 c.requires.effective.due.stand.threads
+    (attached_caller c.requires.effective.due.events c.args.tid.0 c.requires.effective.due.env _ refl (rw c.in-NativeEnter.is at c.requires.effective.due.unbroken.is_attached))
 
 pub enter_native-requires-clause-room : goal.enter_native-requires-clause-room
-enter_native-requires-clause-room g c = counts c.requires.due.events c.args.tables.now.threads c.args.tid.0 c.requires.due.ordinary c.requires.due.stand.threads
+enter_native-requires-clause-room g c = counts c.requires.effective.due.events c.args.tables.now.threads c.args.tid.0 c.requires.effective.due.ordinary c.requires.effective.due.stand.threads
 
 pub leave-requires : goal.leave-requires
 leave-requires g c =
-    can_leave c.requires.due.events c.args.tables.now.locals.rows c.args.tid.0 c.requires.due.ordinary c.requires.due.stand.locals (rw c.in-NativeLeave.is at c.requires.due.unbroken.right_frame)
+    can_leave c.requires.effective.due.events c.args.tables.now.locals.rows c.args.tid.0 c.requires.effective.due.ordinary c.requires.effective.due.stand.locals (rw c.in-NativeLeave.is at c.requires.effective.due.unbroken.right_frame)
 
 pub leave_native-requires-clause-seen : goal.leave_native-requires-clause-seen
 leave_native-requires-clause-seen g c =
-    is_on c.requires.due.events c.args.tables.now.threads c.args.tid.0 c.requires.due.stand.threads
-    (attached_caller c.requires.due.events c.args.tid.0 c.requires.due.env _ refl (rw c.in-NativeLeave.is at c.requires.due.unbroken.is_attached))
+    is_on c.requires.effective.due.events c.args.tables.now.threads c.args.tid.0 c.requires.effective.due.stand.threads
+    (attached_caller c.requires.effective.due.events c.args.tid.0 c.requires.effective.due.env _ refl (rw c.in-NativeLeave.is at c.requires.effective.due.unbroken.is_attached))
 
 pub leave_native-requires-clause-inside : goal.leave_native-requires-clause-inside
 leave_native-requires-clause-inside g c =
-    can_leave_native c.requires.due.events c.args.tables.now.threads c.args.tid.0 c.requires.due.stand.threads (rw c.in-NativeLeave.is at c.requires.due.unbroken.right_frame)
+    can_leave_native c.requires.effective.due.events c.args.tables.now.threads c.args.tid.0 c.requires.effective.due.stand.threads (rw c.in-NativeLeave.is at c.requires.effective.due.unbroken.right_frame)

@@ -11,8 +11,12 @@ use Rattle.jg_heap.proofs.Collecting.{rows_swept}
 use Rattle.jg_heap.proofs.Calls.{shapes_swept}
 use Rattle.jg_heap.proofs.heap.Heap.sweep.Goals as goal
 
-pub keep_marked-kept-requires : goal.keep_marked-kept-requires
-keep_marked-kept-requires g c = within c.self.inside.objects.items c.deref_mut.result.now c.deref_mut-2.result.now c.self.inside.live.items c.deref_mut.ensures.value c.deref_mut-2.ensures.value c.self.invariant.live
+pub keep_marked-kept-requires-clause-within : goal.keep_marked-kept-requires-clause-within
+keep_marked-kept-requires-clause-within g c = within c.self.inside.objects.items c.deref_mut.result.now c.deref_mut-2.result.now c.self.inside.live.items c.deref_mut.ensures.value c.deref_mut-2.ensures.value c.self.invariant.live
+
+pub keep_marked-kept-requires-clause-listed : goal.keep_marked-kept-requires-clause-listed
+keep_marked-kept-requires-clause-listed g c =
+    c.requires ∙ ap (filter (λ o. not (get_or c.args.marks.now o false))) (sym (c.deref_mut-2.ensures.value ∙ c.self.invariant.live ∙ ap (λ (r : Rows). live_in r.objects) c.self.view_is))
 
 pub invariant_of-self : goal.invariant_of-self
 invariant_of-self g c =

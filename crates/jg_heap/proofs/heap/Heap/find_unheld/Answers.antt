@@ -1,9 +1,12 @@
-use Rattle.std.proofs.Common.{◌∙◌, get_or, false, not}
+use Rattle.std.proofs.Common.{◌∙◌, ap, false, get_or, not}
+use Rattle.std.specs.Prelude.{filter}
 use Rattle.jg_lists.proofs.Marks.{marks_length}
+use Rattle.jg_heap.specs.Kept.{live_in}
+use Rattle.jg_heap.specs.Rows.{Rows}
 use Rattle.jg_heap.proofs.Sweeping.{pointing_within}
-use Rattle.jg_heap.proofs.Collecting.{marks_of, count_of_unmarked, unmarked_bound}
+use Rattle.jg_heap.proofs.Collecting.{marks_of, list_of_unmarked}
 use Rattle.jg_heap.proofs.Marking.{mark_is}
-use Rattle.jg_heap.proofs.heap.Heap.count_unheld.Goals as goal
+use Rattle.jg_heap.proofs.heap.Heap.find_unheld.Goals as goal
 
 pub mark_pointed-requires : goal.mark_pointed-requires
 mark_pointed-requires g c =
@@ -17,15 +20,14 @@ returns-clause-marks g c e roots stands was =
     (mark_is _ _ _ c.mark_pointed.ensures)
     was
 
-pub returns-clause-count : goal.returns-clause-count
-returns-clause-count g c e roots stands was =
-    c.count_unmarked.ensures.count
-    ∙ count_of_unmarked c.self.inside.objects.items c.deref-3.result.now c.self.inside.live.items c.args.self.now c.self.inside.class_count e roots c.mark_pointed.new.marks
+pub returns-clause-unheld : goal.returns-clause-unheld
+returns-clause-unheld g c e roots stands was =
+    c.in_ok-list_unmarked.ensures
+    ∙ list_of_unmarked c.self.inside.objects.items c.deref-3.result.now c.self.inside.live.items c.args.self.now c.self.inside.class_count e roots c.mark_pointed.new.marks
     c.deref-3.ensures.value c.self.invariant.live c.self.view_is stands
     (returns-clause-marks g c e roots stands was)
 
-pub returns-clause-bound : goal.returns-clause-bound
-returns-clause-bound g c =
-    unmarked_bound c.self.inside.objects.items c.deref-3.result.now c.self.inside.live.items c.args.self.now c.self.inside.class_count c.count_unmarked.result
-    (λ o. not (get_or c.mark_pointed.new.marks o false))
-    c.deref-3.ensures.value c.self.invariant.live c.self.view_is c.count_unmarked.ensures.count
+pub returns-clause-listed : goal.returns-clause-listed
+returns-clause-listed g c =
+    c.in_ok-list_unmarked.ensures
+    ∙ ap (filter (λ o. not (get_or c.mark_pointed.new.marks o false))) (c.deref-3.ensures.value ∙ c.self.invariant.live ∙ ap (λ (r : Rows). live_in r.objects) c.self.view_is)
