@@ -6,7 +6,7 @@ use Rattle.jg_words.specs.declared.rule.Rule.{Rule}
 use Rattle.jg_words.specs.declared.call.Call.{Call}
 use Rattle.jg_words.specs.declared.entry.Outcome.{Outcome}
 use Rattle.jg_words.specs.declared.entry.Outcome.TheVariants.{Passed, Denied}
-use Rattle.jg_words.specs.declared.entry.Entry.{Entry}
+use Rattle.jg_words.specs.Entry.{Entry}
 use Rattle.jg_rules.specs.Rules.{verdict}
 use Rattle.jg_rules.specs.Effects.{parts}
 use Rattle.jg_rules.specs.Legal.{entry_at}

@@ -29,7 +29,7 @@ pub fn denials<A: Allocator + Clone, B: Allocator>(
         let Some(entry) = guard.journal_entry(place) else {
             unreachable!()
         };
-        if let Outcome::Denied(rule) = entry.outcome {
+        if let Some(rule) = entry.rule() {
             list.push(Denial { place, rule })?;
         }
     }

@@ -1,7 +1,7 @@
 //! The virtual machine behind the guard.
 
 ghost use Rattle.std.specs.Prelude.{List, ◌∷◌};
-ghost use Rattle.jg_words.specs.declared.entry.Entry.{Entry};
+ghost use Rattle.jg_words.specs.Entry.{Entry};
 ghost use Rattle.jg_caller.specs.Passed.{IsPassed};
 
 use jg_words::Entry;

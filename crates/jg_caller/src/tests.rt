@@ -23,7 +23,7 @@ impl Machine for Recorder {
         → reverse recorder.done.items ≡ map (λ entry. fun_of entry.call) h };
 
     fn carry_out(&mut self, entry: &Entry) {
-        if self.done.push(entry.call.fun()).is_err() {
+        if self.done.push(entry.call().fun()).is_err() {
             self.forgot = true;
         }
     }

@@ -1,7 +1,7 @@
 //! A call on its way through the guard to the machine.
 
 ghost use Rattle.std.specs.Prelude.{◌≡◌, ◌<◌, ◌⊎◌, ◌↔◌, List, ◌∷◌, length, slice_get, None, Some, Err, IfOk, IfErr, OnOk, OnErr};
-ghost use Rattle.jg_words.specs.declared.entry.Entry.{Entry};
+ghost use Rattle.jg_words.specs.Entry.{Entry};
 ghost use Rattle.jg_words.specs.declared.rule.Rule.{Rule};
 ghost use Rattle.jg_guard.specs.Guard.{Takes, Unchanged};
 ghost use Rattle.jg_caller.specs.Passed.{judged, next_entry, passed_in};

@@ -1,6 +1,6 @@
 -- The laws of all legal histories, at each place of one.
 use Rattle.std.proofs.Common.{ℕ, ◌++◌, List, subst}
-use Rattle.jg_words.specs.declared.entry.Entry.{Entry}
+use Rattle.jg_words.specs.Entry.{Entry}
 use Rattle.jg_rules.specs.Legal.{Legal}
 use Rattle.jg_laws.proofs.Touching.{touches_are_live, nothing_gone_is_touched}
 use Rattle.jg_laws.proofs.HandedHere.{live_is_not_gone}

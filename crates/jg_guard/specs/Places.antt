@@ -2,7 +2,7 @@
 -- is the number of entries before it.
 use Rattle.std.specs.Prelude.{ℕ, ◌≡◌, ◌+◌, ◌<◌, ◌++◌, true, false, List, ◌∷◌, length, Some, None}
 use Rattle.jg_words.specs.declared.reference.Ref.{Ref}
-use Rattle.jg_words.specs.declared.entry.Entry.{Entry}
+use Rattle.jg_words.specs.Entry.{Entry}
 use Rattle.jg_buffers.specs.History as buffers
 use Rattle.jg_monitors.specs.History as monitors
 use Rattle.jg_rules.specs.Names.{object_named}

@@ -112,7 +112,7 @@ impl<A: Allocator + Copy> Guard<A> {
             limit,
             journal,
             tables,
-            held: Held::new(alloc),
+            held: Held::new(alloc, alloc),
         })
     }
 }
@@ -169,13 +169,7 @@ impl<A: Allocator + Clone> Guard<A> {
         if self.journal.reserve(1).is_err() {
             return Err(Refusal::NoMemory(call));
         }
-        let entry = Entry {
-            tid,
-            env,
-            call,
-            outcome: Outcome::Denied(rule),
-            object: None,
-        };
+        let entry = Entry::denied(tid, env, call, rule);
         push_reserved(&mut self.journal, entry);
         Ok(Outcome::Denied(rule))
     }
@@ -217,17 +211,12 @@ impl<A: Allocator + Clone> Guard<A> {
         };
         let noticed = is_noticed(&self.tables, tid, &given.reply.value);
         let warned = given.reply.warned;
-        let entry = Entry {
-            tid,
-            env,
-            call,
-            outcome: Outcome::Passed(Reply {
-                value: given.reply.value,
-                warned,
-                noticed,
-            }),
-            object: given.object,
+        let reply = Reply {
+            value: given.reply.value,
+            warned,
+            noticed,
         };
+        let entry = Entry::passed(tid, env, call, reply, given.object);
         push_reserved(&mut self.journal, entry);
         Ok(Outcome::Passed(Reply {
             value,

@@ -1,6 +1,6 @@
 -- What the events of a legal history keep.
 use Rattle.std.proofs.Common.{ℕ, ◌≡◌, ◌+◌, ◌<◌, ◌≤◌, Bool, true, false, List, [], ◌∷◌, ◌++◌, refl, subst, sym, ap, ◌∙◌, arith}
-use Rattle.jg_words.specs.declared.entry.Entry.{Entry}
+use Rattle.jg_words.specs.Entry.{Entry}
 use Rattle.jg_policy.specs.Stated.{StatedSetup}
 use Rattle.jg_threads.specs.History as threads
 use Rattle.jg_locals.specs.History.{Act, Start, Make, Push, Ensure, Enter, Delete, Pop, Leave, End, Event, by, acts_of, session, has_session, is_enter, is_leave, IsMadeBelow}

@@ -3,7 +3,7 @@ use Rattle.std.proofs.Common.{ℕ, ◌≡◌, ◌≢◌, ◌+◌, ◌≤◌, ◌
 use Rattle.std.specs.Prelude.{◌==◌, if◌then◌else◌}
 use Rattle.std.specs.List.{AllByRecursion}
 use Rattle.std.proofs.lemmas.Bool.Decides.{nat_tests}
-use Rattle.jg_words.specs.declared.entry.Entry.{Entry}
+use Rattle.jg_words.specs.Entry.{Entry}
 use Rattle.jg_policy.specs.Stated.{StatedSetup, class_count}
 use Rattle.jg_threads.specs.History as threads
 use Rattle.jg_locals.proofs.Callers.{each_thread}

@@ -2,7 +2,7 @@
 use Rattle.std.proofs.Common.{◌≡◌, List, [], ◌∷◌, refl, ap, sym, ◌∙◌}
 use Rattle.jg_words.specs.declared.entry.Outcome.{Outcome}
 use Rattle.jg_words.specs.declared.entry.Outcome.TheVariants.{Passed, Denied}
-use Rattle.jg_words.specs.declared.entry.Entry.{Entry}
+use Rattle.jg_words.specs.Entry.{Entry}
 use Rattle.jg_policy.specs.Stated.{StatedSetup}
 use Rattle.jg_rules.specs.Parts.{Parts}
 use Rattle.jg_rules.specs.Effects.{parts, after}

@@ -1,7 +1,7 @@
 -- What the lines taken so far, and the answer to the next one, say of the whole.
 use Rattle.std.proofs.Common.{◌≡◌, ◌≢◌, ℕ, ◌+◌, ◌≤◌, List, [], ◌∷◌, ◌++◌, length, Option, Some, None, Ok, Err, ap, sym, ◌∙◌, subst, refl, arith, inl, inr, ◌⊎◌}
 use Rattle.std.specs.Io.KnownBytes.{Appends, Consumes, Keeps}
-use Rattle.jg_words.specs.declared.entry.Entry.{Entry}
+use Rattle.jg_words.specs.Entry.{Entry}
 use Rattle.jg_text.specs.declared.fault.ScriptFault.TheVariants.{LineTooLong}
 use Rattle.jg_text.specs.Faults.{IsFirstFault}
 use Rattle.jg_text.specs.Journal.{call_lines, journal_text}

@@ -1,7 +1,7 @@
 -- A call that the guard took is in front of its journal.
 use Rattle.std.proofs.Common.{◌≡◌, ◌∙◌, ap, ℕ, List, ◌∷◌, ◌++◌, [], Option, Some, None, Result, Ok, Err, OnOk, inl, inr, refl, subst, length, take, slice_get, ◌<◌}
 use Rattle.std.specs.Io.KnownBytes.{Appends}
-use Rattle.jg_words.specs.declared.entry.Entry.{Entry}
+use Rattle.jg_words.specs.Entry.{Entry}
 use Rattle.jg_words.specs.declared.thread.Tid.{Tid}
 use Rattle.jg_words.specs.declared.thread.EnvId.{EnvId}
 use Rattle.jg_words.specs.declared.rule.Rule.{Rule}

@@ -1,7 +1,7 @@
 -- What answering one line does. No public contract stands on this.
 use Rattle.std.specs.Prelude.{◌≡◌, ℕ, ◌<◌, List, ◌∷◌, length, Option, Result, Ok, Err, ◌⊎◌}
 use Rattle.std.specs.Io.KnownBytes.{Appends}
-use Rattle.jg_words.specs.declared.entry.Entry.{Entry}
+use Rattle.jg_words.specs.Entry.{Entry}
 use Rattle.jg_text.specs.Spelling.{Spells}
 use Rattle.jg_text.specs.Faults.{IsFirstFault}
 use Rattle.jg_text.specs.Journal.{entry_text}

@@ -1,7 +1,7 @@
 -- What a reading of a journal's text did.
 use Rattle.std.specs.Prelude.{◌≡◌, ℕ, ◌+◌, ◌<◌, ◌≤◌, List, ◌∷◌, ◌++◌, length, Option, IfSome, Result, Ok, Err}
 use Rattle.std.specs.Io.KnownBytes.{IsAtEnd}
-use Rattle.jg_words.specs.declared.entry.Entry.{Entry}
+use Rattle.jg_words.specs.Entry.{Entry}
 use Rattle.jg_policy.specs.Stated.{StatedSetup}
 use Rattle.jg_rules.specs.Legal.{Legal}
 use Rattle.jg_text.specs.Begun.{BeginsCall}

@@ -1,7 +1,7 @@
 -- What writing a journal did to the bytes of the writer.
 use Rattle.std.specs.Prelude.{◌≡◌, ◌+◌, ℕ, List, ◌∷◌, ◌++◌, length, Option, Result, Ok, Err}
 use Rattle.std.specs.Io.KnownBytes.{Appends}
-use Rattle.jg_words.specs.declared.entry.Entry.{Entry}
+use Rattle.jg_words.specs.Entry.{Entry}
 use Rattle.jg_text.specs.Journal.{entry_text}
 use Rattle.jg_script.specs.Checked.{WritesAll, WritesFront}
 use Rattle.jg_script.specs.declared.run_fault.RunFault.{RunFault}

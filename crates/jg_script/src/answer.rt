@@ -68,7 +68,7 @@ fn complete<A: Allocator + Clone>(
     let bytes = mem::replace(text, Vec::new(alloc));
     // SAFETY: it is text, as the caller says and `rt` checks.
     let mut line = unsafe { String::from_utf8_unchecked(bytes) };
-    let pushed = push_answer(&mut line, &newest(guard).outcome);
+    let pushed = push_answer(&mut line, newest(guard));
     *text = line.into_bytes();
     pushed
 }

@@ -6,7 +6,7 @@ use Rattle.std.proofs.lemmas.List.{length-reverse, length-map}
 use Rattle.std.proofs.lemmas.List.Elements.{All-head, All-tail, All-weaker}
 use Rattle.std.proofs.lemmas.List.Sums.{sum_by-cons}
 use Rattle.jg_words.specs.declared.thread.Tid.{Tid}
-use Rattle.jg_words.specs.declared.entry.Entry.{Entry}
+use Rattle.jg_words.specs.Entry.{Entry}
 use Rattle.jg_shell.specs.Receipts.{Told, told_of, entries_of, placed}
 use Rattle.jg_shell.specs.Work.{Work, AreApart}
 use Rattle.jg_shell.specs.Finish.{IsAllTold}

@@ -1,4 +1,4 @@
--- The tests that derives write for calls and outcomes decide equality.
+-- The tests that derives write for calls and answers decide equality.
 use Rattle.std.proofs.Common.{◌≡◌, ℕ, Bool, true, false, List, refl, arith, Decides}
 use Rattle.std.specs.Prelude.{ℤ, nat_eq, ◌&&◌}
 use Rattle.std.specs.Cmp.Lexicographic.{pointwise}
@@ -15,10 +15,6 @@ use Rattle.jg_words.specs.declared.buffer.BufId.{BufId}
 use Rattle.jg_words.specs.contracts.buffer.BufIdPartialEq.TheImpl.{ghosts as buffer_tests}
 use Rattle.jg_words.specs.declared.value.Value.{Value}
 use Rattle.jg_words.specs.contracts.value.ValuePartialEq.TheImpl.{ghosts as value_tests}
-use Rattle.jg_words.specs.declared.entry.Reply.{Reply}
-use Rattle.jg_words.specs.contracts.entry.ReplyPartialEq.TheImpl.{ghosts as reply_tests}
-use Rattle.jg_words.specs.declared.entry.Outcome.{Outcome}
-use Rattle.jg_words.specs.contracts.entry.OutcomePartialEq.TheImpl.{ghosts as outcome_tests}
 use Rattle.jg_words.specs.declared.call.vm.VmCall.{VmCall}
 use Rattle.jg_words.specs.contracts.call.vm.VmCallPartialEq.TheImpl.{ghosts as vm}
 use Rattle.jg_words.specs.declared.call.vm.VmCall.TheVariants.{AttachCurrentThread, DetachCurrentThread, GetEnv, NativeEnter, NativeLeave, LoadLibrary, RegisterNatives, UnregisterNatives, Collect}
@@ -212,13 +208,7 @@ call_same (Monitors a) y = grind arith
 call_same (Buffers a) (Buffers b) = grind (arith, buffers_same a b)
 call_same (Buffers a) y = grind arith
 
-value_same : (x y : Value) → Decides (value_tests.eq x y) (x ≡ y)
+pub value_same : (x y : Value) → Decides (value_tests.eq x y) (x ≡ y)
 value_same x y = grind (arith, items_same)
 
-reply_same : (x y : Reply) → Decides (reply_tests.eq x y) (x ≡ y)
-reply_same x y = grind (arith, value_same x.value y.value)
-
-pub outcome_same : (x y : Outcome) → Decides (outcome_tests.eq x y) (x ≡ y)
-outcome_same x y = grind (arith, reply_same)
-
-pub ruleset equal_words = (call_same, outcome_same)
+pub ruleset equal_words = (call_same, value_same)

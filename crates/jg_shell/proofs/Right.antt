@@ -6,7 +6,7 @@ use Rattle.std.proofs.lemmas.List.Elements.{All-cons, All-nil, All-weaker}
 use Rattle.std.proofs.lemmas.List.Kept.{AllPairs-cons}
 use Rattle.std.proofs.Math.Seq.{split_at}
 use Rattle.jg_words.specs.declared.thread.Tid.{Tid}
-use Rattle.jg_words.specs.declared.entry.Entry.{Entry}
+use Rattle.jg_words.specs.Entry.{Entry}
 use Rattle.jg_shell.specs.declared.receipt.Receipt.{Receipt}
 use Rattle.jg_shell.specs.Work.{Work}
 use Rattle.jg_shell.specs.Finish.{IsRight, Stand, PlacesRise, next_place, IsFirstWrong, IsRightWorker, IsWrongReceipt}

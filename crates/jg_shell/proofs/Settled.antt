@@ -9,7 +9,7 @@ use Rattle.std.proofs.lemmas.List.Folds.{Any-from_list_any}
 use Rattle.std.proofs.lemmas.List.Sorted.{IsPermutation-reverse, list_any-IsPermutation}
 use Rattle.std.proofs.lemmas.Option.{same_Some}
 use Rattle.jg_words.specs.declared.thread.Tid.{Tid}
-use Rattle.jg_words.specs.declared.entry.Entry.{Entry}
+use Rattle.jg_words.specs.Entry.{Entry}
 use Rattle.jg_shell.specs.declared.receipt.Receipt.{Receipt}
 use Rattle.jg_shell.specs.Receipts.{Told, told_of, told_by, told_at, entries_of, placed}
 use Rattle.jg_shell.specs.Work.{Work, AreApart}

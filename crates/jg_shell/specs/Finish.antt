@@ -2,7 +2,7 @@
 use Rattle.std.specs.Prelude.{ℕ, ◌≡◌, ◌<◌, ◌≤◌, ◌+◌, ◌==◌, ◌&&◌, Bool, true, false, List, [], ◌∷◌, ◌++◌, length, All, AllPairs, Some}
 use Rattle.std.specs.List.{list_any}
 use Rattle.jg_words.specs.declared.thread.Tid.{Tid}
-use Rattle.jg_words.specs.declared.entry.Entry.{Entry}
+use Rattle.jg_words.specs.Entry.{Entry}
 use Rattle.jg_shell.specs.declared.receipt.Receipt.{Receipt}
 use Rattle.jg_shell.specs.Receipts.{Told, told_by, told_at}
 use Rattle.jg_shell.specs.Work.{Work}

@@ -5,7 +5,7 @@ use Rattle.jg_words.specs.declared.thread.Tid.{Tid}
 use Rattle.jg_words.specs.declared.thread.EnvId.{EnvId}
 use Rattle.jg_words.specs.declared.call.Call.{Call}
 use Rattle.jg_words.specs.declared.entry.Outcome.{Outcome}
-use Rattle.jg_words.specs.declared.entry.Entry.{Entry}
+use Rattle.jg_words.specs.Entry.{Entry}
 use Rattle.jg_shell.specs.declared.receipt.Receipt.{Receipt}
 
 -- what an entry and its receipt both tell: which thread called what, by which environment, and what became of it

@@ -1,6 +1,6 @@
 -- What receipts and journal are where they agree. A journal has its newest entry first, receipts have the oldest first.
 use Rattle.std.specs.Prelude.{◌≡◌, List, map, reverse, Any}
-use Rattle.jg_words.specs.declared.entry.Entry.{Entry}
+use Rattle.jg_words.specs.Entry.{Entry}
 use Rattle.jg_shell.specs.Receipts.{entries_of, placed}
 use Rattle.jg_shell.specs.Work.{Work}
 

@@ -7,7 +7,7 @@ ghost use Rattle.jg_shell.specs.Finish.{IsRight, Stand, PlacesRise, IsFirstWrong
 use crate::receipt::Receipt;
 use crate::worker::Worker;
 use jg_guard::Guard;
-use jg_words::{Entry, Tid};
+use jg_words::{Entry, Outcome, Reply, Tid, Value};
 use std::sync::ledger::Ledger;
 
 // The thread and the place at which the receipts of the workers and the journal differ first: the
@@ -68,10 +68,42 @@ fn is_right(guard: &Guard, low: usize, receipt: &Receipt) -> bool
 fn is_entry_of(entry: &Entry, receipt: &Receipt) -> bool
     ensures { IsTrue result ↔ (told_of entry.now ≡ told_by receipt.now) }
 {
-    entry.tid == receipt.tid
-        && entry.env == receipt.env
-        && entry.call == receipt.call
-        && entry.outcome == receipt.outcome
+    entry.tid() == receipt.tid
+        && entry.env() == receipt.env
+        && *entry.call() == receipt.call
+        && ended_so(entry, &receipt.outcome)
+}
+
+// Whether the entry ended in the outcome.
+pub(crate) fn ended_so(entry: &Entry, outcome: &Outcome) -> bool
+    ensures { IsTrue result ↔ (entry.now.outcome ≡ outcome.now) }
+{
+    match outcome {
+        Outcome::Passed(reply) => answered_so(entry, reply),
+        Outcome::Denied(rule) => entry.rule() == Some(*rule),
+    }
+}
+
+fn answered_so(entry: &Entry, reply: &Reply) -> bool
+    ensures { IsTrue result ↔ (entry.now.outcome ≡ Outcome.Passed reply.now) }
+{
+    match entry.value() {
+        None => false,
+        Some(value) => is_reply(value, entry.warned(), entry.noticed(), reply),
+    }
+}
+
+#[tactic(auto, using(crate::proofs::Equal::equal_words))]
+fn is_reply(value: &Value, warned: bool, noticed: bool, reply: &Reply) -> bool
+    ensures { IsTrue result ↔ (record { value = value.now; warned = warned; noticed = noticed } ≡ reply.now) }
+{
+    if warned != reply.warned {
+        return false;
+    }
+    if noticed != reply.noticed {
+        return false;
+    }
+    *value == reply.value
 }
 
 // Receipts that are all right stand in the order of their places, so each look-up is a binary
@@ -83,8 +115,9 @@ fn first_untold_entry<L: Ledger>(guard: &Guard, workers: &[Worker<L>]) -> Option
 {
     for place in 0..guard.journal_len() {
         if let Some(entry) = guard.journal_entry(place) {
-            if !is_told(workers, entry.tid, place) {
-                return Some((entry.tid, place));
+            let tid = entry.tid();
+            if !is_told(workers, tid, place) {
+                return Some((tid, place));
             }
         }
     }

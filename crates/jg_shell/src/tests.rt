@@ -294,10 +294,10 @@ fn two_workers_agree_two_hundred_times(rt: HostRuntime) -> Result<(), Fail> {
 fn is_receipt_of(receipt: &Receipt, entry: Option<&Entry>) -> bool {
     match entry {
         Some(entry) => {
-            receipt.tid == entry.tid
-                && receipt.env == entry.env
-                && receipt.call == entry.call
-                && receipt.outcome == entry.outcome
+            receipt.tid == entry.tid()
+                && receipt.env == entry.env()
+                && receipt.call == *entry.call()
+                && ended_so(entry, &receipt.outcome)
         }
         None => false,
     }

@@ -10,7 +10,7 @@ use Rattle.std.proofs.lemmas.Str.Ascii.{IsAscii-cons}
 use Rattle.jg_words.specs.declared.thread.Tid.{Tid}
 use Rattle.jg_words.specs.declared.thread.EnvId.{EnvId}
 use Rattle.jg_words.specs.declared.call.Call.{Call}
-use Rattle.jg_words.specs.declared.entry.Entry.{Entry}
+use Rattle.jg_words.specs.Entry.{Entry}
 use Rattle.jg_words.specs.declared.fun.Fun.{Fun}
 use Rattle.jg_words.specs.Fun.{name_of}
 use Rattle.jg_words.specs.Call.{fun_of}
@@ -37,12 +37,13 @@ behind : (line outcome : List ℕ) → line ++ (((32 ∷ 61 ∷ 32 ∷ []) ++ ou
 behind line outcome = simp append_assoc
 
 -- what was written after each piece
-pub entry_written : (x : Entry) (f : Fun) (name old o1 o2 o3 o4 o5 o6 o7 : List ℕ) → name ≡ name_of f → f ≡ fun_of x.call
-    → o1 ≡ old ++ tid_text x.tid → o2 ≡ o1 ++ 32 ∷ [] → o3 ≡ o2 ++ env_text x.env → o4 ≡ o3 ++ 32 ∷ [] → o5 ≡ o4 ++ name → o6 ≡ o5 ++ after_spaces (operand_texts x.call)
+pub entry_written : (x : Entry) (t : Tid) (e : Option EnvId) (c : Call) (f : Fun) (name old o1 o2 o3 o4 o5 o6 o7 : List ℕ) → t ≡ x.tid → e ≡ x.env → c ≡ x.call
+    → name ≡ name_of f → f ≡ fun_of c
+    → o1 ≡ old ++ tid_text t → o2 ≡ o1 ++ 32 ∷ [] → o3 ≡ o2 ++ env_text e → o4 ≡ o3 ++ 32 ∷ [] → o5 ≡ o4 ++ name → o6 ≡ o5 ++ after_spaces (operand_texts c)
     → o7 ≡ o6 ++ answer_text x.outcome → o7 ≡ old ++ entry_text x
 unfolding entry_text
-entry_written x f name old o1 o2 o3 o4 o5 o6 o7 named is e1 e2 e3 e4 e5 e6 e7 =
-    rw (e7, e6, e5, e4, e3, e2, e1, named, is)
+entry_written x t e c f name old o1 o2 o3 o4 o5 o6 o7 is_tid is_env is_call named is e1 e2 e3 e4 e5 e6 e7 =
+    rw (e7, e6, e5, e4, e3, e2, e1, named, is, is_tid, is_env, is_call)
     (regrouped old (tid_text x.tid) (env_text x.env) (name_of (fun_of x.call)) (after_spaces (operand_texts x.call)) (answer_text x.outcome)
     ∙ ap (λ (line : List ℕ). old ++ (line ++ answer_text x.outcome)) (line_by_parts x.tid x.env x.call)
     ∙ ap (λ (line : List ℕ). old ++ line) (behind (call_line x) (outcome_text x.outcome)))

@@ -307,13 +307,7 @@ fn a_call_of_each_group_is_read(rt: HostRuntime) -> Result<(), Fail> {
 fn comes_back(alloc: Global, line: &str) -> Result<bool, Fail> {
     match read_call(alloc, line.as_bytes()) {
         Ok((tid, env, call)) => {
-            let entry = Entry {
-                tid,
-                env,
-                call,
-                outcome: Outcome::Denied(Rule::Pending),
-                object: None,
-            };
+            let entry = Entry::denied(tid, env, call, Rule::Pending);
             let written = write_entry(alloc, &entry)?;
             let wanted = format!(in alloc; "{line} = deny 4 Pending\n")?;
             Ok(written == wanted)
@@ -435,12 +429,10 @@ fn a_name_has_1_to_255_visible_bytes(rt: HostRuntime) -> Result<(), Fail> {
 }
 
 fn line_of(alloc: Global, outcome: Outcome) -> Result<String, Fail> {
-    let entry = Entry {
-        tid: Tid(1),
-        env: Some(ENV),
-        call: Call::Refs(RefsCall::NewLocalRef { of: Ref::Null }),
-        outcome,
-        object: None,
+    let call = Call::Refs(RefsCall::NewLocalRef { of: Ref::Null });
+    let entry = match outcome {
+        Outcome::Passed(reply) => Entry::passed(Tid(1), Some(ENV), call, reply, None),
+        Outcome::Denied(rule) => Entry::denied(Tid(1), Some(ENV), call, rule),
     };
     Ok(write_entry(alloc, &entry)?)
 }

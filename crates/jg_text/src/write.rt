@@ -1,13 +1,14 @@
 //! An entry as a line of the journal.
 
 ghost use Rattle.std.specs.Prelude.{◌≡◌, ◌++◌, IfOk, OnOk, string_bytes};
+ghost use Rattle.jg_words.specs.declared.entry.Outcome.TheVariants as Outcome;
 ghost use Rattle.jg_text.specs.Journal.{entry_text, answer_text, outcome_text, value_text, reply_text, thrown_name, FitsValue, FitsOutcome};
 
 use crate::digits::{push_number, push_signed};
 use crate::groups;
 use crate::list::push_items;
 use crate::word::{push_buf, push_env, push_field, push_ref, push_tid};
-use jg_words::{Entry, Outcome, Reply, Thrown, Value};
+use jg_words::{Entry, Rule, Thrown, Value};
 use std::alloc::{AllocError, Global};
 
 /// The class of the exception.
@@ -50,45 +51,57 @@ fn push_value(out: &mut String, value: &Value) -> Result<(), AllocError>
 }
 
 /// Writes the same, with its notice and its warning.
-fn push_reply(out: &mut String, reply: &Reply) -> Result<(), AllocError>
-    ensures written { OnOk result (string_bytes out.new ≡ string_bytes out.old ++ reply_text reply.now) }
-    ensures fits { OnOk result (FitsValue reply.now.value) }
+fn push_reply(
+    out: &mut String,
+    value: &Value,
+    warned: bool,
+    noticed: bool,
+) -> Result<(), AllocError>
+    ensures written { OnOk result (string_bytes out.new ≡ string_bytes out.old
+        ++ reply_text (record { value = value.now; warned = warned; noticed = noticed })) }
+    ensures fits { OnOk result (FitsValue value.now) }
 {
-    push_value(out, &reply.value)?;
-    if reply.noticed {
+    push_value(out, value)?;
+    if noticed {
         out.push_str(" notice")?;
     }
-    if reply.warned {
+    if warned {
         out.push_str(" warn")?;
     }
     Ok(())
 }
 
 /// Writes the outcome's text.
-fn push_outcome(out: &mut String, outcome: &Outcome) -> Result<(), AllocError>
-    ensures written { OnOk result (string_bytes out.new ≡ string_bytes out.old ++ outcome_text outcome.now) }
-    ensures fits { OnOk result (FitsOutcome outcome.now) }
+fn push_outcome(out: &mut String, entry: &Entry) -> Result<(), AllocError>
+    ensures written { OnOk result (string_bytes out.new ≡ string_bytes out.old ++ outcome_text entry.now.outcome) }
+    ensures fits { OnOk result (FitsOutcome entry.now.outcome) }
 {
-    match outcome {
-        Outcome::Passed(reply) => push_reply(out, reply),
-        Outcome::Denied(rule) => {
-            let number = rule.number();
-            let name = rule.name();
-            out.push_str("deny ")?;
-            push_number(out, u64::from(number))?;
-            out.push(' ')?;
-            out.push_str(name)
-        }
+    match (entry.value(), entry.rule()) {
+        (Some(value), _) => push_reply(out, value, entry.warned(), entry.noticed()),
+        (None, Some(rule)) => push_denial(out, rule),
+        (None, None) => Ok(()),
     }
 }
 
-/// Writes what stands behind the call in its entry's line: the outcome, with the line feed.
-pub fn push_answer(out: &mut String, outcome: &Outcome) -> Result<(), AllocError>
-    ensures written { OnOk result (string_bytes out.new ≡ string_bytes out.old ++ answer_text outcome.now) }
-    ensures fits { OnOk result (FitsOutcome outcome.now) }
+/// Writes the text of a denial by the rule.
+fn push_denial(out: &mut String, rule: Rule) -> Result<(), AllocError>
+    ensures { OnOk result (string_bytes out.new ≡ string_bytes out.old ++ outcome_text (Outcome.Denied rule)) }
+{
+    let number = rule.number();
+    let name = rule.name();
+    out.push_str("deny ")?;
+    push_number(out, u64::from(number))?;
+    out.push(' ')?;
+    out.push_str(name)
+}
+
+/// Writes what stands behind the call in the entry's line: the outcome, with the line feed.
+pub fn push_answer(out: &mut String, entry: &Entry) -> Result<(), AllocError>
+    ensures written { OnOk result (string_bytes out.new ≡ string_bytes out.old ++ answer_text entry.now.outcome) }
+    ensures fits { OnOk result (FitsOutcome entry.now.outcome) }
 {
     out.push_str(" = ")?;
-    push_outcome(out, outcome)?;
+    push_outcome(out, entry)?;
     out.push('\n')?;
     Ok(())
 }
@@ -98,13 +111,14 @@ pub fn push_entry(out: &mut String, entry: &Entry) -> Result<(), AllocError>
     ensures written { OnOk result (string_bytes out.new ≡ string_bytes out.old ++ entry_text entry.now) }
     ensures fits { OnOk result (FitsOutcome entry.now.outcome) }
 {
-    push_tid(out, entry.tid)?;
+    let call = entry.call();
+    push_tid(out, entry.tid())?;
     out.push(' ')?;
-    push_env(out, entry.env)?;
+    push_env(out, entry.env())?;
     out.push(' ')?;
-    out.push_str(entry.call.fun().name())?;
-    groups::write(out, &entry.call)?;
-    push_answer(out, &entry.outcome)?;
+    out.push_str(call.fun().name())?;
+    groups::write(out, call)?;
+    push_answer(out, entry)?;
     Ok(())
 }
 

@@ -1,4 +1,5 @@
 pub mod Call
+pub mod Entry
 pub mod Fun
 pub mod Name
 pub mod Rule

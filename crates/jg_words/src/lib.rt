@@ -4,6 +4,7 @@
 
 mod buffer;
 mod call;
+mod ending;
 mod entry;
 mod fun;
 mod items;

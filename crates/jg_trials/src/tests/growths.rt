@@ -1,7 +1,7 @@
 use super::{guarded, lend, setup};
 use jg_guard::{Guard, Refusal};
 use jg_script::read_call;
-use jg_words::{Call, EnvId, Tid};
+use jg_words::{Call, Entry, EnvId, Tid};
 use linked_list_allocator::LocalHeap;
 use std::alloc::{Allocator, Global};
 use std::test::Fail;
@@ -123,10 +123,25 @@ pub(super) fn opens<A: Allocator + Clone>(
     Ok(true)
 }
 
+/// The entries are equal in all their parts.
+fn are_alike(entry: Option<&Entry>, other: Option<&Entry>) -> bool {
+    let (Some(entry), Some(other)) = (entry, other) else {
+        return entry.is_none() && other.is_none();
+    };
+    entry.tid() == other.tid()
+        && entry.env() == other.env()
+        && entry.call() == other.call()
+        && entry.rule() == other.rule()
+        && entry.value() == other.value()
+        && entry.warned() == other.warned()
+        && entry.noticed() == other.noticed()
+        && entry.object() == other.object()
+}
+
 /// The guards have equal journals and leave equal things behind.
 fn are_equal<A: Allocator + Clone>(guard: &Guard<A>, twin: &Guard) -> Result<bool, Fail> {
     for index in 0..guard.journal_len() {
-        if guard.journal_entry(index) != twin.journal_entry(index) {
+        if !are_alike(guard.journal_entry(index), twin.journal_entry(index)) {
             return Ok(false);
         }
     }

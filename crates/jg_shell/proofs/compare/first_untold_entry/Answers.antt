@@ -2,7 +2,7 @@ use Rattle.std.proofs.Common.{refl, sym, ap, ◌∙◌}
 use Rattle.std.specs.Prelude.{Option}
 use Rattle.std.specs.Option.{option_map}
 use Rattle.std.proofs.lemmas.List.Elements.{All-weaker}
-use Rattle.jg_words.specs.declared.entry.Entry.{Entry}
+use Rattle.jg_words.specs.Entry.{Entry}
 use Rattle.jg_shell.specs.Receipts.{told_of}
 use Rattle.jg_shell.specs.Work.{Work}
 use Rattle.jg_shell.specs.Finish.{IsRightWorker, PlacesRise}
@@ -18,7 +18,7 @@ returns-then-not-is_told g c = record {
   right = c.requires;
   told = told_of c.in-Some.entry.now;
   told_is = ap (λ (o : Option Entry). option_map told_of o) (sym c.in-Some.ensures.entry);
-  tid_is = refl;
+  tid_is = c.tid-tid.ensures;
   told_below = c.loop-place.invariant;
   untold = sym c.is_told.ensures ∙ c.if-not-is_told.true;
 }

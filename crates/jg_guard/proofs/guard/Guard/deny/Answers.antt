@@ -1,5 +1,5 @@
 use Rattle.std.proofs.Common.{rules, ◌≡◌, ◌<◌, length, reverse, Some, subst, sym, ◌∷◌}
-use Rattle.jg_words.specs.declared.entry.Entry.{Entry}
+use Rattle.jg_words.specs.Entry.{Entry}
 use Rattle.jg_rules.specs.Effects.{parts}
 use Rattle.jg_rules.specs.Rules.{verdict}
 use Rattle.jg_guard.specs.Guard.{State, Takes}

@@ -1,13 +1,14 @@
 use Rattle.std.proofs.Common.{ap, ◌∙◌, rules, ◌≡◌, ◌<◌, length, reverse, None, subst, sym, refl, ◌∷◌}
-use Rattle.jg_words.specs.declared.entry.Entry.{Entry}
+use Rattle.jg_words.specs.Entry.{Entry}
 use Rattle.jg_words.specs.Value.{is_list}
 use Rattle.jg_rules.specs.declared.answer.Answer.{Answer}
 use Rattle.jg_rules.specs.Answers.{with_notice}
 use Rattle.jg_rules.specs.Effects.{parts, passed_on}
-use Rattle.jg_rules.specs.Parts.{Parts}
+use Rattle.jg_rules.specs.Parts.{Parts, TableRows}
 use Rattle.jg_rules.specs.Rules.{verdict}
 use Rattle.jg_guard.specs.Guard.{State, Takes}
 use Rattle.jg_guard.specs.Tables.{rows_of}
+use Rattle.jg_guard.specs.Held.{IsReady}
 use Rattle.jg_guard.proofs.Passing.{due_of, passed_by, passed_entry, next_entry, takes_entry, sound_after, answered_due}
 use Rattle.jg_guard.proofs.Cleaning.{listed}
 use Rattle.jg_guard.proofs.Due.{due_at}
@@ -21,8 +22,12 @@ answer_to-requires g c =
     due_at state.setup _ (rows_of c.self.inside.tables) _ c.args.tid.0 c.args.call c.view-view.ensures.setup c.view-view.ensures.rows
     (due_of state _ c.args.tid c.args.env c.args.call c.self.invariant none)
 
-pub perform-requires : goal.perform-requires
-perform-requires g c =
+pub perform-requires-clause-ready : goal.perform-requires-clause-ready
+perform-requires-clause-ready g c =
+    subst (λ (rows : TableRows). IsReady rows.heap c.args.call c.find_held_for.new.held) c.view-view.ensures.rows c.in-Ok.ensures.ready
+
+pub perform-requires-clause-answered : goal.perform-requires-clause-answered
+perform-requires-clause-answered g c =
     let state : State = record { setup = c.self.inside.setup; limit = c.self.inside.limit; journal = reverse c.self.inside.journal.items; spare = c.self.inside.journal.spare } in
     let given : Answer = c.in-Ok-answer_to.given in
     let passed = passed_by g.row.A.Denot state c.args.self.now c.view-view.result.setup.now (rows_of c.self.inside.tables) _ c.args.tid c.args.env c.args.call given c.find_held_for.new.held c.self.invariant c.self.view_is

@@ -1,0 +1,11 @@
+use crate::rule::Rule;
+
+/// How a call ended: it was done, with a warning, a notice, both or neither, or it was denied.
+#[derive(Clone, Copy, Debug, PartialEq, Eq)]
+pub enum Ending {
+    Plain,
+    Warned,
+    Noticed,
+    WarnedAndNoticed,
+    Denied(Rule),
+}
