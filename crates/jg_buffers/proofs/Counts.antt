@@ -1,8 +1,7 @@
 -- The counts of the pinned buffers, from one call to the next.
-use Rattle.std.proofs.Common.{◌≡◌, ℕ, ◌+◌, ◌-◌, ◌≤◌, length, Bool, true, false, List, [], ◌∷◌, ◌++◌, Some, refl, ◌∙◌, ap, arith, eqb-true}
-use Rattle.std.specs.Prelude.{◌==◌, ◌&&◌, nat_eq, if◌then◌else◌}
-use Rattle.std.specs.Map.{lookup}
-use Rattle.indexmap.specs.IndexMap.{IndexMap, get, swap_remove_entry}
+use Rattle.std.proofs.Common.{◌≡◌, ℕ, ◌+◌, ◌-◌, Bool, true, false, List, ◌∷◌, refl, ◌∙◌, ap, sym, arith, eqb-true, IsPermutation}
+use Rattle.std.specs.Prelude.{◌==◌, ◌&&◌, if◌then◌else◌, slice_index_or}
+use Rattle.indexmap.specs.IndexMap.{IndexMap, get}
 use Rattle.std.proofs.lemmas.Bool.Decides.{nat_tests}
 use Rattle.jg_words.specs.declared.thread.Tid.{Tid}
 use Rattle.jg_words.specs.declared.reference.Ref.{Ref}
@@ -11,34 +10,21 @@ use Rattle.jg_words.specs.declared.reference.Kind.{Kind}
 use Rattle.jg_words.specs.declared.reference.Kind.TheVariants.{Local, Global, Weak}
 use Rattle.jg_buffers.specs.declared.pinned.Pinned.{Pinned}
 use Rattle.jg_buffers.specs.History.{same_ref}
-use Rattle.jg_buffers.specs.Keys.{same_pair, same_triple}
+use Rattle.jg_lists.specs.ByMaker.{Name, Adds}
+use Rattle.jg_lists.proofs.Acts.{how_many-between}
+use Rattle.jg_buffers.specs.Keys.{same_triple}
 use Rattle.jg_buffers.specs.Seen.{key_of, count_at}
 use Rattle.jg_buffers.specs.Tallies.{how_many, Counted}
-use Rattle.jg_buffers.proofs.Maps.{at_key, how_many-push, how_many-remove, counted_below}
+use Rattle.jg_buffers.proofs.Maps.{at_key, counted_popped}
 
 -- equal counts count the same
-pub counts_same : {S T : Type 0} (pins : List ((ℕ × ℕ) × Pinned)) (makers makers' : IndexMap ℕ ℕ S) (vias vias' : IndexMap (ℕ × ℕ × ℕ) ℕ T) → Counted pins makers vias
-    → ((q : ℕ) → count_at (get nat_eq makers' q) ≡ count_at (get nat_eq makers q)) → ((q : ℕ × ℕ × ℕ) → count_at (get same_triple vias' q) ≡ count_at (get same_triple vias q))
+pub counts_same : {T : Type 0} (pins : List (Name × Pinned)) (makers makers' : List ℕ) (vias vias' : IndexMap (ℕ × ℕ × ℕ) ℕ T) → Counted pins makers vias
+    → ((q : ℕ) → slice_index_or makers' q 0 ≡ slice_index_or makers q 0) → ((q : ℕ × ℕ × ℕ) → count_at (get same_triple vias' q) ≡ count_at (get same_triple vias q))
     → Counted pins makers' vias'
 counts_same pins makers makers' vias vias' was same alike = record {
   by_maker = λ t. same t ∙ was.by_maker t;
   by_via = λ r. alike (key_of r) ∙ was.by_via r;
 }
-
--- the count of a thread fits
-pub maker_below : {S T : Type 0} (pins : List ((ℕ × ℕ) × Pinned)) (makers : IndexMap ℕ ℕ S) (vias : IndexMap (ℕ × ℕ × ℕ) ℕ T) (t : ℕ) → Counted pins makers vias
-    → count_at (get nat_eq makers t) ≤ length pins
-maker_below pins makers vias t was =
-    let is = was.by_maker t in
-    let below = counted_below (λ e. e.0.0 == t) pins in
-    omega (arith, is, below)
-
-pub via_below : {S T : Type 0} (pins : List ((ℕ × ℕ) × Pinned)) (makers : IndexMap ℕ ℕ S) (vias : IndexMap (ℕ × ℕ × ℕ) ℕ T) (r : Ref) → Counted pins makers vias
-    → count_at (get same_triple vias (key_of r)) ≤ length pins
-via_below pins makers vias r was =
-    let is = was.by_via r in
-    let below = counted_below (λ e. same_ref e.1.via r) pins in
-    omega (arith, is, below)
 
 to_is : (k : Kind) (m i : Tid) (n o : ℕ) → (m.0 == i.0) && (n == o) ≡ true → To k m n ≡ To k i o
 to_is k m i n o is =
@@ -70,30 +56,36 @@ lower_by a b new true alike is =
     omega (arith, was, is)
 lower_by a b new false alike is = is
 
+-- one more pinned buffer of a kind
+counted_more : (p : Name × Pinned → Bool) (pins news : List (Name × Pinned)) (q : Name) (w : Pinned) → Adds q w pins news → how_many p news ≡ (if p (q, w) then how_many p pins + 1 else how_many p pins)
+counted_more p pins news q w adds =
+    ap (how_many p) adds.now ∙ how_many-between p adds.front (q, w) adds.back ∙ ap (λ es. if p (q, w) then how_many p es + 1 else how_many p es) (sym adds.was)
+
 -- one more pinned buffer
-pub counts_raised : {S T : Type 0} (pins : List ((ℕ × ℕ) × Pinned)) (makers makers' : IndexMap ℕ ℕ S) (vias vias' : IndexMap (ℕ × ℕ × ℕ) ℕ T) (t n : ℕ) (w : Pinned) → Counted pins makers vias
-    → ((q : ℕ) → count_at (get nat_eq makers' q) ≡ (if nat_eq t q then count_at (get nat_eq makers t) + 1 else count_at (get nat_eq makers q)))
+pub counts_raised : {T : Type 0} (pins news : List (Name × Pinned)) (makers makers' : List ℕ) (vias vias' : IndexMap (ℕ × ℕ × ℕ) ℕ T) (t n : ℕ) (w : Pinned) → Counted pins makers vias
+    → Adds (t, n) w pins news
+    → ((q : ℕ) → slice_index_or makers' q 0 ≡ (if t == q then slice_index_or makers t 0 + 1 else slice_index_or makers q 0))
     → ((q : ℕ × ℕ × ℕ) → count_at (get same_triple vias' q) ≡ (if same_triple (key_of w.via) q then count_at (get same_triple vias (key_of w.via)) + 1 else count_at (get same_triple vias q)))
-    → Counted (pins ++ ((t, n), w) ∷ []) makers' vias'
-counts_raised pins makers makers' vias vias' t n w was maker via = record {
-  by_maker = λ q. maker q ∙ rw (was.by_maker t, was.by_maker q, how_many-push (λ e. e.0.0 == q) ((t, n), w) pins)
+    → Counted news makers' vias'
+counts_raised pins news makers makers' vias vias' t n w was adds maker via = record {
+  by_maker = λ q. maker q ∙ rw (was.by_maker t, was.by_maker q, counted_more (λ e. e.0.0 == q) pins news (t, n) w adds)
       (raise_by (how_many (λ e. e.0.0 == t) pins) (how_many (λ e. e.0.0 == q) pins) (t == q) (λ is. ap (λ u. how_many (λ e. e.0.0 == u) pins) (eqb-true t q is)));
-  by_via = λ r. via (key_of r) ∙ rw (at_key w.via r, was.by_via w.via, was.by_via r, how_many-push (λ e. same_ref e.1.via r) ((t, n), w) pins)
+  by_via = λ r. via (key_of r) ∙ rw (at_key w.via r, was.by_via w.via, was.by_via r, counted_more (λ e. same_ref e.1.via r) pins news (t, n) w adds)
       (raise_by (how_many (λ e. same_ref e.1.via w.via) pins) (how_many (λ e. same_ref e.1.via r) pins) (same_ref w.via r)
       (λ is. ap (λ u. how_many (λ e. same_ref e.1.via u) pins) (same_ref_is w.via r is)));
 }
 
 -- one pinned buffer less
-pub counts_lowered : {S T : Type 0} (pins : List ((ℕ × ℕ) × Pinned)) (makers makers' : IndexMap ℕ ℕ S) (vias vias' : IndexMap (ℕ × ℕ × ℕ) ℕ T) (t n : ℕ) (w : Pinned) → Counted pins makers vias
-    → lookup (same_pair (t, n)) pins ≡ Some w
-    → ((q : ℕ) → count_at (get nat_eq makers' q) ≡ (if nat_eq t q then count_at (get nat_eq makers t) - 1 else count_at (get nat_eq makers q)))
+pub counts_lowered : {T : Type 0} (pins news : List (Name × Pinned)) (makers makers' : List ℕ) (vias vias' : IndexMap (ℕ × ℕ × ℕ) ℕ T) (t n : ℕ) (w : Pinned) → Counted pins makers vias
+    → IsPermutation pins (((t, n), w) ∷ news)
+    → ((q : ℕ) → slice_index_or makers' q 0 ≡ (if t == q then slice_index_or makers t 0 - 1 else slice_index_or makers q 0))
     → ((q : ℕ × ℕ × ℕ) → count_at (get same_triple vias' q) ≡ (if same_triple (key_of w.via) q then count_at (get same_triple vias (key_of w.via)) - 1 else count_at (get same_triple vias q)))
-    → Counted (swap_remove_entry (same_pair (t, n)) pins) makers' vias'
-counts_lowered pins makers makers' vias vias' t n w was found maker via = record {
+    → Counted news makers' vias'
+counts_lowered pins news makers makers' vias vias' t n w was taken maker via = record {
   by_maker = λ q. maker q ∙ rw (was.by_maker t, was.by_maker q)
       (lower_by (how_many (λ e. e.0.0 == t) pins) (how_many (λ e. e.0.0 == q) pins) _ (t == q) (λ is. ap (λ u. how_many (λ e. e.0.0 == u) pins) (eqb-true t q is))
-      (how_many-remove (λ e. e.0.0 == q) t n w pins found));
+      (counted_popped (λ e. e.0.0 == q) ((t, n), w) pins news taken));
   by_via = λ r. via (key_of r) ∙ rw (at_key w.via r, was.by_via w.via, was.by_via r)
       (lower_by (how_many (λ e. same_ref e.1.via w.via) pins) (how_many (λ e. same_ref e.1.via r) pins) _ (same_ref w.via r)
-      (λ is. ap (λ u. how_many (λ e. same_ref e.1.via u) pins) (same_ref_is w.via r is)) (how_many-remove (λ e. same_ref e.1.via r) t n w pins found));
+      (λ is. ap (λ u. how_many (λ e. same_ref e.1.via u) pins) (same_ref_is w.via r is)) (counted_popped (λ e. same_ref e.1.via r) ((t, n), w) pins news taken));
 }

@@ -12,7 +12,7 @@ use Rattle.jg_buffers.specs.declared.pinned.PinKind.{PinKind}
 use Rattle.jg_buffers.specs.declared.pinned.PinKind.TheVariants.{Array, String}
 use Rattle.jg_buffers.specs.declared.pinned.Pinned.{Pinned}
 use Rattle.jg_buffers.specs.History.{Buffer, Event, is_critical, opened, content, items_of, contents, info_of}
-use Rattle.jg_buffers.specs.Keys.{same_pair}
+use Rattle.jg_lists.specs.ByMaker.{same_name}
 use Rattle.jg_buffers.specs.Rows.{Rows, is_buffer, row_of, copy_length, items_in, IsAbove}
 use Rattle.jg_buffers.specs.Seen.{copy_seen, pin_seen, copy_family, pin_family}
 use Rattle.jg_buffers.specs.Standing.{Stands}
@@ -27,11 +27,11 @@ reopened a b e is stands =
 
 -- the row of a buffer is what the look-ups find
 pub row_is : {A : Type 0} (es : List ((ℕ × ℕ) × Copied A)) (fs : List ((ℕ × ℕ) × Pinned)) (rows : Rows) (m n : ℕ) → record { lent = map copy_seen es ++ map pin_seen fs } ≡ rows
-    → row_of m n rows ≡ first_of (option_map (λ w. copy_seen ((m, n), w)) (lookup (same_pair (m, n)) es)) (option_map (λ w. pin_seen ((m, n), w)) (lookup (same_pair (m, n)) fs))
+    → row_of m n rows ≡ first_of (option_map (λ w. copy_seen ((m, n), w)) (lookup (same_name (m, n)) es)) (option_map (λ w. pin_seen ((m, n), w)) (lookup (same_name (m, n)) fs))
 row_is es fs rows m n is =
     ap (row_of m n) (sym is) ∙ (find_both (is_buffer m n) (map copy_seen es) (map pin_seen fs)
     ∙ (ap (λ c. first_of c (find (is_buffer m n) (map pin_seen fs))) (found_row copy_seen (λ i j e. refl) m n es)
-    ∙ ap (first_of (option_map (λ w. copy_seen ((m, n), w)) (lookup (same_pair (m, n)) es))) (found_row pin_seen (λ i j e. refl) m n fs)))
+    ∙ ap (first_of (option_map (λ w. copy_seen ((m, n), w)) (lookup (same_name (m, n)) es))) (found_row pin_seen (λ i j e. refl) m n fs)))
 
 info_now : (e : List Event) (m n : ℕ) (found : Option Buffer) → option_map info_of (row_now e m n found) ≡ option_map info_of found
 info_now e m n None = refl
@@ -83,7 +83,7 @@ pub long_law : {A : Type 0} (es : List ((ℕ × ℕ) × Copied A)) (fs : List ((
     → copy_length (row_of m n rows) ≡ length (items_in (row_of m n rows))
 long_law es fs rows m n is =
     let row = row_is es fs rows m n is in
-    ap copy_length row ∙ (long_by (m, n) (lookup (same_pair (m, n)) es) (lookup (same_pair (m, n)) fs) ∙ ap (λ r. length (items_in r)) (sym row))
+    ap copy_length row ∙ (long_by (m, n) (lookup (same_name (m, n)) es) (lookup (same_name (m, n)) fs) ∙ ap (λ r. length (items_in r)) (sym row))
 
 -- ---- critical buffers
 

@@ -2,18 +2,18 @@
 use Rattle.std.proofs.Common.{◌≡◌, ℕ, Bool, true, false, List, [], ◌∷◌, ◌++◌, Option, Some, None, refl, ◌∙◌, ap, sym, subst, arith, inl, inr}
 use Rattle.std.specs.Prelude.{◌==◌, ◌||◌, if◌then◌else◌, filter, map, find}
 use Rattle.std.specs.List.{list_any, filter_map, cons_option}
-use Rattle.std.specs.Option.{option_map}
-use Rattle.std.specs.Map.{lookup, values_of}
+use Rattle.std.specs.Option.{option_map, option_to_list}
+use Rattle.std.specs.Map.{lookup}
 use Rattle.std.proofs.lemmas.Bool.Decides.{nat_tests}
 use Rattle.jg_buffers.specs.declared.copied.Copied.{Copied}
 use Rattle.jg_buffers.specs.declared.pinned.Pinned.{Pinned}
 use Rattle.jg_buffers.specs.History.{Buffer, Event, Opened, Wrote, Closed, is_same, is_critical, opened, critical_only, pin_of, pins, pins_object}
-use Rattle.jg_buffers.specs.Keys.{same_pair}
+use Rattle.jg_lists.specs.ByMaker.{same_name}
 use Rattle.jg_buffers.specs.Rows.{is_buffer}
 use Rattle.jg_buffers.specs.Seen.{copy_seen, pin_seen}
 use Rattle.jg_buffers.specs.Standing.{rows_of, Stands}
 use Rattle.jg_lists.proofs.Lists.{Member, any_member, any_of_filter, member_filter, both_ways, list_any-map}
-use Rattle.jg_buffers.proofs.Maps.{listed, found_row}
+use Rattle.jg_buffers.proofs.Maps.{found_row}
 use Rattle.jg_buffers.proofs.Steps.{tells}
 use Rattle.jg_buffers.proofs.Lookups.{IsBlind, copies_free, pins_critical, still_open}
 
@@ -94,11 +94,11 @@ head_is a b rest is = cc
 some_is : (a b : Buffer) → Some a ≡ Some b → a ≡ b
 some_is a b is = cc
 
-the_pin : (copy pin : Option Buffer) (b : Buffer) → listed copy ++ listed pin ≡ b ∷ [] → ((x : Buffer) → copy ≡ Some x → is_critical x.family ≡ false) → is_critical b.family ≡ true → pin ≡ Some b
+the_pin : (copy pin : Option Buffer) (b : Buffer) → option_to_list copy ++ option_to_list pin ≡ b ∷ [] → ((x : Buffer) → copy ≡ Some x → is_critical x.family ≡ false) → is_critical b.family ≡ true → pin ≡ Some b
 the_pin None None b is free critical = cc
 the_pin None (Some p) b is free critical = ap (λ l. head_or p l) is
 the_pin (Some q) pin b is free critical =
-    let same : q ≡ b = head_is q b (listed pin) is in
+    let same : q ≡ b = head_is q b (option_to_list pin) is in
     let own : is_critical b.family ≡ false = ap (λ x. is_critical x.family) (sym same) ∙ free q refl in
     absurd (clash (is_critical b.family) critical own)
 
@@ -147,10 +147,10 @@ pinned_row P blind es fs e stands some =
     let told = tells (map copy_seen es) (map pin_seen fs) e pin.maker pin.n stands in
     let row : Buffer = record pin.buffer { items = [] } in
     let rows : rows_of e pin.maker pin.n (opened e pin.maker pin.n) ≡ row ∷ [] = rw (pin.is_open, pin.critical) refl in
-    let free = λ (x : Buffer) (is : find (is_buffer pin.maker pin.n) (map copy_seen es) ≡ Some x). free_copy (pin.maker, pin.n) (lookup (same_pair (pin.maker, pin.n)) es) x
+    let free = λ (x : Buffer) (is : find (is_buffer pin.maker pin.n) (map copy_seen es) ≡ Some x). free_copy (pin.maker, pin.n) (lookup (same_name (pin.maker, pin.n)) es) x
     (sym (found_row copy_seen (λ i j y. refl) pin.maker pin.n es) ∙ is) in
     let found = the_pin (find (is_buffer pin.maker pin.n) (map copy_seen es)) (find (is_buffer pin.maker pin.n) (map pin_seen fs)) row (told.agrees ∙ rows) free pin.critical in
-    let kept : filter (is_buffer pin.maker pin.n) (map pin_seen fs) ≡ row ∷ [] = told.pin ∙ ap listed found in
+    let kept : filter (is_buffer pin.maker pin.n) (map pin_seen fs) ≡ row ∷ [] = told.pin ∙ ap option_to_list found in
     let passes : P row ≡ true = blind pin.buffer [] ∙ pin.passes in
     any_of_filter P (is_buffer pin.maker pin.n) (map pin_seen fs) (rw (kept, passes) refl)
 
@@ -164,6 +164,5 @@ pin_law P blind es fs e stands =
 
 -- a pinned buffer of the object
 pub object_law : {A : Type 0} (o : ℕ) (es : List ((ℕ × ℕ) × Copied A)) (fs : List ((ℕ × ℕ) × Pinned)) (e : List Event) → Stands (record { lent = map copy_seen es ++ map pin_seen fs }) e
-    → list_any (λ w. w.object == o) (values_of fs) ≡ pins_object e o
-object_law o es fs e stands =
-    sym (list_any-map (λ (f : (ℕ × ℕ) × Pinned). f.1) (λ f. f.1.object == o) (λ w. w.object == o) (λ f. refl) fs) ∙ pin_law (λ b. b.object == o) (λ b items. refl) es fs e stands
+    → list_any (λ f. f.1.object == o) fs ≡ pins_object e o
+object_law o es fs e stands = pin_law (λ b. b.object == o) (λ b items. refl) es fs e stands

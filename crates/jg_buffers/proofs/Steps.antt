@@ -1,5 +1,6 @@
 -- How the open buffers and their items change with one more event, and how the rows stand then.
 use Rattle.std.proofs.Common.{◌≡◌, ◌≢◌, zero-add, ℕ, ◌<◌, length, get_or, Bool, true, false, List, [], ◌∷◌, ◌++◌, Option, Some, None, refl, ◌∙◌, ap, sym, subst, arith}
+use Rattle.std.specs.Option.{option_to_list}
 use Rattle.std.specs.Prelude.{◌==◌, ℤ, pos, if◌then◌else◌, filter, map, find, slice_index_or, slice_set}
 use Rattle.std.specs.List.{range_with_len}
 use Rattle.std.proofs.lemmas.Bool.Decides.{nat_tests}
@@ -12,7 +13,6 @@ use Rattle.jg_buffers.specs.History.{Buffer, Event, Opened, Wrote, Closed, is_sa
 use Rattle.jg_buffers.specs.Rows.{Rows, is_buffer, row_of}
 use Rattle.jg_buffers.specs.Standing.{rows_of, Stands}
 use Rattle.jg_lists.proofs.Lists.{first}
-use Rattle.jg_buffers.proofs.Maps.{listed}
 
 -- ---- items
 
@@ -98,10 +98,10 @@ find_first p (x ∷ xs) = rw (find_first p xs) (elim (p x) as (λ b. (if b then 
 
 -- at most one, and then not both
 pub record Alone {X : Type 0} (xs ys : List X) : Type 0 where
-  pub left : xs ≡ listed (first xs)
-  pub right : ys ≡ listed (first ys)
+  pub left : xs ≡ option_to_list (first xs)
+  pub right : ys ≡ option_to_list (first ys)
 
-alone : {X : Type 0} (xs ys : List X) (found : Option X) → xs ++ ys ≡ listed found → Alone xs ys
+alone : {X : Type 0} (xs ys : List X) (found : Option X) → xs ++ ys ≡ option_to_list found → Alone xs ys
 alone [] [] found is = record { left = refl; right = refl }
 alone [] (y ∷ []) found is = record { left = refl; right = refl }
 alone [] (y ∷ (z ∷ zs)) None is = cc
@@ -117,27 +117,27 @@ abbrev pub row_now : List Event → ℕ → ℕ → Option Buffer → Option Buf
 row_now e m n None = None
 row_now e m n (Some b) = Some (record b { items = items_now e m n b })
 
-rows_listed : (e : List Event) (m n : ℕ) (found : Option Buffer) → rows_of e m n found ≡ listed (row_now e m n found)
+rows_listed : (e : List Event) (m n : ℕ) (found : Option Buffer) → rows_of e m n found ≡ option_to_list (row_now e m n found)
 rows_listed e m n None = refl
 rows_listed e m n (Some b) = refl
 
 -- what the two maps have at a key is the row of the open buffer
 abbrev pub Agrees : List Event → ℕ → ℕ → Option Buffer → Option Buffer → Type 0
-Agrees e m n copy pin = listed copy ++ listed pin ≡ rows_of e m n (opened e m n)
+Agrees e m n copy pin = option_to_list copy ++ option_to_list pin ≡ rows_of e m n (opened e m n)
 
 pub record Tells (e : List Event) (m n : ℕ) (copies pins : List Buffer) : Type 0 where
   pub agrees : Agrees e m n (find (is_buffer m n) copies) (find (is_buffer m n) pins)
-  pub copy : filter (is_buffer m n) copies ≡ listed (find (is_buffer m n) copies)
-  pub pin : filter (is_buffer m n) pins ≡ listed (find (is_buffer m n) pins)
+  pub copy : filter (is_buffer m n) copies ≡ option_to_list (find (is_buffer m n) copies)
+  pub pin : filter (is_buffer m n) pins ≡ option_to_list (find (is_buffer m n) pins)
 
 pub tells : (copies pins : List Buffer) (e : List Event) (m n : ℕ) → Stands (record { lent = copies ++ pins }) e → Tells e m n copies pins
 tells copies pins e m n stands =
     let split : filter (is_buffer m n) copies ++ filter (is_buffer m n) pins ≡ rows_of e m n (opened e m n) = sym (filter-append (is_buffer m n) copies pins) ∙ stands m n in
     let one = alone (filter (is_buffer m n) copies) (filter (is_buffer m n) pins) (row_now e m n (opened e m n)) (split ∙ rows_listed e m n (opened e m n)) in
-    let copy : filter (is_buffer m n) copies ≡ listed (find (is_buffer m n) copies) = one.left ∙ ap listed (sym (find_first (is_buffer m n) copies)) in
-    let pin : filter (is_buffer m n) pins ≡ listed (find (is_buffer m n) pins) = one.right ∙ ap listed (sym (find_first (is_buffer m n) pins)) in
+    let copy : filter (is_buffer m n) copies ≡ option_to_list (find (is_buffer m n) copies) = one.left ∙ ap option_to_list (sym (find_first (is_buffer m n) copies)) in
+    let pin : filter (is_buffer m n) pins ≡ option_to_list (find (is_buffer m n) pins) = one.right ∙ ap option_to_list (sym (find_first (is_buffer m n) pins)) in
     record {
-      agrees = ap (λ l. l ++ listed (find (is_buffer m n) pins)) (sym copy) ∙ (ap (λ l. filter (is_buffer m n) copies ++ l) (sym pin) ∙ split);
+      agrees = ap (λ l. l ++ option_to_list (find (is_buffer m n) pins)) (sym copy) ∙ (ap (λ l. filter (is_buffer m n) copies ++ l) (sym pin) ∙ split);
       copy = copy;
       pin = pin;
     }
@@ -146,9 +146,9 @@ pub stands_by : (copies pins : List Buffer) (e : List Event) → ((m n : ℕ) �
 stands_by copies pins e each = λ m n.
     let told = each m n in
     filter-append (is_buffer m n) copies pins
-    ∙ (ap (λ l. l ++ filter (is_buffer m n) pins) told.copy ∙ (ap (λ l. listed (find (is_buffer m n) copies) ++ l) told.pin ∙ told.agrees))
+    ∙ (ap (λ l. l ++ filter (is_buffer m n) pins) told.copy ∙ (ap (λ l. option_to_list (find (is_buffer m n) copies) ++ l) told.pin ∙ told.agrees))
 
-first_of_listed : (found : Option Buffer) → first (listed found) ≡ found
+first_of_listed : (found : Option Buffer) → first (option_to_list found) ≡ found
 first_of_listed None = refl
 first_of_listed (Some b) = refl
 
@@ -160,15 +160,15 @@ row_law rows e m n stands = find_first (is_buffer m n) rows.lent ∙ (ap first (
 
 tells_apart : (e older : List Event) (m n : ℕ) (copies pins news others : List Buffer) → Tells older m n copies pins
     → find (is_buffer m n) news ≡ find (is_buffer m n) copies → find (is_buffer m n) others ≡ find (is_buffer m n) pins
-    → filter (is_buffer m n) news ≡ listed (find (is_buffer m n) news) → filter (is_buffer m n) others ≡ listed (find (is_buffer m n) others)
+    → filter (is_buffer m n) news ≡ option_to_list (find (is_buffer m n) news) → filter (is_buffer m n) others ≡ option_to_list (find (is_buffer m n) others)
     → rows_of e m n (opened e m n) ≡ rows_of older m n (opened older m n) → Tells e m n news others
 tells_apart e older m n copies pins news others told copy pin left right same = record {
-  agrees = ap (λ c. listed c ++ listed (find (is_buffer m n) others)) copy ∙ (ap (λ p. listed (find (is_buffer m n) copies) ++ listed p) pin ∙ (told.agrees ∙ sym same));
+  agrees = ap (λ c. option_to_list c ++ option_to_list (find (is_buffer m n) others)) copy ∙ (ap (λ p. option_to_list (find (is_buffer m n) copies) ++ option_to_list p) pin ∙ (told.agrees ∙ sym same));
   copy = left;
   pin = right;
 }
 
-both_none : (copy pin : Option Buffer) → listed copy ++ listed pin ≡ [] → (copy ≡ None) × (pin ≡ None)
+both_none : (copy pin : Option Buffer) → option_to_list copy ++ option_to_list pin ≡ [] → (copy ≡ None) × (pin ≡ None)
 both_none None None is = (refl, refl)
 both_none None (Some p) is = cc
 both_none (Some q) None is = cc
@@ -187,7 +187,7 @@ pub closed_law : (rows : Rows) (e : List Event) (m n : ℕ) → Stands rows e �
 closed_law rows e m n stands none = not_open e m n (opened e m n) (sym (stands m n) ∙ none)
 
 key_by : (e older : List Event) (t k : ℕ) (copies pins news others : List Buffer) → ((m n : ℕ) → Tells older m n copies pins)
-    → ((m n : ℕ) → filter (is_buffer m n) news ≡ listed (find (is_buffer m n) news)) → ((m n : ℕ) → filter (is_buffer m n) others ≡ listed (find (is_buffer m n) others))
+    → ((m n : ℕ) → filter (is_buffer m n) news ≡ option_to_list (find (is_buffer m n) news)) → ((m n : ℕ) → filter (is_buffer m n) others ≡ option_to_list (find (is_buffer m n) others))
     → ((m n : ℕ) → is_same m n t k ≡ false → (find (is_buffer m n) news ≡ find (is_buffer m n) copies) × (find (is_buffer m n) others ≡ find (is_buffer m n) pins))
     → ((m n : ℕ) → is_same m n t k ≡ false → rows_of e m n (opened e m n) ≡ rows_of older m n (opened older m n))
     → Agrees e t k (find (is_buffer t k) news) (find (is_buffer t k) others)
@@ -203,7 +203,7 @@ key_by e older t k copies pins news others told left right same apart here m n f
 
 -- each key of the new maps agrees with the new event, where the key of the event does, and the others have what they had
 pub each_key : (e older : List Event) (t k : ℕ) (copies pins news others : List Buffer) → ((m n : ℕ) → Tells older m n copies pins)
-    → ((m n : ℕ) → filter (is_buffer m n) news ≡ listed (find (is_buffer m n) news)) → ((m n : ℕ) → filter (is_buffer m n) others ≡ listed (find (is_buffer m n) others))
+    → ((m n : ℕ) → filter (is_buffer m n) news ≡ option_to_list (find (is_buffer m n) news)) → ((m n : ℕ) → filter (is_buffer m n) others ≡ option_to_list (find (is_buffer m n) others))
     → ((m n : ℕ) → is_same m n t k ≡ false → (find (is_buffer m n) news ≡ find (is_buffer m n) copies) × (find (is_buffer m n) others ≡ find (is_buffer m n) pins))
     → ((m n : ℕ) → is_same m n t k ≡ false → rows_of e m n (opened e m n) ≡ rows_of older m n (opened older m n))
     → Agrees e t k (find (is_buffer t k) news) (find (is_buffer t k) others)

@@ -4,32 +4,36 @@ ghost use Rattle.jg_buffers.specs.Rows.{AddsNumber, IsAbove, KeepsBuffers, Keeps
 ghost use Rattle.jg_buffers.specs.Standing.{Stands};
 ghost use Rattle.jg_lists.specs.Marks.{Marks};
 
-use crate::by_number::{ByNumber, list_keys};
-use crate::copied::{Copied, copy_kind, family_of_copy, item_at, set_item};
+use crate::copied::{Copied, Copies, copy_kind, family_of_copy, item_at, set_item};
 use crate::family::Family;
 use crate::info::Info;
-use crate::pinned::{Pinned, ViaKey, family_of_pin, mark_objects, names_object, pin_kind, via_key};
+use crate::maker_counts::{lower_count, raise_count, widen_counts};
+use crate::pinned::{Pinned, ViaKey, family_of_pin, pin_kind, via_key};
 use crate::tally::{Tally, count_of, lower, make_room, raise};
+use crate::visits::{list_copies, list_pins, mark_objects, names_object};
 use indexmap::IndexMap;
-use jg_lists::{ObjectMarks, Recent};
+use jg_lists::by_maker::{ByMaker, add, find, remove};
+use jg_lists::{ByThread, ObjectMarks, Recent, number_at};
 use jg_words::{BufId, ObjId, Ref, Tid};
 use std::alloc::{AllocError, Allocator, Global};
 use std::marker::Model;
 
 /// The open buffers. Contracts see the rows. Copies and pinned buffers are kept apart, and the
 /// pinned ones are counted by thread and by reference, so that no look-up goes over all of them.
+/// Beside what is open, it takes 16 bytes for each thread up to the one of the greatest number that
+/// had a pinned buffer, and each such thread takes 8 for each buffer that it was lent, up to its newest
+/// pinned one.
 pub struct Buffers<A: Allocator = Global> {
-    copies: ByNumber<Copied<A>, A>,
-    pins: ByNumber<Pinned, A>,
-    makers: Tally<u16, A>,
+    copies: Copies<A>,
+    pins: ByMaker<Pinned, A>,
+    makers: Vec<usize, A>,
     vias: Tally<ViaKey, A>,
     alloc: A,
     recent_copy: Recent,
-    recent_pin: Recent,
 }
 
 // Not derived, so that who owns a table lets it go by one call: else each way out of a function
-// drops each part of the four maps, which its proof goes through one by one.
+// drops each part of the maps, which its proof goes through one by one.
 impl<A: Allocator> Drop for Buffers<A> {
     fn drop(self) {
         let Buffers {
@@ -39,27 +43,28 @@ impl<A: Allocator> Drop for Buffers<A> {
             vias: _vias,
             alloc: _alloc,
             recent_copy: _recent_copy,
-            recent_pin: _recent_pin,
         } = self;
     }
 }
 
 impl<A: Allocator> Model for Buffers<A> {
     ghost use Rattle.std.specs.Prelude.{◌++◌, map};
+    ghost use Rattle.jg_lists.specs.ByMaker.{named};
     ghost use Rattle.jg_buffers.specs.Rows.{Rows};
     ghost use Rattle.jg_buffers.specs.Seen.{copy_seen, pin_seen};
     ghost use Rattle.jg_buffers.specs.Tallies.{Counted};
 
     ghost Value = { Rows };
 
-    ghost view = { λ a. record { lent = map copy_seen a.copies.entries ++ map pin_seen a.pins.entries } };
+    ghost view = { λ a. record { lent = map copy_seen a.copies.entries ++ map pin_seen (named a.pins) } };
 
-    ghost invariant = { λ a. Counted a.pins.entries a.makers a.vias };
+    ghost invariant = { λ a. Counted (named a.pins) a.makers.items a.vias };
 }
 
 impl<A: Allocator + Copy> Buffers<A> {
-    /// No buffer is open. Takes no memory; the four maps grow from the first four handles, and the
-    /// items of copies from clones of the last.
+    /// No buffer is open. Takes no memory: the copies, the threads with pinned buffers, and the counts
+    /// by thread and by reference grow from the first four handles, and the items of copies and what
+    /// each thread has pinned from clones of the last.
     pub fn new(copies: A, pins: A, makers: A, vias: A, alloc: A) -> Buffers<A>
         ensures empty { result.lent ≡ [] }
         ensures stands { Stands result [] }
@@ -67,12 +72,11 @@ impl<A: Allocator + Copy> Buffers<A> {
     {
         Buffers {
             copies: IndexMap::new(copies),
-            pins: IndexMap::new(pins),
-            makers: IndexMap::new(makers),
+            pins: ByThread::new(pins, pins),
+            makers: Vec::new(makers),
             vias: IndexMap::new(vias),
             alloc,
             recent_copy: Recent::new(),
-            recent_pin: Recent::new(),
         }
     }
 }
@@ -132,10 +136,11 @@ impl<A: Allocator + Clone> Buffers<A> {
         ensures numbers { AddsNumber tid.0 n self.old self.new }
     {
         let key = via_key(via);
-        make_room(&mut self.makers, tid.0)?;
+        widen_counts(&mut self.makers, tid.0)?;
         make_room(&mut self.vias, key)?;
-        let _fewer = self.pins.len();
-        self.pins.insert(
+        add(
+            &mut self.pins,
+            &self.alloc,
             (tid.0, n),
             Pinned {
                 object: object.0,
@@ -144,7 +149,7 @@ impl<A: Allocator + Clone> Buffers<A> {
                 length,
             },
         )?;
-        raise(&mut self.makers, &tid.0);
+        raise_count(&mut self.makers, tid.0);
         raise(&mut self.vias, &key);
         Ok(())
     }
@@ -165,7 +170,7 @@ impl<A: Allocator + Clone> Buffers<A> {
                 length: copy.items.as_slice().len() as u64,
             });
         }
-        match self.recent_pin.find(&self.pins, &(buf.maker.0, buf.n)) {
+        match find(&self.pins, (buf.maker.0, buf.n)) {
             None => None,
             Some(pin) => Some(Info {
                 maker: buf.maker,
@@ -225,8 +230,8 @@ impl<A: Allocator + Clone> Buffers<A> {
         ensures numbers { KeepsNumbers self.old self.new }
     {
         self.copies.swap_remove(&(buf.maker.0, buf.n));
-        if let Some(pin) = self.pins.swap_remove(&(buf.maker.0, buf.n)) {
-            lower(&mut self.makers, &buf.maker.0);
+        if let Some(pin) = remove(&mut self.pins, (buf.maker.0, buf.n)) {
+            lower_count(&mut self.makers, buf.maker.0);
             lower(&mut self.vias, &via_key(pin.via));
         }
     }
@@ -235,7 +240,7 @@ impl<A: Allocator + Clone> Buffers<A> {
     pub fn in_critical(&self, tid: Tid) -> bool
         ensures { (e : List Event) → Stands self.now e → result ≡ in_critical e tid.0 }
     {
-        count_of(&self.makers, &tid.0) > 0
+        number_at(&self.makers, tid.0 as usize) > 0
     }
 
     /// Whether a pinned buffer that was opened through the reference is open.
@@ -266,8 +271,7 @@ impl<A: Allocator + Clone> Buffers<A> {
     pub fn list<B: Allocator>(&self, buffers: &mut Vec<BufId, B>) -> Result<(), AllocError>
         ensures ok { OnOk result (buffers.new.items ≡ buffers.old.items ++ map name_of self.now.lent) }
     {
-        list_keys(&self.copies, buffers)?;
-        list_keys(&self.pins, buffers)?;
-        Ok(())
+        list_copies(&self.copies, buffers)?;
+        list_pins(&self.pins, buffers)
     }
 }

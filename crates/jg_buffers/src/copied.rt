@@ -2,12 +2,13 @@ ghost use Rattle.std.specs.Prelude.{◌≡◌, ◌<◌, ℕ, pos, false, if◌th
 ghost use Rattle.jg_buffers.specs.History.{is_critical};
 ghost use Rattle.jg_buffers.specs.Seen.{copy_family, copy_at, copy_item_set};
 ghost use Rattle.indexmap.specs.IndexMap.{get, IsUnique};
-ghost use Rattle.jg_buffers.specs.Keys.{same_pair};
+ghost use Rattle.jg_lists.specs.ByMaker.{same_name};
 
-use crate::by_number::ByNumber;
 use crate::family::Family;
+use indexmap::IndexMap;
 use jg_words::Primitive;
 use std::alloc::{Allocator, Global};
+use std::hash::{BuildHasherDefault, FoldHasher};
 
 /// The families that copy.
 #[derive(Clone, Copy, Debug, PartialEq, Eq)]
@@ -24,6 +25,9 @@ pub struct Copied<A: Allocator = Global> {
     pub kind: CopyKind,
     pub items: Vec<i64, A>,
 }
+
+/// The open copies, by thread and number.
+pub type Copies<A> = IndexMap<(u16, u64), Copied<A>, BuildHasherDefault<FoldHasher>, A>;
 
 pub fn copy_kind(family: Family) -> CopyKind
     requires { is_critical family ≡ false }
@@ -49,16 +53,11 @@ pub fn family_of_copy(kind: CopyKind) -> Family
 }
 
 /// Writes an item of the copy, if it is there.
-pub fn set_item<A: Allocator>(
-    map: &mut ByNumber<Copied<A>, A>,
-    key: (u16, u64),
-    index: usize,
-    value: i64,
-)
-    ensures unique { IsUnique same_pair map.new }
-    ensures set { (q : ℕ × ℕ) → copy_at q (get same_pair map.new q)
-        ≡ (if same_pair key q then copy_item_set index value (copy_at q (get same_pair map.old q))
-        else copy_at q (get same_pair map.old q)) }
+pub fn set_item<A: Allocator>(map: &mut Copies<A>, key: (u16, u64), index: usize, value: i64)
+    ensures unique { IsUnique same_name map.new }
+    ensures set { (q : ℕ × ℕ) → copy_at q (get same_name map.new q)
+        ≡ (if same_name key q then copy_item_set index value (copy_at q (get same_name map.old q))
+        else copy_at q (get same_name map.old q)) }
 {
     if let Some(copy) = map.get_mut(&key) {
         if index < copy.items.len() {

@@ -4,13 +4,14 @@
 #![tactic(auto)]
 
 mod buffers;
-mod by_number;
 mod copied;
 mod family;
 mod info;
+mod maker_counts;
 mod meanings;
 mod pinned;
 mod tally;
+mod visits;
 
 pub use buffers::Buffers;
 pub use family::Family;

@@ -1,15 +1,9 @@
-ghost use Rattle.std.specs.Prelude.{◌≡◌, true, ◌==◌};
-ghost use Rattle.indexmap.specs.IndexMap.{values};
-ghost use Rattle.std.specs.List.{list_any};
-ghost use Rattle.jg_lists.specs.Marks.{Marks};
+ghost use Rattle.std.specs.Prelude.{◌≡◌, true};
 ghost use Rattle.jg_buffers.specs.History.{is_critical};
 ghost use Rattle.jg_buffers.specs.Seen.{pin_family, key_of};
 
-use crate::by_number::ByNumber;
 use crate::family::Family;
-use jg_lists::ObjectMarks;
 use jg_words::{Kind, Ref};
-use std::alloc::Allocator;
 
 /// The families that pin.
 #[derive(Clone, Copy, Debug, PartialEq, Eq)]
@@ -63,19 +57,5 @@ pub fn via_key(via: Ref) -> ViaKey
             Kind::Global => (2, maker.0, n),
             Kind::Weak => (3, maker.0, n),
         },
-    }
-}
-
-pub fn names_object<A: Allocator>(pins: &ByNumber<Pinned, A>, object: u64) -> bool
-    ensures { result ≡ list_any (λ w. w.object == object) (values pins.now) }
-{
-    pins.values().any(|pin| pin.object == object)
-}
-
-pub fn mark_objects<A: Allocator>(pins: &ByNumber<Pinned, A>, marks: &mut ObjectMarks<A>)
-    ensures { Marks (λ o. list_any (λ w. w.object == o) (values pins.now)) marks.old marks.new }
-{
-    for pin in pins.values() {
-        marks.set(pin.object);
     }
 }

@@ -23,18 +23,28 @@ pub fn count_of<K: Eq + Hash, A: Allocator>(map: &Tally<K, A>, key: &K) -> u64
     }
 }
 
-/// Makes room for a count of the key, which may be 0 from then on.
+/// Makes room for one more of the key. Fails for want of memory, and at the greatest count of all. A
+/// count of 0 may be there from then on.
 pub fn make_room<K: Eq + Hash + Drop, A: Allocator + Clone>(
     map: &mut Tally<K, A>,
     key: K,
 ) -> Result<(), AllocError>
     ensures same { (q : K) → count_at (get K.eq map.new q) ≡ count_at (get K.eq map.old q) }
     ensures room { OnOk result (IsSome (get K.eq map.new key)) }
+    ensures fits { OnOk result (count_at (get K.eq map.new key) < u64.MAX) }
 {
-    if !map.contains_key(&key) {
-        map.insert(key, 0)?;
+    match map.get(&key) {
+        None => {
+            map.insert(key, 0)?;
+            Ok(())
+        }
+        Some(count) => {
+            if *count == u64::MAX {
+                return Err(AllocError);
+            }
+            Ok(())
+        }
     }
-    Ok(())
 }
 
 /// One more of the key.

@@ -14,7 +14,7 @@ use Rattle.jg_words.specs.declared.object.ObjId.{ObjId}
 use Rattle.jg_globals.specs.declared.target.Target.{Target}
 use Rattle.jg_globals.specs.declared.target.Target.TheVariants.{Cleared}
 use Rattle.jg_globals.specs.Clearing.{IsCleared, EachChanged}
-use Rattle.jg_globals.specs.Seen.{entries, named}
+use Rattle.jg_lists.specs.ByMaker.{entries, named}
 
 -- the first i entries are changed, and the others are as they were
 pub record ChangedSoFar {K V : Type 0} (change : V → V → Type 0) (olds now : List (K × V)) (i : ℕ) : Type 0 where

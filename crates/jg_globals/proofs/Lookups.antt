@@ -6,48 +6,48 @@ use Rattle.std.specs.Map.{lookup}
 use Rattle.std.specs.Option.{option_map}
 use Rattle.std.proofs.lemmas.Bool.Decides.{nat_tests}
 use Rattle.jg_words.specs.declared.object.ObjId.{ObjId}
-use Rattle.jg_globals.specs.declared.name.Name.{Name}
+use Rattle.jg_lists.specs.ByMaker.{Name, same_name}
 use Rattle.jg_globals.specs.declared.target.Target.{Target}
 use Rattle.jg_globals.specs.History.{Event, MakeStrong, MakeWeak, DeleteStrong, DeleteWeak, Clear, is_same, strong, weak_target, is_now, made_and_held, holds_object}
 use Rattle.jg_globals.specs.Rows.{Rows, Strong, is_strong, is_weak, IsAbove}
-use Rattle.jg_globals.specs.Seen.{name, same_name, strong_seen, weak_seen}
+use Rattle.jg_globals.specs.Seen.{strong_seen, weak_seen}
 use Rattle.jg_globals.specs.Standing.{Stands, strong_rows, weak_rows}
-use Rattle.jg_globals.proofs.Named.{first_named}
+use Rattle.jg_lists.proofs.Named.{first_named}
 use Rattle.jg_lists.proofs.Lists.{first, list_any-map, Member, any_member, member_filter, any_of_filter, both_ways}
 
-pub strong_tests : (m n : ℕ) (e : Name × ObjId) → is_strong m n (strong_seen e) ≡ same_name (name m n) e.0
+pub strong_tests : (m n : ℕ) (e : Name × ObjId) → is_strong m n (strong_seen e) ≡ same_name (m, n) e.0
 strong_tests m n e = grind (arith, nat_tests)
 
-pub weak_tests : (m n : ℕ) (e : Name × Target) → is_weak m n (weak_seen e) ≡ same_name (name m n) e.0
+pub weak_tests : (m n : ℕ) (e : Name × Target) → is_weak m n (weak_seen e) ≡ same_name (m, n) e.0
 weak_tests m n e = grind (arith, nat_tests)
 
 pub no_value : {X Y : Type 0} (f : X → Y) (found : Option X) → option_map f found ≡ None → found ≡ None
 no_value f None none = refl
 no_value f (Some x) none = cc
 
-object_of_first : (m n : ℕ) (found : Option ObjId) (was : Option ℕ) → option_map (λ o. strong_seen (name m n, o)) found ≡ first (strong_rows m n was) → option_map (λ o. o.0) found ≡ was
+object_of_first : (m n : ℕ) (found : Option ObjId) (was : Option ℕ) → option_map (λ o. strong_seen ((m, n), o)) found ≡ first (strong_rows m n was) → option_map (λ o. o.0) found ≡ was
 object_of_first m n None None is = refl
 object_of_first m n None (Some p) is = cc
 object_of_first m n (Some o) None is = cc
 object_of_first m n (Some o) (Some p) is = ap (option_map (λ row. row.object)) is
 
 pub get_strong_law : (rows : Rows) (e : List Event) (es : List (Name × ObjId)) (m n : ℕ) → rows.strong ≡ map strong_seen es → Stands rows e
-    → option_map (λ o. o.0) (lookup (same_name (name m n)) es) ≡ strong e m n
+    → option_map (λ o. o.0) (lookup (same_name (m, n)) es) ≡ strong e m n
 get_strong_law rows e es m n seen stands =
-    object_of_first m n (lookup (same_name (name m n)) es) (strong e m n)
-    (sym (first_named strong_seen (is_strong m n) (name m n) (strong_tests m n) es) ∙ ap (λ l. first (filter (is_strong m n) l)) (sym seen) ∙ ap first (stands.strong m n))
+    object_of_first m n (lookup (same_name (m, n)) es) (strong e m n)
+    (sym (first_named strong_seen (is_strong m n) (m, n) (strong_tests m n) es) ∙ ap (λ l. first (filter (is_strong m n) l)) (sym seen) ∙ ap first (stands.strong m n))
 
-target_of_first : (m n : ℕ) (found was : Option Target) → option_map (λ t. weak_seen (name m n, t)) found ≡ first (weak_rows m n was) → found ≡ was
+target_of_first : (m n : ℕ) (found was : Option Target) → option_map (λ t. weak_seen ((m, n), t)) found ≡ first (weak_rows m n was) → found ≡ was
 target_of_first m n None None is = refl
 target_of_first m n None (Some p) is = cc
 target_of_first m n (Some t) None is = cc
 target_of_first m n (Some t) (Some p) is = ap (option_map (λ row. row.target)) is
 
 pub get_weak_law : (rows : Rows) (e : List Event) (es : List (Name × Target)) (m n : ℕ) → rows.weak ≡ map weak_seen es → Stands rows e
-    → lookup (same_name (name m n)) es ≡ weak_target e m n
+    → lookup (same_name (m, n)) es ≡ weak_target e m n
 get_weak_law rows e es m n seen stands =
-    target_of_first m n (lookup (same_name (name m n)) es) (weak_target e m n)
-    (sym (first_named weak_seen (is_weak m n) (name m n) (weak_tests m n) es) ∙ ap (λ l. first (filter (is_weak m n) l)) (sym seen) ∙ ap first (stands.weak m n))
+    target_of_first m n (lookup (same_name (m, n)) es) (weak_target e m n)
+    (sym (first_named weak_seen (is_weak m n) (m, n) (weak_tests m n) es) ∙ ap (λ l. first (filter (is_weak m n) l)) (sym seen) ∙ ap first (stands.weak m n))
 
 -- a reference in being was made
 made_here : (all e : List Event) (m n o k i p : ℕ) (b : Bool) → is_same m n k i ≡ b → strong all m n ≡ Some o → (strong e m n ≡ Some o → list_any (made_and_held all o) e ≡ true)

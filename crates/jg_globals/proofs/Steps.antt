@@ -7,16 +7,16 @@ use Rattle.std.specs.Option.{option_map, option_to_list}
 use Rattle.std.proofs.lemmas.Bool.Decides.{nat_tests}
 use Rattle.std.proofs.lemmas.List.Elements.{recursion_from_All}
 use Rattle.jg_words.specs.declared.object.ObjId.{ObjId}
-use Rattle.jg_globals.specs.declared.name.Name.{Name}
+use Rattle.jg_lists.specs.ByMaker.{Name, same_name, Adds, Drops, IsThereOnce}
 use Rattle.jg_globals.specs.declared.target.Target.{Target}
 use Rattle.jg_globals.specs.declared.target.Target.TheVariants.{Object, Cleared}
 use Rattle.jg_globals.specs.History.{Event, MakeStrong, MakeWeak, DeleteStrong, DeleteWeak, Clear, is_same, strong, weak, after_making, clears, unless_cleared, weak_target}
 use Rattle.jg_globals.specs.Rows.{Rows, Strong, Weak, is_strong, is_weak, IsAbove}
-use Rattle.jg_globals.specs.Seen.{name, same_name, strong_seen, weak_seen, Adds, Drops, IsThereOnce}
+use Rattle.jg_globals.specs.Seen.{strong_seen, weak_seen}
 use Rattle.jg_globals.specs.Standing.{Stands, strong_rows, weak_rows, IsListOf}
 use Rattle.jg_globals.specs.Clearing.{IsCleared, EachCleared}
 use Rattle.jg_lists.proofs.Lists.{first}
-use Rattle.jg_globals.proofs.Named.{first_named, once_named, rows_named}
+use Rattle.jg_lists.proofs.Named.{first_named, once_named, rows_named}
 use Rattle.jg_globals.proofs.Lookups.{strong_tests, weak_tests, no_value, get_strong_law, get_weak_law}
 
 -- what an event that isn't about weak references does to what they name: nothing
@@ -41,7 +41,7 @@ rows_added f p (y ∷ front) back x b is none = by f p y front back x b (p (f y)
     by f p y front back x b false none later = later none
 
 strong_new : (m n k i : ℕ) (o : ObjId) (b : Bool) (rows : List Strong) (was : Option ℕ) → is_same m n k i ≡ b → rows ≡ strong_rows m n was
-    → (if b then strong_seen (name k i, o) ∷ [] else rows) ≡ strong_rows m n (if b then Some o.0 else was)
+    → (if b then strong_seen ((k, i), o) ∷ [] else rows) ≡ strong_rows m n (if b then Some o.0 else was)
 strong_new m n k i o true rows was is stands =
     let maker : k ≡ m = grind (arith, nat_tests) in
     let number : i ≡ n = grind (arith, nat_tests) in
@@ -49,7 +49,7 @@ strong_new m n k i o true rows was is stands =
 strong_new m n k i o false rows was is stands = stands
 
 weak_new : (m n k i : ℕ) (t : Target) (b : Bool) (rows : List Weak) (was : Option Target) → is_same m n k i ≡ b → rows ≡ weak_rows m n was
-    → (if b then weak_seen (name k i, t) ∷ [] else rows) ≡ weak_rows m n (if b then Some t else was)
+    → (if b then weak_seen ((k, i), t) ∷ [] else rows) ≡ weak_rows m n (if b then Some t else was)
 weak_new m n k i t true rows was is stands =
     let maker : k ≡ m = grind (arith, nat_tests) in
     let number : i ≡ n = grind (arith, nat_tests) in
@@ -70,14 +70,14 @@ weak_above k i (row ∷ rows) above m n is =
     let below = above.0 in
     grind (arith, nat_tests, tail, below)
 
-pub make_strong_law : (rows : Rows) (e : List Event) (k i : ℕ) (o : ObjId) (es news : List (Name × ObjId)) → rows.strong ≡ map strong_seen es → Adds (name k i) o es news → IsAbove k i rows → Stands rows e
+pub make_strong_law : (rows : Rows) (e : List Event) (k i : ℕ) (o : ObjId) (es news : List (Name × ObjId)) → rows.strong ≡ map strong_seen es → Adds (k, i) o es news → IsAbove k i rows → Stands rows e
     → Stands (record { strong = map strong_seen news; weak = rows.weak }) (MakeStrong k i o.0 ∷ e)
 make_strong_law rows e k i o es news seen adds above stands =
     let same : rows.strong ≡ map strong_seen (adds.front ++ adds.back) = seen ∙ ap (map strong_seen) adds.was in
     record {
       strong = λ m n.
           ap (λ (l : List (Name × ObjId)). filter (is_strong m n) (map strong_seen l)) adds.now
-          ∙ rows_added strong_seen (is_strong m n) adds.front adds.back (name k i, o) (is_same m n k i) refl
+          ∙ rows_added strong_seen (is_strong m n) adds.front adds.back ((k, i), o) (is_same m n k i) refl
           (λ is. ap (filter (is_strong m n)) (sym same) ∙ strong_above k i rows.strong (recursion_from_All _ _ above.strong) m n is)
           ∙ strong_new m n k i o (is_same m n k i) (filter (is_strong m n) (map strong_seen (adds.front ++ adds.back))) (strong e m n) refl
           (ap (filter (is_strong m n)) (sym same) ∙ stands.strong m n);
@@ -90,7 +90,7 @@ weak_target-make : (m n k i o : ℕ) (e : List Event) (b : Bool)
 weak_target-make m n k i o e true = refl
 weak_target-make m n k i o e false = quiet m n (after_making m n e) (MakeWeak k i o) (weak e m n) (λ p. refl)
 
-pub make_weak_law : (rows : Rows) (e : List Event) (k i o : ℕ) (es news : List (Name × Target)) → rows.weak ≡ map weak_seen es → Adds (name k i) (Object (record { 0 = o })) es news → IsAbove k i rows → Stands rows e
+pub make_weak_law : (rows : Rows) (e : List Event) (k i o : ℕ) (es news : List (Name × Target)) → rows.weak ≡ map weak_seen es → Adds (k, i) (Object (record { 0 = o })) es news → IsAbove k i rows → Stands rows e
     → Stands (record { strong = rows.strong; weak = map weak_seen news }) (MakeWeak k i o ∷ e)
 make_weak_law rows e k i o es news seen adds above stands =
     let same : rows.weak ≡ map weak_seen (adds.front ++ adds.back) = seen ∙ ap (map weak_seen) adds.was in
@@ -98,7 +98,7 @@ make_weak_law rows e k i o es news seen adds above stands =
       strong = stands.strong;
       weak = λ m n. rw (weak_target-make m n k i o e (is_same m n k i))
           (ap (λ (l : List (Name × Target)). filter (is_weak m n) (map weak_seen l)) adds.now
-          ∙ rows_added weak_seen (is_weak m n) adds.front adds.back (name k i, Object (record { 0 = o })) (is_same m n k i) refl
+          ∙ rows_added weak_seen (is_weak m n) adds.front adds.back ((k, i), Object (record { 0 = o })) (is_same m n k i) refl
           (λ is. ap (filter (is_weak m n)) (sym same) ∙ weak_above k i rows.weak (recursion_from_All _ _ above.weak) m n is)
           ∙ weak_new m n k i (Object (record { 0 = o })) (is_same m n k i) (filter (is_weak m n) (map weak_seen (adds.front ++ adds.back))) (weak_target e m n) refl
           (ap (filter (is_weak m n)) (sym same) ∙ stands.weak m n));
@@ -106,13 +106,13 @@ make_weak_law rows e k i o es news seen adds above stands =
 
 -- the row of a reference that is deleted goes, and no other does
 strong_left : (m n : ℕ) (b : Bool) (found : Option ObjId) (was : Option ℕ) → option_map (λ o. o.0) found ≡ was
-    → option_to_list (option_map (λ o. strong_seen (name m n, o)) (cond b None found)) ≡ strong_rows m n (if b then None else was)
+    → option_to_list (option_map (λ o. strong_seen ((m, n), o)) (cond b None found)) ≡ strong_rows m n (if b then None else was)
 strong_left m n true found was is = refl
 strong_left m n false None was is = ap (strong_rows m n) is
 strong_left m n false (Some o) was is = ap (strong_rows m n) is
 
 weak_left : (m n : ℕ) (b : Bool) (found was : Option Target) → found ≡ was
-    → option_to_list (option_map (λ t. weak_seen (name m n, t)) (cond b None found)) ≡ weak_rows m n (if b then None else was)
+    → option_to_list (option_map (λ t. weak_seen ((m, n), t)) (cond b None found)) ≡ weak_rows m n (if b then None else was)
 weak_left m n true found was is = refl
 weak_left m n false None was is = ap (weak_rows m n) is
 weak_left m n false (Some t) was is = ap (weak_rows m n) is
@@ -125,16 +125,16 @@ few_weak : (m n : ℕ) (found : Option Target) → length (weak_rows m n found) 
 few_weak m n None = omega arith
 few_weak m n (Some t) = omega arith
 
-pub delete_strong_law : (rows : Rows) (e : List Event) (k i : ℕ) (es news : List (Name × ObjId)) → rows.strong ≡ map strong_seen es → Drops (name k i) es news
+pub delete_strong_law : (rows : Rows) (e : List Event) (k i : ℕ) (es news : List (Name × ObjId)) → rows.strong ≡ map strong_seen es → Drops (k, i) es news
     → ((q : Name) → IsThereOnce q es → IsThereOnce q news) → Stands rows e
     → Stands (record { strong = map strong_seen news; weak = rows.weak }) (DeleteStrong k i ∷ e)
 delete_strong_law rows e k i es news seen drops once stands = record {
   strong = λ m n.
       let was : filter (is_strong m n) (map strong_seen es) ≡ strong_rows m n (strong e m n) = ap (filter (is_strong m n)) (sym seen) ∙ stands.strong m n in
       let few : length (filter (is_strong m n) (map strong_seen es)) ≤ 1 = subst (λ (l : List Strong). length l ≤ 1) (sym was) (few_strong m n (strong e m n)) in
-      rows_named strong_seen (is_strong m n) (name m n) (strong_tests m n) news (once (name m n) (once_named strong_seen (is_strong m n) (name m n) (strong_tests m n) es few))
-      ∙ ap (λ found. option_to_list (option_map (λ o. strong_seen (name m n, o)) found)) (drops (name m n))
-      ∙ strong_left m n (is_same m n k i) (lookup (same_name (name m n)) es) (strong e m n) (get_strong_law rows e es m n seen stands);
+      rows_named strong_seen (is_strong m n) (m, n) (strong_tests m n) news (once (m, n) (once_named strong_seen (is_strong m n) (m, n) (strong_tests m n) es few))
+      ∙ ap (λ found. option_to_list (option_map (λ o. strong_seen ((m, n), o)) found)) (drops (m, n))
+      ∙ strong_left m n (is_same m n k i) (lookup (same_name (m, n)) es) (strong e m n) (get_strong_law rows e es m n seen stands);
   weak = λ m n. stands.weak m n ∙ ap (weak_rows m n) (sym (quiet m n (after_making m n e) (DeleteStrong k i) (weak e m n) (λ p. refl)));
 }
 
@@ -143,7 +143,7 @@ weak_target-delete : (m n k i : ℕ) (e : List Event) (b : Bool)
 weak_target-delete m n k i e true = refl
 weak_target-delete m n k i e false = quiet m n (after_making m n e) (DeleteWeak k i) (weak e m n) (λ p. refl)
 
-pub delete_weak_law : (rows : Rows) (e : List Event) (k i : ℕ) (es news : List (Name × Target)) → rows.weak ≡ map weak_seen es → Drops (name k i) es news
+pub delete_weak_law : (rows : Rows) (e : List Event) (k i : ℕ) (es news : List (Name × Target)) → rows.weak ≡ map weak_seen es → Drops (k, i) es news
     → ((q : Name) → IsThereOnce q es → IsThereOnce q news) → Stands rows e
     → Stands (record { strong = rows.strong; weak = map weak_seen news }) (DeleteWeak k i ∷ e)
 delete_weak_law rows e k i es news seen drops once stands = record {
@@ -152,23 +152,23 @@ delete_weak_law rows e k i es news seen drops once stands = record {
       let was : filter (is_weak m n) (map weak_seen es) ≡ weak_rows m n (weak_target e m n) = ap (filter (is_weak m n)) (sym seen) ∙ stands.weak m n in
       let few : length (filter (is_weak m n) (map weak_seen es)) ≤ 1 = subst (λ (l : List Weak). length l ≤ 1) (sym was) (few_weak m n (weak_target e m n)) in
       rw (weak_target-delete m n k i e (is_same m n k i))
-      (rows_named weak_seen (is_weak m n) (name m n) (weak_tests m n) news (once (name m n) (once_named weak_seen (is_weak m n) (name m n) (weak_tests m n) es few))
-      ∙ ap (λ found. option_to_list (option_map (λ t. weak_seen (name m n, t)) found)) (drops (name m n))
-      ∙ weak_left m n (is_same m n k i) (lookup (same_name (name m n)) es) (weak_target e m n) (get_weak_law rows e es m n seen stands));
+      (rows_named weak_seen (is_weak m n) (m, n) (weak_tests m n) news (once (m, n) (once_named weak_seen (is_weak m n) (m, n) (weak_tests m n) es few))
+      ∙ ap (λ found. option_to_list (option_map (λ t. weak_seen ((m, n), t)) found)) (drops (m, n))
+      ∙ weak_left m n (is_same m n k i) (lookup (same_name (m, n)) es) (weak_target e m n) (get_weak_law rows e es m n seen stands));
 }
 
 -- a number above all of the maker's is no name yet
-pub strong_absent : (k i : ℕ) (es : List (Name × ObjId)) → All (λ row. row.maker ≡ k → row.n < i) (map strong_seen es) → lookup (same_name (name k i)) es ≡ None
+pub strong_absent : (k i : ℕ) (es : List (Name × ObjId)) → All (λ row. row.maker ≡ k → row.n < i) (map strong_seen es) → lookup (same_name (k, i)) es ≡ None
 strong_absent k i es above =
     let own : is_same k i k i ≡ true = grind (arith, nat_tests) in
     let none = strong_above k i (map strong_seen es) (recursion_from_All _ _ above) k i own in
-    no_value (λ o. strong_seen (name k i, o)) (lookup (same_name (name k i)) es) (sym (first_named strong_seen (is_strong k i) (name k i) (strong_tests k i) es) ∙ ap first none)
+    no_value (λ o. strong_seen ((k, i), o)) (lookup (same_name (k, i)) es) (sym (first_named strong_seen (is_strong k i) (k, i) (strong_tests k i) es) ∙ ap first none)
 
-pub weak_absent : (k i : ℕ) (es : List (Name × Target)) → All (λ row. row.maker ≡ k → row.n < i) (map weak_seen es) → lookup (same_name (name k i)) es ≡ None
+pub weak_absent : (k i : ℕ) (es : List (Name × Target)) → All (λ row. row.maker ≡ k → row.n < i) (map weak_seen es) → lookup (same_name (k, i)) es ≡ None
 weak_absent k i es above =
     let own : is_same k i k i ≡ true = grind (arith, nat_tests) in
     let none = weak_above k i (map weak_seen es) (recursion_from_All _ _ above) k i own in
-    no_value (λ t. weak_seen (name k i, t)) (lookup (same_name (name k i)) es) (sym (first_named weak_seen (is_weak k i) (name k i) (weak_tests k i) es) ∙ ap first none)
+    no_value (λ t. weak_seen ((k, i), t)) (lookup (same_name (k, i)) es) (sym (first_named weak_seen (is_weak k i) (k, i) (weak_tests k i) es) ∙ ap first none)
 
 -- what a reference names once each of the objects was cleared
 abbrev pub cleared_by : List ℕ → Option Target → Option Target
@@ -236,8 +236,8 @@ one_cleared test m n objects row new rest rest' (Some t) mine named cleared list
     let same : row.1 ≡ t = cc in
     let own : Listed test objects (Some row.1) = λ o answer is. listed o answer (ap Some (sym same) ∙ is) in
     let now : cleared_by objects (Some t) ≡ Some new.1 = ap (λ u. cleared_by objects (Some u)) (sym same) ∙ target_cleared test objects row.1 new.1 own cleared in
-    let its_maker : new.0.maker ≡ m = ap (λ k. k.maker) named ∙ grind (arith, nat_tests) in
-    let its_number : new.0.n ≡ n = ap (λ k. k.n) named ∙ grind (arith, nat_tests) in
+    let its_maker : new.0.0 ≡ m = ap (λ k. k.0) named ∙ grind (arith, nat_tests) in
+    let its_number : new.0.1 ≡ n = ap (λ k. k.1) named ∙ grind (arith, nat_tests) in
     rw (now, none, its_maker, its_number) refl
 
 head_cleared : (test : ObjId → Bool → Type 0) (m n : ℕ) (objects : List ℕ) (row new : Name × Target) (rest rest' : List Weak) (found : Option Target) (b : Bool)

@@ -1,7 +1,7 @@
 -- What clearing by a test does to the entries that the code keeps.
 use Rattle.std.specs.Prelude.{◌≡◌, Bool, if◌then◌else◌, List, [], ◌∷◌}
 use Rattle.jg_words.specs.declared.object.ObjId.{ObjId}
-use Rattle.jg_globals.specs.declared.name.Name.{Name}
+use Rattle.jg_lists.specs.ByMaker.{Name}
 use Rattle.jg_globals.specs.declared.target.Target.{Target}
 use Rattle.jg_globals.specs.declared.target.Target.TheVariants.{Object, Cleared}
 

@@ -1,59 +1,18 @@
 -- What contracts see of the tables that the code keeps.
-use Rattle.std.specs.Prelude.{◌≡◌, ℕ, ◌≤◌, Bool, ◌==◌, ◌&&◌, if◌then◌else◌, List, [], ◌∷◌, ◌++◌, length, map, filter, Option, Some, None}
-use Rattle.std.specs.Map.{lookup}
 use Rattle.jg_words.specs.declared.object.ObjId.{ObjId}
 use Rattle.jg_words.specs.declared.reference.Ref.{Ref}
 use Rattle.jg_words.specs.declared.reference.Ref.TheVariants.{To}
 use Rattle.jg_words.specs.declared.reference.Kind.{Kind}
-use Rattle.jg_lists.specs.ByThread.{at}
-use Rattle.jg_globals.specs.declared.name.Name.{Name}
+use Rattle.jg_lists.specs.ByMaker.{Name}
 use Rattle.jg_globals.specs.declared.target.Target.{Target}
 use Rattle.jg_globals.specs.Rows.{Strong, Weak}
 
-abbrev pub name : ℕ → ℕ → Name
-name maker n = record { maker = maker; n = n }
-
-abbrev pub same_name : Name → Name → Bool
-same_name a b = (a.maker == b.maker) && (a.n == b.n)
-
--- one maker's entries, by name
-abbrev pub entries : {V : Type 0} → ℕ → List (ℕ × V) → List (Name × V)
-entries maker es = map (λ e. (name maker e.0, e.1)) es
-
--- the entries of all makers, one maker's after the other's
-abbrev pub named : {V : Type 0} → List (ℕ × List (ℕ × V)) → List (Name × V)
-named [] = []
-named (table ∷ tables) = entries table.0 table.1 ++ named tables
-
--- the entries of that maker's table, which are none where it has no table
-abbrev pub table_in : {V : Type 0} → Option (List (ℕ × V)) → List (ℕ × V)
-table_in None = []
-table_in (Some table) = table
-
-abbrev pub table_at : {V : Type 0} → ℕ → List (ℕ × List (ℕ × V)) → List (ℕ × V)
-table_at maker tables = table_in (at maker tables)
-
 abbrev pub strong_seen : Name × ObjId → Strong
-strong_seen entry = record { maker = entry.0.maker; n = entry.0.n; object = entry.1.0 }
+strong_seen entry = record { maker = entry.0.0; n = entry.0.1; object = entry.1.0 }
 
 abbrev pub weak_seen : Name × Target → Weak
-weak_seen entry = record { maker = entry.0.maker; n = entry.0.n; target = entry.1 }
+weak_seen entry = record { maker = entry.0.0; n = entry.0.1; target = entry.1 }
 
 -- the reference of that kind and name
 abbrev pub ref_named : Kind → Name → Ref
-ref_named kind name = To kind (record { 0 = name.maker }) name.n
-
--- the entry is there now, and the others stay, in their order
-pub record Adds {V : Type 0} (q : Name) (v : V) (old new : List (Name × V)) : Type 0 where
-  pub front : List (Name × V)
-  pub back : List (Name × V)
-  pub was : old ≡ front ++ back
-  pub now : new ≡ front ++ (q, v) ∷ back
-
--- each name but that one is found as before
-abbrev pub Drops : {V : Type 0} → Name → List (Name × V) → List (Name × V) → Type 0
-Drops gone old new = (q : Name) → lookup (same_name q) new ≡ (if same_name gone q then None else lookup (same_name q) old)
-
--- no two entries have the name
-abbrev pub IsThereOnce : {V : Type 0} → Name → List (Name × V) → Type 0
-IsThereOnce q es = length (filter (λ e. same_name q e.0) es) ≤ 1
+ref_named kind name = To kind (record { 0 = name.0 }) name.1

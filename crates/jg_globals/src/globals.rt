@@ -5,11 +5,10 @@ ghost use Rattle.jg_globals.specs.Rows.{AddsNumber, IsAbove, KeepsNumbers, stron
 ghost use Rattle.jg_globals.specs.Standing.{Stands, IsListOf};
 ghost use Rattle.jg_lists.specs.Marks.{Marks};
 
-use crate::by_name::{ByName, add, find, remove};
-use crate::name::Name;
 use crate::sweep::clear_rows;
 use crate::target::Target;
 use crate::visits::{list_names, mark_objects, names_object};
+use jg_lists::by_maker::{ByMaker, add, find, remove};
 use jg_lists::{ByThread, ObjectMarks};
 use jg_words::{Kind, ObjId, Ref, Tid};
 use std::alloc::{AllocError, Allocator, Global};
@@ -20,15 +19,16 @@ use std::marker::Model;
 /// newest weak one. Contracts see the rows.
 #[derive(Drop)]
 pub struct Globals<A: Allocator = Global> {
-    strong: ByName<ObjId, A>,
-    weak: ByName<Target, A>,
+    strong: ByMaker<ObjId, A>,
+    weak: ByMaker<Target, A>,
     alloc: A,
 }
 
 impl<A: Allocator> Model for Globals<A> {
     ghost use Rattle.std.specs.Prelude.{map};
     ghost use Rattle.jg_globals.specs.Rows.{Rows};
-    ghost use Rattle.jg_globals.specs.Seen.{named, strong_seen, weak_seen};
+    ghost use Rattle.jg_lists.specs.ByMaker.{named};
+    ghost use Rattle.jg_globals.specs.Seen.{strong_seen, weak_seen};
 
     ghost Value = { Rows };
 
@@ -63,7 +63,7 @@ impl<A: Allocator + Clone> Globals<A> {
         ensures err { OnErr result (self.new ≡ self.old) }
         ensures numbers { AddsNumber maker.0 n self.old self.new }
     {
-        let name = Name { maker: maker.0, n };
+        let name = (maker.0, n);
         add(&mut self.strong, &self.alloc, name, object)?;
         Ok(())
     }
@@ -78,7 +78,7 @@ impl<A: Allocator + Clone> Globals<A> {
         ensures err { OnErr result (self.new ≡ self.old) }
         ensures numbers { AddsNumber maker.0 n self.old self.new }
     {
-        let name = Name { maker: maker.0, n };
+        let name = (maker.0, n);
         add(&mut self.weak, &self.alloc, name, Target::Object(object))?;
         Ok(())
     }
@@ -95,11 +95,15 @@ impl<A: Allocator> Globals<A> {
         match reference {
             Ref::Null => {}
             Ref::To { kind, maker, n } => {
-                let name = Name { maker: maker.0, n };
+                let name = (maker.0, n);
                 match kind {
                     Kind::Local => {}
-                    Kind::Global => remove(&mut self.strong, name),
-                    Kind::Weak => remove(&mut self.weak, name),
+                    Kind::Global => {
+                        remove(&mut self.strong, name);
+                    }
+                    Kind::Weak => {
+                        remove(&mut self.weak, name);
+                    }
                 }
             }
         }
@@ -113,7 +117,7 @@ impl<A: Allocator> Globals<A> {
         match reference {
             Ref::Null => None,
             Ref::To { kind, maker, n } => {
-                let name = Name { maker: maker.0, n };
+                let name = (maker.0, n);
                 match kind {
                     Kind::Local => None,
                     Kind::Global => object_target(find(&self.strong, name).copied()),

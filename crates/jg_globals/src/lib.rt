@@ -4,10 +4,8 @@
 //! Specification's.
 #![tactic(auto)]
 
-mod by_name;
 mod globals;
 mod meanings;
-mod name;
 mod sweep;
 mod target;
 mod visits;

@@ -2,11 +2,11 @@
 
 ghost use Rattle.std.specs.Prelude.{if◌then◌else◌};
 ghost use Rattle.jg_globals.specs.Clearing.{IsCleared, EachChanged, EachCleared};
-ghost use Rattle.jg_globals.specs.Seen.{named};
+ghost use Rattle.jg_lists.specs.ByMaker.{named};
 
-use crate::by_name::ByName;
 use crate::target::Target;
 use jg_lists::ByNumber;
+use jg_lists::by_maker::ByMaker;
 use jg_words::ObjId;
 use std::alloc::Allocator;
 
@@ -36,7 +36,7 @@ fn clear_numbers<A: Allocator, F: Fn(ObjId) -> bool>(numbers: &mut ByNumber<Targ
 }
 
 /// Clears the references whose object meets the test. Takes no memory.
-pub fn clear_rows<A: Allocator, F: Fn(ObjId) -> bool>(rows: &mut ByName<Target, A>, test: &F)
+pub fn clear_rows<A: Allocator, F: Fn(ObjId) -> bool>(rows: &mut ByMaker<Target, A>, test: &F)
     requires { F.IsAlwaysCallable test.now }
     ensures { EachCleared (F.post test.now) (named rows.old) (named rows.new) }
 {

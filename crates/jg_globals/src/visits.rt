@@ -4,9 +4,10 @@ ghost use Rattle.std.specs.Prelude.{◌≡◌, ◌==◌, ◌++◌, OnOk, map};
 ghost use Rattle.std.specs.List.{list_any};
 ghost use Rattle.jg_lists.specs.ByThread.{seen};
 ghost use Rattle.jg_lists.specs.Marks.{Marks};
-ghost use Rattle.jg_globals.specs.Seen.{name, named, ref_named};
+ghost use Rattle.jg_lists.specs.ByMaker.{named};
+ghost use Rattle.jg_globals.specs.Seen.{ref_named};
 
-use crate::by_name::ByName;
+use jg_lists::by_maker::ByMaker;
 use jg_lists::{ByNumber, Numbered, ObjectMarks, Seat};
 use jg_words::{Kind, ObjId, Ref, Tid};
 use std::alloc::{AllocError, Allocator};
@@ -30,7 +31,7 @@ fn some_table_names<A: Allocator>(tables: &[Seat<ByNumber<ObjId, A>>], object: O
 }
 
 /// Whether a reference names the object.
-pub fn names_object<A: Allocator>(rows: &ByName<ObjId, A>, object: ObjId) -> bool
+pub fn names_object<A: Allocator>(rows: &ByMaker<ObjId, A>, object: ObjId) -> bool
     ensures { result ≡ list_any (λ e. e.1.0 == object.0) (named rows.now) }
 {
     some_table_names(rows.seats(), object)
@@ -59,7 +60,7 @@ fn mark_tables<A: Allocator>(tables: &[Seat<ByNumber<ObjId, A>>], marks: &mut Ob
 }
 
 /// Sets the mark of each object that a reference names.
-pub fn mark_objects<A: Allocator>(rows: &ByName<ObjId, A>, marks: &mut ObjectMarks<A>)
+pub fn mark_objects<A: Allocator>(rows: &ByMaker<ObjId, A>, marks: &mut ObjectMarks<A>)
     ensures { Marks (λ o. list_any (λ e. e.1.0 == o) (named rows.now)) marks.old marks.new }
 {
     mark_tables(rows.seats(), marks);
@@ -72,7 +73,7 @@ fn list_numbers<V, B: Allocator>(
     refs: &mut Vec<Ref, B>,
 ) -> Result<(), AllocError>
     ensures { OnOk result (refs.new.items
-        ≡ refs.old.items ++ map (λ seat. ref_named kind (name maker seat.number)) numbers.now) }
+        ≡ refs.old.items ++ map (λ seat. ref_named kind (maker, seat.number)) numbers.now) }
 {
     for seat in numbers {
         refs.push(Ref::To {
@@ -91,7 +92,7 @@ fn list_in<V, A: Allocator, B: Allocator>(
     refs: &mut Vec<Ref, B>,
 ) -> Result<(), AllocError>
     ensures { OnOk result (refs.new.items
-        ≡ refs.old.items ++ map (λ e. ref_named kind (name maker e.0)) numbers.now) }
+        ≡ refs.old.items ++ map (λ e. ref_named kind (maker, e.0)) numbers.now) }
 {
     list_numbers(numbers.seats(), kind, maker, refs)
 }
@@ -112,7 +113,7 @@ fn list_tables<V, A: Allocator, B: Allocator>(
 
 /// Appends the references of that kind.
 pub fn list_names<V, A: Allocator, B: Allocator>(
-    rows: &ByName<V, A>,
+    rows: &ByMaker<V, A>,
     kind: Kind,
     refs: &mut Vec<Ref, B>,
 ) -> Result<(), AllocError>

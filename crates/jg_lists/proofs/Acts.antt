@@ -1,6 +1,6 @@
 -- What each thread did, one event later, and rows counted by a key.
-use Rattle.std.proofs.Common.{◌≡◌, ◌≢◌, ◌+◌, ℕ, Bool, true, false, List, [], ◌∷◌, Option, Some, None, refl, ◌∙◌, ap, subst, eqb, eqb-true, arith}
-use Rattle.std.specs.Prelude.{◌==◌, if◌then◌else◌}
+use Rattle.std.proofs.Common.{◌≡◌, ◌≢◌, ◌+◌, ℕ, length, Bool, true, false, List, [], ◌∷◌, ◌++◌, Option, Some, None, refl, ◌∙◌, ap, subst, eqb, eqb-true, arith}
+use Rattle.std.specs.Prelude.{◌==◌, if◌then◌else◌, filter}
 use Rattle.std.specs.Map.{keys_of}
 use Rattle.std.specs.BTreeMap.{is_at}
 use Rattle.std.specs.Ordering.{nat_cmp, eq_by_cmp}
@@ -59,3 +59,25 @@ counted_law t [] once = refl
 counted_law t (x ∷ rows) once =
     let later = counted_law t rows (IsDistinct-tail (eq_by_cmp nat_cmp) x.0 (keys_of rows) once) in
     rw (at_key t x.0) (counted_at t x rows (x.0 == t) refl once later)
+
+-- ---- one item more
+
+swapped : (a b : Bool) (h : ℕ) → (if a then (if b then h + 1 else h) + 1 else (if b then h + 1 else h)) ≡ (if b then (if a then h + 1 else h) + 1 else (if a then h + 1 else h))
+swapped true true h = refl
+swapped true false h = refl
+swapped false true h = refl
+swapped false false h = refl
+
+-- it is one more of the count, if it is of the kind
+pub how_many-between : {X : Type 0} (p : X → Bool) (front : List X) (x : X) (back : List X)
+    → how_many p (front ++ x ∷ back) ≡ (if p x then how_many p (front ++ back) + 1 else how_many p (front ++ back))
+how_many-between p [] x back = refl
+how_many-between p (y ∷ front) x back = ap (λ h. if p y then h + 1 else h) (how_many-between p front x back) ∙ swapped (p y) (p x) (how_many p (front ++ back))
+
+counted_by : {X : Type 0} (x : X) (passed : List X) (h : ℕ) (b : Bool) → length passed ≡ h → length (if b then x ∷ passed else passed) ≡ (if b then h + 1 else h)
+counted_by x passed h true later = omega (arith, later)
+counted_by x passed h false later = later
+
+pub length-filter : {X : Type 0} (p : X → Bool) (xs : List X) → length (filter p xs) ≡ how_many p xs
+length-filter p [] = refl
+length-filter p (x ∷ xs) = counted_by x (filter p xs) (how_many p xs) (p x) (length-filter p xs)

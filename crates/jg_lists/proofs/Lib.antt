@@ -1,7 +1,10 @@
 pub mod Acts
 pub mod Lists
 pub mod Marks
+pub mod Named
 pub mod Numbers
 pub mod Oldest
 pub mod Seats
+pub mod Tables
 pub mod Values
+pub mod Visited

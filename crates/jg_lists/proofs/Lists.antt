@@ -1,9 +1,12 @@
 -- Lemmas on lists and tests.
-use Rattle.std.proofs.Common.{◌≡◌, Bool, true, false, List, [], ◌∷◌, Option, Some, None, refl, ◌∙◌, ap, sym, subst, arith, inl, inr}
-use Rattle.std.specs.Prelude.{◌⊎◌, ◌||◌, if◌then◌else◌, filter, find, map}
-use Rattle.std.specs.List.{list_any, AllByRecursion}
+use Rattle.std.proofs.Common.{◌≡◌, ℕ, get_or, Bool, true, false, List, [], ◌∷◌, Option, Some, None, refl, ◌∙◌, ap, sym, subst, arith, inl, inr}
+use Rattle.std.specs.Prelude.{◌⊎◌, ◌||◌, if◌then◌else◌, filter, find, map, slice_set}
+use Rattle.std.specs.List.{list_any, swap, AllByRecursion}
+use Rattle.std.specs.List.Sorted.{IsPermutation, apply_swaps, SwapsInRange}
 use Rattle.std.specs.Option.{option_map}
 use Rattle.std.proofs.lemmas.Bool.Decides.{nat_tests}
+use Rattle.std.proofs.lemmas.List.{length-map, map-set}
+use Rattle.std.proofs.Math.ListN.{get_or-map}
 
 pub none_either : (a b : Bool) → (a || b) ≡ false → (a ≡ false) × (b ≡ false)
 none_either true b none = cc
@@ -94,3 +97,26 @@ same_answers false false there back = refl
 -- two answers are equal where each is yes if the other is
 pub both_ways : (a b : Bool) → (a ≡ true → b ≡ true) → (b ≡ true → a ≡ true) → a ≡ b
 both_ways a b there back = same_answers a b there back
+
+-- ---- other orders
+
+module _ {X Y : Type 0} (f : X → Y) where
+  map-swap : (xs : List X) (i j : ℕ) → map f (swap xs i j) ≡ swap (map f xs) i j
+  map-swap [] i j = refl
+  map-swap (d ∷ ys) i j =
+      map-set f (slice_set (d ∷ ys) i (get_or (d ∷ ys) j d)) j (get_or (d ∷ ys) i d)
+      ∙ ap (λ l. slice_set l j (f (get_or (d ∷ ys) i d))) (map-set f (d ∷ ys) i (get_or (d ∷ ys) j d))
+      ∙ ap (λ y. slice_set (slice_set (map f (d ∷ ys)) i y) j (f (get_or (d ∷ ys) i d))) (sym (get_or-map f (d ∷ ys) j d))
+      ∙ ap (λ y. slice_set (slice_set (map f (d ∷ ys)) i (get_or (map f (d ∷ ys)) j (f d))) j y) (sym (get_or-map f (d ∷ ys) i d))
+
+  map_swaps : (xs : List X) (moves : List (ℕ × ℕ)) → map f (apply_swaps xs moves) ≡ apply_swaps (map f xs) moves
+  map_swaps xs [] = refl
+  map_swaps xs (p ∷ moves) = map-swap (apply_swaps xs moves) p.0 p.1 ∙ ap (λ l. swap l p.0 p.1) (map_swaps xs moves)
+
+  -- what is made of the items in another order is in another order
+  pub map-IsPermutation : (xs ys : List X) → IsPermutation xs ys → IsPermutation (map f xs) (map f ys)
+  map-IsPermutation xs ys other = record {
+    moves = other.moves;
+    below = subst (λ n. SwapsInRange n other.moves) (sym (length-map xs f)) other.below;
+    is = ap (map f) other.is ∙ map_swaps xs other.moves;
+  }

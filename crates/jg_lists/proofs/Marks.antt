@@ -1,14 +1,15 @@
 -- Marks that are set one after another.
-use Rattle.std.proofs.Common.{◌≡◌, ◌≢◌, ◌<◌, ◌≤◌, ◌+◌, length, get_or, take, ℕ, Bool, true, false, List, ◌∷◌, Option, Some, None, refl, ◌∙◌, sym, ap, arith, inl, inr}
-use Rattle.std.specs.Prelude.{◌==◌, ◌||◌, ◌⊎◌, All, false, map, slice_get, slice_set}
+use Rattle.std.proofs.Common.{◌≡◌, ◌≢◌, ◌<◌, ◌≤◌, ◌+◌, ◌-◌, length, get_or, take, ℕ, Bool, true, false, List, ◌∷◌, Option, Some, None, refl, ◌∙◌, sym, ap, arith, inl, inr}
+use Rattle.std.specs.Prelude.{◌==◌, ◌||◌, ◌⊎◌, All, false, map, min, slice_get, slice_set}
 use Rattle.std.specs.List.{list_any}
 use Rattle.std.specs.Option.{option_map}
 use Rattle.std.proofs.lemmas.Bool.Decides.{nat_tests}
-use Rattle.std.proofs.lemmas.List.{get_or-set_same, get_or-set_other, get_or-map, get_or_past, length-map, length-set, map-set, take_all}
+use Rattle.std.proofs.lemmas.List.{get_or-set_same, get_or-set_other, get_or-map, get_or_past, length-map, length-set, length-take-le, map-set, take-set-le, take_all}
 use Rattle.std.proofs.lemmas.List.Folds.{list_any_more}
 use Rattle.std.proofs.lemmas.Bool.{cases_lt}
+use Rattle.std.proofs.Math.Seq.{take-set-lt}
 use Rattle.std.proofs.lemmas.Option.{get_or_from_slice_get, slice_get_past, slice_get-get_or}
-use Rattle.jg_lists.specs.Marks.{Marks}
+use Rattle.jg_lists.specs.Marks.{Marks, but_last, marks_in}
 
 pub or_false : (b : Bool) → (b || false) ≡ b
 or_false true = refl
@@ -56,6 +57,9 @@ marks_stay marks o = same_mark (slice_get marks o)
 
 -- ---- marks by the turn in which each was set last
 
+pub length-but_last : (turns : List ℕ) → length (but_last turns) ≡ length turns - 1
+length-but_last turns = length-take-le (length turns - 1) turns (omega arith)
+
 -- a mark is set in this turn
 pub noted : (turns : List ℕ) (turn i : ℕ) → Marks (λ o. i == o) (map (λ t. t == turn) turns) (map (λ t. t == turn) (slice_set turns i turn))
 noted turns turn i =
@@ -90,6 +94,24 @@ passed_by turns turn i o past (inr out) =
 -- an object without a mark is passed over
 pub passed_over : (turns : List ℕ) (turn i : ℕ) → length turns ≤ i → Marks (λ o. i == o) (map (λ t. t == turn) turns) (map (λ t. t == turn) turns)
 passed_over turns turn i past o = passed_by turns turn i o past (cases_lt o (length turns))
+
+-- an object is noted at its place, or at the last if that is of no object
+noted_at : (turns : List ℕ) (turn i : ℕ) → 0 < length turns → (i < length turns - 1) ⊎ (length turns - 1 ≤ i)
+    → Marks (λ o. i == o) (marks_in turn turns) (marks_in turn (slice_set turns (min i (length turns - 1)) turn))
+noted_at turns turn i some (inl within) =
+    let place : min i (length turns - 1) ≡ i = omega (arith, within) in
+    let set : but_last (slice_set turns i turn) ≡ slice_set (but_last turns) i turn =
+    ap (λ n. take (n - 1) (slice_set turns i turn)) (length-set turns i turn) ∙ take-set-lt (length turns - 1) turns i turn within in
+    rw (place, set) (noted (but_last turns) turn i)
+noted_at turns turn i some (inr past) =
+    let place : min i (length turns - 1) ≡ length turns - 1 = omega (arith, past) in
+    let set : but_last (slice_set turns (length turns - 1) turn) ≡ but_last turns =
+    ap (λ n. take (n - 1) (slice_set turns (length turns - 1) turn)) (length-set turns (length turns - 1) turn)
+    ∙ take-set-le (length turns - 1) turns (length turns - 1) turn (omega arith) in
+    rw (place, set) (passed_over (but_last turns) turn i (omega (arith, past, length-but_last turns)))
+
+pub noted_somewhere : (turns : List ℕ) (turn i : ℕ) → 0 < length turns → Marks (λ o. i == o) (marks_in turn turns) (marks_in turn (slice_set turns (min i (length turns - 1)) turn))
+noted_somewhere turns turn i some = noted_at turns turn i some (cases_lt i (length turns - 1))
 
 -- in a turn that is past all of them none is set
 pub none_set : (turns : List ℕ) (turn o : ℕ) → All (λ t. t < turn) turns → o < length turns → slice_get (map (λ t. t == turn) turns) o ≡ Some false

@@ -1,4 +1,5 @@
 pub mod Acts
+pub mod ByMaker
 pub mod ByNumber
 pub mod ByThread
 pub mod Lending

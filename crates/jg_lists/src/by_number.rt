@@ -5,7 +5,7 @@ ghost use Rattle.std.specs.Ordering.{nat_cmp};
 ghost use Rattle.jg_lists.specs.ByThread.{at, IsOnce};
 ghost use Rattle.jg_lists.specs.ByNumber.{seen};
 
-use crate::places::{place_of, widen};
+use crate::zeroed::{number_at, widen};
 use std::alloc::{AllocError, Allocator, Global};
 use std::marker::Model;
 
@@ -55,7 +55,7 @@ impl<V, A: Allocator> ByNumber<V, A> {
         ensures value { option_copied result ≡ at number self.now }
         ensures once { IsOnce self.now }
     {
-        let place = place_of(&self.places, number as usize);
+        let place = number_at(&self.places, number as usize);
         if place == 0 {
             return None;
         }
@@ -71,7 +71,7 @@ impl<V, A: Allocator> ByNumber<V, A> {
         ensures set { (q : ℕ) → at q self.new ≡ (if number == q then Some value else at q self.old) }
         ensures once { IsOnce self.new }
     {
-        let place = place_of(&self.places, number as usize);
+        let place = number_at(&self.places, number as usize);
         self.seats[place - 1].value = value;
     }
 
@@ -98,9 +98,10 @@ impl<V, A: Allocator> ByNumber<V, A> {
         ensures was { result ≡ at number self.old }
         ensures removed { (q : ℕ) → at q self.new ≡ (if number == q then None else at q self.old) }
         ensures taken { IfSome result (λ v. IsPermutation self.old ((number, v) ∷ self.new)) }
+        ensures none { result ≡ None → self.new ≡ self.old }
         ensures once { IsOnce self.new }
     {
-        let place = place_of(&self.places, number as usize);
+        let place = number_at(&self.places, number as usize);
         if place == 0 {
             return None;
         }

@@ -3,7 +3,7 @@ ghost use Rattle.std.specs.Option.{is_some, option_copied_mut};
 ghost use Rattle.std.specs.Borrow.{sem};
 ghost use Rattle.jg_lists.specs.ByThread.{at, seen, IsOnce};
 
-use crate::places::{place_of, widen};
+use crate::zeroed::{number_at, widen};
 use std::alloc::{AllocError, Allocator, Global};
 use std::marker::Model;
 
@@ -53,7 +53,7 @@ impl<V, A: Allocator> ByThread<V, A> {
         ensures value { option_copied result ≡ at tid self.now }
         ensures once { IsOnce self.now }
     {
-        let place = place_of(&self.places, tid as usize);
+        let place = number_at(&self.places, tid as usize);
         if place == 0 {
             return None;
         }
@@ -87,7 +87,7 @@ impl<V, A: Allocator> ByThread<V, A> {
         ensures value { Some result.now ≡ at tid self.old }
         ensures once { IsOnce self.old }
     {
-        let place = place_of(&self.places, tid as usize);
+        let place = number_at(&self.places, tid as usize);
         &mut self.seats[place - 1].value
     }
 

@@ -1,6 +1,6 @@
 ghost use Rattle.std.specs.Prelude.{◌≡◌, ℕ, ◌<◌, ◌≤◌, ◌^◌, ◌==◌, [], All, false, Some, length, map, slice_get, slice_index_or, OnOk};
 ghost use Rattle.std.specs.List.{list_any};
-ghost use Rattle.jg_lists.specs.Marks.{Marks};
+ghost use Rattle.jg_lists.specs.Marks.{Marks, but_last, marks_in};
 
 use std::alloc::{AllocError, Allocator, Global};
 use std::marker::Model;
@@ -10,18 +10,20 @@ use std::marker::Model;
 #[derive(Drop)]
 pub struct ObjectMarks<A: Allocator = Global> {
     /// The turn in which each was set last, or 0. One byte each, so that many lie in the processor's
-    /// nearest cache; once in 255 turns all are written anew.
+    /// nearest cache; once in 255 turns all are written anew. The last is of no object: what has no
+    /// mark is noted there, which takes no branch.
     turns: Vec<u8, A>,
     /// The turn that is now. A mark is set where it was set in this turn.
     turn: u8,
 }
 
 impl<A: Allocator> Model for ObjectMarks<A> {
-    ghost use Rattle.std.specs.Prelude.{List, Bool, map, All, ◌==◌, ◌≤◌};
+    ghost use Rattle.std.specs.Prelude.{List, Bool, All, ◌≤◌};
+    ghost use Rattle.jg_lists.specs.Marks.{marks_in};
 
     ghost Value = { List Bool };
 
-    ghost view = { λ m. map (λ t. t == m.turn) m.turns.items };
+    ghost view = { λ m. marks_in m.turn m.turns.items };
 
     ghost invariant = { λ m. All (λ t. t ≤ m.turn) m.turns.items };
 }
@@ -38,39 +40,46 @@ fn next_turn<A: Allocator>(turns: &mut Vec<u8, A>, turn: u8) -> u8
     turn + 1
 }
 
-/// Makes a place, set in no turn, for each of the first `count` objects that has none.
+/// Makes a place, set in no turn, for each of the first `count` objects that has none, and one more.
 fn widen<A: Allocator>(turns: &mut Vec<u8, A>, count: usize) -> Result<(), AllocError>
-    ensures ok { OnOk result (count ≤ length turns.new.items) }
+    ensures ok { OnOk result (count < length turns.new.items) }
     ensures past { (turn : ℕ) → 0 < turn → All (λ t. t < turn) turns.old.items → All (λ t. t < turn) turns.new.items }
 {
-    if turns.len() < count {
-        turns.resize(count, 0)?;
+    if turns.len() <= count {
+        let Some(places) = count.checked_add(1) else {
+            return Err(AllocError);
+        };
+        turns.resize(places, 0)?;
     }
     Ok(())
 }
 
 /// The turn in which the object's mark was set last, if it has one.
 fn turn_of(turns: &[u8], object: u64) -> Option<u8>
-    ensures { result ≡ slice_get turns.now object }
-{
-    turns.get(object as usize).copied()
-}
-
-/// Notes the turn for an object, if it has a mark.
-fn note(turns: &mut [u8], object: u64, turn: u8)
-    ensures set { Marks (λ o. object == o) (map (λ t. t == turn) turns.old) (map (λ t. t == turn) turns.new) }
-    ensures past { All (λ t. t ≤ turn) turns.old → All (λ t. t ≤ turn) turns.new }
+    ensures { result ≡ slice_get (but_last turns.now) object }
 {
     let place = object as usize;
-    if place < turns.len() {
-        turns[place] = turn;
+    if place < turns.len().saturating_sub(1) {
+        Some(turns[place])
+    } else {
+        None
     }
+}
+
+/// Notes the turn for an object, or at the last place if it has no mark.
+fn note(turns: &mut [u8], object: u64, turn: u8)
+    requires { 0 < length turns.old }
+    ensures set { Marks (λ o. object == o) (marks_in turn turns.old) (marks_in turn turns.new) }
+    ensures past { All (λ t. t ≤ turn) turns.old → All (λ t. t ≤ turn) turns.new }
+{
+    let last = turns.len() - 1;
+    turns[(object as usize).min(last)] = turn;
 }
 
 /// Notes the turn for each of the objects.
 fn note_all(turns: &mut [u8], objects: &[u64], turn: u8)
-    ensures set { Marks (λ o. list_any (λ x. x == o) objects.now) (map (λ t. t == turn) turns.old)
-        (map (λ t. t == turn) turns.new) }
+    requires { 0 < length turns.old }
+    ensures set { Marks (λ o. list_any (λ x. x == o) objects.now) (marks_in turn turns.old) (marks_in turn turns.new) }
     ensures past { All (λ t. t ≤ turn) turns.old → All (λ t. t ≤ turn) turns.new }
 {
     for object in objects {
@@ -115,7 +124,9 @@ impl<A: Allocator> ObjectMarks<A> {
     pub fn set(&mut self, object: u64)
         ensures { Marks (λ o. object == o) self.old self.new }
     {
-        note(&mut self.turns, object, self.turn);
+        if !self.turns.is_empty() {
+            note(&mut self.turns, object, self.turn);
+        }
     }
 
     /// Sets the mark of each of the objects. One without a mark is passed over, and so is the greatest
@@ -124,7 +135,8 @@ impl<A: Allocator> ObjectMarks<A> {
         ensures set { Marks (λ o. list_any (λ x. x == o) objects.now) self.old self.new }
         ensures few { length self.old < 2 ^ 63 }
     {
-        let _marks = self.turns.len();
-        note_all(&mut self.turns, objects, self.turn);
+        if !self.turns.is_empty() {
+            note_all(&mut self.turns, objects, self.turn);
+        }
     }
 }

@@ -1,8 +1,9 @@
 use Rattle.std.proofs.Common.{◌++◌, ◌∙◌, ap}
 use Rattle.std.proofs.lemmas.Result.{on_ok_weaker}
-use Rattle.jg_globals.proofs.Listed.{seat_refs}
+use Rattle.jg_lists.proofs.Visited.{seat_names}
+use Rattle.jg_globals.specs.Seen.{ref_named}
 use Rattle.jg_globals.proofs.visits.list_in.Goals as goal
 
 pub returns : goal.returns
 returns g c = on_ok_weaker c.list_numbers.result
-    (λ listed. listed ∙ ap (λ l. c.args.refs.now.items ++ l) (seat_refs c.args.kind c.args.maker c.seats.result.now c.args.numbers.now c.seats.ensures.seats)) c.list_numbers.ensures
+    (λ listed. listed ∙ ap (λ l. c.args.refs.now.items ++ l) (seat_names (λ n. ref_named c.args.kind (c.args.maker, n)) c.seats.result.now c.args.numbers.now c.seats.ensures.seats)) c.list_numbers.ensures

@@ -1,8 +1,8 @@
 use Rattle.std.proofs.Common.{ℕ, List, ◌++◌, ◌∙◌, ap}
 use Rattle.std.specs.Prelude.{map}
 use Rattle.std.proofs.lemmas.Result.{on_ok_weaker}
-use Rattle.jg_globals.specs.declared.name.Name.{Name}
-use Rattle.jg_globals.specs.Seen.{named, ref_named}
+use Rattle.jg_lists.specs.ByMaker.{Name, named}
+use Rattle.jg_globals.specs.Seen.{ref_named}
 use Rattle.jg_globals.proofs.visits.list_names.Goals as goal
 
 pub returns : goal.returns

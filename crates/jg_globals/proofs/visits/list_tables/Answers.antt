@@ -3,15 +3,15 @@ use Rattle.std.specs.Prelude.{map}
 use Rattle.std.proofs.lemmas.List.{take_all}
 use Rattle.jg_lists.specs.ByThread.{seen}
 use Rattle.jg_lists.specs.declared.by_thread.Seat.{Seat}
-use Rattle.jg_globals.specs.declared.name.Name.{Name}
-use Rattle.jg_globals.specs.Seen.{name, named, ref_named}
-use Rattle.jg_globals.proofs.Listed.{listed_more}
+use Rattle.jg_lists.specs.ByMaker.{Name, named}
+use Rattle.jg_globals.specs.Seen.{ref_named}
+use Rattle.jg_lists.proofs.Visited.{listed_more}
 use Rattle.jg_globals.proofs.visits.list_tables.Goals as goal
 
 pub loop-table-preserved : goal.loop-table-preserved
 loop-table-preserved g c =
-    listed_more c.args.kind c.args.tables.now c.loop-table.table-index c.table-item.result c.args.refs.now.items c.loop-table.refs.items c.list_in.new.refs.items c.loop-table-test.true c.loop-table.invariant
-    (subst (λ (table : Seat (List (ℕ × g.row.V.Denot))). c.list_in.new.refs.items ≡ c.loop-table.refs.items ++ map (λ e. ref_named c.args.kind (name table.tid e.0)) table.value) c.table-item.is
+    listed_more (ref_named c.args.kind) c.args.tables.now c.loop-table.table-index c.table-item.result c.args.refs.now.items c.loop-table.refs.items c.list_in.new.refs.items c.loop-table-test.true c.loop-table.invariant
+    (subst (λ (table : Seat (List (ℕ × g.row.V.Denot))). c.list_in.new.refs.items ≡ c.loop-table.refs.items ++ map (λ e. ref_named c.args.kind (table.tid, e.0)) table.value) c.table-item.is
     c.in_ok-list_in.ensures)
 
 pub returns : goal.returns

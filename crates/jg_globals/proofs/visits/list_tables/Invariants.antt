@@ -1,6 +1,7 @@
 use Rattle.std.proofs.Common.{◌≡◌, ◌++◌, take, map}
 use Rattle.jg_lists.specs.ByThread.{seen}
-use Rattle.jg_globals.specs.Seen.{named, ref_named}
+use Rattle.jg_lists.specs.ByMaker.{named}
+use Rattle.jg_globals.specs.Seen.{ref_named}
 use Rattle.jg_globals.proofs.visits.list_tables.Given as goal
 
 -- the references of the tables so far are appended

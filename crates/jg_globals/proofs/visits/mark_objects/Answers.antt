@@ -1,6 +1,6 @@
 use Rattle.std.specs.Prelude.{◌==◌}
 use Rattle.jg_words.specs.declared.object.ObjId.{ObjId}
-use Rattle.jg_globals.proofs.Visited.{any_table, marks_alike}
+use Rattle.jg_lists.proofs.Visited.{any_table, marks_alike}
 use Rattle.jg_globals.proofs.visits.mark_objects.Goals as goal
 
 pub returns : goal.returns

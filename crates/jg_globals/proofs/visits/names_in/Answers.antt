@@ -1,7 +1,7 @@
 use Rattle.std.proofs.Common.{◌∙◌}
 use Rattle.std.specs.Prelude.{◌==◌}
 use Rattle.jg_words.specs.declared.object.ObjId.{ObjId}
-use Rattle.jg_globals.proofs.Visited.{any_seat}
+use Rattle.jg_lists.proofs.Visited.{any_seat}
 use Rattle.jg_globals.proofs.visits.names_in.Goals as goal
 
 pub returns : goal.returns

@@ -2,19 +2,20 @@ use Rattle.std.proofs.Common.{refl}
 use Rattle.jg_buffers.specs.Standing.{Stands}
 use Rattle.jg_buffers.proofs.Lookups.{reopened, above_in}
 use Rattle.jg_buffers.proofs.Calls.{seen, open_copy_law, copy_numbers}
+use Rattle.jg_lists.specs.ByMaker.{named}
 use Rattle.jg_buffers.proofs.buffers.Buffers.open_copy.Goals as goal
 
 -- the copy is added
 pub returns-clause-ok : goal.returns-clause-ok
 returns-clause-ok g c = λ e stands.
-    let was : Stands (seen c.self.inside.copies.entries c.self.inside.pins.entries) e = reopened _ _ e c.self.view_is stands in
-    open_copy_law c.self.inside.copies.entries c.insert.new.self.entries c.self.inside.pins.entries e c.args.tid.0 c.args.n c.args.object.0 c.args.family c.args.items.now _ c.requires.copies was
+    let was : Stands (seen c.self.inside.copies.entries (named c.self.inside.pins)) e = reopened _ _ e c.self.view_is stands in
+    open_copy_law c.self.inside.copies.entries c.insert.new.self.entries (named c.self.inside.pins) e c.args.tid.0 c.args.n c.args.object.0 c.args.family c.args.items.now _ c.requires.copies was
     (above_in _ _ c.args.tid.0 c.args.n c.self.view_is c.requires.above) c.in_ok-insert.ensures.unique c.in_ok-insert.ensures.updates.0 (rw (c.copy_kind.ensures, c.in_ok-items.ensures.items) refl)
 
 -- no other number is there
 pub returns-clause-numbers : goal.returns-clause-numbers
 returns-clause-numbers g c = λ k i above below.
-    copy_numbers c.self.inside.copies.entries c.insert.new.self.entries c.self.inside.pins.entries c.args.tid.0 c.args.n _ c.in_ok-insert.ensures.updates.0 k i (above_in _ _ k i c.self.view_is above)
+    copy_numbers c.self.inside.copies.entries c.insert.new.self.entries (named c.self.inside.pins) c.args.tid.0 c.args.n _ c.in_ok-insert.ensures.updates.0 k i (above_in _ _ k i c.self.view_is above)
     below
 
 -- refused, no number is added

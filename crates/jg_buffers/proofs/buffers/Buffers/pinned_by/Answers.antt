@@ -6,11 +6,12 @@ use Rattle.jg_buffers.specs.History.{same_ref}
 use Rattle.jg_buffers.proofs.Lookups.{reopened}
 use Rattle.jg_buffers.proofs.Maps.{some_counted}
 use Rattle.jg_buffers.proofs.Pins.{pin_law}
+use Rattle.jg_lists.specs.ByMaker.{named}
 use Rattle.jg_buffers.proofs.buffers.Buffers.pinned_by.Goals as goal
 
 pub returns : goal.returns
 returns g c = λ e stands.
-    let was : Stands (record { lent = map copy_seen c.self.inside.copies.entries ++ map pin_seen c.self.inside.pins.entries }) e = reopened _ _ e c.self.view_is stands in
+    let was : Stands (record { lent = map copy_seen c.self.inside.copies.entries ++ map pin_seen (named c.self.inside.pins) }) e = reopened _ _ e c.self.view_is stands in
     rw (c.count_of.ensures, c.via_key.ensures, c.self.invariant.by_via c.args.reference)
-    (some_counted (λ f. same_ref f.1.via c.args.reference) c.self.inside.pins.entries
-    ∙ pin_law (λ b. same_ref b.via c.args.reference) (λ b items. refl) c.self.inside.copies.entries c.self.inside.pins.entries e was)
+    (some_counted (λ f. same_ref f.1.via c.args.reference) (named c.self.inside.pins)
+    ∙ pin_law (λ b. same_ref b.via c.args.reference) (λ b items. refl) c.self.inside.copies.entries (named c.self.inside.pins) e was)

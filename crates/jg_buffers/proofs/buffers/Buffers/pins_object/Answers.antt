@@ -3,9 +3,10 @@ use Rattle.jg_buffers.specs.Standing.{Stands}
 use Rattle.jg_buffers.specs.Seen.{copy_seen, pin_seen}
 use Rattle.jg_buffers.proofs.Lookups.{reopened}
 use Rattle.jg_buffers.proofs.Pins.{object_law}
+use Rattle.jg_lists.specs.ByMaker.{named}
 use Rattle.jg_buffers.proofs.buffers.Buffers.pins_object.Goals as goal
 
 pub returns : goal.returns
 returns g c = λ e stands.
-    let was : Stands (record { lent = map copy_seen c.self.inside.copies.entries ++ map pin_seen c.self.inside.pins.entries }) e = reopened _ _ e c.self.view_is stands in
-    rw c.names_object.ensures (object_law c.args.object.0 c.self.inside.copies.entries c.self.inside.pins.entries e was)
+    let was : Stands (record { lent = map copy_seen c.self.inside.copies.entries ++ map pin_seen (named c.self.inside.pins) }) e = reopened _ _ e c.self.view_is stands in
+    rw c.names_object.ensures (object_law c.args.object.0 c.self.inside.copies.entries (named c.self.inside.pins) e was)

@@ -1,7 +1,8 @@
 use Rattle.std.proofs.Common.{refl, ◌∙◌}
 use Rattle.std.specs.Prelude.{map}
 use Rattle.jg_globals.specs.Standing.{Stands}
-use Rattle.jg_globals.specs.Seen.{named, strong_seen, weak_seen}
+use Rattle.jg_lists.specs.ByMaker.{named}
+use Rattle.jg_globals.specs.Seen.{strong_seen, weak_seen}
 use Rattle.jg_globals.proofs.Lookups.{reopened, holds_law}
 use Rattle.jg_globals.proofs.globals.Globals.holds_object.Goals as goal
 

@@ -1,5 +1,5 @@
 use Rattle.std.proofs.lemmas.Result.{on_ok_weaker}
-use Rattle.jg_globals.specs.Seen.{named}
+use Rattle.jg_lists.specs.ByMaker.{named}
 use Rattle.jg_globals.proofs.Listed.{listed_law}
 use Rattle.jg_globals.proofs.globals.Globals.list.Goals as goal
 

@@ -1,7 +1,8 @@
 use Rattle.std.proofs.Common.{refl}
 use Rattle.std.specs.Prelude.{map}
 use Rattle.jg_globals.specs.Standing.{Stands}
-use Rattle.jg_globals.specs.Seen.{name, named, strong_seen, weak_seen}
+use Rattle.jg_lists.specs.ByMaker.{named}
+use Rattle.jg_globals.specs.Seen.{strong_seen, weak_seen}
 use Rattle.jg_globals.proofs.Lookups.{reopened, above_in}
 use Rattle.jg_globals.proofs.Numbers.{strong_number}
 use Rattle.jg_globals.proofs.Steps.{make_strong_law, strong_absent}
@@ -17,9 +18,9 @@ pub returns-clause-ok : goal.returns-clause-ok
 returns-clause-ok g c = λ e stands.
     let was : Stands (record { strong = map strong_seen (named c.self.inside.strong); weak = map weak_seen (named c.self.inside.weak) }) e = reopened _ _ e c.self.view_is stands in
     let above = above_in _ _ c.args.maker.0 c.args.n c.self.view_is c.requires in
-    make_strong_law _ e c.args.maker.0 c.args.n c.args.object (named c.self.inside.strong) (named c.add.new.rows) refl c.in_ok-add.ensures.ok above was
+    make_strong_law _ e c.args.maker.0 c.args.n c.args.object (named c.self.inside.strong) (named c.add.new.tables) refl c.in_ok-add.ensures.ok above was
 
 -- no other number is there
 pub returns-clause-numbers : goal.returns-clause-numbers
 returns-clause-numbers g c = λ k i above below.
-    strong_number _ (name c.args.maker.0 c.args.n) c.args.object (named c.self.inside.strong) (named c.add.new.rows) k i refl c.in_ok-add.ensures.ok (above_in _ _ k i c.self.view_is above) below
+    strong_number _ (c.args.maker.0, c.args.n) c.args.object (named c.self.inside.strong) (named c.add.new.tables) k i refl c.in_ok-add.ensures.ok (above_in _ _ k i c.self.view_is above) below

@@ -5,29 +5,29 @@ use Rattle.jg_lists.proofs.Seats.{once, has_place, within, own_seat, found, writ
 use Rattle.jg_lists.proofs.by_thread.ByThread.value_mut.Goals as goal
 
 pub overflow_sub-place : goal.overflow_sub-place
-overflow_sub-place g c = has_place seen c.self.inside.places.items c.self.inside.seats.items c.args.self.now c.args.tid c.place_of-place.result c.self.invariant c.self.view_is c.place_of-place.ensures c.requires
+overflow_sub-place g c = has_place seen c.self.inside.places.items c.self.inside.seats.items c.args.self.now c.args.tid c.number_at-place.result c.self.invariant c.self.view_is c.number_at-place.ensures c.requires
 
 pub index_mut-requires : goal.index_mut-requires
 index_mut-requires g c =
-    omega (arith, within seen c.self.inside.places.items c.self.inside.seats.items c.args.tid c.place_of-place.result c.self.invariant c.place_of-place.ensures (overflow_sub-place g c), c.self.inside.seats.ok)
+    omega (arith, within seen c.self.inside.places.items c.self.inside.seats.items c.args.tid c.number_at-place.result c.self.invariant c.number_at-place.ensures (overflow_sub-place g c), c.self.inside.seats.ok)
 
 pub invariant_of-self-lent : goal.invariant_of-self-lent
 invariant_of-self-lent g c w =
-    placed_written seen c.self.inside.places.items c.self.inside.seats.items (c.place_of-place.result - 1) c.index_mut.result.now (record { tid = c.index_mut.result.now.tid; value = w }) c.self.invariant
-    (within seen c.self.inside.places.items c.self.inside.seats.items c.args.tid c.place_of-place.result c.self.invariant c.place_of-place.ensures
-    (has_place seen c.self.inside.places.items c.self.inside.seats.items c.args.self.now c.args.tid c.place_of-place.result c.self.invariant c.self.view_is c.place_of-place.ensures c.requires))
+    placed_written seen c.self.inside.places.items c.self.inside.seats.items (c.number_at-place.result - 1) c.index_mut.result.now (record { tid = c.index_mut.result.now.tid; value = w }) c.self.invariant
+    (within seen c.self.inside.places.items c.self.inside.seats.items c.args.tid c.number_at-place.result c.self.invariant c.number_at-place.ensures
+    (has_place seen c.self.inside.places.items c.self.inside.seats.items c.args.self.now c.args.tid c.number_at-place.result c.self.invariant c.self.view_is c.number_at-place.ensures c.requires))
     (ap (λ (s : Seat g.row.V.Denot). s.tid) (sym c.index_mut.ensures.value))
 
 pub returns : goal.returns
 returns g c =
-    let some = has_place seen c.self.inside.places.items c.self.inside.seats.items c.args.self.now c.args.tid c.place_of-place.result c.self.invariant c.self.view_is c.place_of-place.ensures c.requires in
+    let some = has_place seen c.self.inside.places.items c.self.inside.seats.items c.args.self.now c.args.tid c.number_at-place.result c.self.invariant c.self.view_is c.number_at-place.ensures c.requires in
     let mine = ap (λ (s : Seat g.row.V.Denot). s.tid) c.index_mut.ensures.value
-    ∙ own_seat seen c.self.inside.places.items c.self.inside.seats.items c.args.tid c.place_of-place.result c.index_mut.result.now c.self.invariant c.place_of-place.ensures some in
-    let value = found seen c.self.inside.places.items c.self.inside.seats.items c.args.self.now c.args.tid c.place_of-place.result c.index_mut.result.now c.self.invariant c.self.view_is c.place_of-place.ensures some in (
+    ∙ own_seat seen c.self.inside.places.items c.self.inside.seats.items c.args.tid c.number_at-place.result c.index_mut.result.now c.self.invariant c.number_at-place.ensures some in
+    let value = found seen c.self.inside.places.items c.self.inside.seats.items c.args.self.now c.args.tid c.number_at-place.result c.index_mut.result.now c.self.invariant c.self.view_is c.number_at-place.ensures some in (
       (
         refl,
-        λ w. written seen c.self.inside.places.items c.self.inside.seats.items c.args.self.now c.args.tid c.place_of-place.result c.index_mut.result.now (record { tid = c.index_mut.result.now.tid; value = w }) w c.self.invariant
-            c.self.view_is c.place_of-place.ensures some (ap (λ k. (k, w)) mine),
+        λ w. written seen c.self.inside.places.items c.self.inside.seats.items c.args.self.now c.args.tid c.number_at-place.result c.index_mut.result.now (record { tid = c.index_mut.result.now.tid; value = w }) w c.self.invariant
+            c.self.view_is c.number_at-place.ensures some (ap (λ k. (k, w)) mine),
       ),
       record {
         writes_back = tt;
