@@ -1,6 +1,6 @@
 -- The objects that stand beside a thread's slots.
-use Rattle.std.proofs.Common.{◌≡◌, ℕ, zero, suc, ◌<◌, ◌≤◌, ◌+◌, ◌^◌, length, get_or, take, Bool, true, false, List, [], ◌∷◌, ◌++◌, None, refl, ◌∙◌, ap, sym, arith, inl, inr}
-use Rattle.std.specs.Prelude.{◌⊎◌, ◌==◌, ◌&&◌, ◌||◌, if◌then◌else◌, filter, map, slice_get, slice_set}
+use Rattle.std.proofs.Common.{◌≡◌, ℕ, suc, ◌<◌, ◌≤◌, ◌+◌, ◌^◌, length, get_or, take, Bool, true, false, List, [], ◌∷◌, ◌++◌, None, refl, ◌∙◌, ap, sym, arith, inl, inr}
+use Rattle.std.specs.Prelude.{◌⊎◌, ◌==◌, ◌&&◌, ◌||◌, if◌then◌else◌, filter, map, slice_get}
 use Rattle.std.specs.Option.{option_map}
 use Rattle.std.specs.List.{list_any}
 use Rattle.std.proofs.Math.Seq.{take-suc}
@@ -10,7 +10,7 @@ use Rattle.std.proofs.lemmas.List.{map-append}
 use Rattle.std.proofs.lemmas.Option.{slice_get_past}
 use Rattle.jg_lists.specs.Marks.{Marks}
 use Rattle.jg_locals.specs.declared.row.Slot.{Slot}
-use Rattle.jg_locals.specs.Seen.{ended, is_live, named, number}
+use Rattle.jg_locals.specs.Seen.{is_live, named}
 use Rattle.jg_locals.proofs.Numbers.{any_live}
 
 pub named_more : (slots : List Slot) (i : ℕ) (d : Slot) → i < length slots → map named (take i slots) ++ named (get_or slots i d) ∷ [] ≡ map named (take (i + 1) slots)
@@ -39,9 +39,3 @@ marked_at slots old new o few is (inr past) =
 pub marked_live : (slots : List Slot) (old new : List Bool) → length old < 2 ^ 63 → Marks (λ o. list_any (λ x. x == o) (map named slots)) old new
     → Marks (λ o. list_any (λ s. s.object == o) (filter is_live slots)) old new
 marked_live slots old new few are o = marked_at slots old new o few (are o) (cases_lt o (length old))
-
--- a slot that is marked dead keeps its number
-pub numbers_kept : (slots : List Slot) (i : ℕ) (was : Slot) → was ≡ get_or slots i was → map number slots ≡ map number (slice_set slots i (ended was))
-numbers_kept [] i was at = refl
-numbers_kept (s ∷ rest) zero was at = ap (λ (t : Slot). t.n ∷ map number rest) (sym at)
-numbers_kept (s ∷ rest) (suc i) was at = ap (λ ns. s.n ∷ ns) (numbers_kept rest i was at)

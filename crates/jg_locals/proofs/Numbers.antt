@@ -1,6 +1,6 @@
 -- One thread's list of locals: what is found in it, marked in it and cut from it.
 use Rattle.std.proofs.Common.{◌≡◌, ℕ, zero, suc, ◌-◌, ◌<◌, ◌≤◌, length, get_or, Bool, true, false, List, [], ◌∷◌, ◌++◌, Option, Some, None, refl, ◌∙◌, ap, sym, subst, arith, inl, inr}
-use Rattle.std.specs.Prelude.{◌⊎◌, ◌==◌, ◌&&◌, ◌||◌, not, if◌then◌else◌, nat_lt, map, filter, find, slice_get, slice_set}
+use Rattle.std.specs.Prelude.{◌⊎◌, ◌==◌, ◌&&◌, ◌||◌, not, if◌then◌else◌, filter, find, slice_get, slice_set}
 use Rattle.std.specs.Option.{option_or, option_map, option_to_list}
 use Rattle.std.specs.Ordering.{nat_cmp, ordering_index}
 use Rattle.std.specs.declared.cmp.Ordering.TheVariants.{Less, Equal, Greater}
@@ -11,7 +11,7 @@ use Rattle.std.proofs.lemmas.List.{append-nil}
 use Rattle.std.proofs.lemmas.List.Elements.{filter-append}
 use Rattle.jg_locals.specs.declared.row.Slot.{Slot}
 use Rattle.jg_locals.specs.declared.row.Frame.{Frame}
-use Rattle.jg_locals.specs.Seen.{ended, last, Chain, IsPlaceOf, number, is_live, is_in, is_below, is_before, stays, IsBelowAll, passes, Sound}
+use Rattle.jg_locals.specs.Seen.{ended, last, Chain, is_live, is_in, is_below, is_before, stays, IsBelowAll, passes, Sound}
 use Rattle.jg_locals.proofs.Chains.{each-map, each-front, each-filter, chain-front, chain-filter, chain-last, last-push, last-nil, filter-all, filter-none, filter-alike}
 
 some_or : {X : Type 0} (a : Option X) (x y : X) → option_or a (Some y) ≡ option_or (option_or a (Some y)) (Some x)
@@ -51,39 +51,11 @@ compared n a b le = grind (arith, nat_tests)
 number_later : (s t : Slot) → is_before s t ≡ true → s.n < t.n
 number_later s t is = grind (arith, nat_tests)
 
-later_number : (s t : Slot) → is_before s t ≡ true → nat_lt s.n t.n ≡ true
-later_number s t is = grind (arith, nat_tests)
-
-each_number : (s : Slot) (slots : List Slot) → AllByRecursion (λ t. is_before s t ≡ true) slots → AllByRecursion (λ k. nat_lt s.n k ≡ true) (map number slots)
-each_number s [] all = tt
-each_number s (t ∷ rest) all = (later_number s t all.0, each_number s rest all.1)
-
--- the numbers of the slots ascend
-pub numbers_rise : (slots : List Slot) → Chain is_before slots → Chain nat_lt (map number slots)
-numbers_rise [] chain = tt
-numbers_rise (s ∷ rest) chain = (each_number s rest chain.0, numbers_rise rest chain.1)
-
--- what is so of no number is so of no slot's
-pub none_numbered : (slots : List Slot) (n : ℕ) → AllByRecursion (λ k. (k == n) ≡ false) (map number slots) → AllByRecursion (λ s. (s.n == n) ≡ false) slots
-none_numbered [] n all = tt
-none_numbered (s ∷ rest) n all = (all.0, none_numbered rest n all.1)
-
--- the number's place is its slot's
-pub numbered_at : (slots : List Slot) (n i : ℕ) → IsPlaceOf n (map number slots) i → (i < length slots) × ((s : Slot) → (get_or slots i s).n ≡ n)
-numbered_at [] n i here = absurd (omega (arith, here.0))
-numbered_at (s ∷ rest) n zero here = (omega arith, λ d. here.1 0)
-numbered_at (s ∷ rest) n (suc i) here =
-    let later = numbered_at rest n i (omega (arith, here.0), here.1) in
-    (omega (arith, later.0), later.1)
-
-less_number : (a b : ℕ) → nat_lt a b ≡ true → a ≤ b
-less_number a b is = grind (arith, nat_tests)
-
-rising_by : (numbers : List ℕ) (n i j d : ℕ) → Chain nat_lt numbers → (i < j) ⊎ (i ≡ j) → j < length numbers
-    → ordering_index (nat_cmp (get_or numbers i d) n) ≤ ordering_index (nat_cmp (get_or numbers j d) n)
-rising_by numbers n i j d chain (inl lt) within = compared n (get_or numbers i d) (get_or numbers j d)
-    (less_number (get_or numbers i d) (get_or numbers j d) (chain-at nat_lt numbers i j d chain lt within))
-rising_by numbers n i j d chain (inr same) within = compared n (get_or numbers i d) (get_or numbers j d) (let k = ap (λ m. get_or numbers m d) same in omega (arith, k))
+rising_by : (slots : List Slot) (n i j : ℕ) (d : Slot) → Chain is_before slots → (i < j) ⊎ (i ≡ j) → j < length slots
+    → ordering_index (nat_cmp (get_or slots i d).n n) ≤ ordering_index (nat_cmp (get_or slots j d).n n)
+rising_by slots n i j d chain (inl lt) within = compared n (get_or slots i d).n (get_or slots j d).n
+    (omega (arith, number_later (get_or slots i d) (get_or slots j d) (chain-at is_before slots i j d chain lt within)))
+rising_by slots n i j d chain (inr same) within = compared n (get_or slots i d).n (get_or slots j d).n (let k = ap (λ m. (get_or slots m d).n) same in omega (arith, k))
 
 pub less_or_same : (i j : ℕ) → i ≤ j → (i < j) ⊎ (i ≡ j)
 less_or_same zero zero le = inr refl
@@ -95,8 +67,8 @@ less_or_same (suc i) (suc j) le = later (less_or_same i j (omega (arith, le)))
     later (inl lt) = inl (omega (arith, lt))
     later (inr same) = inr (ap suc same)
 
-rising : (numbers : List ℕ) (n : ℕ) → Chain nat_lt numbers → IsNonDecreasingBy (λ k. ordering_index (nat_cmp k n)) numbers
-rising numbers n chain = λ i j d le within. rising_by numbers n i j d chain (less_or_same i j le) within
+rising : (slots : List Slot) (n : ℕ) → Chain is_before slots → IsNonDecreasingBy (λ s. ordering_index (nat_cmp s.n n)) slots
+rising slots n chain = λ i j d le within. rising_by slots n i j d chain (less_or_same i j le) within
 
 less_is : (a n : ℕ) → nat_cmp a n ≡ Less → (a == n) ≡ false
 less_is a n is = grind (arith, nat_tests)
@@ -116,16 +88,16 @@ low_or_high (suc i) (suc k) = later (low_or_high i k)
     later (inl lt) = inl (omega (arith, lt))
     later (inr le) = inr (omega (arith, le))
 
-parted : (numbers : List ℕ) (n place i d : ℕ) → IsPartitionPoint (λ k. nat_cmp k n ≡ Less) (λ k. nat_cmp k n ≡ Greater) numbers place → i < length numbers → (i < place) ⊎ (place ≤ i)
-    → (get_or numbers i d == n) ≡ false
-parted numbers n place i d point within (inl low) = less_is (get_or numbers i d) n (point.0 i d (omega arith) low)
-parted numbers n place i d point within (inr high) = greater_is (get_or numbers i d) n (point.1 i d high within)
+parted : (slots : List Slot) (n k i : ℕ) (d : Slot) → IsPartitionPoint (λ s. nat_cmp s.n n ≡ Less) (λ s. nat_cmp s.n n ≡ Greater) slots k → i < length slots → (i < k) ⊎ (k ≤ i)
+    → ((get_or slots i d).n == n) ≡ false
+parted slots n k i d point within (inl low) = less_is (get_or slots i d).n n (point.0 i d (omega arith) low)
+parted slots n k i d point within (inr high) = greater_is (get_or slots i d).n n (point.1 i d high within)
 
--- a search that finds no place says that the number isn't there
-pub no_place : (numbers : List ℕ) (n place : ℕ) → Chain nat_lt numbers
-    → (IsNonDecreasingBy (λ k. ordering_index (nat_cmp k n)) numbers → IsPartitionPoint (λ k. nat_cmp k n ≡ Less) (λ k. nat_cmp k n ≡ Greater) numbers place)
-    → AllByRecursion (λ k. (k == n) ≡ false) numbers
-no_place numbers n place chain point = each-from (λ k. (k == n) ≡ false) numbers (λ i d within. parted numbers n place i d (point (rising numbers n chain)) within (low_or_high i place))
+-- a search that finds no place says that no slot has the number
+pub no_place : (slots : List Slot) (n k : ℕ) → Chain is_before slots
+    → (IsNonDecreasingBy (λ s. ordering_index (nat_cmp s.n n)) slots → IsPartitionPoint (λ s. nat_cmp s.n n ≡ Less) (λ s. nat_cmp s.n n ≡ Greater) slots k)
+    → AllByRecursion (λ s. (s.n == n) ≡ false) slots
+no_place slots n k chain point = each-from (λ s. (s.n == n) ≡ false) slots (λ i d within. parted slots n k i d (point (rising slots n chain)) within (low_or_high i k))
 
 pub find-none : {X : Type 0} (p : X → Bool) (xs : List X) → AllByRecursion (λ x. p x ≡ false) xs → find p xs ≡ None
 find-none p [] all = refl

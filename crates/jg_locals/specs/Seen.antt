@@ -35,17 +35,9 @@ ended s = record s { live = false }
 abbrev pub named : Slot → ℕ
 named s = if s.live then s.object else 18446744073709551615
 
-abbrev pub number : Slot → ℕ
-number s = s.n
-
--- each slot's number and object, in lists beside the slots
-pub record StandBeside (slots : List Slot) (numbers objects : List ℕ) : Type 0 where
-  pub numbered : numbers ≡ map number slots
-  pub named : objects ≡ map named slots
-
--- the number stands at the place
-abbrev pub IsPlaceOf : ℕ → List ℕ → ℕ → Type 0
-IsPlaceOf n numbers i = (i < length numbers) × ((k : ℕ) → slice_index_or numbers i k ≡ n)
+-- the local n stands at the place
+abbrev pub IsPlaceOf : ℕ → List Slot → ℕ → Type 0
+IsPlaceOf n slots i = (i < length slots) × ((s : Slot) → (slice_index_or slots i s).n ≡ n)
 
 -- a thread's slots, and for how many more there is room
 pub record SlotsSeen : Type 0 where

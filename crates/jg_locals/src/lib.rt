@@ -4,6 +4,7 @@
 #![tactic(auto)]
 
 mod frames;
+mod hints;
 mod locals;
 mod meanings;
 mod row;

@@ -1,42 +1,41 @@
-ghost use Rattle.std.specs.Prelude.{◌≡◌, ◌≤◌, ◌<◌, ◌+◌, ◌++◌, ◌∷◌, ◌&&◌, ◌==◌, [], nat_lt, IsOk, IsTrue, IfSome, MatchOption, false, OnOk, OnErr, filter, length, map, take, slice_index_or, slice_set, option_to_list, vec_capacity};
+ghost use Rattle.std.specs.Prelude.{◌≡◌, ◌≤◌, ◌<◌, ◌+◌, ◌++◌, ◌∷◌, ◌&&◌, ◌==◌, [], IsOk, IsTrue, IfSome, MatchOption, false, OnOk, OnErr, filter, length, map, take, slice_index_or, slice_set, option_to_list, vec_capacity};
 ghost use Rattle.std.specs.List.{AllByRecursion, list_any};
 ghost use Rattle.jg_lists.specs.Marks.{Marks};
-ghost use Rattle.jg_locals.specs.Seen.{Chain, IsPlaceOf, is_before, is_live, number, named, ended};
+ghost use Rattle.jg_locals.specs.Seen.{Chain, IsPlaceOf, is_before, is_live, named, ended};
 
+use crate::hints::Hints;
 use crate::row::Slot;
 use jg_lists::ObjectMarks;
 use std::alloc::{AllocError, Allocator};
 use std::cell::Cell;
 use std::marker::Model;
 
-/// A thread's slots, and beside them their numbers, so that a search reads these alone, and the objects
-/// that the live ones name, so that a collection does. Contracts see the slots, and for how many more
-/// there is room.
+/// A thread's slots, and beside them the objects that the live ones name, so that a collection reads
+/// these alone. Contracts see the slots, and for how many more there is room.
 #[derive(Drop)]
 pub struct SlotList<A: Allocator> {
     slots: Vec<Slot, A>,
-    /// The number of each slot.
-    numbers: Vec<u64, A>,
     /// The object of each slot; of a dead one the greatest number, at which there is no mark.
     objects: Vec<u64, A>,
     /// Where a local was found last, since a call's operand is asked for more than once. It is a guess,
     /// which each look-up checks.
     recent: Cell<usize>,
+    /// Where each local may stand, since a search in a long list waits for memory at each step.
+    hints: Hints<A>,
 }
 
 impl<A: Allocator> Model for SlotList<A> {
     ghost use Rattle.std.specs.Prelude.{◌≡◌, ◌-◌, map, min, vec_len, vec_capacity};
-    ghost use Rattle.jg_locals.specs.Seen.{SlotsSeen, StandBeside};
+    ghost use Rattle.jg_locals.specs.Seen.{SlotsSeen, named};
 
     ghost Value = { SlotsSeen };
 
     ghost view = { λ a. record {
       items = a.slots.items;
-      room = min (vec_capacity a.slots - vec_len a.slots)
-          (min (vec_capacity a.numbers - vec_len a.numbers) (vec_capacity a.objects - vec_len a.objects));
+      room = min (vec_capacity a.slots - vec_len a.slots) (vec_capacity a.objects - vec_len a.objects);
     } };
 
-    ghost invariant = { λ a. StandBeside a.slots.items a.numbers.items a.objects.items };
+    ghost invariant = { λ a. a.objects.items ≡ map named a.slots.items };
 }
 
 /// The object that the slot names, if it is live.
@@ -46,52 +45,55 @@ fn named(slot: Slot) -> u64
     if slot.live { slot.object } else { u64::MAX }
 }
 
-/// Whether the number stands at the place.
-fn stands_at(numbers: &[u64], place: usize, n: u64) -> bool
-    ensures { IsTrue result → IsPlaceOf n numbers.now place }
+/// Whether the local `n` stands at the place.
+fn stands_at(slots: &[Slot], place: usize, n: u64) -> bool
+    ensures { IsTrue result → IsPlaceOf n slots.now place }
 {
-    match numbers.get(place) {
-        Some(number) => *number == n,
+    match slots.get(place) {
+        Some(slot) => slot.n == n,
         None => false,
     }
 }
 
-/// Where the number stands, if none is missing from the first up to it.
-fn place_in_row(numbers: &[u64], n: u64) -> Option<usize>
-    ensures { IfSome result (IsPlaceOf n numbers.now) }
+/// Where the local `n` stands, if none is missing from the oldest up to it.
+fn place_in_row(slots: &[Slot], n: u64) -> Option<usize>
+    ensures { IfSome result (IsPlaceOf n slots.now) }
 {
-    let place = n.checked_sub(*numbers.first()?)? as usize;
-    if stands_at(numbers, place, n) {
+    let place = n.checked_sub(slots.first()?.n)? as usize;
+    if stands_at(slots, place, n) {
         Some(place)
     } else {
         None
     }
 }
 
-/// Where the number stands.
-fn place_among(numbers: &[u64], n: u64) -> Option<usize>
-    requires { Chain nat_lt numbers.now }
-    ensures { MatchOption result (AllByRecursion (λ k. (k == n) ≡ false) numbers.now) (IsPlaceOf n numbers.now) }
+/// Where the local `n` stands, if its hint is right.
+fn place_hinted<A: Allocator>(slots: &[Slot], hints: &Hints<A>, n: u64) -> Option<usize>
+    ensures { IfSome result (IsPlaceOf n slots.now) }
 {
-    // Most lists have a local of each number, and then no search is needed.
-    if let Some(place) = place_in_row(numbers, n) {
-        return Some(place);
-    }
-    match numbers.binary_search(&n) {
-        Ok(place) => Some(place),
-        Err(_place) => None,
+    let place = hints.get(n)?;
+    if stands_at(slots, place, n) {
+        Some(place)
+    } else {
+        None
     }
 }
 
-/// Lists the numbers of the slots, for which there is room.
-fn number_all<A: Allocator>(numbers: &mut Vec<u64, A>, slots: &[Slot])
-    requires { length slots.now ≤ vec_capacity numbers.old }
-    ensures items { numbers.new.items ≡ map number slots.now }
-    ensures capacity { vec_capacity numbers.old ≤ vec_capacity numbers.new }
+/// Where the local `n` stands, live or dead.
+fn place_among<A: Allocator>(slots: &[Slot], hints: &Hints<A>, n: u64) -> Option<usize>
+    requires { Chain is_before slots.now }
+    ensures { MatchOption result (AllByRecursion (λ s. (s.n == n) ≡ false) slots.now) (IsPlaceOf n slots.now) }
 {
-    numbers.clear();
-    for slot in slots {
-        numbers.push_reserved(slot.n);
+    // Most lists have a local of each number, and then no search is needed.
+    if let Some(place) = place_in_row(slots, n) {
+        return Some(place);
+    }
+    if let Some(place) = place_hinted(slots, hints, n) {
+        return Some(place);
+    }
+    match slots.binary_search_by_key(&n, |slot| slot.n) {
+        Ok(place) => Some(place),
+        Err(_place) => None,
     }
 }
 
@@ -109,14 +111,14 @@ fn name_all<A: Allocator>(objects: &mut Vec<u64, A>, slots: &[Slot])
 
 impl<A: Allocator> SlotList<A> {
     /// No slots. Takes no memory.
-    pub fn new(slots: A, numbers: A, objects: A) -> SlotList<A>
+    pub fn new(slots: A, places: A, objects: A) -> SlotList<A>
         ensures { result.items ≡ [] }
     {
         SlotList {
             slots: Vec::new(slots),
-            numbers: Vec::new(numbers),
             objects: Vec::new(objects),
             recent: Cell::new(0),
+            hints: Hints::new(places),
         }
     }
 
@@ -133,10 +135,10 @@ impl<A: Allocator> SlotList<A> {
             (λ i. (i < length self.now.items) × ((s : Slot) → (slice_index_or self.now.items i s).n ≡ n)) }
     {
         let recent = self.recent.get();
-        if stands_at(&self.numbers, recent, n) {
+        if stands_at(self.as_slice(), recent, n) {
             return Some(recent);
         }
-        let place = place_among(&self.numbers, n)?;
+        let place = place_among(self.as_slice(), &self.hints, n)?;
         self.recent.set(place);
         Some(place)
     }
@@ -149,7 +151,6 @@ impl<A: Allocator> SlotList<A> {
         ensures has_room { 0 < self.old.room → IsOk result }
     {
         self.slots.try_reserve(1)?;
-        self.numbers.try_reserve(1)?;
         self.objects.try_reserve(1)
     }
 
@@ -161,8 +162,8 @@ impl<A: Allocator> SlotList<A> {
         ensures has_room { 0 < self.old.room → IsOk result }
     {
         self.reserve()?;
+        self.hints.note(slot.n, self.slots.len());
         self.slots.push_reserved(slot);
-        self.numbers.push_reserved(slot.n);
         self.objects.push_reserved(named(slot));
         Ok(())
     }
@@ -186,7 +187,6 @@ impl<A: Allocator> SlotList<A> {
         ensures fewer { 0 < length self.old.items → length self.new.items < length self.old.items }
         ensures room { self.old.room ≤ self.new.room }
     {
-        self.numbers.pop();
         self.objects.pop();
         self.slots.pop()
     }
@@ -197,8 +197,8 @@ impl<A: Allocator> SlotList<A> {
         ensures room { self.old.room ≤ self.new.room }
     {
         self.slots.retain(|slot| slot.live);
-        number_all(&mut self.numbers, &self.slots);
         name_all(&mut self.objects, &self.slots);
+        self.hints.note_all(&self.slots);
     }
 
     /// All slots go, and their memory is given back.
@@ -207,10 +207,9 @@ impl<A: Allocator> SlotList<A> {
     {
         self.slots.clear();
         self.slots.shrink_to_fit();
-        self.numbers.clear();
-        self.numbers.shrink_to_fit();
         self.objects.clear();
         self.objects.shrink_to_fit();
+        self.hints.clear();
     }
 
     /// Marks each object that a live slot names. Objects without a mark are passed over.
