@@ -9,10 +9,10 @@ use Rattle.std.proofs.lemmas.Bool.{lt-ltb}
 use Rattle.jg_heap.specs.declared.body.Object.{Object}
 use Rattle.jg_heap.specs.Making.{Plain}
 use Rattle.jg_heap.specs.Rows.{Row, Rows, row_in, no_row}
-use Rattle.jg_heap.specs.Kept.{row_of, swept_row, ended_row, row_points_at, slot_of_row_holds, live_in, Keeps}
+use Rattle.jg_heap.specs.Kept.{row_of, swept_row, ended_row, row_points_at, slot_of_row_holds, is_there, live_in, unheld_in, Keeps}
 use Rattle.jg_heap.specs.Rows.{row_of_making}
 use Rattle.jg_heap.specs.History.{Event, Collected, count_of, gone_at, held_at, points_at, going}
-use Rattle.jg_heap.specs.Standing.{Stands, standing, row_at, slots_at, MarksRoots, MarksHeld}
+use Rattle.jg_heap.specs.Standing.{Stands, standing, row_at, slots_at, MarksRoots, MarksHeld, AreListed}
 use Rattle.jg_heap.proofs.Lists.{any_filter, any_agree, filter_filter, keep_agree, or_swapped, goes_alike, gone_alike}
 use Rattle.jg_heap.proofs.Pointing.{points_slots}
 use Rattle.jg_heap.proofs.Sweeping.{goes_now, pointing_holds}
@@ -86,10 +86,6 @@ standing_swept k roots e marks new len held ended =
 
 -- ---- the same, from what the store keeps
 
-live_is : {A : Type 0} (items : List (Object A)) (live kept : List ℕ) (rows : Rows) (k : ℕ) (e : List Event) → live ≡ kept → kept ≡ live_in (map row_of items)
-    → record { classes = k; objects = map row_of items } ≡ rows → Stands rows e → live ≡ live_in (standing rows.classes e)
-live_is items live kept rows k e same keeps view stands = same ∙ keeps ∙ ap live_in (ap (λ (r : Rows). r.objects) view ∙ stands)
-
 pub marks_of : {A : Type 0} (items before : List (Object A)) (pointed live pointing : List ℕ) (rows : Rows) (k : ℕ) (e : List Event) (roots : List ℕ) (old mid new : List Bool)
     → before ≡ items → pointed ≡ pointing → Keeps items live pointing → record { classes = k; objects = map row_of items } ≡ rows → Stands rows e
     → length mid ≡ length old → length new ≡ length mid
@@ -98,29 +94,43 @@ pub marks_of : {A : Type 0} (items before : List (Object A)) (pointed live point
     → MarksRoots rows.classes roots e old → MarksHeld rows.classes roots e new
 marks_of items before pointed live pointing rows k e roots old mid new is same keeps view stands n m classes slots was =
     let base : map row_of items ≡ standing rows.classes e = ap (λ (r : Rows). r.objects) view ∙ stands in
-    let all : live ≡ live_in (standing rows.classes e) = live_is items live live rows k e refl keeps.live view stands in
     marks_held rows.classes roots e old new (m ∙ n) was
     (λ o h. slots o (omega (arith, h, n)) ∙ ap (λ b. b || list_any (slot_of_row_holds (map row_of before) o) pointed) (classes o h)
     ∙ ap (λ c. (get_or old o false || ltb o c) || list_any (slot_of_row_holds (map row_of before) o) pointed) (ap (λ (r : Rows). r.classes) view)
     ∙ ap (λ b. (get_or old o false || ltb o rows.classes) || b)
     (ap (λ (xs : List (Object _)). list_any (slot_of_row_holds (map row_of xs) o) pointed) is ∙ ap (list_any (slot_of_row_holds (map row_of items) o)) same ∙ pointing_holds items live pointing o keeps
-    ∙ ap (λ (rs : List Row). list_any (slot_of_row_holds rs o) live) base ∙ ap (list_any (slot_of_row_holds (standing rows.classes e) o)) all))
+    ∙ ap (λ (rs : List Row). list_any (slot_of_row_holds rs o) (live_in rs)) base))
 
-pub list_of_unmarked : {A : Type 0} (items : List (Object A)) (live kept : List ℕ) (rows : Rows) (k : ℕ) (e : List Event) (roots : List ℕ) (marks : List Bool) → live ≡ kept
-    → kept ≡ live_in (map row_of items) → record { classes = k; objects = map row_of items } ≡ rows → Stands rows e
-    → MarksHeld rows.classes roots e marks → filter (λ o. not (get_or marks o false)) live ≡ going rows.classes roots e
-list_of_unmarked items live kept rows k e roots marks same keeps view stands held =
-    ap (filter (λ o. not (get_or marks o false))) (live_is items live kept rows k e same keeps view stands) ∙ unmarked_going rows.classes roots e marks held
+-- those of `live` that aren't gone and aren't marked are those in being that aren't marked
+pub listed : {A : Type 0} (items before : List (Object A)) (live kept pointing : List ℕ) (rows : Rows) (k : ℕ) (marks : List Bool) → before ≡ items → live ≡ kept → Keeps items kept pointing
+    → record { classes = k; objects = map row_of items } ≡ rows → filter (unheld_in (map row_of before) marks) live ≡ filter (λ o. not (get_or marks o false)) (live_in rows.objects)
+listed items before live kept pointing rows k marks is same keeps view =
+    let unmarked : ℕ → Bool = λ o. not (get_or marks o false) in
+    ap (λ (xs : List (Object _)). filter (unheld_in (map row_of xs) marks) live) is
+    ∙ ap (filter (unheld_in (map row_of items) marks)) same
+    ∙ sym (filter_filter unmarked (is_there (map row_of items)) kept)
+    ∙ ap (filter unmarked) (keeps.live ∙ ap (λ (r : Rows). live_in r.objects) view)
 
-pub rows_swept : {A : Type 0} (items before new : List (Object A)) (live kept : List ℕ) (rows : Rows) (k : ℕ) (e : List Event) (roots : List ℕ) (marks : List Bool)
-    → before ≡ items → live ≡ kept → kept ≡ live_in (map row_of items) → record { classes = k; objects = map row_of items } ≡ rows → Stands rows e → length new ≡ length before
-    → ((o : ℕ) → row_in (map row_of new) o ≡ ended_row (list_any (λ p. not (get_or marks p false) && eqb p o) live) (row_in (map row_of before) o))
+-- and so what goes
+pub list_goes : (rows : Rows) (e : List Event) (roots : List ℕ) (marks : List Bool) → Stands rows e → MarksHeld rows.classes roots e marks
+    → filter (λ o. not (get_or marks o false)) (live_in rows.objects) ≡ going rows.classes roots e
+list_goes rows e roots marks stands held =
+    ap (λ (rs : List Row). filter (λ o. not (get_or marks o false)) (live_in rs)) stands ∙ unmarked_going rows.classes roots e marks held
+
+-- which go, where they are listed
+pub goes_listed : (rows : List Row) (marks : List Bool) (unheld : List ℕ) (o : ℕ) → unheld ≡ filter (λ p. not (get_or marks p false)) (live_in rows)
+    → list_any (λ p. eqb p o) unheld ≡ list_any (λ p. not (get_or marks p false) && eqb p o) (live_in rows)
+goes_listed rows marks unheld o is = ap (list_any (λ p. eqb p o)) is ∙ any_filter (λ p. eqb p o) (λ p. not (get_or marks p false)) (live_in rows)
+
+pub rows_swept : {A : Type 0} (items before new : List (Object A)) (unheld : List ℕ) (rows : Rows) (k : ℕ) (e : List Event) (roots : List ℕ) (marks : List Bool)
+    → before ≡ items → record { classes = k; objects = map row_of items } ≡ rows → AreListed rows marks unheld → Stands rows e → length new ≡ length before
+    → ((o : ℕ) → row_in (map row_of new) o ≡ ended_row (list_any (λ p. eqb p o) unheld) (row_in (map row_of before) o))
     → MarksHeld rows.classes roots e marks → map row_of new ≡ standing k (Collected roots ∷ e)
-rows_swept items before new live kept rows k e roots marks is same keeps view stands len ended held =
+rows_swept items before new unheld rows k e roots marks is view all stands len ended held =
     let base : map row_of before ≡ standing rows.classes e = ap (map row_of) is ∙ ap (λ (r : Rows). r.objects) view ∙ stands in
-    let all : live ≡ live_in (standing rows.classes e) = live_is items live kept rows k e same keeps view stands in
+    let unmarked : ℕ → Bool = λ o. not (get_or marks o false) in
     standing_swept rows.classes roots e marks (map row_of new) (length-map new row_of ∙ len ∙ sym (length-map before row_of) ∙ ap length base ∙ length-standing rows.classes e) held
-    (λ o. ended o ∙ ap (λ (os : List ℕ). ended_row (list_any (λ p. not (get_or marks p false) && eqb p o) os) (row_in (map row_of before) o)) all
+    (λ o. ended o ∙ ap (λ b. ended_row b (row_in (map row_of before) o)) (goes_listed (standing rows.classes e) marks unheld o (all ∙ ap (λ (rs : List Row). filter unmarked (live_in rs)) stands))
     ∙ ap (λ (rs : List Row). ended_row (list_any (λ p. not (get_or marks p false) && eqb p o) (live_in (standing rows.classes e))) (row_in rs o)) base)
     ∙ ap (λ c. standing c (Collected roots ∷ e)) (sym (ap (λ (r : Rows). r.classes) view))
 

@@ -4,7 +4,7 @@ use Rattle.std.specs.Prelude.{All, filter}
 use Rattle.std.specs.List.{list_any, range_with_len}
 use Rattle.std.proofs.lemmas.Bool.{or_cases, or_left, or_right, cases_Bool, eq-eqb, eqb-true}
 use Rattle.std.proofs.lemmas.List.{map-id}
-use Rattle.std.proofs.lemmas.List.Elements.{All-filter, All-from_get_or, All-head, All-tail}
+use Rattle.std.proofs.lemmas.List.Elements.{All-filter, All-from_get_or}
 use Rattle.std.proofs.lemmas.List.Folds.{list_any_at}
 use Rattle.std.proofs.lemmas.List.Filters.{length-filter_both}
 use Rattle.std.proofs.lemmas.Map.Views.{any-filter_same}
@@ -51,12 +51,22 @@ filter_filter p q (x ∷ xs) =
       | inr drops ↦ rw (drops) (filter_filter p q xs)
     ]
 
--- a test that all pass keeps all
-pub keeps_all : {X : Type 0} (p : X → Bool) (xs : List X) → All (λ x. p x ≡ true) xs → xs ≡ filter p xs
-keeps_all p [] h = refl
-keeps_all p (x ∷ xs) h = rw (All-head (λ y. p y ≡ true) x xs h) (ap (λ ys. x ∷ ys) (keeps_all p xs (All-tail (λ y. p y ≡ true) x xs h)))
-
 -- two tests that agree on numbers in a row
+-- two tests that agree at each of the numbers keep the same
+pub keep_alike : (p q : ℕ → Bool) (xs : List ℕ) → All (λ o. p o ≡ q o) xs → filter p xs ≡ filter q xs
+keep_alike p q [] all = refl
+keep_alike p q (x ∷ xs) all = rw (all 0 0 (omega arith), keep_alike p q xs (λ i d h. all (suc i) d (omega (arith, h)))) refl
+
+and_absorbed : (m k : Bool) → (k ≡ true → m ≡ true) → (m && k) ≡ k
+and_absorbed true k h = refl
+and_absorbed false true h = h refl
+and_absorbed false false h = refl
+
+-- what is kept where only marked ones are, among those that are marked
+pub kept_through : (marked keeps : ℕ → Bool) (xs : List ℕ) → All (λ o. keeps o ≡ true → marked o ≡ true) xs → filter keeps (filter marked xs) ≡ filter keeps xs
+kept_through marked keeps xs all =
+    filter_filter keeps marked xs ∙ keep_alike (λ o. marked o && keeps o) keeps xs (λ i d h. and_absorbed (marked (get_or xs i d)) (keeps (get_or xs i d)) (all i d h))
+
 pub any_agree : (p q : ℕ → Bool) (a n : ℕ) → ((o : ℕ) → o < a + n → p o ≡ q o) → list_any p (range_with_len a n) ≡ list_any q (range_with_len a n)
 any_agree p q a zero h = refl
 any_agree p q a (suc n) h = rw (h a (omega arith), any_agree p q (a + 1) n (λ o l. h o (omega arith))) refl

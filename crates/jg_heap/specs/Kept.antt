@@ -1,5 +1,5 @@
 -- The rows of the objects that the store keeps, and what a call does to one row.
-use Rattle.std.specs.Prelude.{ℕ, ◌≡◌, Bool, true, false, not, ◌&&◌, ◌||◌, List, [], ◌+◌, ◌++◌, length, take, drop, map, filter, slice_set, slice_index_or}
+use Rattle.std.specs.Prelude.{ℕ, ◌≡◌, ◌<◌, All, Bool, true, false, not, ◌&&◌, ◌||◌, List, [], ◌+◌, ◌++◌, length, take, drop, map, filter, slice_set, slice_index_or}
 use Rattle.std.specs.List.{list_any, range_with_len}
 use Rattle.jg_heap.specs.declared.object.Slot.{Slot}
 use Rattle.jg_heap.specs.declared.object.Slot.TheVariants.{Number, Object as ToObject}
@@ -76,15 +76,24 @@ swept_row marked row = record row { gone = row.gone || not marked }
 abbrev pub ended_row : Bool → Row → Row
 ended_row goes row = record row { gone = row.gone || goes }
 
+-- the object isn't gone
+abbrev pub is_there : List Row → ℕ → Bool
+is_there rows o = not (row_in rows o).gone
+
 -- the numbers of the objects that aren't gone, ascending
 abbrev pub live_in : List Row → List ℕ
-live_in rows = filter (λ o. not (row_in rows o).gone) (range_with_len 0 (length rows))
+live_in rows = filter (is_there rows) (range_with_len 0 (length rows))
+
+-- it isn't gone, and its mark isn't set
+abbrev pub unheld_in : List Row → List Bool → ℕ → Bool
+unheld_in rows marks o = is_there rows o && not (slice_index_or marks o false)
 
 -- the slots of the object of this number may hold objects
 abbrev pub may_point_at : {A : Type 0} → List (Object A) → ℕ → Bool
 may_point_at objects o = slice_index_or (map may_point objects) o false
 
--- what the store keeps beside the objects: which aren't gone, and which of these may point at others
+-- what the store keeps beside the objects: those that aren't gone, among others, and which of these may point at others
 pub record Keeps {A : Type 0} (objects : List (Object A)) (numbers pointers : List ℕ) : Type 0 where
-  pub live : numbers ≡ live_in (map row_of objects)
-  pub pointing : pointers ≡ filter (may_point_at objects) numbers
+  pub within : All (λ p. p < length objects) numbers
+  pub live : filter (is_there (map row_of objects)) numbers ≡ live_in (map row_of objects)
+  pub pointing : pointers ≡ filter (may_point_at objects) (live_in (map row_of objects))

@@ -1,8 +1,8 @@
-ghost use Rattle.std.specs.Prelude.{◌≡◌, ℕ, ◌<◌, ◌≤◌, ◌^◌, All, false, true, not, ◌&&◌, ◌==◌, ◌↔◌, IsTrue, OnOk, Some, length, slice_get, slice_index_or, nat_lt, map, filter, take};
+ghost use Rattle.std.specs.Prelude.{◌≡◌, ℕ, ◌<◌, ◌≤◌, ◌^◌, All, false, true, not, ◌&&◌, ◌==◌, Bool, OnOk, length, slice_index_or, nat_lt, map, filter};
 ghost use Rattle.std.specs.List.{list_any};
 ghost use Rattle.jg_heap.specs.declared.object.Slot.TheVariants.{Object as ToObject};
 ghost use Rattle.jg_heap.specs.History.{holds};
-ghost use Rattle.jg_heap.specs.Kept.{slots_of_body, row_of, ended_row, slot_of_row_holds, may_point};
+ghost use Rattle.jg_heap.specs.Kept.{slots_of_body, row_of, ended_row, slot_of_row_holds, may_point, unheld_in};
 ghost use Rattle.jg_heap.specs.Rows.{row_in};
 ghost use Rattle.jg_lists.specs.Marks.{Marks};
 
@@ -83,18 +83,28 @@ pub(crate) fn mark_pointed<A: Allocator>(
     }
 }
 
-/// Lists those in being that aren't marked.
-pub(crate) fn list_unmarked<A: Allocator>(
-    marks: &ObjectMarks<A>,
-    live: &[u64],
-    unmarked: &mut Vec<u64, A>,
-) -> Result<(), AllocError>
-    ensures { OnOk result (unmarked.new.items ≡ filter (λ o. not (slice_index_or marks.now o false)) live.now) }
+/// Whether the object isn't gone and isn't marked.
+fn is_unheld<A: Allocator>(marks: &ObjectMarks<A>, objects: &[Object<A>], object: u64) -> bool
+    requires { object < length objects.now }
+    ensures { result ≡ unheld_in (map row_of objects.now) marks.now object }
 {
-    unmarked.clear();
+    !marks.is_set(object) && !objects[object as usize].gone
+}
+
+/// Lists those of `live` that aren't gone and aren't marked.
+pub(crate) fn list_unheld<A: Allocator>(
+    marks: &ObjectMarks<A>,
+    objects: &[Object<A>],
+    live: &[u64],
+    unheld: &mut Vec<u64, A>,
+) -> Result<(), AllocError>
+    requires { All (λ p. p < length objects.now) live.now }
+    ensures { OnOk result (unheld.new.items ≡ filter (unheld_in (map row_of objects.now) marks.now) live.now) }
+{
+    unheld.clear();
     for object in live {
-        if !marks.is_set(*object) {
-            unmarked.push(*object)?;
+        if is_unheld(marks, objects, *object) {
+            unheld.push(*object)?;
         }
     }
     Ok(())
@@ -110,65 +120,40 @@ fn let_go<A: Allocator>(objects: &mut [Object<A>], object: u64)
     objects[object as usize].gone = true;
 }
 
-/// How many are marked before the first that isn't.
-fn count_marked_first<A: Allocator>(marks: &ObjectMarks<A>, live: &[u64]) -> usize
-    ensures marked { All (λ p. slice_index_or marks.now p false ≡ true) (take result live.now) }
-    ensures within { result ≤ length live.now }
-{
-    for at in 0..live.len() {
-        if !marks.is_set(live[at]) {
-            return at;
-        }
-    }
-    live.len()
-}
-
-/// Whether the object is the one that stands there.
-fn is_at(numbers: &[u64], place: usize, object: u64) -> bool
-    ensures { IsTrue result ↔ (slice_get numbers.now place ≡ Some object) }
-{
-    match numbers.get(place) {
-        Some(number) => *number == object,
-        None => false,
-    }
-}
-
-/// Lets go of those in being that aren't marked, which are listed, and moves the numbers of the others
-/// to the front of `live`. Answers how many these are. The list saves a look at each mark.
-pub(crate) fn keep_marked<A: Allocator>(
-    objects: &mut [Object<A>],
-    live: &mut [u64],
-    marks: &ObjectMarks<A>,
-    unmarked: &[u64],
-) -> usize
-    requires within { All (λ p. p < length objects.old) live.old }
-    requires listed { unmarked.now ≡ filter (λ o. not (slice_index_or marks.now o false)) live.old }
-    ensures kept { take result live.new ≡ filter (λ o. slice_index_or marks.now o false) live.old }
+/// Lets go of each of the objects.
+pub(crate) fn let_all_go<A: Allocator>(objects: &mut [Object<A>], unheld: &[u64])
+    requires { All (λ p. p < length objects.old) unheld.now }
     ensures rows { (o : ℕ) → row_in (map row_of objects.new) o
-        ≡ ended_row (list_any (λ p. not (slice_index_or marks.now p false) && p == o) live.old)
-        (row_in (map row_of objects.old) o) }
+        ≡ ended_row (list_any (λ p. p == o) unheld.now) (row_in (map row_of objects.old) o) }
     ensures pointing { map may_point objects.new ≡ map may_point objects.old }
 {
-    // What is old is mostly kept, and needn't be moved.
-    let first = count_marked_first(marks, live);
-    let mut kept = first;
-    let mut next = 0;
-    for at in first..live.len() {
-        let object = live[at];
-        if is_at(unmarked, next, object) {
-            let_go(objects, object);
-            next += 1;
-        } else {
-            live[kept] = object;
-            kept += 1;
-        }
+    for object in unheld {
+        let_go(objects, *object);
     }
-    kept
 }
 
 /// Keeps the numbers of those that are marked.
-pub(crate) fn retain_marked<A: Allocator>(pointing: &mut Vec<u64, A>, marks: &ObjectMarks<A>)
-    ensures { pointing.new.items ≡ filter (λ o. slice_index_or marks.now o false) pointing.old.items }
+pub(crate) fn retain_marked<A: Allocator>(numbers: &mut Vec<u64, A>, marks: &ObjectMarks<A>)
+    ensures { numbers.new.items ≡ filter (λ o. slice_index_or marks.now o false) numbers.old.items }
 {
-    pointing.retain(|object| marks.is_set(*object));
+    numbers.retain(|object| marks.is_set(*object));
+}
+
+/// Keeps the numbers of those that are marked, if more than a part of 32 and eight may be of what is
+/// gone, so that a collection goes over few in vain. `stale` is how many may be, and so is the answer.
+pub(crate) fn close_up_if<A: Allocator>(
+    live: &mut Vec<u64, A>,
+    marks: &ObjectMarks<A>,
+    stale: usize,
+) -> usize
+    ensures kept { (keeps : ℕ → Bool) → All (λ o. keeps o ≡ true → slice_index_or marks.now o false ≡ true) live.old.items
+        → filter keeps live.new.items ≡ filter keeps live.old.items }
+    ensures within { (n : ℕ) → All (λ o. o < n) live.old.items → All (λ o. o < n) live.new.items }
+{
+    if stale > live.len() / 32 + 8 {
+        retain_marked(live, marks);
+        0
+    } else {
+        stale
+    }
 }

@@ -7,7 +7,9 @@ ghost use Rattle.jg_heap.specs.Rows.{count_in, class_at, length_at, units_at, sl
 ghost use Rattle.jg_heap.specs.Standing.{Stands, MarksRoots, MarksHeld, AreListed};
 
 use crate::body::{Body, Object, object_of};
-use crate::collect::{keep_marked, list_unmarked, mark_classes, mark_pointed, retain_marked};
+use crate::collect::{
+    close_up_if, let_all_go, list_unheld, mark_classes, mark_pointed, retain_marked,
+};
 use crate::object::{Shape, Slot};
 use jg_lists::ObjectMarks;
 use jg_words::ObjId;
@@ -22,8 +24,10 @@ use std::marker::Model;
 pub struct Heap<A: Allocator = Global> {
     class_count: u64,
     objects: Vec<Object<A>, A>,
-    /// The numbers of the objects that aren't gone, ascending.
+    /// The numbers of the objects that aren't gone, ascending, and of some that are.
     live: Vec<u64, A>,
+    /// How many of these may be gone. What is let go of is left there until it is more than a few.
+    stale: usize,
     /// The numbers of those whose slots may hold objects, ascending. A collection looks into no
     /// other.
     pointing: Vec<u64, A>,
@@ -72,6 +76,7 @@ impl<A: Allocator + Clone> Heap<A> {
             class_count,
             objects,
             live,
+            stale: 0,
             pointing,
         })
     }
@@ -263,7 +268,7 @@ impl<A: Allocator> Heap<A> {
     {
         mark_classes(marks, self.class_count);
         mark_pointed(marks, &self.objects, &self.pointing);
-        list_unmarked(marks, &self.live, unheld)?;
+        list_unheld(marks, &self.objects, &self.live, unheld)?;
         Ok(())
     }
 
@@ -276,8 +281,9 @@ impl<A: Allocator> Heap<A> {
         ensures classes { self.new.classes ≡ self.old.classes }
         ensures shapes { KeepsShapes self.old self.new }
     {
-        let kept = keep_marked(&mut self.objects, &mut self.live, marks, unheld);
-        self.live.truncate(kept);
+        let_all_go(&mut self.objects, unheld);
         retain_marked(&mut self.pointing, marks);
+        let stale = self.stale.saturating_add(unheld.len());
+        self.stale = close_up_if(&mut self.live, marks, stale);
     }
 }

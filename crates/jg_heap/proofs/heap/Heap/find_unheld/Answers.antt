@@ -1,10 +1,7 @@
-use Rattle.std.proofs.Common.{◌∙◌, ap, false, get_or, not}
-use Rattle.std.specs.Prelude.{filter}
+use Rattle.std.proofs.Common.{◌∙◌}
 use Rattle.jg_lists.proofs.Marks.{marks_length}
-use Rattle.jg_heap.specs.Kept.{live_in}
-use Rattle.jg_heap.specs.Rows.{Rows}
-use Rattle.jg_heap.proofs.Sweeping.{pointing_within}
-use Rattle.jg_heap.proofs.Collecting.{marks_of, list_of_unmarked}
+use Rattle.jg_heap.proofs.Sweeping.{pointing_within, within}
+use Rattle.jg_heap.proofs.Collecting.{marks_of, listed, list_goes}
 use Rattle.jg_heap.proofs.Marking.{mark_is}
 use Rattle.jg_heap.proofs.heap.Heap.find_unheld.Goals as goal
 
@@ -20,14 +17,15 @@ returns-clause-marks g c e roots stands was =
     (mark_is _ _ _ c.mark_pointed.ensures)
     was
 
-pub returns-clause-unheld : goal.returns-clause-unheld
-returns-clause-unheld g c e roots stands was =
-    c.in_ok-list_unmarked.ensures
-    ∙ list_of_unmarked c.self.inside.objects.items c.deref-3.result.now c.self.inside.live.items c.args.self.now c.self.inside.class_count e roots c.mark_pointed.new.marks
-    c.deref-3.ensures.value c.self.invariant.live c.self.view_is stands
-    (returns-clause-marks g c e roots stands was)
+pub list_unheld-requires : goal.list_unheld-requires
+list_unheld-requires g c = within c.self.inside.objects.items c.deref-3.result.now c.deref-4.result.now c.self.inside.live.items c.deref-3.ensures.value c.deref-4.ensures.value c.self.invariant.within
 
 pub returns-clause-listed : goal.returns-clause-listed
 returns-clause-listed g c =
-    c.in_ok-list_unmarked.ensures
-    ∙ ap (filter (λ o. not (get_or c.mark_pointed.new.marks o false))) (c.deref-3.ensures.value ∙ c.self.invariant.live ∙ ap (λ (r : Rows). live_in r.objects) c.self.view_is)
+    c.in_ok-list_unheld.ensures
+    ∙ listed c.self.inside.objects.items c.deref-3.result.now c.deref-4.result.now c.self.inside.live.items c.self.inside.pointing.items c.args.self.now c.self.inside.class_count c.mark_pointed.new.marks
+    c.deref-3.ensures.value c.deref-4.ensures.value c.self.invariant c.self.view_is
+
+pub returns-clause-unheld : goal.returns-clause-unheld
+returns-clause-unheld g c e roots stands was =
+    returns-clause-listed g c ∙ list_goes c.args.self.now e roots c.mark_pointed.new.marks stands (returns-clause-marks g c e roots stands was)
