@@ -1,6 +1,7 @@
 ghost use Rattle.std.specs.Prelude.{◌≡◌, ◌≤◌};
 
 use super::*;
+use crate::compare::ended_so;
 use jg_guard::{Guard, Refusal};
 use jg_policy::Setup;
 use jg_script::{Verdict, Watched, read_scripts, verify, write_journal};
