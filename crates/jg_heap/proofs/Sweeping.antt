@@ -3,7 +3,8 @@ use Rattle.std.proofs.Common.{ℕ, zero, suc, ◌≡◌, ◌+◌, ◌<◌, ◌�
 use Rattle.std.specs.Prelude.{All, filter}
 use Rattle.std.specs.List.{list_any, range_with_len}
 use Rattle.std.proofs.Math.Seq.{get_or-append_seam}
-use Rattle.std.proofs.lemmas.List.{get_or_append_left, get_or-map, length-map, length-set, map-set, map-append, set-get_or}
+use Rattle.std.proofs.lemmas.List.{get_or_append_left, get_or-map, length-map, length-set, map-set, map-append, set-get_or, drop_more}
+use Rattle.std.proofs.lemmas.List.Filters.{FiltersInPlace}
 use Rattle.std.proofs.lemmas.List.Folds.{list_any_more}
 use Rattle.std.proofs.lemmas.List.Elements.{filter-append, filter_agree, All-append, All-filter}
 use Rattle.std.proofs.lemmas.Bool.{cases_eq, eq-eqb, ne_eqb}
@@ -59,6 +60,10 @@ pub ended_more : (rows : Row) (mid new : Row) (objects : List ℕ) (i o : ℕ) �
     → new ≡ ended_row (eqb (get_or objects i 0) o) mid → new ≡ ended_row (list_any (λ p. eqb p o) (take (i + 1) objects)) rows
 ended_more rows mid new objects i o within is now =
     ended_both rows mid new (list_any (λ p. eqb p o) (take i objects)) (eqb (get_or objects i 0) o) (list_any (λ p. eqb p o) (take (i + 1) objects)) is now (list_any_more (λ p. eqb p o) objects i 0 within)
+
+-- what is read at the place of a loop that keeps some in front
+pub read_on : {p : ℕ → Bool} {xs ys : List ℕ} {k i : ℕ} → FiltersInPlace p xs ys k i → i < length ys → get_or ys i 0 ≡ get_or xs i 0
+read_on {p} {xs} {ys} {k} {i} kept h = ap (λ (l : List ℕ). get_or l 0 0) (sym (drop_more ys i 0 h) ∙ kept.rest ∙ drop_more xs i 0 (omega (arith, kept.long)))
 
 -- ---- the numbers of those that aren't gone
 

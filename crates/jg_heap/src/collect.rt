@@ -1,8 +1,8 @@
-ghost use Rattle.std.specs.Prelude.{◌≡◌, ℕ, ◌<◌, ◌≤◌, ◌^◌, All, false, true, not, ◌&&◌, ◌==◌, Bool, OnOk, length, slice_index_or, nat_lt, map, filter};
+ghost use Rattle.std.specs.Prelude.{◌≡◌, ℕ, ◌<◌, ◌≤◌, ◌^◌, All, false, true, not, ◌&&◌, ◌==◌, Bool, OnOk, length, slice_index_or, nat_lt, map, filter, take};
 ghost use Rattle.std.specs.List.{list_any};
 ghost use Rattle.jg_heap.specs.declared.object.Slot.TheVariants.{Object as ToObject};
 ghost use Rattle.jg_heap.specs.History.{holds};
-ghost use Rattle.jg_heap.specs.Kept.{slots_of_body, row_of, ended_row, slot_of_row_holds, may_point, unheld_in};
+ghost use Rattle.jg_heap.specs.Kept.{slots_of_body, row_of, ended_row, slot_of_row_holds, may_point, is_there, unheld_in};
 ghost use Rattle.jg_heap.specs.Rows.{row_in};
 ghost use Rattle.jg_lists.specs.Marks.{Marks};
 
@@ -83,12 +83,45 @@ pub(crate) fn mark_pointed<A: Allocator>(
     }
 }
 
-/// Whether the object isn't gone and isn't marked.
-fn is_unheld<A: Allocator>(marks: &ObjectMarks<A>, objects: &[Object<A>], object: u64) -> bool
+/// Whether the object isn't gone.
+fn is_there<A: Allocator>(objects: &[Object<A>], object: u64) -> bool
     requires { object < length objects.now }
-    ensures { result ≡ unheld_in (map row_of objects.now) marks.now object }
+    ensures { result ≡ is_there (map row_of objects.now) object }
 {
-    !marks.is_set(object) && !objects[object as usize].gone
+    !objects[object as usize].gone
+}
+
+/// Lists those of `live` that aren't marked.
+fn list_unmarked<A: Allocator>(
+    marks: &ObjectMarks<A>,
+    live: &[u64],
+    unmarked: &mut Vec<u64, A>,
+) -> Result<(), AllocError>
+    ensures { OnOk result (unmarked.new.items ≡ filter (λ o. not (slice_index_or marks.now o false)) live.now) }
+{
+    unmarked.clear();
+    for object in live {
+        if !marks.is_set(*object) {
+            unmarked.push(*object)?;
+        }
+    }
+    Ok(())
+}
+
+/// Moves those of the numbers that aren't gone to the front, and answers how many they are.
+fn keep_there<A: Allocator>(objects: &[Object<A>], numbers: &mut [u64]) -> usize
+    requires { All (λ p. p < length objects.now) numbers.old }
+    ensures { take result numbers.new ≡ filter (is_there (map row_of objects.now)) numbers.old }
+{
+    let mut kept = 0;
+    for at in 0..numbers.len() {
+        let number = numbers[at];
+        if is_there(objects, number) {
+            numbers[kept] = number;
+            kept += 1;
+        }
+    }
+    kept
 }
 
 /// Lists those of `live` that aren't gone and aren't marked.
@@ -101,12 +134,10 @@ pub(crate) fn list_unheld<A: Allocator>(
     requires { All (λ p. p < length objects.now) live.now }
     ensures { OnOk result (unheld.new.items ≡ filter (unheld_in (map row_of objects.now) marks.now) live.now) }
 {
-    unheld.clear();
-    for object in live {
-        if is_unheld(marks, objects, *object) {
-            unheld.push(*object)?;
-        }
-    }
+    // First by the marks alone, which lie close together, and then by the objects, which don't.
+    list_unmarked(marks, live, unheld)?;
+    let kept = keep_there(objects, unheld);
+    unheld.truncate(kept);
     Ok(())
 }
 

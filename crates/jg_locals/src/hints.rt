@@ -48,11 +48,21 @@ impl<A: Allocator> Hints<A> {
         }
     }
 
-    /// Notes the places of all slots of the list anew.
+    /// Notes the places of all slots of the list anew. Hints of what has gone stay as they were.
     pub fn note_all(&mut self, slots: &[Slot]) {
-        self.places.clear();
-        for (place, slot) in slots.iter().enumerate() {
-            self.note(slot.n, place);
+        let (Some(first), Some(last)) = (slots.get(FIRST_PLACE), slots.last()) else {
+            return;
+        };
+        self.first = first.n;
+        let span = last.n.saturating_sub(first.n) as usize;
+        if self.places.resize(span.saturating_add(1), 0).is_err() {
+            return;
+        }
+        for place in FIRST_PLACE..slots.len() {
+            let index = slots[place].n.saturating_sub(self.first) as usize;
+            if let (Some(hint), Ok(place)) = (self.places.get_mut(index), u32::try_from(place)) {
+                *hint = place;
+            }
         }
     }
 

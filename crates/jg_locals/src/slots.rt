@@ -97,7 +97,7 @@ pub fn end_local<A: Allocator>(slots: &mut SlotList<A>, n: u64) -> Option<Slot>
     was
 }
 
-/// Closes the list up if more than an eighth of it and eight may be dead, so that a collection goes
+/// Closes the list up if more than a quarter of it and eight may be dead, so that a collection goes
 /// over few slots in vain. `dead` is at least the number of the dead slots, and so is the answer.
 pub fn close_up_if<A: Allocator>(slots: &mut SlotList<A>, dead: usize) -> usize
     ensures live { filter is_live slots.new.items ≡ filter is_live slots.old.items }
@@ -109,7 +109,7 @@ pub fn close_up_if<A: Allocator>(slots: &mut SlotList<A>, dead: usize) -> usize
 {
     let count = slots.as_slice().len();
     let dead = dead.min(count);
-    if dead > count / 8 + 8 {
+    if dead > count / 4 + 8 {
         slots.close_up();
         0
     } else {

@@ -14,7 +14,7 @@ use std::alloc::{AllocError, Allocator};
 use std::marker::Model;
 
 /// The locals and the open frames of one thread. A local that is deleted is marked dead; once
-/// more than an eighth of the list and eight may be dead, it is closed up. Contracts see the live ones.
+/// more than a quarter of the list and eight may be dead, it is closed up. Contracts see the live ones.
 #[derive(Drop)]
 pub struct Stack<A: Allocator> {
     slots: SlotList<A>,

@@ -68,7 +68,7 @@ fn stops_at_its_limit(guard: &mut Guard) -> bool {
 fn has_journaled(guard: &Guard) -> bool {
     let is_first = match guard.journal_entry(0) {
         None => false,
-        Some(first) => first.tid == T && first.env == None && first.call == push_frame(),
+        Some(first) => { first.tid() == T && first.env() == None && *first.call() == push_frame() }
     };
     is_first && guard.journal_len() == 3 && guard.journal_entry(3).is_none()
 }

@@ -1,28 +1,25 @@
-use Rattle.std.proofs.Common.{◌∙◌, ◌≡◌, ◌∷◌, ◌++◌, [], ap, sym, arith, cond, get_or, map, take, true, false, ℕ, Bool}
-use Rattle.std.specs.Prelude.{filter}
-use Rattle.std.proofs.lemmas.List.{append-nil, take_all}
-use Rattle.std.proofs.lemmas.List.Elements.{filter_more}
-use Rattle.jg_heap.specs.Kept.{row_of, unheld_in}
-use Rattle.jg_heap.proofs.collect.list_unheld.Goals.{then-is_unheld+in_ok-push, else-is_unheld}
+use Rattle.std.proofs.Common.{◌∙◌, ◌<◌, ap, sym, subst, false, get_or, length, map, not, take, List, ℕ, Bool}
+use Rattle.std.specs.Prelude.{All, filter}
+use Rattle.std.proofs.lemmas.List.{with_items_is}
+use Rattle.std.proofs.lemmas.List.Elements.{All-filter}
+use Rattle.jg_lists.proofs.Lists.{filter_swap}
+use Rattle.jg_heap.specs.Kept.{row_of, is_there}
+use Rattle.jg_heap.proofs.Lists.{filter_filter}
 use Rattle.jg_heap.proofs.collect.list_unheld.Goals as goal
 
-pub loop-object-preserved : goal.loop-object-preserved
-loop-object-preserved g c =
-    let p : ℕ → Bool = unheld_in (map row_of c.args.objects.now) c.args.marks.now in
-    let xs = c.args.live.now in
-    let i = c.loop-object.object-index in
-    let x = get_or xs i 0 in
-    let more = filter_more p xs i 0 c.loop-object-test.true in
-    elim c.if-is_unheld.branch [
-      | then-is_unheld+in_ok-push w ↦
-          let passes : p x ≡ true = sym c.is_unheld.ensures ∙ w.if-is_unheld.true in
-          rw (w.unheld-is, w.in_ok-push.ensures.items, c.loop-object.invariant) (sym (more ∙ ap (λ b. filter p (take i xs) ++ cond b (x ∷ []) []) passes))
-      | else-is_unheld w ↦
-          let fails : p x ≡ false = sym c.is_unheld.ensures ∙ w.if-is_unheld.false in
-          rw (w.unheld-is, c.loop-object.invariant) (sym (more ∙ ap (λ b. filter p (take i xs) ++ cond b (x ∷ []) []) fails ∙ append-nil (filter p (take i xs))))
-    ]
+pub keep_there-kept-requires : goal.keep_there-kept-requires
+keep_there-kept-requires g c =
+    let unmarked : ℕ → Bool = λ o. not (get_or c.args.marks.now o false) in
+    subst (All (λ p. p < length c.args.objects.now)) (sym (c.deref_mut.ensures.value ∙ c.in_ok-list_unmarked.ensures)) (All-filter unmarked (λ p. p < length c.args.objects.now) c.args.live.now c.requires)
 
 pub returns : goal.returns
 returns g c =
-    c.loop-object.invariant
-    ∙ ap (filter (unheld_in (map row_of c.args.objects.now) c.args.marks.now)) (take_all c.loop-object.object-index c.args.live.now (omega (arith, c.loop-object-test.false)))
+    let unmarked : ℕ → Bool = λ o. not (get_or c.args.marks.now o false) in
+    let there : ℕ → Bool = is_there (map row_of c.args.objects.now) in
+    c.truncate.ensures.items
+    ∙ ap (take c.keep_there-kept.result) (with_items_is c.list_unmarked.new.unmarked c.keep_there-kept.new.numbers (c.keep_there-kept.auto.numbers
+    ∙ ap (λ (os : List ℕ). length os) c.deref_mut.ensures.value ∙ sym c.list_unmarked.new.unmarked.ok.0))
+    ∙ c.keep_there-kept.ensures
+    ∙ ap (filter there) (c.deref_mut.ensures.value ∙ c.in_ok-list_unmarked.ensures)
+    ∙ filter_swap there unmarked c.args.live.now
+    ∙ filter_filter unmarked there c.args.live.now
