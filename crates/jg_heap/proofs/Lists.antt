@@ -1,10 +1,11 @@
 -- Lists and tests, whatever they hold.
-use Rattle.std.proofs.Common.{ℕ, ◌≡◌, ◌<◌, ◌≤◌, ◌+◌, ◌++◌, ◌∙◌, sym, ap, refl, List, [], ◌∷◌, length, get_or, map, replicate, zero, suc, Bool, true, false, not, ◌||◌, ◌&&◌, eqb, inl, inr, arith, zero-add}
+use Rattle.std.proofs.Common.{ℕ, ◌≡◌, ◌<◌, ◌≤◌, ◌+◌, ◌++◌, ◌∙◌, sym, ap, refl, List, [], ◌∷◌, drop, take, length, get_or, map, replicate, zero, suc, Bool, true, false, not, ◌||◌, ◌&&◌, eqb, inl, inr, arith, zero-add}
 use Rattle.std.specs.Prelude.{All, filter}
 use Rattle.std.specs.List.{list_any, range_with_len}
+use Rattle.std.proofs.Math.Seq.{take-add}
 use Rattle.std.proofs.lemmas.Bool.{or_cases, or_left, or_right, cases_Bool, eq-eqb, eqb-true}
-use Rattle.std.proofs.lemmas.List.{map-id}
-use Rattle.std.proofs.lemmas.List.Elements.{All-filter, All-from_get_or}
+use Rattle.std.proofs.lemmas.List.{append-nil, map-id}
+use Rattle.std.proofs.lemmas.List.Elements.{All-filter, All-from_get_or, filter-append}
 use Rattle.std.proofs.lemmas.List.Folds.{list_any_at}
 use Rattle.std.proofs.lemmas.List.Filters.{length-filter_both}
 use Rattle.std.proofs.lemmas.Map.Views.{any-filter_same}
@@ -56,6 +57,16 @@ filter_filter p q (x ∷ xs) =
 pub keep_alike : (p q : ℕ → Bool) (xs : List ℕ) → All (λ o. p o ≡ q o) xs → filter p xs ≡ filter q xs
 keep_alike p q [] all = refl
 keep_alike p q (x ∷ xs) all = rw (all 0 0 (omega arith), keep_alike p q xs (λ i d h. all (suc i) d (omega (arith, h)))) refl
+
+none_kept : (p : ℕ → Bool) (xs : List ℕ) → All (λ o. p o ≡ false) xs → filter p xs ≡ []
+none_kept p [] all = refl
+none_kept p (x ∷ xs) all = rw (all 0 0 (omega arith), none_kept p xs (λ i d h. all (suc i) d (omega (arith, h)))) refl
+
+-- none more is kept of what comes next, where none of it passes
+pub none_more : (p : ℕ → Bool) (xs : List ℕ) (i n : ℕ) → All (λ o. p o ≡ false) (take n (drop i xs)) → filter p (take (i + n) xs) ≡ filter p (take i xs)
+none_more p xs i n none =
+    ap (filter p) (take-add i n xs) ∙ filter-append p (take i xs) (take n (drop i xs)) ∙ ap (λ (os : List ℕ). filter p (take i xs) ++ os) (none_kept p (take n (drop i xs)) none)
+    ∙ append-nil (filter p (take i xs))
 
 and_absorbed : (m k : Bool) → (k ≡ true → m ≡ true) → (m && k) ≡ k
 and_absorbed true k h = refl

@@ -100,10 +100,13 @@ fn list_unmarked<A: Allocator>(
     ensures { OnOk result (unmarked.new.items ≡ filter (λ o. not (slice_index_or marks.now o false)) live.now) }
 {
     unmarked.clear();
-    for object in live {
-        if !marks.is_set(*object) {
-            unmarked.push(*object)?;
+    let mut at = 0;
+    while at < live.len() {
+        let next = at + marks.count_set(&live[at..]);
+        if next < live.len() {
+            unmarked.push(live[next])?;
         }
+        at = next + 1;
     }
     Ok(())
 }

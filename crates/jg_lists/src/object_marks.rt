@@ -1,4 +1,4 @@
-ghost use Rattle.std.specs.Prelude.{◌≡◌, ℕ, ◌<◌, ◌≤◌, ◌^◌, ◌==◌, [], All, false, Some, length, map, slice_get, slice_index_or, OnOk};
+ghost use Rattle.std.specs.Prelude.{◌≡◌, ℕ, ◌<◌, ◌≤◌, ◌^◌, ◌==◌, [], All, false, Some, length, slice_get, slice_index_or, take, true, OnOk};
 ghost use Rattle.std.specs.List.{list_any};
 ghost use Rattle.jg_lists.specs.Marks.{Marks, but_last, marks_in};
 
@@ -66,6 +66,31 @@ fn turn_of(turns: &[u8], object: u64) -> Option<u8>
     }
 }
 
+/// Whether the object's mark was set in this turn.
+fn is_noted(turns: &[u8], turn: u8, object: u64) -> bool
+    ensures { result ≡ slice_index_or (marks_in turn turns.now) object false }
+{
+    match turn_of(turns, object) {
+        Some(last) => last == turn,
+        None => false,
+    }
+}
+
+/// How many of the objects, from the first on, had their marks set in this turn.
+fn count_noted(turns: &[u8], turn: u8, objects: &[u64]) -> usize
+    ensures noted { All (λ o. slice_index_or (marks_in turn turns.now) o false ≡ true) (take result objects.now) }
+    ensures within { result ≤ length objects.now }
+    ensures next { result < length objects.now
+        → slice_index_or (marks_in turn turns.now) (slice_index_or objects.now result 0) false ≡ false }
+{
+    for at in 0..objects.len() {
+        if !is_noted(turns, turn, objects[at]) {
+            return at;
+        }
+    }
+    objects.len()
+}
+
 /// Notes the turn for an object, or at the last place if it has no mark.
 fn note(turns: &mut [u8], object: u64, turn: u8)
     requires { 0 < length turns.old }
@@ -114,10 +139,17 @@ impl<A: Allocator> ObjectMarks<A> {
     pub fn is_set(&self, object: u64) -> bool
         ensures { result ≡ slice_index_or self.now object false }
     {
-        match turn_of(&self.turns, object) {
-            Some(turn) => turn == self.turn,
-            None => false,
-        }
+        is_noted(&self.turns, self.turn, object)
+    }
+
+    /// How many of the objects, from the first on, have their marks set.
+    pub fn count_set(&self, objects: &[u64]) -> usize
+        ensures set { All (λ o. slice_index_or self.now o false ≡ true) (take result objects.now) }
+        ensures within { result ≤ length objects.now }
+        ensures next { result < length objects.now
+            → slice_index_or self.now (slice_index_or objects.now result 0) false ≡ false }
+    {
+        count_noted(&self.turns, self.turn, objects)
     }
 
     /// Sets the object's mark. An object without a mark is passed over.
