@@ -9,11 +9,12 @@ use Rattle.std.proofs.lemmas.Bool.{lt-ltb}
 use Rattle.jg_heap.specs.declared.body.Object.{Object}
 use Rattle.jg_heap.specs.Making.{Plain}
 use Rattle.jg_heap.specs.Rows.{Row, Rows, row_in, no_row}
-use Rattle.jg_heap.specs.Kept.{row_of, swept_row, ended_row, row_points_at, slot_of_row_holds, is_there, live_in, unheld_in, Keeps}
+use Rattle.jg_heap.specs.Kept.{row_of, swept_row, ended_row, row_points_at, slot_of_row_holds, live_in, unheld_in, numbers_in, Keeps}
 use Rattle.jg_heap.specs.Rows.{row_of_making}
 use Rattle.jg_heap.specs.History.{Event, Collected, count_of, gone_at, held_at, points_at, going}
 use Rattle.jg_heap.specs.Standing.{Stands, standing, row_at, slots_at, MarksRoots, MarksHeld, AreListed}
-use Rattle.jg_heap.proofs.Lists.{any_filter, any_agree, filter_filter, keep_agree, or_swapped, goes_alike, gone_alike}
+use Rattle.jg_lists.proofs.Lists.{any_agree}
+use Rattle.jg_heap.proofs.Lists.{any_filter, filter_filter, keep_agree, or_swapped, goes_alike, gone_alike}
 use Rattle.jg_heap.proofs.Pointing.{points_slots}
 use Rattle.jg_heap.proofs.Sweeping.{goes_now, pointing_holds}
 use Rattle.jg_heap.proofs.Steps.{standing_is}
@@ -86,29 +87,30 @@ standing_swept k roots e marks new len held ended =
 
 -- ---- the same, from what the store keeps
 
-pub marks_of : {A : Type 0} (items before : List (Object A)) (pointed live pointing : List ℕ) (rows : Rows) (k : ℕ) (e : List Event) (roots : List ℕ) (old mid new : List Bool)
-    → before ≡ items → pointed ≡ pointing → Keeps items live pointing → record { classes = k; objects = map row_of items } ≡ rows → Stands rows e
+pub marks_of : {A : Type 0} (items before : List (Object A)) (there : List Bool) (blocks : List ℕ) (loose : ℕ) (pointed pointing : List ℕ) (rows : Rows) (k : ℕ) (e : List Event) (roots : List ℕ) (old mid new : List Bool)
+    → before ≡ items → pointed ≡ pointing → Keeps items there blocks loose pointing → record { classes = k; objects = map row_of items } ≡ rows → Stands rows e
     → length mid ≡ length old → length new ≡ length mid
     → ((o : ℕ) → o < length old → get_or mid o false ≡ (get_or old o false || ltb o k))
     → ((o : ℕ) → o < length mid → get_or new o false ≡ (get_or mid o false || list_any (slot_of_row_holds (map row_of before) o) pointed))
     → MarksRoots rows.classes roots e old → MarksHeld rows.classes roots e new
-marks_of items before pointed live pointing rows k e roots old mid new is same keeps view stands n m classes slots was =
+marks_of items before there blocks loose pointed pointing rows k e roots old mid new is same keeps view stands n m classes slots was =
     let base : map row_of items ≡ standing rows.classes e = ap (λ (r : Rows). r.objects) view ∙ stands in
     marks_held rows.classes roots e old new (m ∙ n) was
     (λ o h. slots o (omega (arith, h, n)) ∙ ap (λ b. b || list_any (slot_of_row_holds (map row_of before) o) pointed) (classes o h)
     ∙ ap (λ c. (get_or old o false || ltb o c) || list_any (slot_of_row_holds (map row_of before) o) pointed) (ap (λ (r : Rows). r.classes) view)
     ∙ ap (λ b. (get_or old o false || ltb o rows.classes) || b)
-    (ap (λ (xs : List (Object _)). list_any (slot_of_row_holds (map row_of xs) o) pointed) is ∙ ap (list_any (slot_of_row_holds (map row_of items) o)) same ∙ pointing_holds items live pointing o keeps
+    (ap (λ (xs : List (Object _)). list_any (slot_of_row_holds (map row_of xs) o) pointed) is ∙ ap (list_any (slot_of_row_holds (map row_of items) o)) same ∙ pointing_holds items there blocks loose pointing o keeps
     ∙ ap (λ (rs : List Row). list_any (slot_of_row_holds rs o) (live_in rs)) base))
 
--- those of `live` that aren't gone and aren't marked are those in being that aren't marked
-pub listed : {A : Type 0} (items before : List (Object A)) (live kept pointing : List ℕ) (rows : Rows) (k : ℕ) (marks : List Bool) → before ≡ items → live ≡ kept → Keeps items kept pointing
-    → record { classes = k; objects = map row_of items } ≡ rows → filter (unheld_in (map row_of before) marks) live ≡ filter (λ o. not (get_or marks o false)) (live_in rows.objects)
-listed items before live kept pointing rows k marks is same keeps view =
+-- those of the blocks that are in being and aren't marked are all that are in being and aren't marked
+pub listed : {A : Type 0} (items : List (Object A)) (there flags : List Bool) (blocks firsts : List ℕ) (loose : ℕ) (pointing : List ℕ) (rows : Rows) (k : ℕ) (marks : List Bool)
+    → flags ≡ there → firsts ≡ blocks → Keeps items there blocks loose pointing → record { classes = k; objects = map row_of items } ≡ rows
+    → filter (unheld_in flags marks) (numbers_in firsts loose (length flags)) ≡ filter (λ o. not (get_or marks o false)) (live_in rows.objects)
+listed items there flags blocks firsts loose pointing rows k marks is same keeps view =
     let unmarked : ℕ → Bool = λ o. not (get_or marks o false) in
-    ap (λ (xs : List (Object _)). filter (unheld_in (map row_of xs) marks) live) is
-    ∙ ap (filter (unheld_in (map row_of items) marks)) same
-    ∙ sym (filter_filter unmarked (is_there (map row_of items)) kept)
+    ap (λ (bs : List Bool). filter (unheld_in bs marks) (numbers_in firsts loose (length bs))) is
+    ∙ ap (λ (bs : List ℕ). filter (unheld_in there marks) (numbers_in bs loose (length there))) same
+    ∙ sym (filter_filter unmarked (λ o. get_or there o false) (numbers_in blocks loose (length there)))
     ∙ ap (filter unmarked) (keeps.live ∙ ap (λ (r : Rows). live_in r.objects) view)
 
 -- and so what goes

@@ -1,4 +1,5 @@
 pub mod Lists
+mod Blocks
 pub mod Items
 mod Told
 mod Steps

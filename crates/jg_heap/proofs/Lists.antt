@@ -1,15 +1,13 @@
 -- Lists and tests, whatever they hold.
-use Rattle.std.proofs.Common.{ℕ, ◌≡◌, ◌<◌, ◌≤◌, ◌+◌, ◌++◌, ◌∙◌, sym, ap, refl, List, [], ◌∷◌, drop, take, length, get_or, map, replicate, zero, suc, Bool, true, false, not, ◌||◌, ◌&&◌, eqb, inl, inr, arith, zero-add}
+use Rattle.std.proofs.Common.{ℕ, ◌≡◌, ◌<◌, ◌≤◌, ◌+◌, ◌∙◌, sym, ap, refl, List, [], ◌∷◌, length, get_or, map, replicate, zero, suc, Bool, true, false, not, ◌||◌, ◌&&◌, eqb, inl, inr, arith, zero-add}
 use Rattle.std.specs.Prelude.{All, filter}
 use Rattle.std.specs.List.{list_any, range_with_len}
-use Rattle.std.proofs.Math.Seq.{take-add}
 use Rattle.std.proofs.lemmas.Bool.{or_cases, or_left, or_right, cases_Bool, eq-eqb, eqb-true}
-use Rattle.std.proofs.lemmas.List.{append-nil, map-id}
-use Rattle.std.proofs.lemmas.List.Elements.{All-filter, All-from_get_or, filter-append}
+use Rattle.std.proofs.lemmas.List.Elements.{All-filter, All-from_get_or}
 use Rattle.std.proofs.lemmas.List.Folds.{list_any_at}
 use Rattle.std.proofs.lemmas.List.Filters.{length-filter_both}
 use Rattle.std.proofs.lemmas.Map.Views.{any-filter_same}
-use Rattle.std.proofs.lemmas.List.FromFn.{length-map-range_with_len, get_or-map-range_with_len, fill_by_all, map-range_with_len_more, length-range_with_len, get_or-range_with_len}
+use Rattle.std.proofs.lemmas.List.FromFn.{length-map-range_with_len, get_or-map-range_with_len, fill_by_all, length-range_with_len, get_or-range_with_len}
 
 pub map_replicate : {A B : Type 0} (f : A → B) (n : ℕ) (x : A) → map f (replicate n x) ≡ replicate n (f x)
 map_replicate f zero x = refl
@@ -58,38 +56,9 @@ pub keep_alike : (p q : ℕ → Bool) (xs : List ℕ) → All (λ o. p o ≡ q o
 keep_alike p q [] all = refl
 keep_alike p q (x ∷ xs) all = rw (all 0 0 (omega arith), keep_alike p q xs (λ i d h. all (suc i) d (omega (arith, h)))) refl
 
-none_kept : (p : ℕ → Bool) (xs : List ℕ) → All (λ o. p o ≡ false) xs → filter p xs ≡ []
-none_kept p [] all = refl
-none_kept p (x ∷ xs) all = rw (all 0 0 (omega arith), none_kept p xs (λ i d h. all (suc i) d (omega (arith, h)))) refl
-
--- none more is kept of what comes next, where none of it passes
-pub none_more : (p : ℕ → Bool) (xs : List ℕ) (i n : ℕ) → All (λ o. p o ≡ false) (take n (drop i xs)) → filter p (take (i + n) xs) ≡ filter p (take i xs)
-none_more p xs i n none =
-    ap (filter p) (take-add i n xs) ∙ filter-append p (take i xs) (take n (drop i xs)) ∙ ap (λ (os : List ℕ). filter p (take i xs) ++ os) (none_kept p (take n (drop i xs)) none)
-    ∙ append-nil (filter p (take i xs))
-
-and_absorbed : (m k : Bool) → (k ≡ true → m ≡ true) → (m && k) ≡ k
-and_absorbed true k h = refl
-and_absorbed false true h = h refl
-and_absorbed false false h = refl
-
--- what is kept where only marked ones are, among those that are marked
-pub kept_through : (marked keeps : ℕ → Bool) (xs : List ℕ) → All (λ o. keeps o ≡ true → marked o ≡ true) xs → filter keeps (filter marked xs) ≡ filter keeps xs
-kept_through marked keeps xs all =
-    filter_filter keeps marked xs ∙ keep_alike (λ o. marked o && keeps o) keeps xs (λ i d h. and_absorbed (marked (get_or xs i d)) (keeps (get_or xs i d)) (all i d h))
-
-pub any_agree : (p q : ℕ → Bool) (a n : ℕ) → ((o : ℕ) → o < a + n → p o ≡ q o) → list_any p (range_with_len a n) ≡ list_any q (range_with_len a n)
-any_agree p q a zero h = refl
-any_agree p q a (suc n) h = rw (h a (omega arith), any_agree p q (a + 1) n (λ o l. h o (omega arith))) refl
-
 pub keep_agree : (p q : ℕ → Bool) (a n : ℕ) → ((o : ℕ) → o < a + n → p o ≡ q o) → filter p (range_with_len a n) ≡ filter q (range_with_len a n)
 keep_agree p q a zero h = refl
 keep_agree p q a (suc n) h = rw (h a (omega arith), keep_agree p q (a + 1) n (λ o l. h o (omega arith))) refl
-
--- one number more
-pub range_more : (n : ℕ) → range_with_len 0 (n + 1) ≡ range_with_len 0 n ++ n ∷ []
-range_more n =
-    sym (map-id (range_with_len 0 (n + 1))) ∙ map-range_with_len_more (λ (o : ℕ). o) 0 n n (zero-add n) ∙ ap (λ (os : List ℕ). os ++ n ∷ []) (map-id (range_with_len 0 n))
 
 -- the numbers below n that a test keeps are below n
 pub kept_below : (p : ℕ → Bool) (n : ℕ) → All (λ o. o < n) (filter p (range_with_len 0 n))

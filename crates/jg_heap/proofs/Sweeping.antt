@@ -1,17 +1,20 @@
 -- The turns of the loops that let go of objects, and the numbers of those that aren't gone.
-use Rattle.std.proofs.Common.{ℕ, zero, suc, ◌≡◌, ◌+◌, ◌<◌, ◌≢◌, ◌∙◌, sym, ap, refl, List, [], ◌∷◌, ◌++◌, length, map, get_or, set, arith, Bool, true, false, not, ◌&&◌, ◌||◌, eqb, inl, inr, get_or-set_same, get_or-set_other, subst, length-append, take, cond}
+use Rattle.std.proofs.Common.{ℕ, ◌≡◌, ◌+◌, ◌<◌, ◌≢◌, ◌∙◌, sym, ap, refl, List, [], ◌∷◌, ◌++◌, length, map, get_or, set, arith, Bool, true, false, not, ◌&&◌, ◌||◌, eqb, inl, inr, get_or-set_same, get_or-set_other, subst, length-append, take, cond, zero-add, ◌≤◌, ◌⊎◌}
 use Rattle.std.specs.Prelude.{All, filter}
 use Rattle.std.specs.List.{list_any, range_with_len}
 use Rattle.std.proofs.Math.Seq.{get_or-append_seam}
-use Rattle.std.proofs.lemmas.List.{get_or_append_left, get_or-map, length-map, length-set, map-set, map-append, set-get_or, drop_more}
-use Rattle.std.proofs.lemmas.List.Filters.{FiltersInPlace}
+use Rattle.std.proofs.lemmas.List.{get_or_append_left, get_or-map, get_or_past, length-map, length-set, map-set, map-append, set-get_or}
 use Rattle.std.proofs.lemmas.List.Folds.{list_any_more}
-use Rattle.std.proofs.lemmas.List.Elements.{filter-append, filter_agree, All-append, All-filter}
-use Rattle.std.proofs.lemmas.Bool.{cases_eq, eq-eqb, ne_eqb}
+use Rattle.std.proofs.lemmas.Simd.{map-map}
+use Rattle.std.proofs.lemmas.List.Elements.{filter-append, filter_agree, All-filter}
+use Rattle.std.proofs.lemmas.Bool.{cases_eq, cases_lt, eq-eqb, ne_eqb}
 use Rattle.jg_heap.specs.declared.body.Object.{Object}
 use Rattle.jg_heap.specs.Rows.{Row, row_in, no_row}
-use Rattle.jg_heap.specs.Kept.{row_of, ended_row, is_there, live_in, may_point, may_point_at, slot_of_row_holds, Keeps}
-use Rattle.jg_heap.proofs.Lists.{keep_agree, keep_alike, range_more, kept_below, kept_any, any_agree, any_filter, filter_filter, stays_alike, or_both, and_implied}
+use Rattle.jg_heap.specs.Kept.{row_of, ended_row, is_there, in_being, live_in, may_point, may_point_at, slot_of_row_holds, numbers_in, AreWhole, Keeps}
+use Rattle.jg_lists.proofs.Lists.{filter_swap, range_more, any_agree}
+use Rattle.jg_lists.proofs.Marks.{or_false}
+use Rattle.jg_heap.proofs.Lists.{keep_agree, keep_alike, kept_below, kept_any, any_filter, filter_filter, stays_alike, or_both, and_implied}
+use Rattle.jg_heap.proofs.Blocks.{numbers_more, numbers_within}
 use Rattle.jg_heap.proofs.Items.{none_at}
 
 row_set : {A : Type 0} (cur : List (Object A)) (i : ℕ) (y : Object A) → i < length cur → row_in (map row_of (set cur i y)) i ≡ row_of y
@@ -25,17 +28,13 @@ row_set_other cur i o y h = ap (λ (r : List Row). row_in r o) (map-set row_of c
 
 -- ---- letting go
 
-or_false : (b : Bool) → b ≡ (b || false)
-or_false true = refl
-or_false false = refl
-
 or_true : (b : Bool) → true ≡ (b || true)
 or_true true = refl
 or_true false = refl
 
 -- none goes
 pub ended_none : (row : Row) → row ≡ ended_row false row
-ended_none row = ap (λ g. record row { gone = g }) (or_false row.gone)
+ended_none row = ap (λ g. record row { gone = g }) (sym (or_false row.gone))
 
 -- one object goes
 pub ended_one : {A : Type 0} (cur : List (Object A)) (p o : ℕ) (d y : Object A) → p < length cur → row_of y ≡ record (row_of (get_or cur p d)) { gone = true }
@@ -60,10 +59,6 @@ pub ended_more : (rows : Row) (mid new : Row) (objects : List ℕ) (i o : ℕ) �
     → new ≡ ended_row (eqb (get_or objects i 0) o) mid → new ≡ ended_row (list_any (λ p. eqb p o) (take (i + 1) objects)) rows
 ended_more rows mid new objects i o within is now =
     ended_both rows mid new (list_any (λ p. eqb p o) (take i objects)) (eqb (get_or objects i 0) o) (list_any (λ p. eqb p o) (take (i + 1) objects)) is now (list_any_more (λ p. eqb p o) objects i 0 within)
-
--- what is read at the place of a loop that keeps some in front
-pub read_on : {p : ℕ → Bool} {xs ys : List ℕ} {k i : ℕ} → FiltersInPlace p xs ys k i → i < length ys → get_or ys i 0 ≡ get_or xs i 0
-read_on {p} {xs} {ys} {k} {i} kept h = ap (λ (l : List ℕ). get_or l 0 0) (sym (drop_more ys i 0 h) ∙ kept.rest ∙ drop_more xs i 0 (omega (arith, kept.long)))
 
 -- ---- the numbers of those that aren't gone
 
@@ -105,20 +100,32 @@ there_after : (old new : List Row) (marked : ℕ → Bool) (o : ℕ) → o < len
 there_after old new marked o within ended =
     ap (λ (r : Row). not r.gone) ended ∙ ap (λ b. not ((row_in old o).gone || b)) (goes_now old marked o within) ∙ sym (stays_alike (row_in old o).gone (marked o))
 
-marked_there : (there marked new : Bool) → new ≡ (there && marked) → new ≡ true → marked ≡ true
-marked_there true marked new is kept = sym is ∙ kept
-marked_there false marked new is kept = absurd (cc (is, kept))
+-- the list of those in being, object by object
+there_at : {A : Type 0} (items : List (Object A)) (o : ℕ) → o < length items → get_or (map in_being items) o false ≡ is_there (map row_of items) o
+there_at items o h =
+    ap (λ (bs : List Bool). get_or bs o false) (sym (map-map (λ (r : Row). not r.gone) row_of items))
+    ∙ get_or-map (λ (r : Row). not r.gone) (map row_of items) o no_row false (omega (arith, h, length-map items row_of))
 
--- the numbers after a collection, where some that aren't marked may have been left out
-pub kept_swept : (old new : List Row) (marked : ℕ → Bool) (live after : List ℕ) → length new ≡ length old
-    → ((o : ℕ) → row_in new o ≡ ended_row (list_any (λ p. not (marked p) && eqb p o) (live_in old)) (row_in old o))
-    → All (λ p. p < length old) live → filter (is_there old) live ≡ live_in old
-    → ((keeps : ℕ → Bool) → All (λ o. keeps o ≡ true → marked o ≡ true) live → filter keeps after ≡ filter keeps live)
-    → filter (is_there new) after ≡ live_in new
-kept_swept old new marked live after len ended within is left =
-    left (is_there new) (λ i d h. marked_there (is_there old (get_or live i d)) (marked (get_or live i d)) _ (there_after old new marked (get_or live i d) (within i d h) (ended (get_or live i d))))
-    ∙ keep_alike (is_there new) (λ o. is_there old o && marked o) live (λ i d h. there_after old new marked (get_or live i d) (within i d h) (ended (get_or live i d)))
-    ∙ sym (filter_filter marked (is_there old) live) ∙ ap (filter marked) is ∙ live_swept old new marked len ended
+there_swept : {A : Type 0} (old new : List (Object A)) (marked : ℕ → Bool) → length new ≡ length old
+    → ((o : ℕ) → row_in (map row_of new) o ≡ ended_row (list_any (λ p. not (marked p) && eqb p o) (live_in (map row_of old))) (row_in (map row_of old) o))
+    → (o : ℕ) → (o < length old) ⊎ (length old ≤ o) → get_or (map in_being new) o false ≡ (get_or (map in_being old) o false && marked o)
+there_swept old new marked len ended o (inl within) =
+    there_at new o (omega (arith, within, len))
+    ∙ there_after (map row_of old) (map row_of new) marked o (omega (arith, within, length-map old row_of)) (ended o)
+    ∙ ap (λ b. b && marked o) (sym (there_at old o within))
+there_swept old new marked len ended o (inr past) =
+    get_or_past (map in_being new) o false (omega (arith, past, len, length-map new in_being))
+    ∙ ap (λ b. b && marked o) (sym (get_or_past (map in_being old) o false (omega (arith, past, length-map old in_being))))
+
+-- after a collection, where those in being were found among these numbers
+numbers_swept : {A : Type 0} (old new : List (Object A)) (marked : ℕ → Bool) (numbers : List ℕ) → length new ≡ length old
+    → ((o : ℕ) → row_in (map row_of new) o ≡ ended_row (list_any (λ p. not (marked p) && eqb p o) (live_in (map row_of old))) (row_in (map row_of old) o))
+    → filter (λ o. get_or (map in_being old) o false) numbers ≡ live_in (map row_of old)
+    → filter (λ o. get_or (map in_being new) o false) numbers ≡ live_in (map row_of new)
+numbers_swept old new marked numbers len ended is =
+    filter_agree (λ o. get_or (map in_being new) o false) (λ o. get_or (map in_being old) o false && marked o) (λ o. there_swept old new marked len ended o (cases_lt o (length old))) numbers
+    ∙ sym (filter_filter marked (λ o. get_or (map in_being old) o false) numbers) ∙ ap (filter marked) is
+    ∙ live_swept (map row_of old) (map row_of new) marked (length-map new row_of ∙ len ∙ sym (length-map old row_of)) ended
 
 -- with one object more
 pub live_more : (rows : List Row) (r : Row) → r.gone ≡ false → live_in rows ++ length rows ∷ [] ≡ live_in (rows ++ r ∷ [])
@@ -129,7 +136,7 @@ live_more rows r is =
     let keeps : ℕ → Bool = λ o. not (row_in all o).gone in
     let last : keeps n ≡ true = ap (λ (x : Row). not x.gone) (get_or-append_seam rows r [] no_row) ∙ ap not is in
     sym (ap (λ m. filter keeps (range_with_len 0 m)) len
-    ∙ ap (filter keeps) (range_more n)
+    ∙ ap (filter keeps) (range_more 0 n ∙ ap (λ o. range_with_len 0 n ++ o ∷ []) (zero-add n))
     ∙ filter-append keeps (range_with_len 0 n) (n ∷ [])
     ∙ ap (λ (os : List ℕ). os ++ filter keeps (n ∷ [])) (keep_agree keeps (λ o. not (row_in rows o).gone) 0 n
     (λ o l. ap (λ (x : Row). not x.gone) (get_or_append_left rows (r ∷ []) no_row o (omega arith))))
@@ -150,39 +157,27 @@ live_wrote : {A : Type 0} (cur : List (Object A)) (p : ℕ) (x y : Object A) →
 live_wrote cur p x y inside is same =
     live_same (map row_of (set cur p y)) (map row_of cur) (length-map (set cur p y) row_of ∙ length-set cur p y ∙ sym (length-map cur row_of)) (λ o h. gone_wrote cur p x y inside is same o)
 
-single_below : (k n i d : ℕ) → i < length (k ∷ []) → k < n → get_or (k ∷ []) i d < n
-single_below k n zero d h below = below
-single_below k n (suc i) d h below = absurd (omega (arith, h))
-
--- with an object made, and its number behind the others
-there_more : (rows : List Row) (r : Row) (kept : List ℕ) → r.gone ≡ false → All (λ p. p < length rows) kept → filter (is_there rows) kept ≡ live_in rows
-    → filter (is_there (rows ++ r ∷ [])) (kept ++ length rows ∷ []) ≡ live_in (rows ++ r ∷ [])
-there_more rows r kept fresh within is =
-    let there : ℕ → Bool = is_there (rows ++ r ∷ []) in
-    let last : there (length rows) ≡ true = ap (λ (x : Row). not x.gone) (get_or-append_seam rows r [] no_row) ∙ ap not fresh in
-    filter-append there kept (length rows ∷ [])
-    ∙ ap (λ (os : List ℕ). os ++ filter there (length rows ∷ [])) (keep_alike there (is_there rows) kept
-    (λ i d h. ap (λ (x : Row). not x.gone) (get_or_append_left rows (r ∷ []) no_row (get_or kept i d) (within i d h))) ∙ is)
-    ∙ ap (λ b. live_in rows ++ cond b (length rows ∷ []) []) last
-    ∙ live_more rows r fresh
-
 -- ---- which may point at others
 
--- a slot written, or an object gone
-pub pointing_set : {A : Type 0} (cur : List (Object A)) (p : ℕ) (d y : Object A) → p < length cur → may_point y ≡ may_point (get_or cur p d)
-    → map may_point (set cur p y) ≡ map may_point cur
-pointing_set cur p d y inside same =
-    map-set may_point cur p y ∙ ap (set (map may_point cur) p) (same ∙ sym (get_or-map may_point cur p d false inside)) ∙ set-get_or (map may_point cur) p false
+-- a test that passes one object as another in its place
+pub test_set : {A : Type 0} (test : Object A → Bool) (cur : List (Object A)) (p : ℕ) (d y : Object A) → p < length cur → test y ≡ test (get_or cur p d)
+    → map test (set cur p y) ≡ map test cur
+test_set test cur p d y inside same =
+    map-set test cur p y ∙ ap (set (map test cur) p) (same ∙ sym (get_or-map test cur p d false inside)) ∙ set-get_or (map test cur) p false
 
 -- with a slot written
-pub keeps_wrote : {A : Type 0} (cur : List (Object A)) (live pointing : List ℕ) (p : ℕ) (x y : Object A) → Keeps cur live pointing → p < length cur → x ≡ get_or cur p x
-    → (row_of y).gone ≡ (row_of x).gone → may_point y ≡ may_point x → Keeps (set cur p y) live pointing
-keeps_wrote cur live pointing p x y keeps inside is gone kind = record {
-  within = subst (λ n. All (λ o. o < n) live) (sym (length-set cur p y)) keeps.within;
-  live = filter_agree (is_there (map row_of (set cur p y))) (is_there (map row_of cur)) (λ o. ap not (gone_wrote cur p x y inside is gone o)) live ∙ keeps.live ∙ sym (live_wrote cur p x y inside is gone);
-  pointing = keeps.pointing ∙ ap (λ (bs : List Bool). filter (λ o. get_or bs o false) (live_in (map row_of cur))) (sym (pointing_set cur p x y inside (kind ∙ ap may_point is)))
-      ∙ ap (filter (may_point_at (set cur p y))) (sym (live_wrote cur p x y inside is gone));
-}
+pub keeps_wrote : {A : Type 0} (cur : List (Object A)) (there : List Bool) (blocks : List ℕ) (loose : ℕ) (pointing : List ℕ) (p : ℕ) (x y : Object A) → Keeps cur there blocks loose pointing
+    → p < length cur → x ≡ get_or cur p x → (row_of y).gone ≡ (row_of x).gone → may_point y ≡ may_point x → Keeps (set cur p y) there blocks loose pointing
+keeps_wrote cur there blocks loose pointing p x y keeps inside is gone kind =
+    let live : live_in (map row_of cur) ≡ live_in (map row_of (set cur p y)) = sym (live_wrote cur p x y inside is gone) in
+    record {
+      flags = keeps.flags ∙ sym (test_set in_being cur p x y inside (ap not gone ∙ ap in_being is));
+      whole = keeps.whole;
+      order = keeps.order;
+      live = keeps.live ∙ live;
+      pointing = keeps.pointing ∙ ap (λ (bs : List Bool). filter (λ o. get_or bs o false) (live_in (map row_of cur))) (sym (test_set may_point cur p x y inside (kind ∙ ap may_point is)))
+          ∙ ap (filter (may_point_at (set cur p y))) live;
+    }
 
 -- which of those in being may point, with an object made
 pointing_more : {A : Type 0} (items : List (Object A)) (x : Object A) → filter (may_point_at (items ++ x ∷ [])) (live_in (map row_of items) ++ length items ∷ [])
@@ -201,38 +196,85 @@ pointing_more items x =
     ∙ ap (λ b. filter (may_point_at items) (live_in (map row_of items)) ++ cond b (length items ∷ []) [])
     (ap (λ (bs : List Bool). get_or bs (length items) false) all ∙ ap (λ i. get_or (map may_point items ++ may_point x ∷ []) i false) (sym m) ∙ get_or-append_seam (map may_point items) (may_point x) [] false)
 
+-- those in being, with an object made behind the others
+there_more : {A : Type 0} (items : List (Object A)) (x : Object A) (numbers : List ℕ) → x.gone ≡ false → All (λ o. o < length items) numbers
+    → filter (λ o. get_or (map in_being items) o false) numbers ≡ live_in (map row_of items)
+    → filter (λ o. get_or (map in_being items ++ true ∷ []) o false) (numbers ++ length items ∷ []) ≡ live_in (map row_of items ++ row_of x ∷ [])
+there_more items x numbers fresh within is =
+    let old : List Bool = map in_being items in
+    let n : length old ≡ length items = length-map items in_being in
+    let test : ℕ → Bool = λ o. get_or (old ++ true ∷ []) o false in
+    filter-append test numbers (length items ∷ [])
+    ∙ ap (λ (os : List ℕ). os ++ filter test (length items ∷ []))
+    (keep_alike test (λ o. get_or old o false) numbers (λ i d h. get_or_append_left old (true ∷ []) false (get_or numbers i d) (omega (arith, n, within i d h))) ∙ is)
+    ∙ ap (λ b. live_in (map row_of items) ++ cond b (length items ∷ []) []) (ap test (sym n) ∙ get_or-append_seam old true [] false)
+    ∙ ap (λ k. live_in (map row_of items) ++ k ∷ []) (sym (length-map items row_of)) ∙ live_more (map row_of items) (row_of x) fresh
+
 -- with an object made
-pub keeps_made : {A : Type 0} (items more : List (Object A)) (kept after pointing points : List ℕ) (x : Object A) (n : ℕ) → Keeps items kept pointing → more ≡ items ++ x ∷ []
-    → (row_of x).gone ≡ false → n ≡ length items → after ≡ kept ++ n ∷ [] → points ≡ pointing ++ cond (may_point x) (n ∷ []) [] → Keeps more after points
-keeps_made items more kept after pointing points x n keeps is fresh len made point =
+pub keeps_made : {A : Type 0} (items more : List (Object A)) (there flags : List Bool) (blocks after : List ℕ) (loose rest : ℕ) (pointing points : List ℕ) (x : Object A) (n : ℕ)
+    → Keeps items there blocks loose pointing → more ≡ items ++ x ∷ [] → (row_of x).gone ≡ false → n ≡ length items → flags ≡ there ++ true ∷ []
+    → numbers_in after rest (n + 1) ≡ numbers_in blocks loose (n + 1) → (AreWhole blocks (n + 1) → AreWhole after (n + 1)) → rest ≤ n + 1
+    → points ≡ pointing ++ cond (may_point x) (n ∷ []) [] → Keeps more flags after rest points
+keeps_made items more there flags blocks after loose rest pointing points x n keeps is fresh len flag same whole order point =
     let rows : List Row = map row_of items in
-    let m : length rows ≡ length items = length-map items row_of in
     let all : map row_of more ≡ rows ++ row_of x ∷ [] = ap (map row_of) is ∙ map-append row_of items (x ∷ []) in
-    let numbers : after ≡ kept ++ length rows ∷ [] = made ∙ ap (λ k. kept ++ k ∷ []) (len ∙ sym m) in
-    let count : length more ≡ length items + 1 = ap length is ∙ length-append items (x ∷ []) in
-    let below : All (λ p. p < length rows) kept = subst (λ k. All (λ p. p < k) kept) (sym m) keeps.within in
+    let old : length there ≡ n = ap (λ (bs : List Bool). length bs) keeps.flags ∙ length-map items in_being ∙ sym len in
+    let new : flags ≡ map in_being items ++ true ∷ [] = flag ∙ ap (λ (bs : List Bool). bs ++ true ∷ []) keeps.flags in
+    let count : length flags ≡ n + 1 = ap (λ (bs : List Bool). length bs) flag ∙ length-append there (true ∷ []) ∙ ap (λ k. k + 1) old in
+    let before : AreWhole blocks n = subst (AreWhole blocks) old keeps.whole in
+    let ordered : loose ≤ n = omega (arith, keeps.order, old) in
+    let within : All (λ o. o < length items) (numbers_in blocks loose n) = subst (λ k. All (λ o. o < k) (numbers_in blocks loose n)) len (numbers_within blocks loose n before ordered) in
     record {
-      within = subst (All (λ p. p < length more)) (sym numbers) (All-append (λ p. p < length more) kept (length rows ∷ []) (λ i d h. omega (arith, keeps.within i d h, count)) (λ i d h. single_below (length rows) (length more) i d h (omega (arith, m, count))));
-      live = ap (λ (rs : List Row). filter (is_there rs) after) all ∙ ap (filter (is_there (rows ++ row_of x ∷ []))) numbers
-          ∙ there_more rows (row_of x) kept fresh below keeps.live ∙ ap live_in (sym all);
+      flags = new ∙ ap (λ b. map in_being items ++ not b ∷ []) (sym fresh) ∙ sym (map-append in_being items (x ∷ [])) ∙ ap (map in_being) (sym is);
+      whole = subst (AreWhole after) (sym count) (whole (λ i d h. omega (arith, before i d h)));
+      order = omega (arith, order, count);
+      live = ap (λ k. filter (λ o. get_or flags o false) (numbers_in after rest k)) count
+          ∙ ap (filter (λ o. get_or flags o false)) (same ∙ numbers_more blocks loose n ordered)
+          ∙ ap (λ (bs : List Bool). filter (λ o. get_or bs o false) (numbers_in blocks loose n ++ n ∷ [])) new
+          ∙ ap (λ k. filter (λ o. get_or (map in_being items ++ true ∷ []) o false) (numbers_in blocks loose n ++ k ∷ [])) len
+          ∙ there_more items x (numbers_in blocks loose n) fresh within
+          (ap (λ (bs : List Bool). filter (λ o. get_or bs o false) (numbers_in blocks loose n)) (sym keeps.flags)
+          ∙ ap (λ k. filter (λ o. get_or there o false) (numbers_in blocks loose k)) (sym old) ∙ keeps.live)
+          ∙ ap live_in (sym all);
       pointing = point ∙ ap (λ k. pointing ++ cond (may_point x) (k ∷ []) []) len
           ∙ ap (λ (os : List ℕ). os ++ cond (may_point x) (length items ∷ []) []) keeps.pointing
           ∙ sym (pointing_more items x)
           ∙ ap (λ (xs : List (Object _)). filter (may_point_at xs) (live_in rows ++ length items ∷ [])) (sym is)
-          ∙ ap (filter (may_point_at more)) (ap (λ k. live_in rows ++ k ∷ []) (sym m) ∙ live_more rows (row_of x) fresh ∙ ap live_in (sym all));
+          ∙ ap (filter (may_point_at more)) (ap (λ k. live_in rows ++ k ∷ []) (sym (length-map items row_of)) ∙ live_more rows (row_of x) fresh ∙ ap live_in (sym all));
+    }
+
+-- after a collection
+pub keeps_swept : {A : Type 0} (old new : List (Object A)) (there flags : List Bool) (blocks after : List ℕ) (loose : ℕ) (pointing points : List ℕ) (marked : ℕ → Bool)
+    → Keeps old there blocks loose pointing → length new ≡ length old
+    → ((o : ℕ) → row_in (map row_of new) o ≡ ended_row (list_any (λ p. not (marked p) && eqb p o) (live_in (map row_of old))) (row_in (map row_of old) o))
+    → map may_point new ≡ map may_point old → flags ≡ map in_being new
+    → filter (λ o. get_or flags o false) (numbers_in after loose (length flags)) ≡ filter (λ o. get_or flags o false) (numbers_in blocks loose (length flags))
+    → AreWhole after (length flags) → points ≡ filter marked pointing → Keeps new flags after loose points
+keeps_swept old new there flags blocks after loose pointing points marked keeps len ended kind is closed whole point =
+    let numbers : List ℕ = numbers_in blocks loose (length there) in
+    let count : length flags ≡ length there = ap (λ (bs : List Bool). length bs) is ∙ length-map new in_being ∙ len ∙ sym (length-map old in_being) ∙ ap (λ (bs : List Bool). length bs) (sym keeps.flags) in
+    record {
+      flags = is;
+      whole = whole;
+      order = omega (arith, keeps.order, count);
+      live = closed ∙ ap (λ k. filter (λ o. get_or flags o false) (numbers_in blocks loose k)) count ∙ ap (λ (bs : List Bool). filter (λ o. get_or bs o false) numbers) is
+          ∙ numbers_swept old new marked numbers len ended (ap (λ (bs : List Bool). filter (λ o. get_or bs o false) numbers) (sym keeps.flags) ∙ keeps.live);
+      pointing = point ∙ ap (filter marked) keeps.pointing ∙ filter_swap marked (may_point_at old) (live_in (map row_of old))
+          ∙ ap (λ (bs : List Bool). filter (λ o. get_or bs o false) (filter marked (live_in (map row_of old)))) (sym kind)
+          ∙ ap (filter (may_point_at new)) (live_swept (map row_of old) (map row_of new) marked (length-map new row_of ∙ len ∙ sym (length-map old row_of)) ended);
     }
 
 -- they are numbers of objects too
-pub pointing_within : {A : Type 0} (items before : List (Object A)) (pointed live pointing : List ℕ) → before ≡ items → pointed ≡ pointing → Keeps items live pointing
-    → All (λ p. p < length before) pointed
-pointing_within items before pointed live pointing is same keeps =
+pub pointing_within : {A : Type 0} (items before : List (Object A)) (there : List Bool) (blocks : List ℕ) (loose : ℕ) (pointed pointing : List ℕ) → before ≡ items → pointed ≡ pointing
+    → Keeps items there blocks loose pointing → All (λ p. p < length before) pointed
+pointing_within items before there blocks loose pointed pointing is same keeps =
     within items before pointed pointing is same
     (subst (All (λ p. p < length items)) (sym keeps.pointing) (All-filter (may_point_at items) (λ p. p < length items) (live_in (map row_of items)) (all_below items)))
 
 -- no other of those in being points at anything
-pub pointing_holds : {A : Type 0} (items : List (Object A)) (live pointing : List ℕ) (o : ℕ) → Keeps items live pointing
+pub pointing_holds : {A : Type 0} (items : List (Object A)) (there : List Bool) (blocks : List ℕ) (loose : ℕ) (pointing : List ℕ) (o : ℕ) → Keeps items there blocks loose pointing
     → list_any (slot_of_row_holds (map row_of items) o) pointing ≡ list_any (slot_of_row_holds (map row_of items) o) (live_in (map row_of items))
-pointing_holds items live pointing o keeps =
+pointing_holds items there blocks loose pointing o keeps =
     let rows : List Row = map row_of items in
     let here : ℕ → Bool = is_there rows in
     let holds : ℕ → Bool = slot_of_row_holds rows o in

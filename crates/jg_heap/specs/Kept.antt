@@ -1,5 +1,5 @@
 -- The rows of the objects that the store keeps, and what a call does to one row.
-use Rattle.std.specs.Prelude.{ℕ, ◌≡◌, ◌<◌, All, Bool, true, false, not, ◌&&◌, ◌||◌, List, [], ◌+◌, ◌++◌, length, take, drop, map, filter, slice_set, slice_index_or}
+use Rattle.std.specs.Prelude.{ℕ, ◌≡◌, ◌≤◌, All, Bool, true, false, not, ◌&&◌, ◌||◌, List, [], ◌+◌, ◌-◌, ◌++◌, length, take, drop, flat_map, map, filter, slice_set, slice_index_or}
 use Rattle.std.specs.List.{list_any, range_with_len}
 use Rattle.jg_heap.specs.declared.object.Slot.{Slot}
 use Rattle.jg_heap.specs.declared.object.Slot.TheVariants.{Number, Object as ToObject}
@@ -84,16 +84,34 @@ is_there rows o = not (row_in rows o).gone
 abbrev pub live_in : List Row → List ℕ
 live_in rows = filter (is_there rows) (range_with_len 0 (length rows))
 
--- it isn't gone, and its mark isn't set
-abbrev pub unheld_in : List Row → List Bool → ℕ → Bool
-unheld_in rows marks o = is_there rows o && not (slice_index_or marks o false)
+-- the object isn't gone
+abbrev pub in_being : {A : Type 0} → Object A → Bool
+in_being x = not x.gone
+
+-- it is in being, as a list of them says, and its mark isn't set
+abbrev pub unheld_in : List Bool → List Bool → ℕ → Bool
+unheld_in there marks o = slice_index_or there o false && not (slice_index_or marks o false)
+
+-- the numbers of a block's objects, 32 in a row
+unfoldable pub block_of : ℕ → List ℕ
+block_of first = range_with_len first 32
+
+-- the numbers of the objects of these blocks, and of those from `loose` on, of n in all
+abbrev pub numbers_in : List ℕ → ℕ → ℕ → List ℕ
+numbers_in blocks loose n = flat_map block_of blocks ++ range_with_len loose (n - loose)
+
+-- the first n objects have all those of each block among them
+abbrev pub AreWhole : List ℕ → ℕ → Type 0
+AreWhole blocks n = All (λ b. b + 32 ≤ n) blocks
 
 -- the slots of the object of this number may hold objects
 abbrev pub may_point_at : {A : Type 0} → List (Object A) → ℕ → Bool
 may_point_at objects o = slice_index_or (map may_point objects) o false
 
--- what the store keeps beside the objects: those that aren't gone, among others, and which of these may point at others
-pub record Keeps {A : Type 0} (objects : List (Object A)) (numbers pointers : List ℕ) : Type 0 where
-  pub within : All (λ p. p < length objects) numbers
-  pub live : filter (is_there (map row_of objects)) numbers ≡ live_in (map row_of objects)
+-- what the store keeps beside the objects: which aren't gone, where all of these stand, and which of these may point at others
+pub record Keeps {A : Type 0} (objects : List (Object A)) (there : List Bool) (blocks : List ℕ) (loose : ℕ) (pointers : List ℕ) : Type 0 where
+  pub flags : there ≡ map in_being objects
+  pub whole : AreWhole blocks (length there)
+  pub order : loose ≤ length there
+  pub live : filter (λ o. slice_index_or there o false) (numbers_in blocks loose (length there)) ≡ live_in (map row_of objects)
   pub pointing : pointers ≡ filter (may_point_at objects) (live_in (map row_of objects))

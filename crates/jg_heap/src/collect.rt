@@ -1,8 +1,8 @@
-ghost use Rattle.std.specs.Prelude.{◌≡◌, ℕ, ◌<◌, ◌≤◌, ◌^◌, All, false, true, not, ◌&&◌, ◌==◌, Bool, OnOk, length, slice_index_or, nat_lt, map, filter, take};
-ghost use Rattle.std.specs.List.{list_any};
+ghost use Rattle.std.specs.Prelude.{◌≡◌, ℕ, ◌+◌, ◌-◌, ◌++◌, ◌<◌, ◌≤◌, All, false, ◌==◌, OnOk, length, slice_index_or, nat_lt, map, filter, vec_len, vec_capacity};
+ghost use Rattle.std.specs.List.{list_any, range_with_len};
 ghost use Rattle.jg_heap.specs.declared.object.Slot.TheVariants.{Object as ToObject};
 ghost use Rattle.jg_heap.specs.History.{holds};
-ghost use Rattle.jg_heap.specs.Kept.{slots_of_body, row_of, ended_row, slot_of_row_holds, may_point, is_there, unheld_in};
+ghost use Rattle.jg_heap.specs.Kept.{slots_of_body, row_of, ended_row, slot_of_row_holds, may_point, in_being, unheld_in, block_of, numbers_in, AreWhole};
 ghost use Rattle.jg_heap.specs.Rows.{row_in};
 ghost use Rattle.jg_lists.specs.Marks.{Marks};
 
@@ -83,86 +83,91 @@ pub(crate) fn mark_pointed<A: Allocator>(
     }
 }
 
-/// Whether the object isn't gone.
-fn is_there<A: Allocator>(objects: &[Object<A>], object: u64) -> bool
-    requires { object < length objects.now }
-    ensures { result ≡ is_there (map row_of objects.now) object }
+/// How many objects a block has. The processor compares so many marks at once.
+pub(crate) const BLOCK: usize = 32;
+
+/// Whether the object is in being and isn't marked.
+fn is_unheld<A: Allocator>(marks: &ObjectMarks<A>, there: &[bool], object: usize) -> bool
+    requires { object < length there.now }
+    ensures { result ≡ unheld_in there.now marks.now object }
 {
-    !objects[object as usize].gone
+    there[object] & !marks.is_set(object as u64)
 }
 
-/// Lists those of `live` that aren't marked.
-fn list_unmarked<A: Allocator>(
+/// Lists those of the objects from `first` on, before `end`, that are in being and aren't marked.
+fn list_among<A: Allocator>(
     marks: &ObjectMarks<A>,
-    live: &[u64],
-    unmarked: &mut Vec<u64, A>,
-) -> Result<(), AllocError>
-    ensures { OnOk result (unmarked.new.items ≡ filter (λ o. not (slice_index_or marks.now o false)) live.now) }
-{
-    unmarked.clear();
-    let mut at = 0;
-    while at < live.len() {
-        let next = at + marks.count_set(&live[at..]);
-        if next < live.len() {
-            unmarked.push(live[next])?;
-        }
-        at = next + 1;
-    }
-    Ok(())
-}
-
-/// Moves those of the numbers that aren't gone to the front, and answers how many they are.
-fn keep_there<A: Allocator>(objects: &[Object<A>], numbers: &mut [u64]) -> usize
-    requires { All (λ p. p < length objects.now) numbers.old }
-    ensures { take result numbers.new ≡ filter (is_there (map row_of objects.now)) numbers.old }
-{
-    let mut kept = 0;
-    for at in 0..numbers.len() {
-        let number = numbers[at];
-        if is_there(objects, number) {
-            numbers[kept] = number;
-            kept += 1;
-        }
-    }
-    kept
-}
-
-/// Lists those of `live` that aren't gone and aren't marked.
-pub(crate) fn list_unheld<A: Allocator>(
-    marks: &ObjectMarks<A>,
-    objects: &[Object<A>],
-    live: &[u64],
+    there: &[bool],
+    first: usize,
+    end: usize,
     unheld: &mut Vec<u64, A>,
 ) -> Result<(), AllocError>
-    requires { All (λ p. p < length objects.now) live.now }
-    ensures { OnOk result (unheld.new.items ≡ filter (unheld_in (map row_of objects.now) marks.now) live.now) }
+    requires order { first ≤ end }
+    requires within { end ≤ length there.now }
+    ensures { OnOk result (unheld.new.items
+        ≡ unheld.old.items ++ filter (unheld_in there.now marks.now) (range_with_len first (end - first))) }
 {
-    // First by the marks alone, which lie close together, and then by the objects, which don't.
-    list_unmarked(marks, live, unheld)?;
-    let kept = keep_there(objects, unheld);
-    unheld.truncate(kept);
+    if !marks.misses(first as u64, &there[first..end]) {
+        return Ok(());
+    }
+    for object in first..end {
+        if is_unheld(marks, there, object) {
+            unheld.push(object as u64)?;
+        }
+    }
     Ok(())
+}
+
+/// Lists those of the objects of the blocks, and of those from `loose` on, that are in being and aren't
+/// marked.
+pub(crate) fn list_unheld<A: Allocator>(
+    marks: &ObjectMarks<A>,
+    there: &[bool],
+    blocks: &[u64],
+    loose: usize,
+    unheld: &mut Vec<u64, A>,
+) -> Result<(), AllocError>
+    requires whole { AreWhole blocks.now (length there.now) }
+    requires loose { loose ≤ length there.now }
+    ensures { OnOk result (unheld.new.items
+        ≡ filter (unheld_in there.now marks.now) (numbers_in blocks.now loose (length there.now))) }
+{
+    unheld.clear();
+    for block in blocks {
+        let first = *block as usize;
+        list_among(marks, there, first, first + BLOCK, unheld)?;
+    }
+    list_among(marks, there, loose, there.len(), unheld)
 }
 
 /// Lets go of an object.
-fn let_go<A: Allocator>(objects: &mut [Object<A>], object: u64)
-    requires { object < length objects.old }
+fn let_go<A: Allocator>(objects: &mut [Object<A>], there: &mut [bool], object: u64)
+    requires objects { object < length objects.old }
+    requires there { object < length there.old }
     ensures rows { (o : ℕ) → row_in (map row_of objects.new) o
         ≡ ended_row (object == o) (row_in (map row_of objects.old) o) }
     ensures pointing { map may_point objects.new ≡ map may_point objects.old }
+    ensures there { there.old ≡ map in_being objects.old → there.new ≡ map in_being objects.new }
 {
     objects[object as usize].gone = true;
+    there[object as usize] = false;
 }
 
 /// Lets go of each of the objects.
-pub(crate) fn let_all_go<A: Allocator>(objects: &mut [Object<A>], unheld: &[u64])
-    requires { All (λ p. p < length objects.old) unheld.now }
+pub(crate) fn let_all_go<A: Allocator>(
+    objects: &mut [Object<A>],
+    there: &mut [bool],
+    unheld: &[u64],
+)
+    requires objects { All (λ p. p < length objects.old) unheld.now }
+    requires there { All (λ p. p < length there.old) unheld.now }
     ensures rows { (o : ℕ) → row_in (map row_of objects.new) o
         ≡ ended_row (list_any (λ p. p == o) unheld.now) (row_in (map row_of objects.old) o) }
     ensures pointing { map may_point objects.new ≡ map may_point objects.old }
+    ensures there { there.old ≡ map in_being objects.old → there.new ≡ map in_being objects.new }
 {
     for object in unheld {
-        let_go(objects, *object);
+        let_go(objects, there, *object);
     }
 }
 
@@ -173,19 +178,59 @@ pub(crate) fn retain_marked<A: Allocator>(numbers: &mut Vec<u64, A>, marks: &Obj
     numbers.retain(|object| marks.is_set(*object));
 }
 
-/// Keeps the numbers of those that are marked, if more than a part of 32 and eight may be of what is
-/// gone, so that a collection goes over few in vain. `stale` is how many may be, and so is the answer.
+/// Puts the first of the loose objects into a block, if they fill one, and answers from where on they are
+/// loose. There is room for a block.
+pub(crate) fn fill_block<A: Allocator>(
+    blocks: &mut Vec<u64, A>,
+    loose: usize,
+    count: usize,
+) -> usize
+    requires room { vec_len blocks.old < vec_capacity blocks.old }
+    requires loose { loose ≤ count }
+    ensures same { numbers_in blocks.new.items result count ≡ numbers_in blocks.old.items loose count }
+    ensures whole { AreWhole blocks.old.items count → AreWhole blocks.new.items count }
+    ensures loose { result ≤ count }
+{
+    if count - loose < BLOCK {
+        return loose;
+    }
+    blocks.push_reserved(loose as u64);
+    loose + BLOCK
+}
+
+/// Whether one of these is true.
+fn some_true(flags: &[bool]) -> bool
+    ensures { result ≡ list_any (λ flag. flag) flags.now }
+{
+    flags.iter().any(|flag| *flag)
+}
+
+/// Whether an object of the block is in being.
+fn has_some(there: &[bool], block: u64) -> bool
+    ensures { result ≡ list_any (λ o. slice_index_or there.now o false) (block_of block) }
+{
+    let first = block as usize;
+    if first >= there.len() {
+        return false;
+    }
+    let end = there.len().min(first + BLOCK);
+    some_true(&there[first..end])
+}
+
+/// Keeps the blocks of which some object is in being, if more objects were let go since that was done than
+/// blocks stand in the list. `stale` is how many were, and so is the answer.
 pub(crate) fn close_up_if<A: Allocator>(
-    live: &mut Vec<u64, A>,
-    marks: &ObjectMarks<A>,
+    blocks: &mut Vec<u64, A>,
+    there: &[bool],
     stale: usize,
 ) -> usize
-    ensures kept { (keeps : ℕ → Bool) → All (λ o. keeps o ≡ true → slice_index_or marks.now o false ≡ true) live.old.items
-        → filter keeps live.new.items ≡ filter keeps live.old.items }
-    ensures within { (n : ℕ) → All (λ o. o < n) live.old.items → All (λ o. o < n) live.new.items }
+    requires { AreWhole blocks.old.items (length there.now) }
+    ensures there { (loose : ℕ) → filter (λ o. slice_index_or there.now o false) (numbers_in blocks.new.items loose (length there.now))
+        ≡ filter (λ o. slice_index_or there.now o false) (numbers_in blocks.old.items loose (length there.now)) }
+    ensures whole { AreWhole blocks.new.items (length there.now) }
 {
-    if stale > live.len() / 32 + 8 {
-        retain_marked(live, marks);
+    if stale > blocks.len() + 8 {
+        blocks.retain(|block| has_some(there, *block));
         0
     } else {
         stale

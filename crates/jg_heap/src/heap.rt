@@ -8,7 +8,7 @@ ghost use Rattle.jg_heap.specs.Standing.{Stands, MarksRoots, MarksHeld, AreListe
 
 use crate::body::{Body, Object, object_of};
 use crate::collect::{
-    close_up_if, let_all_go, list_unheld, mark_classes, mark_pointed, retain_marked,
+    close_up_if, fill_block, let_all_go, list_unheld, mark_classes, mark_pointed, retain_marked,
 };
 use crate::object::{Shape, Slot};
 use jg_lists::ObjectMarks;
@@ -24,12 +24,18 @@ use std::marker::Model;
 pub struct Heap<A: Allocator = Global> {
     class_count: u64,
     objects: Vec<Object<A>, A>,
-    /// The numbers of the objects that aren't gone, ascending, and of some that are.
-    live: Vec<u64, A>,
-    /// How many of these may be gone. What is let go of is left there until it is more than a few.
+    /// Whether each object is in being: what its own `gone` says, but close together, so that a
+    /// collection compares many at once.
+    there: Vec<bool, A>,
+    /// The first numbers of the blocks of 32 objects in which some may be in being, ascending. A
+    /// collection looks into no other.
+    blocks: Vec<u64, A>,
+    /// From which object on none belongs to a block yet.
+    loose: usize,
+    /// How many objects were let go since the blocks were looked over.
     stale: usize,
-    /// The numbers of those whose slots may hold objects, ascending. A collection looks into no
-    /// other.
+    /// The numbers of those in being whose slots may hold objects, ascending. A collection looks into
+    /// no other's slots.
     pointing: Vec<u64, A>,
 }
 
@@ -42,7 +48,7 @@ impl<A: Allocator> Model for Heap<A> {
 
     ghost view = { λ h. record { classes = h.class_count; objects = map row_of h.objects.items } };
 
-    ghost invariant = { λ h. Keeps h.objects.items h.live.items h.pointing.items };
+    ghost invariant = { λ h. Keeps h.objects.items h.there.items h.blocks.items h.loose h.pointing.items };
 }
 
 /// Adds a number where it is asked for. There is room for it.
@@ -63,10 +69,11 @@ impl<A: Allocator + Clone> Heap<A> {
         ensures stands { IfOk result (λ heap. Stands heap []) }
     {
         let mut objects = Vec::new(alloc.clone()?);
-        let mut live = Vec::new(alloc.clone()?);
+        let mut there = Vec::new(alloc.clone()?);
+        let blocks = Vec::new(alloc.clone()?);
         let pointing = Vec::new(alloc);
         for class in 0..class_count {
-            live.push(class)?;
+            there.push(true)?;
             objects.push(Object {
                 body: Body::Class,
                 gone: false,
@@ -75,7 +82,9 @@ impl<A: Allocator + Clone> Heap<A> {
         Ok(Heap {
             class_count,
             objects,
-            live,
+            there,
+            blocks,
+            loose: 0,
             stale: 0,
             pointing,
         })
@@ -98,10 +107,12 @@ impl<A: Allocator + Clone> Heap<A> {
         let number = self.objects.len();
         let object = object_of(self.objects.allocator(), shape)?;
         let may_point = object.body.may_point();
-        self.live.reserve(1)?;
+        self.there.reserve(1)?;
+        self.blocks.reserve(1)?;
         self.pointing.reserve(1)?;
         self.objects.push(object)?;
-        self.live.push_reserved(number as u64);
+        self.there.push_reserved(true);
+        self.loose = fill_block(&mut self.blocks, self.loose, number + 1);
         add_if(&mut self.pointing, number as u64, may_point);
         Ok(ObjId(number as u64))
     }
@@ -268,7 +279,7 @@ impl<A: Allocator> Heap<A> {
     {
         mark_classes(marks, self.class_count);
         mark_pointed(marks, &self.objects, &self.pointing);
-        list_unheld(marks, &self.objects, &self.live, unheld)?;
+        list_unheld(marks, &self.there, &self.blocks, self.loose, unheld)?;
         Ok(())
     }
 
@@ -281,9 +292,9 @@ impl<A: Allocator> Heap<A> {
         ensures classes { self.new.classes ≡ self.old.classes }
         ensures shapes { KeepsShapes self.old self.new }
     {
-        let_all_go(&mut self.objects, unheld);
+        let_all_go(&mut self.objects, &mut self.there, unheld);
         retain_marked(&mut self.pointing, marks);
         let stale = self.stale.saturating_add(unheld.len());
-        self.stale = close_up_if(&mut self.live, marks, stale);
+        self.stale = close_up_if(&mut self.blocks, &self.there, stale);
     }
 }

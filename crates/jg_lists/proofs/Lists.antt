@@ -1,12 +1,15 @@
 -- Lemmas on lists and tests.
-use Rattle.std.proofs.Common.{◌≡◌, ℕ, get_or, Bool, true, false, List, [], ◌∷◌, Option, Some, None, refl, ◌∙◌, ap, sym, subst, arith, inl, inr}
+use Rattle.std.proofs.Common.{◌≡◌, ◌<◌, ◌+◌, ◌++◌, ℕ, zero, suc, get_or, Bool, true, false, List, [], ◌∷◌, Option, Some, None, refl, ◌∙◌, ap, sym, subst, arith, inl, inr}
 use Rattle.std.specs.Prelude.{◌⊎◌, ◌||◌, if◌then◌else◌, filter, find, map, slice_set}
-use Rattle.std.specs.List.{list_any, swap, AllByRecursion}
+use Rattle.std.specs.List.{list_any, range_with_len, swap, AllByRecursion}
 use Rattle.std.specs.List.Sorted.{IsPermutation, apply_swaps, SwapsInRange}
 use Rattle.std.specs.Option.{option_map}
 use Rattle.std.proofs.lemmas.Bool.Decides.{nat_tests}
-use Rattle.std.proofs.lemmas.List.{length-map, map-set}
+use Rattle.std.proofs.lemmas.List.{length-map, map-id, map-set}
+use Rattle.std.proofs.lemmas.List.Folds.{list_any-append}
+use Rattle.std.proofs.lemmas.List.FromFn.{map-range_with_len_more}
 use Rattle.std.proofs.Math.ListN.{get_or-map}
+use Rattle.jg_lists.proofs.Marks.{or_false}
 
 pub none_either : (a b : Bool) → (a || b) ≡ false → (a ≡ false) × (b ≡ false)
 none_either true b none = cc
@@ -97,6 +100,21 @@ same_answers false false there back = refl
 -- two answers are equal where each is yes if the other is
 pub both_ways : (a b : Bool) → (a ≡ true → b ≡ true) → (b ≡ true → a ≡ true) → a ≡ b
 both_ways a b there back = same_answers a b there back
+
+-- ---- numbers in a row
+
+-- one number more
+pub range_more : (a n : ℕ) → range_with_len a (n + 1) ≡ range_with_len a n ++ (a + n) ∷ []
+range_more a n =
+    sym (map-id (range_with_len a (n + 1))) ∙ map-range_with_len_more (λ (o : ℕ). o) a n (a + n) refl ∙ ap (λ (os : List ℕ). os ++ (a + n) ∷ []) (map-id (range_with_len a n))
+
+pub any_more : (p : ℕ → Bool) (a n : ℕ) → list_any p (range_with_len a (n + 1)) ≡ (list_any p (range_with_len a n) || p (a + n))
+any_more p a n = ap (list_any p) (range_more a n) ∙ list_any-append p (range_with_len a n) ((a + n) ∷ []) ∙ ap (λ b. list_any p (range_with_len a n) || b) (or_false (p (a + n)))
+
+-- two tests that agree on numbers in a row
+pub any_agree : (p q : ℕ → Bool) (a n : ℕ) → ((o : ℕ) → o < a + n → p o ≡ q o) → list_any p (range_with_len a n) ≡ list_any q (range_with_len a n)
+any_agree p q a zero h = refl
+any_agree p q a (suc n) h = rw (h a (omega arith), any_agree p q (a + 1) n (λ o l. h o (omega arith))) refl
 
 -- ---- other orders
 

@@ -1,10 +1,10 @@
 -- Marks that are set one after another.
-use Rattle.std.proofs.Common.{◌≡◌, ◌≢◌, ◌<◌, ◌≤◌, ◌+◌, ◌-◌, length, get_or, take, ℕ, Bool, true, false, List, ◌∷◌, Option, Some, None, refl, ◌∙◌, sym, ap, arith, inl, inr}
+use Rattle.std.proofs.Common.{◌≡◌, ◌≢◌, ◌<◌, ◌≤◌, ◌+◌, ◌-◌, length, get_or, drop, take, ℕ, Bool, true, false, List, ◌∷◌, Option, Some, None, refl, ◌∙◌, sym, ap, arith, inl, inr}
 use Rattle.std.specs.Prelude.{◌==◌, ◌||◌, ◌⊎◌, All, false, map, min, slice_get, slice_set}
 use Rattle.std.specs.List.{list_any}
 use Rattle.std.specs.Option.{option_map}
 use Rattle.std.proofs.lemmas.Bool.Decides.{nat_tests}
-use Rattle.std.proofs.lemmas.List.{get_or-set_same, get_or-set_other, get_or-map, get_or_past, length-map, length-set, length-take-le, map-set, take-set-le, take_all}
+use Rattle.std.proofs.lemmas.List.{get_or-set_same, get_or-set_other, get_or-map, get_or_past, get_or-drop, get_or-take, length-map, length-set, length-take-le, map-set, take-set-le, take_all}
 use Rattle.std.proofs.lemmas.List.Folds.{list_any_more}
 use Rattle.std.proofs.lemmas.Bool.{cases_lt}
 use Rattle.std.proofs.Math.Seq.{take-set-lt}
@@ -129,6 +129,12 @@ unset_or_past turns turn o past (inr out) =
 
 pub unset : (turns : List ℕ) (turn o : ℕ) → All (λ t. t < turn) turns → get_or (map (λ t. t == turn) turns) o false ≡ false
 unset turns turn o past = unset_or_past turns turn o past (cases_lt o (length turns))
+
+-- the marks of objects in a row, as the turns of their places tell
+pub set_from : (turns : List ℕ) (turn first n i : ℕ) → i < n → first + n ≤ length turns - 1 → (get_or (take (first + n - first) (drop first turns)) i 0 == turn) ≡ get_or (marks_in turn turns) (first + i) false
+set_from turns turn first n i within marked =
+    ap (λ t. t == turn) (get_or-take (first + n - first) (drop first turns) i 0 (omega (arith, within)) ∙ get_or-drop first turns i 0 ∙ sym (get_or-take (length turns - 1) turns (first + i) 0 (omega (arith, within, marked))))
+    ∙ sym (get_or-map (λ t. t == turn) (but_last turns) (first + i) 0 false (omega (arith, within, marked, length-but_last turns)))
 
 -- marks that are set in two turns
 pub marks_more : (before last all : ℕ → Bool) (old mid new : List Bool) → Marks before old mid → Marks last mid new → ((o : ℕ) → all o ≡ (before o || last o)) → Marks all old new

@@ -1,5 +1,5 @@
-ghost use Rattle.std.specs.Prelude.{◌≡◌, ℕ, ◌<◌, ◌≤◌, ◌^◌, ◌==◌, [], All, false, Some, length, slice_get, slice_index_or, take, true, OnOk};
-ghost use Rattle.std.specs.List.{list_any};
+ghost use Rattle.std.specs.Prelude.{◌≡◌, ℕ, ◌+◌, ◌<◌, ◌≤◌, ◌^◌, ◌==◌, ◌&&◌, [], All, false, not, Some, length, slice_get, slice_index_or, true, OnOk};
+ghost use Rattle.std.specs.List.{list_any, range_with_len};
 ghost use Rattle.jg_lists.specs.Marks.{Marks, but_last, marks_in};
 
 use std::alloc::{AllocError, Allocator, Global};
@@ -76,19 +76,18 @@ fn is_noted(turns: &[u8], turn: u8, object: u64) -> bool
     }
 }
 
-/// How many of the objects, from the first on, had their marks set in this turn.
-fn count_noted(turns: &[u8], turn: u8, objects: &[u64]) -> usize
-    ensures noted { All (λ o. slice_index_or (marks_in turn turns.now) o false ≡ true) (take result objects.now) }
-    ensures within { result ≤ length objects.now }
-    ensures next { result < length objects.now
-        → slice_index_or (marks_in turn turns.now) (slice_index_or objects.now result 0) false ≡ false }
+/// Whether one of the places whose turn is wanted, as `wanted` says place by place, has another turn. Goes
+/// over all without a branch, so that the processor compares many at once.
+fn other_turn(turns: &[u8], turn: u8, wanted: &[bool]) -> bool
+    requires { length wanted.now ≤ length turns.now }
+    ensures { result ≡ list_any (λ i. slice_index_or wanted.now i false && not (slice_index_or turns.now i 0 == turn))
+        (range_with_len 0 (length wanted.now)) }
 {
-    for at in 0..objects.len() {
-        if !is_noted(turns, turn, objects[at]) {
-            return at;
-        }
+    let mut other = false;
+    for at in 0..wanted.len() {
+        other |= wanted[at] & (turns[at] != turn);
     }
-    objects.len()
+    other
 }
 
 /// Notes the turn for an object, or at the last place if it has no mark.
@@ -142,14 +141,20 @@ impl<A: Allocator> ObjectMarks<A> {
         is_noted(&self.turns, self.turn, object)
     }
 
-    /// How many of the objects, from the first on, have their marks set.
-    pub fn count_set(&self, objects: &[u64]) -> usize
-        ensures set { All (λ o. slice_index_or self.now o false ≡ true) (take result objects.now) }
-        ensures within { result ≤ length objects.now }
-        ensures next { result < length objects.now
-            → slice_index_or self.now (slice_index_or objects.now result 0) false ≡ false }
+    /// Whether the mark of one of the objects from `first` on isn't set, of those that are wanted: `wanted`
+    /// says so of each in turn. Answers yes also where one of these objects has no mark.
+    pub fn misses(&self, first: u64, wanted: &[bool]) -> bool
+        ensures within { first + length wanted.now ≤ length self.now
+            → result ≡ list_any (λ i. slice_index_or wanted.now i false && not (slice_index_or self.now (first + i) false))
+            (range_with_len 0 (length wanted.now)) }
+        ensures past { length self.now < first + length wanted.now → result ≡ true }
     {
-        count_noted(&self.turns, self.turn, objects)
+        let first = first as usize;
+        let count = self.turns.len().saturating_sub(1);
+        if first > count || wanted.len() > count - first {
+            return true;
+        }
+        other_turn(&self.turns[first..first + wanted.len()], self.turn, wanted)
     }
 
     /// Sets the object's mark. An object without a mark is passed over.

@@ -9,4 +9,5 @@ loop-object-preserved g c = record {
   rows = λ o. ended_more (row_in (map row_of c.args.objects.now) o) (row_in (map row_of c.loop-object.objects) o) _ c.args.unheld.now c.loop-object.object-index o c.loop-object-test.true
       (c.loop-object.invariant.rows o) (c.let_go.ensures.rows o);
   pointing = c.let_go.ensures.pointing ∙ c.loop-object.invariant.pointing;
+  there = λ is. c.let_go.ensures.there (c.loop-object.invariant.there is);
 }

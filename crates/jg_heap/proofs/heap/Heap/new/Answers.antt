@@ -25,6 +25,6 @@ loop-class-preserved g c =
     record {
       rows = ap (map row_of) c.in_ok-push-2.ensures.items ∙ map-append row_of c.loop-class.objects.items (_ ∷ [])
           ∙ ap (λ (rs : List Row). rs ++ row_of_making (Plain 1 []) ∷ []) c.loop-class.invariant.rows ∙ replicate_more c.loop-class.class (row_of_making (Plain 1 []));
-      keeps = keeps_made c.loop-class.objects.items _ c.loop-class.live.items _ [] [] _ c.loop-class.class c.loop-class.invariant.keeps c.in_ok-push-2.ensures.items refl
-          (omega arith) c.in_ok-push.ensures.items refl;
+      keeps = keeps_made c.loop-class.objects.items _ c.loop-class.there.items _ [] [] 0 0 [] [] _ c.loop-class.class c.loop-class.invariant.keeps c.in_ok-push-2.ensures.items refl
+          (omega arith) c.in_ok-push.ensures.items refl (λ whole. whole) (omega arith) refl;
     }

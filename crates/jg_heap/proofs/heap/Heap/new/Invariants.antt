@@ -7,5 +7,5 @@ use Rattle.jg_heap.proofs.heap.Heap.new.Given as goal
 abbrev pub invariant-loop-class : goal.invariant-loop-class
 invariant-loop-class g l = record {
   rows : map row_of l.objects.items ≡ replicate l.class (row_of_making (Plain 1 []));
-  keeps : Keeps l.objects.items l.live.items [];
+  keeps : Keeps l.objects.items l.there.items [] 0 [];
 }

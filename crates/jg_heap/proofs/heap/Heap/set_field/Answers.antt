@@ -23,5 +23,5 @@ returns-clause-shapes g c =
 
 pub invariant_of-self : goal.invariant_of-self
 invariant_of-self g c =
-    keeps_wrote c.self.inside.objects.items _ _ c.args.object.0 c.index_mut.result.now _ c.self.invariant
+    keeps_wrote c.self.inside.objects.items _ _ _ _ c.args.object.0 c.index_mut.result.now _ c.self.invariant
     (made_inside c.self.inside.objects.items c.args.self.now c.args.object.0 (ap (λ (r : Rows). r.objects) c.self.view_is) c.requires.made) c.index_mut.ensures.value refl c.set_field.ensures.kind

@@ -1,13 +1,13 @@
-use Rattle.std.proofs.Common.{◌∙◌, ◌≡◌, ◌<◌, ap, sym, subst, get_or, false, not, eqb, length, map, List, ℕ, Bool}
+use Rattle.std.proofs.Common.{arith, ◌∙◌, ◌≡◌, ◌<◌, ap, sym, subst, get_or, false, not, eqb, length, map, List, ℕ, Bool}
 use Rattle.std.specs.Prelude.{All, filter}
 use Rattle.std.specs.List.{list_any}
+use Rattle.std.specs.Vec.{with_items}
 use Rattle.std.proofs.lemmas.List.{with_items_is, length-map}
 use Rattle.std.proofs.lemmas.List.Elements.{All-filter}
 use Rattle.jg_heap.specs.declared.body.Object.{Object}
 use Rattle.jg_heap.specs.Rows.{Row, Rows, KeepsShapes, row_in}
-use Rattle.jg_heap.specs.Kept.{row_of, is_there, live_in, ended_row, may_point, may_point_at}
-use Rattle.jg_lists.proofs.Lists.{filter_swap}
-use Rattle.jg_heap.proofs.Sweeping.{all_below, within, kept_swept, live_swept}
+use Rattle.jg_heap.specs.Kept.{row_of, in_being, live_in, ended_row, may_point, numbers_in, AreWhole, Keeps}
+use Rattle.jg_heap.proofs.Sweeping.{all_below, keeps_swept}
 use Rattle.jg_heap.proofs.Collecting.{goes_listed, rows_swept}
 use Rattle.jg_heap.proofs.Calls.{shapes_swept}
 use Rattle.jg_heap.proofs.heap.Heap.sweep.Goals as goal
@@ -16,34 +16,39 @@ pub let_all_go-requires : goal.let_all_go-requires
 let_all_go-requires g c =
     let unmarked : ℕ → Bool = λ o. not (get_or c.args.marks.now o false) in
     let items = c.self.inside.objects.items in
-    within items c.deref_mut.result.now c.args.unheld.now _ c.deref_mut.ensures.value (c.requires ∙ ap (λ (r : Rows). filter unmarked (live_in r.objects)) (sym c.self.view_is))
-    (All-filter unmarked (λ p. p < length items) (live_in (map row_of items)) (all_below items))
+    let all : All (λ p. p < length items) c.args.unheld.now =
+    subst (All (λ p. p < length items)) (sym (c.requires ∙ ap (λ (r : Rows). filter unmarked (live_in r.objects)) (sym c.self.view_is))) (All-filter unmarked (λ p. p < length items) (live_in (map row_of items)) (all_below items)) in
+    record {
+      objects = λ i d h. omega (arith, all i d h, ap (λ (xs : List (Object g.row.A.Denot)). length xs) c.deref_mut.ensures.value);
+      there = λ i d h. omega (arith, all i d h, ap (λ (bs : List Bool). length bs) (c.deref_mut-2.ensures.value ∙ c.self.invariant.flags), length-map items in_being);
+    }
 
 pub invariant_of-self : goal.invariant_of-self
 invariant_of-self g c =
     let marked : ℕ → Bool = λ o. get_or c.args.marks.now o false in
     let items = c.self.inside.objects.items in
     let old : List Row = map row_of items in
-    let new : List Row = map row_of c.let_all_go.new.objects in
-    let same : length c.let_all_go.new.objects ≡ length items = c.let_all_go.auto.objects ∙ ap (λ (xs : List (Object g.row.A.Denot)). length xs) c.deref_mut.ensures.value in
-    let swept : c.let_all_go.new.objects ≡ _ = sym (with_items_is c.self.inside.objects c.let_all_go.new.objects (same ∙ sym c.self.inside.objects.ok.0)) in
-    let len : length new ≡ length old = length-map c.let_all_go.new.objects row_of ∙ same ∙ sym (length-map items row_of) in
-    let ended : (o : ℕ) → row_in new o ≡ ended_row _ (row_in old o) =
+    let new = c.let_all_go.new.objects in
+    let flags = c.let_all_go.new.there in
+    let blocks = c.close_up_if-self-inside.new.blocks.items in
+    let points = c.retain_marked.new.numbers.items in
+    let loose = c.self.inside.loose in
+    let count : length new ≡ length items = c.let_all_go.auto.objects ∙ ap (λ (xs : List (Object g.row.A.Denot)). length xs) c.deref_mut.ensures.value in
+    let swept : new ≡ _ = sym (with_items_is c.self.inside.objects new (count ∙ sym c.self.inside.objects.ok.0)) in
+    let flagged : flags ≡ _ = sym (with_items_is c.self.inside.there flags (c.let_all_go.auto.there ∙ ap (λ (bs : List Bool). length bs) c.deref_mut-2.ensures.value ∙ sym c.self.inside.there.ok.0)) in
+    let seen : c.deref.result.now ≡ flags = c.deref.ensures.value ∙ sym flagged in
+    let ended : (o : ℕ) → row_in (map row_of new) o ≡ ended_row _ (row_in old o) =
     λ o. c.let_all_go.ensures.rows o ∙ ap (λ (xs : List (Object g.row.A.Denot)). ended_row (list_any (λ p. eqb p o) c.args.unheld.now) (row_in (map row_of xs) o)) c.deref_mut.ensures.value
     ∙ ap (λ b. ended_row b (row_in old o))
     (goes_listed old c.args.marks.now c.args.unheld.now o (c.requires ∙ ap (λ (r : Rows). filter (λ p. not (marked p)) (live_in r.objects)) (sym c.self.view_is))) in
-    let below : All (λ p. p < length old) c.self.inside.live.items = subst (λ n. All (λ p. p < n) c.self.inside.live.items) (sym (length-map items row_of)) c.self.invariant.within in
-    record {
-      within = subst (λ (xs : List (Object g.row.A.Denot)). All (λ p. p < length xs) c.close_up_if-self-inside.new.live.items) swept
-          (subst (λ n. All (λ p. p < n) c.close_up_if-self-inside.new.live.items) (sym same) (c.close_up_if-self-inside.ensures.within (length items) c.self.invariant.within));
-      live = ap (λ (xs : List (Object g.row.A.Denot)). filter (is_there (map row_of xs)) c.close_up_if-self-inside.new.live.items) (sym swept)
-          ∙ kept_swept old new marked c.self.inside.live.items c.close_up_if-self-inside.new.live.items len ended below c.self.invariant.live c.close_up_if-self-inside.ensures.kept
-          ∙ ap (λ (xs : List (Object g.row.A.Denot)). live_in (map row_of xs)) swept;
-      pointing = c.retain_marked.ensures ∙ ap (filter marked) c.self.invariant.pointing ∙ filter_swap marked (may_point_at items) (live_in old)
-          ∙ ap (λ (bs : List Bool). filter (λ o. get_or bs o false) (filter marked (live_in old)))
-          (ap (map may_point) (sym c.deref_mut.ensures.value) ∙ sym c.let_all_go.ensures.pointing ∙ ap (map may_point) swept)
-          ∙ ap (filter _) (live_swept old new marked len ended ∙ ap (λ (xs : List (Object g.row.A.Denot)). live_in (map row_of xs)) swept);
-    }
+    subst (λ (xs : List (Object g.row.A.Denot)). Keeps xs (with_items c.self.inside.there flags).items blocks loose points) swept
+    (subst (λ (bs : List Bool). Keeps new bs blocks loose points) flagged
+    (keeps_swept items new c.self.inside.there.items flags c.self.inside.blocks.items blocks loose c.self.inside.pointing.items points marked c.self.invariant count ended
+    (c.let_all_go.ensures.pointing ∙ ap (map may_point) c.deref_mut.ensures.value)
+    (c.let_all_go.ensures.there (c.deref_mut-2.ensures.value ∙ c.self.invariant.flags ∙ ap (map in_being) (sym c.deref_mut.ensures.value)))
+    (subst (λ (bs : List Bool). filter (λ o. get_or bs o false) (numbers_in blocks loose (length bs)) ≡ filter (λ o. get_or bs o false) (numbers_in c.self.inside.blocks.items loose (length bs))) seen
+    (c.close_up_if-self-inside.ensures.there loose))
+    (subst (λ (bs : List Bool). AreWhole blocks (length bs)) seen c.close_up_if-self-inside.ensures.whole) c.retain_marked.ensures))
 
 pub returns-clause-stands : goal.returns-clause-stands
 returns-clause-stands g c e roots stands held =
