@@ -4,14 +4,13 @@ ghost use Rattle.std.specs.Prelude.{◌≡◌, ◌==◌, ◌++◌, OnOk, map};
 ghost use Rattle.std.specs.List.{list_any};
 ghost use Rattle.indexmap.specs.IndexMap.{keys};
 ghost use Rattle.jg_lists.specs.ByMaker.{named};
-ghost use Rattle.jg_lists.specs.ByThread.{seen};
 ghost use Rattle.jg_lists.specs.Marks.{Marks};
 ghost use Rattle.jg_buffers.specs.Seen.{key_name};
 
 use crate::copied::Copies;
 use crate::pinned::Pinned;
 use jg_lists::by_maker::ByMaker;
-use jg_lists::{ByNumber, Numbered, ObjectMarks, Seat};
+use jg_lists::{ByNumber, Numbered, ObjectMarks};
 use jg_words::{BufId, Tid};
 use std::alloc::{AllocError, Allocator};
 
@@ -27,7 +26,7 @@ fn pins_in<A: Allocator>(numbers: &ByNumber<Pinned, A>, object: u64) -> bool
     some_pins(numbers.seats(), object)
 }
 
-fn some_table_pins<A: Allocator>(tables: &[Seat<ByNumber<Pinned, A>>], object: u64) -> bool
+fn some_table_pins<A: Allocator>(tables: &[Numbered<ByNumber<Pinned, A>>], object: u64) -> bool
     ensures { result ≡ list_any (λ table. list_any (λ e. e.1.object == object) table.value) tables.now }
 {
     tables.iter().any(|table| pins_in(&table.value, object))
@@ -54,7 +53,7 @@ fn mark_in<A: Allocator>(numbers: &ByNumber<Pinned, A>, marks: &mut ObjectMarks<
     mark_numbers(numbers.seats(), marks);
 }
 
-fn mark_tables<A: Allocator>(tables: &[Seat<ByNumber<Pinned, A>>], marks: &mut ObjectMarks<A>)
+fn mark_tables<A: Allocator>(tables: &[Numbered<ByNumber<Pinned, A>>], marks: &mut ObjectMarks<A>)
     ensures { Marks (λ o. list_any (λ table. list_any (λ e. e.1.object == o) table.value) tables.now) marks.old marks.new }
 {
     for table in tables {
@@ -113,19 +112,6 @@ fn list_in<A: Allocator, B: Allocator>(
     list_numbers(numbers.seats(), maker, buffers)
 }
 
-fn list_tables<A: Allocator, B: Allocator>(
-    tables: &[Seat<ByNumber<Pinned, A>>],
-    buffers: &mut Vec<BufId, B>,
-) -> Result<(), AllocError>
-    ensures { OnOk result (buffers.new.items
-        ≡ buffers.old.items ++ map (λ e. key_name e.0) (named (map seen tables.now))) }
-{
-    for table in tables {
-        list_in(&table.value, table.tid, buffers)?;
-    }
-    Ok(())
-}
-
 /// Appends the open pinned buffers.
 pub fn list_pins<A: Allocator, B: Allocator>(
     pins: &ByMaker<Pinned, A>,
@@ -133,5 +119,8 @@ pub fn list_pins<A: Allocator, B: Allocator>(
 ) -> Result<(), AllocError>
     ensures { OnOk result (buffers.new.items ≡ buffers.old.items ++ map (λ e. key_name e.0) (named pins.now)) }
 {
-    list_tables(pins.seats(), buffers)
+    for table in pins.seats() {
+        list_in(&table.value, table.number as u16, buffers)?;
+    }
+    Ok(())
 }

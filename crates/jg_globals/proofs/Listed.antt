@@ -7,7 +7,6 @@ use Rattle.jg_words.specs.declared.object.ObjId.{ObjId}
 use Rattle.jg_words.specs.declared.reference.Ref.{Ref}
 use Rattle.jg_words.specs.declared.reference.Kind.TheVariants.{Global}
 use Rattle.jg_words.specs.declared.reference.Kind.TheVariants as kind
-use Rattle.jg_lists.specs.ByThread.{seen}
 use Rattle.jg_lists.specs.ByMaker.{Name}
 use Rattle.jg_globals.specs.declared.target.Target.{Target}
 use Rattle.jg_globals.specs.Rows.{Rows, strong_ref, weak_ref}

@@ -41,7 +41,7 @@ pub fn clear_rows<A: Allocator, F: Fn(ObjId) -> bool>(rows: &mut ByMaker<Target,
     ensures { EachCleared (F.post test.now) (named rows.old) (named rows.new) }
 {
     for i in 0..rows.seats().len() {
-        let maker = rows.seats()[i].tid;
+        let maker = rows.seats()[i].number as u16;
         if let Some(numbers) = rows.get_mut(maker) {
             clear_numbers(numbers, test);
         }

@@ -2,13 +2,12 @@
 
 ghost use Rattle.std.specs.Prelude.{◌≡◌, ◌==◌, ◌++◌, OnOk, map};
 ghost use Rattle.std.specs.List.{list_any};
-ghost use Rattle.jg_lists.specs.ByThread.{seen};
 ghost use Rattle.jg_lists.specs.Marks.{Marks};
 ghost use Rattle.jg_lists.specs.ByMaker.{named};
 ghost use Rattle.jg_globals.specs.Seen.{ref_named};
 
 use jg_lists::by_maker::ByMaker;
-use jg_lists::{ByNumber, Numbered, ObjectMarks, Seat};
+use jg_lists::{ByNumber, Numbered, ObjectMarks};
 use jg_words::{Kind, ObjId, Ref, Tid};
 use std::alloc::{AllocError, Allocator};
 
@@ -24,7 +23,7 @@ fn names_in<A: Allocator>(numbers: &ByNumber<ObjId, A>, object: ObjId) -> bool
     some_names(numbers.seats(), object)
 }
 
-fn some_table_names<A: Allocator>(tables: &[Seat<ByNumber<ObjId, A>>], object: ObjId) -> bool
+fn some_table_names<A: Allocator>(tables: &[Numbered<ByNumber<ObjId, A>>], object: ObjId) -> bool
     ensures { result ≡ list_any (λ table. list_any (λ e. e.1.0 == object.0) table.value) tables.now }
 {
     tables.iter().any(|table| names_in(&table.value, object))
@@ -51,7 +50,7 @@ fn mark_in<A: Allocator>(numbers: &ByNumber<ObjId, A>, marks: &mut ObjectMarks<A
     mark_numbers(numbers.seats(), marks);
 }
 
-fn mark_tables<A: Allocator>(tables: &[Seat<ByNumber<ObjId, A>>], marks: &mut ObjectMarks<A>)
+fn mark_tables<A: Allocator>(tables: &[Numbered<ByNumber<ObjId, A>>], marks: &mut ObjectMarks<A>)
     ensures { Marks (λ o. list_any (λ table. list_any (λ e. e.1.0 == o) table.value) tables.now) marks.old marks.new }
 {
     for table in tables {
@@ -97,20 +96,6 @@ fn list_in<V, A: Allocator, B: Allocator>(
     list_numbers(numbers.seats(), kind, maker, refs)
 }
 
-fn list_tables<V, A: Allocator, B: Allocator>(
-    tables: &[Seat<ByNumber<V, A>>],
-    kind: Kind,
-    refs: &mut Vec<Ref, B>,
-) -> Result<(), AllocError>
-    ensures { OnOk result (refs.new.items
-        ≡ refs.old.items ++ map (λ e. ref_named kind e.0) (named (map seen tables.now))) }
-{
-    for table in tables {
-        list_in(&table.value, kind, table.tid, refs)?;
-    }
-    Ok(())
-}
-
 /// Appends the references of that kind.
 pub fn list_names<V, A: Allocator, B: Allocator>(
     rows: &ByMaker<V, A>,
@@ -119,5 +104,8 @@ pub fn list_names<V, A: Allocator, B: Allocator>(
 ) -> Result<(), AllocError>
     ensures { OnOk result (refs.new.items ≡ refs.old.items ++ map (λ e. ref_named kind e.0) (named rows.now)) }
 {
-    list_tables(rows.seats(), kind, refs)
+    for table in rows.seats() {
+        list_in(&table.value, kind, table.number as u16, refs)?;
+    }
+    Ok(())
 }

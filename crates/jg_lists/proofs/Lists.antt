@@ -1,6 +1,6 @@
 -- Lemmas on lists and tests.
 use Rattle.std.proofs.Common.{◌≡◌, ◌<◌, ◌+◌, ◌++◌, ℕ, zero, suc, get_or, Bool, true, false, List, [], ◌∷◌, Option, Some, None, refl, ◌∙◌, ap, sym, subst, arith, inl, inr}
-use Rattle.std.specs.Prelude.{◌⊎◌, ◌||◌, if◌then◌else◌, filter, find, map, slice_set}
+use Rattle.std.specs.Prelude.{All, ◌⊎◌, ◌||◌, if◌then◌else◌, filter, find, map, slice_set}
 use Rattle.std.specs.List.{list_any, range_with_len, swap, AllByRecursion}
 use Rattle.std.specs.List.Sorted.{IsPermutation, apply_swaps, SwapsInRange}
 use Rattle.std.specs.Option.{option_map}
@@ -100,6 +100,10 @@ same_answers false false there back = refl
 -- two answers are equal where each is yes if the other is
 pub both_ways : (a b : Bool) → (a ≡ true → b ≡ true) → (b ≡ true → a ≡ true) → a ≡ b
 both_ways a b there back = same_answers a b there back
+
+-- what holds of all that is made of the items is said of the items
+pub all_mapped : {X Y : Type 0} (f : X → Y) (P : Y → Type 0) (xs : List X) → All P (map f xs) → All (λ x. P (f x)) xs
+all_mapped f P xs all i d inside = subst P (get_or-map f xs i d) (all i (f d) (simp length-map inside))
 
 -- ---- numbers in a row
 

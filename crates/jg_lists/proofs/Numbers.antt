@@ -10,7 +10,7 @@ use Rattle.std.proofs.lemmas.List.{get_or_past, get_or-set_same, get_or-set_othe
 use Rattle.std.proofs.Math.Seq.{get_or-append_seam}
 use Rattle.std.proofs.lemmas.Grind.{get_or_default_zero}
 use Rattle.std.proofs.lemmas.Map.Keys.{IsDistinct-from_apart}
-use Rattle.jg_lists.specs.ByThread.{Placed}
+use Rattle.jg_lists.specs.ByNumber.{Placed}
 
 apart : (x y : ℕ) → x ≢ y → eq_by_cmp nat_cmp x y ≡ false
 apart x y differ = grind (arith, nat_tests)

@@ -1,4 +1,4 @@
--- Values by number, and the places of their seats. A seat is seen as its number with its value.
+-- Values by number, and the places of their seats.
 use Rattle.std.proofs.Common.{◌≡◌, ◌<◌, ◌≤◌, ◌+◌, ◌-◌, length, get_or, ℕ, zero, suc, true, false, List, [], ◌∷◌, ◌++◌, Option, Some, None, refl, ◌∙◌, sym, ap, subst, arith}
 use Rattle.std.specs.Prelude.{IsPermutation, IsSome, map, slice_set}
 use Rattle.std.specs.List.{IsDistinct, AllByRecursion, swap_remove}
@@ -12,7 +12,9 @@ use Rattle.std.proofs.lemmas.List.Sorted.{IsPermutation-swap_remove}
 use Rattle.std.proofs.lemmas.Map.Keys.{IsDistinct-head, IsDistinct-tail}
 use Rattle.indexmap.proofs.SetLemmas.{map-swap_remove}
 use mathlib.Core.List.{map-map}
-use Rattle.jg_lists.specs.ByThread.{at, IsOnce, Placed}
+use Rattle.jg_lists.specs.declared.by_number.Numbered.{Numbered}
+use Rattle.jg_lists.specs.ByThread.{at, IsOnce}
+use Rattle.jg_lists.specs.ByNumber.{seen, Placed}
 use Rattle.jg_lists.proofs.Numbers.{numbers_once, none_at, placed_one, has_room, IsWithout, without, placed_less}
 
 some_none : {V : Type 0} {v : V} → Some v ≡ None → ⊥
@@ -27,28 +29,28 @@ no_place : (place : ℕ) → (1 ≤ place → ⊥) → place ≡ 0
 no_place zero none = refl
 no_place (suc i) none = absurd (none (omega arith))
 
-module _ {S V : Type 0} (seen : S → ℕ × V) where
-  abbrev pub number_of : S → ℕ
-  number_of seat = (seen seat).0
+abbrev pub number_of : {V : Type 0} → Numbered V → ℕ
+number_of seat = seat.number
 
-  pub once : (places : List ℕ) (seats : List S) (es : List (ℕ × V)) → Placed places (map number_of seats) → map seen seats ≡ es → IsOnce es
+module _ {V : Type 0} where
+  pub once : (places : List ℕ) (seats : List (Numbered V)) (es : List (ℕ × V)) → Placed places (map number_of seats) → map seen seats ≡ es → IsOnce es
   once places seats es placed is =
       subst IsOnce is (subst (IsDistinct (eq_by_cmp nat_cmp)) (sym (map-map (λ e. e.0) seen seats)) (numbers_once places (map number_of seats) placed))
 
   -- a place other than 0 is that of a seat
-  pub within : (places : List ℕ) (seats : List S) (n place : ℕ) → Placed places (map number_of seats) → place ≡ get_or places n 0 → 1 ≤ place → place - 1 < length seats
+  pub within : (places : List ℕ) (seats : List (Numbered V)) (n place : ℕ) → Placed places (map number_of seats) → place ≡ get_or places n 0 → 1 ≤ place → place - 1 < length seats
   within places seats n place placed is some =
       let at : get_or places n 0 ≡ (place - 1) + 1 = sym is ∙ omega (arith, some) in
       let inside : place - 1 < length (map number_of seats) = (placed.held n (place - 1) at).0 in
       simp length-map at inside
 
-  pub own_seat : (places : List ℕ) (seats : List S) (n place : ℕ) (d : S) → Placed places (map number_of seats) → place ≡ get_or places n 0 → 1 ≤ place → number_of (get_or seats (place - 1) d) ≡ n
+  pub own_seat : (places : List ℕ) (seats : List (Numbered V)) (n place : ℕ) (d : Numbered V) → Placed places (map number_of seats) → place ≡ get_or places n 0 → 1 ≤ place → number_of (get_or seats (place - 1) d) ≡ n
   own_seat places seats n place d placed is some =
       let at : get_or places n 0 ≡ (place - 1) + 1 = sym is ∙ omega (arith, some) in
       sym (get_or-map number_of seats (place - 1) d 0 (within places seats n place placed is some)) ∙ (placed.held n (place - 1) at).1
 
   -- the head is another number's, where the seat at a place behind it is the number's
-  other_head : (s : S) (seats : List S) (i n : ℕ) (d : S) → IsDistinct (eq_by_cmp nat_cmp) (number_of s ∷ map number_of seats) → i < length seats → number_of (get_or seats i d) ≡ n
+  other_head : (s : Numbered V) (seats : List (Numbered V)) (i n : ℕ) (d : Numbered V) → IsDistinct (eq_by_cmp nat_cmp) (number_of s ∷ map number_of seats) → i < length seats → number_of (get_or seats i d) ≡ n
       → is_at (nat_cmp n) (number_of s) ≡ false
   other_head s seats i n d distinct inside own =
       let all = All-from_recursion (λ y. eq_by_cmp nat_cmp (number_of s) y ≡ false) (map number_of seats) (IsDistinct-head (eq_by_cmp nat_cmp) (number_of s) (map number_of seats) distinct) in
@@ -57,8 +59,8 @@ module _ {S V : Type 0} (seen : S → ℕ × V) where
       grind (arith, nat_tests, differ)
 
   -- what the number's look-up finds is its seat's value
-  seat_found : (seats : List S) (i n : ℕ) (d : S) → IsDistinct (eq_by_cmp nat_cmp) (map number_of seats) → i < length seats → number_of (get_or seats i d) ≡ n
-      → lookup (is_at (nat_cmp n)) (map seen seats) ≡ Some (seen (get_or seats i d)).1
+  seat_found : (seats : List (Numbered V)) (i n : ℕ) (d : Numbered V) → IsDistinct (eq_by_cmp nat_cmp) (map number_of seats) → i < length seats → number_of (get_or seats i d) ≡ n
+      → lookup (is_at (nat_cmp n)) (map seen seats) ≡ Some (get_or seats i d).value
   seat_found [] i n d distinct inside own = absurd (omega (arith, inside))
   seat_found (s ∷ seats) zero n d distinct inside own =
       let here : is_at (nat_cmp n) (number_of s) ≡ true = grind (arith, nat_tests, own) in
@@ -68,30 +70,30 @@ module _ {S V : Type 0} (seen : S → ℕ × V) where
       let other = other_head s seats i n d distinct behind own in
       rw other (seat_found seats i n d (IsDistinct-tail (eq_by_cmp nat_cmp) (number_of s) (map number_of seats) distinct) behind own)
 
-  pub found : (places : List ℕ) (seats : List S) (es : List (ℕ × V)) (n place : ℕ) (d : S) → Placed places (map number_of seats) → map seen seats ≡ es → place ≡ get_or places n 0 → 1 ≤ place
-      → at n es ≡ Some (seen (get_or seats (place - 1) d)).1
+  pub found : (places : List ℕ) (seats : List (Numbered V)) (es : List (ℕ × V)) (n place : ℕ) (d : Numbered V) → Placed places (map number_of seats) → map seen seats ≡ es → place ≡ get_or places n 0 → 1 ≤ place
+      → at n es ≡ Some (get_or seats (place - 1) d).value
   found places seats es n place d placed seen_is is some =
-      subst (λ l. at n l ≡ Some (seen (get_or seats (place - 1) d)).1) seen_is
+      subst (λ l. at n l ≡ Some (get_or seats (place - 1) d).value) seen_is
       (seat_found seats (place - 1) n d (numbers_once places (map number_of seats) placed) (within places seats n place placed is some) (own_seat places seats n place d placed is some))
 
   -- ---- no seat
 
-  none_in : (seats : List S) (n : ℕ) → AllByRecursion (λ k. is_at (nat_cmp n) k ≡ false) (map number_of seats) → lookup (is_at (nat_cmp n)) (map seen seats) ≡ None
+  none_in : (seats : List (Numbered V)) (n : ℕ) → AllByRecursion (λ k. is_at (nat_cmp n) k ≡ false) (map number_of seats) → lookup (is_at (nat_cmp n)) (map seen seats) ≡ None
   none_in [] n none = refl
   none_in (s ∷ seats) n none = rw none.0 (none_in seats n none.1)
 
-  pub not_found : (places : List ℕ) (seats : List S) (es : List (ℕ × V)) (n : ℕ) → Placed places (map number_of seats) → map seen seats ≡ es → 0 ≡ get_or places n 0 → at n es ≡ None
+  pub not_found : (places : List ℕ) (seats : List (Numbered V)) (es : List (ℕ × V)) (n : ℕ) → Placed places (map number_of seats) → map seen seats ≡ es → 0 ≡ get_or places n 0 → at n es ≡ None
   not_found places seats es n placed seen_is none =
       subst (λ l. at n l ≡ None) seen_is
       (none_in seats n (recursion_from_All (λ k. is_at (nat_cmp n) k ≡ false) (map number_of seats) (none_at places (map number_of seats) n placed (sym none))))
 
   -- a number with a value has a place
-  pub has_place : (places : List ℕ) (seats : List S) (es : List (ℕ × V)) (n place : ℕ) → Placed places (map number_of seats) → map seen seats ≡ es → place ≡ get_or places n 0 → IsSome (at n es) → 1 ≤ place
+  pub has_place : (places : List ℕ) (seats : List (Numbered V)) (es : List (ℕ × V)) (n place : ℕ) → Placed places (map number_of seats) → map seen seats ≡ es → place ≡ get_or places n 0 → IsSome (at n es) → 1 ≤ place
   has_place places seats es n place placed seen_is is some = by_place place (at n es) some (λ none. not_found places seats es n placed seen_is (none ∙ is))
 
   -- ---- a value is written
 
-  set_in : (seats : List S) (i n : ℕ) (d x : S) (w : V) → IsDistinct (eq_by_cmp nat_cmp) (map number_of seats) → i < length seats → number_of (get_or seats i d) ≡ n → seen x ≡ (n, w)
+  set_in : (seats : List (Numbered V)) (i n : ℕ) (d x : Numbered V) (w : V) → IsDistinct (eq_by_cmp nat_cmp) (map number_of seats) → i < length seats → number_of (get_or seats i d) ≡ n → seen x ≡ (n, w)
       → map seen (slice_set seats i x) ≡ set_value (is_at (nat_cmp n)) (map seen seats) w
   set_in [] i n d x w distinct inside own is = absurd (omega (arith, inside))
   set_in (s ∷ seats) zero n d x w distinct inside own is =
@@ -102,14 +104,14 @@ module _ {S V : Type 0} (seen : S → ℕ × V) where
       let other = other_head s seats i n d distinct behind own in
       rw other (ap (λ l. seen s ∷ l) (set_in seats i n d x w (IsDistinct-tail (eq_by_cmp nat_cmp) (number_of s) (map number_of seats) distinct) behind own is))
 
-  pub written : (places : List ℕ) (seats : List S) (es : List (ℕ × V)) (n place : ℕ) (d x : S) (w : V) → Placed places (map number_of seats) → map seen seats ≡ es → place ≡ get_or places n 0 → 1 ≤ place
+  pub written : (places : List ℕ) (seats : List (Numbered V)) (es : List (ℕ × V)) (n place : ℕ) (d x : Numbered V) (w : V) → Placed places (map number_of seats) → map seen seats ≡ es → place ≡ get_or places n 0 → 1 ≤ place
       → seen x ≡ (n, w) → map seen (slice_set seats (place - 1) x) ≡ set_value (is_at (nat_cmp n)) es w
   written places seats es n place d x w placed seen_is is some mine =
       set_in seats (place - 1) n d x w (numbers_once places (map number_of seats) placed) (within places seats n place placed is some) (own_seat places seats n place d placed is some) mine
       ∙ ap (λ l. set_value (is_at (nat_cmp n)) l w) seen_is
 
   -- the numbers stay
-  pub placed_written : (places : List ℕ) (seats : List S) (i : ℕ) (d x : S) → Placed places (map number_of seats) → i < length seats → number_of (get_or seats i d) ≡ number_of x
+  pub placed_written : (places : List ℕ) (seats : List (Numbered V)) (i : ℕ) (d x : Numbered V) → Placed places (map number_of seats) → i < length seats → number_of (get_or seats i d) ≡ number_of x
       → Placed places (map number_of (slice_set seats i x))
   placed_written places seats i d x placed inside own =
       let same : slice_set (map number_of seats) i (number_of x) ≡ map number_of seats =
@@ -119,7 +121,7 @@ module _ {S V : Type 0} (seen : S → ℕ × V) where
   -- ---- a number more
 
   -- a seat more, of a number that had none
-  pub placed_more : (old : List ℕ) (seats new : List S) (es : List (ℕ × V)) (n count : ℕ) (x : S) → Placed old (map number_of seats) → map seen seats ≡ es → at n es ≡ None → n < length old
+  pub placed_more : (old : List ℕ) (seats new : List (Numbered V)) (es : List (ℕ × V)) (n count : ℕ) (x : Numbered V) → Placed old (map number_of seats) → map seen seats ≡ es → at n es ≡ None → n < length old
       → number_of x ≡ n → new ≡ seats ++ x ∷ [] → count ≡ length new → Placed (slice_set old n count) (map number_of new)
   placed_more old seats new es n count x placed seen_is absent inside own is many =
       placed_one old (map number_of seats) (map number_of new) n count placed
@@ -128,21 +130,21 @@ module _ {S V : Type 0} (seen : S → ℕ × V) where
       (ap (map number_of) is ∙ map-append number_of seats (x ∷ []) ∙ ap (λ k. map number_of seats ++ k ∷ []) own)
       (many ∙ ap length is ∙ length-append seats (x ∷ []) ∙ ap (λ c. c + 1) (sym (length-map seats number_of)))
 
-  pub seen_more : (seats new : List S) (es : List (ℕ × V)) (x : S) → map seen seats ≡ es → new ≡ seats ++ x ∷ [] → map seen new ≡ es ++ seen x ∷ []
+  pub seen_more : (seats new : List (Numbered V)) (es : List (ℕ × V)) (x : Numbered V) → map seen seats ≡ es → new ≡ seats ++ x ∷ [] → map seen new ≡ es ++ seen x ∷ []
   seen_more seats new es x seen_is is = ap (map seen) is ∙ map-append seen seats (x ∷ []) ∙ ap (λ l. l ++ seen x ∷ []) seen_is
 
   -- ---- a number less
 
-  last_number : (seats : List S) (count : ℕ) (last : S) → count ≡ length seats → 1 ≤ count → last ≡ get_or seats (count - 1) last → get_or (map number_of seats) (count - 1) 0 ≡ number_of last
+  last_number : (seats : List (Numbered V)) (count : ℕ) (last : Numbered V) → count ≡ length seats → 1 ≤ count → last ≡ get_or seats (count - 1) last → get_or (map number_of seats) (count - 1) 0 ≡ number_of last
   last_number seats count last many some own = get_or-map number_of seats (count - 1) last 0 (omega (arith, many, some)) ∙ sym (ap number_of own)
 
-  pub last_room : (places : List ℕ) (seats : List S) (count : ℕ) (last : S) → Placed places (map number_of seats) → count ≡ length seats → 1 ≤ count → last ≡ get_or seats (count - 1) last
+  pub last_room : (places : List ℕ) (seats : List (Numbered V)) (count : ℕ) (last : Numbered V) → Placed places (map number_of seats) → count ≡ length seats → 1 ≤ count → last ≡ get_or seats (count - 1) last
       → number_of last < length places
   last_room places seats count last placed many some own =
       let place = placed.found (count - 1) (omega (arith, many, some, length-map seats number_of)) in
       has_room places (number_of last) (count - 1) (ap (λ k. get_or places k 0) (sym (last_number seats count last many some own)) ∙ place)
 
-  module _ (old : List ℕ) (seats new : List S) (n place count : ℕ) (x last : S) (placed : Placed old (map number_of seats)) (is : place ≡ get_or old n 0) (some : 1 ≤ place) (many : count ≡ length seats)
+  module _ (old : List ℕ) (seats new : List (Numbered V)) (n place count : ℕ) (x last : Numbered V) (placed : Placed old (map number_of seats)) (is : place ≡ get_or old n 0) (some : 1 ≤ place) (many : count ≡ length seats)
       (end : last ≡ get_or seats (count - 1) last) (own : x ≡ get_or seats (place - 1) x) (left : new ≡ swap_remove seats (place - 1) x) where
     inside : place - 1 < length seats
     inside = within old seats n place placed is some
@@ -163,14 +165,14 @@ module _ {S V : Type 0} (seen : S → ℕ × V) where
         (placed_less old (map number_of seats) (map number_of new) n (number_of last) (place - 1) placed at moved without_seat)
 
     -- the pairs are that of the seat, and those that are left
-    pub seen_less : (es : List (ℕ × V)) → map seen seats ≡ es → IsPermutation es ((n, (seen x).1) ∷ map seen new)
+    pub seen_less : (es : List (ℕ × V)) → map seen seats ≡ es → IsPermutation es ((n, x.value) ∷ map seen new)
     seen_less es seen_is =
         let pairs : map seen new ≡ swap_remove es (place - 1) (seen x) =
         ap (map seen) left ∙ map-swap_remove seen seats (place - 1) x (omega (arith, inside)) ∙ ap (λ l. swap_remove l (place - 1) (seen x)) seen_is in
         let mine : seen x ≡ get_or es (place - 1) (seen x) = ap seen own ∙ sym (get_or-map seen seats (place - 1) x (seen x) inside) ∙ ap (λ l. get_or l (place - 1) (seen x)) seen_is in
         let length_is : length es ≡ length seats = ap length (sym seen_is) ∙ length-map seats seen in
         let number : number_of x ≡ n = ap number_of own ∙ own_seat old seats n place x placed is some in
-        subst (λ l. IsPermutation es ((n, (seen x).1) ∷ l)) (sym pairs) (subst (λ k. IsPermutation es ((k, (seen x).1) ∷ swap_remove es (place - 1) (seen x))) number
+        subst (λ l. IsPermutation es ((n, x.value) ∷ l)) (sym pairs) (subst (λ k. IsPermutation es ((k, x.value) ∷ swap_remove es (place - 1) (seen x))) number
         (IsPermutation-swap_remove es (place - 1) (seen x) (omega (arith, length_is, inside)) mine))
 
     pub none_left : at n (map seen new) ≡ None

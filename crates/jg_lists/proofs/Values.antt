@@ -1,6 +1,6 @@
 -- What look-ups of numbers find, once one number's value is written, added or taken out.
-use Rattle.std.proofs.Common.{◌≡◌, ℕ, Bool, true, false, List, [], ◌∷◌, ◌++◌, Option, Some, None, refl, ◌∙◌, sym, ap, subst, arith, eqb-true}
-use Rattle.std.specs.Prelude.{◌==◌, ◌||◌, if◌then◌else◌, IsPermutation, IsSome, map, slice_get}
+use Rattle.std.proofs.Common.{◌≡◌, ◌<◌, ℕ, Bool, true, false, List, [], ◌∷◌, ◌++◌, Option, Some, None, refl, ◌∙◌, sym, ap, subst, arith, eqb-true}
+use Rattle.std.specs.Prelude.{All, ◌==◌, ◌||◌, if◌then◌else◌, IsPermutation, IsSome, map, slice_get}
 use Rattle.std.specs.List.{IsDistinct, list_any}
 use Rattle.std.specs.Option.{is_some, option_map}
 use Rattle.std.specs.Map.{keys_of, values_of, set_value}
@@ -8,17 +8,26 @@ use Rattle.std.specs.BTreeMap.{is_at}
 use Rattle.std.specs.Cmp.{nat_cmp_total, eq_by_cmp_equiv}
 use Rattle.std.specs.Ordering.{nat_cmp, eq_by_cmp}
 use Rattle.std.proofs.lemmas.Bool.Decides.{nat_tests}
+use Rattle.std.proofs.lemmas.List.Elements.{All-map}
 use Rattle.std.proofs.lemmas.List.Sorted.{IsPermutation-map}
 use Rattle.indexmap.proofs.MapLemmas.{distinct_permutation, lookup_permutation}
 use Rattle.std.proofs.lemmas.Map.{keys-set_value, lookup-set_value}
-use Rattle.jg_lists.specs.declared.by_thread.Seat.{Seat}
-use Rattle.jg_lists.specs.ByThread.{at, seen, IsOnce}
+use Rattle.jg_lists.specs.declared.by_number.Numbered.{Numbered}
+use Rattle.jg_lists.specs.ByThread.{at, IsOnce}
+use Rattle.jg_lists.specs.ByNumber.{seen}
 use Rattle.jg_lists.specs.Lending.{WritesThrough}
 use Rattle.jg_lists.specs.Marks.{Marks}
 use Rattle.jg_lists.proofs.Acts.{at_key}
+use Rattle.jg_lists.proofs.Lists.{all_mapped}
 
 pub set_once : {V : Type 0} (es : List (ℕ × V)) (t : ℕ) (w : V) → IsOnce es → IsOnce (set_value (is_at (nat_cmp t)) es w)
 set_once es t w once = subst (IsDistinct (eq_by_cmp nat_cmp)) (sym (keys-set_value (is_at (nat_cmp t)) es w)) once
+
+-- a value is written, and the numbers stay as small as they were
+pub set_below : {V : Type 0} (bound : ℕ) (es news : List (ℕ × V)) (t : ℕ) (w : V) → news ≡ set_value (is_at (nat_cmp t)) es w → All (λ e. e.0 < bound) es → All (λ e. e.0 < bound) news
+set_below {V} bound es news t w is all =
+    all_mapped (λ (e : ℕ × V). e.0) (λ n. n < bound) news
+    (subst (All (λ n. n < bound)) (sym (ap keys_of is ∙ keys-set_value (is_at (nat_cmp t)) es w)) (All-map (λ n. n < bound) (λ (e : ℕ × V). e.0) es all))
 
 alike : (t x y : ℕ) → is_at (nat_cmp t) x ≡ true → is_at (nat_cmp t) y ≡ eq_by_cmp nat_cmp x y
 alike t x y own = grind (arith, nat_tests, own)
@@ -97,16 +106,16 @@ removed_none es n q none = none_by (n == q) refl
     none_by true same = ap (λ k. at k es) (sym (eqb-true n q same)) ∙ none
     none_by false differ = refl
 
-any_in : {V : Type 0} (p : V → Bool) (seats : List (Seat V)) → list_any (λ seat. p seat.value) seats ≡ list_any p (values_of (map seen seats))
+any_in : {V : Type 0} (p : V → Bool) (seats : List (Numbered V)) → list_any (λ seat. p seat.value) seats ≡ list_any p (values_of (map seen seats))
 any_in p [] = refl
 any_in p (seat ∷ seats) = ap (λ b. p seat.value || b) (any_in p seats)
 
 -- whether some thread's value passes
-pub any_value : {V : Type 0} (p : V → Bool) (seats : List (Seat V)) (es : List (ℕ × V)) → map seen seats ≡ es → list_any (λ seat. p seat.value) seats ≡ list_any p (values_of es)
+pub any_value : {V : Type 0} (p : V → Bool) (seats : List (Numbered V)) (es : List (ℕ × V)) → map seen seats ≡ es → list_any (λ seat. p seat.value) seats ≡ list_any p (values_of es)
 any_value p seats es is = any_in p seats ∙ ap (λ l. list_any p (values_of l)) is
 
 -- the marks of what some thread's value names
-pub marks_value : {V : Type 0} (test : V → ℕ → Bool) (seats : List (Seat V)) (es : List (ℕ × V)) (old new : List Bool) → map seen seats ≡ es → Marks (λ o. list_any (λ seat. test seat.value o) seats) old new
+pub marks_value : {V : Type 0} (test : V → ℕ → Bool) (seats : List (Numbered V)) (es : List (ℕ × V)) (old new : List Bool) → map seen seats ≡ es → Marks (λ o. list_any (λ seat. test seat.value o) seats) old new
     → Marks (λ o. list_any (λ v. test v o) (values_of es)) old new
 marks_value test seats es old new is marks o = marks o ∙ ap (λ b. option_map (λ mark. mark || b) (slice_get old o)) (any_value (λ v. test v o) seats es is)
 

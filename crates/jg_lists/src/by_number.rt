@@ -1,4 +1,6 @@
 ghost use Rattle.std.specs.Prelude.{◌≡◌, ℕ, ◌++◌, ◌∷◌, ◌==◌, if◌then◌else◌, [], IsPermutation, IsSome, IfSome, None, Some, OnOk, OnErr, map, option_copied};
+ghost use Rattle.std.specs.Option.{is_some, option_copied_mut};
+ghost use Rattle.std.specs.Borrow.{sem};
 ghost use Rattle.std.specs.Map.{set_value};
 ghost use Rattle.std.specs.BTreeMap.{is_at};
 ghost use Rattle.std.specs.Ordering.{nat_cmp};
@@ -28,8 +30,7 @@ pub struct ByNumber<V, A: Allocator = Global> {
 
 impl<V, A: Allocator> Model for ByNumber<V, A> {
     ghost use Rattle.std.specs.Prelude.{List, ℕ, map};
-    ghost use Rattle.jg_lists.specs.ByThread.{Placed};
-    ghost use Rattle.jg_lists.specs.ByNumber.{seen};
+    ghost use Rattle.jg_lists.specs.ByNumber.{seen, Placed};
 
     ghost Value = { List (ℕ × V) };
 
@@ -39,6 +40,8 @@ impl<V, A: Allocator> Model for ByNumber<V, A> {
 }
 
 impl<V, A: Allocator> ByNumber<V, A> {
+    ghost use Rattle.jg_lists.specs.Lending.{lends_get, lends_value};
+
     /// No number has a value. Takes no memory; the two lists grow from the two handles.
     pub fn new(places: A, seats: A) -> ByNumber<V, A>
         ensures empty { result ≡ [] }
@@ -62,6 +65,37 @@ impl<V, A: Allocator> ByNumber<V, A> {
         Some(&self.seats[place - 1].value)
     }
 
+    /// Whether the number has a value.
+    pub fn contains(&self, number: u64) -> bool
+        ensures value { result ≡ is_some (at number self.now) }
+        ensures once { IsOnce self.now }
+    {
+        self.get(number).is_some()
+    }
+
+    /// The number's value for writing, if it has one.
+    pub fn get_mut(&mut self, number: u64) -> Option<&mut V>
+        ensures* writes_back { sem 𝓛 (lends_get V.row A.row A.Allocator self.entry number result) }
+        ensures value { option_copied_mut result ≡ at number self.old }
+        ensures once { IsOnce self.old }
+    {
+        if self.contains(number) {
+            Some(self.value_mut(number))
+        } else {
+            None
+        }
+    }
+
+    fn value_mut(&mut self, number: u64) -> &mut V
+        requires { IsSome (at number self.old) }
+        ensures* writes_back { sem 𝓛 (lends_value V.row A.row A.Allocator self.entry number result) }
+        ensures value { Some result.now ≡ at number self.old }
+        ensures once { IsOnce self.old }
+    {
+        let place = number_at(&self.places, number as usize);
+        &mut self.seats[place - 1].value
+    }
+
     /// Gives another value to a number that has one. Takes no memory.
     pub fn set(&mut self, number: u64, value: V)
     where
@@ -71,11 +105,10 @@ impl<V, A: Allocator> ByNumber<V, A> {
         ensures set { (q : ℕ) → at q self.new ≡ (if number == q then Some value else at q self.old) }
         ensures once { IsOnce self.new }
     {
-        let place = number_at(&self.places, number as usize);
-        self.seats[place - 1].value = value;
+        *self.value_mut(number) = value;
     }
 
-    /// Gives a value to a number that has none. Fails for want of memory, and for the greatest number
+    /// Gives a value to a number that has none (`contains`). Fails for want of memory, and for the greatest number
     /// of all, and then leaves all unchanged.
     pub fn add(&mut self, number: u64, value: V) -> Result<(), AllocError>
     where

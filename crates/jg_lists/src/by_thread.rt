@@ -1,41 +1,33 @@
-ghost use Rattle.std.specs.Prelude.{◌≡◌, ℕ, ◌++◌, ◌∷◌, ◌==◌, if◌then◌else◌, [], IsSome, None, Some, OnOk, OnErr, map, option_copied};
+ghost use Rattle.std.specs.Prelude.{◌≡◌, ℕ, ◌<◌, ◌^◌, ◌++◌, ◌∷◌, ◌==◌, if◌then◌else◌, [], All, None, Some, OnOk, OnErr, map, option_copied};
 ghost use Rattle.std.specs.Option.{is_some, option_copied_mut};
 ghost use Rattle.std.specs.Borrow.{sem};
-ghost use Rattle.jg_lists.specs.ByThread.{at, seen, IsOnce};
+ghost use Rattle.jg_lists.specs.ByThread.{at, IsOnce};
+ghost use Rattle.jg_lists.specs.ByNumber.{seen};
 
-use crate::zeroed::{number_at, widen};
+use crate::by_number::{ByNumber, Numbered};
 use std::alloc::{AllocError, Allocator, Global};
 use std::marker::Model;
-
-/// A thread's number, with its value.
-#[derive(Drop)]
-pub struct Seat<V> {
-    pub tid: u16,
-    pub value: V,
-}
 
 /// A value for each of some threads, found by the thread's number in one step, however many threads
 /// there are. Contracts see the threads with their values, the first that was added first.
 #[derive(Drop)]
 pub struct ByThread<V, A: Allocator = Global> {
-    /// By the thread's number, the place of its seat, counted from 1, or 0 where it has none.
-    places: Vec<usize, A>,
-    seats: Vec<Seat<V>, A>,
+    /// By the thread's number, so each is below 2 ^ 16.
+    numbers: ByNumber<V, A>,
 }
 
 impl<V, A: Allocator> Model for ByThread<V, A> {
-    ghost use Rattle.std.specs.Prelude.{List, ℕ, map};
-    ghost use Rattle.jg_lists.specs.ByThread.{seen, Placed};
+    ghost use Rattle.std.specs.Prelude.{List, ℕ, ◌<◌, ◌^◌, All};
 
     ghost Value = { List (ℕ × V) };
 
-    ghost view = { λ a. map seen a.seats.items };
+    ghost view = { λ a. a.numbers };
 
-    ghost invariant = { λ a. Placed a.places.items (map (λ s. s.tid) a.seats.items) };
+    ghost invariant = { λ a. All (λ e. e.0 < 2 ^ 16) a.numbers };
 }
 
 impl<V, A: Allocator> ByThread<V, A> {
-    ghost use Rattle.jg_lists.specs.Lending.{lends_get, lends_value};
+    ghost use Rattle.jg_lists.specs.Lending.{lends_get_by_thread};
 
     /// No thread has a value. Takes no memory; the two lists grow from the two handles.
     pub fn new(places: A, seats: A) -> ByThread<V, A>
@@ -43,8 +35,7 @@ impl<V, A: Allocator> ByThread<V, A> {
         ensures once { IsOnce result }
     {
         ByThread {
-            places: Vec::new(places),
-            seats: Vec::new(seats),
+            numbers: ByNumber::new(places, seats),
         }
     }
 
@@ -53,11 +44,7 @@ impl<V, A: Allocator> ByThread<V, A> {
         ensures value { option_copied result ≡ at tid self.now }
         ensures once { IsOnce self.now }
     {
-        let place = number_at(&self.places, tid as usize);
-        if place == 0 {
-            return None;
-        }
-        Some(&self.seats[place - 1].value)
+        self.numbers.get(u64::from(tid))
     }
 
     /// Whether the thread has a value.
@@ -65,30 +52,16 @@ impl<V, A: Allocator> ByThread<V, A> {
         ensures value { result ≡ is_some (at tid self.now) }
         ensures once { IsOnce self.now }
     {
-        self.get(tid).is_some()
+        self.numbers.contains(u64::from(tid))
     }
 
     /// The thread's value for writing, if it has one.
     pub fn get_mut(&mut self, tid: u16) -> Option<&mut V>
-        ensures* writes_back { sem 𝓛 (lends_get V.row A.row A.Allocator self.entry tid result) }
+        ensures* writes_back { sem 𝓛 (lends_get_by_thread V.row A.row A.Allocator self.entry tid result) }
         ensures value { option_copied_mut result ≡ at tid self.old }
         ensures once { IsOnce self.old }
     {
-        if self.contains(tid) {
-            Some(self.value_mut(tid))
-        } else {
-            None
-        }
-    }
-
-    fn value_mut(&mut self, tid: u16) -> &mut V
-        requires { IsSome (at tid self.old) }
-        ensures* writes_back { sem 𝓛 (lends_value V.row A.row A.Allocator self.entry tid result) }
-        ensures value { Some result.now ≡ at tid self.old }
-        ensures once { IsOnce self.old }
-    {
-        let place = number_at(&self.places, tid as usize);
-        &mut self.seats[place - 1].value
+        self.numbers.get_mut(u64::from(tid))
     }
 
     /// Gives a value to a thread that has none (`contains`). Fails only for want of memory, and then
@@ -102,17 +75,15 @@ impl<V, A: Allocator> ByThread<V, A> {
         ensures err { OnErr result (self.new ≡ self.old) }
         ensures once { IsOnce self.new }
     {
-        widen(&mut self.places, tid as usize)?;
-        self.seats.push(Seat { tid, value })?;
-        self.places[tid as usize] = self.seats.len();
-        Ok(())
+        self.numbers.add(u64::from(tid), value)
     }
 
-    /// The threads that have a value, with it.
-    pub fn seats(&self) -> &[Seat<V>]
+    /// The threads that have a value, with it. Each number is that of a thread, so it fits in a `u16`.
+    pub fn seats(&self) -> &[Numbered<V>]
         ensures seats { map seen result.now ≡ self.now }
         ensures once { IsOnce self.now }
+        ensures threads { All (λ seat. seat.number < 2 ^ 16) result.now }
     {
-        &self.seats
+        self.numbers.seats()
     }
 }

@@ -11,7 +11,7 @@ mod recent;
 mod zeroed;
 
 pub use by_number::{ByNumber, Numbered};
-pub use by_thread::{ByThread, Seat};
+pub use by_thread::ByThread;
 pub use object_marks::ObjectMarks;
 pub use recent::Recent;
 pub use zeroed::{number_at, widen};

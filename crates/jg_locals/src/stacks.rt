@@ -4,14 +4,14 @@ ghost use Rattle.std.specs.Prelude.{◌≡◌, ◌≤◌, ◌<◌, ◌+◌, ◌^
 ghost use Rattle.std.specs.Option.{option_map};
 ghost use Rattle.std.specs.Map.{values_of};
 ghost use Rattle.std.specs.List.{list_any};
-ghost use Rattle.jg_lists.specs.ByThread.{IsOnce, seen};
+ghost use Rattle.jg_lists.specs.ByThread.{IsOnce};
 ghost use Rattle.jg_lists.specs.Marks.{Marks};
 ghost use Rattle.jg_locals.specs.Rows.{local_ref};
 ghost use Rattle.jg_locals.specs.Seen.{last, slot_made, room_set, held_in, is_full, IsNext, stack_at, slots_in, frames_in, room_seen, rows_seen, Changes};
 
 use crate::row::Frame;
 use crate::stack::Stack;
-use jg_lists::{ByThread, ObjectMarks, Seat};
+use jg_lists::{ByThread, Numbered, ObjectMarks};
 use jg_words::Ref;
 use std::alloc::{AllocError, Allocator};
 
@@ -243,7 +243,7 @@ pub fn drop_at<A: Allocator>(stacks: &mut ByThread<Stack<A>, A>, tid: u16)
     }
 }
 
-fn some_names<A: Allocator>(seats: &[Seat<Stack<A>>], object: u64) -> bool
+fn some_names<A: Allocator>(seats: &[Numbered<Stack<A>>], object: u64) -> bool
     ensures { result ≡ list_any (λ seat. list_any (λ s. s.object == object) seat.value.locals) seats.now }
 {
     seats.iter().any(|seat| seat.value.holds_object(object))
@@ -256,7 +256,7 @@ pub fn names_object_in<A: Allocator>(stacks: &ByThread<Stack<A>, A>, object: u64
     some_names(stacks.seats(), object)
 }
 
-fn mark_seats<A: Allocator>(seats: &[Seat<Stack<A>>], marks: &mut ObjectMarks<A>)
+fn mark_seats<A: Allocator>(seats: &[Numbered<Stack<A>>], marks: &mut ObjectMarks<A>)
     ensures { Marks (λ o. list_any (λ seat. list_any (λ s. s.object == o) seat.value.locals) seats.now) marks.old
         marks.new }
 {
@@ -273,19 +273,6 @@ pub fn mark_named_in<A: Allocator>(stacks: &ByThread<Stack<A>, A>, marks: &mut O
     mark_seats(stacks.seats(), marks);
 }
 
-fn list_seats<A: Allocator, B: Allocator>(
-    seats: &[Seat<Stack<A>>],
-    refs: &mut Vec<Ref, B>,
-) -> Result<(), AllocError>
-    ensures { OnOk result (refs.new.items
-        ≡ refs.old.items ++ map local_ref (rows_seen (map seen seats.now)).locals) }
-{
-    for seat in seats {
-        seat.value.list(seat.tid, refs)?;
-    }
-    Ok(())
-}
-
 /// Appends a reference to each live local, thread by thread and then by number.
 pub fn list_in<A: Allocator, B: Allocator>(
     stacks: &ByThread<Stack<A>, A>,
@@ -294,5 +281,8 @@ pub fn list_in<A: Allocator, B: Allocator>(
     ensures { OnOk result (refs.new.items
         ≡ refs.old.items ++ map local_ref (rows_seen stacks.now).locals) }
 {
-    list_seats(stacks.seats(), refs)
+    for seat in stacks.seats() {
+        seat.value.list(seat.number as u16, refs)?;
+    }
+    Ok(())
 }

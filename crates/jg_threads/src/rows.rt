@@ -9,7 +9,7 @@ ghost use Rattle.jg_threads.specs.Rows.{row_of};
 ghost use Rattle.jg_lists.specs.Marks.{Marks};
 
 use crate::row::{NO_ROW, Row};
-use jg_lists::{ByThread, ObjectMarks, Seat};
+use jg_lists::{ByThread, Numbered, ObjectMarks};
 use std::alloc::{AllocError, Allocator};
 
 /// The row of the thread.
@@ -46,7 +46,7 @@ pub fn put_row<A: Allocator>(
     }
 }
 
-fn some_pending(seats: &[Seat<Row>], object: u64) -> bool
+fn some_pending(seats: &[Numbered<Row>], object: u64) -> bool
     ensures { result ≡ list_any (λ seat. is_object object seat.value.pending) seats.now }
 {
     seats.iter().any(|seat| seat.value.has_pending(object))
@@ -60,7 +60,7 @@ pub fn is_pending_in<A: Allocator>(rows: &ByThread<Row, A>, object: u64) -> bool
     some_pending(rows.seats(), object)
 }
 
-fn mark_seats<A: Allocator>(seats: &[Seat<Row>], marks: &mut ObjectMarks<A>)
+fn mark_seats<A: Allocator>(seats: &[Numbered<Row>], marks: &mut ObjectMarks<A>)
     ensures { Marks (λ o. list_any (λ seat. is_object o seat.value.pending) seats.now) marks.old marks.new }
 {
     for seat in seats {

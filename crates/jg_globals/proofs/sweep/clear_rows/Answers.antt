@@ -1,7 +1,7 @@
 use Rattle.std.proofs.Common.{◌≡◌, length, ◌∙◌, ap, sym, arith}
 use Rattle.std.specs.Option.{option_copied_mut}
 use Rattle.std.proofs.lemmas.List.{length-map}
-use Rattle.jg_lists.specs.ByThread.{seen}
+use Rattle.jg_lists.specs.ByNumber.{seen}
 use Rattle.jg_globals.proofs.Changed.{seat_at, changed_found, found_none, all_changed, each_named}
 use Rattle.jg_globals.proofs.sweep.clear_rows.Goals as goal
 use Rattle.jg_globals.proofs.sweep.clear_rows.Goals.{in-Some, in_default}

@@ -1,7 +1,7 @@
 use Rattle.std.proofs.Common.{subst}
 use Rattle.std.specs.Prelude.{◌==◌}
 use Rattle.std.specs.List.{list_any}
-use Rattle.jg_lists.specs.declared.by_thread.Seat.{Seat}
+use Rattle.jg_lists.specs.declared.by_number.Numbered.{Numbered}
 use Rattle.jg_lists.specs.Marks.{Marks}
 use Rattle.jg_lists.proofs.Marks.{marks_item}
 use Rattle.jg_locals.specs.Seen.{StackRows}
@@ -9,6 +9,6 @@ use Rattle.jg_locals.proofs.stacks.mark_seats.Goals as goal
 
 pub loop-seat-preserved : goal.loop-seat-preserved
 loop-seat-preserved g c =
-    marks_item (λ (seat : Seat StackRows) o. list_any (λ s. s.object == o) seat.value.locals) c.args.seats.now c.loop-seat.seat-index c.seat-item.result c.args.marks.now c.loop-seat.marks
+    marks_item (λ (seat : Numbered StackRows) o. list_any (λ s. s.object == o) seat.value.locals) c.args.seats.now c.loop-seat.seat-index c.seat-item.result c.args.marks.now c.loop-seat.marks
     c.mark_held.new.marks c.loop-seat-test.true c.loop-seat.invariant
-    (subst (λ (seat : Seat StackRows). Marks (λ o. list_any (λ s. s.object == o) seat.value.locals) c.loop-seat.marks c.mark_held.new.marks) c.seat-item.is c.mark_held.ensures)
+    (subst (λ (seat : Numbered StackRows). Marks (λ o. list_any (λ s. s.object == o) seat.value.locals) c.loop-seat.marks c.mark_held.new.marks) c.seat-item.is c.mark_held.ensures)

@@ -1,4 +1,4 @@
-use Rattle.jg_lists.specs.declared.by_thread.Seat.{Seat}
+use Rattle.jg_lists.specs.declared.by_number.Numbered.{Numbered}
 use Rattle.jg_lists.proofs.Marks.{marks_item}
 use Rattle.jg_threads.specs.declared.row.Row.{Row}
 use Rattle.jg_threads.specs.History.{is_object}
@@ -6,5 +6,5 @@ use Rattle.jg_threads.proofs.rows.mark_seats.Goals as goal
 
 pub loop-seat-preserved : goal.loop-seat-preserved
 loop-seat-preserved g c =
-    marks_item (λ (seat : Seat Row) o. is_object o seat.value.pending) c.args.seats.now c.loop-seat.seat-index _ c.args.marks.now c.loop-seat.marks _ c.loop-seat-test.true
+    marks_item (λ (seat : Numbered Row) o. is_object o seat.value.pending) c.args.seats.now c.loop-seat.seat-index _ c.args.marks.now c.loop-seat.marks _ c.loop-seat-test.true
     c.loop-seat.invariant c.mark_pending.ensures

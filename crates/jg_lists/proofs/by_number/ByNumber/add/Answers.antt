@@ -1,7 +1,6 @@
 use Rattle.std.proofs.Common.{◌≡◌, ◌++◌, ◌∷◌, [], sym, subst, refl, arith}
 use Rattle.std.specs.Prelude.{map, slice_set}
-use Rattle.jg_lists.specs.ByThread.{Placed}
-use Rattle.jg_lists.specs.ByNumber.{seen}
+use Rattle.jg_lists.specs.ByNumber.{seen, Placed}
 use Rattle.jg_lists.proofs.Values.{added_at}
 use Rattle.jg_lists.proofs.Numbers.{placed_same}
 use Rattle.jg_lists.proofs.Seats.{once, number_of, placed_more, seen_more}
@@ -11,27 +10,27 @@ pub invariant_of-self : goal.invariant_of-self
 invariant_of-self g c = placed_same c.self.inside.places.items c.widen.new.numbers.items _ c.self.invariant c.widen.ensures.same
 
 pub returns-in_err-widen-clause-once : goal.returns-in_err-widen-clause-once
-returns-in_err-widen-clause-once g c = once seen c.self.inside.places.items c.self.inside.seats.items _ c.self.invariant refl
+returns-in_err-widen-clause-once g c = once c.self.inside.places.items c.self.inside.seats.items _ c.self.invariant refl
 
 pub invariant_of-self-in_err-push : goal.invariant_of-self-in_err-push
 invariant_of-self-in_err-push g c =
-    subst (λ seats. Placed c.widen.new.numbers.items (map (number_of seen) seats)) (sym c.in_err-push.ensures.items)
-    (placed_same c.self.inside.places.items c.widen.new.numbers.items (map (number_of seen) c.self.inside.seats.items) c.self.invariant c.widen.ensures.same)
+    subst (λ seats. Placed c.widen.new.numbers.items (map number_of seats)) (sym c.in_err-push.ensures.items)
+    (placed_same c.self.inside.places.items c.widen.new.numbers.items (map number_of c.self.inside.seats.items) c.self.invariant c.widen.ensures.same)
 
 pub returns-in_err-push-clause-once : goal.returns-in_err-push-clause-once
-returns-in_err-push-clause-once g c = once seen c.widen.new.numbers.items c.push.new.self.items _ (invariant_of-self-in_err-push g c) refl
+returns-in_err-push-clause-once g c = once c.widen.new.numbers.items c.push.new.self.items _ (invariant_of-self-in_err-push g c) refl
 
 pub invariant_of-self-2 : goal.invariant_of-self-2
 invariant_of-self-2 g c =
-    let was = placed_same c.self.inside.places.items c.widen.new.numbers.items (map (number_of seen) c.self.inside.seats.items) c.self.invariant c.widen.ensures.same in
-    placed_more seen c.widen.new.numbers.items c.self.inside.seats.items c.push.new.self.items c.args.self.now c.args.number c.len.result (record { number = c.args.number; value = c.args.value }) was c.self.view_is c.requires
+    let was = placed_same c.self.inside.places.items c.widen.new.numbers.items (map number_of c.self.inside.seats.items) c.self.invariant c.widen.ensures.same in
+    placed_more c.widen.new.numbers.items c.self.inside.seats.items c.push.new.self.items c.args.self.now c.args.number c.len.result (record { number = c.args.number; value = c.args.value }) was c.self.view_is c.requires
     c.in_ok-widen.ensures.ok refl c.in_ok-push.ensures.items (omega (arith, c.len.ensures, c.push.new.self.ok))
 
 pub returns-clause-once : goal.returns-clause-once
-returns-clause-once g c = once seen (slice_set c.widen.new.numbers.items c.args.number c.len.result) c.push.new.self.items _ (invariant_of-self-2 g c) refl
+returns-clause-once g c = once (slice_set c.widen.new.numbers.items c.args.number c.len.result) c.push.new.self.items _ (invariant_of-self-2 g c) refl
 
 pub returns-clause-found : goal.returns-clause-found
 returns-clause-found g c = λ t.
     let added : map seen c.push.new.self.items ≡ c.args.self.now ++ (c.args.number, c.args.value) ∷ [] =
-    seen_more seen c.self.inside.seats.items c.push.new.self.items c.args.self.now (record { number = c.args.number; value = c.args.value }) c.self.view_is c.in_ok-push.ensures.items in
+    seen_more c.self.inside.seats.items c.push.new.self.items c.args.self.now (record { number = c.args.number; value = c.args.value }) c.self.view_is c.in_ok-push.ensures.items in
     rw added (added_at c.args.self.now c.args.number t c.args.value c.requires)

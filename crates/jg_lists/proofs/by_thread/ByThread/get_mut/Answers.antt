@@ -1,16 +1,10 @@
-use Rattle.std.proofs.Common.{refl, sym, ◌∙◌}
-use Rattle.jg_lists.proofs.Values.{absent, through, through_none}
+use Rattle.std.proofs.Common.{◌<◌, ℕ, List, sym, subst}
+use Rattle.std.specs.Prelude.{All, ◌^◌}
+use Rattle.jg_lists.proofs.Values.{set_below}
 use Rattle.jg_lists.proofs.by_thread.ByThread.get_mut.Goals as goal
 
-pub returns-then-contains : goal.returns-then-contains
-returns-then-contains g c = (
-  (refl, λ w. through c.args.self.now c.args.tid c.value_mut.result.now w c.value_mut.ensures.once (sym c.value_mut.ensures.value), refl),
-  record { writes_back = tt; value = c.value_mut.ensures.value; once = c.value_mut.ensures.once },
+pub invariant_of-self-lent : goal.invariant_of-self-lent
+invariant_of-self-lent g c some = (
+  λ w. set_below (2 ^ 16) c.self.inside.numbers (c.get_mut.follows.lender w) _ w (c.get_mut.follows.holds w).entries c.self.invariant,
+  subst (λ (es : List (ℕ × g.row.V.Denot)). All (λ e. e.0 < 2 ^ 16) es) (sym c.get_mut.follows.holds-at-none) c.self.invariant,
 )
-
-pub returns-else-contains : goal.returns-else-contains
-returns-else-contains g c =
-    let none = absent _ (sym c.contains.ensures.value ∙ c.if-contains.false) in (
-      (refl, λ w. through_none c.args.self.now c.args.tid w c.contains.ensures.once none, refl),
-      record { writes_back = tt; value = sym none; once = c.contains.ensures.once },
-    )
