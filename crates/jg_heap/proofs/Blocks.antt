@@ -1,10 +1,10 @@
 -- Blocks of objects, and the numbers of those in them.
-use Rattle.std.proofs.Common.{ℕ, zero, suc, ◌≡◌, ◌+◌, ◌-◌, ◌<◌, ◌≤◌, ◌⊎◌, ◌∙◌, sym, ap, refl, inl, inr, List, [], ◌∷◌, ◌++◌, length, drop, take, get_or, subst, cond, arith, Bool, false, not, ◌&&◌, ◌||◌, zero-add}
+use Rattle.std.proofs.Common.{ℕ, zero, suc, ◌≡◌, ◌+◌, ◌-◌, ◌<◌, ◌≤◌, ◌⊎◌, ◌∙◌, sym, ap, refl, inl, inr, List, [], ◌∷◌, ◌++◌, length, drop, take, get_or, subst, cond, arith, Bool, true, false, not, ◌&&◌, ◌||◌, zero-add}
 use Rattle.std.specs.Prelude.{All, filter, flat_map}
 use Rattle.std.specs.List.{list_any, range_with_len}
 use Rattle.std.proofs.lemmas.Bool.{cases_Bool, cases_lt}
 use Rattle.std.proofs.lemmas.Grind.{flat_map-append}
-use Rattle.std.proofs.lemmas.List.{append_assoc, append-nil, get_or-drop, get_or-take, get_or_past, length-drop, take_all, take_more}
+use Rattle.std.proofs.lemmas.List.{append_assoc, append-nil, get_or-drop, get_or-take, get_or_past, length-drop, length-take-le, take_all, take_more}
 use Rattle.std.proofs.lemmas.List.Elements.{All-append, All-from_get_or, filter-append}
 use Rattle.std.proofs.lemmas.List.Folds.{list_any_more}
 use Rattle.std.proofs.lemmas.List.FromFn.{length-range_with_len, get_or-range_with_len}
@@ -34,7 +34,7 @@ any_shift q a b c zero is = refl
 any_shift q a b c (suc n) is =
     ap (λ o. q o || list_any (λ i. q (a + i)) (range_with_len (b + 1) n)) (sym is) ∙ ap (λ r. q c || r) (any_shift q a (b + 1) (c + 1) n (omega (arith, is)))
 
-pub filter_none : (p : ℕ → Bool) (xs : List ℕ) → list_any p xs ≡ false → filter p xs ≡ []
+filter_none : (p : ℕ → Bool) (xs : List ℕ) → list_any p xs ≡ false → filter p xs ≡ []
 filter_none p [] none = refl
 filter_none p (x ∷ xs) none =
     elim (cases_Bool (p x)) [
@@ -67,13 +67,30 @@ none_past xs a (suc n) past = rw (get_or_past xs a false past) (none_past xs (a 
 -- ---- blocks
 
 -- one of them goes
-pub missed_of : (there marks : List Bool) (first end : ℕ) → first ≤ end
+missed_of : (there marks : List Bool) (first end : ℕ) → first ≤ end
     → list_any (λ i. get_or (take (end - first) (drop first there)) i false && not (get_or marks (first + i) false)) (range_with_len 0 (end - first))
     ≡ list_any (unheld_in there marks) (range_with_len first (end - first))
 missed_of there marks first end order =
     any_agree (λ i. get_or (take (end - first) (drop first there)) i false && not (get_or marks (first + i) false)) (λ i. unheld_in there marks (first + i)) 0 (end - first)
     (λ i h. ap (λ b. b && not (get_or marks (first + i) false)) (get_or-take (end - first) (drop first there) i false (omega (arith, h)) ∙ get_or-drop first there i false))
     ∙ any_shift (unheld_in there marks) first 0 first (end - first) (omega arith)
+
+-- none goes where none was missed
+pub none_missed : (there marks : List Bool) (first end : ℕ) (misses : Bool) → first ≤ end → end ≤ length there → misses ≡ false
+    → (first + length (take (end - first) (drop first there)) ≤ length marks
+    → misses ≡ list_any (λ i. get_or (take (end - first) (drop first there)) i false && not (get_or marks (first + i) false)) (range_with_len 0 (length (take (end - first) (drop first there)))))
+    → (length marks < first + length (take (end - first) (drop first there)) → misses ≡ true) → filter (unheld_in there marks) (range_with_len first (end - first)) ≡ []
+none_missed there marks first end misses order inside none within past =
+    let n = end - first in
+    let wanted : length (take n (drop first there)) ≡ n = length-take-le n (drop first there) (omega (arith, length-drop first there, inside)) in
+    filter_none (unheld_in there marks) (range_with_len first n)
+    (elim (cases_lt (length marks) (first + n)) [
+      | inl beyond ↦ absurd (cc (none, past (omega (arith, beyond, wanted))))
+      | inr marked ↦
+          sym (missed_of there marks first end order)
+          ∙ ap (λ k. list_any (λ i. get_or (take n (drop first there)) i false && not (get_or marks (first + i) false)) (range_with_len 0 k)) (sym wanted)
+          ∙ sym (within (omega (arith, marked, wanted))) ∙ none
+    ])
 
 pub block_is : (b : ℕ) → block_of b ≡ range_with_len b 32
 unfolding block_of

@@ -86,6 +86,9 @@ pub(crate) fn mark_pointed<A: Allocator>(
 /// How many objects a block has. The processor compares so many marks at once.
 pub(crate) const BLOCK: usize = 32;
 
+/// How many objects a part of a block has. Those of a part are asked one by one.
+const PART: usize = 8;
+
 /// Whether the object is in being and isn't marked.
 fn is_unheld<A: Allocator>(marks: &ObjectMarks<A>, there: &[bool], object: usize) -> bool
     requires { object < length there.now }
@@ -118,6 +121,26 @@ fn list_among<A: Allocator>(
     Ok(())
 }
 
+/// Lists those of the objects of a block that are in being and aren't marked.
+fn list_block<A: Allocator>(
+    marks: &ObjectMarks<A>,
+    there: &[bool],
+    first: usize,
+    unheld: &mut Vec<u64, A>,
+) -> Result<(), AllocError>
+    requires { first + 32 ≤ length there.now }
+    ensures { OnOk result (unheld.new.items ≡ unheld.old.items ++ filter (unheld_in there.now marks.now) (block_of first)) }
+{
+    if !marks.misses(first as u64, &there[first..first + BLOCK]) {
+        return Ok(());
+    }
+    for part in 0..BLOCK / PART {
+        let at = first + part * PART;
+        list_among(marks, there, at, at + PART, unheld)?;
+    }
+    Ok(())
+}
+
 /// Lists those of the objects of the blocks, and of those from `loose` on, that are in being and aren't
 /// marked.
 pub(crate) fn list_unheld<A: Allocator>(
@@ -134,8 +157,7 @@ pub(crate) fn list_unheld<A: Allocator>(
 {
     unheld.clear();
     for block in blocks {
-        let first = *block as usize;
-        list_among(marks, there, first, first + BLOCK, unheld)?;
+        list_block(marks, there, *block as usize, unheld)?;
     }
     list_among(marks, there, loose, there.len(), unheld)
 }
