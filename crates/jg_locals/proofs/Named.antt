@@ -1,6 +1,6 @@
--- The numbers and objects that stand beside a thread's slots.
-use Rattle.std.proofs.Common.{◌≡◌, ℕ, zero, suc, ◌<◌, ◌≤◌, ◌+◌, ◌^◌, length, get_or, take, Bool, true, false, List, [], ◌∷◌, ◌++◌, None, refl, ◌∙◌, ap, sym, arith, inl, inr}
-use Rattle.std.specs.Prelude.{◌⊎◌, ◌==◌, ◌&&◌, ◌||◌, if◌then◌else◌, filter, map, slice_get, slice_set}
+-- The objects that stand beside a thread's slots.
+use Rattle.std.proofs.Common.{◌≡◌, ℕ, suc, ◌<◌, ◌≤◌, ◌+◌, ◌^◌, length, get_or, take, Bool, true, false, List, [], ◌∷◌, ◌++◌, None, refl, ◌∙◌, ap, sym, arith, inl, inr}
+use Rattle.std.specs.Prelude.{◌⊎◌, ◌==◌, ◌&&◌, ◌||◌, if◌then◌else◌, filter, map, slice_get}
 use Rattle.std.specs.Option.{option_map}
 use Rattle.std.specs.List.{list_any}
 use Rattle.std.proofs.Math.Seq.{take-suc}
@@ -10,27 +10,13 @@ use Rattle.std.proofs.lemmas.List.{map-append}
 use Rattle.std.proofs.lemmas.Option.{slice_get_past}
 use Rattle.jg_lists.specs.Marks.{Marks}
 use Rattle.jg_locals.specs.declared.row.Slot.{Slot}
-use Rattle.jg_locals.specs.Seen.{Beside, ended, is_live, named, number}
+use Rattle.jg_locals.specs.Seen.{is_live, named}
 use Rattle.jg_locals.proofs.Numbers.{any_live}
 
-of_more : (f : Slot → ℕ) (slots : List Slot) (i : ℕ) (d : Slot) → i < length slots → map f (take i slots) ++ f (get_or slots i d) ∷ [] ≡ map f (take (i + 1) slots)
-of_more f slots i d within =
+pub named_more : (slots : List Slot) (i : ℕ) (d : Slot) → i < length slots → map named (take i slots) ++ named (get_or slots i d) ∷ [] ≡ map named (take (i + 1) slots)
+named_more slots i d within =
     let next : i + 1 ≡ suc i = omega arith in
-    sym (ap (λ k. map f (take k slots)) next ∙ (ap (map f) (take-suc slots i d within) ∙ map-append f (take i slots) (get_or slots i d ∷ [])))
-
--- the lists beside one slot more
-pub beside_more : (slots : List Slot) (i : ℕ) (d : Slot) (ns os : List ℕ) → i < length slots → Beside (take i slots) ns os
-    → Beside (take (i + 1) slots) (ns ++ (get_or slots i d).n ∷ []) (os ++ named (get_or slots i d) ∷ [])
-beside_more slots i d ns os within are = record {
-  numbers = ap (λ l. l ++ (get_or slots i d).n ∷ []) are.numbers ∙ of_more number slots i d within;
-  objects = ap (λ l. l ++ named (get_or slots i d) ∷ []) are.objects ∙ of_more named slots i d within;
-}
-
--- to mark the slot at a place dead leaves the numbers
-pub same_numbers : (slots : List Slot) (i : ℕ) (w : Slot) → w ≡ get_or slots i w → map number slots ≡ map number (slice_set slots i (ended w))
-same_numbers [] i w at = refl
-same_numbers (x ∷ xs) zero w at = ap (λ n. n ∷ map number xs) (ap number (sym at))
-same_numbers (x ∷ xs) (suc i) w at = ap (λ ns. x.n ∷ ns) (same_numbers xs i w at)
+    sym (ap (λ k. map named (take k slots)) next ∙ (ap (map named) (take-suc slots i d within) ∙ map-append named (take i slots) (get_or slots i d ∷ [])))
 
 one : (live : Bool) (object o : ℕ) → o < 2 ^ 63 → ((if live then object else 18446744073709551615) == o) ≡ (live && object == o)
 one true object o small = refl

@@ -1,6 +1,6 @@
 -- One thread's list of locals: what is found in it, marked in it and cut from it.
 use Rattle.std.proofs.Common.{◌≡◌, ℕ, zero, suc, ◌-◌, ◌<◌, ◌≤◌, length, get_or, Bool, true, false, List, [], ◌∷◌, ◌++◌, Option, Some, None, refl, ◌∙◌, ap, sym, subst, arith, inl, inr}
-use Rattle.std.specs.Prelude.{◌⊎◌, ◌==◌, ◌&&◌, ◌||◌, not, if◌then◌else◌, filter, find, map, nat_lt, slice_get, slice_set}
+use Rattle.std.specs.Prelude.{◌⊎◌, ◌==◌, ◌&&◌, ◌||◌, not, if◌then◌else◌, filter, find, slice_get, slice_set}
 use Rattle.std.specs.Option.{option_or, option_map, option_to_list}
 use Rattle.std.specs.Ordering.{nat_cmp, ordering_index}
 use Rattle.std.specs.declared.cmp.Ordering.TheVariants.{Less, Equal, Greater}
@@ -11,7 +11,7 @@ use Rattle.std.proofs.lemmas.List.{append-nil}
 use Rattle.std.proofs.lemmas.List.Elements.{filter-append}
 use Rattle.jg_locals.specs.declared.row.Slot.{Slot}
 use Rattle.jg_locals.specs.declared.row.Frame.{Frame}
-use Rattle.jg_locals.specs.Seen.{ended, last, number, Chain, is_live, is_in, is_below, is_before, stays, IsBelowAll, passes, Sound}
+use Rattle.jg_locals.specs.Seen.{ended, last, Chain, is_live, is_in, is_below, is_before, stays, IsBelowAll, passes, Sound}
 use Rattle.jg_locals.proofs.Chains.{each-map, each-front, each-filter, chain-front, chain-filter, chain-last, last-push, last-nil, filter-all, filter-none, filter-alike}
 
 some_or : {X : Type 0} (a : Option X) (x y : X) → option_or a (Some y) ≡ option_or (option_or a (Some y)) (Some x)
@@ -51,18 +51,11 @@ compared n a b le = grind (arith, nat_tests)
 number_later : (s t : Slot) → is_before s t ≡ true → s.n < t.n
 number_later s t is = grind (arith, nat_tests)
 
-numbers_above : (x : Slot) (xs : List Slot) → AllByRecursion (λ y. is_before x y ≡ true) xs → AllByRecursion (λ m. nat_lt x.n m ≡ true) (map number xs)
-numbers_above x [] all = tt
-numbers_above x (y ∷ ys) all = (let lt = number_later x y all.0 in grind (arith, nat_tests, lt), numbers_above x ys all.1)
-
--- the slots' numbers ascend
-pub numbers_rise : (slots : List Slot) → Chain is_before slots → Chain nat_lt (map number slots)
-numbers_rise [] chain = tt
-numbers_rise (x ∷ xs) chain = (numbers_above x xs chain.0, numbers_rise xs chain.1)
-
-rising_by : (ns : List ℕ) (n i j d : ℕ) → Chain nat_lt ns → (i < j) ⊎ (i ≡ j) → j < length ns → ordering_index (nat_cmp (get_or ns i d) n) ≤ ordering_index (nat_cmp (get_or ns j d) n)
-rising_by ns n i j d chain (inl lt) within = compared n (get_or ns i d) (get_or ns j d) (let below = chain-at nat_lt ns i j d chain lt within in grind (arith, nat_tests, below))
-rising_by ns n i j d chain (inr same) within = compared n (get_or ns i d) (get_or ns j d) (let k = ap (λ m. get_or ns m d) same in omega (arith, k))
+rising_by : (slots : List Slot) (n i j : ℕ) (d : Slot) → Chain is_before slots → (i < j) ⊎ (i ≡ j) → j < length slots
+    → ordering_index (nat_cmp (get_or slots i d).n n) ≤ ordering_index (nat_cmp (get_or slots j d).n n)
+rising_by slots n i j d chain (inl lt) within = compared n (get_or slots i d).n (get_or slots j d).n
+    (omega (arith, number_later (get_or slots i d) (get_or slots j d) (chain-at is_before slots i j d chain lt within)))
+rising_by slots n i j d chain (inr same) within = compared n (get_or slots i d).n (get_or slots j d).n (let k = ap (λ m. (get_or slots m d).n) same in omega (arith, k))
 
 pub less_or_same : (i j : ℕ) → i ≤ j → (i < j) ⊎ (i ≡ j)
 less_or_same zero zero le = inr refl
@@ -74,8 +67,8 @@ less_or_same (suc i) (suc j) le = later (less_or_same i j (omega (arith, le)))
     later (inl lt) = inl (omega (arith, lt))
     later (inr same) = inr (ap suc same)
 
-rising : (ns : List ℕ) (n : ℕ) → Chain nat_lt ns → IsNonDecreasingBy (λ m. ordering_index (nat_cmp m n)) ns
-rising ns n chain = λ i j d le within. rising_by ns n i j d chain (less_or_same i j le) within
+rising : (slots : List Slot) (n : ℕ) → Chain is_before slots → IsNonDecreasingBy (λ s. ordering_index (nat_cmp s.n n)) slots
+rising slots n chain = λ i j d le within. rising_by slots n i j d chain (less_or_same i j le) within
 
 less_is : (a n : ℕ) → nat_cmp a n ≡ Less → (a == n) ≡ false
 less_is a n is = grind (arith, nat_tests)
@@ -95,25 +88,16 @@ low_or_high (suc i) (suc k) = later (low_or_high i k)
     later (inl lt) = inl (omega (arith, lt))
     later (inr le) = inr (omega (arith, le))
 
-parted : (ns : List ℕ) (n k i d : ℕ) → IsPartitionPoint (λ m. nat_cmp m n ≡ Less) (λ m. nat_cmp m n ≡ Greater) ns k → i < length ns → (i < k) ⊎ (k ≤ i) → (get_or ns i d == n) ≡ false
-parted ns n k i d point within (inl low) = less_is (get_or ns i d) n (point.0 i d (omega arith) low)
-parted ns n k i d point within (inr high) = greater_is (get_or ns i d) n (point.1 i d high within)
+parted : (slots : List Slot) (n k i : ℕ) (d : Slot) → IsPartitionPoint (λ s. nat_cmp s.n n ≡ Less) (λ s. nat_cmp s.n n ≡ Greater) slots k → i < length slots → (i < k) ⊎ (k ≤ i)
+    → ((get_or slots i d).n == n) ≡ false
+parted slots n k i d point within (inl low) = less_is (get_or slots i d).n n (point.0 i d (omega arith) low)
+parted slots n k i d point within (inr high) = greater_is (get_or slots i d).n n (point.1 i d high within)
 
--- a search that finds no place says that the number isn't there
-pub no_place : (ns : List ℕ) (n k : ℕ) → Chain nat_lt ns
-    → (IsNonDecreasingBy (λ m. ordering_index (nat_cmp m n)) ns → IsPartitionPoint (λ m. nat_cmp m n ≡ Less) (λ m. nat_cmp m n ≡ Greater) ns k)
-    → AllByRecursion (λ m. (m == n) ≡ false) ns
-no_place ns n k chain point = each-from (λ m. (m == n) ≡ false) ns (λ i d within. parted ns n k i d (point (rising ns n chain)) within (low_or_high i k))
-
--- where a number stands, its slot stands
-pub slot_of_number : (slots : List Slot) (n i : ℕ) → slice_get (map number slots) i ≡ Some n → (i < length slots) × ((s : Slot) → (get_or slots i s).n ≡ n)
-slot_of_number [] n i is = cc
-slot_of_number (x ∷ xs) n zero is = (omega arith, λ s. cc)
-slot_of_number (x ∷ xs) n (suc i) is = let later = slot_of_number xs n i is in (omega (arith, later.0), later.1)
-
-pub no_slot_of_number : (slots : List Slot) (n : ℕ) → AllByRecursion (λ m. (m == n) ≡ false) (map number slots) → AllByRecursion (λ s. (s.n == n) ≡ false) slots
-no_slot_of_number [] n all = tt
-no_slot_of_number (x ∷ xs) n all = (all.0, no_slot_of_number xs n all.1)
+-- a search that finds no place says that no slot has the number
+pub no_place : (slots : List Slot) (n k : ℕ) → Chain is_before slots
+    → (IsNonDecreasingBy (λ s. ordering_index (nat_cmp s.n n)) slots → IsPartitionPoint (λ s. nat_cmp s.n n ≡ Less) (λ s. nat_cmp s.n n ≡ Greater) slots k)
+    → AllByRecursion (λ s. (s.n == n) ≡ false) slots
+no_place slots n k chain point = each-from (λ s. (s.n == n) ≡ false) slots (λ i d within. parted slots n k i d (point (rising slots n chain)) within (low_or_high i k))
 
 pub find-none : {X : Type 0} (p : X → Bool) (xs : List X) → AllByRecursion (λ x. p x ≡ false) xs → find p xs ≡ None
 find-none p [] all = refl

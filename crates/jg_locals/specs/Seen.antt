@@ -1,5 +1,5 @@
 -- What contracts see of the stacks that the code keeps.
-use Rattle.std.specs.Prelude.{◌≡◌, ◌≢◌, ℕ, ◌+◌, ◌-◌, Bool, true, false, ◌==◌, ◌&&◌, ◌||◌, not, if◌then◌else◌, nat_lt, nat_le, List, [], ◌∷◌, ◌++◌, map, filter, Option, Some, None}
+use Rattle.std.specs.Prelude.{◌≡◌, ◌≢◌, ℕ, ◌+◌, ◌-◌, ◌<◌, length, slice_index_or, Bool, true, false, ◌==◌, ◌&&◌, ◌||◌, not, if◌then◌else◌, nat_lt, nat_le, List, [], ◌∷◌, ◌++◌, map, filter, Option, Some, None}
 use Rattle.std.specs.Option.{option_or}
 use Rattle.std.specs.List.{AllByRecursion, list_any}
 use Rattle.std.specs.Map.{lookup}
@@ -35,16 +35,9 @@ ended s = record s { live = false }
 abbrev pub named : Slot → ℕ
 named s = if s.live then s.object else 18446744073709551615
 
-abbrev pub object_if_live : Slot → Option ℕ
-object_if_live s = if s.live then Some s.object else None
-
-abbrev pub number : Slot → ℕ
-number s = s.n
-
--- the lists that stand beside the slots: of their numbers, and of the objects that they name
-pub record Beside (slots : List Slot) (ns os : List ℕ) : Type 0 where
-  pub numbers : ns ≡ map number slots
-  pub objects : os ≡ map named slots
+-- the local n stands at the place
+abbrev pub IsPlaceOf : ℕ → List Slot → ℕ → Type 0
+IsPlaceOf n slots i = (i < length slots) × ((s : Slot) → (slice_index_or slots i s).n ≡ n)
 
 -- a thread's slots, and for how many more there is room
 pub record SlotsSeen : Type 0 where

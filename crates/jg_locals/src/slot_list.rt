@@ -1,7 +1,7 @@
-ghost use Rattle.std.specs.Prelude.{◌≡◌, ◌≤◌, ◌<◌, ◌+◌, ◌++◌, ◌∷◌, ◌&&◌, ◌==◌, [], Some, IsOk, IsTrue, IfSome, MatchOption, false, OnOk, OnErr, filter, length, nat_lt, slice_get, slice_index_or, slice_set, option_to_list, vec_capacity};
+ghost use Rattle.std.specs.Prelude.{◌≡◌, ◌≤◌, ◌<◌, ◌+◌, ◌++◌, ◌∷◌, ◌&&◌, ◌==◌, [], IsOk, IsTrue, IfSome, MatchOption, false, OnOk, OnErr, filter, length, map, take, slice_index_or, slice_set, option_to_list, vec_capacity};
 ghost use Rattle.std.specs.List.{AllByRecursion, list_any};
 ghost use Rattle.jg_lists.specs.Marks.{Marks};
-ghost use Rattle.jg_locals.specs.Seen.{Beside, Chain, is_before, is_live, named, ended, object_if_live};
+ghost use Rattle.jg_locals.specs.Seen.{Chain, IsPlaceOf, is_before, is_live, named, ended};
 
 use crate::hints::Hints;
 use crate::row::Slot;
@@ -10,14 +10,11 @@ use std::alloc::{AllocError, Allocator};
 use std::cell::Cell;
 use std::marker::Model;
 
-/// A thread's slots, and beside them their numbers and the objects that the live ones name, so that a
-/// look-up reads 8 bytes of each and a collection the objects alone. Contracts see the slots, and for how
-/// many more there is room.
+/// A thread's slots, and beside them the objects that the live ones name, so that a collection reads
+/// these alone. Contracts see the slots, and for how many more there is room.
 #[derive(Drop)]
 pub struct SlotList<A: Allocator> {
     slots: Vec<Slot, A>,
-    /// The number of each slot.
-    numbers: Vec<u64, A>,
     /// The object of each slot; of a dead one the greatest number, at which there is no mark.
     objects: Vec<u64, A>,
     /// Where a local was found last, since a call's operand is asked for more than once. It is a guess,
@@ -28,50 +25,42 @@ pub struct SlotList<A: Allocator> {
 }
 
 impl<A: Allocator> Model for SlotList<A> {
-    ghost use Rattle.std.specs.Prelude.{◌-◌, min, vec_len, vec_capacity};
-    ghost use Rattle.jg_locals.specs.Seen.{SlotsSeen, Beside};
+    ghost use Rattle.std.specs.Prelude.{◌≡◌, ◌-◌, map, min, vec_len, vec_capacity};
+    ghost use Rattle.jg_locals.specs.Seen.{SlotsSeen, named};
 
     ghost Value = { SlotsSeen };
 
     ghost view = { λ a. record {
       items = a.slots.items;
-      room = min (vec_capacity a.slots - vec_len a.slots)
-          (min (vec_capacity a.numbers - vec_len a.numbers) (vec_capacity a.objects - vec_len a.objects));
+      room = min (vec_capacity a.slots - vec_len a.slots) (vec_capacity a.objects - vec_len a.objects);
     } };
 
-    ghost invariant = { λ a. Beside a.slots.items a.numbers.items a.objects.items };
+    ghost invariant = { λ a. a.objects.items ≡ map named a.slots.items };
 }
 
-/// What stands in the list of objects for the slot.
+/// The object that the slot names, if it is live.
 fn named(slot: Slot) -> u64
     ensures { result ≡ named slot }
 {
     if slot.live { slot.object } else { u64::MAX }
 }
 
-/// The object that the slot names, if it is live.
-fn object_if_live(slot: Slot) -> Option<u64>
-    ensures { result ≡ object_if_live slot }
-{
-    if slot.live { Some(slot.object) } else { None }
-}
-
 /// Whether the local `n` stands at the place.
-fn stands_at(numbers: &[u64], place: usize, n: u64) -> bool
-    ensures { IsTrue result → slice_get numbers.now place ≡ Some n }
+fn stands_at(slots: &[Slot], place: usize, n: u64) -> bool
+    ensures { IsTrue result → IsPlaceOf n slots.now place }
 {
-    match numbers.get(place) {
-        Some(number) => *number == n,
+    match slots.get(place) {
+        Some(slot) => slot.n == n,
         None => false,
     }
 }
 
 /// Where the local `n` stands, if none is missing from the oldest up to it.
-fn place_in_row(numbers: &[u64], n: u64) -> Option<usize>
-    ensures { IfSome result (λ place. slice_get numbers.now place ≡ Some n) }
+fn place_in_row(slots: &[Slot], n: u64) -> Option<usize>
+    ensures { IfSome result (IsPlaceOf n slots.now) }
 {
-    let place = n.checked_sub(*numbers.first()?)? as usize;
-    if stands_at(numbers, place, n) {
+    let place = n.checked_sub(slots.first()?.n)? as usize;
+    if stands_at(slots, place, n) {
         Some(place)
     } else {
         None
@@ -79,11 +68,11 @@ fn place_in_row(numbers: &[u64], n: u64) -> Option<usize>
 }
 
 /// Where the local `n` stands, if its hint is right.
-fn place_hinted<A: Allocator>(numbers: &[u64], hints: &Hints<A>, n: u64) -> Option<usize>
-    ensures { IfSome result (λ place. slice_get numbers.now place ≡ Some n) }
+fn place_hinted<A: Allocator>(slots: &[Slot], hints: &Hints<A>, n: u64) -> Option<usize>
+    ensures { IfSome result (IsPlaceOf n slots.now) }
 {
     let place = hints.get(n)?;
-    if stands_at(numbers, place, n) {
+    if stands_at(slots, place, n) {
         Some(place)
     } else {
         None
@@ -91,48 +80,42 @@ fn place_hinted<A: Allocator>(numbers: &[u64], hints: &Hints<A>, n: u64) -> Opti
 }
 
 /// Where the local `n` stands, live or dead.
-fn place_among<A: Allocator>(numbers: &[u64], hints: &Hints<A>, n: u64) -> Option<usize>
-    requires { Chain nat_lt numbers.now }
-    ensures { MatchOption result (AllByRecursion (λ m. (m == n) ≡ false) numbers.now)
-        (λ place. slice_get numbers.now place ≡ Some n) }
+fn place_among<A: Allocator>(slots: &[Slot], hints: &Hints<A>, n: u64) -> Option<usize>
+    requires { Chain is_before slots.now }
+    ensures { MatchOption result (AllByRecursion (λ s. (s.n == n) ≡ false) slots.now) (IsPlaceOf n slots.now) }
 {
     // Most lists have a local of each number, and then no search is needed.
-    if let Some(place) = place_in_row(numbers, n) {
+    if let Some(place) = place_in_row(slots, n) {
         return Some(place);
     }
-    if let Some(place) = place_hinted(numbers, hints, n) {
+    if let Some(place) = place_hinted(slots, hints, n) {
         return Some(place);
     }
-    match numbers.binary_search(&n) {
+    match slots.binary_search_by_key(&n, |slot| slot.n) {
         Ok(place) => Some(place),
         Err(_place) => None,
     }
 }
 
-/// Lists the numbers and the objects of the slots, for which there is room.
-fn list_beside<A: Allocator>(numbers: &mut Vec<u64, A>, objects: &mut Vec<u64, A>, slots: &[Slot])
-    requires numbers { length slots.now ≤ vec_capacity numbers.old }
-    requires objects { length slots.now ≤ vec_capacity objects.old }
-    ensures beside { Beside slots.now numbers.new.items objects.new.items }
-    ensures numbers { vec_capacity numbers.old ≤ vec_capacity numbers.new }
-    ensures objects { vec_capacity objects.old ≤ vec_capacity objects.new }
+/// Lists the objects of the slots, for which there is room.
+fn name_all<A: Allocator>(objects: &mut Vec<u64, A>, slots: &[Slot])
+    requires { length slots.now ≤ vec_capacity objects.old }
+    ensures items { objects.new.items ≡ map named slots.now }
+    ensures capacity { vec_capacity objects.old ≤ vec_capacity objects.new }
 {
-    numbers.clear();
     objects.clear();
     for slot in slots {
-        numbers.push_reserved(slot.n);
         objects.push_reserved(named(*slot));
     }
 }
 
 impl<A: Allocator> SlotList<A> {
     /// No slots. Takes no memory.
-    pub fn new(slots: A, numbers: A, objects: A, places: A) -> SlotList<A>
+    pub fn new(slots: A, places: A, objects: A) -> SlotList<A>
         ensures { result.items ≡ [] }
     {
         SlotList {
             slots: Vec::new(slots),
-            numbers: Vec::new(numbers),
             objects: Vec::new(objects),
             recent: Cell::new(0),
             hints: Hints::new(places),
@@ -152,24 +135,12 @@ impl<A: Allocator> SlotList<A> {
             (λ i. (i < length self.now.items) × ((s : Slot) → (slice_index_or self.now.items i s).n ≡ n)) }
     {
         let recent = self.recent.get();
-        if stands_at(&self.numbers, recent, n) {
+        if stands_at(self.as_slice(), recent, n) {
             return Some(recent);
         }
-        let place = place_among(&self.numbers, &self.hints, n)?;
+        let place = place_among(self.as_slice(), &self.hints, n)?;
         self.recent.set(place);
         Some(place)
-    }
-
-    /// The object of the slot at the place, if it is live.
-    pub fn object_at(&self, place: usize) -> Option<u64>
-        requires { place < length self.now.items }
-        ensures { (s : Slot) → result ≡ object_if_live (slice_index_or self.now.items place s) }
-    {
-        let object = self.objects[place];
-        if object < u64::MAX {
-            return Some(object);
-        }
-        object_if_live(self.slots[place])
     }
 
     /// Makes room for one more.
@@ -180,7 +151,6 @@ impl<A: Allocator> SlotList<A> {
         ensures has_room { 0 < self.old.room → IsOk result }
     {
         self.slots.try_reserve(1)?;
-        self.numbers.try_reserve(1)?;
         self.objects.try_reserve(1)
     }
 
@@ -194,7 +164,6 @@ impl<A: Allocator> SlotList<A> {
         self.reserve()?;
         self.hints.note(slot.n, self.slots.len());
         self.slots.push_reserved(slot);
-        self.numbers.push_reserved(slot.n);
         self.objects.push_reserved(named(slot));
         Ok(())
     }
@@ -218,7 +187,6 @@ impl<A: Allocator> SlotList<A> {
         ensures fewer { 0 < length self.old.items → length self.new.items < length self.old.items }
         ensures room { self.old.room ≤ self.new.room }
     {
-        self.numbers.pop();
         self.objects.pop();
         self.slots.pop()
     }
@@ -229,7 +197,7 @@ impl<A: Allocator> SlotList<A> {
         ensures room { self.old.room ≤ self.new.room }
     {
         self.slots.retain(|slot| slot.live);
-        list_beside(&mut self.numbers, &mut self.objects, &self.slots);
+        name_all(&mut self.objects, &self.slots);
         self.hints.note_all(&self.slots);
     }
 
@@ -239,8 +207,6 @@ impl<A: Allocator> SlotList<A> {
     {
         self.slots.clear();
         self.slots.shrink_to_fit();
-        self.numbers.clear();
-        self.numbers.shrink_to_fit();
         self.objects.clear();
         self.objects.shrink_to_fit();
         self.hints.clear();

@@ -16,7 +16,9 @@ pub fn object_of<A: Allocator>(slots: &SlotList<A>, n: u64) -> Option<u64>
     requires { Chain is_before slots.now.items }
     ensures { result ≡ option_map (λ s. s.object) (find (λ s. s.n == n) (filter is_live slots.now.items)) }
 {
-    slots.object_at(slots.place_of(n)?)
+    let i = slots.place_of(n)?;
+    let slot = slots.as_slice()[i];
+    if slot.live { Some(slot.object) } else { None }
 }
 
 /// Marks the local `n` dead, and answers it if it was live.

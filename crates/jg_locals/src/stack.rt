@@ -42,12 +42,12 @@ impl<A: Allocator> Model for Stack<A> {
 }
 
 impl<A: Allocator> Stack<A> {
-    pub fn new(slots: A, numbers: A, objects: A, places: A, frames: A) -> Stack<A>
+    pub fn new(slots: A, places: A, objects: A, frames: A) -> Stack<A>
         ensures locals { result.locals ≡ [] }
         ensures frames { result.frames ≡ [] }
     {
         Stack {
-            slots: SlotList::new(slots, numbers, objects, places),
+            slots: SlotList::new(slots, places, objects),
             frames: Vec::new(frames),
             dead: 0,
         }

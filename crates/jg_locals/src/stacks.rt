@@ -135,7 +135,6 @@ pub fn add_stack<A: Allocator + Clone>(
         alloc.clone()?,
         alloc.clone()?,
         alloc.clone()?,
-        alloc.clone()?,
     );
     stacks.add(tid, stack)?;
     Ok(())
