@@ -240,7 +240,7 @@ impl<A: Allocator + Clone> Buffers<A> {
     pub fn in_critical(&self, tid: Tid) -> bool
         ensures { (e : List Event) → Stands self.now e → result ≡ in_critical e tid.0 }
     {
-        number_at(&self.makers, tid.0 as usize) > 0
+        number_at(&self.makers, tid.0 as usize, 0) > 0
     }
 
     /// Whether a pinned buffer that was opened through the reference is open.

@@ -12,7 +12,7 @@ pub fn widen_counts<A: Allocator>(makers: &mut Vec<usize, A>, tid: u16) -> Resul
     ensures room { OnOk result (tid < length makers.new.items) }
     ensures fits { OnOk result (slice_index_or makers.new.items tid 0 < usize.MAX) }
 {
-    widen(makers, tid as usize)?;
+    widen(makers, tid as usize, 0)?;
     if makers[tid as usize] == usize::MAX {
         return Err(AllocError);
     }

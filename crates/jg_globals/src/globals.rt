@@ -14,8 +14,8 @@ use jg_words::{Kind, ObjId, Ref, Tid};
 use std::alloc::{AllocError, Allocator, Global};
 use std::marker::Model;
 
-/// The global and weak global references in being. Beside what is in being, each maker takes 8 bytes
-/// for each reference that it was handed out, up to its newest global one, and 8 for each up to its
+/// The global and weak global references in being. Beside what is in being, each maker takes 4 bytes
+/// for each reference that it was handed out, up to its newest global one, and 4 for each up to its
 /// newest weak one. Contracts see the rows.
 #[derive(Drop)]
 pub struct Globals<A: Allocator = Global> {

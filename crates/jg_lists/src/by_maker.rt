@@ -10,7 +10,7 @@ use crate::by_thread::ByThread;
 use std::alloc::{AllocError, Allocator};
 
 /// A value for each of some names, found in two steps, however many there are. A name is a maker's
-/// number, and a number that the maker gave. Beside the values, each maker takes 8 bytes for each number
+/// number, and a number that the maker gave. Beside the values, each maker takes 4 bytes for each number
 /// up to the greatest of its own that ever had a value.
 pub type ByMaker<V, A> = ByThread<ByNumber<V, A>, A>;
 

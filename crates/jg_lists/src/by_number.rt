@@ -7,7 +7,7 @@ ghost use Rattle.std.specs.Ordering.{nat_cmp};
 ghost use Rattle.jg_lists.specs.ByThread.{at, IsOnce};
 ghost use Rattle.jg_lists.specs.ByNumber.{seen};
 
-use crate::zeroed::{number_at, widen};
+use crate::blanks::{number_at, widen};
 use std::alloc::{AllocError, Allocator, Global};
 use std::marker::Model;
 
@@ -18,13 +18,13 @@ pub struct Numbered<V> {
     pub value: V,
 }
 
-/// A value for each of some numbers, found by the number in one step, however many there are. Takes 8
+/// A value for each of some numbers, found by the number in one step, however many there are. Takes 4
 /// bytes for each number up to the greatest that ever had a value, beside the values: it is meant for
 /// numbers that lie close together. Contracts see the numbers with their values.
 #[derive(Drop)]
 pub struct ByNumber<V, A: Allocator = Global> {
     /// By the number, the place of its seat, counted from 1, or 0 where it has none.
-    places: Vec<usize, A>,
+    places: Vec<u32, A>,
     seats: Vec<Numbered<V>, A>,
 }
 
@@ -58,11 +58,11 @@ impl<V, A: Allocator> ByNumber<V, A> {
         ensures value { option_copied result ≡ at number self.now }
         ensures once { IsOnce self.now }
     {
-        let place = number_at(&self.places, number as usize);
+        let place = number_at(&self.places, number as usize, 0);
         if place == 0 {
             return None;
         }
-        Some(&self.seats[place - 1].value)
+        Some(&self.seats[place as usize - 1].value)
     }
 
     /// Whether the number has a value.
@@ -92,8 +92,8 @@ impl<V, A: Allocator> ByNumber<V, A> {
         ensures value { Some result.now ≡ at number self.old }
         ensures once { IsOnce self.old }
     {
-        let place = number_at(&self.places, number as usize);
-        &mut self.seats[place - 1].value
+        let place = number_at(&self.places, number as usize, 0);
+        &mut self.seats[place as usize - 1].value
     }
 
     /// Gives another value to a number that has one. Takes no memory.
@@ -108,8 +108,8 @@ impl<V, A: Allocator> ByNumber<V, A> {
         *self.value_mut(number) = value;
     }
 
-    /// Gives a value to a number that has none (`contains`). Fails for want of memory, and for the greatest number
-    /// of all, and then leaves all unchanged.
+    /// Gives a value to a number that has none (`contains`). Fails for want of memory, for the greatest number
+    /// of all, and where 2^32 - 1 numbers have a value, and then leaves all unchanged.
     pub fn add(&mut self, number: u64, value: V) -> Result<(), AllocError>
     where
         V: Drop,
@@ -119,9 +119,12 @@ impl<V, A: Allocator> ByNumber<V, A> {
         ensures err { OnErr result (self.new ≡ self.old) }
         ensures once { IsOnce self.new }
     {
-        widen(&mut self.places, number as usize)?;
+        widen(&mut self.places, number as usize, 0)?;
+        let Ok(place) = u32::try_from(self.seats.len() + 1) else {
+            return Err(AllocError);
+        };
         self.seats.push(Numbered { number, value })?;
-        self.places[number as usize] = self.seats.len();
+        self.places[number as usize] = place;
         Ok(())
     }
 
@@ -134,14 +137,14 @@ impl<V, A: Allocator> ByNumber<V, A> {
         ensures none { result ≡ None → self.new ≡ self.old }
         ensures once { IsOnce self.new }
     {
-        let place = number_at(&self.places, number as usize);
+        let place = number_at(&self.places, number as usize, 0);
         if place == 0 {
             return None;
         }
         let last = self.seats[self.seats.len() - 1].number;
         self.places[last as usize] = place;
         self.places[number as usize] = 0;
-        let seat = self.seats.swap_remove(place - 1);
+        let seat = self.seats.swap_remove(place as usize - 1);
         Some(seat.value)
     }
 

@@ -6,22 +6,29 @@ use std::alloc::Allocator;
 /// The place from which on there are hints: a search among the slots below it is cheap.
 const FIRST_PLACE: usize = 32;
 
+/// How many numbers share a base.
+const GROUP: usize = 256;
+
 /// Where each local stood when it was put into its thread's list, or when the list was last closed up.
 /// It is a hint, which each look-up checks at the slot itself: it may be wrong, and it may be missing,
-/// so no clause knows of it. In a list of up to 32 slots none is noted. A longer one takes 4 bytes for
-/// each reference that the thread has made since the oldest of those behind the first 32.
+/// so no clause knows of it. In a list of up to 32 slots none is noted. A longer one takes a byte for
+/// each reference that the thread has made since the oldest of those behind the first 32, so that many
+/// hints lie in a near cache: the locals of 256 numbers in a row stand within 256 places.
 #[derive(Drop)]
 pub struct Hints<A: Allocator> {
-    /// The place of local `first`, of the one after it, and so on; 0 where that one had gone.
-    places: Vec<u32, A>,
+    /// For local `first`, the one after it, and so on: how far behind the base of its group it stands.
+    offsets: Vec<u8, A>,
+    /// For each group of numbers the place of the first local in it.
+    bases: Vec<u32, A>,
     first: u64,
 }
 
 impl<A: Allocator> Hints<A> {
     /// No hints. Takes no memory.
-    pub fn new(places: A) -> Hints<A> {
+    pub fn new(offsets: A, bases: A) -> Hints<A> {
         Hints {
-            places: Vec::new(places),
+            offsets: Vec::new(offsets),
+            bases: Vec::new(bases),
             first: 0,
         }
     }
@@ -29,7 +36,9 @@ impl<A: Allocator> Hints<A> {
     /// Where the local `n` may stand.
     pub fn get(&self, n: u64) -> Option<usize> {
         let index = n.checked_sub(self.first)? as usize;
-        Some(*self.places.get(index)? as usize)
+        let offset = *self.offsets.get(index)?;
+        let base = *self.bases.get(index / GROUP)?;
+        Some(base as usize + offset as usize)
     }
 
     /// Notes the place of the local `n`, the newest. Without memory for it there is no hint.
@@ -38,47 +47,54 @@ impl<A: Allocator> Hints<A> {
             return;
         }
         if place == FIRST_PLACE {
-            self.places.clear();
+            self.offsets.clear();
+            self.bases.clear();
         }
-        if self.places.is_empty() {
+        if self.offsets.is_empty() {
             self.first = n;
         }
-        if let Some(index) = n.checked_sub(self.first) {
-            put(&mut self.places, index as usize, place);
+        self.put(n, place);
+    }
+
+    /// Notes the places of all slots of the list anew.
+    pub fn note_all(&mut self, slots: &[Slot]) {
+        self.offsets.clear();
+        self.bases.clear();
+        for place in FIRST_PLACE..slots.len() {
+            self.note(slots[place].n, place);
         }
     }
 
-    /// Notes the places of all slots of the list anew. Hints of what has gone stay as they were.
-    pub fn note_all(&mut self, slots: &[Slot]) {
-        let (Some(first), Some(last)) = (slots.get(FIRST_PLACE), slots.last()) else {
+    /// Makes the place of the local the last hint.
+    fn put(&mut self, n: u64, place: usize) {
+        let (Some(index), Ok(place)) = (n.checked_sub(self.first), u32::try_from(place)) else {
             return;
         };
-        self.first = first.n;
-        let span = last.n.saturating_sub(first.n) as usize;
-        if self.places.resize(span.saturating_add(1), 0).is_err() {
+        let index = index as usize;
+        let Some(base) = self.base_of(index / GROUP, place) else {
             return;
+        };
+        let offset = place.saturating_sub(base).min(255) as u8;
+        if self.offsets.resize(index, 0).is_ok() {
+            let _noted = self.offsets.push(offset);
         }
-        for place in FIRST_PLACE..slots.len() {
-            let index = slots[place].n.saturating_sub(self.first) as usize;
-            if let (Some(hint), Ok(place)) = (self.places.get_mut(index), u32::try_from(place)) {
-                *hint = place;
-            }
+    }
+
+    /// The base of the group, which is at most the place: those that stood behind it have gone.
+    fn base_of(&mut self, group: usize, place: u32) -> Option<u32> {
+        if self.bases.len() <= group {
+            self.bases.resize(group.checked_add(1)?, place).ok()?;
         }
+        let base = self.bases[group].min(place);
+        self.bases[group] = base;
+        Some(base)
     }
 
     /// All hints go, and their memory is given back.
     pub fn clear(&mut self) {
-        self.places.clear();
-        self.places.shrink_to_fit();
-    }
-}
-
-/// Makes the place the last of the list, at the index.
-fn put<A: Allocator>(places: &mut Vec<u32, A>, index: usize, place: usize) {
-    let Ok(place) = u32::try_from(place) else {
-        return;
-    };
-    if places.resize(index, 0).is_ok() {
-        let _noted = places.push(place);
+        self.offsets.clear();
+        self.offsets.shrink_to_fit();
+        self.bases.clear();
+        self.bases.shrink_to_fit();
     }
 }

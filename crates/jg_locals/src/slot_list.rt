@@ -111,14 +111,14 @@ fn name_all<A: Allocator>(objects: &mut Vec<u64, A>, slots: &[Slot])
 
 impl<A: Allocator> SlotList<A> {
     /// No slots. Takes no memory.
-    pub fn new(slots: A, places: A, objects: A) -> SlotList<A>
+    pub fn new(slots: A, objects: A, offsets: A, bases: A) -> SlotList<A>
         ensures { result.items ≡ [] }
     {
         SlotList {
             slots: Vec::new(slots),
             objects: Vec::new(objects),
             recent: Cell::new(0),
-            hints: Hints::new(places),
+            hints: Hints::new(offsets, bases),
         }
     }
 

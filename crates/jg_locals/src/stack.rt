@@ -42,12 +42,12 @@ impl<A: Allocator> Model for Stack<A> {
 }
 
 impl<A: Allocator> Stack<A> {
-    pub fn new(slots: A, places: A, objects: A, frames: A) -> Stack<A>
+    pub fn new(slots: A, objects: A, offsets: A, bases: A, frames: A) -> Stack<A>
         ensures locals { result.locals ≡ [] }
         ensures frames { result.frames ≡ [] }
     {
         Stack {
-            slots: SlotList::new(slots, places, objects),
+            slots: SlotList::new(slots, objects, offsets, bases),
             frames: Vec::new(frames),
             dead: 0,
         }

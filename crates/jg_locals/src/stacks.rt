@@ -135,6 +135,7 @@ pub fn add_stack<A: Allocator + Clone>(
         alloc.clone()?,
         alloc.clone()?,
         alloc.clone()?,
+        alloc.clone()?,
     );
     stacks.add(tid, stack)?;
     Ok(())

@@ -14,7 +14,7 @@ use jg_words::{ObjId, Tid};
 use std::alloc::{AllocError, Allocator, Global};
 use std::marker::Model;
 
-/// The owned monitors, by object, each found in one step. Takes 8 bytes for each object up to the
+/// The owned monitors, by object, each found in one step. Takes 4 bytes for each object up to the
 /// greatest number whose monitor was ever entered, beside what is owned. Contracts see the rows.
 #[derive(Drop)]
 pub struct Monitors<A: Allocator = Global> {
