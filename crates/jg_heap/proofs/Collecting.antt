@@ -6,10 +6,9 @@ use Rattle.std.proofs.lemmas.List.FromFn.{fill_by_all}
 use Rattle.std.proofs.lemmas.List.{length-replicate, get_or-replicate, length-map}
 use Rattle.std.proofs.lemmas.Option.{slice_get-get_or, slice_get_within, get_or_from_slice_get}
 use Rattle.std.proofs.lemmas.Bool.{lt-ltb}
-use Rattle.jg_heap.specs.declared.body.Object.{Object}
 use Rattle.jg_heap.specs.Making.{Plain}
 use Rattle.jg_heap.specs.Rows.{Row, Rows, row_in, no_row}
-use Rattle.jg_heap.specs.Kept.{row_of, swept_row, ended_row, row_points_at, slot_of_row_holds, live_in, unheld_in, numbers_in, Keeps}
+use Rattle.jg_heap.specs.Kept.{Object, row_of, swept_row, ended_row, row_points_at, slot_of_row_holds, live_in, unheld_in, numbers_in, Keeps}
 use Rattle.jg_heap.specs.Rows.{row_of_making}
 use Rattle.jg_heap.specs.History.{Event, Collected, count_of, gone_at, held_at, points_at, going}
 use Rattle.jg_heap.specs.Standing.{Stands, standing, row_at, slots_at, MarksRoots, MarksHeld, AreListed}

@@ -6,10 +6,9 @@ use Rattle.std.specs.List.{list_any}
 use Rattle.jg_words.specs.declared.object.ObjId.{ObjId}
 use Rattle.jg_heap.specs.declared.object.Slot.TheVariants.{Number, Object as ToObject}
 use Rattle.jg_heap.specs.declared.body.Body.{Body}
-use Rattle.jg_heap.specs.declared.body.Object.{Object}
 use Rattle.jg_heap.specs.declared.body.Body.TheVariants.{Class, Fields, Units, Numbers, References}
 use Rattle.jg_heap.specs.History.{holds}
-use Rattle.jg_heap.specs.Kept.{row_of, slots_of_body, body_may_point, may_point_at, slot_of_row_holds}
+use Rattle.jg_heap.specs.Kept.{Object, row_of, slots_of_body, body_may_point, may_point_at, slot_of_row_holds}
 use Rattle.jg_heap.proofs.Lists.{list_any_map}
 
 -- a number names no object

@@ -12,6 +12,7 @@ mod Calls
 mod Laws
 mod Shapes
 mod Next
+mod Objects
 mod Whole
 mod Decoding
 pub mod Callers

@@ -50,12 +50,12 @@ filter_filter p q (x ∷ xs) =
       | inr drops ↦ rw (drops) (filter_filter p q xs)
     ]
 
--- two tests that agree on numbers in a row
 -- two tests that agree at each of the numbers keep the same
 pub keep_alike : (p q : ℕ → Bool) (xs : List ℕ) → All (λ o. p o ≡ q o) xs → filter p xs ≡ filter q xs
 keep_alike p q [] all = refl
 keep_alike p q (x ∷ xs) all = rw (all 0 0 (omega arith), keep_alike p q xs (λ i d h. all (suc i) d (omega (arith, h)))) refl
 
+-- two tests that agree on numbers in a row
 pub keep_agree : (p q : ℕ → Bool) (a n : ℕ) → ((o : ℕ) → o < a + n → p o ≡ q o) → filter p (range_with_len a n) ≡ filter q (range_with_len a n)
 keep_agree p q a zero h = refl
 keep_agree p q a (suc n) h = rw (h a (omega arith), keep_agree p q (a + 1) n (λ o l. h o (omega arith))) refl
@@ -100,10 +100,6 @@ pub stays_alike : (gone marked : Bool) → (not gone && marked) ≡ not (gone ||
 stays_alike true marked = refl
 stays_alike false true = refl
 stays_alike false false = refl
-
-pub or_both : (a b c : Bool) → ((a || b) || c) ≡ (a || (b || c))
-or_both true b c = refl
-or_both false b c = refl
 
 -- a test that another one asks for
 pub and_implied : (a b : Bool) → (a ≡ false → b ≡ false) → (a && b) ≡ b

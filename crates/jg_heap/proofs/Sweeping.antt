@@ -1,19 +1,17 @@
 -- The turns of the loops that let go of objects, and the numbers of those that aren't gone.
-use Rattle.std.proofs.Common.{ℕ, ◌≡◌, ◌+◌, ◌<◌, ◌≢◌, ◌∙◌, sym, ap, refl, List, [], ◌∷◌, ◌++◌, length, map, get_or, set, arith, Bool, true, false, not, ◌&&◌, ◌||◌, eqb, inl, inr, get_or-set_same, get_or-set_other, subst, length-append, take, cond, zero-add, ◌≤◌, ◌⊎◌}
+use Rattle.std.proofs.Common.{ℕ, ◌≡◌, ◌+◌, ◌<◌, ◌≢◌, ◌∙◌, sym, ap, refl, List, [], ◌∷◌, ◌++◌, length, map, get_or, set, arith, Bool, true, false, not, ◌&&◌, ◌||◌, eqb, inl, inr, get_or-set_same, get_or-set_other, subst, length-append, cond, zero-add, ◌≤◌, ◌⊎◌}
 use Rattle.std.specs.Prelude.{All, filter}
 use Rattle.std.specs.List.{list_any, range_with_len}
 use Rattle.std.proofs.Math.Seq.{get_or-append_seam}
 use Rattle.std.proofs.lemmas.List.{get_or_append_left, get_or-map, get_or_past, length-map, length-set, map-set, map-append, set-get_or}
-use Rattle.std.proofs.lemmas.List.Folds.{list_any_more}
 use Rattle.std.proofs.lemmas.Simd.{map-map}
 use Rattle.std.proofs.lemmas.List.Elements.{filter-append, filter_agree, All-filter}
-use Rattle.std.proofs.lemmas.Bool.{cases_eq, cases_lt, eq-eqb, ne_eqb}
-use Rattle.jg_heap.specs.declared.body.Object.{Object}
+use Rattle.std.proofs.lemmas.Bool.{cases_eq, cases_lt}
 use Rattle.jg_heap.specs.Rows.{Row, row_in, no_row}
-use Rattle.jg_heap.specs.Kept.{row_of, ended_row, is_there, in_being, live_in, may_point, may_point_at, slot_of_row_holds, numbers_in, AreWhole, Keeps}
+use Rattle.jg_heap.specs.Kept.{Object, row_of, ended_row, is_there, in_being, live_in, may_point, may_point_at, slot_of_row_holds, numbers_in, AreWhole, Keeps}
 use Rattle.jg_lists.proofs.Lists.{filter_swap, range_more, any_agree}
 use Rattle.jg_lists.proofs.Marks.{or_false}
-use Rattle.jg_heap.proofs.Lists.{keep_agree, keep_alike, kept_below, kept_any, any_filter, filter_filter, stays_alike, or_both, and_implied}
+use Rattle.jg_heap.proofs.Lists.{keep_agree, keep_alike, kept_below, kept_any, any_filter, filter_filter, stays_alike, and_implied}
 use Rattle.jg_heap.proofs.Blocks.{numbers_more, numbers_within}
 use Rattle.jg_heap.proofs.Items.{none_at}
 
@@ -28,37 +26,9 @@ row_set_other cur i o y h = ap (λ (r : List Row). row_in r o) (map-set row_of c
 
 -- ---- letting go
 
-or_true : (b : Bool) → true ≡ (b || true)
-or_true true = refl
-or_true false = refl
-
 -- none goes
 pub ended_none : (row : Row) → row ≡ ended_row false row
 ended_none row = ap (λ g. record row { gone = g }) (sym (or_false row.gone))
-
--- one object goes
-pub ended_one : {A : Type 0} (cur : List (Object A)) (p o : ℕ) (d y : Object A) → p < length cur → row_of y ≡ record (row_of (get_or cur p d)) { gone = true }
-    → row_in (map row_of (set cur p y)) o ≡ ended_row (eqb p o) (row_in (map row_of cur) o)
-ended_one cur p o d y inside ends =
-    elim (cases_eq p o) [
-      | inl same ↦
-          let here : row_of (get_or cur p d) ≡ row_in (map row_of cur) p = sym (get_or-map row_of cur p d no_row inside) in
-          ap (λ q. row_in (map row_of (set cur p y)) q) (sym same) ∙ row_set cur p y inside ∙ ends ∙ ap (λ (r : Row). record r { gone = true }) here
-          ∙ ap (λ g. record (row_in (map row_of cur) p) { gone = g }) (or_true (row_in (map row_of cur) p).gone) ∙ ap (λ q. ended_row true (row_in (map row_of cur) q)) same
-          ∙ ap (λ c. ended_row c (row_in (map row_of cur) o)) (sym (eq-eqb p o same))
-      | inr other ↦
-          row_set_other cur p o y (λ same. other (sym same)) ∙ ended_none (row_in (map row_of cur) o) ∙ ap (λ c. ended_row c (row_in (map row_of cur) o)) (sym (ne_eqb p o other))
-    ]
-
--- what goes at one and at the other
-pub ended_both : (row mid new : Row) (b c all : Bool) → mid ≡ ended_row b row → new ≡ ended_row c mid → all ≡ (b || c) → new ≡ ended_row all row
-ended_both row mid new b c all is says both = says ∙ ap (ended_row c) is ∙ ap (λ g. record row { gone = g }) (or_both row.gone b c) ∙ ap (λ d. ended_row d row) (sym both)
-
--- with one object more
-pub ended_more : (rows : Row) (mid new : Row) (objects : List ℕ) (i o : ℕ) → i < length objects → mid ≡ ended_row (list_any (λ p. eqb p o) (take i objects)) rows
-    → new ≡ ended_row (eqb (get_or objects i 0) o) mid → new ≡ ended_row (list_any (λ p. eqb p o) (take (i + 1) objects)) rows
-ended_more rows mid new objects i o within is now =
-    ended_both rows mid new (list_any (λ p. eqb p o) (take i objects)) (eqb (get_or objects i 0) o) (list_any (λ p. eqb p o) (take (i + 1) objects)) is now (list_any_more (λ p. eqb p o) objects i 0 within)
 
 -- ---- the numbers of those that aren't gone
 

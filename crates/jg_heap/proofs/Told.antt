@@ -5,7 +5,6 @@ use Rattle.std.proofs.lemmas.List.FromFn.{length-map-range_with_len, get_or-map-
 use Rattle.std.proofs.lemmas.List.{get_or-map, length-map}
 use Rattle.std.proofs.lemmas.Option.{slice_get_within, get_or_from_slice_get}
 use Rattle.std.specs.Prelude.{slice_get, Some}
-use Rattle.jg_heap.specs.declared.body.Object.{Object}
 use Rattle.jg_heap.specs.declared.body.Body.{Body}
 use Rattle.jg_heap.specs.declared.body.Body.TheVariants.{Class, Fields, Units, Numbers, References}
 use Rattle.jg_heap.specs.declared.object.Slot.{Slot}
@@ -14,7 +13,7 @@ use Rattle.jg_words.specs.declared.object.Primitive.{Primitive}
 use Rattle.jg_words.specs.declared.object.Primitive.TheVariants.{Boolean, Byte, Char, Short, Int, Long}
 use Rattle.jg_heap.specs.Making.{Making, Plain, Text, Filled, array_class, class_in, units_in, length_in, slots_in}
 use Rattle.jg_heap.specs.Rows.{Row, Rows, row_in, no_row, count_in, class_at, length_at, units_at}
-use Rattle.jg_heap.specs.Kept.{row_of, class_of_body, units_of_body, slots_of_body}
+use Rattle.jg_heap.specs.Kept.{Object, row_of, class_of_body, units_of_body, slots_of_body}
 use Rattle.jg_heap.specs.History.{Event, count_of, making_at, value_at, gone_at}
 use Rattle.jg_heap.specs.Standing.{Stands, standing, row_at, slots_at}
 
@@ -92,12 +91,6 @@ kept items objects o x view inside is =
     let n : length (map row_of items) ≡ length items = length-map items row_of in
     let m : length (map row_of items) ≡ length objects = ap length view in
     ap row_of is ∙ sym (get_or-map row_of items o x no_row (omega arith)) ∙ ap (λ (r : List Row). row_in r o) view
-
-pub made_inside : {A : Type 0} (items : List (Object A)) (rows : Rows) (o : ℕ) → map row_of items ≡ rows.objects → o < count_in rows → o < length items
-made_inside items rows o view made =
-    let n : length (map row_of items) ≡ length items = length-map items row_of in
-    let m : length (map row_of items) ≡ count_in rows = ap length view in
-    omega arith
 
 -- what was read in a slot is its value
 pub value_stands : (rows : Rows) (e : List Event) (o j : ℕ) (v : Slot) → Stands rows e → o < count_in rows → slice_get (row_in rows.objects o).slots j ≡ Some v → v ≡ value_at rows.classes e o j

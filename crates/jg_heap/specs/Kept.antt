@@ -1,11 +1,10 @@
 -- The rows of the objects that the store keeps, and what a call does to one row.
-use Rattle.std.specs.Prelude.{ℕ, ◌≡◌, ◌≤◌, All, Bool, true, false, not, ◌&&◌, ◌||◌, List, [], ◌+◌, ◌-◌, ◌++◌, length, take, drop, flat_map, map, filter, slice_set, slice_index_or}
+use Rattle.std.specs.Prelude.{ℕ, ◌≡◌, ◌≤◌, All, Bool, true, false, not, ◌&&◌, ◌||◌, List, [], ◌∷◌, ◌+◌, ◌-◌, ◌++◌, length, take, drop, flat_map, map, filter, slice_set, slice_index_or}
 use Rattle.std.specs.List.{list_any, range_with_len}
 use Rattle.jg_heap.specs.declared.object.Slot.{Slot}
 use Rattle.jg_heap.specs.declared.object.Slot.TheVariants.{Number, Object as ToObject}
 use Rattle.jg_heap.specs.declared.body.Body.{Body}
 use Rattle.jg_heap.specs.declared.body.Body.TheVariants.{Class, Fields, Units, Numbers, References}
-use Rattle.jg_heap.specs.declared.body.Object.{Object}
 use Rattle.jg_heap.specs.Making.{array_class}
 use Rattle.jg_heap.specs.History.{holds}
 use Rattle.jg_heap.specs.Rows.{Row, row_in}
@@ -40,6 +39,17 @@ body_may_point (Units text) = false
 body_may_point (Numbers element items) = false
 body_may_point (References items) = true
 
+-- an object: what it holds, and whether it is gone
+pub record Object (A : Type 0) : Type 0 where
+  pub body : Body A
+  pub gone : Bool
+
+-- the objects that hold these, of which those are in being that the list says
+abbrev pub objects_of : {A : Type 0} → List (Body A) → List Bool → List (Object A)
+objects_of [] there = []
+objects_of (body ∷ bodies) [] = []
+objects_of (body ∷ bodies) (is ∷ there) = record { body = body; gone = not is } ∷ objects_of bodies there
+
 abbrev pub may_point : {A : Type 0} → Object A → Bool
 may_point x = body_may_point x.body
 
@@ -51,6 +61,10 @@ row_of x = record {
   slots = slots_of_body x.body;
   gone = x.gone;
 }
+
+-- the row of an object that holds this and isn't gone
+abbrev pub row_of_body : {A : Type 0} → Body A → Row
+row_of_body body = row_of (record { body = body; gone = false })
 
 -- the row with a slot written
 abbrev pub with_slot : Row → ℕ → Slot → Row
@@ -115,3 +129,8 @@ pub record Keeps {A : Type 0} (objects : List (Object A)) (there : List Bool) (b
   pub order : loose ≤ length there
   pub live : filter (λ o. slice_index_or there o false) (numbers_in blocks loose (length there)) ≡ live_in (map row_of objects)
   pub pointing : pointers ≡ filter (may_point_at objects) (live_in (map row_of objects))
+
+-- the same of the lists as they are kept: what each object holds, and whether it is in being
+pub record Stored {A : Type 0} (bodies : List (Body A)) (there : List Bool) (blocks : List ℕ) (loose : ℕ) (pointers : List ℕ) : Type 0 where
+  pub same : length there ≡ length bodies
+  pub keeps : Keeps (objects_of bodies there) there blocks loose pointers

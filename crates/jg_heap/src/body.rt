@@ -1,6 +1,6 @@
 ghost use Rattle.std.specs.Prelude.{◌≡◌, ◌+◌, ◌<◌, ◌≤◌, ◌^◌, length, map, slice_get, slice_set, Some, IfOk, replicate, pos, false};
 ghost use Rattle.jg_heap.specs.Making.{making_of, array_class, CanMake, HasFields, IsArrayClass, IsPrimitiveArray, TakesItem};
-ghost use Rattle.jg_heap.specs.Kept.{class_of_body, units_of_body, slots_of_body, body_may_point, row_of, overwritten};
+ghost use Rattle.jg_heap.specs.Kept.{class_of_body, units_of_body, slots_of_body, body_may_point, row_of_body, overwritten};
 ghost use Rattle.jg_heap.specs.Rows.{row_of_making};
 ghost use Rattle.jg_heap.specs.declared.object.Slot.TheVariants.{Number};
 
@@ -21,13 +21,6 @@ pub(crate) enum Body<A: Allocator> {
         items: Vec<i64, A>,
     },
     References(Vec<Option<ObjId>, A>),
-}
-
-/// An object of the store.
-#[derive(Drop)]
-pub(crate) struct Object<A: Allocator> {
-    pub(crate) body: Body<A>,
-    pub(crate) gone: bool,
 }
 
 /// The number of the class of arrays of these.
@@ -70,38 +63,30 @@ fn overwrite<A: Allocator>(items: &mut Vec<i64, A>, start: usize, values: &[i64]
     items[start..start + values.len()].copy_from_slice(values);
 }
 
-/// The object that a shape makes.
+/// What the object that a shape makes holds.
 #[tactic(auto, using(crate::proofs::Lists::map_replicate))]
-pub(crate) fn object_of<A: Allocator + Clone>(
+pub(crate) fn body_of<A: Allocator + Clone>(
     alloc: &A,
     shape: Shape<A>,
-) -> Result<Object<A>, AllocError>
+) -> Result<Body<A>, AllocError>
     requires { CanMake shape }
-    ensures { IfOk result (λ object. row_of object ≡ row_of_making (making_of shape)) }
+    ensures { IfOk result (λ body. row_of_body body ≡ row_of_making (making_of shape)) }
 {
     match shape {
-        Shape::Plain { class, fields } => Ok(made(Body::Fields(Instance {
+        Shape::Plain { class, fields } => Ok(Body::Fields(Instance {
             class,
             slots: fields,
-        }))),
-        Shape::Text(units) => Ok(made(Body::Units(Text { units }))),
+        })),
+        Shape::Text(units) => Ok(Body::Units(Text { units })),
         Shape::Numbers { element, length } => {
             let items = zeros(alloc.clone()?, length)?;
-            Ok(made(Body::Numbers { element, items }))
+            Ok(Body::Numbers { element, items })
         }
         Shape::Objects { length, first } => {
             let items = references(alloc.clone()?, first, length)?;
-            Ok(made(Body::References(items)))
+            Ok(Body::References(items))
         }
     }
-}
-
-/// An object as it is made.
-fn made<A: Allocator>(body: Body<A>) -> Object<A>
-    ensures body { result.body ≡ body }
-    ensures gone { result.gone ≡ false }
-{
-    Object { body, gone: false }
 }
 
 impl<A: Allocator> Body<A> {

@@ -1,12 +1,11 @@
-ghost use Rattle.std.specs.Prelude.{◌≡◌, ℕ, ◌+◌, ◌-◌, ◌++◌, ◌<◌, ◌≤◌, All, false, ◌==◌, OnOk, length, slice_index_or, nat_lt, map, filter, vec_len, vec_capacity};
+ghost use Rattle.std.specs.Prelude.{◌≡◌, ℕ, ◌+◌, ◌-◌, ◌++◌, ◌<◌, ◌≤◌, ◌&&◌, All, false, not, ◌==◌, OnOk, length, slice_index_or, nat_lt, map, filter, vec_len, vec_capacity};
 ghost use Rattle.std.specs.List.{list_any, range_with_len};
 ghost use Rattle.jg_heap.specs.declared.object.Slot.TheVariants.{Object as ToObject};
 ghost use Rattle.jg_heap.specs.History.{holds};
-ghost use Rattle.jg_heap.specs.Kept.{slots_of_body, row_of, ended_row, slot_of_row_holds, may_point, in_being, unheld_in, block_of, numbers_in, AreWhole};
-ghost use Rattle.jg_heap.specs.Rows.{row_in};
+ghost use Rattle.jg_heap.specs.Kept.{slots_of_body, row_of_body, slot_of_row_holds, unheld_in, block_of, numbers_in, AreWhole};
 ghost use Rattle.jg_lists.specs.Marks.{Marks};
 
-use crate::body::{Body, Object};
+use crate::body::Body;
 use crate::object::Slot;
 use jg_lists::ObjectMarks;
 use jg_words::ObjId;
@@ -72,14 +71,14 @@ fn mark_slots<A: Allocator>(marks: &mut ObjectMarks<A>, body: &Body<A>)
 /// Marks each object that stands in a slot of one of these.
 pub(crate) fn mark_pointed<A: Allocator>(
     marks: &mut ObjectMarks<A>,
-    objects: &[Object<A>],
+    objects: &[Body<A>],
     pointing: &[u64],
 )
     requires { All (λ p. p < length objects.now) pointing.now }
-    ensures { Marks (λ o. list_any (slot_of_row_holds (map row_of objects.now) o) pointing.now) marks.old marks.new }
+    ensures { Marks (λ o. list_any (slot_of_row_holds (map row_of_body objects.now) o) pointing.now) marks.old marks.new }
 {
     for object in pointing {
-        mark_slots(marks, &objects[*object as usize].body);
+        mark_slots(marks, &objects[*object as usize]);
     }
 }
 
@@ -162,34 +161,14 @@ pub(crate) fn list_unheld<A: Allocator>(
     list_among(marks, there, loose, there.len(), unheld)
 }
 
-/// Lets go of an object.
-fn let_go<A: Allocator>(objects: &mut [Object<A>], there: &mut [bool], object: u64)
-    requires objects { object < length objects.old }
-    requires there { object < length there.old }
-    ensures rows { (o : ℕ) → row_in (map row_of objects.new) o
-        ≡ ended_row (object == o) (row_in (map row_of objects.old) o) }
-    ensures pointing { map may_point objects.new ≡ map may_point objects.old }
-    ensures there { there.old ≡ map in_being objects.old → there.new ≡ map in_being objects.new }
-{
-    objects[object as usize].gone = true;
-    there[object as usize] = false;
-}
-
 /// Lets go of each of the objects.
-pub(crate) fn let_all_go<A: Allocator>(
-    objects: &mut [Object<A>],
-    there: &mut [bool],
-    unheld: &[u64],
-)
-    requires objects { All (λ p. p < length objects.old) unheld.now }
-    requires there { All (λ p. p < length there.old) unheld.now }
-    ensures rows { (o : ℕ) → row_in (map row_of objects.new) o
-        ≡ ended_row (list_any (λ p. p == o) unheld.now) (row_in (map row_of objects.old) o) }
-    ensures pointing { map may_point objects.new ≡ map may_point objects.old }
-    ensures there { there.old ≡ map in_being objects.old → there.new ≡ map in_being objects.new }
+pub(crate) fn let_all_go(there: &mut [bool], unheld: &[u64])
+    requires { All (λ p. p < length there.old) unheld.now }
+    ensures { (o : ℕ) → slice_index_or there.new o false
+        ≡ (slice_index_or there.old o false && not (list_any (λ p. p == o) unheld.now)) }
 {
     for object in unheld {
-        let_go(objects, there, *object);
+        there[*object as usize] = false;
     }
 }
 

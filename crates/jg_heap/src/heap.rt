@@ -6,7 +6,7 @@ ghost use Rattle.jg_heap.specs.History.{Event, Event.Made as Made, Event.Wrote a
 ghost use Rattle.jg_heap.specs.Rows.{count_in, class_at, length_at, units_at, slot_at, class_rows, row_of_making, KeepsShapes};
 ghost use Rattle.jg_heap.specs.Standing.{Stands, MarksRoots, MarksHeld, AreListed};
 
-use crate::body::{Body, Object, object_of};
+use crate::body::{Body, body_of};
 use crate::collect::{
     close_up_if, fill_block, let_all_go, list_unheld, mark_classes, mark_pointed, retain_marked,
 };
@@ -23,9 +23,10 @@ use std::marker::Model;
 #[derive(Drop)]
 pub struct Heap<A: Allocator = Global> {
     class_count: u64,
-    objects: Vec<Object<A>, A>,
-    /// Whether each object is in being: what its own `gone` says, but close together, so that a
-    /// collection compares many at once.
+    /// What each object holds, or held before it went.
+    objects: Vec<Body<A>, A>,
+    /// Whether each object is in being. A list of its own, so that a collection compares many at once, and
+    /// touches nothing else of what goes.
     there: Vec<bool, A>,
     /// The first numbers of the blocks of 32 objects in which some may be in being, ascending. A
     /// collection looks into no other.
@@ -42,13 +43,13 @@ pub struct Heap<A: Allocator = Global> {
 impl<A: Allocator> Model for Heap<A> {
     ghost use Rattle.std.specs.Prelude.{map, ◌≡◌};
     ghost use Rattle.jg_heap.specs.Rows.{Rows};
-    ghost use Rattle.jg_heap.specs.Kept.{row_of, Keeps};
+    ghost use Rattle.jg_heap.specs.Kept.{objects_of, row_of, Stored};
 
     ghost Value = { Rows };
 
-    ghost view = { λ h. record { classes = h.class_count; objects = map row_of h.objects.items } };
+    ghost view = { λ h. record { classes = h.class_count; objects = map row_of (objects_of h.objects.items h.there.items) } };
 
-    ghost invariant = { λ h. Keeps h.objects.items h.there.items h.blocks.items h.loose h.pointing.items };
+    ghost invariant = { λ h. Stored h.objects.items h.there.items h.blocks.items h.loose h.pointing.items };
 }
 
 /// Adds a number where it is asked for. There is room for it.
@@ -74,10 +75,7 @@ impl<A: Allocator + Clone> Heap<A> {
         let pointing = Vec::new(alloc);
         for class in 0..class_count {
             there.push(true)?;
-            objects.push(Object {
-                body: Body::Class,
-                gone: false,
-            })?;
+            objects.push(Body::Class)?;
         }
         Ok(Heap {
             class_count,
@@ -105,12 +103,12 @@ impl<A: Allocator + Clone> Heap<A> {
         ensures err { OnErr result (self.new ≡ self.old) }
     {
         let number = self.objects.len();
-        let object = object_of(self.objects.allocator(), shape)?;
-        let may_point = object.body.may_point();
+        let body = body_of(self.objects.allocator(), shape)?;
+        let may_point = body.may_point();
         self.there.reserve(1)?;
         self.blocks.reserve(1)?;
         self.pointing.reserve(1)?;
-        self.objects.push(object)?;
+        self.objects.push(body)?;
         self.there.push_reserved(true);
         self.loose = fill_block(&mut self.blocks, self.loose, number + 1);
         add_if(&mut self.pointing, number as u64, may_point);
@@ -135,7 +133,7 @@ impl<A: Allocator> Heap<A> {
             → result ≡ class_in (making_at self.now.classes e object.0) }
         ensures rows { result ≡ class_at self.now object.0 }
     {
-        self.objects[object.0 as usize].body.class()
+        self.objects[object.0 as usize].class()
     }
 
     /// Lends the UTF-16 units of a string that was made (chapter 4, `GetStringRegion`); none of any
@@ -149,7 +147,7 @@ impl<A: Allocator> Heap<A> {
         ensures len { class_at self.now object.0 ≡ 2 → length result.now ≡ length_at self.now object.0 }
         ensures short { length result.now < 2 ^ 61 }
     {
-        self.objects[object.0 as usize].body.units()
+        self.objects[object.0 as usize].units()
     }
 
     /// How many items an array has, units a string, fields any other object (chapter 4,
@@ -161,7 +159,7 @@ impl<A: Allocator> Heap<A> {
         ensures rows { result ≡ length_at self.now object.0 }
         ensures fits { result < 2 ^ 63 }
     {
-        self.objects[object.0 as usize].body.len()
+        self.objects[object.0 as usize].len()
     }
 
     /// What a field holds (chapter 4, `Get<type>Field`). Fields count from 0. The object is of a
@@ -176,7 +174,7 @@ impl<A: Allocator> Heap<A> {
         ensures history { (e : List Event) → Stands self.now e → result ≡ value_at self.now.classes e object.0 index }
         ensures rows { result ≡ slot_at self.now object.0 index }
     {
-        self.objects[object.0 as usize].body.slot(index)
+        self.objects[object.0 as usize].slot(index)
     }
 
     /// Writes a field (chapter 4, `Set<type>Field`), with the conditions of [`Heap::field`].
@@ -188,7 +186,7 @@ impl<A: Allocator> Heap<A> {
         ensures classes { self.new.classes ≡ self.old.classes }
         ensures shapes { KeepsShapes self.old self.new }
     {
-        self.objects[object.0 as usize].body.set_field(index, value);
+        self.objects[object.0 as usize].set_field(index, value);
     }
 
     /// What an array's item holds: a number in an array of a primitive type, null or an object in
@@ -203,7 +201,7 @@ impl<A: Allocator> Heap<A> {
         ensures history { (e : List Event) → Stands self.now e → result ≡ value_at self.now.classes e object.0 index }
         ensures rows { result ≡ slot_at self.now object.0 index }
     {
-        self.objects[object.0 as usize].body.slot(index)
+        self.objects[object.0 as usize].slot(index)
     }
 
     /// Writes an array's item (chapter 4, `SetObjectArrayElement`): a number in an array of a
@@ -218,7 +216,7 @@ impl<A: Allocator> Heap<A> {
         ensures classes { self.new.classes ≡ self.old.classes }
         ensures shapes { KeepsShapes self.old self.new }
     {
-        self.objects[object.0 as usize].body.set_item(index, value);
+        self.objects[object.0 as usize].set_item(index, value);
     }
 
     /// Writes items of an array of a primitive type, from an index on, in one go (chapter 4,
@@ -234,9 +232,7 @@ impl<A: Allocator> Heap<A> {
         ensures classes { self.new.classes ≡ self.old.classes }
         ensures shapes { KeepsShapes self.old self.new }
     {
-        self.objects[object.0 as usize]
-            .body
-            .set_region(start, values);
+        self.objects[object.0 as usize].set_region(start, values);
     }
 
     /// Lends all items of an array of a primitive type (chapter 4,
@@ -251,7 +247,7 @@ impl<A: Allocator> Heap<A> {
         ensures len { length result.now ≡ length_at self.now object.0 }
         ensures fits { length result.now < 2 ^ 60 }
     {
-        self.objects[object.0 as usize].body.numbers()
+        self.objects[object.0 as usize].numbers()
     }
 
     /// Whether some collection found that nothing held the object. What it was can still be asked.
@@ -259,7 +255,7 @@ impl<A: Allocator> Heap<A> {
         requires { object.0 < count_in self.now }
         ensures { (e : List Event) → Stands self.now e → result ≡ gone_at self.now.classes e object.0 }
     {
-        self.objects[object.0 as usize].gone
+        !self.there[object.0 as usize]
     }
 
     /// Lists the objects that nothing holds, ascending (chapter 2, "Global and Local References"),
@@ -292,7 +288,7 @@ impl<A: Allocator> Heap<A> {
         ensures classes { self.new.classes ≡ self.old.classes }
         ensures shapes { KeepsShapes self.old self.new }
     {
-        let_all_go(&mut self.objects, &mut self.there, unheld);
+        let_all_go(&mut self.there, unheld);
         retain_marked(&mut self.pointing, marks);
         let stale = self.stale.saturating_add(unheld.len());
         self.stale = close_up_if(&mut self.blocks, &self.there, stale);

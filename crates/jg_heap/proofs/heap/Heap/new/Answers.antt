@@ -1,7 +1,7 @@
 use Rattle.std.proofs.Common.{arith, ap, refl, ◌∙◌, [], ◌∷◌, ◌++◌, replicate, ◌≡◌, length, map, List}
 use Rattle.std.proofs.lemmas.List.{length-map, length-replicate, map-append, replicate_more}
-use Rattle.jg_heap.specs.Kept.{row_of}
-use Rattle.jg_heap.proofs.Sweeping.{keeps_made}
+use Rattle.jg_heap.specs.Kept.{objects_of, row_of}
+use Rattle.jg_heap.proofs.Objects.{length-objects_of, more_of, stored_made}
 use Rattle.jg_heap.specs.Making.{Plain}
 use Rattle.jg_heap.specs.Rows.{Row, row_of_making}
 use Rattle.jg_heap.proofs.Collecting.{standing_new}
@@ -20,11 +20,13 @@ returns-clause-rows g c =
 pub loop-class-preserved : goal.loop-class-preserved
 loop-class-preserved g c =
     let n : length (replicate c.loop-class.class (row_of_making (Plain 1 []))) ≡ c.loop-class.class = length-replicate c.loop-class.class (row_of_making (Plain 1 [])) in
-    let m : length (map row_of c.loop-class.objects.items) ≡ length (replicate c.loop-class.class (row_of_making (Plain 1 []))) = ap (λ (rs : List Row). length rs) c.loop-class.invariant.rows in
-    let i : length (map row_of c.loop-class.objects.items) ≡ length c.loop-class.objects.items = length-map c.loop-class.objects.items row_of in
+    let m : length (map row_of (objects_of c.loop-class.objects.items c.loop-class.there.items)) ≡ length (replicate c.loop-class.class (row_of_making (Plain 1 []))) = ap (λ (rs : List Row). length rs) c.loop-class.invariant.rows in
+    let i : length (map row_of (objects_of c.loop-class.objects.items c.loop-class.there.items)) ≡ length c.loop-class.objects.items =
+    length-map (objects_of c.loop-class.objects.items c.loop-class.there.items) row_of ∙ length-objects_of c.loop-class.objects.items c.loop-class.there.items c.loop-class.invariant.keeps.same in
     record {
-      rows = ap (map row_of) c.in_ok-push-2.ensures.items ∙ map-append row_of c.loop-class.objects.items (_ ∷ [])
+      rows = ap (map row_of) (more_of c.loop-class.objects.items _ c.loop-class.there.items _ _ c.loop-class.invariant.keeps.same c.in_ok-push-2.ensures.items c.in_ok-push.ensures.items)
+          ∙ map-append row_of (objects_of c.loop-class.objects.items c.loop-class.there.items) (_ ∷ [])
           ∙ ap (λ (rs : List Row). rs ++ row_of_making (Plain 1 []) ∷ []) c.loop-class.invariant.rows ∙ replicate_more c.loop-class.class (row_of_making (Plain 1 []));
-      keeps = keeps_made c.loop-class.objects.items _ c.loop-class.there.items _ [] [] 0 0 [] [] _ c.loop-class.class c.loop-class.invariant.keeps c.in_ok-push-2.ensures.items refl
+      keeps = stored_made c.loop-class.objects.items _ c.loop-class.there.items _ [] [] 0 0 [] [] _ c.loop-class.class c.loop-class.invariant.keeps c.in_ok-push-2.ensures.items
           (omega arith) c.in_ok-push.ensures.items refl (λ whole. whole) (omega arith) refl;
     }
