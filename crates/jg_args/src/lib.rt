@@ -7,6 +7,3 @@ mod words;
 
 pub use asked::{ArgsFault, Asked, MAX_NUMBER, Task};
 pub use words::{help_text, read_words};
-
-#[cfg(test)]
-mod tests;

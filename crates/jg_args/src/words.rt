@@ -44,30 +44,42 @@ fn leaks_arg<'a>(alloc: Global) -> Arg<'a> {
         .help("lists what is left at the end on standard error")
 }
 
-/// The command line of `jg`.
-fn command<'a>(alloc: Global) -> Result<Command<'a>, AllocError> {
-    let check = Command::new(alloc, "check")
+fn check_command<'a>(alloc: Global) -> Result<Command<'a>, AllocError> {
+    Command::new(alloc, "check")
         .about("answers the script on standard input with its journal")
         .after_help(STATUSES)
         .arg(setup_arg(alloc))?
         .arg(limit_arg(alloc))?
-        .arg(leaks_arg(alloc))?;
-    let verify = Command::new(alloc, "verify")
+        .arg(leaks_arg(alloc))
+}
+
+fn verify_command<'a>(alloc: Global) -> Result<Command<'a>, AllocError> {
+    Command::new(alloc, "verify")
         .about("tests whether standard input is the journal of a legal history")
         .after_help(STATUSES)
         .arg(setup_arg(alloc))?
-        .arg(limit_arg(alloc))?;
-    let play = Command::new(alloc, "play")
+        .arg(limit_arg(alloc))
+}
+
+fn play_command<'a>(alloc: Global) -> Result<Command<'a>, AllocError> {
+    Command::new(alloc, "play")
         .about("plays the scripts of FILE, the lines of each thread by a thread of its own")
         .after_help(STATUSES)
         .arg(Arg::new(alloc, "file").value_name("FILE").required(true))?
         .arg(setup_arg(alloc))?
         .arg(limit_arg(alloc))?
-        .arg(turns_arg(alloc))?;
-    let migrate = Command::new(alloc, "migrate")
+        .arg(turns_arg(alloc))
+}
+
+fn migrate_command<'a>(alloc: Global) -> Result<Command<'a>, AllocError> {
+    Command::new(alloc, "migrate")
         .about("writes the setup of FILE as a setup text of version 2")
         .after_help(STATUSES)
-        .arg(setup_arg(alloc).required(true))?;
+        .arg(setup_arg(alloc).required(true))
+}
+
+/// The command line of `jg` without its commands' words.
+fn own_options<'a>(alloc: Global) -> Result<Command<'a>, AllocError> {
     Command::new(alloc, "jg")
         .about("A guard for the Java Native Interface. Without a command it is `check`.")
         .after_help(STATUSES)
@@ -76,11 +88,16 @@ fn command<'a>(alloc: Global) -> Result<Command<'a>, AllocError> {
         .bin_name("jg")?
         .arg(setup_arg(alloc))?
         .arg(limit_arg(alloc))?
-        .arg(leaks_arg(alloc))?
-        .subcommand(check)?
-        .subcommand(verify)?
-        .subcommand(play)?
-        .subcommand(migrate)
+        .arg(leaks_arg(alloc))
+}
+
+/// The command line of `jg`.
+fn command<'a>(alloc: Global) -> Result<Command<'a>, AllocError> {
+    own_options(alloc)?
+        .subcommand(check_command(alloc)?)?
+        .subcommand(verify_command(alloc)?)?
+        .subcommand(play_command(alloc)?)?
+        .subcommand(migrate_command(alloc)?)
 }
 
 /// The text that the words ask for by `--help` or `--version`: the help of the program or of the

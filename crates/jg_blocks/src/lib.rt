@@ -117,6 +117,3 @@ impl<T, A: Allocator + Clone> Blocks<T, A> {
         self.len += 1;
     }
 }
-
-#[cfg(test)]
-mod tests;

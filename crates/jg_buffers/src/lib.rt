@@ -20,6 +20,3 @@ pub use meanings::{
     closed_stays_closed, content_means, critical_means, new_number_is_above, open_means,
     pinned_means,
 };
-
-#[cfg(test)]
-mod tests;

@@ -9,6 +9,3 @@ mod through;
 pub use denial::{Denial, denials};
 pub use machine::Machine;
 pub use through::let_through;
-
-#[cfg(test)]
-mod tests;

@@ -1,8 +1,11 @@
-use jg_program::{Files, Status, run};
+use crate::tests::{Difference, writes_so, written_by};
+use jg_program::{Files, Status};
 use std::alloc::{AllocError, Global};
 use std::io;
-use std::io::{BufWriter, ErrorKind, Read};
+use std::io::{ErrorKind, Read};
+use std::sync::Wait;
 use std::test::Fail;
+use std::thread::Threads;
 
 /// Files by their paths.
 #[derive(Clone, Copy)]
@@ -76,6 +79,80 @@ fn threads(alloc: Global, count: u16) -> Result<String, AllocError> {
     Ok(text)
 }
 
+/// The words of a play, its status, what it writes where that is always the same, and what it says.
+type Run = (
+    &'static [&'static str],
+    Status,
+    Option<&'static str>,
+    &'static str,
+);
+
+const RUNS: [Run; 9] = [
+    (
+        &["play", "one", "--setup", "app.toml"],
+        Status::Done,
+        Some(ANSWERED),
+        "",
+    ),
+    (
+        &["play", "one", "--turns", "1"],
+        Status::Done,
+        Some(UNKNOWN_CLASS),
+        "",
+    ),
+    (
+        &["play", "--setup", "app.toml", "--limit", "2", "one"],
+        Status::Exhausted,
+        Some(TWO_ANSWERED),
+        "limit\n",
+    ),
+    (
+        &["play", "faulty"],
+        Status::Faulty,
+        Some(""),
+        "line 2: UnknownFunction\n",
+    ),
+    (
+        &["play", "many"],
+        Status::Faulty,
+        Some(""),
+        "line 65: TooManyThreads\n",
+    ),
+    (&["play", "most"], Status::Done, None, ""),
+    (
+        &["play", "none"],
+        Status::Device,
+        Some(""),
+        "line 1: read failed\n",
+    ),
+    (
+        &["play", "none", "--setup", "none"],
+        Status::Device,
+        Some(""),
+        "setup: read failed\n",
+    ),
+    (
+        &["play", "one", "--setup", "one"],
+        Status::Faulty,
+        Some(""),
+        "setup: NotToml\n",
+    ),
+];
+
+/// What isn't so where the program plays, with these files, as the row says.
+fn differs<T: Threads + Wait + Sync>(
+    rt: &T,
+    alloc: Global,
+    shelf: &Shelf<'_>,
+    (words, status, written, said): Run,
+) -> io::Result<Difference> {
+    let (ending, nothing) = ((status, said), b"".as_slice());
+    match written {
+        Some(text) => writes_so(rt, alloc, words, shelf, nothing, text, ending),
+        None => Ok(written_by(rt, alloc, words, shelf, nothing, ending)?.0),
+    }
+}
+
 #[test]
 fn each_play_has_its_status_and_its_text(rt: HostRuntime) -> Result<(), Fail> {
     let many = threads(rt.alloc(), 65)?;
@@ -87,69 +164,13 @@ fn each_play_has_its_status_and_its_text(rt: HostRuntime) -> Result<(), Fail> {
         ("most", most.as_str()),
         ("app.toml", SETUP),
     ];
-    let runs: [(&[&str], Status, Option<&str>, &str); 9] = [
-        (
-            &["play", "one", "--setup", "app.toml"],
-            Status::Done,
-            Some(ANSWERED),
-            "",
-        ),
-        (
-            &["play", "one", "--turns", "1"],
-            Status::Done,
-            Some(UNKNOWN_CLASS),
-            "",
-        ),
-        (
-            &["play", "--setup", "app.toml", "--limit", "2", "one"],
-            Status::Exhausted,
-            Some(TWO_ANSWERED),
-            "limit\n",
-        ),
-        (
-            &["play", "faulty"],
-            Status::Faulty,
-            Some(""),
-            "line 2: UnknownFunction\n",
-        ),
-        (
-            &["play", "many"],
-            Status::Faulty,
-            Some(""),
-            "line 65: TooManyThreads\n",
-        ),
-        (&["play", "most"], Status::Done, None, ""),
-        (
-            &["play", "none"],
-            Status::Device,
-            Some(""),
-            "line 1: read failed\n",
-        ),
-        (
-            &["play", "none", "--setup", "none"],
-            Status::Device,
-            Some(""),
-            "setup: read failed\n",
-        ),
-        (
-            &["play", "one", "--setup", "one"],
-            Status::Faulty,
-            Some(""),
-            "setup: NotToml\n",
-        ),
-    ];
-    for (words, status, written, said) in runs {
-        let mut out = Vec::new(rt.alloc());
-        let mut err = Vec::new(rt.alloc());
-        let writer = BufWriter::new(rt.alloc(), &mut out)?;
-        let shelf = Shelf { files: &files };
-        let nothing: &[u8] = &[];
-        let ended = run(&rt, rt.alloc(), words, &shelf, nothing, writer, &mut err);
-        assert_eq!(rt; ended, status, "at {words:?}");
-        if let Some(text) = written {
-            assert!(rt; out.as_slice() == text.as_bytes(), "at {words:?}");
-        }
-        assert!(rt; err.as_slice() == said.as_bytes(), "at {words:?}");
+    for row in RUNS {
+        assert_eq!(rt;
+            differs(&rt, rt.alloc(), &Shelf { files: &files }, row)?,
+            None,
+            "at {:?}",
+            row.0
+        );
     }
     Ok(())
 }

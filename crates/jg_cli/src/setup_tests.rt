@@ -1,9 +1,8 @@
-use crate::tests::{Broken, Unflushed};
-use jg_program::{Files, Status, run};
-use jg_script::HandsOn;
+use crate::tests::{Broken, Difference, Ending, Unflushed, ends_so, writes_so, written_by};
+use jg_program::{Files, Status};
 use std::alloc::{AllocError, Global};
 use std::io;
-use std::io::{BufWriter, ErrorKind, Read};
+use std::io::{ErrorKind, Read};
 use std::sync::Wait;
 use std::test::Fail;
 use std::thread::Threads;
@@ -98,19 +97,16 @@ name = \"app/Main\"
 module = \"app\"
 ";
 
-/// Runs the script with these words and files, and tells how that ended, what it wrote and what it
-/// said.
-fn answer<T: Threads + Wait + Sync, S: Files>(
+/// What isn't so where the script, run with these words and files, is answered by this text and ends as wanted.
+fn answers<T: Threads + Wait + Sync, S: Files>(
     rt: &T,
     alloc: Global,
     words: &[&str],
     files: &S,
-) -> io::Result<(Status, Vec<u8>, Vec<u8>)> {
-    let mut out = Vec::new(alloc);
-    let mut err = Vec::new(alloc);
-    let writer = BufWriter::new(alloc, &mut out)?;
-    let status = run(rt, alloc, words, files, SCRIPT.as_bytes(), writer, &mut err);
-    Ok((status, out, err))
+    text: &str,
+    ending: Ending<'_>,
+) -> io::Result<Difference> {
+    writes_so(rt, alloc, words, files, SCRIPT.as_bytes(), text, ending)
 }
 
 /// A setup of so many classes.
@@ -127,42 +123,39 @@ fn classes(alloc: Global, count: u32) -> Result<String, AllocError> {
 fn each_faulty_setup_has_its_text(rt: HostRuntime) -> Result<(), Fail> {
     let many = classes(rt.alloc(), 1001)?;
     let texts = [
-        ("version", "NotToml"),
-        ("", "Missing"),
+        ("version", "setup: NotToml\n"),
+        ("", "setup: Missing\n"),
         (
             "version = 3\nillegal_native_access = \"deny\"\n",
-            "BadVersion",
+            "setup: BadVersion\n",
         ),
         (
             "version = 1\nillegal_native_access = \"no\"\ncolour = 1\n",
-            "UnknownKey",
+            "setup: UnknownKey\n",
         ),
         (
             "version = \"1\"\nillegal_native_access = \"deny\"\n",
-            "BadType",
+            "setup: BadType\n",
         ),
-        ("version = 1\nillegal_native_access = \"no\"\n", "BadMode"),
+        (
+            "version = 1\nillegal_native_access = \"no\"\n",
+            "setup: BadMode\n",
+        ),
         (
             "version = 1\nillegal_native_access = \"deny\"\n[[class]]\nname = \"app.Main\"\nmodule = \"app\"\n",
-            "BadName",
+            "setup: BadName\n",
         ),
         (
             "version = 1\nillegal_native_access = \"deny\"\n[[class]]\nname = \"java/lang/String\"\nmodule = \"app\"\n",
-            "Duplicate",
+            "setup: Duplicate\n",
         ),
-        (many.as_str(), "TooMany"),
+        (many.as_str(), "setup: TooMany\n"),
     ];
-    for (text, fault) in texts {
-        let (status, out, err) = answer(
-            &rt,
-            rt.alloc(),
-            &["--setup", "app.toml"],
-            &Drawer::of(text),
-        )?;
-        let said = format!(in rt.alloc(); "setup: {fault}\n")?;
-        assert_eq!(rt; status, Status::Faulty, "at {fault}");
-        assert!(rt; out.is_empty(), "at {fault}");
-        assert!(rt; err.as_slice() == said.as_bytes(), "at {fault}");
+    let words = ["--setup", "app.toml"];
+    for (text, said) in texts {
+        let ending = (Status::Faulty, said);
+        let difference = answers(&rt, rt.alloc(), &words, &Drawer::of(text), "", ending)?;
+        assert_eq!(rt; difference, None, "at {said}");
     }
     Ok(())
 }
@@ -225,35 +218,43 @@ fn each_unread_file_has_its_text(rt: HostRuntime) -> Result<(), Fail> {
             "setup: no memory\n",
         ),
     ];
+    let words = ["check", "--setup=app.toml"];
     for (bytes, then, told, status, said) in files {
         let drawer = Drawer {
             path: "app.toml",
             file: Held { bytes, then },
             told,
         };
-        let (ended, out, err) = answer(&rt, rt.alloc(), &["check", "--setup=app.toml"], &drawer)?;
-        assert_eq!(rt; ended, status, "at {said} for {told}");
-        assert!(rt; out.is_empty(), "at {said} for {told}");
-        assert!(rt; err.as_slice() == said.as_bytes(), "at {said} for {told}");
+        let difference = answers(&rt, rt.alloc(), &words, &drawer, "", (status, said))?;
+        assert_eq!(rt; difference, None, "at {said} for {told}");
     }
     Ok(())
 }
 
 #[test]
 fn files_that_are_not_there_cannot_be_read(rt: HostRuntime) -> Result<(), Fail> {
-    let in_memory = answer(
-        &rt,
-        rt.alloc(),
-        &["--setup", "lib.toml"],
-        &Drawer::of(CLOSED),
-    )?;
-    let of_the_system = answer(&rt, rt.alloc(), &["--setup", "no/such/file"], &rt)?;
-    let a_folder = answer(&rt, rt.alloc(), &["--setup", "/"], &rt)?;
-    for (status, out, err) in [in_memory, of_the_system, a_folder] {
-        assert_eq!(rt; status, Status::Device);
-        assert!(rt; out.is_empty());
-        assert!(rt; err.as_slice() == b"setup: read failed\n".as_slice());
-    }
+    let unread = (Status::Device, "setup: read failed\n");
+    let drawer = Drawer::of(CLOSED);
+    let found = [
+        answers(
+            &rt,
+            rt.alloc(),
+            &["--setup", "lib.toml"],
+            &drawer,
+            "",
+            unread,
+        )?,
+        answers(
+            &rt,
+            rt.alloc(),
+            &["--setup", "no/such/file"],
+            &rt,
+            "",
+            unread,
+        )?,
+        answers(&rt, rt.alloc(), &["--setup", "/"], &rt, "", unread)?,
+    ];
+    assert_eq!(rt; found, [None; 3]);
     Ok(())
 }
 
@@ -267,10 +268,9 @@ fn the_script_is_answered_under_the_setup(rt: HostRuntime) -> Result<(), Fail> {
         (&[], WITH_MAIN, NOT_FOUND),
     ];
     for (words, setup, written) in setups {
-        let (status, out, err) = answer(&rt, rt.alloc(), words, &Drawer::of(setup))?;
-        assert_eq!(rt; status, Status::Done, "at {words:?}");
-        assert!(rt; out.as_slice() == written.as_bytes(), "at {words:?}");
-        assert!(rt; err.is_empty(), "at {words:?}");
+        let ending = (Status::Done, "");
+        let difference = answers(&rt, rt.alloc(), words, &Drawer::of(setup), written, ending)?;
+        assert_eq!(rt; difference, None, "at {words:?}");
     }
     Ok(())
 }
@@ -299,19 +299,11 @@ T1 E1.1 MonitorEnter L1.1
 /// What went at a collection isn't left; a class object's monitor may be.
 #[test]
 fn a_chain_leaves_its_class(rt: HostRuntime) -> Result<(), Fail> {
-    let mut out = Vec::new(rt.alloc());
-    let mut err = Vec::new(rt.alloc());
-    let ended = run(
-        &rt,
-        rt.alloc(),
-        &["--setup", "app.toml", "--leaks"],
-        &Drawer::of(WITH_NEXT),
-        CHAIN.as_bytes(),
-        BufWriter::new(rt.alloc(), &mut out)?,
-        &mut err,
-    );
-    assert_eq!(rt; ended, Status::Done);
-    assert!(rt; err.as_slice() == b"leak L1.1\nleak M15 T1 1\n".as_slice());
+    let words = ["--setup", "app.toml", "--leaks"];
+    let drawer = Drawer::of(WITH_NEXT);
+    let ending = (Status::Done, "leak L1.1\nleak M15 T1 1\n");
+    let (difference, _) = written_by(&rt, rt.alloc(), &words, &drawer, CHAIN.as_bytes(), ending)?;
+    assert_eq!(rt; difference, None);
     Ok(())
 }
 
@@ -325,24 +317,31 @@ name = \"app/Main\"
 module = \"app\"
 ";
 
+/// What isn't so where the setup is migrated to a text of version 2, under which the script is answered so.
+fn answers_migrated<T: Threads + Wait + Sync>(
+    rt: &T,
+    alloc: Global,
+    setup: &str,
+    written: &str,
+) -> io::Result<Difference> {
+    let (done, script) = ((Status::Done, ""), SCRIPT.as_bytes());
+    let (drawer, words) = (Drawer::of(setup), ["migrate", "--setup", "app.toml"]);
+    let (difference, out) = written_by(rt, alloc, &words, &drawer, script, done)?;
+    match str::from_utf8(&out) {
+        Ok(text) if difference.is_none() && text.contains("version = 2\n") => {
+            let words = ["--setup", "app.toml"];
+            answers(rt, alloc, &words, &Drawer::of(text), written, done)
+        }
+        Ok(_) => Ok(Some("it isn't migrated")),
+        Err(_) => Ok(Some("it is migrated to no text")),
+    }
+}
+
 #[test]
 fn a_migrated_setup_answers_alike(rt: HostRuntime) -> Result<(), Fail> {
-    let words: [&str; 3] = ["migrate", "--setup", "app.toml"];
-    let setups = [(CLOSED, NOT_FOUND), (WITH_MAIN, FOUND), (GRANTED, FOUND)];
-    for (setup, written) in setups {
-        let (status, out, err) = answer(&rt, rt.alloc(), &words, &Drawer::of(setup))?;
-        assert_eq!(rt; status, Status::Done, "at {setup}");
-        assert!(rt; err.is_empty(), "at {setup}");
-        let text = String::from_utf8(out)?;
-        assert!(rt; text.contains("version = 2\n"), "at {setup}");
-        let (status, out, _) = answer(
-            &rt,
-            rt.alloc(),
-            &["--setup", "app.toml"],
-            &Drawer::of(text.as_str()),
-        )?;
-        assert_eq!(rt; status, Status::Done, "at {setup}");
-        assert!(rt; out.as_slice() == written.as_bytes(), "at {setup}");
+    for (setup, written) in [(CLOSED, NOT_FOUND), (WITH_MAIN, FOUND), (GRANTED, FOUND)] {
+        let difference = answers_migrated(&rt, rt.alloc(), setup, written)?;
+        assert_eq!(rt; difference, None, "at {setup}");
     }
     Ok(())
 }
@@ -355,34 +354,30 @@ fn a_setup_that_is_refused_is_not_migrated(rt: HostRuntime) -> Result<(), Fail> 
     ];
     for (setup, path, status, said) in cases {
         let words = ["migrate", "--setup", path];
-        let (ended, out, err) = answer(&rt, rt.alloc(), &words, &Drawer::of(setup))?;
-        assert_eq!(rt; ended, status, "at {said}");
-        assert!(rt; out.is_empty(), "at {said}");
-        assert!(rt; err.as_slice() == said.as_bytes(), "at {said}");
+        let drawer = Drawer::of(setup);
+        let difference = answers(&rt, rt.alloc(), &words, &drawer, "", (status, said))?;
+        assert_eq!(rt; difference, None, "at {said}");
     }
     Ok(())
 }
 
-/// How a migration to this writer ends, and whether it says that line 1 couldn't be written.
-fn migrates_to<T: Threads + Wait + Sync, W: HandsOn + Drop>(
-    rt: &T,
-    alloc: Global,
-    writer: W,
-) -> (Status, bool) {
-    let mut err = Vec::new(alloc);
-    let words = ["migrate", "--setup", "app.toml"];
-    let files = Drawer::of(CLOSED);
-    let ended = run(rt, alloc, &words, &files, b"".as_slice(), writer, &mut err);
-    (
-        ended,
-        err.as_slice() == b"line 1: write failed\n".as_slice(),
-    )
-}
-
 #[test]
 fn a_failing_writer_ends_a_migration(rt: HostRuntime) -> Result<(), Fail> {
-    let wanted = (Status::Device, true);
-    assert_eq!(rt; migrates_to(&rt, rt.alloc(), Broken), wanted);
-    assert_eq!(rt; migrates_to(&rt, rt.alloc(), Unflushed), wanted);
+    let words = ["migrate", "--setup", "app.toml"];
+    let (drawer, nothing) = (Drawer::of(CLOSED), b"".as_slice());
+    let unwritten = (Status::Device, "line 1: write failed\n");
+    let found = [
+        ends_so(&rt, rt.alloc(), &words, &drawer, nothing, Broken, unwritten),
+        ends_so(
+            &rt,
+            rt.alloc(),
+            &words,
+            &drawer,
+            nothing,
+            Unflushed,
+            unwritten,
+        ),
+    ];
+    assert_eq!(rt; found, [None; 2]);
     Ok(())
 }

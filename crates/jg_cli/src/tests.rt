@@ -1,8 +1,99 @@
-use jg_program::{Status, run};
+use jg_program::{Files, Status, run};
 use jg_script::{Faulty, HandsOn};
+use std::alloc::Global;
 use std::io;
-use std::io::{BufReader, BufWriter, ErrorKind, Read, Write};
+use std::io::{BufRead, BufReader, BufWriter, ErrorKind, Read, Write};
+use std::sync::Wait;
 use std::test::Fail;
+use std::thread::Threads;
+
+/// What isn't as a row states; nothing where all is.
+pub(crate) type Difference = Option<&'static str>;
+
+/// The status that the program ends with, and what it says.
+pub(crate) type Ending<'a> = (Status, &'a str);
+
+/// What isn't so where the program, run with these words, files and devices, ends as wanted.
+pub(crate) fn ends_so<T, S, R, W>(
+    rt: &T,
+    alloc: Global,
+    words: &[&str],
+    files: &S,
+    reader: R,
+    writer: W,
+    (status, said): Ending<'_>,
+) -> Difference
+where
+    T: Threads + Wait + Sync,
+    S: Files,
+    R: BufRead + Drop,
+    W: HandsOn + Drop,
+{
+    let mut err = Vec::new(alloc);
+    let ended = run(rt, alloc, words, files, reader, writer, &mut err);
+    if ended != status {
+        Some("it ends with another status")
+    } else if err.as_slice() != said.as_bytes() {
+        Some("it says another text")
+    } else {
+        None
+    }
+}
+
+/// The same with a writer that takes all, and what was written.
+pub(crate) fn written_by<T, S, R>(
+    rt: &T,
+    alloc: Global,
+    words: &[&str],
+    files: &S,
+    reader: R,
+    ending: Ending<'_>,
+) -> io::Result<(Difference, Vec<u8>)>
+where
+    T: Threads + Wait + Sync,
+    S: Files,
+    R: BufRead + Drop,
+{
+    let mut out = Vec::new(alloc);
+    let writer = BufWriter::new(alloc, &mut out)?;
+    let difference = ends_so(rt, alloc, words, files, reader, writer, ending);
+    Ok((difference, out))
+}
+
+/// The same where the text is written too.
+pub(crate) fn writes_so<T, S, R>(
+    rt: &T,
+    alloc: Global,
+    words: &[&str],
+    files: &S,
+    reader: R,
+    text: &str,
+    ending: Ending<'_>,
+) -> io::Result<Difference>
+where
+    T: Threads + Wait + Sync,
+    S: Files,
+    R: BufRead + Drop,
+{
+    let (difference, out) = written_by(rt, alloc, words, files, reader, ending)?;
+    if difference.is_none() && out.as_slice() != text.as_bytes() {
+        Ok(Some("it writes another text"))
+    } else {
+        Ok(difference)
+    }
+}
+
+/// The same of a reader that fails at once, and files of the system.
+fn ends_unread<T: Threads + Wait + Sync + Files>(
+    rt: &T,
+    alloc: Global,
+    words: &[&str],
+    ending: Ending<'_>,
+) -> io::Result<Difference> {
+    let reader = BufReader::new(alloc, Broken)?;
+    let (difference, _) = written_by(rt, alloc, words, rt, reader, ending)?;
+    Ok(difference)
+}
 
 /// A reader or a writer that fails at once.
 #[derive(Drop)]
@@ -124,21 +215,9 @@ fn each_end_has_its_status_and_its_text(rt: HostRuntime) -> Result<(), Fail> {
         ),
     ];
     for (words, script, status, text, said) in runs {
-        let mut out = Vec::new(rt.alloc());
-        let mut err = Vec::new(rt.alloc());
-        let writer = BufWriter::new(rt.alloc(), &mut out)?;
-        let ended = run(
-            &rt,
-            rt.alloc(),
-            words,
-            &rt,
-            script.as_bytes(),
-            writer,
-            &mut err,
-        );
-        assert_eq!(rt; ended, status, "at {words:?}");
-        assert!(rt; out.as_slice() == text.as_bytes(), "at {words:?}");
-        assert!(rt; err.as_slice() == said.as_bytes(), "at {words:?}");
+        let script = script.as_bytes();
+        let difference = writes_so(&rt, rt.alloc(), words, &rt, script, text, (status, said))?;
+        assert_eq!(rt; difference, None, "at {words:?}: {said}");
     }
     Ok(())
 }
@@ -194,51 +273,40 @@ fn journals_are_tested(rt: HostRuntime) -> Result<(), Fail> {
         ),
     ];
     for (words, journal, status, text, said) in runs {
-        let mut out = Vec::new(rt.alloc());
-        let mut err = Vec::new(rt.alloc());
-        let writer = BufWriter::new(rt.alloc(), &mut out)?;
-        let ended = run(
-            &rt,
-            rt.alloc(),
-            words,
-            &rt,
-            journal.as_bytes(),
-            writer,
-            &mut err,
-        );
-        assert_eq!(rt; ended, status, "at {words:?}: {said}");
-        assert!(rt; out.as_slice() == text.as_bytes(), "at {words:?}: {text}");
-        assert!(rt; err.as_slice() == said.as_bytes(), "at {words:?}: {said}");
+        let journal = journal.as_bytes();
+        let difference = writes_so(&rt, rt.alloc(), words, &rt, journal, text, (status, said))?;
+        assert_eq!(rt; difference, None, "at {words:?}: {text}{said}");
     }
     Ok(())
 }
 
 #[test]
 fn failing_devices_end_a_test_of_a_journal(rt: HostRuntime) -> Result<(), Fail> {
-    let mut out = Vec::new(rt.alloc());
-    let mut err = Vec::new(rt.alloc());
-    let reader = BufReader::new(rt.alloc(), Broken)?;
-    let writer = BufWriter::new(rt.alloc(), &mut out)?;
-    let ended = run(&rt, rt.alloc(), &["verify"], &rt, reader, writer, &mut err);
-    assert_eq!(rt; ended, Status::Device);
-    assert!(rt; err.as_slice() == b"line 1: read failed\n".as_slice());
-    err.clear();
     let journal = THREE_ANSWERED.as_bytes();
-    let ended = run(&rt, rt.alloc(), &["verify"], &rt, journal, Broken, &mut err);
-    assert_eq!(rt; ended, Status::Device);
-    assert!(rt; err.as_slice() == b"line 1: write failed\n".as_slice());
-    err.clear();
-    let ended = run(
-        &rt,
-        rt.alloc(),
-        &["verify"],
-        &rt,
-        journal,
-        Unflushed,
-        &mut err,
-    );
-    assert_eq!(rt; ended, Status::Device);
-    assert!(rt; err.as_slice() == b"line 1: write failed\n".as_slice());
+    let unread = (Status::Device, "line 1: read failed\n");
+    let unwritten = (Status::Device, "line 1: write failed\n");
+    let found = [
+        ends_unread(&rt, rt.alloc(), &["verify"], unread)?,
+        ends_so(
+            &rt,
+            rt.alloc(),
+            &["verify"],
+            &rt,
+            journal,
+            Broken,
+            unwritten,
+        ),
+        ends_so(
+            &rt,
+            rt.alloc(),
+            &["verify"],
+            &rt,
+            journal,
+            Unflushed,
+            unwritten,
+        ),
+    ];
+    assert_eq!(rt; found, [None; 3]);
     Ok(())
 }
 
@@ -307,20 +375,9 @@ fn leaks_are_said(rt: HostRuntime) -> Result<(), Fail> {
         (&["--leaks", "--limit", "12"], OF_TWO_THREADS, LEFT_BY_TWO),
     ];
     for (words, script, said) in runs {
-        let mut out = Vec::new(rt.alloc());
-        let mut err = Vec::new(rt.alloc());
-        let writer = BufWriter::new(rt.alloc(), &mut out)?;
-        let ended = run(
-            &rt,
-            rt.alloc(),
-            words,
-            &rt,
-            script.as_bytes(),
-            writer,
-            &mut err,
-        );
-        assert_eq!(rt; ended, Status::Done, "at {words:?}: {said}");
-        assert!(rt; err.as_slice() == said.as_bytes(), "at {words:?}: {said}");
+        let ending = (Status::Done, said);
+        let (difference, _) = written_by(&rt, rt.alloc(), words, &rt, script.as_bytes(), ending)?;
+        assert_eq!(rt; difference, None, "at {words:?}: {said}");
     }
     Ok(())
 }
@@ -330,18 +387,10 @@ fn leaks_are_said(rt: HostRuntime) -> Result<(), Fail> {
 fn leaks_change_no_status(rt: HostRuntime) -> Result<(), Fail> {
     let words = ["--leaks", "--limit", "2"];
     let script = THREE_LINES.as_bytes();
-    let mut err = Vec::new(rt.alloc());
-    let ended = run(
-        &rt,
-        rt.alloc(),
-        &words,
-        &rt,
-        script,
-        Vec::new(rt.alloc()),
-        &mut err,
-    );
-    assert_eq!(rt; ended, Status::Exhausted);
-    assert!(rt; err.as_slice() == b"line 3: limit\n".as_slice());
+    let out = Vec::new(rt.alloc());
+    let limit = (Status::Exhausted, "line 3: limit\n");
+    let difference = ends_so(&rt, rt.alloc(), &words, &rt, script, out, limit);
+    assert_eq!(rt; difference, None);
     let ended = run(
         &rt,
         rt.alloc(),
@@ -366,100 +415,48 @@ fn what_the_program_cannot_do_is_refused(rt: HostRuntime) -> Result<(), Fail> {
         &["--turns", "3"],
         &["migrate"],
     ];
+    let ending = (Status::Faulty, "arguments refused\n");
     for words in refused {
-        let mut out = Vec::new(rt.alloc());
-        let mut err = Vec::new(rt.alloc());
-        let writer = BufWriter::new(rt.alloc(), &mut out)?;
-        let ended = run(
-            &rt,
-            rt.alloc(),
-            words,
-            &rt,
-            THREE_LINES.as_bytes(),
-            writer,
-            &mut err,
-        );
-        assert_eq!(rt; ended, Status::Faulty, "at {words:?}");
-        assert!(rt; out.is_empty(), "at {words:?}");
-        assert!(rt;
-            err.as_slice() == b"arguments refused\n".as_slice(),
-            "at {words:?}"
-        );
+        let script = THREE_LINES.as_bytes();
+        let difference = writes_so(&rt, rt.alloc(), words, &rt, script, "", ending)?;
+        assert_eq!(rt; difference, None, "at {words:?}");
     }
     Ok(())
 }
 
+/// How the program ends where it can't say why.
+fn ends_unheard<T: Threads + Wait + Sync + Files>(
+    rt: &T,
+    alloc: Global,
+    words: &[&str],
+) -> io::Result<Status> {
+    let reader = BufReader::new(alloc, Broken)?;
+    let out = Vec::new(alloc);
+    Ok(run(rt, alloc, words, rt, reader, out, &mut Broken))
+}
+
 #[test]
 fn failing_devices_have_their_texts(rt: HostRuntime) -> Result<(), Fail> {
-    let mut out = Vec::new(rt.alloc());
-    let mut err = Vec::new(rt.alloc());
-    assert_eq!(rt;
-        run(
-            &rt,
-            rt.alloc(),
-            &[],
-            &rt,
-            BufReader::new(rt.alloc(), Broken)?,
-            BufWriter::new(rt.alloc(), &mut out)?,
-            &mut err
-        ),
-        Status::Device
-    );
-    assert!(rt; err.as_slice() == b"line 1: read failed\n".as_slice());
-    err.clear();
-    assert_eq!(rt;
-        run(
-            &rt,
-            rt.alloc(),
-            &[],
-            &rt,
-            THREE_LINES.as_bytes(),
-            Broken,
-            &mut err
-        ),
-        Status::Device
-    );
-    assert!(rt; err.as_slice() == b"line 1: write failed\n".as_slice());
-    err.clear();
-    assert_eq!(rt;
-        run(
-            &rt,
-            rt.alloc(),
-            &[],
-            &rt,
-            THREE_LINES.as_bytes(),
-            Unflushed,
-            &mut err
-        ),
-        Status::Device
-    );
-    assert!(rt; err.as_slice() == b"line 3: write failed\n".as_slice());
-    err.clear();
-    assert_eq!(rt;
-        run(
+    let script = THREE_LINES.as_bytes();
+    let unread = (Status::Device, "line 1: read failed\n");
+    let unwritten = (Status::Device, "line 1: write failed\n");
+    let unflushed = (Status::Device, "line 3: write failed\n");
+    let found = [
+        ends_unread(&rt, rt.alloc(), &[], unread)?,
+        ends_so(&rt, rt.alloc(), &[], &rt, script, Broken, unwritten),
+        ends_so(&rt, rt.alloc(), &[], &rt, script, Unflushed, unflushed),
+        ends_so(
             &rt,
             rt.alloc(),
             &["--help"],
             &rt,
-            THREE_LINES.as_bytes(),
+            script,
             Unflushed,
-            &mut err
+            unwritten,
         ),
-        Status::Device
-    );
-    assert!(rt; err.as_slice() == b"line 1: write failed\n".as_slice());
-    assert_eq!(rt;
-        run(
-            &rt,
-            rt.alloc(),
-            &["--fly"],
-            &rt,
-            BufReader::new(rt.alloc(), Broken)?,
-            BufWriter::new(rt.alloc(), &mut out)?,
-            &mut Broken
-        ),
-        Status::Faulty
-    );
+    ];
+    assert_eq!(rt; found, [None; 4]);
+    assert_eq!(rt; ends_unheard(&rt, rt.alloc(), &["--fly"])?, Status::Faulty);
     Ok(())
 }
 
@@ -474,17 +471,29 @@ T1 E1.1 NewString [72,105] = L1.1
 /// The first two lines of the first path are read at once, and the next read fails.
 #[test]
 fn the_reader_fails_after_two(rt: HostRuntime) -> Result<(), Fail> {
-    let mut out = Vec::new(rt.alloc());
-    let mut err = Vec::new(rt.alloc());
     let mut script = Vec::new(rt.alloc());
     script.extend_from_slice(TWO_LINES.as_bytes())?;
     let reader = BufReader::new(rt.alloc(), Faulty::new(script, 1, 100))?;
-    let writer = BufWriter::new(rt.alloc(), &mut out)?;
-    let ended = run(&rt, rt.alloc(), &[], &rt, reader, writer, &mut err);
-    assert_eq!(rt; ended, Status::Device);
-    assert!(rt; out.as_slice() == TWO_ANSWERED.as_bytes());
-    assert!(rt; err.as_slice() == b"line 3: read failed\n".as_slice());
+    let ending = (Status::Device, "line 3: read failed\n");
+    let difference = writes_so(&rt, rt.alloc(), &[], &rt, reader, TWO_ANSWERED, ending)?;
+    assert_eq!(rt; difference, None);
     Ok(())
+}
+
+/// What isn't so where the program reads nothing and writes a text of which this is a part.
+fn writes_part<T: Threads + Wait + Sync + Files>(
+    rt: &T,
+    alloc: Global,
+    words: &[&str],
+    part: &str,
+) -> io::Result<Difference> {
+    let reader = BufReader::new(alloc, Broken)?;
+    let (difference, out) = written_by(rt, alloc, words, rt, reader, (Status::Done, ""))?;
+    match str::from_utf8(&out) {
+        Ok(text) if text.contains(part) => Ok(difference),
+        Ok(_) => Ok(Some("it writes another text")),
+        Err(_) => Ok(Some("it writes no text")),
+    }
 }
 
 #[test]
@@ -495,17 +504,11 @@ fn the_help_goes_to_the_output(rt: HostRuntime) -> Result<(), Fail> {
         (&["--version"], "jg 0.1.0"),
     ];
     for (words, part) in texts {
-        let mut out = Vec::new(rt.alloc());
-        let mut err = Vec::new(rt.alloc());
-        let reader = BufReader::new(rt.alloc(), Broken)?;
-        let writer = BufWriter::new(rt.alloc(), &mut out)?;
         assert_eq!(rt;
-            run(&rt, rt.alloc(), words, &rt, reader, writer, &mut err),
-            Status::Done,
+            writes_part(&rt, rt.alloc(), words, part)?,
+            None,
             "at {words:?}"
         );
-        let written = String::from_utf8(out)?;
-        assert!(rt; written.contains(part) && err.is_empty(), "at {words:?}");
     }
     Ok(())
 }

@@ -16,6 +16,3 @@ pub use meanings::{
     weak_means,
 };
 pub use target::Target;
-
-#[cfg(test)]
-mod tests;

@@ -88,13 +88,13 @@ impl<A: Allocator + Copy> Guard<A> {
         ensures limit { IfOk result (λ guard. guard.limit ≡ limit) }
         ensures journal { IfOk result (λ guard. guard.journal ≡ []) }
     {
+        let heap = Heap::new(alloc, u64::from(setup.class_count()))?;
         let threads = Threads::new(alloc, alloc);
         let locals = Locals::new(alloc, alloc, alloc);
         let globals = Globals::new(alloc, alloc);
         let buffers = Buffers::new(alloc, alloc, alloc, alloc, alloc);
         let monitors = Monitors::new(alloc);
         let links = Links::new(alloc, alloc);
-        let heap = Heap::new(alloc, u64::from(setup.class_count()))?;
         let journal = Blocks::new(alloc, alloc);
         let tables = Tables {
             alloc,

@@ -13,6 +13,3 @@ mod object;
 pub use heap::Heap;
 pub use mutf8::{from_mutf8, from_mutf8_items, is_mutf8, mutf8_len, to_mutf8};
 pub use object::{Shape, Slot};
-
-#[cfg(test)]
-mod tests;

@@ -18,6 +18,3 @@ pub use meanings::{
     deleted_is_never_live, entered_means, held_means, left_means, live_means, new_number_is_above,
     open_frames_mean, popped_means, pushed_means, room_means, session_has_frame, top_means,
 };
-
-#[cfg(test)]
-mod tests;

@@ -17,6 +17,3 @@ pub use meanings::{
 };
 pub use monitors::Monitors;
 pub use owned_monitor::OwnedMonitor;
-
-#[cfg(test)]
-mod tests;

@@ -26,6 +26,3 @@ pub use meanings::{
 };
 pub use mode::Mode;
 pub use setup::Setup;
-
-#[cfg(test)]
-mod tests;

@@ -1,3 +1,4 @@
+mod alone;
 mod busy;
 mod growths;
 mod limits;

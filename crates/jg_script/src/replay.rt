@@ -78,11 +78,14 @@ fn past_limit(alloc: Global, text: &[u8], line: u64) -> Result<Verdict, RunFault
     }
 }
 
-/// Makes the calls of a journal's lines again, each before the next line is read.
+/// Makes the calls of a journal's lines again, each before the next line is read. `text` is for a
+/// line that is read, `out` for what the line of its call's entry is.
 fn replay_lines<A: Allocator + Clone, R: BufRead>(
     alloc: Global,
     guard: &mut Guard<A>,
     reader: &mut Watched<R>,
+    text: &mut Vec<u8>,
+    out: &mut String,
 ) -> Result<Verdict, RunFault>
     requires { guard.old.journal ≡ [] }
     ensures verifies { Verifies (R.remaining reader.old.device) (R.remaining reader.new.device) guard.old.setup
@@ -90,12 +93,8 @@ fn replay_lines<A: Allocator + Clone, R: BufRead>(
     ensures reader { ReaderFails reader.old.failed reader.new.failed result }
 {
     let limit = u64::from(guard.limit());
-    let Ok(mut text) = Vec::with_capacity(alloc, MAX_LINE + 1) else {
-        return Err(RunFault::NoMemory { line: 1 });
-    };
-    let mut out = String::new(alloc);
     for line in 1..limit + 2 {
-        let taken = match next_line(reader, &mut text) {
+        let taken = match next_line(reader, text) {
             Ok(taken) => taken,
             Err(LineFault::Read) => return Err(RunFault::Read { line }),
             Err(LineFault::NoMemory) => return Err(RunFault::NoMemory { line }),
@@ -104,12 +103,12 @@ fn replay_lines<A: Allocator + Clone, R: BufRead>(
             return Ok(Verdict::Legal);
         }
         if line > limit {
-            return past_limit(alloc, &text, line);
+            return past_limit(alloc, text, line);
         }
         if let Taken::LastLine = taken {
             return Ok(Verdict::Differs(line));
         }
-        match replay_line(alloc, guard, &mut out, &text, line) {
+        match replay_line(alloc, guard, out, text, line) {
             Ok(true) => {}
             Ok(false) => return Ok(Verdict::Differs(line)),
             Err(fault) => return Err(fault),
@@ -133,8 +132,12 @@ pub fn verify<A: Allocator + Copy, R: BufRead>(
     ensures verifies { Verifies (R.remaining reader.old.device) (R.remaining reader.new.device) setup limit result }
     ensures reader { ReaderFails reader.old.failed reader.new.failed result }
 {
+    let Ok(mut text) = Vec::with_capacity(alloc, MAX_LINE + 1) else {
+        return Err(RunFault::NoMemory { line: 1 });
+    };
+    let mut out = String::new(alloc);
     let Ok(mut guard) = Guard::new(tables, alloc, setup, limit) else {
         return Err(RunFault::NoMemory { line: 1 });
     };
-    replay_lines(alloc, &mut guard, reader)
+    replay_lines(alloc, &mut guard, reader, &mut text, &mut out)
 }

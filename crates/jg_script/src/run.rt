@@ -26,6 +26,57 @@ fn hand_over<R: BufRead, W: Write>(reader: &Watched<R>, writer: &mut Watched<W>)
     }
 }
 
+/// Answers the lines of a script as `check` does, each read into `text`.
+fn check_lines<A: Allocator + Clone, R: BufRead, W: Write>(
+    alloc: Global,
+    guard: &mut Guard<A>,
+    reader: &mut Watched<R>,
+    writer: &mut Watched<W>,
+    text: &mut Vec<u8>,
+) -> Result<u64, RunFault>
+    requires { guard.old.journal ≡ [] }
+    ensures checks { Checks (R.remaining reader.old.device) (R.remaining reader.new.device)
+        (W.contents writer.old.device) (W.contents writer.new.device) guard.old.limit guard.new.journal result }
+    ensures reads { Reads (R.remaining reader.old.device) (R.remaining reader.new.device) guard.new.journal result }
+    ensures legal { Legal guard.new.setup guard.new.journal }
+    ensures script { IsScript guard.new.journal }
+    ensures setup { guard.new.setup ≡ guard.old.setup }
+    ensures limit { guard.new.limit ≡ guard.old.limit }
+    ensures reader { ReaderFails reader.old.failed reader.new.failed result }
+    ensures writer { WriterFails writer.old.failed writer.new.failed result }
+{
+    let limit = u64::from(guard.limit());
+    for line in 1..limit + 2 {
+        hand_over(reader, writer);
+        let taken = match next_line(reader, text) {
+            Ok(taken) => taken,
+            Err(LineFault::Read) => return Err(RunFault::Read { line }),
+            Err(LineFault::NoMemory) => return Err(RunFault::NoMemory { line }),
+        };
+        match taken {
+            Taken::Nothing => return Ok(line - 1),
+            Taken::TooLong => {
+                return Err(RunFault::Script {
+                    line,
+                    fault: ScriptFault::LineTooLong,
+                });
+            }
+            Taken::Line => {
+                if let Err(fault) = answer_line(alloc, guard, writer, text, line) {
+                    return Err(fault);
+                }
+            }
+            Taken::LastLine => {
+                return match answer_line(alloc, guard, writer, text, line) {
+                    Ok(()) => Ok(line),
+                    Err(fault) => Err(fault),
+                };
+            }
+        }
+    }
+    unreachable!()
+}
+
 /// Answers the lines of a script, each before the next is read, and gives their number. The guard's
 /// journal is empty before (`Guard::journal_len`). What was written before a fault stays written, and
 /// what the guard took stays in its journal. Nothing is read after the first faulty line, so at most
@@ -48,37 +99,8 @@ pub fn check<A: Allocator + Clone, R: BufRead, W: Write>(
     ensures reader { ReaderFails reader.old.failed reader.new.failed result }
     ensures writer { WriterFails writer.old.failed writer.new.failed result }
 {
-    let limit = u64::from(guard.limit());
     let Ok(mut text) = Vec::with_capacity(alloc, MAX_LINE + 1) else {
         return Err(RunFault::NoMemory { line: 1 });
     };
-    for line in 1..limit + 2 {
-        hand_over(reader, writer);
-        let taken = match next_line(reader, &mut text) {
-            Ok(taken) => taken,
-            Err(LineFault::Read) => return Err(RunFault::Read { line }),
-            Err(LineFault::NoMemory) => return Err(RunFault::NoMemory { line }),
-        };
-        match taken {
-            Taken::Nothing => return Ok(line - 1),
-            Taken::TooLong => {
-                return Err(RunFault::Script {
-                    line,
-                    fault: ScriptFault::LineTooLong,
-                });
-            }
-            Taken::Line => {
-                if let Err(fault) = answer_line(alloc, guard, writer, &mut text, line) {
-                    return Err(fault);
-                }
-            }
-            Taken::LastLine => {
-                return match answer_line(alloc, guard, writer, &mut text, line) {
-                    Ok(()) => Ok(line),
-                    Err(fault) => Err(fault),
-                };
-            }
-        }
-    }
-    unreachable!()
+    check_lines(alloc, guard, reader, writer, &mut text)
 }

@@ -86,26 +86,37 @@ fn is_legal(alloc: Global, setup: Setup, text: &[u8]) -> bool {
     }
 }
 
-/// Whether the text of the guard's journal is found to be legal.
-fn is_read_back(alloc: Global, guard: &Guard) -> Result<bool, Fail> {
-    let setup = setup(alloc)?;
+/// How many entries the guard's journal has, where its text is found to be legal.
+fn entries_if_legal(alloc: Global, guard: &Guard) -> Result<Option<usize>, Fail> {
     let text = journal_of(alloc, guard)?;
-    Ok(is_legal(alloc, setup, &text))
+    let setup = setup(alloc)?;
+    if is_legal(alloc, setup, &text) {
+        Ok(Some(guard.journal_len()))
+    } else {
+        Ok(None)
+    }
 }
 
-/// How many entries the journal has, where it agrees with the receipts and is legal.
+/// The same where the journal agrees with the receipts.
 fn entries_if_told<L: Ledger>(
     alloc: Global,
     answer: Result<Finished<L>, FinishFault<L>>,
 ) -> Result<Option<usize>, Fail> {
-    let Ok(finished) = answer else {
-        return Ok(None);
-    };
-    if is_read_back(alloc, &finished.guard)? {
-        Ok(Some(finished.guard.journal_len()))
-    } else {
-        Ok(None)
+    match answer {
+        Ok(finished) => entries_if_legal(alloc, &finished.guard),
+        Err(_) => Ok(None),
     }
+}
+
+/// How many receipts the workers have, and how many of them are busy.
+fn counts_of<L: Ledger>(workers: &[Worker<L>]) -> (usize, usize) {
+    let mut receipts: usize = 0;
+    let mut busy: usize = 0;
+    for worker in workers {
+        receipts = receipts.saturating_add(worker.receipts().len());
+        busy = busy.saturating_add(worker.receipts().iter().filter(|r| is_busy(r)).count());
+    }
+    (receipts, busy)
 }
 
 fn played<L: Ledger + Send + Sync, R: Threads + Wait + Sync, G: Gate>(
@@ -122,18 +133,24 @@ fn played<L: Ledger + Send + Sync, R: Threads + Wait + Sync, G: Gate>(
     let setup = setup(alloc)?;
     let (shared, mut workers) = SharedGuard::<L>::new(alloc, setup, 100_000, scripts, blank)?;
     play(rt, &shared, workers.as_mut_slice(), 3, gate);
-    let mut receipts: usize = 0;
-    let mut busy: usize = 0;
-    for worker in &workers {
-        receipts = receipts.saturating_add(worker.receipts().len());
-        busy = busy.saturating_add(worker.receipts().iter().filter(|r| is_busy(r)).count());
-    }
+    let (receipts, busy) = counts_of(workers.as_slice());
     let entries = entries_if_told(alloc, finish(shared, workers))?;
     Ok(Tally {
         entries,
         receipts,
         busy,
     })
+}
+
+/// The same of the scripts of this text.
+fn tally_of<R: Threads + Wait + Sync, G: Gate>(
+    rt: &R,
+    alloc: Global,
+    text: &str,
+    gate: &G,
+) -> Result<Tally, Fail> {
+    let scripts = scripts_of(alloc, text)?;
+    played::<Brand, _, _>(rt, alloc, Blank::new(64), scripts, gate)
 }
 
 /// A gate at which each of two workers waits, before its second line, until the other one is there.
@@ -181,8 +198,7 @@ fn workers_meet(rt: HostRuntime) -> Result<(), Fail> {
         second: AtomicBool::new(false),
         gave_up: AtomicBool::new(false),
     };
-    let scripts = scripts_of(rt.alloc(), TWO)?;
-    let met = played::<Brand, _, _>(&rt, rt.alloc(), Blank::new(64), scripts, &gate)?;
+    let met = tally_of(&rt, rt.alloc(), TWO, &gate)?;
     let wanted = Tally {
         entries: Some(4),
         receipts: 4,
@@ -252,8 +268,7 @@ fn a_busy_monitor_is_tried_three_times(rt: HostRuntime) -> Result<(), Fail> {
         second: AtomicU64::new(0),
         gave_up: AtomicBool::new(false),
     };
-    let scripts = scripts_of(rt.alloc(), OWNED)?;
-    let tried = played::<Brand, _, _>(&rt, rt.alloc(), Blank::new(64), scripts, &gate)?;
+    let tried = tally_of(&rt, rt.alloc(), OWNED, &gate)?;
     let wanted = Tally {
         entries: Some(10),
         receipts: 10,
@@ -267,8 +282,7 @@ fn a_busy_monitor_is_tried_three_times(rt: HostRuntime) -> Result<(), Fail> {
 #[test]
 fn sixty_four_workers_play_a_thousand_lines_each(rt: HostRuntime) -> Result<(), Fail> {
     let text = most_threads(rt.alloc())?;
-    let scripts = scripts_of(rt.alloc(), &text)?;
-    let all = played::<Brand, _, _>(&rt, rt.alloc(), Blank::new(64), scripts, &OpenGate)?;
+    let all = tally_of(&rt, rt.alloc(), &text, &OpenGate)?;
     let wanted = Tally {
         entries: Some(64_000),
         receipts: 64_000,
@@ -282,8 +296,7 @@ fn sixty_four_workers_play_a_thousand_lines_each(rt: HostRuntime) -> Result<(), 
 fn two_workers_agree_two_hundred_times(rt: HostRuntime) -> Result<(), Fail> {
     let mut agreed: u32 = 0;
     for _ in 0..200 {
-        let scripts = scripts_of(rt.alloc(), TWO)?;
-        let each = played::<Brand, _, _>(&rt, rt.alloc(), Blank::new(64), scripts, &OpenGate)?;
+        let each = tally_of(&rt, rt.alloc(), TWO, &OpenGate)?;
         if each.entries == Some(4) {
             agreed = agreed.saturating_add(1);
         }
@@ -320,21 +333,31 @@ fn is_first_entry(answer: Result<Receipt, Refusal>, guard: &Guard) -> bool {
     }
 }
 
+/// Whether the guard's one entry is told by the first answer, and the second one hands the call back.
+fn is_told_once(
+    guard: &Guard,
+    first: Result<Receipt, Refusal>,
+    second: Result<Receipt, Refusal>,
+) -> bool {
+    let is_told = is_first_entry(first, guard);
+    let is_back = hands_back(second, &attach());
+    is_told && is_back
+}
+
 /// Two calls by the lent value of the lock, where the limit is 1.
 fn lent<L: Ledger>(alloc: Global, blank: Blank) -> Result<bool, Fail>
     requires name { blank.name ≡ L.name }
     requires parts { blank.parts ≡ L.parts }
     requires enough { 1 ≤ blank.parts }
 {
-    let guard = Guard::new(alloc, alloc, setup(alloc)?, 1)?;
+    let setup = setup(alloc)?;
+    let guard = Guard::new(alloc, alloc, setup, 1)?;
     let (calls, mut share) = blank.open::<L>();
     let mut held = Held::new(guard, calls);
     let first = held.call(&mut share, Tid(1), None, attach());
     let second = held.call(&mut share, Tid(1), None, attach());
     let guard = held.into_guard();
-    let is_told = is_first_entry(first, &guard);
-    let is_back = hands_back(second, &attach());
-    Ok(is_told && is_back)
+    Ok(is_told_once(&guard, first, second))
 }
 
 /// The same two calls by the lock.
@@ -343,16 +366,15 @@ fn locked<L: Ledger, R: Wait>(rt: &R, alloc: Global, blank: Blank) -> Result<boo
     requires parts { blank.parts ≡ L.parts }
     requires enough { 1 ≤ blank.parts }
 {
-    let guard = Guard::new(alloc, alloc, setup(alloc)?, 1)?;
+    let setup = setup(alloc)?;
+    let guard = Guard::new(alloc, alloc, setup, 1)?;
     let (calls, mut share) = blank.open::<L>();
     let held = Mutex::new(Held::new(guard, calls));
     let shared = SharedGuard { held };
     let first = shared.call(rt, &mut share, Tid(1), None, attach());
     let second = shared.call(rt, &mut share, Tid(1), None, attach());
     let guard = shared.into_guard();
-    let is_told = is_first_entry(first, &guard);
-    let is_back = hands_back(second, &attach());
-    Ok(is_told && is_back)
+    Ok(is_told_once(&guard, first, second))
 }
 
 #[test]

@@ -25,6 +25,3 @@ pub use meanings::{
 pub use read::{MAX_LINE, read_call};
 pub use word::{push_buf, push_ref, push_tid};
 pub use write::{push_answer, push_entry, write_entry};
-
-#[cfg(test)]
-mod tests;

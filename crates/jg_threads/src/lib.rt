@@ -15,6 +15,3 @@ pub use meanings::{
 };
 pub use row::Row;
 pub use threads::Threads;
-
-#[cfg(test)]
-mod tests;

@@ -1,4 +1,5 @@
 mod buffers;
+mod caller;
 mod cleaning;
 mod growths;
 mod guard;
@@ -42,14 +43,6 @@ fn repeated(alloc: Global, line: &str, count: u32) -> Result<String, AllocError>
     Ok(text)
 }
 
-/// What `act` gives over this value, which is let go then. A guard is owned by this function and by
-/// those that make it, for it takes minutes to prove each that has one and many ways out.
-fn lend<V: Drop, T, F: FnOnce(&mut V) -> T>(mut value: V, act: F) -> T
-    requires { F.IsAlwaysCallable act }
-{
-    act(&mut value)
-}
-
 /// A guard under the setup of this text.
 fn guarded<A: Allocator + Copy>(
     tables: A,
@@ -75,17 +68,40 @@ fn check_with<A: Allocator + Clone, R: BufRead, W: Write>(
     }
 }
 
+/// The same under the closed setup with a guard of its own.
+fn check_anew<R: BufRead, W: Write>(
+    alloc: Global,
+    limit: u32,
+    reader: &mut Watched<R>,
+    writer: &mut Watched<W>,
+) -> Result<Result<u64, RunFault>, Fail> {
+    let mut guard = guarded(alloc, alloc, CLOSED, limit)?;
+    check_with(&mut guard, alloc, reader, writer)
+}
+
+/// How many bytes of the heap the guard takes for its first block of entries.
+fn first_block_of(
+    guard: &mut Guard<&LocalHeap>,
+    heap: &LocalHeap,
+    alloc: Global,
+) -> Result<usize, Fail> {
+    let before = heap.used();
+    if growths::goes_through(guard, alloc, "T1 - GetEnv")? {
+        Ok(heap.used().saturating_sub(before))
+    } else {
+        Err(Fail::from("a large heap isn't enough"))
+    }
+}
+
+fn first_block_in(heap: &LocalHeap, alloc: Global) -> Result<usize, Fail> {
+    let mut guard = guarded(heap, alloc, CLOSED, 1)?;
+    first_block_of(&mut guard, heap, alloc)
+}
+
 /// How many bytes of a heap a guard takes for its first block of entries.
 fn first_block(alloc: Global) -> Result<usize, Fail> {
     let heap = LocalHeap::new(alloc, 1_000_000)?;
-    lend(guarded(&heap, alloc, CLOSED, 1)?, |guard| {
-        let before = heap.used();
-        if growths::goes_through(guard, alloc, "T1 - GetEnv")? {
-            Ok(heap.used().saturating_sub(before))
-        } else {
-            Err(Fail::from("a large heap isn't enough"))
-        }
-    })
+    first_block_in(&heap, alloc)
 }
 
 const FIRST_PATH: &str = "T1 - AttachCurrentThread

@@ -44,6 +44,3 @@ pub use reference::{Kind, Ref};
 pub use rule::Rule;
 pub use thread::{EnvId, Tid};
 pub use value::{Thrown, Value};
-
-#[cfg(test)]
-mod tests;

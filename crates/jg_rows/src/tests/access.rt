@@ -1,41 +1,21 @@
 //! Native access.
 
 use crate::access::{A_THROW_WARNS_OF_NOTHING, ACCESS_ALLOWED, ACCESS_DENIED, ACCESS_WARNED};
-use crate::tests::{comes_out_under, two_modules};
+use crate::tests::{Row, Under, come_out};
 use std::test::Fail;
 
-#[test]
-fn access_denied(rt: HostRuntime) -> Result<(), Fail> {
-    comes_out_under(
-        rt.alloc(),
-        two_modules(rt.alloc(), "deny")?.as_str(),
-        ACCESS_DENIED,
-    )
-}
-
-#[test]
-fn access_warned(rt: HostRuntime) -> Result<(), Fail> {
-    comes_out_under(
-        rt.alloc(),
-        two_modules(rt.alloc(), "warn")?.as_str(),
-        ACCESS_WARNED,
-    )
-}
-
-#[test]
-fn access_allowed(rt: HostRuntime) -> Result<(), Fail> {
-    comes_out_under(
-        rt.alloc(),
-        two_modules(rt.alloc(), "allow")?.as_str(),
-        ACCESS_ALLOWED,
-    )
-}
-
-#[test]
-fn a_throw_warns_of_nothing(rt: HostRuntime) -> Result<(), Fail> {
-    comes_out_under(
-        rt.alloc(),
-        two_modules(rt.alloc(), "warn")?.as_str(),
+const ROWS: [Row; 4] = [
+    ("access_denied", Under::TwoModules("deny"), ACCESS_DENIED),
+    ("access_warned", Under::TwoModules("warn"), ACCESS_WARNED),
+    ("access_allowed", Under::TwoModules("allow"), ACCESS_ALLOWED),
+    (
+        "a_throw_warns_of_nothing",
+        Under::TwoModules("warn"),
         A_THROW_WARNS_OF_NOTHING,
-    )
+    ),
+];
+
+#[test]
+fn rows_come_out(rt: HostRuntime) -> Result<(), Fail> {
+    come_out(&rt, rt.alloc(), &ROWS)
 }

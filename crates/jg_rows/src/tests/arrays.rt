@@ -4,33 +4,8 @@ use crate::arrays::{
     A_THROW_CHANGES_NOTHING_ELSE, OBJECT_ARRAYS, REGIONS_OF_ARRAYS, VALUES_OF_TYPES,
     WRITES_OF_REGIONS,
 };
-use crate::tests::comes_out;
+use crate::tests::{Row, Under, come_out};
 use std::test::Fail;
-
-#[test]
-fn object_arrays(rt: HostRuntime) -> Result<(), Fail> {
-    comes_out(rt.alloc(), OBJECT_ARRAYS)
-}
-
-#[test]
-fn values_of_types(rt: HostRuntime) -> Result<(), Fail> {
-    comes_out(rt.alloc(), VALUES_OF_TYPES)
-}
-
-#[test]
-fn regions_of_arrays(rt: HostRuntime) -> Result<(), Fail> {
-    comes_out(rt.alloc(), REGIONS_OF_ARRAYS)
-}
-
-#[test]
-fn writes_of_regions(rt: HostRuntime) -> Result<(), Fail> {
-    comes_out(rt.alloc(), WRITES_OF_REGIONS)
-}
-
-#[test]
-fn a_throw_changes_nothing_else(rt: HostRuntime) -> Result<(), Fail> {
-    comes_out(rt.alloc(), A_THROW_CHANGES_NOTHING_ELSE)
-}
 
 const SIZES_OF_ARRAYS: &str = "T1 - AttachCurrentThread = E1.1
 T1 E1.1 NewIntArray -1 = deny 12 BadArgument
@@ -49,7 +24,20 @@ T1 E1.1 NewObjectArray 1 null null = deny 8 NullReference
 T1 E1.1 GetIntArrayRegion L1.1 999999 1 = [0]
 ";
 
+const ROWS: [Row; 6] = [
+    ("object_arrays", Under::Closed, OBJECT_ARRAYS),
+    ("values_of_types", Under::Closed, VALUES_OF_TYPES),
+    ("regions_of_arrays", Under::Closed, REGIONS_OF_ARRAYS),
+    ("writes_of_regions", Under::Closed, WRITES_OF_REGIONS),
+    (
+        "a_throw_changes_nothing_else",
+        Under::Closed,
+        A_THROW_CHANGES_NOTHING_ELSE,
+    ),
+    ("sizes_of_arrays", Under::Closed, SIZES_OF_ARRAYS),
+];
+
 #[test]
-fn sizes_of_arrays(rt: HostRuntime) -> Result<(), Fail> {
-    comes_out(rt.alloc(), SIZES_OF_ARRAYS)
+fn rows_come_out(rt: HostRuntime) -> Result<(), Fail> {
+    come_out(&rt, rt.alloc(), &ROWS)
 }

@@ -5,50 +5,42 @@ use crate::buffer_items::{
     EDGES_OF_COPIES, EDGES_OF_PINS, PINNED_BOOLEANS_BYTES_AND_CHARS, PINNED_SHORTS_INTS_AND_LONGS,
     STRINGS_ARE_NOT_WRITTEN, UNITS_AND_BYTES,
 };
-use crate::tests::comes_out;
+use crate::tests::{Row, Under, come_out};
 use std::test::Fail;
 
-#[test]
-fn edges_of_copies(rt: HostRuntime) -> Result<(), Fail> {
-    comes_out(rt.alloc(), EDGES_OF_COPIES)
-}
+const ROWS: [Row; 9] = [
+    ("edges_of_copies", Under::Closed, EDGES_OF_COPIES),
+    ("edges_of_pins", Under::Closed, EDGES_OF_PINS),
+    (
+        "copied_booleans_bytes_and_chars",
+        Under::Closed,
+        COPIED_BOOLEANS_BYTES_AND_CHARS,
+    ),
+    (
+        "copied_shorts_ints_and_longs",
+        Under::Closed,
+        COPIED_SHORTS_INTS_AND_LONGS,
+    ),
+    (
+        "pinned_booleans_bytes_and_chars",
+        Under::Closed,
+        PINNED_BOOLEANS_BYTES_AND_CHARS,
+    ),
+    (
+        "pinned_shorts_ints_and_longs",
+        Under::Closed,
+        PINNED_SHORTS_INTS_AND_LONGS,
+    ),
+    (
+        "strings_are_not_written",
+        Under::Closed,
+        STRINGS_ARE_NOT_WRITTEN,
+    ),
+    ("units_and_bytes", Under::Closed, UNITS_AND_BYTES),
+    ("a_pin_is_the_object", Under::Closed, A_PIN_IS_THE_OBJECT),
+];
 
 #[test]
-fn edges_of_pins(rt: HostRuntime) -> Result<(), Fail> {
-    comes_out(rt.alloc(), EDGES_OF_PINS)
-}
-
-#[test]
-fn copied_booleans_bytes_and_chars(rt: HostRuntime) -> Result<(), Fail> {
-    comes_out(rt.alloc(), COPIED_BOOLEANS_BYTES_AND_CHARS)
-}
-
-#[test]
-fn copied_shorts_ints_and_longs(rt: HostRuntime) -> Result<(), Fail> {
-    comes_out(rt.alloc(), COPIED_SHORTS_INTS_AND_LONGS)
-}
-
-#[test]
-fn pinned_booleans_bytes_and_chars(rt: HostRuntime) -> Result<(), Fail> {
-    comes_out(rt.alloc(), PINNED_BOOLEANS_BYTES_AND_CHARS)
-}
-
-#[test]
-fn pinned_shorts_ints_and_longs(rt: HostRuntime) -> Result<(), Fail> {
-    comes_out(rt.alloc(), PINNED_SHORTS_INTS_AND_LONGS)
-}
-
-#[test]
-fn strings_are_not_written(rt: HostRuntime) -> Result<(), Fail> {
-    comes_out(rt.alloc(), STRINGS_ARE_NOT_WRITTEN)
-}
-
-#[test]
-fn units_and_bytes(rt: HostRuntime) -> Result<(), Fail> {
-    comes_out(rt.alloc(), UNITS_AND_BYTES)
-}
-
-#[test]
-fn a_pin_is_the_object(rt: HostRuntime) -> Result<(), Fail> {
-    comes_out(rt.alloc(), A_PIN_IS_THE_OBJECT)
+fn rows_come_out(rt: HostRuntime) -> Result<(), Fail> {
+    come_out(&rt, rt.alloc(), &ROWS)
 }

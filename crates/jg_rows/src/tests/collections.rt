@@ -4,54 +4,30 @@ use crate::collections::{
     A_CYCLE_STAYS, CHAIN_AND_LEAKS, HELD_BY_A_MONITOR, HELD_BY_A_PENDING_EXCEPTION, HELD_BY_A_SLOT,
     HELD_BY_REFERENCES, THREAD_ZERO_COLLECTS, WEAK_CLEARED, WEAK_MADE_STRONG,
 };
-use crate::tests::{comes_out, comes_out_under, two_modules};
+use crate::tests::{Row, Under, come_out};
 use std::test::Fail;
 
-#[test]
-fn weak_cleared(rt: HostRuntime) -> Result<(), Fail> {
-    comes_out(rt.alloc(), WEAK_CLEARED)
-}
-
-#[test]
-fn weak_made_strong(rt: HostRuntime) -> Result<(), Fail> {
-    comes_out(rt.alloc(), WEAK_MADE_STRONG)
-}
-
-#[test]
-fn chain_and_leaks(rt: HostRuntime) -> Result<(), Fail> {
-    comes_out_under(
-        rt.alloc(),
-        two_modules(rt.alloc(), "deny")?.as_str(),
+const ROWS: [Row; 9] = [
+    ("weak_cleared", Under::Closed, WEAK_CLEARED),
+    ("weak_made_strong", Under::Closed, WEAK_MADE_STRONG),
+    (
+        "chain_and_leaks",
+        Under::TwoModules("deny"),
         CHAIN_AND_LEAKS,
-    )
-}
+    ),
+    ("a_cycle_stays", Under::Closed, A_CYCLE_STAYS),
+    ("held_by_references", Under::Closed, HELD_BY_REFERENCES),
+    (
+        "held_by_a_pending_exception",
+        Under::Closed,
+        HELD_BY_A_PENDING_EXCEPTION,
+    ),
+    ("held_by_a_monitor", Under::Closed, HELD_BY_A_MONITOR),
+    ("held_by_a_slot", Under::Closed, HELD_BY_A_SLOT),
+    ("thread_zero_collects", Under::Closed, THREAD_ZERO_COLLECTS),
+];
 
 #[test]
-fn a_cycle_stays(rt: HostRuntime) -> Result<(), Fail> {
-    comes_out(rt.alloc(), A_CYCLE_STAYS)
-}
-
-#[test]
-fn held_by_references(rt: HostRuntime) -> Result<(), Fail> {
-    comes_out(rt.alloc(), HELD_BY_REFERENCES)
-}
-
-#[test]
-fn held_by_a_pending_exception(rt: HostRuntime) -> Result<(), Fail> {
-    comes_out(rt.alloc(), HELD_BY_A_PENDING_EXCEPTION)
-}
-
-#[test]
-fn held_by_a_monitor(rt: HostRuntime) -> Result<(), Fail> {
-    comes_out(rt.alloc(), HELD_BY_A_MONITOR)
-}
-
-#[test]
-fn held_by_a_slot(rt: HostRuntime) -> Result<(), Fail> {
-    comes_out(rt.alloc(), HELD_BY_A_SLOT)
-}
-
-#[test]
-fn thread_zero_collects(rt: HostRuntime) -> Result<(), Fail> {
-    comes_out(rt.alloc(), THREAD_ZERO_COLLECTS)
+fn rows_come_out(rt: HostRuntime) -> Result<(), Fail> {
+    come_out(&rt, rt.alloc(), &ROWS)
 }

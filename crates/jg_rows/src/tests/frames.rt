@@ -4,35 +4,23 @@ use crate::frames::{
     FRAME_CAPACITIES, FRAMES_WITHIN_FRAMES, POP_OF_DEAD_RESULT, POP_WITHOUT_FRAME,
     RESULT_OF_FRAME_BELOW, RESULT_OUT_OF_FRAME,
 };
-use crate::tests::comes_out;
+use crate::tests::{Row, Under, come_out};
 use std::test::Fail;
 
-#[test]
-fn result_out_of_frame(rt: HostRuntime) -> Result<(), Fail> {
-    comes_out(rt.alloc(), RESULT_OUT_OF_FRAME)
-}
+const ROWS: [Row; 6] = [
+    ("result_out_of_frame", Under::Closed, RESULT_OUT_OF_FRAME),
+    ("frame_capacities", Under::Closed, FRAME_CAPACITIES),
+    ("pop_without_frame", Under::Closed, POP_WITHOUT_FRAME),
+    ("pop_of_dead_result", Under::Closed, POP_OF_DEAD_RESULT),
+    (
+        "result_of_frame_below",
+        Under::Closed,
+        RESULT_OF_FRAME_BELOW,
+    ),
+    ("frames_within_frames", Under::Closed, FRAMES_WITHIN_FRAMES),
+];
 
 #[test]
-fn frame_capacities(rt: HostRuntime) -> Result<(), Fail> {
-    comes_out(rt.alloc(), FRAME_CAPACITIES)
-}
-
-#[test]
-fn pop_without_frame(rt: HostRuntime) -> Result<(), Fail> {
-    comes_out(rt.alloc(), POP_WITHOUT_FRAME)
-}
-
-#[test]
-fn pop_of_dead_result(rt: HostRuntime) -> Result<(), Fail> {
-    comes_out(rt.alloc(), POP_OF_DEAD_RESULT)
-}
-
-#[test]
-fn result_of_frame_below(rt: HostRuntime) -> Result<(), Fail> {
-    comes_out(rt.alloc(), RESULT_OF_FRAME_BELOW)
-}
-
-#[test]
-fn frames_within_frames(rt: HostRuntime) -> Result<(), Fail> {
-    comes_out(rt.alloc(), FRAMES_WITHIN_FRAMES)
+fn rows_come_out(rt: HostRuntime) -> Result<(), Fail> {
+    come_out(&rt, rt.alloc(), &ROWS)
 }

@@ -1,6 +1,6 @@
 //! Every function, in a critical region and with an exception pending.
 
-use crate::tests::comes_out;
+use crate::tests::{Row, Under, come_out};
 use std::test::Fail;
 
 /// Six functions pass. No thread but the virtual machine's collects, in a region or not.
@@ -104,11 +104,6 @@ T1 E1.1 ReleaseStringCritical L1.2 B1.3 = ok
 T1 - BufferRead B1.1 0 = 0
 T1 - BufferWrite B1.1 0 7 = ok
 ";
-
-#[test]
-fn functions_in_a_region(rt: HostRuntime) -> Result<(), Fail> {
-    comes_out(rt.alloc(), FUNCTIONS_IN_A_REGION)
-}
 
 /// A call that isn't denied by rule 4 passes or breaks a later rule. Where the exception was let go,
 /// another one is thrown.
@@ -214,7 +209,20 @@ T1 - BufferWrite B1.1 0 0 = deny 11 BadBuffer
 T1 - DetachCurrentThread = ok
 ";
 
+const ROWS: [Row; 2] = [
+    (
+        "functions_in_a_region",
+        Under::Closed,
+        FUNCTIONS_IN_A_REGION,
+    ),
+    (
+        "functions_with_an_exception_pending",
+        Under::Closed,
+        FUNCTIONS_WITH_AN_EXCEPTION_PENDING,
+    ),
+];
+
 #[test]
-fn functions_with_an_exception_pending(rt: HostRuntime) -> Result<(), Fail> {
-    comes_out(rt.alloc(), FUNCTIONS_WITH_AN_EXCEPTION_PENDING)
+fn rows_come_out(rt: HostRuntime) -> Result<(), Fail> {
+    come_out(&rt, rt.alloc(), &ROWS)
 }

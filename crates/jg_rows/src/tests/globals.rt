@@ -3,20 +3,24 @@
 use crate::globals::{
     GLOBAL_OUTLIVES_ITS_THREAD, LETS_GO_WITH_AN_EXCEPTION_PENDING, LOCAL_AGAINST_GLOBAL,
 };
-use crate::tests::comes_out;
+use crate::tests::{Row, Under, come_out};
 use std::test::Fail;
 
-#[test]
-fn local_against_global(rt: HostRuntime) -> Result<(), Fail> {
-    comes_out(rt.alloc(), LOCAL_AGAINST_GLOBAL)
-}
+const ROWS: [Row; 3] = [
+    ("local_against_global", Under::Closed, LOCAL_AGAINST_GLOBAL),
+    (
+        "global_outlives_its_thread",
+        Under::Closed,
+        GLOBAL_OUTLIVES_ITS_THREAD,
+    ),
+    (
+        "lets_go_with_an_exception_pending",
+        Under::Closed,
+        LETS_GO_WITH_AN_EXCEPTION_PENDING,
+    ),
+];
 
 #[test]
-fn global_outlives_its_thread(rt: HostRuntime) -> Result<(), Fail> {
-    comes_out(rt.alloc(), GLOBAL_OUTLIVES_ITS_THREAD)
-}
-
-#[test]
-fn lets_go_with_an_exception_pending(rt: HostRuntime) -> Result<(), Fail> {
-    comes_out(rt.alloc(), LETS_GO_WITH_AN_EXCEPTION_PENDING)
+fn rows_come_out(rt: HostRuntime) -> Result<(), Fail> {
+    come_out(&rt, rt.alloc(), &ROWS)
 }

@@ -4,61 +4,56 @@ use crate::access::{ACCESS_ALLOWED, ACCESS_DENIED, ACCESS_WARNED};
 use crate::grants::{GRANTS_DENY, GRANTS_WARN};
 use crate::natives::{FRAME_OF_OTHER_ACTIVATION, LEAVE_CUTS_FRAMES};
 use crate::object_fields::FIELDS;
-use crate::setups::{GRANTS, TWO_MODULES};
-use crate::tests::{comes_out_under, two_modules};
-use jg_policy::Setup;
+use crate::tests::{Row, Under, come_out, comes_out, read_setup, text_of};
 use std::alloc::Global;
+use std::process::Abort;
 use std::test::Fail;
 
-/// The text of the setup of version 2 that grants the two modules different uses, with this mode.
-fn granted(alloc: Global, mode: &str) -> Result<String, Fail> {
-    let Some((_enabled, classes)) = TWO_MODULES.split_once("\n") else {
-        return Err(Fail::from("the setup has one line"));
-    };
-    let text = format!(in alloc;
-        "version = 2\nillegal_native_access = \"{mode}\"\n{GRANTS}{classes}"
-    )?;
-    Ok(text)
+/// The text of version 2 that the setup is written as.
+fn migrated(alloc: Global, under: Under) -> Result<String, Fail> {
+    let text = text_of(alloc, under)?;
+    Ok(read_setup(alloc, &text)?.to_version_2(alloc)?)
 }
 
-/// The row comes out under the setup, and under the text of version 2 that the setup is written as.
-fn comes_out_migrated(alloc: Global, setup: &str, text: &str) -> Result<(), Fail> {
-    comes_out_under(alloc, setup, text)?;
-    let migrated = Setup::read(alloc, setup)?.to_version_2(alloc)?;
-    comes_out_under(alloc, migrated.as_str(), text)
+/// Each row comes out under its setup, and under the text of version 2 that the setup is written as.
+fn come_out_migrated(rt: &impl Abort, alloc: Global, rows: &[Row]) -> Result<(), Fail> {
+    come_out(rt, alloc, rows)?;
+    for (name, under, text) in rows {
+        let setup = migrated(alloc, *under)?;
+        let difference = comes_out(alloc, &setup, text)?;
+        assert_eq!(rt; difference, None, "in {name}, migrated");
+    }
+    Ok(())
 }
 
-#[test]
-fn grants_deny(rt: HostRuntime) -> Result<(), Fail> {
-    comes_out_migrated(
-        rt.alloc(),
-        granted(rt.alloc(), "deny")?.as_str(),
-        GRANTS_DENY,
-    )
-}
+const GRANTED: [Row; 2] = [
+    ("grants_deny", Under::Granted("deny"), GRANTS_DENY),
+    ("grants_warn", Under::Granted("warn"), GRANTS_WARN),
+];
 
 #[test]
-fn grants_warn(rt: HostRuntime) -> Result<(), Fail> {
-    comes_out_migrated(
-        rt.alloc(),
-        granted(rt.alloc(), "warn")?.as_str(),
-        GRANTS_WARN,
-    )
+fn grants_come_out(rt: HostRuntime) -> Result<(), Fail> {
+    come_out_migrated(&rt, rt.alloc(), &GRANTED)
 }
+
+const ENABLED: [Row; 6] = [
+    (
+        "frame_of_other_activation",
+        Under::TwoModules("deny"),
+        FRAME_OF_OTHER_ACTIVATION,
+    ),
+    (
+        "leave_cuts_frames",
+        Under::TwoModules("deny"),
+        LEAVE_CUTS_FRAMES,
+    ),
+    ("fields", Under::TwoModules("deny"), FIELDS),
+    ("access_denied", Under::TwoModules("deny"), ACCESS_DENIED),
+    ("access_warned", Under::TwoModules("warn"), ACCESS_WARNED),
+    ("access_allowed", Under::TwoModules("allow"), ACCESS_ALLOWED),
+];
 
 #[test]
 fn migrated_setups(rt: HostRuntime) -> Result<(), Fail> {
-    let rows = [
-        ("deny", FRAME_OF_OTHER_ACTIVATION),
-        ("deny", LEAVE_CUTS_FRAMES),
-        ("deny", FIELDS),
-        ("deny", ACCESS_DENIED),
-        ("warn", ACCESS_WARNED),
-        ("allow", ACCESS_ALLOWED),
-    ];
-    for (mode, text) in rows {
-        let setup = two_modules(rt.alloc(), mode)?;
-        comes_out_migrated(rt.alloc(), setup.as_str(), text)?;
-    }
-    Ok(())
+    come_out_migrated(&rt, rt.alloc(), &ENABLED)
 }

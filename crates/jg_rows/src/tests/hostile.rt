@@ -3,46 +3,45 @@
 use crate::critical_regions::NESTED_CRITICAL;
 use crate::setups::CLOSED;
 use crate::strings::MODIFIED_UTF8;
-use crate::tests::{Ended, answers, comes_out, ends, is_found, script_of};
-use jg_guard::Guard;
-use jg_policy::Setup;
-use jg_script::{Faulty, RunFault, ScriptFault, Verdict, Watched, check};
+use crate::tests::{
+    Difference, Ended, Row, Under, answers, check_anew, come_out, end_so, is_found, script_of,
+};
+use jg_script::{Faulty, RunFault, ScriptFault, Verdict, Watched};
 use std::alloc::{AllocError, Global};
 use std::io::{BufRead, BufReader};
+use std::process::Abort;
 use std::test::Fail;
 
-const CUT_LIST: Ended = Ended {
-    limit: 100,
-    script: "T1 - AttachCurrentThread\nT1 E1.1 NewString [1",
-    text: "T1 - AttachCurrentThread = E1.1\n",
-    result: Err(RunFault::Script {
-        line: 2,
-        fault: ScriptFault::BadOperand,
-    }),
-};
-
-const CARRIAGE_RETURN: Ended = Ended {
-    limit: 100,
-    script: "T1 - GetEnv\r\n",
-    text: "",
-    result: Err(RunFault::Script {
-        line: 1,
-        fault: ScriptFault::NotAscii,
-    }),
-};
-
-#[test]
-fn a_list_is_cut(rt: HostRuntime) -> Result<(), Fail> {
-    ends(rt.alloc(), &CUT_LIST)
-}
+const SCRIPTS: [Ended; 2] = [
+    (
+        "a_list_is_cut",
+        100,
+        "T1 - AttachCurrentThread\nT1 E1.1 NewString [1",
+        "T1 - AttachCurrentThread = E1.1\n",
+        Err(RunFault::Script {
+            line: 2,
+            fault: ScriptFault::BadOperand,
+        }),
+    ),
+    (
+        "a_line_ends_with_a_carriage_return",
+        100,
+        "T1 - GetEnv\r\n",
+        "",
+        Err(RunFault::Script {
+            line: 1,
+            fault: ScriptFault::NotAscii,
+        }),
+    ),
+];
 
 #[test]
-fn a_line_ends_with_a_carriage_return(rt: HostRuntime) -> Result<(), Fail> {
-    ends(rt.alloc(), &CARRIAGE_RETURN)
+fn scripts_end_so(rt: HostRuntime) -> Result<(), Fail> {
+    end_so(&rt, rt.alloc(), &SCRIPTS)
 }
 
-/// So many letters and no line feed are this fault of the first line.
-fn letters_are(alloc: Global, count: usize, fault: ScriptFault) -> Result<(), Fail> {
+/// What isn't so where so many letters and no line feed are this fault of the first line.
+fn letters_are(alloc: Global, count: usize, fault: ScriptFault) -> Result<Difference, Fail> {
     let script = vec![in alloc; b'T'; count]?;
     let ended = Err(RunFault::Script { line: 1, fault });
     answers(alloc, CLOSED, 100, &script, "", ended)
@@ -50,8 +49,14 @@ fn letters_are(alloc: Global, count: usize, fault: ScriptFault) -> Result<(), Fa
 
 #[test]
 fn letters_without_a_line_feed(rt: HostRuntime) -> Result<(), Fail> {
-    letters_are(rt.alloc(), 65_536, ScriptFault::NoThread)?;
-    letters_are(rt.alloc(), 65_537, ScriptFault::LineTooLong)
+    let scripts = [
+        (65_536usize, ScriptFault::NoThread),
+        (65_537, ScriptFault::LineTooLong),
+    ];
+    for (count, fault) in scripts {
+        assert_eq!(rt; letters_are(rt.alloc(), count, fault)?, None, "of {count}");
+    }
+    Ok(())
 }
 
 /// References that nobody was handed, and a field of a class that nobody stated.
@@ -63,9 +68,11 @@ T1 E1.1 NewString [] = L1.1
 T1 E1.1 GetIntField L1.1 F4294967295.1 = deny 10 BadField
 ";
 
+const ROWS: [Row; 1] = [("forged_names", Under::Closed, FORGED_NAMES)];
+
 #[test]
-fn forged_names(rt: HostRuntime) -> Result<(), Fail> {
-    comes_out(rt.alloc(), FORGED_NAMES)
+fn rows_come_out(rt: HostRuntime) -> Result<(), Fail> {
+    come_out(&rt, rt.alloc(), &ROWS)
 }
 
 fn feeds(bytes: &[u8]) -> u64 {
@@ -99,13 +106,9 @@ fn told<R: BufRead + Drop>(
     script: R,
     out: Faulty,
 ) -> Result<(Result<u64, RunFault>, Vec<u8>), Fail> {
-    let Ok(setup) = Setup::read(alloc, CLOSED) else {
-        return Err(Fail::from("the setup isn't one"));
-    };
-    let mut guard = Guard::new(alloc, alloc, setup, 100)?;
     let mut reader = Watched::new(script);
     let mut writer = Watched::new(out);
-    let result = check(alloc, &mut guard, &mut reader, &mut writer);
+    let result = check_anew(alloc, CLOSED, 100, &mut reader, &mut writer)?;
     Ok((result, writer.into_inner().into_bytes()))
 }
 
@@ -114,50 +117,70 @@ fn answered<R: BufRead + Drop>(
     alloc: Global,
     script: R,
 ) -> Result<(Result<u64, RunFault>, Vec<u8>), Fail> {
-    told(alloc, script, faulty(alloc, b"", usize::MAX, 4096)?)
+    let out = faulty(alloc, b"", usize::MAX, 4096)?;
+    told(alloc, script, out)
 }
 
-/// Cut after so many bytes the script is answered up to its last whole line. What is left of a line
+/// Cut into these two parts the script is answered up to the front's last whole line. What is left of a line
 /// is answered where it lacks but the line feed, and is a fault of its line elsewhere.
-fn ends_where_cut(alloc: Global, script: &[u8], text: &str, at: usize) -> Result<bool, Fail> {
-    let (front, rest) = script.split_at(at.min(script.len()));
+fn is_answer_to_cut(
+    ended: Result<u64, RunFault>,
+    written: &[u8],
+    text: &str,
+    front: &[u8],
+    rest: &[u8],
+) -> bool {
     let lines = feeds(front);
     let next = lines.saturating_add(1);
-    let (result, written) = answered(alloc, front)?;
-    Ok(match result {
-        Ok(count) if is_whole(front) => count == lines && is_front(&written, text, lines),
-        Ok(count) => { rest.starts_with(b"\n") && count == next && is_front(&written, text, next) }
+    match ended {
+        Ok(count) if is_whole(front) => count == lines && is_front(written, text, lines),
+        Ok(count) => rest.starts_with(b"\n") && count == next && is_front(written, text, next),
         Err(RunFault::Script { line, .. }) => {
             !is_whole(front)
                 && !rest.starts_with(b"\n")
                 && line == next
-                && is_front(&written, text, lines)
+                && is_front(written, text, lines)
         }
         Err(_) => false,
-    })
+    }
+}
+
+fn ends_where_cut(alloc: Global, script: &[u8], text: &str, at: usize) -> Result<bool, Fail> {
+    let (front, rest) = script.split_at(at.min(script.len()));
+    let (result, written) = answered(alloc, front)?;
+    Ok(is_answer_to_cut(result, &written, text, front, rest))
+}
+
+fn is_cut(rt: &impl Abort, alloc: Global, script: &[u8], text: &str) -> Result<(), Fail> {
+    for at in 0..=script.len() {
+        assert!(rt;
+            ends_where_cut(alloc, script, text, at)?,
+            "after {at} bytes"
+        );
+    }
+    Ok(())
 }
 
 #[test]
 fn nested_critical_is_cut_after_each_byte(rt: HostRuntime) -> Result<(), Fail> {
     let script = script_of(rt.alloc(), NESTED_CRITICAL)?;
-    for at in 0..=script.len() {
-        let is_right = ends_where_cut(rt.alloc(), &script, NESTED_CRITICAL, at)?;
-        assert!(rt; is_right, "after {at} bytes");
-    }
-    Ok(())
+    is_cut(&rt, rt.alloc(), &script, NESTED_CRITICAL)
+}
+
+/// How many reads of so many bytes find the end of the script.
+fn reads_of(script: &[u8], most: usize) -> usize {
+    script.len().div_ceil(most.max(1)).saturating_add(2)
 }
 
 /// So many reads of at most `most` bytes each, and then a failure: the lines that were read whole
 /// are answered, and the next one is named. Two reads more than the bytes need find the end.
-fn ends_where_unread(
-    alloc: Global,
+fn is_answer_to_reads(
+    ended: Result<u64, RunFault>,
+    written: &[u8],
     script: &[u8],
     text: &str,
-    reads: usize,
-    most: usize,
-) -> Result<bool, Fail> {
-    let reader = BufReader::with_capacity(alloc, 64, faulty(alloc, script, reads, most)?)?;
-    let (result, written) = answered(alloc, reader)?;
+    (reads, most): (usize, usize),
+) -> bool {
     let (front, _) = script.split_at(reads.saturating_mul(most).min(script.len()));
     let lines = feeds(front);
     let right = if reads < reads_of(script, most) {
@@ -166,50 +189,87 @@ fn ends_where_unread(
     } else {
         Ok(lines)
     };
-    Ok(result == right && is_front(&written, text, lines))
+    ended == right && is_front(written, text, lines)
 }
 
-/// How many reads of so many bytes find the end of the script.
-fn reads_of(script: &[u8], most: usize) -> usize {
-    script.len().div_ceil(most.max(1)).saturating_add(2)
+fn ends_where_unread(
+    alloc: Global,
+    script: &[u8],
+    text: &str,
+    (reads, most): (usize, usize),
+) -> Result<bool, Fail> {
+    let device = faulty(alloc, script, reads, most)?;
+    let reader = BufReader::with_capacity(alloc, 64, device)?;
+    let (result, written) = answered(alloc, reader)?;
+    Ok(is_answer_to_reads(result, &written, script, text, (reads, most)))
+}
+
+fn is_unread(rt: &impl Abort, alloc: Global, script: &[u8], text: &str) -> Result<(), Fail> {
+    for most in [1usize, 5] {
+        for reads in 0..=reads_of(script, most) {
+            let is_right = ends_where_unread(alloc, script, text, (reads, most))?;
+            assert!(rt; is_right, "after {reads} reads of {most} bytes");
+        }
+    }
+    Ok(())
 }
 
 #[test]
 fn each_read_fails_in_turn(rt: HostRuntime) -> Result<(), Fail> {
     for text in [NESTED_CRITICAL, MODIFIED_UTF8] {
         let script = script_of(rt.alloc(), text)?;
-        for most in [1usize, 5] {
-            for reads in 0..=reads_of(&script, most) {
-                let is_right = ends_where_unread(rt.alloc(), &script, text, reads, most)?;
-                assert!(rt; is_right, "after {reads} reads of {most} bytes");
-            }
-        }
+        is_unread(&rt, rt.alloc(), &script, text)?;
     }
     Ok(())
 }
 
-/// How many bytes of the text are written by so many writes of at most `most` bytes each, before one
-/// fails. The line that isn't written in full is named.
-fn written_by(
-    alloc: Global,
-    script: &[u8],
-    text: &str,
-    writes: usize,
-    most: usize,
-) -> Result<usize, Fail> {
-    let (result, written) = told(alloc, script, faulty(alloc, b"", writes, most)?)?;
-    let lines = feeds(&written);
+/// The line that isn't written in full is named.
+fn is_answer_to_writes(ended: Result<u64, RunFault>, written: &[u8], text: &str) -> bool {
+    let lines = feeds(written);
     let right = if written.len() < text.len() {
         let line = lines.saturating_add(1);
         Err(RunFault::Write { line })
     } else {
         Ok(lines)
     };
-    if result == right && text.as_bytes().starts_with(&written) {
+    ended == right && text.as_bytes().starts_with(written)
+}
+
+/// How many bytes of the text are written by so many writes of at most `most` bytes each, before one
+/// fails.
+fn written_by(
+    alloc: Global,
+    script: &[u8],
+    text: &str,
+    (writes, most): (usize, usize),
+) -> Result<usize, Fail> {
+    let device = faulty(alloc, b"", writes, most)?;
+    let (result, written) = told(alloc, script, device)?;
+    if is_answer_to_writes(result, &written, text) {
         Ok(written.len())
     } else {
         Err(Fail::from("another line is named, or another text is written"))
     }
+}
+
+fn is_unwritten(
+    rt: &impl Abort,
+    alloc: Global,
+    script: &[u8],
+    text: &str,
+    most: usize,
+) -> Result<(), Fail> {
+    assert_eq!(rt; written_by(alloc, script, text, (0, most))?, 0);
+    let mut before = 0usize;
+    for writes in 1..=text.len() {
+        let written = written_by(alloc, script, text, (writes, most))?;
+        let grows = before < written && written <= before.saturating_add(most);
+        let is_right = grows || before == text.len();
+        assert!(rt; is_right, "after {writes} writes of {most} bytes");
+        before = written;
+    }
+    assert_eq!(rt; before, text.len(), "by {most} bytes");
+    Ok(())
 }
 
 #[test]
@@ -217,19 +277,26 @@ fn each_write_fails_in_turn(rt: HostRuntime) -> Result<(), Fail> {
     for text in [NESTED_CRITICAL, MODIFIED_UTF8] {
         let script = script_of(rt.alloc(), text)?;
         for most in [1usize, 5] {
-            let mut before = 0usize;
-            for writes in 1..=text.len() {
-                let written = written_by(rt.alloc(), &script, text, writes, most)?;
-                let grows = before < written && written <= before.saturating_add(most);
-                let is_right = grows || before == text.len();
-                assert!(rt; is_right, "after {writes} writes of {most} bytes");
-                before = written;
-            }
-            assert_eq!(rt; before, text.len(), "by {most} bytes");
-            assert_eq!(rt; written_by(rt.alloc(), &script, text, 0, most)?, 0);
+            is_unwritten(&rt, rt.alloc(), &script, text, most)?;
         }
     }
     Ok(())
+}
+
+/// The text with the byte at this place altered to `#`.
+fn with_a_hash(alloc: Global, text: &[u8], at: usize) -> Result<Vec<u8>, AllocError> {
+    let mut altered = Vec::new(alloc);
+    for (place, byte) in text.iter().enumerate() {
+        altered.push(if place == at { b'#' } else { *byte })?;
+    }
+    Ok(altered)
+}
+
+fn is_found_in_its_line(alloc: Global, text: &[u8], at: usize) -> Result<bool, Fail> {
+    let altered = with_a_hash(alloc, text, at)?;
+    let (before, _) = text.split_at(at.min(text.len()));
+    let verdict = Verdict::Differs(feeds(before).saturating_add(1));
+    is_found(alloc, CLOSED, &altered, verdict)
 }
 
 /// A byte altered to `#` is found in the line in which it stands, and a line feed in the line that
@@ -237,14 +304,8 @@ fn each_write_fails_in_turn(rt: HostRuntime) -> Result<(), Fail> {
 #[test]
 fn each_altered_byte_is_found_in_its_line(rt: HostRuntime) -> Result<(), Fail> {
     let text = NESTED_CRITICAL.as_bytes();
-    for (at, _) in text.iter().enumerate() {
-        let (before, rest) = text.split_at(at);
-        let mut altered = Vec::new(rt.alloc());
-        altered.extend_from_slice(before)?;
-        altered.push(b'#')?;
-        altered.extend_from_slice(&rest[1..])?;
-        let verdict = Verdict::Differs(feeds(before).saturating_add(1));
-        is_found(rt.alloc(), CLOSED, &altered, verdict)?;
+    for at in 0..text.len() {
+        assert!(rt; is_found_in_its_line(rt.alloc(), text, at)?, "at {at}");
     }
     Ok(())
 }

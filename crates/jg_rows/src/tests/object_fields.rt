@@ -1,7 +1,7 @@
 //! Fields of objects.
 
 use crate::object_fields::{FIELDS, FIELDS_OF_EACH_TYPE, FIELDS_OF_OBJECTS, FIELDS_OF_OTHERS};
-use crate::tests::{comes_out_under, two_modules};
+use crate::tests::{Row, Under, come_out};
 use std::test::Fail;
 
 /// A setup with a field of each primitive type.
@@ -20,34 +20,26 @@ fields = [
 ]
 ";
 
-#[test]
-fn fields(rt: HostRuntime) -> Result<(), Fail> {
-    comes_out_under(
-        rt.alloc(),
-        two_modules(rt.alloc(), "deny")?.as_str(),
-        FIELDS,
-    )
-}
-
-#[test]
-fn fields_of_objects(rt: HostRuntime) -> Result<(), Fail> {
-    comes_out_under(
-        rt.alloc(),
-        two_modules(rt.alloc(), "deny")?.as_str(),
+const ROWS: [Row; 4] = [
+    ("fields", Under::TwoModules("deny"), FIELDS),
+    (
+        "fields_of_objects",
+        Under::TwoModules("deny"),
         FIELDS_OF_OBJECTS,
-    )
-}
-
-#[test]
-fn fields_of_others(rt: HostRuntime) -> Result<(), Fail> {
-    comes_out_under(
-        rt.alloc(),
-        two_modules(rt.alloc(), "deny")?.as_str(),
+    ),
+    (
+        "fields_of_others",
+        Under::TwoModules("deny"),
         FIELDS_OF_OTHERS,
-    )
-}
+    ),
+    (
+        "fields_of_each_type",
+        Under::Text(ALL_TYPES),
+        FIELDS_OF_EACH_TYPE,
+    ),
+];
 
 #[test]
-fn fields_of_each_type(rt: HostRuntime) -> Result<(), Fail> {
-    comes_out_under(rt.alloc(), ALL_TYPES, FIELDS_OF_EACH_TYPE)
+fn rows_come_out(rt: HostRuntime) -> Result<(), Fail> {
+    come_out(&rt, rt.alloc(), &ROWS)
 }

@@ -1,20 +1,20 @@
 //! Classes and objects.
 
 use crate::objects::{CLASSES_AND_INSTANCES, THROWN_CLASSES, WRONG_TYPES};
-use crate::tests::comes_out;
+use crate::tests::{Row, Under, come_out};
 use std::test::Fail;
 
-#[test]
-fn classes_and_instances(rt: HostRuntime) -> Result<(), Fail> {
-    comes_out(rt.alloc(), CLASSES_AND_INSTANCES)
-}
+const ROWS: [Row; 3] = [
+    (
+        "classes_and_instances",
+        Under::Closed,
+        CLASSES_AND_INSTANCES,
+    ),
+    ("thrown_classes", Under::Closed, THROWN_CLASSES),
+    ("wrong_types", Under::Closed, WRONG_TYPES),
+];
 
 #[test]
-fn thrown_classes(rt: HostRuntime) -> Result<(), Fail> {
-    comes_out(rt.alloc(), THROWN_CLASSES)
-}
-
-#[test]
-fn wrong_types(rt: HostRuntime) -> Result<(), Fail> {
-    comes_out(rt.alloc(), WRONG_TYPES)
+fn rows_come_out(rt: HostRuntime) -> Result<(), Fail> {
+    come_out(&rt, rt.alloc(), &ROWS)
 }

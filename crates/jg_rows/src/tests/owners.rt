@@ -1,15 +1,15 @@
 //! Monitors.
 
 use crate::owners::{BUSY_UNTIL_DETACHED, MONITORS};
-use crate::tests::comes_out;
+use crate::tests::{Row, Under, come_out};
 use std::test::Fail;
 
-#[test]
-fn monitors(rt: HostRuntime) -> Result<(), Fail> {
-    comes_out(rt.alloc(), MONITORS)
-}
+const ROWS: [Row; 2] = [
+    ("monitors", Under::Closed, MONITORS),
+    ("busy_until_detached", Under::Closed, BUSY_UNTIL_DETACHED),
+];
 
 #[test]
-fn busy_until_detached(rt: HostRuntime) -> Result<(), Fail> {
-    comes_out(rt.alloc(), BUSY_UNTIL_DETACHED)
+fn rows_come_out(rt: HostRuntime) -> Result<(), Fail> {
+    come_out(&rt, rt.alloc(), &ROWS)
 }

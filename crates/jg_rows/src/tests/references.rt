@@ -3,30 +3,18 @@
 use crate::references::{
     DELETED_TWICE, FOREIGN_BEFORE_DEAD, KINDS_OF_REFERENCES, NEVER_MADE, SAME_OBJECT,
 };
-use crate::tests::comes_out;
+use crate::tests::{Row, Under, come_out};
 use std::test::Fail;
 
-#[test]
-fn foreign_before_dead(rt: HostRuntime) -> Result<(), Fail> {
-    comes_out(rt.alloc(), FOREIGN_BEFORE_DEAD)
-}
+const ROWS: [Row; 5] = [
+    ("foreign_before_dead", Under::Closed, FOREIGN_BEFORE_DEAD),
+    ("same_object", Under::Closed, SAME_OBJECT),
+    ("kinds_of_references", Under::Closed, KINDS_OF_REFERENCES),
+    ("deleted_twice", Under::Closed, DELETED_TWICE),
+    ("never_made", Under::Closed, NEVER_MADE),
+];
 
 #[test]
-fn same_object(rt: HostRuntime) -> Result<(), Fail> {
-    comes_out(rt.alloc(), SAME_OBJECT)
-}
-
-#[test]
-fn kinds_of_references(rt: HostRuntime) -> Result<(), Fail> {
-    comes_out(rt.alloc(), KINDS_OF_REFERENCES)
-}
-
-#[test]
-fn deleted_twice(rt: HostRuntime) -> Result<(), Fail> {
-    comes_out(rt.alloc(), DELETED_TWICE)
-}
-
-#[test]
-fn never_made(rt: HostRuntime) -> Result<(), Fail> {
-    comes_out(rt.alloc(), NEVER_MADE)
+fn rows_come_out(rt: HostRuntime) -> Result<(), Fail> {
+    come_out(&rt, rt.alloc(), &ROWS)
 }

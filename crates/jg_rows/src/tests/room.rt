@@ -4,39 +4,27 @@ use crate::room::{
     CAPACITIES_ASKED, DELETED_IN_AN_OUTER_FRAME, ROOM_ASKED_BELOW, ROOM_OF_FRAMES, ROOM_OF_NATIVES,
     ROOM_OF_SIXTEEN,
 };
-use crate::tests::{comes_out, comes_out_under, two_modules};
+use crate::tests::{Row, Under, come_out};
 use std::test::Fail;
 
-#[test]
-fn room_of_frames(rt: HostRuntime) -> Result<(), Fail> {
-    comes_out(rt.alloc(), ROOM_OF_FRAMES)
-}
-
-#[test]
-fn room_of_sixteen(rt: HostRuntime) -> Result<(), Fail> {
-    comes_out(rt.alloc(), ROOM_OF_SIXTEEN)
-}
-
-#[test]
-fn room_asked_below(rt: HostRuntime) -> Result<(), Fail> {
-    comes_out(rt.alloc(), ROOM_ASKED_BELOW)
-}
-
-#[test]
-fn deleted_in_an_outer_frame(rt: HostRuntime) -> Result<(), Fail> {
-    comes_out(rt.alloc(), DELETED_IN_AN_OUTER_FRAME)
-}
-
-#[test]
-fn capacities_asked(rt: HostRuntime) -> Result<(), Fail> {
-    comes_out(rt.alloc(), CAPACITIES_ASKED)
-}
-
-#[test]
-fn room_of_natives(rt: HostRuntime) -> Result<(), Fail> {
-    comes_out_under(
-        rt.alloc(),
-        two_modules(rt.alloc(), "deny")?.as_str(),
+const ROWS: [Row; 6] = [
+    ("room_of_frames", Under::Closed, ROOM_OF_FRAMES),
+    ("room_of_sixteen", Under::Closed, ROOM_OF_SIXTEEN),
+    ("room_asked_below", Under::Closed, ROOM_ASKED_BELOW),
+    (
+        "deleted_in_an_outer_frame",
+        Under::Closed,
+        DELETED_IN_AN_OUTER_FRAME,
+    ),
+    ("capacities_asked", Under::Closed, CAPACITIES_ASKED),
+    (
+        "room_of_natives",
+        Under::TwoModules("deny"),
         ROOM_OF_NATIVES,
-    )
+    ),
+];
+
+#[test]
+fn rows_come_out(rt: HostRuntime) -> Result<(), Fail> {
+    come_out(&rt, rt.alloc(), &ROWS)
 }

@@ -1,14 +1,16 @@
 //! Every rule.
 
 use crate::rules::THE_SEVENTEEN_RULES;
-use crate::tests::{comes_out_under, two_modules};
+use crate::tests::{Row, Under, come_out};
 use std::test::Fail;
 
+const ROWS: [Row; 1] = [(
+    "the_seventeen_rules",
+    Under::TwoModules("deny"),
+    THE_SEVENTEEN_RULES,
+)];
+
 #[test]
-fn the_seventeen_rules(rt: HostRuntime) -> Result<(), Fail> {
-    comes_out_under(
-        rt.alloc(),
-        two_modules(rt.alloc(), "deny")?.as_str(),
-        THE_SEVENTEEN_RULES,
-    )
+fn rows_come_out(rt: HostRuntime) -> Result<(), Fail> {
+    come_out(&rt, rt.alloc(), &ROWS)
 }

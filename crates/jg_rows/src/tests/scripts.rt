@@ -1,56 +1,51 @@
 //! Scripts that end at once or by a fault.
 
-use crate::tests::{Ended, ends};
+use crate::tests::{Ended, end_so};
 use jg_script::{RunFault, ScriptFault};
 use std::test::Fail;
 
-const EMPTY_SCRIPT: Ended = Ended {
-    limit: 100,
-    script: "",
-    text: "",
-    result: Ok(0),
-};
-
-#[test]
-fn empty_script(rt: HostRuntime) -> Result<(), Fail> {
-    ends(rt.alloc(), &EMPTY_SCRIPT)
-}
-
-const LIMIT_THREE: Ended = Ended {
-    limit: 3,
-    script: "T1 - AttachCurrentThread
+const FOUR_CALLS: &str = "T1 - AttachCurrentThread
 T1 E1.1 NewString [1]
 T1 E1.1 GetStringLength L1.1
 T1 E1.1 DeleteLocalRef L1.1
-",
-    text: "T1 - AttachCurrentThread = E1.1
+";
+
+const THREE_ANSWERED: &str = "T1 - AttachCurrentThread = E1.1
 T1 E1.1 NewString [1] = L1.1
 T1 E1.1 GetStringLength L1.1 = 1
-",
-    result: Err(RunFault::Limit { line: 4 }),
-};
+";
 
-#[test]
-fn limit_three(rt: HostRuntime) -> Result<(), Fail> {
-    ends(rt.alloc(), &LIMIT_THREE)
-}
-
-const UNKNOWN_FUNCTION: Ended = Ended {
-    limit: 100,
-    script: "T1 - AttachCurrentThread
+const FLYING: &str = "T1 - AttachCurrentThread
 T1 E1.1 NewString []
 T1 E1.1 Fly
-",
-    text: "T1 - AttachCurrentThread = E1.1
+";
+
+const TWO_ANSWERED: &str = "T1 - AttachCurrentThread = E1.1
 T1 E1.1 NewString [] = L1.1
-",
-    result: Err(RunFault::Script {
-        line: 3,
-        fault: ScriptFault::UnknownFunction,
-    }),
-};
+";
+
+const SCRIPTS: [Ended; 3] = [
+    ("empty_script", 100, "", "", Ok(0)),
+    (
+        "limit_three",
+        3,
+        FOUR_CALLS,
+        THREE_ANSWERED,
+        Err(RunFault::Limit { line: 4 }),
+    ),
+    (
+        "unknown_function",
+        100,
+        FLYING,
+        TWO_ANSWERED,
+        Err(RunFault::Script {
+            line: 3,
+            fault: ScriptFault::UnknownFunction,
+        }),
+    ),
+];
 
 #[test]
-fn unknown_function(rt: HostRuntime) -> Result<(), Fail> {
-    ends(rt.alloc(), &UNKNOWN_FUNCTION)
+fn scripts_end_so(rt: HostRuntime) -> Result<(), Fail> {
+    end_so(&rt, rt.alloc(), &SCRIPTS)
 }

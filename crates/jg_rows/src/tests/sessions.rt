@@ -4,35 +4,27 @@ use crate::sessions::{
     ATTACH_NO_OPS, FIRST_TWO_RULES, GETENV_WITH_ENVIRONMENT, NOTHING_OUTLIVES_A_SESSION,
     OTHER_ENVIRONMENTS, THREAD_ZERO,
 };
-use crate::tests::comes_out;
+use crate::tests::{Row, Under, come_out};
 use std::test::Fail;
 
-#[test]
-fn attach_no_ops(rt: HostRuntime) -> Result<(), Fail> {
-    comes_out(rt.alloc(), ATTACH_NO_OPS)
-}
+const ROWS: [Row; 6] = [
+    ("attach_no_ops", Under::Closed, ATTACH_NO_OPS),
+    ("other_environments", Under::Closed, OTHER_ENVIRONMENTS),
+    (
+        "getenv_with_environment",
+        Under::Closed,
+        GETENV_WITH_ENVIRONMENT,
+    ),
+    ("thread_zero", Under::Closed, THREAD_ZERO),
+    (
+        "nothing_outlives_a_session",
+        Under::Closed,
+        NOTHING_OUTLIVES_A_SESSION,
+    ),
+    ("first_two_rules", Under::Closed, FIRST_TWO_RULES),
+];
 
 #[test]
-fn other_environments(rt: HostRuntime) -> Result<(), Fail> {
-    comes_out(rt.alloc(), OTHER_ENVIRONMENTS)
-}
-
-#[test]
-fn getenv_with_environment(rt: HostRuntime) -> Result<(), Fail> {
-    comes_out(rt.alloc(), GETENV_WITH_ENVIRONMENT)
-}
-
-#[test]
-fn thread_zero(rt: HostRuntime) -> Result<(), Fail> {
-    comes_out(rt.alloc(), THREAD_ZERO)
-}
-
-#[test]
-fn nothing_outlives_a_session(rt: HostRuntime) -> Result<(), Fail> {
-    comes_out(rt.alloc(), NOTHING_OUTLIVES_A_SESSION)
-}
-
-#[test]
-fn first_two_rules(rt: HostRuntime) -> Result<(), Fail> {
-    comes_out(rt.alloc(), FIRST_TWO_RULES)
+fn rows_come_out(rt: HostRuntime) -> Result<(), Fail> {
+    come_out(&rt, rt.alloc(), &ROWS)
 }

@@ -3,30 +3,18 @@
 use crate::strings::{
     FIRST_PATH, LENGTHS_OF_STRINGS, MODIFIED_UTF8, REGIONS_OF_STRINGS, UNITS_OF_STRINGS,
 };
-use crate::tests::comes_out;
+use crate::tests::{Row, Under, come_out};
 use std::test::Fail;
 
-#[test]
-fn first_path(rt: HostRuntime) -> Result<(), Fail> {
-    comes_out(rt.alloc(), FIRST_PATH)
-}
+const ROWS: [Row; 5] = [
+    ("first_path", Under::Closed, FIRST_PATH),
+    ("units_of_strings", Under::Closed, UNITS_OF_STRINGS),
+    ("lengths_of_strings", Under::Closed, LENGTHS_OF_STRINGS),
+    ("modified_utf8", Under::Closed, MODIFIED_UTF8),
+    ("regions_of_strings", Under::Closed, REGIONS_OF_STRINGS),
+];
 
 #[test]
-fn units_of_strings(rt: HostRuntime) -> Result<(), Fail> {
-    comes_out(rt.alloc(), UNITS_OF_STRINGS)
-}
-
-#[test]
-fn lengths_of_strings(rt: HostRuntime) -> Result<(), Fail> {
-    comes_out(rt.alloc(), LENGTHS_OF_STRINGS)
-}
-
-#[test]
-fn modified_utf8(rt: HostRuntime) -> Result<(), Fail> {
-    comes_out(rt.alloc(), MODIFIED_UTF8)
-}
-
-#[test]
-fn regions_of_strings(rt: HostRuntime) -> Result<(), Fail> {
-    comes_out(rt.alloc(), REGIONS_OF_STRINGS)
+fn rows_come_out(rt: HostRuntime) -> Result<(), Fail> {
+    come_out(&rt, rt.alloc(), &ROWS)
 }

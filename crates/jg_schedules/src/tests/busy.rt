@@ -1,5 +1,7 @@
-use super::plays::{Plan, run};
+use super::plays::{Plan, Played, run};
 use super::schedule::{Event, Hold};
+use jg_rows::setups::CLOSED;
+use std::alloc::Global;
 use std::test::Fail;
 
 const SCRIPT: &str = "T1 - AttachCurrentThread
@@ -33,16 +35,23 @@ T2 E2.1 MonitorEnter G1.2 = busy
 T2 E2.1 ExceptionCheck = false
 ";
 
+/// Whether each thread was told so.
+fn is_told(alloc: Global, played: &Played) -> Result<[bool; 2], Fail> {
+    let first = played.lines_of(alloc, "T1 ")?;
+    let second = played.lines_of(alloc, "T2 ")?;
+    Ok([first.as_str() == FIRST_TOLD, second.as_str() == SECOND_TOLD])
+}
+
 #[test]
 fn busy_three_times(rt: HostRuntime) -> Result<(), Fail> {
     let plan = Plan {
+        setup: CLOSED,
         script: SCRIPT,
         holds: &HOLDS,
         limit: 100,
         turns: 3,
     };
     let played = run(&rt, rt.alloc(), plan)?;
-    assert_eq!(rt; played.lines_of(rt.alloc(), "T1 ")?.as_str(), FIRST_TOLD);
-    assert_eq!(rt; played.lines_of(rt.alloc(), "T2 ")?.as_str(), SECOND_TOLD);
+    assert_eq!(rt; is_told(rt.alloc(), &played)?, [true; 2]);
     Ok(())
 }

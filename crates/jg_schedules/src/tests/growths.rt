@@ -1,4 +1,5 @@
 use super::plays::{Ended, Plan, run};
+use jg_rows::setups::CLOSED;
 use jg_shell::Stop;
 use std::test::Fail;
 
@@ -21,6 +22,7 @@ fn has_ended(worker: &Ended) -> bool {
 #[test]
 fn a_play_ends_or_is_stopped_for_want_of_memory(rt: HostRuntime) -> Result<(), Fail> {
     let plan = Plan {
+        setup: CLOSED,
         script: SCRIPT,
         holds: &[],
         limit: 100,

@@ -1,7 +1,11 @@
 use super::plays::{Plan, Played, run};
 use super::schedule::{Event, Hold};
+use jg_rows::setups::CLOSED;
 use jg_shell::Stop;
+use std::alloc::Global;
+use std::sync::Wait;
 use std::test::Fail;
+use std::thread::Threads;
 
 const SCRIPT: &str = "T1 - AttachCurrentThread
 T1 E1.1 ExceptionCheck
@@ -54,6 +58,41 @@ fn receipts(played: &Played) -> Option<(usize, usize)> {
     Some((receipts, stopped))
 }
 
+/// What isn't so where five calls were made, and the first workers have so many receipts; nothing where all is.
+fn difference(played: &Played, wanted: &[usize]) -> Option<&'static str> {
+    if played.journal.lines().count() != 5 {
+        return Some("the journal has another length");
+    }
+    let Some((receipts, stopped)) = receipts(played) else {
+        return Some("a stop has another cause");
+    };
+    let mut workers = played.workers.iter().zip(wanted);
+    if receipts != 5 || stopped < 3 {
+        Some("there are other receipts, or fewer are stopped")
+    } else if workers.any(|(worker, count)| worker.receipts != *count) {
+        Some("a worker has another number of receipts")
+    } else {
+        None
+    }
+}
+
+fn difference_in<T: Threads + Wait + Sync>(
+    rt: &T,
+    alloc: Global,
+    holds: &[Hold],
+    wanted: &[usize],
+) -> Result<Option<&'static str>, Fail> {
+    let plan = Plan {
+        setup: CLOSED,
+        script: SCRIPT,
+        holds,
+        limit: 5,
+        turns: 1,
+    };
+    let played = run(rt, alloc, plan)?;
+    Ok(difference(&played, wanted))
+}
+
 #[test]
 fn limit_of_five(rt: HostRuntime) -> Result<(), Fail> {
     let schedules: [(&str, &[Hold], &[usize]); 3] = [
@@ -62,22 +101,8 @@ fn limit_of_five(rt: HostRuntime) -> Result<(), Fail> {
         ("all at once", &MEETING, &[2, 1, 1, 1]),
     ];
     for (name, holds, wanted) in schedules {
-        let plan = Plan {
-            script: SCRIPT,
-            holds,
-            limit: 5,
-            turns: 1,
-        };
-        let played = run(&rt, rt.alloc(), plan)?;
-        assert_eq!(rt; played.journal.lines().count(), 5, "in {name}");
-        let Some((receipts, stopped)) = receipts(&played) else {
-            return Err(Fail::from("a stop has another cause"));
-        };
-        assert_eq!(rt; receipts, 5, "in {name}");
-        assert!(rt; stopped >= 3, "in {name}");
-        for (worker, count) in played.workers.iter().zip(wanted) {
-            assert_eq!(rt; worker.receipts, *count, "in {name}");
-        }
+        let difference = difference_in(&rt, rt.alloc(), holds, wanted)?;
+        assert_eq!(rt; difference, None, "in {name}");
     }
     Ok(())
 }

@@ -2,6 +2,7 @@
 
 use super::plays::{Plan, checked, run};
 use super::schedule::{Event, Hold};
+use jg_rows::setups::CLOSED;
 use std::alloc::{AllocError, Global};
 use std::sync::Wait;
 use std::test::Fail;
@@ -65,27 +66,41 @@ fn is_whole(lines: &[&[&str]], order: &[u16]) -> bool {
         .all(|(tid, own)| count_of(order, tid) == own.len())
 }
 
-/// The journal of a play in this order, where it is that of one guard that is called in this order.
-fn journal_in<T: Threads + Wait + Sync>(
+/// Whether the text stands in the journal of a play of the script in this order, which is that of one guard
+/// that is called in this order.
+fn is_played_with<T: Threads + Wait + Sync>(
     rt: &T,
     alloc: Global,
-    lines: &[&[&str]],
-    order: &[u16],
-) -> Result<String, Fail> {
-    let script = script_in(alloc, lines, order)?;
-    let holds = one_by_one(alloc, order)?;
+    script: &str,
+    holds: &[Hold],
+    text: &str,
+) -> Result<bool, Fail> {
     let plan = Plan {
-        script: script.as_str(),
-        holds: holds.as_slice(),
+        setup: CLOSED,
+        script,
+        holds,
         limit: 100,
         turns: 1,
     };
     let played = run(rt, alloc, plan)?;
-    if played.journal == checked(alloc, script.as_str())? {
-        Ok(played.journal)
+    let told = checked(alloc, script)?;
+    if played.journal == told {
+        Ok(told.contains(text))
     } else {
         Err(Fail::from("another journal than of one guard"))
     }
+}
+
+fn is_with<T: Threads + Wait + Sync>(
+    rt: &T,
+    alloc: Global,
+    lines: &[&[&str]],
+    order: &[u16],
+    text: &str,
+) -> Result<bool, Fail> {
+    let script = script_in(alloc, lines, order)?;
+    let holds = one_by_one(alloc, order)?;
+    is_played_with(rt, alloc, &script, &holds, text)
 }
 
 /// Every order of the lines, by their threads.
@@ -119,7 +134,7 @@ fn orders_with<T: Threads + Wait + Sync>(
     let orders = orders_of(alloc, lines)?;
     let mut with = 0usize;
     for order in &orders {
-        if journal_in(rt, alloc, lines, order)?.contains(text) {
+        if is_with(rt, alloc, lines, order, text)? {
             with = with.saturating_add(1);
         }
     }

@@ -2,6 +2,7 @@ use super::orders::one_by_one;
 use super::plays::{Plan, Played, run};
 use super::schedule::{Event, Hold};
 use jg_rows::critical_regions::PIN_THROUGH_GLOBAL;
+use jg_rows::setups::CLOSED;
 use std::alloc::{AllocError, Global};
 use std::sync::Wait;
 use std::test::Fail;
@@ -50,6 +51,7 @@ fn played_by<T: Threads + Wait + Sync>(
     holds: &[Hold],
 ) -> Result<Played, Fail> {
     let plan = Plan {
+        setup: CLOSED,
         script: SCRIPT,
         holds,
         limit: 100,
@@ -67,23 +69,51 @@ fn first_deletion(played: &Played) -> &str {
         .unwrap_or("")
 }
 
+/// The answer to the first deletion, where it is one of the two.
+fn answer_in(played: &Played) -> Option<&'static str> {
+    let line = first_deletion(played);
+    [DELETED, PINNED].into_iter().find(|answer| line == *answer)
+}
+
+fn answer_by<T: Threads + Wait + Sync>(
+    rt: &T,
+    alloc: Global,
+    holds: &[Hold],
+) -> Result<Option<&'static str>, Fail> {
+    let played = played_by(rt, alloc, holds)?;
+    Ok(answer_in(&played))
+}
+
+/// The same where the deletions come after so many lines of the first thread.
+fn answer_after<T: Threads + Wait + Sync>(
+    rt: &T,
+    alloc: Global,
+    first: usize,
+    second: usize,
+) -> Result<Option<&'static str>, Fail> {
+    let order = order(alloc, first, second)?;
+    let holds = one_by_one(alloc, &order)?;
+    answer_by(rt, alloc, &holds)
+}
+
+/// Whether the row's order gives the row's journal.
+fn is_as_the_row<T: Threads + Wait + Sync>(rt: &T, alloc: Global) -> Result<bool, Fail> {
+    let holds = one_by_one(alloc, &ORDER)?;
+    let played = played_by(rt, alloc, &holds)?;
+    Ok(played.journal.as_str() == PIN_THROUGH_GLOBAL)
+}
+
 #[test]
 fn pin_schedules(rt: HostRuntime) -> Result<(), Fail> {
-    let row = played_by(&rt, rt.alloc(), &one_by_one(rt.alloc(), &ORDER)?)?;
-    assert_eq!(rt; row.journal.as_str(), PIN_THROUGH_GLOBAL);
+    assert!(rt; is_as_the_row(&rt, rt.alloc())?);
     for (first, wanted) in [(3, DELETED), (4, PINNED), (5, DELETED), (6, DELETED)] {
         for second in first..=6 {
-            let order = order(rt.alloc(), first, second)?;
-            let played = played_by(&rt, rt.alloc(), &one_by_one(rt.alloc(), &order)?)?;
-            assert_eq!(rt; first_deletion(&played), wanted, "after {first}, {second}");
+            let answer = answer_after(&rt, rt.alloc(), first, second)?;
+            assert_eq!(rt; answer, Some(wanted), "after {first}, {second}");
         }
         let released = [Hold(2, 2, Event::Receipt(1, first))];
-        let played = played_by(&rt, rt.alloc(), &released)?;
-        let answer = first_deletion(&played);
-        assert!(rt;
-            answer == DELETED || answer == PINNED,
-            "after {first}: {answer}"
-        );
+        let answer = answer_by(&rt, rt.alloc(), &released)?;
+        assert!(rt; answer.is_some(), "after {first}");
     }
     Ok(())
 }

@@ -15,9 +15,10 @@ use std::sync::ledger::{Blank, Ledger};
 use std::test::Fail;
 use std::thread::Threads;
 
-/// What is played, and which lines wait for what.
+/// The setup's text, what is played, and which lines wait for what.
 #[derive(Clone, Copy)]
 pub(super) struct Plan<'a> {
+    pub(super) setup: &'a str,
     pub(super) script: &'a str,
     pub(super) holds: &'a [Hold],
     pub(super) limit: u32,
@@ -50,8 +51,8 @@ impl Played {
     }
 }
 
-fn closed(alloc: Global) -> Result<Setup, Fail> {
-    match Setup::read(alloc, CLOSED) {
+fn setup_of(alloc: Global, text: &str) -> Result<Setup, Fail> {
+    match Setup::read(alloc, text) {
         Ok(setup) => Ok(setup),
         Err(_) => Err(Fail::from("the text is no setup")),
     }
@@ -79,8 +80,8 @@ fn journal_of(alloc: Global, guard: &Guard) -> Result<String, Fail> {
     }
 }
 
-fn is_legal(alloc: Global, journal: &str) -> Result<bool, Fail> {
-    let setup = closed(alloc)?;
+fn is_legal(alloc: Global, setup: &str, journal: &str) -> Result<bool, Fail> {
+    let setup = setup_of(alloc, setup)?;
     let mut reader = Watched::new(journal.as_bytes());
     match verify(alloc, alloc, setup, 100, &mut reader) {
         Ok(Verdict::Legal) => Ok(true),
@@ -141,10 +142,26 @@ fn played_at<T: Threads + Wait + Sync, G: Gate>(
     gate: &G,
 ) -> Result<Played, Fail> {
     let scripts = scripts_of(alloc, plan.script)?;
-    let setup = closed(alloc)?;
+    let setup = setup_of(alloc, plan.setup)?;
     let blank = Blank::new(64);
     let turns = plan.turns.max(1);
     finished::<Brand, _, _>(rt, alloc, blank, setup, plan.limit, turns, scripts, gate)
+}
+
+fn played_by<T: Threads + Wait + Sync>(
+    rt: &T,
+    alloc: Global,
+    plan: Plan<'_>,
+    gate: &Schedule<'_>,
+) -> Result<Played, Fail> {
+    let played = played_at(rt, alloc, plan, gate)?;
+    if gate.has_given_up() {
+        Err(Fail::from("the schedule gives up"))
+    } else if is_legal(alloc, plan.setup, played.journal.as_str())? {
+        Ok(played)
+    } else {
+        Err(Fail::from("the journal isn't legal"))
+    }
 }
 
 /// Plays the plan. Fails where an event that a line waits for doesn't come, the journal differs from
@@ -155,26 +172,25 @@ pub(super) fn run<T: Threads + Wait + Sync>(
     plan: Plan<'_>,
 ) -> Result<Played, Fail> {
     let gate = Schedule::new(alloc, plan.holds)?;
-    let played = played_at(rt, alloc, plan, &gate)?;
-    if gate.has_given_up() {
-        Err(Fail::from("the schedule gives up"))
-    } else if is_legal(alloc, played.journal.as_str())? {
-        Ok(played)
-    } else {
-        Err(Fail::from("the journal isn't legal"))
+    played_by(rt, alloc, plan, &gate)
+}
+
+/// What this guard, which is new, answers to the script.
+fn answers(guard: &mut Guard, alloc: Global, script: &str) -> Result<String, Fail> {
+    if guard.journal_len() != 0 {
+        return Err(Fail::from("a new guard's journal isn't empty"));
+    }
+    let mut reader = Watched::new(script.as_bytes());
+    let mut writer = Watched::new(Vec::new(alloc));
+    match check(alloc, guard, &mut reader, &mut writer) {
+        Ok(_) => text_of(writer.into_inner()),
+        Err(_) => Err(Fail::from("a line is refused")),
     }
 }
 
 /// The journal of the script by one guard, line by line.
 pub(super) fn checked(alloc: Global, script: &str) -> Result<String, Fail> {
-    let setup = closed(alloc)?;
+    let setup = setup_of(alloc, CLOSED)?;
     let mut guard = Guard::new(alloc, alloc, setup, 100)?;
-    let mut reader = Watched::new(script.as_bytes());
-    let mut writer = Watched::new(Vec::new(alloc));
-    let answer = check(alloc, &mut guard, &mut reader, &mut writer);
-    drop(guard);
-    match answer {
-        Ok(_) => text_of(writer.into_inner()),
-        Err(_) => Err(Fail::from("a line is refused")),
-    }
+    answers(&mut guard, alloc, script)
 }

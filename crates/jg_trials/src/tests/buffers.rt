@@ -1,8 +1,10 @@
 //! The growths of calls on buffers, refused in turn.
 
-use super::growths::{Growth, OPENING, SETUP, opens, refusals_of, spelt};
-use super::{guarded, lend};
-use jg_guard::{Guard, Refusal};
+use super::growths::{
+    Answer, Growth, OPENING, SETUP, answer_to, goes_through, opens, refusals_of, spelt,
+};
+use super::guarded;
+use jg_guard::Guard;
 use jg_words::Outcome;
 use linked_list_allocator::LocalHeap;
 use std::alloc::{Allocator, Global};
@@ -177,7 +179,7 @@ const OTHERS: [(&str, &str, &str); 4] = [
 ];
 
 /// What the line is answered.
-fn answer_to<A: Allocator + Clone>(
+fn outcome_of<A: Allocator + Clone>(
     guard: &mut Guard<A>,
     alloc: Global,
     line: &str,
@@ -196,14 +198,31 @@ struct Change {
     after: Outcome,
 }
 
-fn changes(guard: &mut Guard, alloc: Global, growth: Growth<'_>) -> Result<Change, Fail> {
+fn change_by(guard: &mut Guard, alloc: Global, growth: Growth<'_>) -> Result<Change, Fail> {
     if !opens(guard, alloc, growth)? {
         return Err(Fail::from("a large heap isn't enough"));
     }
-    let before = answer_to(guard, alloc, growth.earlier)?;
-    drop(answer_to(guard, alloc, growth.call)?);
-    let after = answer_to(guard, alloc, growth.earlier)?;
+    let before = outcome_of(guard, alloc, growth.earlier)?;
+    passes(guard, alloc, growth.call)?;
+    let after = outcome_of(guard, alloc, growth.earlier)?;
     Ok(Change { before, after })
+}
+
+/// Makes the call, which isn't to be refused.
+fn passes<A: Allocator + Clone>(
+    guard: &mut Guard<A>,
+    alloc: Global,
+    line: &str,
+) -> Result<(), Fail> {
+    match goes_through(guard, alloc, line)? {
+        true => Ok(()),
+        false => Err(Fail::from("a line is refused")),
+    }
+}
+
+fn change_of(alloc: Global, growth: Growth<'_>) -> Result<Change, Fail> {
+    let mut guard = guarded(alloc, alloc, SETUP, 1000)?;
+    change_by(&mut guard, alloc, growth)
 }
 
 /// Asks, and wants this answer.
@@ -213,7 +232,7 @@ fn finds<A: Allocator + Clone>(
     growth: Growth<'_>,
     wanted: &Outcome,
 ) -> Result<(), Fail> {
-    if answer_to(guard, alloc, growth.earlier)? == *wanted {
+    if outcome_of(guard, alloc, growth.earlier)? == *wanted {
         Ok(())
     } else {
         Err(Fail::from("the question has another answer"))
@@ -234,9 +253,26 @@ fn ballast<'a>(heap: &'a LocalHeap) -> Vec<u8, &'a LocalHeap> {
 /// Fills the journal up to the end of its first block, by calls that need nothing else.
 fn fill<A: Allocator + Clone>(guard: &mut Guard<A>, alloc: Global) -> Result<(), Fail> {
     for _ in guard.journal_len()..1024 {
-        drop(answer_to(guard, alloc, "T9 - GetEnv")?);
+        passes(guard, alloc, "T9 - GetEnv")?;
     }
     Ok(())
+}
+
+/// With no memory for another block the call is refused, and not journaled.
+fn refuses(
+    guard: &mut Guard<&LocalHeap>,
+    heap: &LocalHeap,
+    alloc: Global,
+    line: &str,
+) -> Result<(), Fail> {
+    let kept = ballast(heap);
+    let answer = answer_to(guard, alloc, line)?;
+    drop(kept);
+    if answer == Answer::Refused && guard.journal_len() == 1024 {
+        Ok(())
+    } else {
+        Err(Fail::from("the call isn't refused, or it is journaled"))
+    }
 }
 
 /// The call finds the journal's block full and no memory for another: it is refused and changes
@@ -252,30 +288,26 @@ fn finds_its_block_full(
         return Err(Fail::from("a large heap isn't enough"));
     }
     fill(guard, alloc)?;
-    let kept = ballast(heap);
-    let (tid, env, call) = spelt(alloc, growth.call)?;
-    let Err(Refusal::NoMemory(call)) = guard.call(tid, env, call) else {
-        return Err(Fail::from("the call isn't refused"));
-    };
-    if guard.journal_len() != 1024 {
-        return Err(Fail::from("a refused call is journaled"));
-    }
-    drop(kept);
+    refuses(guard, heap, alloc, growth.call)?;
     finds(guard, alloc, growth, &change.before)?;
-    if guard.call(tid, env, call).is_err() {
-        return Err(Fail::from("refused again"));
-    }
+    passes(guard, alloc, growth.call)?;
     finds(guard, alloc, growth, &change.after)
 }
 
+fn meets_a_full_block_in(
+    heap: &LocalHeap,
+    alloc: Global,
+    growth: Growth<'_>,
+    change: &Change,
+) -> Result<(), Fail> {
+    let mut guard = guarded(heap, alloc, SETUP, 10_000)?;
+    finds_its_block_full(&mut guard, heap, alloc, growth, change)
+}
+
 fn meets_a_full_block(alloc: Global, growth: Growth<'_>) -> Result<(), Fail> {
-    let change = lend(guarded(alloc, alloc, SETUP, 1000)?, |guard| {
-        changes(guard, alloc, growth)
-    })?;
+    let change = change_of(alloc, growth)?;
     let heap = LocalHeap::new(alloc, 1_000_000)?;
-    lend(guarded(&heap, alloc, SETUP, 10_000)?, |guard| {
-        finds_its_block_full(guard, &heap, alloc, growth, &change)
-    })
+    meets_a_full_block_in(&heap, alloc, growth, &change)
 }
 
 #[test]

@@ -1,5 +1,5 @@
 use super::growths::{SETUP, goes_through, spelt};
-use super::{guarded, lend};
+use super::guarded;
 use jg_guard::Guard;
 use jg_words::Outcome;
 use linked_list_allocator::LocalHeap;
@@ -66,33 +66,62 @@ struct Lent {
     times: u32,
 }
 
+/// Takes what is lent, and makes room for the entries of the calls that give it back.
+fn takes(guard: &mut Guard<&LocalHeap>, alloc: Global, lent: Lent) -> Result<(), Fail> {
+    opens(guard, alloc, lent.opening, 0)?;
+    for time in 0..lent.times {
+        opens(guard, alloc, lent.taken, lent.first.saturating_add(time))?;
+    }
+    let lines = u32::try_from(lent.given.lines().count()).unwrap_or(u32::MAX);
+    match guard.reserve(lines.saturating_mul(lent.times)) {
+        Ok(()) => Ok(()),
+        Err(_) => Err(Fail::from("the heap is too small")),
+    }
+}
+
+/// Makes the calls that give back, with this number, each with no memory left before it.
+fn gives<'a>(
+    guard: &mut Guard<&'a LocalHeap>,
+    heap: &'a LocalHeap,
+    alloc: Global,
+    (lines, number): (&str, u32),
+    kept: &mut Vec<Vec<u8, &'a LocalHeap>>,
+) -> Result<(), Fail> {
+    for line in lines.lines() {
+        exhaust(heap, kept)?;
+        let line = numbered(alloc, line, number)?;
+        if !passes(guard, alloc, &line)? {
+            return Err(Fail::from("not given back"));
+        }
+    }
+    Ok(())
+}
+
 /// What is taken can be given back while there is room for the entries, with no other memory left
 /// before each call.
+fn takes_and_gives<'a>(
+    guard: &mut Guard<&'a LocalHeap>,
+    heap: &'a LocalHeap,
+    alloc: Global,
+    lent: Lent,
+) -> Result<(), Fail> {
+    takes(guard, alloc, lent)?;
+    let mut kept = Vec::new(alloc);
+    for time in 0..lent.times {
+        let number = lent.first.saturating_add(time);
+        gives(guard, heap, alloc, (lent.given, number), &mut kept)?;
+    }
+    Ok(())
+}
+
+fn gives_back_in(heap: &LocalHeap, alloc: Global, lent: Lent) -> Result<(), Fail> {
+    let mut guard = guarded(heap, alloc, SETUP, 10_000)?;
+    takes_and_gives(&mut guard, heap, alloc, lent)
+}
+
 fn gives_back(alloc: Global, lent: Lent) -> Result<(), Fail> {
     let heap = LocalHeap::new(alloc, 4_000_000)?;
-    let heap = &heap;
-    lend(guarded(heap, alloc, SETUP, 10_000)?, |guard| {
-        opens(guard, alloc, lent.opening, 0)?;
-        for time in 0..lent.times {
-            opens(guard, alloc, lent.taken, lent.first.saturating_add(time))?;
-        }
-        let lines = u32::try_from(lent.given.lines().count()).unwrap_or(u32::MAX);
-        let calls = lines.saturating_mul(lent.times);
-        if guard.reserve(calls).is_err() {
-            return Err(Fail::from("the heap is too small"));
-        }
-        let mut kept = Vec::new(alloc);
-        for time in 0..lent.times {
-            for line in lent.given.lines() {
-                exhaust(heap, &mut kept)?;
-                let line = numbered(alloc, line, lent.first.saturating_add(time))?;
-                if !passes(guard, alloc, line.as_str())? {
-                    return Err(Fail::from("not given back"));
-                }
-            }
-        }
-        Ok(())
-    })
+    gives_back_in(&heap, alloc, lent)
 }
 
 /// The first five lines of `pin_through_global`, and how its array, its reference and its thread are
@@ -238,21 +267,25 @@ fn an_exception_is_cleared_without_memory(rt: HostRuntime) -> Result<(), Fail> {
     Ok(())
 }
 
+fn is_denied(guard: &mut Guard<&LocalHeap>, heap: &LocalHeap, alloc: Global) -> Result<bool, Fail> {
+    if guard.reserve(1).is_err() {
+        return Err(Fail::from("the heap is too small"));
+    }
+    let mut kept = Vec::new(alloc);
+    exhaust(heap, &mut kept)?;
+    let (tid, env, call) = spelt(alloc, "T1 E1.1 ExceptionClear")?;
+    Ok(matches!(guard.call(tid, env, call), Ok(Outcome::Denied(_))))
+}
+
+fn is_denied_in(heap: &LocalHeap, alloc: Global) -> Result<bool, Fail> {
+    let mut guard = guarded(heap, alloc, SETUP, 10)?;
+    is_denied(&mut guard, heap, alloc)
+}
+
 /// A denied call is journaled in the last room.
 #[test]
 fn a_denied_call_takes_no_memory(rt: HostRuntime) -> Result<(), Fail> {
     let heap = LocalHeap::new(rt.alloc(), 1_000_000)?;
-    let heap = &heap;
-    let alloc = rt.alloc();
-    let denied = lend(guarded(heap, alloc, SETUP, 10)?, |guard| {
-        if guard.reserve(1).is_err() {
-            return Err(Fail::from("the heap is too small"));
-        }
-        let mut kept = Vec::new(alloc);
-        exhaust(heap, &mut kept)?;
-        let (tid, env, call) = spelt(alloc, "T1 E1.1 ExceptionClear")?;
-        Ok(matches!(guard.call(tid, env, call), Ok(Outcome::Denied(_))))
-    })?;
-    assert!(rt; denied);
+    assert!(rt; is_denied_in(&heap, rt.alloc())?);
     Ok(())
 }

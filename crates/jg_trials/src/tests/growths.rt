@@ -1,7 +1,7 @@
-use super::{guarded, lend, setup};
-use jg_guard::{Guard, Refusal};
+use super::{guarded, setup};
+use jg_guard::{Guard, Leaks, Refusal};
 use jg_script::read_call;
-use jg_words::{Call, Entry, EnvId, Tid};
+use jg_words::{Call, Entry, EnvId, Outcome, Tid};
 use linked_list_allocator::LocalHeap;
 use std::alloc::{Allocator, Global};
 use std::test::Fail;
@@ -138,20 +138,26 @@ fn are_alike(entry: Option<&Entry>, other: Option<&Entry>) -> bool {
         && entry.object() == other.object()
 }
 
-/// The guards have equal journals and leave equal things behind.
-fn are_equal<A: Allocator + Clone>(guard: &Guard<A>, twin: &Guard) -> Result<bool, Fail> {
+fn have_equal_journals<A: Allocator + Clone>(guard: &Guard<A>, twin: &Guard) -> bool {
     for index in 0..guard.journal_len() {
         if !are_alike(guard.journal_entry(index), twin.journal_entry(index)) {
-            return Ok(false);
+            return false;
         }
     }
-    let (left, same) = (guard.leaks()?, twin.leaks()?);
-    Ok(
-        guard.journal_len() == twin.journal_len()
-            && left.refs.as_slice() == same.refs.as_slice()
-            && left.buffers.as_slice() == same.buffers.as_slice()
-            && left.monitors.as_slice() == same.monitors.as_slice(),
-    )
+    guard.journal_len() == twin.journal_len()
+}
+
+fn leave_equal_things<A: Allocator>(left: &Leaks<A>, same: &Leaks) -> bool {
+    left.refs.as_slice() == same.refs.as_slice()
+        && left.buffers.as_slice() == same.buffers.as_slice()
+        && left.monitors.as_slice() == same.monitors.as_slice()
+}
+
+/// The guards have equal journals and leave equal things behind.
+fn are_equal<A: Allocator + Clone>(guard: &Guard<A>, twin: &Guard) -> Result<bool, Fail> {
+    let left = guard.leaks()?;
+    let same = twin.leaks()?;
+    Ok(have_equal_journals(guard, twin) && leave_equal_things(&left, &same))
 }
 
 /// What came of a call.
@@ -165,21 +171,73 @@ pub(super) enum Met {
     Answered,
 }
 
-/// A refused call came back, and changed nothing. Once `kept` is given back it is answered.
-fn answers_later<A: Allocator + Clone>(
+/// How a call was answered.
+#[derive(Clone, Copy, Debug, PartialEq, Eq)]
+pub(super) enum Answer {
+    /// It passed or was denied.
+    Given,
+    /// Memory ran out, and the very call came back.
+    Refused,
+    /// Something else.
+    Other,
+}
+
+fn answer_of(answer: Result<Outcome, Refusal>, asked: &Call) -> Answer {
+    match answer {
+        Ok(_) => Answer::Given,
+        Err(Refusal::Limit(_)) => Answer::Other,
+        Err(Refusal::NoMemory(back)) => {
+            if back == *asked {
+                Answer::Refused
+            } else {
+                Answer::Other
+            }
+        }
+    }
+}
+
+/// Makes the call of the line.
+pub(super) fn answer_to<A: Allocator + Clone>(
+    guard: &mut Guard<A>,
+    alloc: Global,
+    line: &str,
+) -> Result<Answer, Fail> {
+    let (tid, env, call) = spelt(alloc, line)?;
+    let (_, _, asked) = spelt(alloc, line)?;
+    Ok(answer_of(guard.call(tid, env, call), &asked))
+}
+
+/// Memory that can be given back, once.
+pub(super) type Kept<A> = Option<Vec<u8, A>>;
+
+/// So many bytes to give back.
+pub(super) fn keep<A: Allocator>(tables: A, bytes: usize) -> Result<Kept<A>, Fail> {
+    let mut kept = Vec::new(tables);
+    kept.try_reserve(bytes)?;
+    Ok(Some(kept))
+}
+
+/// Makes the call. Where it is refused it has changed nothing, and once what is kept is given back, it is
+/// answered.
+fn answers_at_last<A: Allocator + Clone>(
     guard: &mut Guard<A>,
     twin: &Guard,
-    kept: Vec<u8, A>,
-    back: Call,
-    (tid, env, call): (Tid, Option<EnvId>, Call),
+    kept: &mut Kept<A>,
+    alloc: Global,
+    line: &str,
 ) -> Result<Met, Fail> {
-    drop(kept);
-    if back != call || !are_equal(guard, twin)? {
+    match answer_to(guard, alloc, line)? {
+        Answer::Given => return Ok(Met::Answered),
+        Answer::Refused => {}
+        Answer::Other => return Err(Fail::from("the limit is met, or another call comes back")),
+    }
+    drop(kept.take());
+    if !are_equal(guard, twin)? {
         return Err(Fail::from("a refused call changed something"));
     }
-    match guard.call(tid, env, call) {
-        Ok(_) => Ok(Met::Refused),
-        Err(_) => Err(Fail::from("refused again")),
+    match goes_through(guard, alloc, line)? {
+        true => Ok(Met::Refused),
+        false => Err(Fail::from("refused again")),
     }
 }
 
@@ -188,7 +246,7 @@ fn answers_later<A: Allocator + Clone>(
 fn meets<A: Allocator + Clone>(
     guard: &mut Guard<A>,
     twin: &mut Guard,
-    kept: Vec<u8, A>,
+    kept: &mut Kept<A>,
     alloc: Global,
     growth: Growth<'_>,
 ) -> Result<Met, Fail> {
@@ -198,17 +256,8 @@ fn meets<A: Allocator + Clone>(
     if !opens(twin, alloc, growth)? {
         return Err(Fail::from("memory ran out"));
     }
-    let (tid, env, call) = spelt(alloc, growth.call)?;
-    let met = match guard.call(tid, env, call) {
-        Ok(_outcome) => {
-            drop(kept);
-            Met::Answered
-        }
-        Err(Refusal::Limit(_call)) => return Err(Fail::from("the limit is met")),
-        Err(Refusal::NoMemory(back)) => {
-            answers_later(guard, twin, kept, back, spelt(alloc, growth.call)?)?
-        }
-    };
+    let met = answers_at_last(guard, twin, kept, alloc, growth.call)?;
+    drop(kept.take());
     if goes_through(twin, alloc, growth.call)? && are_equal(guard, twin)? {
         Ok(met)
     } else {
@@ -219,47 +268,71 @@ fn meets<A: Allocator + Clone>(
 /// The same beside a new twin.
 fn meets_beside_a_twin<A: Allocator + Clone>(
     guard: &mut Guard<A>,
-    kept: Vec<u8, A>,
+    kept: &mut Kept<A>,
     alloc: Global,
     growth: Growth<'_>,
 ) -> Result<Met, Fail> {
-    let twin = guarded(alloc, alloc, growth.setup, 1000)?;
-    lend(twin, |twin| meets(guard, twin, kept, alloc, growth))
+    let mut twin = guarded(alloc, alloc, growth.setup, 1000)?;
+    meets(guard, &mut twin, kept, alloc, growth)
 }
 
-/// The same of a new guard with 9,000 bytes to give back.
+/// A new guard, where memory suffices for it.
+pub(super) fn guarded_if_room<A: Allocator + Copy>(
+    tables: A,
+    alloc: Global,
+    text: &str,
+) -> Result<Option<Guard<A>>, Fail> {
+    let setup = setup(alloc, text)?;
+    Ok(Guard::new(tables, alloc, setup, 1000).ok())
+}
+
+/// The same of a new guard, with this to give back.
 fn meets_anew<A: Allocator + Copy>(
     tables: A,
+    kept: &mut Kept<A>,
     alloc: Global,
     growth: Growth<'_>,
 ) -> Result<Met, Fail> {
-    let setup = setup(alloc, growth.setup)?;
-    let mut kept: Vec<u8, A> = Vec::new(tables);
-    kept.try_reserve(9_000)?;
-    match Guard::new(tables, alloc, setup, 1000) {
-        Ok(guard) => lend(guard, |guard| {
-            meets_beside_a_twin(guard, kept, alloc, growth)
-        }),
-        Err(_) => Ok(Met::Unopened),
+    match guarded_if_room(tables, alloc, growth.setup)? {
+        Some(mut guard) => meets_beside_a_twin(&mut guard, kept, alloc, growth),
+        None => Ok(Met::Unopened),
     }
+}
+
+/// The same with 9,000 bytes to give back.
+fn meets_in(heap: &LocalHeap, alloc: Global, growth: Growth<'_>) -> Result<Met, Fail> {
+    let mut kept = keep(heap, 9_000)?;
+    meets_anew(heap, &mut kept, alloc, growth)
 }
 
 /// The same over a heap with room for so many bytes beside those to give back.
 fn over_a_heap(alloc: Global, room: usize, growth: Growth<'_>) -> Result<Met, Fail> {
     let heap = LocalHeap::new(alloc, room.saturating_add(9_000))?;
-    meets_anew(&heap, alloc, growth)
+    meets_in(&heap, alloc, growth)
+}
+
+fn used_by(
+    guard: &mut Guard<&LocalHeap>,
+    heap: &LocalHeap,
+    alloc: Global,
+    growth: Growth<'_>,
+) -> Result<usize, Fail> {
+    if opens(guard, alloc, growth)? {
+        Ok(heap.used())
+    } else {
+        Err(Fail::from("a large heap isn't enough"))
+    }
+}
+
+fn used_in(heap: &LocalHeap, alloc: Global, growth: Growth<'_>) -> Result<usize, Fail> {
+    let mut guard = guarded(heap, alloc, growth.setup, 1000)?;
+    used_by(&mut guard, heap, alloc, growth)
 }
 
 /// How many bytes of a heap are in use before the call that grows.
 pub(super) fn used_before(alloc: Global, growth: Growth<'_>) -> Result<usize, Fail> {
     let heap = LocalHeap::new(alloc, 1_000_000)?;
-    lend(guarded(&heap, alloc, growth.setup, 1000)?, |guard| {
-        if opens(guard, alloc, growth)? {
-            Ok(heap.used())
-        } else {
-            Err(Fail::from("a large heap isn't enough"))
-        }
-    })
+    used_in(&heap, alloc, growth)
 }
 
 /// How often the call is refused over heaps of growing sizes, from too small for the calls before it

@@ -1,4 +1,4 @@
-use super::{CLOSED, guarded, lend, setup};
+use super::{CLOSED, guarded, setup};
 use jg_guard::{Guard, Refusal};
 use jg_words::{Call, EnvId, FramesCall, Outcome, Rule, Tid, Value, VmCall};
 use linked_list_allocator::LocalHeap;
@@ -73,19 +73,22 @@ fn has_journaled(guard: &Guard) -> bool {
     is_first && guard.journal_len() == 3 && guard.journal_entry(3).is_none()
 }
 
+/// What is so of a new guard with a limit of 3.
+fn found_of(guard: &mut Guard) -> [bool; 5] {
+    [
+        guard.limit() == 3,
+        denies_the_detached(guard),
+        attaches(guard),
+        stops_at_its_limit(guard),
+        has_journaled(guard),
+    ]
+}
+
 /// What `judge` says is what `call` denies by; the journal has both entries.
 #[test]
 fn judges_answers_and_journals(rt: HostRuntime) -> Result<(), Fail> {
-    let found = lend(guarded(rt.alloc(), rt.alloc(), CLOSED, 3)?, |guard| {
-        [
-            guard.limit() == 3,
-            denies_the_detached(guard),
-            attaches(guard),
-            stops_at_its_limit(guard),
-            has_journaled(guard),
-        ]
-    });
-    assert_eq!(rt; found, [true; 5]);
+    let mut guard = guarded(rt.alloc(), rt.alloc(), CLOSED, 3)?;
+    assert_eq!(rt; found_of(&mut guard), [true; 5]);
     Ok(())
 }
 

@@ -1,5 +1,4 @@
-use super::growths::{Growth, OPENING, SETUP, opens, used_before};
-use super::{lend, setup};
+use super::growths::{Growth, Kept, OPENING, SETUP, guarded_if_room, keep, opens, used_before};
 use jg_guard::{Guard, Leaks};
 use jg_script::write_leaks;
 use linked_list_allocator::LocalHeap;
@@ -50,58 +49,69 @@ enum Met {
     Listed,
 }
 
-/// The list is that of all that stays.
-fn is_whole<A: Allocator>(alloc: Global, left: &Leaks<A>) -> Result<(), Fail> {
+/// Whether the list is that of all that stays.
+fn is_whole<A: Allocator>(alloc: Global, left: &Leaks<A>) -> Result<bool, Fail> {
     let text = write_leaks(alloc, left)?;
-    if text.as_str() == LEFT {
-        Ok(())
-    } else {
-        Err(Fail::from("another list"))
+    Ok(text.as_str() == LEFT)
+}
+
+/// Whether what is left is listed, and not refused.
+fn lists<A: Allocator + Clone>(guard: &Guard<A>, alloc: Global) -> Result<bool, Fail> {
+    let Ok(left) = guard.leaks() else {
+        return Ok(false);
+    };
+    match is_whole(alloc, &left)? {
+        true => Ok(true),
+        false => Err(Fail::from("another list")),
     }
 }
 
 /// Makes calls that leave something and asks for what is left; `kept` is memory to give back.
-fn lists<A: Allocator + Clone>(
+fn meets<A: Allocator + Clone>(
     guard: &mut Guard<A>,
-    kept: Vec<u8, A>,
+    kept: &mut Kept<A>,
     alloc: Global,
 ) -> Result<Met, Fail> {
     if !opens(guard, alloc, GROWTH)? {
         return Ok(Met::Unopened);
     }
     let before = guard.journal_len();
-    if let Ok(left) = guard.leaks() {
-        is_whole(alloc, &left)?;
+    if lists(guard, alloc)? {
         return Ok(Met::Listed);
     }
     if guard.journal_len() != before {
         return Err(Fail::from("a refused list changed something"));
     }
-    drop(kept);
-    match guard.leaks() {
-        Ok(left) => {
-            is_whole(alloc, &left)?;
-            Ok(Met::Refused)
-        }
-        Err(_) => Err(Fail::from("refused again")),
+    drop(kept.take());
+    if lists(guard, alloc)? {
+        Ok(Met::Refused)
+    } else {
+        Err(Fail::from("refused again"))
     }
 }
 
-/// The same of a new guard with 9,000 bytes to give back.
-fn lists_anew<A: Allocator + Copy>(tables: A, alloc: Global) -> Result<Met, Fail> {
-    let setup = setup(alloc, SETUP)?;
-    let mut kept: Vec<u8, A> = Vec::new(tables);
-    kept.try_reserve(9_000)?;
-    match Guard::new(tables, alloc, setup, 1000) {
-        Ok(guard) => lend(guard, |guard| lists(guard, kept, alloc)),
-        Err(_) => Ok(Met::Unopened),
+/// The same of a new guard, with this to give back.
+fn meets_anew<A: Allocator + Copy>(
+    tables: A,
+    kept: &mut Kept<A>,
+    alloc: Global,
+) -> Result<Met, Fail> {
+    match guarded_if_room(tables, alloc, SETUP)? {
+        Some(mut guard) => meets(&mut guard, kept, alloc),
+        None => Ok(Met::Unopened),
     }
+}
+
+/// The same with 9,000 bytes to give back.
+fn meets_in(heap: &LocalHeap, alloc: Global) -> Result<Met, Fail> {
+    let mut kept = keep(heap, 9_000)?;
+    meets_anew(heap, &mut kept, alloc)
 }
 
 /// The same over a heap with room for so many bytes beside those to give back.
 fn over_a_heap(alloc: Global, room: usize) -> Result<Met, Fail> {
     let heap = LocalHeap::new(alloc, room.saturating_add(9_000))?;
-    lists_anew(&heap, alloc)
+    meets_in(&heap, alloc)
 }
 
 /// A refused list changes nothing, and is whole later.

@@ -1,5 +1,5 @@
 use super::{
-    CLOSED, FIRST_PATH, FIRST_PATH_ANSWERED, check_with, faulty, first_block, guarded, lend,
+    CLOSED, FIRST_PATH, FIRST_PATH_ANSWERED, check_anew, check_with, faulty, first_block, guarded,
     repeated, setup,
 };
 use jg_guard::Guard;
@@ -22,17 +22,55 @@ struct Done {
 fn run<R: BufRead + Drop>(alloc: Global, script: R, limit: u32, room: u32) -> Result<Done, Fail> {
     let mut reader = Watched::new(script);
     let mut writer = Watched::new(faulty(alloc, "", room, 1)?);
-    let result = lend(guarded(alloc, alloc, CLOSED, limit)?, |guard| {
-        check_with(guard, alloc, &mut reader, &mut writer)
-    })?;
-    let reader_failed = reader.has_failed();
+    let result = check_anew(alloc, limit, &mut reader, &mut writer)?;
     let writer_failed = writer.has_failed();
     Ok(Done {
         result,
         written: writer.into_inner().into_bytes(),
-        reader_failed,
+        reader_failed: reader.has_failed(),
         writer_failed,
     })
+}
+
+/// How a script is to end, and the text that is to be written.
+type Ending<'a> = (Result<u64, RunFault>, &'a str);
+
+/// What isn't so where a script ends as wanted, with devices that don't fail; nothing where all is.
+fn difference(done: &Done, (ended, text): Ending<'_>) -> Option<&'static str> {
+    if done.result != ended {
+        Some("it ends otherwise")
+    } else if done.written.as_slice() != text.as_bytes() {
+        Some("another text is written")
+    } else if done.reader_failed || done.writer_failed {
+        Some("a device fails")
+    } else {
+        None
+    }
+}
+
+/// The same of this script, where at most so many bytes are written.
+fn ends_so<R: BufRead + Drop>(
+    alloc: Global,
+    script: R,
+    limit: u32,
+    room: u32,
+    ending: Ending<'_>,
+) -> Result<Option<&'static str>, Fail> {
+    let done = run(alloc, script, limit, room)?;
+    Ok(difference(&done, ending))
+}
+
+/// The same of a text that is read in pieces of so many bytes, and buffered up to `capacity`.
+fn read_so(
+    alloc: Global,
+    text: &str,
+    (most, capacity): (usize, usize),
+    (limit, room): (u32, u32),
+    ending: Ending<'_>,
+) -> Result<Option<&'static str>, Fail> {
+    let device = faulty(alloc, text, u32::MAX, most)?;
+    let reader = BufReader::with_capacity(alloc, capacity, device)?;
+    ends_so(alloc, reader, limit, room, ending)
 }
 
 #[test]
@@ -74,11 +112,9 @@ fn scripts_are_answered(rt: HostRuntime) -> Result<(), Fail> {
         ("T1 - GetEnv\n", 0, Err(RunFault::Limit { line: 1 }), ""),
         ("GetEnv\n", 0, past_limit, ""),
     ];
-    for (script, limit, result, text) in runs {
-        let done = run(rt.alloc(), script.as_bytes(), limit, 1000)?;
-        assert_eq!(rt; done.result, result, "at `{script}`");
-        assert!(rt; done.written.as_slice() == text.as_bytes(), "at `{script}`");
-        assert!(rt; !done.reader_failed && !done.writer_failed, "at `{script}`");
+    for (script, limit, ended, text) in runs {
+        let found = ends_so(rt.alloc(), script.as_bytes(), limit, 1000, (ended, text))?;
+        assert_eq!(rt; found, None, "at `{script}`");
     }
     Ok(())
 }
@@ -86,16 +122,10 @@ fn scripts_are_answered(rt: HostRuntime) -> Result<(), Fail> {
 // With no buffer nothing is shown before it is read.
 #[test]
 fn a_slow_reader_does_not_fail(rt: HostRuntime) -> Result<(), Fail> {
+    let ending = (Ok(6), FIRST_PATH_ANSWERED);
     for capacity in [0, 1, 7] {
-        let device = faulty(rt.alloc(), FIRST_PATH, u32::MAX, 1)?;
-        let reader = BufReader::with_capacity(rt.alloc(), capacity, device)?;
-        let done = run(rt.alloc(), reader, 10, 1000)?;
-        assert_eq!(rt; done.result, Ok(6), "at {capacity}");
-        assert!(rt;
-            done.written.as_slice() == FIRST_PATH_ANSWERED.as_bytes(),
-            "at {capacity}"
-        );
-        assert!(rt; !done.reader_failed && !done.writer_failed, "at {capacity}");
+        let found = read_so(rt.alloc(), FIRST_PATH, (1, capacity), (10, 1000), ending)?;
+        assert_eq!(rt; found, None, "at {capacity}");
     }
     Ok(())
 }
@@ -110,22 +140,22 @@ fn script_with_list(alloc: Global, count: usize) -> Result<String, Fail> {
     Ok(script)
 }
 
+/// What `check` answers to such a script, and whether the length is the last that is written.
+fn answers_to_list(alloc: Global, count: usize) -> Result<(Result<u64, RunFault>, bool), Fail> {
+    let script = script_with_list(alloc, count)?;
+    let done = run(alloc, script.as_bytes(), 10, 10_000)?;
+    let length = format!(in alloc; "GetStringLength L1.1 = {count}\n")?;
+    Ok((done.result, done.written.ends_with(length.as_bytes())))
+}
+
 #[test]
 fn lists_have_at_most_a_thousand_items(rt: HostRuntime) -> Result<(), Fail> {
-    let script = script_with_list(rt.alloc(), 1000)?;
-    let done = run(rt.alloc(), script.as_bytes(), 10, 10_000)?;
-    assert_eq!(rt; done.result, Ok(3));
-    assert!(rt;
-        done.written
-            .ends_with(b"GetStringLength L1.1 = 1000\n".as_slice())
-    );
-    let script = script_with_list(rt.alloc(), 1001)?;
-    let done = run(rt.alloc(), script.as_bytes(), 10, 10_000)?;
     let faulty = Err(RunFault::Script {
         line: 2,
         fault: ScriptFault::BadOperand,
     });
-    assert_eq!(rt; done.result, faulty);
+    assert_eq!(rt; answers_to_list(rt.alloc(), 1000)?, (Ok(3), true));
+    assert_eq!(rt; answers_to_list(rt.alloc(), 1001)?, (faulty, false));
     Ok(())
 }
 
@@ -135,9 +165,7 @@ fn answers_the_first_path<W: Write + Drop>(
     writer: &mut Watched<W>,
 ) -> Result<Result<u64, RunFault>, Fail> {
     let mut reader = Watched::new(FIRST_PATH.as_bytes());
-    lend(guarded(alloc, alloc, CLOSED, 10)?, |guard| {
-        check_with(guard, alloc, &mut reader, writer)
-    })
+    check_anew(alloc, 10, &mut reader, writer)
 }
 
 #[test]
@@ -159,19 +187,29 @@ fn a_flush_fails_where_the_device_does(rt: HostRuntime) -> Result<(), Fail> {
     Ok(())
 }
 
+const TWO_ANSWERED: &str = "T1 - AttachCurrentThread = E1.1
+T1 E1.1 NewString [72,105] = L1.1
+";
+
+/// Whether after so many reads of at most `most` bytes each the third line isn't read, and the two before it
+/// are answered.
+fn fails_after_two(alloc: Global, reads: u32, most: usize) -> Result<bool, Fail> {
+    let device = faulty(alloc, FIRST_PATH, reads, most)?;
+    let reader = BufReader::with_capacity(alloc, 100, device)?;
+    let done = run(alloc, reader, 10, 1000)?;
+    Ok(
+        done.result == Err(RunFault::Read { line: 3 })
+            && done.written.as_slice() == TWO_ANSWERED.as_bytes()
+            && done.reader_failed
+            && !done.writer_failed,
+    )
+}
+
 /// The first two lines of the first path, and then a failure.
 #[test]
 fn reader_fails_after_two(rt: HostRuntime) -> Result<(), Fail> {
     for (reads, most) in [(52u32, 1usize), (8, 7), (1, 52)] {
-        let device = faulty(rt.alloc(), FIRST_PATH, reads, most)?;
-        let reader = BufReader::with_capacity(rt.alloc(), 100, device)?;
-        let done = run(rt.alloc(), reader, 10, 1000)?;
-        assert_eq!(rt; done.result, Err(RunFault::Read { line: 3 }), "at {most}");
-        assert!(rt;
-            done.written.as_slice()
-                == b"T1 - AttachCurrentThread = E1.1\nT1 E1.1 NewString [72,105] = L1.1\n".as_slice()
-        );
-        assert!(rt; done.reader_failed && !done.writer_failed);
+        assert!(rt; fails_after_two(rt.alloc(), reads, most)?, "at {most}");
     }
     Ok(())
 }
@@ -187,12 +225,9 @@ fn three_thousand_lines(rt: HostRuntime) -> Result<(), Fail> {
     let script = repeated(rt.alloc(), QUESTION, 3000)?;
     let answers = repeated(rt.alloc(), ANSWER, 3000)?;
     for most in [1usize, 7, 11, 12, 13, 4096] {
-        let device = faulty(rt.alloc(), script.as_str(), u32::MAX, most)?;
-        let reader = BufReader::with_capacity(rt.alloc(), most, device)?;
-        let done = run(rt.alloc(), reader, 10_000, 100_000)?;
-        assert_eq!(rt; done.result, Ok(3000), "at {most}");
-        assert!(rt; done.written.as_slice() == answers.as_bytes(), "at {most}");
-        assert!(rt; !done.reader_failed && !done.writer_failed, "at {most}");
+        let ending = (Ok(3000), answers.as_str());
+        let found = read_so(rt.alloc(), &script, (most, most), (10_000, 100_000), ending)?;
+        assert_eq!(rt; found, None, "at {most}");
     }
     Ok(())
 }
@@ -257,19 +292,38 @@ fn faults_have_their_texts(rt: HostRuntime) -> Result<(), Fail> {
     Ok(())
 }
 
-/// What a guard over this heap answers to the script, and how many entries it journaled.
-fn answers_over(
+/// What a guard answers to the script, and how many entries it journaled.
+fn answers_and_len(
+    guard: &mut Guard<&LocalHeap>,
     alloc: Global,
-    heap: &LocalHeap,
     script: &[u8],
     written: &mut Vec<u8>,
 ) -> Result<(Result<u64, RunFault>, usize), Fail> {
     let mut reader = Watched::new(script);
     let mut writer = Watched::new(written);
-    lend(guarded(heap, alloc, CLOSED, 10_000)?, |guard| {
-        let result = check_with(guard, alloc, &mut reader, &mut writer)?;
-        Ok((result, guard.journal_len()))
-    })
+    let done = check_with(guard, alloc, &mut reader, &mut writer)?;
+    Ok((done, guard.journal_len()))
+}
+
+fn answers_in(
+    heap: &LocalHeap,
+    alloc: Global,
+    script: &[u8],
+    written: &mut Vec<u8>,
+) -> Result<(Result<u64, RunFault>, usize), Fail> {
+    let mut guard = guarded(heap, alloc, CLOSED, 10_000)?;
+    answers_and_len(&mut guard, alloc, script, written)
+}
+
+/// The same over a heap of so many bytes.
+fn answers_over(
+    alloc: Global,
+    bytes: usize,
+    script: &[u8],
+    written: &mut Vec<u8>,
+) -> Result<(Result<u64, RunFault>, usize), Fail> {
+    let heap = LocalHeap::new(alloc, bytes)?;
+    answers_in(&heap, alloc, script, written)
 }
 
 /// With room for one block of the journal and not for two the line past it is refused.
@@ -278,11 +332,10 @@ fn a_refused_growth_names_its_line(rt: HostRuntime) -> Result<(), Fail> {
     let script = repeated(rt.alloc(), QUESTION, 1500)?;
     let answers = repeated(rt.alloc(), ANSWER, 1024)?;
     let block = first_block(rt.alloc())?;
-    let heap = LocalHeap::new(rt.alloc(), block.saturating_add(block / 2))?;
+    let bytes = block.saturating_add(block / 2);
     let mut written = Vec::new(rt.alloc());
-    let (result, count) = answers_over(rt.alloc(), &heap, script.as_bytes(), &mut written)?;
-    assert_eq!(rt; result, Err(RunFault::NoMemory { line: 1025 }));
-    assert_eq!(rt; count, 1024);
+    let found = answers_over(rt.alloc(), bytes, script.as_bytes(), &mut written)?;
+    assert_eq!(rt; found, (Err(RunFault::NoMemory { line: 1025 }), 1024));
     assert!(rt; written.as_slice() == answers.as_bytes());
     Ok(())
 }
@@ -293,30 +346,45 @@ fn has_entries(guard: &Guard, count: usize) -> bool {
         && guard.journal_len() == count
 }
 
+/// Whether the guard answers so many questions, and has so many entries then.
+fn has_answered(
+    guard: &mut Guard,
+    alloc: Global,
+    count: u32,
+    written: &mut Vec<u8>,
+) -> Result<bool, Fail> {
+    let script = repeated(alloc, QUESTION, count)?;
+    let mut reader = Watched::new(script.as_bytes());
+    let mut writer = Watched::new(written);
+    let done = check_with(guard, alloc, &mut reader, &mut writer)?;
+    Ok(done == Ok(u64::from(count)) && has_entries(guard, count as usize))
+}
+
+fn has_answered_anew(alloc: Global, count: u32, written: &mut Vec<u8>) -> Result<bool, Fail> {
+    let mut guard = guarded(alloc, alloc, CLOSED, 10_000)?;
+    has_answered(&mut guard, alloc, count, written)
+}
+
+fn verified(alloc: Global, text: &[u8]) -> Result<Result<Verdict, RunFault>, Fail> {
+    let mut reader = Watched::new(text);
+    let setup = setup(alloc, CLOSED)?;
+    Ok(verify(alloc, alloc, setup, 10_000, &mut reader))
+}
+
 /// A journal of so many entries has one at each place, and none past them.
 #[test]
 fn journals_of_blocks(rt: HostRuntime) -> Result<(), Fail> {
     for count in [1023u32, 1024, 1025, 2049] {
-        let script = repeated(rt.alloc(), QUESTION, count)?;
-        let mut reader = Watched::new(script.as_bytes());
-        let mut writer = Watched::new(Vec::new(rt.alloc()));
-        let guard = guarded(rt.alloc(), rt.alloc(), CLOSED, 10_000)?;
-        let (done, is_whole) = lend(guard, |guard| -> Result<_, Fail> {
-            let done = check_with(guard, rt.alloc(), &mut reader, &mut writer)?;
-            Ok((done, has_entries(guard, count as usize)))
-        })?;
-        assert_eq!(rt; done, Ok(count as u64));
-        assert!(rt; is_whole, "at {count}");
-        let text = writer.into_inner();
-        let mut reader = Watched::new(text.as_slice());
-        let read_back = verify(
-            rt.alloc(),
-            rt.alloc(),
-            setup(rt.alloc(), CLOSED)?,
-            10_000,
-            &mut reader,
+        let mut text = Vec::new(rt.alloc());
+        assert!(rt;
+            has_answered_anew(rt.alloc(), count, &mut text)?,
+            "at {count}"
         );
-        assert_eq!(rt; read_back, Ok(Verdict::Legal));
+        assert_eq!(rt;
+            verified(rt.alloc(), &text)?,
+            Ok(Verdict::Legal),
+            "at {count}"
+        );
     }
     Ok(())
 }

@@ -1,5 +1,6 @@
-use super::{CLOSED, FIRST_PATH, check_with, guarded, lend};
-use jg_script::Watched;
+use super::{FIRST_PATH, check_anew};
+use jg_script::{RunFault, Watched};
+use std::alloc::Global;
 use std::cell::Cell;
 use std::io;
 use std::io::{BufReader, BufWriter, ErrorKind, Read, Write};
@@ -57,28 +58,34 @@ fn lines_in(bytes: &[u8]) -> u32 {
     count
 }
 
+/// What a guard answers to the first path, read in pieces of so many bytes, and how many lines are heard.
+fn answers_to_pieces(alloc: Global, most: usize) -> Result<(Result<u64, RunFault>, u32), Fail> {
+    let answered = Cell::new(0u32);
+    let asking = Asking {
+        text: FIRST_PATH.as_bytes(),
+        most,
+        asked: 0,
+        answered: &answered,
+    };
+    let hearing = Hearing {
+        answered: &answered,
+    };
+    let mut reader = Watched::new(BufReader::with_capacity(alloc, 100, asking)?);
+    let mut writer = Watched::new(BufWriter::with_capacity(alloc, 1000, hearing)?);
+    let done = check_anew(alloc, 10, &mut reader, &mut writer)?;
+    Ok((done, answered.get()))
+}
+
 /// Whoever sends a line and waits has its answer before more is read, also where the answers are
 /// buffered, and wherever reads cut the lines.
 #[test]
 fn each_answer_comes_before_more_is_read(rt: HostRuntime) -> Result<(), Fail> {
     for most in [1usize, 7, 25, 26, 60, 1000] {
-        let answered = Cell::new(0u32);
-        let asking = Asking {
-            text: FIRST_PATH.as_bytes(),
-            most,
-            asked: 0,
-            answered: &answered,
-        };
-        let hearing = Hearing {
-            answered: &answered,
-        };
-        let mut reader = Watched::new(BufReader::with_capacity(rt.alloc(), 100, asking)?);
-        let mut writer = Watched::new(BufWriter::with_capacity(rt.alloc(), 1000, hearing)?);
-        let done = lend(guarded(rt.alloc(), rt.alloc(), CLOSED, 10)?, |guard| {
-            check_with(guard, rt.alloc(), &mut reader, &mut writer)
-        })?;
-        assert_eq!(rt; done, Ok(6), "at {most}");
-        assert_eq!(rt; answered.get(), 6, "at {most}");
+        assert_eq!(rt;
+            answers_to_pieces(rt.alloc(), most)?,
+            (Ok(6), 6),
+            "at {most}"
+        );
     }
     Ok(())
 }

@@ -1,0 +1,4 @@
+mod arguments;
+mod lines;
+mod setups;
+mod words;

@@ -1,0 +1,152 @@
+use jg_args::{ArgsFault, Asked, Task, help_text, read_words};
+use std::alloc::Global;
+use std::test::Fail;
+
+const DEFAULTS: Asked<'static> = Asked {
+    task: Task::Check,
+    setup: None,
+    limit: 1_000_000,
+    turns: 1000,
+    leaks: false,
+};
+
+const STATUSES: &str =
+    "Exit status: 0 done, 1 the journal differs, 2 faulty script, setup or arguments, 3 limit met or no memory, \
+    4 reading or writing failed.";
+
+/// Words, and what they ask for.
+const READ: [(&[&str], Asked<'static>); 6] = [
+    (&[], DEFAULTS),
+    (&["check"], DEFAULTS),
+    (
+        &["check", "--leaks", "--limit", "0", "--setup=app.toml"],
+        Asked {
+            limit: 0,
+            setup: Some("app.toml"),
+            leaks: true,
+            ..DEFAULTS
+        },
+    ),
+    (
+        &["verify", "--limit", "1000000"],
+        Asked {
+            task: Task::Verify,
+            ..DEFAULTS
+        },
+    ),
+    (
+        &["play", "--turns", "1", "two"],
+        Asked {
+            task: Task::Play("two"),
+            turns: 1,
+            ..DEFAULTS
+        },
+    ),
+    (
+        &["migrate", "--setup", "app.toml"],
+        Asked {
+            task: Task::Migrate("app.toml"),
+            setup: Some("app.toml"),
+            ..DEFAULTS
+        },
+    ),
+];
+
+/// The place of the first of these words that aren't read so.
+fn other_words(alloc: Global) -> Option<usize> {
+    for (place, (words, asked)) in READ.iter().enumerate() {
+        if read_words(alloc, *words) != Ok(*asked) {
+            return Some(place);
+        }
+    }
+    None
+}
+
+#[test]
+fn words_are_read(rt: HostRuntime) {
+    assert_eq!(rt; other_words(rt.alloc()), None);
+}
+
+/// Words that ask for nothing.
+const REFUSED: [&[&str]; 22] = [
+    &["fly"],
+    &["--fly"],
+    &["--limit"],
+    &["--limit", "1000001"],
+    &["--limit", "-1"],
+    &["--limit", "many"],
+    &["--limit", "1", "--limit", "1"],
+    &["--limit", "1", "check"],
+    &["--setup"],
+    &["--setup", "app.toml", "--setup", "app.toml"],
+    &["check", "--setup", "app.toml", "--setup=lib.toml"],
+    &["--setup", "app.toml", "check"],
+    &["--leaks", "verify"],
+    &["verify", "--leaks"],
+    &["play"],
+    &["play", "two", "--turns", "0"],
+    &["--turns", "5"],
+    &["play", "two", "--leaks"],
+    &["check", "--version"],
+    &["migrate"],
+    &["--setup", "app.toml", "migrate"],
+    &["migrate", "--setup", "app.toml", "--limit", "1"],
+];
+
+/// Whether this is answered to the words.
+fn is_stopped(alloc: Global, words: &[&str], fault: ArgsFault) -> bool {
+    read_words(alloc, words).err() == Some(fault)
+}
+
+/// The place of the first of these words that are read.
+fn other_refused(alloc: Global) -> Option<usize> {
+    for (place, words) in REFUSED.iter().enumerate() {
+        if !is_stopped(alloc, *words, ArgsFault::Refused) {
+            return Some(place);
+        }
+    }
+    None
+}
+
+#[test]
+fn words_are_refused(rt: HostRuntime) {
+    assert_eq!(rt; other_refused(rt.alloc()), None);
+}
+
+/// Words that ask for a text, and a part of it.
+const TEXTS: [(&[&str], &str); 12] = [
+    (&["--help"], "Usage: jg [OPTIONS] [COMMAND]"),
+    (&["check", "--help"], "Usage: jg check [OPTIONS]"),
+    (&["--help"], "--setup <FILE>"),
+    (&["check", "--help"], "--setup <FILE>"),
+    (&["check", "--help"], "--leaks"),
+    (&["--help"], STATUSES),
+    (&["check", "-h"], STATUSES),
+    (&["verify", "--help"], "Usage: jg verify [OPTIONS]"),
+    (&["verify", "-h"], STATUSES),
+    (&["play", "--help"], "Usage: jg play [OPTIONS] <FILE>"),
+    (&["migrate", "--help"], "Usage: jg migrate --setup <FILE>"),
+    (&["--version"], "jg 0.1.0\n"),
+];
+
+/// Whether the words ask for a text with this part.
+fn has_part(alloc: Global, words: &[&str], part: &str) -> Result<bool, Fail> {
+    let text = help_text(alloc, words)?;
+    Ok(text.contains(part))
+}
+
+/// The place of the first of these words that don't ask for a text, or for one without the part.
+fn other_text(alloc: Global) -> Result<Option<usize>, Fail> {
+    for (place, (words, part)) in TEXTS.iter().enumerate() {
+        if !is_stopped(alloc, *words, ArgsFault::Help) || !has_part(alloc, *words, *part)? {
+            return Ok(Some(place));
+        }
+    }
+    Ok(None)
+}
+
+#[test]
+fn texts_are_asked_for(rt: HostRuntime) -> Result<(), Fail> {
+    assert_eq!(rt; other_text(rt.alloc())?, None);
+    Ok(())
+}
