@@ -2,7 +2,7 @@
 //! pays for the growth of the whole.
 #![tactic(auto)]
 
-ghost use Rattle.std.specs.Prelude.{◌≡◌, ◌<◌, ◌≤◌, ◌+◌, ◌++◌, ◌∷◌, [], length, slice_get, OnOk, OnErr};
+ghost use Rattle.std.specs.Prelude.{◌≡◌, ◌<◌, ◌≤◌, ◌+◌, ◌++◌, ◌∷◌, [], length, max, slice_get, OnOk, OnErr};
 ghost use Rattle.std.specs.Option.{option_copied};
 
 use std::alloc::{AllocError, Allocator, Global};
@@ -76,9 +76,9 @@ impl<T, A: Allocator + Clone> Blocks<T, A> {
 
     /// One empty block more.
     fn grow(&mut self) -> Result<(), AllocError>
-        ensures ok { OnOk result (self.old.spare < self.new.spare) }
+        ensures ok { OnOk result (self.new.spare ≡ self.old.spare + 1024) }
         ensures items { self.new.items ≡ self.old.items }
-        ensures spare { self.old.spare ≤ self.new.spare }
+        ensures err { OnErr result (self.new.spare ≡ self.old.spare) }
     {
         if self.blocks.len() >= MOST_BLOCKS {
             return Err(AllocError);
@@ -90,13 +90,15 @@ impl<T, A: Allocator + Clone> Blocks<T, A> {
     }
 
     /// Makes room for this many items more, so that as many calls of `push` can't fail. Takes no
-    /// memory where there is the room. Fails only for want of memory; no item changes or moves either
-    /// way, and no room is lost.
+    /// memory where there is the room, and for less than a block more than is asked for where there isn't.
+    /// Fails only for want of memory; no item changes or moves either way, and no room is lost. A failed
+    /// call may have made some of the room.
     pub fn reserve(&mut self, additional: usize) -> Result<(), AllocError>
         ensures ok { OnOk result (additional ≤ self.new.spare) }
         ensures wants { OnErr result (self.old.spare < additional) }
         ensures items { self.new.items ≡ self.old.items }
         ensures spare { self.old.spare ≤ self.new.spare }
+        ensures few { self.new.spare ≤ max self.old.spare (additional + 1023) }
     {
         while self.spare() < additional {
             self.grow()?;

@@ -1,4 +1,4 @@
-ghost use Rattle.std.specs.Prelude.{◌≡◌, ℕ, pos, true, false, ◌<◌, ◌++◌, List, [], ◌∷◌, map, length, OnOk, OnErr, option_map, slice_index_or};
+ghost use Rattle.std.specs.Prelude.{◌≡◌, ℕ, pos, true, false, ◌<◌, ◌≤◌, ◌++◌, List, [], ◌∷◌, map, length, vec_len, vec_capacity, OnOk, OnErr, option_map, slice_index_or};
 ghost use Rattle.jg_buffers.specs.History.{Event, Opened, Wrote, Closed, is_critical, copy_with, pin_through, opened, content, contents, in_critical, pinned_by, pins_object, info_of, is_null};
 ghost use Rattle.jg_buffers.specs.Rows.{AddsNumber, IsAbove, KeepsBuffers, KeepsNumbers, name_of, row_of, copy_length, items_in};
 ghost use Rattle.jg_buffers.specs.Standing.{Stands};
@@ -19,10 +19,9 @@ use std::alloc::{AllocError, Allocator, Global};
 use std::marker::Model;
 
 /// The open buffers. Contracts see the rows. Copies and pinned buffers are kept apart, and the
-/// pinned ones are counted by thread and by reference, so that no look-up goes over all of them.
-/// Beside what is open, it takes 16 bytes for each thread up to the one of the greatest number that
-/// had a pinned buffer, and each such thread takes 8 for each buffer that it was lent, up to its newest
-/// pinned one.
+/// pinned ones are counted by thread and by reference, so that no look-up goes over all of them. It takes
+/// memory for as many as were ever open at once, and 16 bytes for each thread up to the one of the
+/// greatest number that had a pinned buffer.
 pub struct Buffers<A: Allocator = Global> {
     copies: Copies<A>,
     pins: ByMaker<Pinned, A>,
@@ -117,7 +116,8 @@ impl<A: Allocator + Clone> Buffers<A> {
     /// Opens buffer `n` of the thread, a pinned one of `length` items through the reference, and
     /// with it a critical region (chapter 4, `GetPrimitiveArrayCritical` and `GetStringCritical`).
     /// The family is one that pins, the reference isn't null, and the number is as for
-    /// [`Buffers::open_copy`]. Fails only for want of memory, and then leaves all unchanged.
+    /// [`Buffers::open_copy`]. Fails for want of memory, and where the thread has 2^32 - 1 pinned buffers
+    /// open, and then leaves all unchanged.
     pub fn open_pin(
         &mut self,
         tid: Tid,
@@ -266,10 +266,11 @@ impl<A: Allocator + Clone> Buffers<A> {
     }
 
     /// Appends the open copies and then the open pinned buffers, each kind in no order that means
-    /// anything. Takes time by how many there are. Fails only for want of memory; the list then
-    /// holds a part of them.
+    /// anything. Takes time by how many there are. Fails only for want of memory, where the list is full;
+    /// it then holds a part of them.
     pub fn list<B: Allocator>(&self, buffers: &mut Vec<BufId, B>) -> Result<(), AllocError>
         ensures ok { OnOk result (buffers.new.items ≡ buffers.old.items ++ map name_of self.now.lent) }
+        ensures full { OnErr result (vec_capacity buffers.new ≤ vec_len buffers.new) }
     {
         list_copies(&self.copies, buffers)?;
         list_pins(&self.pins, buffers)

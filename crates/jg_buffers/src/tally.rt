@@ -1,4 +1,4 @@
-ghost use Rattle.std.specs.Prelude.{◌≡◌, ◌+◌, ◌-◌, ◌<◌, OnOk, IsSome, if◌then◌else◌};
+ghost use Rattle.std.specs.Prelude.{◌≡◌, ◌+◌, ◌-◌, ◌<◌, ◌≤◌, OnOk, IsSome, None, if◌then◌else◌};
 ghost use Rattle.indexmap.specs.IndexMap.{get};
 ghost use Rattle.jg_buffers.specs.Seen.{count_at};
 
@@ -62,9 +62,10 @@ pub fn raise<K: Eq + Hash, A: Allocator>(map: &mut Tally<K, A>, key: &K)
 
 /// One less of the key, which is forgotten at 0.
 pub fn lower<K: Eq + Hash + Drop, A: Allocator>(map: &mut Tally<K, A>, key: &K)
-    ensures { (q : K) → count_at (get K.eq map.new q)
+    ensures count { (q : K) → count_at (get K.eq map.new q)
         ≡ (if K.eq key.now q then count_at (get K.eq map.old key.now) - 1
         else count_at (get K.eq map.old q)) }
+    ensures forgotten { count_at (get K.eq map.old key.now) ≤ 1 → get K.eq map.new key.now ≡ None }
 {
     if let Some(count) = map.get_mut(key) {
         if *count > 1 {

@@ -1,6 +1,6 @@
 //! Passes over all open buffers of one kind. Each visits what is open, and no more.
 
-ghost use Rattle.std.specs.Prelude.{◌≡◌, ◌==◌, ◌++◌, OnOk, map};
+ghost use Rattle.std.specs.Prelude.{◌≡◌, ◌≤◌, ◌==◌, ◌++◌, OnOk, OnErr, map, vec_len, vec_capacity};
 ghost use Rattle.std.specs.List.{list_any};
 ghost use Rattle.indexmap.specs.IndexMap.{keys};
 ghost use Rattle.jg_lists.specs.ByMaker.{named};
@@ -73,13 +73,15 @@ pub fn list_copies<A: Allocator, B: Allocator>(
     copies: &Copies<A>,
     buffers: &mut Vec<BufId, B>,
 ) -> Result<(), AllocError>
-    ensures { OnOk result (buffers.new.items ≡ buffers.old.items ++ map key_name (keys copies.now)) }
+    ensures ok { OnOk result (buffers.new.items ≡ buffers.old.items ++ map key_name (keys copies.now)) }
+    ensures full { OnErr result (vec_capacity buffers.new ≤ vec_len buffers.new) }
 {
     for key in copies.keys() {
-        buffers.push(BufId {
+        buffers.reserve(1)?;
+        buffers.push_reserved(BufId {
             maker: Tid(key.0),
             n: key.1,
-        })?;
+        });
     }
     Ok(())
 }
@@ -89,14 +91,16 @@ fn list_numbers<B: Allocator>(
     maker: u16,
     buffers: &mut Vec<BufId, B>,
 ) -> Result<(), AllocError>
-    ensures { OnOk result (buffers.new.items
+    ensures ok { OnOk result (buffers.new.items
         ≡ buffers.old.items ++ map (λ seat. key_name (maker, seat.number)) numbers.now) }
+    ensures full { OnErr result (vec_capacity buffers.new ≤ vec_len buffers.new) }
 {
     for seat in numbers {
-        buffers.push(BufId {
+        buffers.reserve(1)?;
+        buffers.push_reserved(BufId {
             maker: Tid(maker),
             n: seat.number,
-        })?;
+        });
     }
     Ok(())
 }
@@ -106,8 +110,9 @@ fn list_in<A: Allocator, B: Allocator>(
     maker: u16,
     buffers: &mut Vec<BufId, B>,
 ) -> Result<(), AllocError>
-    ensures { OnOk result (buffers.new.items
+    ensures ok { OnOk result (buffers.new.items
         ≡ buffers.old.items ++ map (λ e. key_name (maker, e.0)) numbers.now) }
+    ensures full { OnErr result (vec_capacity buffers.new ≤ vec_len buffers.new) }
 {
     list_numbers(numbers.seats(), maker, buffers)
 }
@@ -117,7 +122,8 @@ pub fn list_pins<A: Allocator, B: Allocator>(
     pins: &ByMaker<Pinned, A>,
     buffers: &mut Vec<BufId, B>,
 ) -> Result<(), AllocError>
-    ensures { OnOk result (buffers.new.items ≡ buffers.old.items ++ map (λ e. key_name e.0) (named pins.now)) }
+    ensures ok { OnOk result (buffers.new.items ≡ buffers.old.items ++ map (λ e. key_name e.0) (named pins.now)) }
+    ensures full { OnErr result (vec_capacity buffers.new ≤ vec_len buffers.new) }
 {
     for table in pins.seats() {
         list_in(&table.value, table.number as u16, buffers)?;

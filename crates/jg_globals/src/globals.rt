@@ -1,4 +1,4 @@
-ghost use Rattle.std.specs.Prelude.{◌≡◌, ℕ, List, [], ◌∷◌, ◌++◌, map, OnOk, OnErr};
+ghost use Rattle.std.specs.Prelude.{◌≡◌, ◌≤◌, ℕ, List, [], ◌∷◌, ◌++◌, map, vec_len, vec_capacity, OnOk, OnErr};
 ghost use Rattle.std.specs.Option.{option_map};
 ghost use Rattle.jg_globals.specs.History.{Event, MakeStrong, MakeWeak, Clear, strong_target, target_of, deletion, holds_object};
 ghost use Rattle.jg_globals.specs.Rows.{AddsNumber, IsAbove, KeepsNumbers, strong_ref, weak_ref};
@@ -14,9 +14,8 @@ use jg_words::{Kind, ObjId, Ref, Tid};
 use std::alloc::{AllocError, Allocator, Global};
 use std::marker::Model;
 
-/// The global and weak global references in being. Beside what is in being, each maker takes 4 bytes
-/// for each reference that it was handed out, up to its newest global one, and 4 for each up to its
-/// newest weak one. Contracts see the rows.
+/// The global and weak global references in being. Takes memory for as many of each kind as each maker
+/// ever had at once, whatever their numbers are. Contracts see the rows.
 #[derive(Drop)]
 pub struct Globals<A: Allocator = Global> {
     strong: ByMaker<ObjId, A>,
@@ -54,8 +53,8 @@ impl<A: Allocator + Copy> Globals<A> {
 impl<A: Allocator + Clone> Globals<A> {
     /// Makes global reference `n` of `maker`, which names the object (chapter 4, `NewGlobalRef`).
     /// Asks that `n` is above each number of the maker's references in being, of both kinds: who
-    /// counts them knows it (`new_number_is_above`). Fails only for want of memory, and then leaves
-    /// all unchanged.
+    /// counts them knows it (`new_number_is_above`). Fails for want of memory, and where the maker has
+    /// 2^32 - 1 global references in being, and then leaves all unchanged.
     pub fn make_strong(&mut self, maker: Tid, n: u64, object: ObjId) -> Result<(), AllocError>
         requires { IsAbove maker.0 n self.old }
         ensures ok { OnOk result ((e : List Event) → Stands self.old e
@@ -69,8 +68,8 @@ impl<A: Allocator + Clone> Globals<A> {
     }
 
     /// Makes weak global reference `n` of `maker`, which names the object until it is cleared
-    /// (chapter 4, `NewWeakGlobalRef`). Asks for what `make_strong` asks. Fails only for want of
-    /// memory, and then leaves all unchanged.
+    /// (chapter 4, `NewWeakGlobalRef`). Asks for what `make_strong` asks. Fails for want of memory, and
+    /// where the maker has 2^32 - 1 weak references in being, and then leaves all unchanged.
     pub fn make_weak(&mut self, maker: Tid, n: u64, object: ObjId) -> Result<(), AllocError>
         requires { IsAbove maker.0 n self.old }
         ensures ok { OnOk result ((e : List Event) → Stands self.old e
@@ -165,11 +164,12 @@ impl<A: Allocator> Globals<A> {
     }
 
     /// Appends the global references in being and then the weak ones, cleared ones too, each kind in
-    /// no order that means anything. Takes time by how many there are. Fails only for want of memory;
-    /// the list then holds a part of them.
+    /// no order that means anything. Takes time by how many there are. Fails only for want of memory,
+    /// where the list is full; it then holds a part of them.
     pub fn list<B: Allocator>(&self, refs: &mut Vec<Ref, B>) -> Result<(), AllocError>
         ensures ok { OnOk result (refs.new.items
             ≡ refs.old.items ++ (map strong_ref self.now.strong ++ map weak_ref self.now.weak)) }
+        ensures full { OnErr result (vec_capacity refs.new ≤ vec_len refs.new) }
     {
         list_names(&self.strong, Kind::Global, refs)?;
         list_names(&self.weak, Kind::Weak, refs)

@@ -1,6 +1,6 @@
 //! Passes over all references of one kind. Each visits what is in being, and no more.
 
-ghost use Rattle.std.specs.Prelude.{◌≡◌, ◌==◌, ◌++◌, OnOk, map};
+ghost use Rattle.std.specs.Prelude.{◌≡◌, ◌≤◌, ◌==◌, ◌++◌, OnOk, OnErr, map, vec_len, vec_capacity};
 ghost use Rattle.std.specs.List.{list_any};
 ghost use Rattle.jg_lists.specs.Marks.{Marks};
 ghost use Rattle.jg_lists.specs.ByMaker.{named};
@@ -71,15 +71,17 @@ fn list_numbers<V, B: Allocator>(
     maker: u16,
     refs: &mut Vec<Ref, B>,
 ) -> Result<(), AllocError>
-    ensures { OnOk result (refs.new.items
+    ensures ok { OnOk result (refs.new.items
         ≡ refs.old.items ++ map (λ seat. ref_named kind (maker, seat.number)) numbers.now) }
+    ensures full { OnErr result (vec_capacity refs.new ≤ vec_len refs.new) }
 {
     for seat in numbers {
-        refs.push(Ref::To {
+        refs.reserve(1)?;
+        refs.push_reserved(Ref::To {
             kind,
             maker: Tid(maker),
             n: seat.number,
-        })?;
+        });
     }
     Ok(())
 }
@@ -90,19 +92,21 @@ fn list_in<V, A: Allocator, B: Allocator>(
     maker: u16,
     refs: &mut Vec<Ref, B>,
 ) -> Result<(), AllocError>
-    ensures { OnOk result (refs.new.items
+    ensures ok { OnOk result (refs.new.items
         ≡ refs.old.items ++ map (λ e. ref_named kind (maker, e.0)) numbers.now) }
+    ensures full { OnErr result (vec_capacity refs.new ≤ vec_len refs.new) }
 {
     list_numbers(numbers.seats(), kind, maker, refs)
 }
 
-/// Appends the references of that kind.
+/// Appends the references of that kind. Fails only where the list is full and can't grow.
 pub fn list_names<V, A: Allocator, B: Allocator>(
     rows: &ByMaker<V, A>,
     kind: Kind,
     refs: &mut Vec<Ref, B>,
 ) -> Result<(), AllocError>
-    ensures { OnOk result (refs.new.items ≡ refs.old.items ++ map (λ e. ref_named kind e.0) (named rows.now)) }
+    ensures ok { OnOk result (refs.new.items ≡ refs.old.items ++ map (λ e. ref_named kind e.0) (named rows.now)) }
+    ensures full { OnErr result (vec_capacity refs.new ≤ vec_len refs.new) }
 {
     for table in rows.seats() {
         list_in(&table.value, kind, table.number as u16, refs)?;

@@ -13,6 +13,7 @@ mod Laws
 mod Shapes
 mod Next
 mod Objects
+mod Letting
 mod Whole
 mod Decoding
 pub mod Callers

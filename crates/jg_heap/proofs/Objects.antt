@@ -142,7 +142,7 @@ none_past (p ∷ unheld) n o all past =
     let apart : eqb p o ≡ false = grind (arith, nat_tests, below, past) in
     rw (apart, none_past unheld n o (λ i d h. all (suc i) d (omega (arith, h))) past) refl
 
-stays : (b : Bool) → b ≡ (b && true)
+pub stays : (b : Bool) → b ≡ (b && true)
 stays true = refl
 stays false = refl
 
@@ -155,7 +155,7 @@ none : (b : Bool) → false ≡ (b && false)
 none true = refl
 none false = refl
 
-unset_at : (there : List Bool) (p o : ℕ) → p < length there → get_or (set there p false) o false ≡ (get_or there o false && not (eqb p o))
+pub unset_at : (there : List Bool) (p o : ℕ) → p < length there → get_or (set there p false) o false ≡ (get_or there o false && not (eqb p o))
 unset_at there p o within =
     elim (cases_eq p o) [
       | inl same ↦

@@ -71,7 +71,7 @@ there_after old new marked o within ended =
     ap (λ (r : Row). not r.gone) ended ∙ ap (λ b. not ((row_in old o).gone || b)) (goes_now old marked o within) ∙ sym (stays_alike (row_in old o).gone (marked o))
 
 -- the list of those in being, object by object
-there_at : {A : Type 0} (items : List (Object A)) (o : ℕ) → o < length items → get_or (map in_being items) o false ≡ is_there (map row_of items) o
+pub there_at : {A : Type 0} (items : List (Object A)) (o : ℕ) → o < length items → get_or (map in_being items) o false ≡ is_there (map row_of items) o
 there_at items o h =
     ap (λ (bs : List Bool). get_or bs o false) (sym (map-map (λ (r : Row). not r.gone) row_of items))
     ∙ get_or-map (λ (r : Row). not r.gone) (map row_of items) o no_row false (omega (arith, h, length-map items row_of))

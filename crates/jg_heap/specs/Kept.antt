@@ -1,5 +1,5 @@
 -- The rows of the objects that the store keeps, and what a call does to one row.
-use Rattle.std.specs.Prelude.{ℕ, ◌≡◌, ◌≤◌, All, Bool, true, false, not, ◌&&◌, ◌||◌, List, [], ◌∷◌, ◌+◌, ◌-◌, ◌++◌, length, take, drop, flat_map, map, filter, slice_set, slice_index_or}
+use Rattle.std.specs.Prelude.{ℕ, ◌≡◌, ◌≤◌, ◌==◌, All, Bool, true, false, not, ◌&&◌, ◌||◌, List, [], ◌∷◌, ◌+◌, ◌-◌, ◌++◌, length, take, drop, flat_map, map, filter, slice_set, slice_index_or}
 use Rattle.std.specs.List.{list_any, range_with_len}
 use Rattle.jg_heap.specs.declared.object.Slot.{Slot}
 use Rattle.jg_heap.specs.declared.object.Slot.TheVariants.{Number, Object as ToObject}
@@ -105,6 +105,19 @@ in_being x = not x.gone
 -- it is in being, as a list of them says, and its mark isn't set
 abbrev pub unheld_in : List Bool → List Bool → ℕ → Bool
 unheld_in there marks o = slice_index_or there o false && not (slice_index_or marks o false)
+
+-- of these objects those that aren't held are no more in being, as lists say which are
+abbrev pub LetsGo : (ℕ → Bool) → List ℕ → List Bool → List Bool → Type 0
+LetsGo is_held objects old new = (o : ℕ) → slice_index_or new o false
+    ≡ (slice_index_or old o false && not (list_any (λ p. p == o) objects && not (is_held o)))
+
+-- its mark is set, or the roots hold it
+abbrev pub marked_or_root : List Bool → (ℕ → Bool) → ℕ → Bool
+marked_or_root marks is_root o = slice_index_or marks o false || is_root o
+
+-- how many are true
+abbrev pub trues : List Bool → ℕ
+trues flags = length (filter (λ flag. flag) flags)
 
 -- the numbers of a block's objects, 32 in a row
 unfoldable pub block_of : ℕ → List ℕ

@@ -2,11 +2,12 @@ ghost use Rattle.std.specs.Prelude.{◌≡◌, ℕ, ◌+◌, ◌-◌, ◌++◌, 
 ghost use Rattle.std.specs.List.{list_any, range_with_len};
 ghost use Rattle.jg_heap.specs.declared.object.Slot.TheVariants.{Object as ToObject};
 ghost use Rattle.jg_heap.specs.History.{holds};
-ghost use Rattle.jg_heap.specs.Kept.{slots_of_body, row_of_body, slot_of_row_holds, unheld_in, block_of, numbers_in, AreWhole};
+ghost use Rattle.jg_heap.specs.Kept.{slots_of_body, row_of_body, slot_of_row_holds, unheld_in, marked_or_root, block_of, numbers_in, trues, AreWhole, LetsGo};
 ghost use Rattle.jg_lists.specs.Marks.{Marks};
 
 use crate::body::Body;
 use crate::object::Slot;
+use crate::roots::Roots;
 use jg_lists::ObjectMarks;
 use jg_words::ObjId;
 use std::alloc::{AllocError, Allocator};
@@ -172,6 +173,81 @@ pub(crate) fn let_all_go(there: &mut [bool], unheld: &[u64])
     }
 }
 
+/// Whether the object is in being, isn't marked, and isn't held by the roots.
+fn is_let_go<A: Allocator, R: Roots>(
+    there: &[bool],
+    marks: &ObjectMarks<A>,
+    roots: &R,
+    object: usize,
+) -> bool
+    requires { object < length there.now }
+    ensures { result
+        ≡ (slice_index_or there.now object false && not (marked_or_root marks.now (R.is_root roots.now) object)) }
+{
+    let number = object as u64;
+    there[object] && !(marks.is_set(number) || roots.holds(ObjId(number)))
+}
+
+/// Lets go of those of the objects from `first` on, before `end`, that are in being and that neither marks nor
+/// roots hold, and answers how many went.
+fn let_go_among<A: Allocator, R: Roots>(
+    there: &mut [bool],
+    marks: &ObjectMarks<A>,
+    roots: &R,
+    first: usize,
+    end: usize,
+) -> usize
+    requires order { first ≤ end }
+    requires within { end ≤ length there.old }
+    ensures there { LetsGo (marked_or_root marks.now (R.is_root roots.now)) (range_with_len first (end - first))
+        there.old there.new }
+    ensures count { result + trues there.new ≡ trues there.old }
+{
+    let mut count = 0usize;
+    for object in first..end {
+        if is_let_go(there, marks, roots, object) {
+            there[object] = false;
+            count += 1;
+        }
+    }
+    count
+}
+
+/// Lets go of those of the objects of the blocks, and of those from `loose` on, that are in being and that
+/// neither marks nor roots hold, and answers how many went.
+pub(crate) fn let_unheld_go<A: Allocator, R: Roots>(
+    there: &mut [bool],
+    marks: &ObjectMarks<A>,
+    roots: &R,
+    blocks: &[u64],
+    loose: usize,
+) -> usize
+    requires whole { AreWhole blocks.now (length there.old) }
+    requires loose { loose ≤ length there.old }
+    ensures there { LetsGo (marked_or_root marks.now (R.is_root roots.now))
+        (numbers_in blocks.now loose (length there.old)) there.old there.new }
+    ensures count { result + trues there.new ≡ trues there.old }
+{
+    let end = there.len();
+    let mut count = 0usize;
+    for block in blocks {
+        let first = *block as usize;
+        count += let_go_among(there, marks, roots, first, first + BLOCK);
+    }
+    count + let_go_among(there, marks, roots, loose, end)
+}
+
+/// Keeps the numbers of those that are marked or held by the roots.
+pub(crate) fn retain_held<A: Allocator, R: Roots>(
+    numbers: &mut Vec<u64, A>,
+    marks: &ObjectMarks<A>,
+    roots: &R,
+)
+    ensures { numbers.new.items ≡ filter (marked_or_root marks.now (R.is_root roots.now)) numbers.old.items }
+{
+    numbers.retain(|object| marks.is_set(*object) || roots.holds(ObjId(*object)));
+}
+
 /// Keeps the numbers of those that are marked.
 pub(crate) fn retain_marked<A: Allocator>(numbers: &mut Vec<u64, A>, marks: &ObjectMarks<A>)
     ensures { numbers.new.items ≡ filter (λ o. slice_index_or marks.now o false) numbers.old.items }
@@ -191,6 +267,7 @@ pub(crate) fn fill_block<A: Allocator>(
     ensures same { numbers_in blocks.new.items result count ≡ numbers_in blocks.old.items loose count }
     ensures whole { AreWhole blocks.old.items count → AreWhole blocks.new.items count }
     ensures loose { result ≤ count }
+    ensures filled { 32 ≤ count - loose → result ≡ loose + 32 }
 {
     if count - loose < BLOCK {
         return loose;
@@ -229,6 +306,7 @@ pub(crate) fn close_up_if<A: Allocator>(
     ensures there { (loose : ℕ) → filter (λ o. slice_index_or there.now o false) (numbers_in blocks.new.items loose (length there.now))
         ≡ filter (λ o. slice_index_or there.now o false) (numbers_in blocks.old.items loose (length there.now)) }
     ensures whole { AreWhole blocks.new.items (length there.now) }
+    ensures looked_over { length blocks.old.items + 8 < stale → result ≡ 0 }
 {
     if stale > blocks.len() + 8 {
         blocks.retain(|block| has_some(there, *block));

@@ -4,13 +4,15 @@ ghost use Rattle.jg_heap.specs.declared.object.Slot.TheVariants.{Number};
 ghost use Rattle.jg_heap.specs.Making.{making_of, class_in, units_in, length_in, CanMake, HasFields, IsArrayClass, IsPrimitiveArray, TakesItem};
 ghost use Rattle.jg_heap.specs.History.{Event, Event.Made as Made, Event.Wrote as Wrote, Event.Collected as Collected, count_of, making_at, value_at, gone_at, going, region_writes};
 ghost use Rattle.jg_heap.specs.Rows.{count_in, class_at, length_at, units_at, slot_at, class_rows, row_of_making, KeepsShapes};
-ghost use Rattle.jg_heap.specs.Standing.{Stands, MarksRoots, MarksHeld, AreListed};
+ghost use Rattle.jg_heap.specs.Standing.{Stands, MarksRoots, MarksHeld, AreListed, held_objects};
 
 use crate::body::{Body, body_of};
 use crate::collect::{
-    close_up_if, fill_block, let_all_go, list_unheld, mark_classes, mark_pointed, retain_marked,
+    close_up_if, fill_block, let_all_go, let_unheld_go, list_unheld, mark_classes, mark_pointed,
+    retain_held, retain_marked,
 };
 use crate::object::{Shape, Slot};
+use crate::roots::Roots;
 use jg_lists::ObjectMarks;
 use jg_words::ObjId;
 use std::alloc::{AllocError, Allocator, Global};
@@ -38,10 +40,12 @@ pub struct Heap<A: Allocator = Global> {
     /// The numbers of those in being whose slots may hold objects, ascending. A collection looks into
     /// no other's slots.
     pointing: Vec<u64, A>,
+    /// A mark for each object, so that a collection asks for no memory.
+    marks: ObjectMarks<A>,
 }
 
 impl<A: Allocator> Model for Heap<A> {
-    ghost use Rattle.std.specs.Prelude.{map, ◌≡◌};
+    ghost use Rattle.std.specs.Prelude.{map, ◌≡◌, ◌≤◌, length};
     ghost use Rattle.jg_heap.specs.Rows.{Rows};
     ghost use Rattle.jg_heap.specs.Kept.{objects_of, row_of, Stored};
 
@@ -49,7 +53,8 @@ impl<A: Allocator> Model for Heap<A> {
 
     ghost view = { λ h. record { classes = h.class_count; objects = map row_of (objects_of h.objects.items h.there.items) } };
 
-    ghost invariant = { λ h. Stored h.objects.items h.there.items h.blocks.items h.loose h.pointing.items };
+    ghost invariant = { λ h. Stored h.objects.items h.there.items h.blocks.items h.loose h.pointing.items
+        × (length h.there.items ≤ length h.marks) };
 }
 
 /// Adds a number where it is asked for. There is room for it.
@@ -72,11 +77,13 @@ impl<A: Allocator + Clone> Heap<A> {
         let mut objects = Vec::new(alloc.clone()?);
         let mut there = Vec::new(alloc.clone()?);
         let blocks = Vec::new(alloc.clone()?);
-        let pointing = Vec::new(alloc);
+        let pointing = Vec::new(alloc.clone()?);
+        let mut marks = ObjectMarks::new(alloc);
         for class in 0..class_count {
             there.push(true)?;
             objects.push(Body::Class)?;
         }
+        marks.widen(there.len())?;
         Ok(Heap {
             class_count,
             objects,
@@ -85,6 +92,7 @@ impl<A: Allocator + Clone> Heap<A> {
             loose: 0,
             stale: 0,
             pointing,
+            marks,
         })
     }
 
@@ -108,6 +116,7 @@ impl<A: Allocator + Clone> Heap<A> {
         self.there.reserve(1)?;
         self.blocks.reserve(1)?;
         self.pointing.reserve(1)?;
+        self.marks.widen(number + 1)?;
         self.objects.push(body)?;
         self.there.push_reserved(true);
         self.loose = fill_block(&mut self.blocks, self.loose, number + 1);
@@ -256,6 +265,33 @@ impl<A: Allocator> Heap<A> {
         ensures { (e : List Event) → Stands self.now e → result ≡ gone_at self.now.classes e object.0 }
     {
         !self.there[object.0 as usize]
+    }
+
+    /// Lets go of each object that nothing holds, one link of a chain, and answers how many went (chapter 2,
+    /// "Global and Local References"). What holds objects from outside is handed in. Takes no memory.
+    /// Takes time by what isn't gone yet; each is asked of the roots once, unless a slot or a class holds it.
+    pub fn collect<R: Roots>(&mut self, roots: &R) -> u64
+        ensures stands { (e : List Event) → Stands self.old e
+            → Stands self.new (Collected (held_objects (R.is_root roots.now) (count_in self.old)) ∷ e) }
+        ensures count { (e : List Event) → Stands self.old e
+            → result ≡ length (going self.old.classes (held_objects (R.is_root roots.now) (count_in self.old)) e) }
+        ensures classes { self.new.classes ≡ self.old.classes }
+        ensures shapes { KeepsShapes self.old self.new }
+    {
+        self.marks.unset_all();
+        mark_classes(&mut self.marks, self.class_count);
+        mark_pointed(&mut self.marks, &self.objects, &self.pointing);
+        let went = let_unheld_go(
+            &mut self.there,
+            &self.marks,
+            roots,
+            &self.blocks,
+            self.loose,
+        );
+        retain_held(&mut self.pointing, &self.marks, roots);
+        let stale = self.stale.saturating_add(went);
+        self.stale = close_up_if(&mut self.blocks, &self.there, stale);
+        went as u64
     }
 
     /// Lists the objects that nothing holds, ascending (chapter 2, "Global and Local References"),

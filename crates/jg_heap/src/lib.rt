@@ -9,7 +9,9 @@ mod instance;
 pub mod meanings;
 mod mutf8;
 mod object;
+mod roots;
 
 pub use heap::Heap;
 pub use mutf8::{from_mutf8, from_mutf8_items, is_mutf8, mutf8_len, to_mutf8};
 pub use object::{Shape, Slot};
+pub use roots::Roots;

@@ -4,6 +4,8 @@ pub mod Marks
 pub mod Named
 pub mod Numbers
 pub mod Oldest
+pub mod Places
+pub mod Searched
 pub mod Seats
 pub mod Tables
 pub mod Values

@@ -134,7 +134,7 @@ pub absent : {V : Type 0} (value : Option V) → is_some value ≡ false → val
 absent None is = refl
 absent (Some v) is = cc
 
-none_some : {V : Type 0} {Q : Type 0} (value : Option V) → value ≡ None → IsSome value → Q
+pub none_some : {V : Type 0} {Q : Type 0} (value : Option V) → value ≡ None → IsSome value → Q
 none_some None none some = cc
 none_some (Some v) none some = cc
 

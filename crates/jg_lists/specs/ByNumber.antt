@@ -1,12 +1,10 @@
 -- Values by number.
-use Rattle.std.specs.Prelude.{ℕ, ◌≡◌, ◌+◌, ◌<◌, List, length, slice_index_or}
+use Rattle.std.specs.Prelude.{ℕ}
 use Rattle.jg_lists.specs.declared.by_number.Numbered.{Numbered}
 
 -- the seat's number, with its value
 abbrev pub seen : {V : Type 0} → Numbered V → ℕ × V
 seen seat = (seat.number, seat.value)
 
--- each number that has a seat finds it at its place, counted from 1, and no other number finds one
-pub record Placed (places numbers : List ℕ) : Type 0 where
-  pub found : (i : ℕ) → i < length numbers → slice_index_or places (slice_index_or numbers i 0) 0 ≡ i + 1
-  pub held : (n i : ℕ) → slice_index_or places n 0 ≡ i + 1 → (i < length numbers) × (slice_index_or numbers i 0 ≡ n)
+abbrev pub number_of : {V : Type 0} → Numbered V → ℕ
+number_of seat = seat.number

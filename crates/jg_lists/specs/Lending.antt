@@ -7,6 +7,7 @@ use Rattle.std.specs.Borrow.{Lends, LendsSo, Fml, RattleType, MutBor}
 use Rattle.std.specs.declared.alloc.Allocator.{Ghosts}
 use Rattle.jg_lists.specs.ByThread.{at, IsOnce}
 use Rattle.jg_lists.specs.contracts.by_number.ByNumber.{the_row}
+use Rattle.jg_lists.specs.contracts.by_place.ByPlace.{the_row as place_row}
 use Rattle.jg_lists.specs.contracts.by_thread.ByThread.{the_row as thread_row}
 
 -- the number, if it has a value, has w in its place, and each other one has what it had
@@ -23,6 +24,13 @@ module _ (V A : RattleType) (alloc : Ghosts A.Denot) (s : MutBor (List (ℕ × V
   -- the same where r is a reference, and at `None` all is as it was
   abbrev pub lends_get : Option (MutBor V.Denot) → Fml
   lends_get r = LendsSo (the_row V A alloc) V s r (λ new w. WritesThrough t s.now w new) (λ new. new ≡ s.now)
+
+  -- the same of a table by place
+  abbrev pub lends_value_by_place : MutBor V.Denot → Fml
+  lends_value_by_place r = Lends (place_row V A alloc) V s r (set_value (is_at (nat_cmp t)) s.now)
+
+  abbrev pub lends_get_by_place : Option (MutBor V.Denot) → Fml
+  lends_get_by_place r = LendsSo (place_row V A alloc) V s r (λ new w. WritesThrough t s.now w new) (λ new. new ≡ s.now)
 
   -- the same of a thread's value
   abbrev pub lends_get_by_thread : Option (MutBor V.Denot) → Fml

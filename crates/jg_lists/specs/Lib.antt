@@ -1,6 +1,8 @@
 pub mod Acts
 pub mod ByMaker
 pub mod ByNumber
+pub mod ByPlace
 pub mod ByThread
 pub mod Lending
 pub mod Marks
+pub mod Searches

@@ -1,6 +1,6 @@
 //! Lists in which what was never written is blank: the places of seats, and counts.
 
-ghost use Rattle.std.specs.Prelude.{◌≡◌, ℕ, ◌<◌, OnOk, length, slice_index_or};
+ghost use Rattle.std.specs.Prelude.{◌≡◌, ℕ, ◌+◌, ◌<◌, ◌≤◌, max, OnOk, length, slice_index_or};
 
 use std::alloc::{AllocError, Allocator};
 
@@ -23,6 +23,7 @@ pub fn widen<T: Copy, A: Allocator>(
 ) -> Result<(), AllocError>
     ensures ok { OnOk result (index < length items.new.items) }
     ensures same { (n : ℕ) → slice_index_or items.new.items n blank ≡ slice_index_or items.old.items n blank }
+    ensures few { length items.new.items ≤ max (length items.old.items) (index + 1) }
 {
     if items.len() <= index {
         let Some(count) = index.checked_add(1) else {

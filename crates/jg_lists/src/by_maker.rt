@@ -10,8 +10,8 @@ use crate::by_thread::ByThread;
 use std::alloc::{AllocError, Allocator};
 
 /// A value for each of some names, found in two steps, however many there are. A name is a maker's
-/// number, and a number that the maker gave. Beside the values, each maker takes 4 bytes for each number
-/// up to the greatest of its own that ever had a value.
+/// number, and a number that the maker gave. Takes memory for as many values as each maker ever had at
+/// once, whatever their numbers are.
 pub type ByMaker<V, A> = ByThread<ByNumber<V, A>, A>;
 
 /// The name's value, if it has one.
@@ -60,7 +60,7 @@ fn put<V: Drop, A: Allocator>(
 }
 
 /// Gives a value to a name that has none. A maker's table grows from clones of the handle. Fails for
-/// want of memory, and for the greatest number of all; each value then stays as it was.
+/// want of memory, and where a maker has 2^32 - 1 values; each value then stays as it was.
 pub fn add<V: Drop, A: Allocator + Clone>(
     tables: &mut ByMaker<V, A>,
     alloc: &A,

@@ -1,13 +1,13 @@
-ghost use Rattle.std.specs.Prelude.{◌≡◌, ℕ, ◌++◌, ◌∷◌, ◌==◌, if◌then◌else◌, [], IsPermutation, IsSome, IfSome, None, Some, OnOk, OnErr, map, option_copied};
+ghost use Rattle.std.specs.Prelude.{◌≡◌, ℕ, ◌<◌, ◌^◌, ◌++◌, ◌∷◌, ◌==◌, if◌then◌else◌, [], IsPermutation, IsSome, IfSome, None, Some, OnOk, OnErr, length, map, slice_index_or, option_copied};
 ghost use Rattle.std.specs.Option.{is_some, option_copied_mut};
 ghost use Rattle.std.specs.Borrow.{sem};
-ghost use Rattle.std.specs.Map.{set_value};
+ghost use Rattle.std.specs.Map.{set_value, keys_of};
 ghost use Rattle.std.specs.BTreeMap.{is_at};
 ghost use Rattle.std.specs.Ordering.{nat_cmp};
 ghost use Rattle.jg_lists.specs.ByThread.{at, IsOnce};
 ghost use Rattle.jg_lists.specs.ByNumber.{seen};
 
-use crate::blanks::{number_at, widen};
+use crate::slots::{find_slot, leave_slot, make_room, take_slot};
 use std::alloc::{AllocError, Allocator, Global};
 use std::marker::Model;
 
@@ -18,25 +18,29 @@ pub struct Numbered<V> {
     pub value: V,
 }
 
-/// A value for each of some numbers, found by the number in one step, however many there are. Takes 4
-/// bytes for each number up to the greatest that ever had a value, beside the values: it is meant for
-/// numbers that lie close together. Contracts see the numbers with their values.
+/// A value for each of some numbers, found by the number in a step or a few, however many there are. Takes
+/// memory for as many values as there ever were at once, whatever their numbers are: beside the values with
+/// their numbers at most 24 bytes for each, and 128. It is fastest for numbers that lie close together.
+/// Contracts see the numbers with their values.
 #[derive(Drop)]
 pub struct ByNumber<V, A: Allocator = Global> {
-    /// By the number, the place of its seat, counted from 1, or 0 where it has none.
-    places: Vec<u32, A>,
+    /// In each slot the place of a seat, counted from 1, or 0 where the slot is free.
+    slots: Vec<u32, A>,
+    /// How many slots aren't free, at most.
+    used: usize,
     seats: Vec<Numbered<V>, A>,
 }
 
 impl<V, A: Allocator> Model for ByNumber<V, A> {
     ghost use Rattle.std.specs.Prelude.{List, ℕ, map};
-    ghost use Rattle.jg_lists.specs.ByNumber.{seen, Placed};
+    ghost use Rattle.jg_lists.specs.ByNumber.{seen, number_of};
+    ghost use Rattle.jg_lists.specs.Searches.{Standing};
 
     ghost Value = { List (ℕ × V) };
 
     ghost view = { λ a. map seen a.seats.items };
 
-    ghost invariant = { λ a. Placed a.places.items (map (λ s. s.number) a.seats.items) };
+    ghost invariant = { λ a. Standing a.slots.items (map number_of a.seats.items) a.used };
 }
 
 impl<V, A: Allocator> ByNumber<V, A> {
@@ -48,7 +52,8 @@ impl<V, A: Allocator> ByNumber<V, A> {
         ensures once { IsOnce result }
     {
         ByNumber {
-            places: Vec::new(places),
+            slots: Vec::new(places),
+            used: 0,
             seats: Vec::new(seats),
         }
     }
@@ -58,11 +63,10 @@ impl<V, A: Allocator> ByNumber<V, A> {
         ensures value { option_copied result ≡ at number self.now }
         ensures once { IsOnce self.now }
     {
-        let place = number_at(&self.places, number as usize, 0);
-        if place == 0 {
+        let Some(found) = find_slot(&self.slots, &self.seats, number) else {
             return None;
-        }
-        Some(&self.seats[place as usize - 1].value)
+        };
+        Some(&self.seats[found.seat].value)
     }
 
     /// Whether the number has a value.
@@ -79,21 +83,21 @@ impl<V, A: Allocator> ByNumber<V, A> {
         ensures value { option_copied_mut result ≡ at number self.old }
         ensures once { IsOnce self.old }
     {
-        if self.contains(number) {
-            Some(self.value_mut(number))
-        } else {
-            None
+        match find_slot(&self.slots, &self.seats, number) {
+            Some(found) => Some(self.value_at(number, found.seat)),
+            None => None,
         }
     }
 
-    fn value_mut(&mut self, number: u64) -> &mut V
-        requires { IsSome (at number self.old) }
+    /// The value of the number's seat for writing.
+    fn value_at(&mut self, number: u64, seat: usize) -> &mut V
+        requires seated { seat < length self.old }
+        requires own { slice_index_or (keys_of self.old) seat 0 ≡ number }
         ensures* writes_back { sem 𝓛 (lends_value V.row A.row A.Allocator self.entry number result) }
         ensures value { Some result.now ≡ at number self.old }
         ensures once { IsOnce self.old }
     {
-        let place = number_at(&self.places, number as usize, 0);
-        &mut self.seats[place as usize - 1].value
+        &mut self.seats[seat].value
     }
 
     /// Gives another value to a number that has one. Takes no memory.
@@ -105,11 +109,13 @@ impl<V, A: Allocator> ByNumber<V, A> {
         ensures set { (q : ℕ) → at q self.new ≡ (if number == q then Some value else at q self.old) }
         ensures once { IsOnce self.new }
     {
-        *self.value_mut(number) = value;
+        if let Some(found) = find_slot(&self.slots, &self.seats, number) {
+            *self.value_at(number, found.seat) = value;
+        }
     }
 
-    /// Gives a value to a number that has none (`contains`). Fails for want of memory, for the greatest number
-    /// of all, and where 2^32 - 1 numbers have a value, and then leaves all unchanged.
+    /// Gives a value to a number that has none (`contains`). Fails for want of memory, and where 2^32 - 1
+    /// numbers have a value, and then leaves all unchanged.
     pub fn add(&mut self, number: u64, value: V) -> Result<(), AllocError>
     where
         V: Drop,
@@ -118,13 +124,15 @@ impl<V, A: Allocator> ByNumber<V, A> {
         ensures found { OnOk result ((q : ℕ) → at q self.new ≡ (if number == q then Some value else at q self.old)) }
         ensures err { OnErr result (self.new ≡ self.old) }
         ensures once { IsOnce self.new }
+        ensures few { OnOk result (length self.new < 2 ^ 32) }
     {
-        widen(&mut self.places, number as usize, 0)?;
         let Ok(place) = u32::try_from(self.seats.len() + 1) else {
             return Err(AllocError);
         };
+        self.used = make_room(&mut self.slots, self.used, &self.seats)?;
         self.seats.push(Numbered { number, value })?;
-        self.places[number as usize] = place;
+        take_slot(&mut self.slots, number, place);
+        self.used += 1;
         Ok(())
     }
 
@@ -137,14 +145,12 @@ impl<V, A: Allocator> ByNumber<V, A> {
         ensures none { result ≡ None → self.new ≡ self.old }
         ensures once { IsOnce self.new }
     {
-        let place = number_at(&self.places, number as usize, 0);
-        if place == 0 {
+        let Some(found) = find_slot(&self.slots, &self.seats, number) else {
             return None;
-        }
-        let last = self.seats[self.seats.len() - 1].number;
-        self.places[last as usize] = place;
-        self.places[number as usize] = 0;
-        let seat = self.seats.swap_remove(place as usize - 1);
+        };
+        let used = leave_slot(&mut self.slots, self.used, &self.seats, found);
+        self.used = used;
+        let seat = self.seats.swap_remove(found.seat);
         Some(seat.value)
     }
 

@@ -4,7 +4,8 @@ ghost use Rattle.std.specs.Borrow.{sem};
 ghost use Rattle.jg_lists.specs.ByThread.{at, IsOnce};
 ghost use Rattle.jg_lists.specs.ByNumber.{seen};
 
-use crate::by_number::{ByNumber, Numbered};
+use crate::by_number::Numbered;
+use crate::by_place::ByPlace;
 use std::alloc::{AllocError, Allocator, Global};
 use std::marker::Model;
 
@@ -13,7 +14,7 @@ use std::marker::Model;
 #[derive(Drop)]
 pub struct ByThread<V, A: Allocator = Global> {
     /// By the thread's number, so each is below 2 ^ 16.
-    numbers: ByNumber<V, A>,
+    numbers: ByPlace<V, A>,
 }
 
 impl<V, A: Allocator> Model for ByThread<V, A> {
@@ -35,7 +36,7 @@ impl<V, A: Allocator> ByThread<V, A> {
         ensures once { IsOnce result }
     {
         ByThread {
-            numbers: ByNumber::new(places, seats),
+            numbers: ByPlace::new(places, seats),
         }
     }
 

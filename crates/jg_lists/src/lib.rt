@@ -6,9 +6,11 @@
 mod blanks;
 pub mod by_maker;
 mod by_number;
+mod by_place;
 mod by_thread;
 mod object_marks;
 mod recent;
+mod slots;
 
 pub use blanks::{number_at, widen};
 pub use by_number::{ByNumber, Numbered};

@@ -1,4 +1,4 @@
-ghost use Rattle.std.specs.Prelude.{◌≡◌, ℕ, ◌+◌, ◌<◌, ◌≤◌, ◌^◌, ◌==◌, ◌&&◌, [], All, false, not, Some, length, slice_get, slice_index_or, true, OnOk};
+ghost use Rattle.std.specs.Prelude.{◌≡◌, ℕ, ◌+◌, ◌<◌, ◌≤◌, ◌^◌, max, ◌==◌, ◌&&◌, [], All, false, not, Some, length, slice_get, slice_index_or, true, OnOk};
 ghost use Rattle.std.specs.List.{list_any, range_with_len};
 ghost use Rattle.jg_lists.specs.Marks.{Marks, but_last, marks_in};
 
@@ -28,13 +28,15 @@ impl<A: Allocator> Model for ObjectMarks<A> {
     ghost invariant = { λ m. All (λ t. t ≤ m.turn) m.turns.items };
 }
 
-/// The turn after this one, in which no mark was set.
+/// The turn after this one, in which no mark was set. No place goes.
 fn next_turn<A: Allocator>(turns: &mut Vec<u8, A>, turn: u8) -> u8
     ensures above { 0 < result }
     ensures past { All (λ t. t ≤ turn) turns.old.items → All (λ t. t < result) turns.new.items }
+    ensures kept { turn < 255 → turns.new ≡ turns.old }
+    ensures many { length turns.new.items ≡ length turns.old.items }
 {
     if turn == u8::MAX {
-        turns.clear();
+        turns.fill(0);
         return 1;
     }
     turn + 1
@@ -44,6 +46,9 @@ fn next_turn<A: Allocator>(turns: &mut Vec<u8, A>, turn: u8) -> u8
 fn widen<A: Allocator>(turns: &mut Vec<u8, A>, count: usize) -> Result<(), AllocError>
     ensures ok { OnOk result (count < length turns.new.items) }
     ensures past { (turn : ℕ) → 0 < turn → All (λ t. t < turn) turns.old.items → All (λ t. t < turn) turns.new.items }
+    ensures within { (turn : ℕ) → All (λ t. t ≤ turn) turns.old.items → All (λ t. t ≤ turn) turns.new.items }
+    ensures kept { length turns.old.items ≤ length turns.new.items }
+    ensures few { length turns.new.items ≤ max (length turns.old.items) (count + 1) }
 {
     if turns.len() <= count {
         let Some(places) = count.checked_add(1) else {
@@ -132,6 +137,24 @@ impl<A: Allocator> ObjectMarks<A> {
         self.turn = turn;
         widen(&mut self.turns, count)?;
         Ok(())
+    }
+
+    /// Unsets all marks. Takes no memory.
+    pub fn unset_all(&mut self)
+        ensures unset { (o : ℕ) → slice_index_or self.new o false ≡ false }
+        ensures many { length self.new ≡ length self.old }
+    {
+        let turn = next_turn(&mut self.turns, self.turn);
+        self.turn = turn;
+    }
+
+    /// Makes a mark for each of the first `count` objects that has none, set or unset. Fails only for want
+    /// of memory, and then changes nothing.
+    pub fn widen(&mut self, count: usize) -> Result<(), AllocError>
+        ensures ok { OnOk result (count ≤ length self.new) }
+        ensures kept { length self.old ≤ length self.new }
+    {
+        widen(&mut self.turns, count)
     }
 
     /// Whether the object's mark is set. An object without a mark has none set.

@@ -2,6 +2,7 @@ mod Above
 pub mod Callers
 mod Chains
 mod Counts
+mod Dead
 mod EventLaws
 mod FrameSteps
 mod Gathered

@@ -567,10 +567,10 @@ next_enter top room = grind (arith, nat_tests)
 
 -- ---- room
 
-spare_is : (m : List (ℕ × StackRows)) (a : Table) (t : ℕ) → table_seen m ≡ a → spare a t ≡ (room_seen m t).locals
+pub spare_is : (m : List (ℕ × StackRows)) (a : Table) (t : ℕ) → table_seen m ≡ a → spare a t ≡ (room_seen m t).locals
 spare_is m a t is = ap (λ (v : Table). spare v t) (sym is) ∙ ap (λ (r : Room). r.locals) (room_is m t)
 
-starts_is : (m : List (ℕ × StackRows)) (a : Table) (t : ℕ) → table_seen m ≡ a → spare_starts a t ≡ (room_seen m t).frames
+pub starts_is : (m : List (ℕ × StackRows)) (a : Table) (t : ℕ) → table_seen m ≡ a → spare_starts a t ≡ (room_seen m t).frames
 starts_is m a t is = ap (λ (v : Table). spare_starts v t) (sym is) ∙ ap (λ (r : Room). r.frames) (room_is m t)
 
 pub room_up : (old new : List (ℕ × StackRows)) (a : Table) (t : ℕ) → table_seen old ≡ a → (room_seen old t).locals ≤ (room_seen new t).locals → spare a t ≤ spare (table_seen new) t

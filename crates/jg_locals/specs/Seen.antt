@@ -27,6 +27,10 @@ Chain r (x ∷ xs) = AllByRecursion (λ y. r x y ≡ true) xs × Chain r xs
 abbrev pub is_live : Slot → Bool
 is_live s = s.live
 
+-- how many of the slots are dead
+abbrev pub dead_in : List Slot → ℕ
+dead_in slots = length (filter (λ s. not s.live) slots)
+
 -- the slot, marked dead
 abbrev pub ended : Slot → Slot
 ended s = record s { live = false }

@@ -1,4 +1,4 @@
-ghost use Rattle.std.specs.Prelude.{◌≡◌, ℕ, ◌+◌, ◌<◌, ◌≤◌, ◌↔◌, ◌++◌, List, [], ◌∷◌, OnOk, OnErr, IsOk, IsNone, IsSome, IsTrue, All, map};
+ghost use Rattle.std.specs.Prelude.{◌≡◌, ℕ, ◌+◌, ◌<◌, ◌≤◌, ◌↔◌, ◌++◌, List, [], ◌∷◌, OnOk, OnErr, IsOk, IsNone, IsSome, IsTrue, All, map, vec_len, vec_capacity};
 ghost use Rattle.std.specs.Option.{is_some, option_map};
 ghost use Rattle.jg_locals.specs.History.{Event, by, Start, Make, Push, Ensure, Enter, Delete, Pop, Leave, End, acts_of, has_session, depth, frames, live, holds_object};
 ghost use Rattle.jg_lists.specs.Marks.{Marks};
@@ -209,9 +209,11 @@ impl<A: Allocator + Clone> Locals<A> {
     }
 
     /// Ends the thread's session, if it has one, with all its frames and locals (chapter 5,
-    /// `DetachCurrentThread`). Takes no memory, and asks for nothing.
+    /// `DetachCurrentThread`). Takes no memory, and asks for nothing; the thread's memory is given back.
     pub fn drop_thread(&mut self, tid: Tid)
-        ensures { (e : List Event) → Stands self.old.rows e → Stands self.new.rows (by tid.0 End ∷ e) }
+        ensures stands { (e : List Event) → Stands self.old.rows e → Stands self.new.rows (by tid.0 End ∷ e) }
+        ensures locals { spare self.new tid.0 ≡ 0 }
+        ensures frames { spare_starts self.new tid.0 ≡ 0 }
     {
         drop_at(&mut self.stacks, tid.0);
     }
@@ -302,9 +304,11 @@ impl<A: Allocator + Clone> Locals<A> {
     }
 
     /// Appends the live locals, thread by thread and then by number. Takes time by the locals and
-    /// threads that the table keeps. Fails only for want of memory; the list then holds a part of them.
+    /// threads that the table keeps. Fails only for want of memory, where the list is full; it then holds a
+    /// part of them.
     pub fn list<B: Allocator>(&self, refs: &mut Vec<Ref, B>) -> Result<(), AllocError>
         ensures ok { OnOk result (refs.new.items ≡ refs.old.items ++ map local_ref self.now.rows.locals) }
+        ensures full { OnErr result (vec_capacity refs.new ≤ vec_len refs.new) }
     {
         list_in(&self.stacks, refs)
     }

@@ -203,7 +203,8 @@ impl<A: Allocator> SlotList<A> {
 
     /// All slots go, and their memory is given back.
     pub fn clear(&mut self)
-        ensures { self.new.items ≡ [] }
+        ensures items { self.new.items ≡ [] }
+        ensures room { self.new.room ≡ 0 }
     {
         self.slots.clear();
         self.slots.shrink_to_fit();

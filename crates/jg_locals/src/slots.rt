@@ -1,9 +1,9 @@
 //! One thread's list of locals, which ascends by number.
 
-ghost use Rattle.std.specs.Prelude.{◌≡◌, ◌≤◌, ◌<◌, ◌-◌, ◌&&◌, ◌==◌, ◌||◌, ◌++◌, ◌∷◌, ◌↔◌, [], IfSome, IsTrue, List, All, OnOk, map, Some, None, MatchOption, true, false, not, if◌then◌else◌, filter, find, length, slice_index_or, vec_len, vec_capacity};
-ghost use Rattle.std.specs.Option.{option_map};
+ghost use Rattle.std.specs.Prelude.{◌≡◌, ◌≤◌, ◌<◌, ◌+◌, ◌-◌, ◌/◌, ◌&&◌, ◌==◌, ◌||◌, ◌++◌, ◌∷◌, ◌↔◌, [], IfSome, IsTrue, List, All, OnOk, OnErr, map, Some, None, MatchOption, true, false, not, if◌then◌else◌, filter, find, length, slice_index_or, vec_len, vec_capacity};
+ghost use Rattle.std.specs.Option.{is_some, option_map};
 ghost use Rattle.std.specs.List.{AllByRecursion, list_any};
-ghost use Rattle.jg_locals.specs.Seen.{Chain, is_before, is_live, last, passes, stays, is_below, IsBelowAll, Sound, slot_ref};
+ghost use Rattle.jg_locals.specs.Seen.{Chain, is_before, is_live, dead_in, last, passes, stays, is_below, IsBelowAll, Sound, slot_ref};
 ghost use Rattle.jg_locals.specs.declared.row.Frame.{Frame};
 
 use crate::row::{Frame, Slot};
@@ -29,6 +29,7 @@ fn mark_dead<A: Allocator>(slots: &mut SlotList<A>, n: u64) -> Option<Slot>
     ensures sound { (frames : List Frame) → Sound slots.old.items frames → Sound slots.new.items frames }
     ensures rises { Chain is_before slots.new.items }
     ensures room { slots.old.room ≤ slots.new.room }
+    ensures dead { dead_in slots.new.items ≤ dead_in slots.old.items + (if is_some result then 1 else 0) }
 {
     match slots.place_of(n) {
         Some(i) => live_slot(slots.end(i)),
@@ -77,6 +78,7 @@ pub fn cut<A: Allocator>(slots: &mut SlotList<A>, from: Option<Frame>)
     ensures sound { (frames : List Frame) → Sound slots.old.items frames → Sound slots.new.items frames }
     ensures ends { passes is_live (last slots.new.items) ≡ true }
     ensures room { slots.old.room ≤ slots.new.room }
+    ensures dead { dead_in slots.new.items ≤ dead_in slots.old.items }
 {
     while !ends_well(slots.as_slice(), from) {
         slots.pop();
@@ -91,6 +93,7 @@ pub fn end_local<A: Allocator>(slots: &mut SlotList<A>, n: u64) -> Option<Slot>
     ensures sound { (frames : List Frame) → Sound slots.old.items frames → Sound slots.new.items frames }
     ensures ends { passes is_live (last slots.new.items) ≡ true }
     ensures room { slots.old.room ≤ slots.new.room }
+    ensures dead { dead_in slots.new.items ≤ dead_in slots.old.items + (if is_some result then 1 else 0) }
 {
     let was = mark_dead(slots, n);
     cut(slots, None);
@@ -106,6 +109,9 @@ pub fn close_up_if<A: Allocator>(slots: &mut SlotList<A>, dead: usize) -> usize
         → IsBelowAll (Some frame) slots.new.items }
     ensures ends { passes is_live (last slots.old.items) ≡ true → passes is_live (last slots.new.items) ≡ true }
     ensures room { slots.old.room ≤ slots.new.room }
+    ensures dead { dead_in slots.old.items ≤ dead → dead_in slots.new.items ≤ result }
+    ensures few { result ≤ length slots.new.items / 4 + 8 }
+    ensures kept { dead ≤ length slots.old.items / 4 + 8 → slots.new ≡ slots.old }
 {
     let count = slots.as_slice().len();
     let dead = dead.min(count);
@@ -148,15 +154,17 @@ fn list_if_live<B: Allocator>(
     tid: u16,
     refs: &mut Vec<Ref, B>,
 ) -> Result<(), AllocError>
-    ensures { OnOk result (refs.new.items
+    ensures ok { OnOk result (refs.new.items
         ≡ refs.old.items ++ map (slot_ref tid) (filter is_live (slot.now ∷ []))) }
+    ensures full { OnErr result (vec_capacity refs.new ≤ vec_len refs.new) }
 {
     if slot.live {
-        refs.push(Ref::To {
+        refs.reserve(1)?;
+        refs.push_reserved(Ref::To {
             kind: Kind::Local,
             maker: Tid(tid),
             n: slot.n,
-        })?;
+        });
     }
     Ok(())
 }
@@ -167,7 +175,8 @@ pub fn list_live<B: Allocator>(
     tid: u16,
     refs: &mut Vec<Ref, B>,
 ) -> Result<(), AllocError>
-    ensures { OnOk result (refs.new.items ≡ refs.old.items ++ map (slot_ref tid) (filter is_live slots.now)) }
+    ensures ok { OnOk result (refs.new.items ≡ refs.old.items ++ map (slot_ref tid) (filter is_live slots.now)) }
+    ensures full { OnErr result (vec_capacity refs.new ≤ vec_len refs.new) }
 {
     for slot in slots {
         list_if_live(slot, tid, refs)?;

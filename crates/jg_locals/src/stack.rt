@@ -1,4 +1,4 @@
-ghost use Rattle.std.specs.Prelude.{◌≡◌, ◌≤◌, ◌<◌, ◌+◌, ◌^◌, ◌&&◌, ◌==◌, ◌++◌, ◌∷◌, ◌↔◌, [], All, OnOk, OnErr, IsOk, IsSome, IsTrue, Some, false, not, filter, find, map};
+ghost use Rattle.std.specs.Prelude.{◌≡◌, ◌≤◌, ◌<◌, ◌+◌, ◌^◌, ◌&&◌, ◌==◌, ◌++◌, ◌∷◌, ◌↔◌, [], All, OnOk, OnErr, IsOk, IsSome, IsTrue, Some, false, not, filter, find, map, vec_len, vec_capacity};
 ghost use Rattle.std.specs.Option.{option_map};
 ghost use Rattle.std.specs.List.{list_any};
 ghost use Rattle.jg_lists.specs.Marks.{Marks};
@@ -24,8 +24,8 @@ pub struct Stack<A: Allocator> {
 }
 
 impl<A: Allocator> Model for Stack<A> {
-    ghost use Rattle.std.specs.Prelude.{◌-◌, filter, map, vec_len, vec_capacity};
-    ghost use Rattle.jg_locals.specs.Seen.{StackRows, is_live, frame_of, Stacked};
+    ghost use Rattle.std.specs.Prelude.{◌-◌, ◌≤◌, filter, map, vec_len, vec_capacity};
+    ghost use Rattle.jg_locals.specs.Seen.{StackRows, dead_in, is_live, frame_of, Stacked};
 
     ghost Value = { StackRows };
 
@@ -38,7 +38,7 @@ impl<A: Allocator> Model for Stack<A> {
       };
     } };
 
-    ghost invariant = { λ a. Stacked a.slots.items a.frames.items };
+    ghost invariant = { λ a. Stacked a.slots.items a.frames.items × (dead_in a.slots.items ≤ a.dead) };
 }
 
 impl<A: Allocator> Stack<A> {
@@ -122,6 +122,8 @@ impl<A: Allocator> Stack<A> {
         ensures frames { self.new.frames ≡ self.old.frames }
         ensures room { self.old.room.locals ≤ self.new.room.locals }
     {
+        // No more are dead than there are slots, which a `Vec` bounds.
+        let _slots = self.slots.as_slice();
         let gone = end_local(&mut self.slots, n);
         count_gone(&mut self.frames, gone);
         let dead = self.dead.saturating_add(gone.is_some() as usize);
@@ -166,6 +168,8 @@ impl<A: Allocator> Stack<A> {
     pub fn clear(&mut self)
         ensures locals { self.new.locals ≡ [] }
         ensures frames { self.new.frames ≡ [] }
+        ensures room { self.new.room.locals ≡ 0 }
+        ensures starts { self.new.room.frames ≡ 0 }
     {
         self.slots.clear();
         self.frames.clear();
@@ -233,7 +237,8 @@ impl<A: Allocator> Stack<A> {
 
     /// Appends a reference to each live local of the thread.
     pub fn list<B: Allocator>(&self, tid: u16, refs: &mut Vec<Ref, B>) -> Result<(), AllocError>
-        ensures { OnOk result (refs.new.items ≡ refs.old.items ++ map (slot_ref tid) self.now.locals) }
+        ensures ok { OnOk result (refs.new.items ≡ refs.old.items ++ map (slot_ref tid) self.now.locals) }
+        ensures full { OnErr result (vec_capacity refs.new ≤ vec_len refs.new) }
     {
         list_live(self.slots.as_slice(), tid, refs)
     }

@@ -1,6 +1,6 @@
 //! The stacks of all threads, by thread.
 
-ghost use Rattle.std.specs.Prelude.{◌≡◌, ◌≤◌, ◌<◌, ◌+◌, ◌^◌, ◌&&◌, ◌==◌, ◌++◌, ◌∷◌, ◌↔◌, ℕ, [], All, OnOk, OnErr, IsOk, IsSome, IsTrue, Some, false, not, filter, find, map};
+ghost use Rattle.std.specs.Prelude.{◌≡◌, ◌≤◌, ◌<◌, ◌+◌, ◌^◌, ◌&&◌, ◌==◌, ◌++◌, ◌∷◌, ◌↔◌, ℕ, [], All, OnOk, OnErr, IsOk, IsSome, IsTrue, Some, false, not, filter, find, map, vec_len, vec_capacity};
 ghost use Rattle.std.specs.Option.{option_map};
 ghost use Rattle.std.specs.Map.{values_of};
 ghost use Rattle.std.specs.List.{list_any};
@@ -237,6 +237,8 @@ pub fn leave_at<A: Allocator>(stacks: &mut ByThread<Stack<A>, A>, tid: u16, top:
 /// Ends all frames and locals of the thread.
 pub fn drop_at<A: Allocator>(stacks: &mut ByThread<Stack<A>, A>, tid: u16)
     ensures changes { Changes tid stacks.old stacks.new [] [] }
+    ensures room { (room_seen stacks.new tid).locals ≡ 0 }
+    ensures starts { (room_seen stacks.new tid).frames ≡ 0 }
     ensures once { IsOnce stacks.old → IsOnce stacks.new }
 {
     if let Some(stack) = stacks.get_mut(tid) {
@@ -279,8 +281,9 @@ pub fn list_in<A: Allocator, B: Allocator>(
     stacks: &ByThread<Stack<A>, A>,
     refs: &mut Vec<Ref, B>,
 ) -> Result<(), AllocError>
-    ensures { OnOk result (refs.new.items
+    ensures ok { OnOk result (refs.new.items
         ≡ refs.old.items ++ map local_ref (rows_seen stacks.now).locals) }
+    ensures full { OnErr result (vec_capacity refs.new ≤ vec_len refs.new) }
 {
     for seat in stacks.seats() {
         seat.value.list(seat.number as u16, refs)?;

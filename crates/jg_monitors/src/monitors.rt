@@ -14,8 +14,8 @@ use jg_words::{ObjId, Tid};
 use std::alloc::{AllocError, Allocator, Global};
 use std::marker::Model;
 
-/// The owned monitors, by object, each found in one step. Takes 4 bytes for each object up to the
-/// greatest number whose monitor was ever entered, beside what is owned. Contracts see the rows.
+/// The owned monitors, by object, each found in a step or a few. Takes memory for as many as were ever
+/// owned at once. Contracts see the rows.
 #[derive(Drop)]
 pub struct Monitors<A: Allocator = Global> {
     owned: ByObject<A>,
@@ -55,8 +55,8 @@ impl<A: Allocator + Copy> Monitors<A> {
 impl<A: Allocator + Clone> Monitors<A> {
     /// Enters the monitor of the object, once more where the thread owns it already (chapter 4,
     /// `MonitorEnter`). `Busy` where another thread owns it: nothing changes. Asks that its count can
-    /// rise (`count` below the greatest `u64`). Fails only for want of memory, at a monitor that is
-    /// free, and then leaves all unchanged.
+    /// rise (`count` below the greatest `u64`). Fails for want of memory, and where 2^32 - 1 monitors are
+    /// owned; both at a monitor that is free, and then leaves all unchanged.
     pub fn enter(&mut self, tid: Tid, object: ObjId) -> Result<Entering, AllocError>
         requires { count_in (row_of object.0 self.old) < u64.MAX }
         ensures row { IfOk result (λ answer. answer ≡ entering tid.0 (owner_in (row_of object.0 self.old))) }

@@ -4,6 +4,7 @@ mod globals;
 mod heap;
 mod locals;
 mod monitors;
+mod numbers;
 mod threads;
 
 use linked_list_allocator::LocalHeap;

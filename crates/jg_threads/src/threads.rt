@@ -40,11 +40,11 @@ impl<A: Allocator + Clone> Threads<A> {
     }
 
     /// Attaches the thread: begins its next session, if it has none, and answers the environment
-    /// of its session (chapter 5, `AttachCurrentThread`). Asks that its counts can rise; the test is
+    /// of its session (chapter 5, `AttachCurrentThread`). Asks that it may have one session more; a test is
     /// `can_count`. Fails only for want of memory, at a thread that was never attached before, and
     /// then leaves all unchanged.
     pub fn attach(&mut self, tid: Tid) -> Result<EnvId, AllocError>
-        requires { CanCount self.old tid.0 }
+        requires { (row_of self.old tid.0).sessions < u64.MAX }
         ensures ok { OnOk result ((e : List Event) → Stands self.old e → Stands self.new (by tid.0 Attach ∷ e)) }
         ensures env { IfOk result (λ env. (e : List Event) → Stands self.old e
             → env ≡ record { tid = tid; session = sessions (Attach ∷ acts_of tid.0 e) }) }
@@ -105,9 +105,9 @@ impl<A: Allocator + Clone> Threads<A> {
         }
     }
 
-    /// The environment that `attach` would answer. Asks for what `attach` asks (`can_count`).
+    /// The environment that `attach` would answer. Asks for what `attach` asks.
     pub fn env_once_attached(&self, tid: Tid) -> EnvId
-        requires { CanCount self.now tid.0 }
+        requires { (row_of self.now tid.0).sessions < u64.MAX }
         ensures { (e : List Event) → Stands self.now e
             → result ≡ record { tid = tid; session = sessions (Attach ∷ acts_of tid.0 e) } }
     {
@@ -128,8 +128,8 @@ impl<A: Allocator + Clone> Threads<A> {
         self.row(tid).attached
     }
 
-    /// Whether each of the thread's counts is below the greatest `u64`: the test of what attaching,
-    /// entering and handing out ask.
+    /// Whether each of the thread's counts is below the greatest `u64`: a test of what attaching, entering
+    /// and handing out ask, each of one count.
     pub fn can_count(&self, tid: Tid) -> bool
         ensures { IsTrue result ↔ CanCount self.now tid.0 }
     {
@@ -142,10 +142,11 @@ impl<A: Allocator + Clone> Threads<A> {
 
     /// Enters a native method, called by the virtual machine in the thread's session (chapter 2,
     /// "Compiling, Loading and Linking Native Methods"). Asks that the thread is attached
-    /// (`is_attached`) and that its counts can rise (`can_count`). Takes no memory.
+    /// (`is_attached`) and may be in one native method more (`depth` below the greatest `u64`). Takes no
+    /// memory.
     pub fn enter_native(&mut self, tid: Tid)
         requires seen { IsTrue (row_of self.old tid.0).attached }
-        requires room { CanCount self.old tid.0 }
+        requires room { (row_of self.old tid.0).depth < u64.MAX }
         ensures stands { (e : List Event) → Stands self.old e → Stands self.new (by tid.0 Enter ∷ e) }
         ensures row { row_of self.new tid.0
             ≡ record (row_of self.old tid.0) { depth = (row_of self.old tid.0).depth + 1 } }
@@ -229,9 +230,9 @@ impl<A: Allocator + Clone> Threads<A> {
     }
 
     /// The number of the next reference that the thread is handed out, from 1 over all its
-    /// sessions. Asks that its counts can rise (`can_count`).
+    /// sessions. Asks that it may be handed out one more; a test is `can_count`.
     pub fn next_ref(&self, tid: Tid) -> u64
-        requires { CanCount self.now tid.0 }
+        requires { (row_of self.now tid.0).refs < u64.MAX }
         ensures rows { result ≡ (row_of self.now tid.0).refs + 1 }
         ensures history { (e : List Event) → Stands self.now e → result ≡ refs (acts_of tid.0 e) + 1 }
     {
@@ -239,10 +240,10 @@ impl<A: Allocator + Clone> Threads<A> {
     }
 
     /// Notes that the thread was handed out a reference. Asks that the thread is attached
-    /// (`is_attached`) and that its counts can rise (`can_count`). Takes no memory.
+    /// (`is_attached`) and may be handed out one more. Takes no memory.
     pub fn count_ref(&mut self, tid: Tid)
         requires seen { IsTrue (row_of self.old tid.0).attached }
-        requires room { CanCount self.old tid.0 }
+        requires room { (row_of self.old tid.0).refs < u64.MAX }
         ensures stands { (e : List Event) → Stands self.old e → Stands self.new (by tid.0 CountRef ∷ e) }
         ensures row { row_of self.new tid.0
             ≡ record (row_of self.old tid.0) { refs = (row_of self.old tid.0).refs + 1 } }
@@ -253,9 +254,9 @@ impl<A: Allocator + Clone> Threads<A> {
     }
 
     /// The number of the next buffer that the thread is handed out, from 1 over all its sessions.
-    /// Asks that its counts can rise (`can_count`).
+    /// Asks that it may be handed out one more; a test is `can_count`.
     pub fn next_buf(&self, tid: Tid) -> u64
-        requires { CanCount self.now tid.0 }
+        requires { (row_of self.now tid.0).buffers < u64.MAX }
         ensures rows { result ≡ (row_of self.now tid.0).buffers + 1 }
         ensures history { (e : List Event) → Stands self.now e → result ≡ buffers (acts_of tid.0 e) + 1 }
     {
@@ -263,10 +264,10 @@ impl<A: Allocator + Clone> Threads<A> {
     }
 
     /// Notes that the thread was handed out a buffer. Asks that the thread is attached
-    /// (`is_attached`) and that its counts can rise (`can_count`). Takes no memory.
+    /// (`is_attached`) and may be handed out one more. Takes no memory.
     pub fn count_buf(&mut self, tid: Tid)
         requires seen { IsTrue (row_of self.old tid.0).attached }
-        requires room { CanCount self.old tid.0 }
+        requires room { (row_of self.old tid.0).buffers < u64.MAX }
         ensures stands { (e : List Event) → Stands self.old e → Stands self.new (by tid.0 CountBuffer ∷ e) }
         ensures row { row_of self.new tid.0
             ≡ record (row_of self.old tid.0) { buffers = (row_of self.old tid.0).buffers + 1 } }

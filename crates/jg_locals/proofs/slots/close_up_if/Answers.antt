@@ -1,3 +1,6 @@
+use Rattle.std.proofs.Common.{ap, arith, length}
+use Rattle.jg_locals.specs.Seen.{dead_in}
+use Rattle.jg_locals.proofs.Dead.{dead-le, dead-live}
 use Rattle.jg_locals.proofs.Invariant.{up_live, up_sound, up_below, up_ends}
 use Rattle.jg_locals.proofs.slots.close_up_if.Goals as goal
 
@@ -12,3 +15,9 @@ returns-then-dead-count-clause-below g c = λ frame all. up_below c.close_up.new
 
 pub returns-then-dead-count-clause-ends : goal.returns-then-dead-count-clause-ends
 returns-then-dead-count-clause-ends g c = λ live. up_ends c.close_up.new.self.items c.args.slots.now.items c.close_up.ensures.items
+
+pub returns-then-dead-count-clause-dead : goal.returns-then-dead-count-clause-dead
+returns-then-dead-count-clause-dead g c = λ few. omega (arith, ap dead_in c.close_up.ensures.items, dead-live c.args.slots.now.items)
+
+pub returns-else-dead-count-clause-dead : goal.returns-else-dead-count-clause-dead
+returns-else-dead-count-clause-dead g c = λ few. omega (arith, few, dead-le c.args.slots.now.items, c.min-dead.ensures, ap length c.as_slice-count.ensures)

@@ -1,5 +1,7 @@
-use Rattle.std.proofs.Common.{rules, ◌≡◌, ◌∙◌, true, false, arith}
-use Rattle.jg_locals.specs.Seen.{last, passes, stays}
+use Rattle.std.proofs.Common.{rules, ◌≡◌, ◌∙◌, ap, true, false, arith}
+use Rattle.std.specs.Prelude.{option_to_list}
+use Rattle.jg_locals.specs.Seen.{dead_in, last, passes, stays}
+use Rattle.jg_locals.proofs.Dead.{dead-append}
 use Rattle.jg_locals.proofs.Numbers.{cut_one, sound_front, rises_front, below_all, live_left}
 use Rattle.jg_locals.proofs.slots.cut.Goals as goal
 
@@ -11,6 +13,7 @@ loop-from-preserved g c =
       rises_front c.pop.new.self.items c.loop-from.slots.items c.pop.result was c.loop-from.invariant.1,
       (λ frames sound. sound_front c.pop.new.self.items c.loop-from.slots.items c.pop.result frames was (c.loop-from.invariant.2 frames sound)),
       omega (arith, c.loop-from.invariant.3, c.pop.ensures.room),
+      omega (arith, c.loop-from.invariant.4, ap dead_in was, dead-append c.pop.new.self.items (option_to_list c.pop.result)),
     )
 
 pub returns-clause-live : goal.returns-clause-live

@@ -1,7 +1,7 @@
 use Rattle.std.proofs.Common.{◌≡◌, ◌≤◌, List}
 use Rattle.std.specs.Prelude.{filter, length}
 use Rattle.jg_locals.specs.declared.row.Frame.{Frame}
-use Rattle.jg_locals.specs.Seen.{Chain, is_before, stays, Sound}
+use Rattle.jg_locals.specs.Seen.{Chain, dead_in, is_before, stays, Sound}
 use Rattle.jg_locals.proofs.slots.cut.Given as goal
 
 -- what is cut off does not stay
@@ -11,6 +11,7 @@ invariant-loop-from g l =
     × Chain is_before l.slots.items
     × ((frames : List Frame) → Sound l.initial.slots.items frames → Sound l.slots.items frames)
     × (l.initial.slots.room ≤ l.slots.room)
+    × (dead_in l.slots.items ≤ dead_in l.initial.slots.items)
 
 abbrev pub decreases-loop-from : goal.decreases-loop-from
 decreases-loop-from g l = length l.slots.items

@@ -1,4 +1,4 @@
-use jg_heap::{Heap, Shape, Slot};
+use jg_heap::{Heap, Roots, Shape, Slot};
 use jg_lists::ObjectMarks;
 use jg_words::ObjId;
 use std::alloc::{AllocError, Global};
@@ -155,4 +155,41 @@ fn a_slot_of_a_gone_object_holds_nothing(rt: HostRuntime) -> Result<(), Fail> {
     let mut heap = Heap::new(rt.alloc(), 15)?;
     let mut marks = ObjectMarks::new(rt.alloc());
     end_holder(&rt, rt.alloc(), &mut heap, &mut marks)
+}
+
+/// Holds the object of that number alone.
+#[derive(Clone, Copy)]
+struct Only {
+    number: u64,
+}
+
+impl Roots for Only {
+    ghost use Rattle.std.specs.Prelude.{◌==◌};
+
+    ghost is_root = { λ only o. only.number == o };
+
+    fn holds(&self, object: ObjId) -> bool {
+        self.number == object.0
+    }
+}
+
+const NOTHING: Only = Only { number: u64::MAX };
+
+/// How many go at four collections, of which the first alone has a root: object 15.
+fn ends_by_roots(heap: &mut Heap) -> [u64; 4] {
+    let first = Only { number: 15 };
+    [
+        heap.collect(&first),
+        heap.collect(&NOTHING),
+        heap.collect(&NOTHING),
+        heap.collect(&NOTHING),
+    ]
+}
+
+#[test]
+fn a_chain_goes_by_roots_too(rt: HostRuntime) -> Result<(), Fail> {
+    let mut heap = Heap::new(rt.alloc(), 15)?;
+    make_chain(&rt, rt.alloc(), &mut heap)?;
+    assert_eq!(rt; ends_by_roots(&mut heap), [0, 1, 1, 0]);
+    Ok(())
 }

@@ -9,7 +9,7 @@ use Rattle.jg_buffers.proofs.buffers.Buffers.close.Goals as goal
 -- the counts are lowered
 pub invariant_of-self : goal.invariant_of-self
 invariant_of-self g c =
-    let vias = rw c.via_key.ensures at c.lower.ensures in
+    let vias = rw c.via_key.ensures at c.lower.ensures.count in
     counts_lowered (named c.self.inside.pins) (named c.remove.new.tables) c.self.inside.makers.items c.lower_count.new.makers.items c.self.inside.vias c.lower.new.map c.args.buf.maker.0 c.args.buf.n
     c.in-Some.pin c.self.invariant c.in-Some.ensures.taken c.lower_count.ensures vias
 

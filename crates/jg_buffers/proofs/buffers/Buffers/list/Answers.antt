@@ -4,9 +4,8 @@ use Rattle.jg_lists.specs.ByMaker.{named}
 use Rattle.jg_buffers.proofs.buffers.Buffers.list.Goals as goal
 
 -- the names of both kinds are appended
-pub returns : goal.returns
-returns g c = record {
-  ok = on_ok_weaker c.list_pins.result
-      (listed_law c.args.self.now c.self.inside.copies.entries (named c.self.inside.pins) c.args.buffers.now.items c.list_copies.new.buffers.items c.list_pins.new.buffers.items c.self.view_is c.in_ok-list_copies.ensures)
-      c.list_pins.ensures;
-}
+pub returns-clause-ok : goal.returns-clause-ok
+returns-clause-ok g c =
+    on_ok_weaker c.list_pins.result
+    (listed_law c.args.self.now c.self.inside.copies.entries (named c.self.inside.pins) c.args.buffers.now.items c.list_copies.new.buffers.items c.list_pins.new.buffers.items c.self.view_is c.in_ok-list_copies.ensures.ok)
+    c.list_pins.ensures.ok

@@ -1,4 +1,4 @@
-use Rattle.std.proofs.Common.{refl}
+use Rattle.std.proofs.Common.{rules, ◌≡◌, ◌∙◌, ap, refl}
 use Rattle.jg_buffers.specs.Standing.{Stands}
 use Rattle.jg_buffers.proofs.Lookups.{reopened, above_in}
 use Rattle.jg_buffers.proofs.Calls.{seen, open_copy_law, copy_numbers}
@@ -21,3 +21,9 @@ returns-clause-numbers g c = λ k i above below.
 -- refused, no number is added
 pub returns-in_err-insert-clause-numbers : goal.returns-in_err-insert-clause-numbers
 returns-in_err-insert-clause-numbers g c = λ k i above below. rw c.in_err-insert.ensures.err (above_in _ _ k i c.self.view_is above)
+
+-- refused, all is as it was
+pub returns-in_err-insert-clause-err : goal.returns-in_err-insert-clause-err
+returns-in_err-insert-clause-err g c =
+    let same : seen c.insert.new.self.entries (named c.self.inside.pins) ≡ c.args.self.now = ap (λ es. seen es (named c.self.inside.pins)) c.in_err-insert.ensures.err ∙ c.self.view_is in
+    search rules

@@ -30,3 +30,9 @@ loop-class-preserved g c =
       keeps = stored_made c.loop-class.objects.items _ c.loop-class.there.items _ [] [] 0 0 [] [] _ c.loop-class.class c.loop-class.invariant.keeps c.in_ok-push-2.ensures.items
           (omega arith) c.in_ok-push.ensures.items refl (λ whole. whole) (omega arith) refl;
     }
+
+pub loop-class-init : goal.loop-class-init
+loop-class-init g c = rw (c.new-objects.ensures.items, c.new-there.ensures.items) (record {
+  rows = refl;
+  keeps = record { same = refl; keeps = record { flags = refl; whole = λ i d h. absurd (omega (arith, h)); order = omega arith; live = refl; pointing = refl } };
+})

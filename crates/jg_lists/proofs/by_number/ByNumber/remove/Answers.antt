@@ -1,75 +1,49 @@
-use Rattle.std.proofs.Common.{◌≡◌, ◌≤◌, Some, length, ap, sym, ◌∙◌, refl, arith}
-use Rattle.std.specs.Prelude.{map, slice_set}
-use Rattle.std.proofs.lemmas.Bool.Decides.{nat_tests}
+use Rattle.std.proofs.Common.{Some, ap, sym, ◌∙◌, refl}
+use Rattle.std.specs.Prelude.{map}
 use Rattle.jg_lists.specs.declared.by_number.Numbered.{Numbered}
 use Rattle.jg_lists.specs.ByNumber.{seen}
 use Rattle.jg_lists.proofs.Values.{removed_at, removed_none}
-use Rattle.jg_lists.proofs.Seats.{once, within, found, not_found, last_room, placed_without, seen_less, none_left}
+use Rattle.jg_lists.proofs.Seats.{once, within, own_seat, found, not_found, standing_without, seen_less, none_left}
 use Rattle.jg_lists.proofs.by_number.ByNumber.remove.Goals as goal
 
-pub returns-then-place-eq0-clause-was : goal.returns-then-place-eq0-clause-was
-returns-then-place-eq0-clause-was g c =
-    let none : 0 ≡ c.number_at-place.result = grind (arith, nat_tests, c.if-place-eq0.true) in
-    sym (not_found c.self.inside.places.items c.self.inside.seats.items c.args.self.now c.args.number c.self.invariant c.self.view_is (none ∙ c.number_at-place.ensures))
+pub returns-in_default-clause-was : goal.returns-in_default-clause-was
+returns-in_default-clause-was g c =
+    sym (not_found c.self.inside.slots.items c.self.inside.seats.items c.args.self.now c.args.number c.self.invariant.placed c.self.view_is (c.find_slot.ensures.none c.in_default.is))
 
-pub returns-then-place-eq0-clause-removed : goal.returns-then-place-eq0-clause-removed
-returns-then-place-eq0-clause-removed g c = λ q. removed_none c.args.self.now c.args.number q (sym (returns-then-place-eq0-clause-was g c))
+pub returns-in_default-clause-removed : goal.returns-in_default-clause-removed
+returns-in_default-clause-removed g c = λ q. removed_none c.args.self.now c.args.number q (sym (returns-in_default-clause-was g c))
 
-pub returns-then-place-eq0-clause-once : goal.returns-then-place-eq0-clause-once
-returns-then-place-eq0-clause-once g c = once c.self.inside.places.items c.self.inside.seats.items c.args.self.now c.self.invariant c.self.view_is
-
-pub swap_remove-seat-requires : goal.swap_remove-seat-requires
-swap_remove-seat-requires g c =
-    let some : 1 ≤ c.number_at-place.result = grind (arith, nat_tests, c.if-place-eq0.false) in
-    omega (arith, within c.self.inside.places.items c.self.inside.seats.items c.args.number c.number_at-place.result c.self.invariant c.number_at-place.ensures some, c.self.inside.seats.ok)
-
-pub overflow_sub-len : goal.overflow_sub-len
-overflow_sub-len g c =
-    let some : 1 ≤ c.number_at-place.result = grind (arith, nat_tests, c.if-place-eq0.false) in
-    omega (arith, within c.self.inside.places.items c.self.inside.seats.items c.args.number c.number_at-place.result c.self.invariant c.number_at-place.ensures some, c.len.ensures, c.self.inside.seats.ok)
-
-pub index-requires : goal.index-requires
-index-requires g c =
-    let some : 1 ≤ c.number_at-place.result = grind (arith, nat_tests, c.if-place-eq0.false) in
-    omega (arith, within c.self.inside.places.items c.self.inside.seats.items c.args.number c.number_at-place.result c.self.invariant c.number_at-place.ensures some, c.len.ensures, c.self.inside.seats.ok)
-
-pub index_mut-requires : goal.index_mut-requires
-index_mut-requires g c =
-    let some : 1 ≤ c.number_at-place.result = grind (arith, nat_tests, c.if-place-eq0.false) in
-    let inside = within c.self.inside.places.items c.self.inside.seats.items c.args.number c.number_at-place.result c.self.invariant c.number_at-place.ensures some in
-    let many : c.len.result ≡ length c.self.inside.seats.items = omega (arith, c.len.ensures, c.self.inside.seats.ok) in
-    omega (arith, last_room c.self.inside.places.items c.self.inside.seats.items c.len.result c.index.result.now c.self.invariant many (omega (arith, many, inside)) c.index.ensures, c.self.inside.places.ok)
+pub returns-in_default-clause-once : goal.returns-in_default-clause-once
+returns-in_default-clause-once g c = once c.self.inside.slots.items c.self.inside.seats.items c.args.self.now c.self.invariant.placed c.self.view_is
 
 pub invariant_of-self : goal.invariant_of-self
 invariant_of-self g c =
-    let some : 1 ≤ c.number_at-place.result = grind (arith, nat_tests, c.if-place-eq0.false) in
-    placed_without c.self.inside.places.items c.self.inside.seats.items c.swap_remove-seat.new.self.items c.args.number c.number_at-place.result c.len.result
-    c.swap_remove-seat.result c.index.result.now c.self.invariant c.number_at-place.ensures some (omega (arith, c.len.ensures, c.self.inside.seats.ok))
-    c.index.ensures c.swap_remove-seat.ensures.value c.swap_remove-seat.ensures.items
+    standing_without c.self.inside.slots.items c.leave_slot-used.new.slots.items c.self.inside.seats.items c.swap_remove-seat.new.self.items c.args.number c.in-Some.found.slot c.in-Some.found.seat c.swap_remove-seat.result
+    c.self.invariant.placed c.in-Some.ensures.found c.leave_slot-used.ensures.leaves c.swap_remove-seat.ensures.value c.swap_remove-seat.ensures.items
+    c.leave_slot-used.result c.leave_slot-used.ensures.counted c.leave_slot-used.ensures.live c.leave_slot-used.ensures.room
 
 pub returns-clause-was : goal.returns-clause-was
 returns-clause-was g c =
-    let some : 1 ≤ c.number_at-place.result = grind (arith, nat_tests, c.if-place-eq0.false) in
+    let slots = c.self.inside.slots.items in
+    let seats = c.self.inside.seats.items in
+    let finds = c.in-Some.ensures.found in
     ap (λ (s : Numbered g.row.V.Denot). Some s.value) c.swap_remove-seat.ensures.value
-    ∙ sym (found c.self.inside.places.items c.self.inside.seats.items c.args.self.now c.args.number c.number_at-place.result c.swap_remove-seat.result c.self.invariant c.self.view_is c.number_at-place.ensures some)
+    ∙ sym (found slots seats c.args.self.now c.args.number c.in-Some.found.seat c.swap_remove-seat.result c.self.invariant.placed c.self.view_is
+    (within slots seats c.args.number c.in-Some.found.slot c.in-Some.found.seat finds) (own_seat slots seats c.args.number c.in-Some.found.slot c.in-Some.found.seat c.swap_remove-seat.result finds))
 
 pub returns-clause-taken : goal.returns-clause-taken
 returns-clause-taken g c =
-    let some : 1 ≤ c.number_at-place.result = grind (arith, nat_tests, c.if-place-eq0.false) in
-    seen_less c.self.inside.places.items c.self.inside.seats.items c.swap_remove-seat.new.self.items c.args.number c.number_at-place.result c.len.result
-    c.swap_remove-seat.result c.index.result.now c.self.invariant c.number_at-place.ensures some (omega (arith, c.len.ensures, c.self.inside.seats.ok))
-    c.index.ensures c.swap_remove-seat.ensures.value c.swap_remove-seat.ensures.items c.args.self.now c.self.view_is
+    seen_less c.self.inside.slots.items c.leave_slot-used.new.slots.items c.self.inside.seats.items c.swap_remove-seat.new.self.items c.args.number c.in-Some.found.slot c.in-Some.found.seat c.swap_remove-seat.result
+    c.self.invariant.placed c.in-Some.ensures.found c.leave_slot-used.ensures.leaves c.swap_remove-seat.ensures.value c.swap_remove-seat.ensures.items
+    c.args.self.now c.self.view_is
 
 pub returns-clause-removed : goal.returns-clause-removed
 returns-clause-removed g c = λ q.
-    let some : 1 ≤ c.number_at-place.result = grind (arith, nat_tests, c.if-place-eq0.false) in
-    let none = none_left c.self.inside.places.items c.self.inside.seats.items c.swap_remove-seat.new.self.items c.args.number c.number_at-place.result c.len.result
-    c.swap_remove-seat.result c.index.result.now c.self.invariant c.number_at-place.ensures some (omega (arith, c.len.ensures, c.self.inside.seats.ok))
-    c.index.ensures c.swap_remove-seat.ensures.value c.swap_remove-seat.ensures.items in
+    let none = none_left c.self.inside.slots.items c.leave_slot-used.new.slots.items c.self.inside.seats.items c.swap_remove-seat.new.self.items c.args.number c.in-Some.found.slot c.in-Some.found.seat c.swap_remove-seat.result
+    c.self.invariant.placed c.in-Some.ensures.found c.leave_slot-used.ensures.leaves c.swap_remove-seat.ensures.value c.swap_remove-seat.ensures.items in
     removed_at c.args.self.now (map seen c.swap_remove-seat.new.self.items) c.args.number q c.swap_remove-seat.result.value
-    (once c.self.inside.places.items c.self.inside.seats.items c.args.self.now c.self.invariant c.self.view_is) (returns-clause-taken g c) none
+    (once c.self.inside.slots.items c.self.inside.seats.items c.args.self.now c.self.invariant.placed c.self.view_is) (returns-clause-taken g c) none
 
 pub returns-clause-once : goal.returns-clause-once
 returns-clause-once g c =
-    once (slice_set (slice_set c.self.inside.places.items c.index.result.now.number c.number_at-place.result) c.args.number 0)
-    c.swap_remove-seat.new.self.items (map seen c.swap_remove-seat.new.self.items) (invariant_of-self g c) refl
+    once c.leave_slot-used.new.slots.items c.swap_remove-seat.new.self.items (map seen c.swap_remove-seat.new.self.items) (invariant_of-self g c).placed refl

@@ -11,11 +11,11 @@ returns-in-None-clause-held g c =
 pub returns-in-Some-clause-held : goal.returns-in-Some-clause-held
 returns-in-Some-clause-held g c =
     let is : last c.self.inside.frames.items ≡ Some c.in-Some.opened = ap last (sym c.deref.ensures.value) ∙ (sym c.newest.ensures ∙ c.in-Some.is) in
-    newest_holds c.self.inside.slots.items c.self.inside.frames.items c.in-Some.opened c.self.invariant is ∙ ap (λ (r : StackRows). held_in (last r.frames) r.locals) c.self.view_is
+    newest_holds c.self.inside.slots.items c.self.inside.frames.items c.in-Some.opened c.self.invariant.0 is ∙ ap (λ (r : StackRows). held_in (last r.frames) r.locals) c.self.view_is
 
 pub returns-in-Some-clause-small : goal.returns-in-Some-clause-small
 returns-in-Some-clause-small g c =
     let is : last c.self.inside.frames.items ≡ Some c.in-Some.opened = ap last (sym c.deref.ensures.value) ∙ (sym c.newest.ensures ∙ c.in-Some.is) in
-    let most : c.in-Some.opened.held ≤ length c.self.inside.slots.items = held_most c.self.inside.slots.items c.self.inside.frames.items c.in-Some.opened c.self.invariant is in
+    let most : c.in-Some.opened.held ≤ length c.self.inside.slots.items = held_most c.self.inside.slots.items c.self.inside.frames.items c.in-Some.opened c.self.invariant.0 is in
     let fits : length c.self.inside.slots.items < 2 ^ 63 = search rules in
     omega (arith, most, fits)

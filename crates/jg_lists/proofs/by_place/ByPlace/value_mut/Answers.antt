@@ -1,7 +1,7 @@
 use Rattle.std.proofs.Common.{◌-◌, Some, refl, sym, ap, ◌∙◌, arith}
 use Rattle.jg_lists.specs.declared.by_number.Numbered.{Numbered}
-use Rattle.jg_lists.proofs.Seats.{once, has_place, within, own_seat, found, written, placed_written}
-use Rattle.jg_lists.proofs.by_number.ByNumber.value_mut.Goals as goal
+use Rattle.jg_lists.proofs.Places.{once, has_place, within, own_seat, found, written, placed_written}
+use Rattle.jg_lists.proofs.by_place.ByPlace.value_mut.Goals as goal
 
 pub overflow_sub-place : goal.overflow_sub-place
 overflow_sub-place g c = has_place c.self.inside.places.items c.self.inside.seats.items c.args.self.now c.args.number c.number_at-place.result c.self.invariant c.self.view_is c.number_at-place.ensures c.requires

@@ -1,0 +1,51 @@
+-- How many slots of a list are dead.
+use Rattle.std.proofs.Common.{ℕ, zero, suc, ◌≡◌, ◌<◌, ◌≤◌, ◌+◌, ◌∙◌, ap, sym, refl, List, [], ◌∷◌, ◌++◌, length, get_or, set, arith, Bool, true, false, not, inl, inr, Some, None}
+use mir.Val.{bool_byte}
+use Rattle.std.specs.Prelude.{filter, if◌then◌else◌}
+use Rattle.std.specs.Option.{is_some}
+use Rattle.std.proofs.lemmas.Bool.{cases_Bool}
+use Rattle.std.proofs.lemmas.List.{length-append}
+use Rattle.std.proofs.lemmas.List.Elements.{filter-append}
+use Rattle.jg_locals.specs.declared.row.Slot.{Slot}
+use Rattle.jg_locals.specs.Seen.{is_live, dead_in, ended}
+
+pub dead-append : (xs ys : List Slot) → dead_in (xs ++ ys) ≡ dead_in xs + dead_in ys
+dead-append xs ys = ap length (filter-append (λ s. not s.live) xs ys) ∙ length-append (filter (λ s. not s.live) xs) (filter (λ s. not s.live) ys)
+
+pub dead-le : (slots : List Slot) → dead_in slots ≤ length slots
+dead-le [] = omega arith
+dead-le (s ∷ slots) = let rest = dead-le slots in elim (cases_Bool s.live) [ inl is ↦ rw is (omega (arith, rest)) | inr out ↦ rw out (omega (arith, rest)) ]
+
+-- none is among those that live
+pub dead-live : (slots : List Slot) → dead_in (filter is_live slots) ≡ 0
+dead-live [] = refl
+dead-live (s ∷ slots) = elim (cases_Bool s.live) [ inl is ↦ rw is (dead-live slots) | inr out ↦ rw out (dead-live slots) ]
+
+-- it is found where it was live
+pub one_of : (s : Slot) → ◌≡◌ {A = ℕ} (if is_some (if s.live then Some s else None) then 1 else 0) (if s.live then 1 else 0)
+one_of s = elim (cases_Bool s.live) [ inl is ↦ rw is refl | inr out ↦ rw out refl ]
+
+-- one that is marked dead makes one more, if it was live
+pub dead-ended : (slots : List Slot) (i : ℕ) (s : Slot) → i < length slots → s ≡ get_or slots i s → dead_in (set slots i (ended s)) ≤ dead_in slots + (if s.live then 1 else 0)
+dead-ended [] i s within is = absurd (omega (arith, within))
+dead-ended (x ∷ slots) zero s within is =
+    elim (cases_Bool s.live) [
+      | inl live ↦ let here : x.live ≡ true = ap (λ (y : Slot). y.live) (sym is) ∙ live in rw (here, live) (omega arith)
+      | inr out ↦ let here : x.live ≡ false = ap (λ (y : Slot). y.live) (sym is) ∙ out in rw (here, out) (omega arith)
+    ]
+dead-ended (x ∷ slots) (suc i) s within is =
+    let rest = dead-ended slots i s (omega (arith, within)) is in
+    elim (cases_Bool x.live) [ inl live ↦ rw live (omega (arith, rest)) | inr out ↦ rw out (omega (arith, rest)) ]
+
+-- a live one makes none more
+pub dead-pushed : (slots : List Slot) (s : Slot) → s.live ≡ true → dead_in (slots ++ s ∷ []) ≡ dead_in slots
+dead-pushed slots s live = let none : dead_in (s ∷ []) ≡ 0 = rw live refl in omega (arith, dead-append slots (s ∷ []), none)
+
+-- a truth that is counted
+pub one_more_if : (b : Bool) → ◌≡◌ {A = ℕ} (bool_byte b) (if b then 1 else 0)
+one_more_if true = refl
+one_more_if false = refl
+
+pub byte-le : (b : Bool) → bool_byte b ≤ 1
+byte-le true = omega arith
+byte-le false = omega arith
