@@ -1,6 +1,6 @@
 -- What the tables have of the object and of the buffer that a call on buffers names.
-use Rattle.std.proofs.Common.{ℕ, ℤ, pos, ◌≡◌, ◌<◌, ◌∙◌, Bool, true, false, List, [], ◌∷◌, length, map, Option, Some, None, refl, ap, sym, subst, arith, eqb-true}
-use Rattle.std.specs.Prelude.{◌==◌, ◌&&◌, ◌||◌, not, nat_lt, nat_le, int_le, if◌then◌else◌}
+use Rattle.std.proofs.Common.{ℕ, ℤ, pos, ◌≡◌, ◌<◌, ◌∙◌, Bool, true, false, List, [], ◌∷◌, length, map, Option, Some, None, refl, ap, sym, subst, arith}
+use Rattle.std.specs.Prelude.{◌&&◌, ◌||◌, not, nat_lt, nat_le, int_le, if◌then◌else◌}
 use Rattle.std.specs.List.{range_with_len}
 use Rattle.std.specs.Option.{option_map, unwrap_or}
 use Rattle.std.proofs.lemmas.Bool.Decides.{nat_tests}
@@ -25,13 +25,13 @@ use Rattle.jg_buffers.specs.declared.info.Info.{Info}
 use Rattle.jg_rules.specs.declared.named.Named.{Named}
 use Rattle.jg_rules.specs.declared.operand.ObjectType.TheVariants.{StringObject, PrimitiveArray}
 use Rattle.jg_rules.specs.Parts.{Parts, TableRows, TablesStand}
-use Rattle.jg_rules.specs.Names.{names, object_in, object_named, the_object, class_of, length_of}
-use Rattle.jg_rules.specs.Buffers.{buffer_named, is_open_and, family_number, is_of_family, is_of_object, is_anothers, is_of_array, is_place, item_type, is_value_of_type}
-use Rattle.jg_rules.specs.Rules.{is_nothing, is_null as is_null_named, is_wrong, is_releasable, is_outside_of, is_wrong_item}
+use Rattle.jg_rules.specs.Names.{names, object_in, the_object, class_of, length_of}
+use Rattle.jg_rules.specs.Buffers.{buffer_named, is_open_and, family_number, is_anothers, is_of_array, is_place, item_type, is_value_of_type}
+use Rattle.jg_rules.specs.Rules.{is_nothing, is_null as is_null_named, is_wrong, is_outside_of, is_wrong_item}
 use Rattle.jg_rules.proofs.Objects.{IsThere, is_there, made_there, first_is_of}
 use Rattle.jg_laws.specs.Laws.{FitsMaking, FitsObject}
-use Rattle.jg_laws.proofs.HandsHere.{the_named}
 use Rattle.jg_laws.proofs.Lent.{is_string, within, four}
+use Rattle.jg_laws.proofs.Releasing.{released}
 use Rattle.jg_guard.specs.Tables.{IsDue}
 use Rattle.jg_guard.proofs.Arrays.{primitive_there}
 
@@ -169,35 +169,13 @@ family_is UtfChars element is = absurd (omega (arith, is, four element))
 family_is ArrayCritical element is = absurd (omega (arith, is, four element))
 family_is StringCritical element is = absurd (omega (arith, is, four element))
 
--- the buffer is of this family and of this object
-pub record Released (p : Parts) (b : BufId) (family : Family) (o : ℕ) : Type 0 where
-  pub buffer : Buffer
-  pub is_open : opened p.buffers b.maker.0 b.n ≡ Some buffer
-  pub family_of : family_number buffer.family ≡ family_number family
-  pub object : buffer.object ≡ o
-
-both : (a c d : Bool) → (a && (c && d)) ≡ true → (a ≡ true) × (c ≡ true)
-both true true d is = (refl, refl)
-both true false d is = absurd cc
-both false c d is = absurd cc
-
-released_if : (p : Parts) (t : ℕ) (family : Family) (b : BufId) (o : ℕ) (named : Option ℕ) (found : Option Buffer) → opened p.buffers b.maker.0 b.n ≡ found → named ≡ Some o
-    → is_open_and (λ x. is_of_family family x && (is_of_object named x && not (is_anothers t x))) (option_map info_of found) ≡ true → Released p b family o
-released_if p t family b o named None is names_it may = absurd cc
-released_if p t family b o named (Some x) is names_it may =
-    let two = both (is_of_family family (info_of x)) (is_of_object named (info_of x)) (not (is_anothers t (info_of x))) may in
-    let own : (x.object == o) ≡ true = subst (λ (found : Option ℕ). is_of_object found (info_of x) ≡ true) names_it two.1 in
-    record {
-      buffer = x;
-      is_open = is;
-      family_of = eqb-true (family_number x.family) (family_number family) two.0;
-      object = eqb-true x.object o own;
-    }
-
-pub released : (p : Parts) (t : ℕ) (family : Family) (r : Ref) (b : BufId) → (is_nothing (names p t r) || false) ≡ false → ((true && is_null_named (names p t r)) || false) ≡ false
-    → not (is_releasable p t family r b) ≡ false → Released p b family (the_object p t r)
-released p t family r b alive there may =
-    released_if p t family b (the_object p t r) (object_named p t r) (opened p.buffers b.maker.0 b.n) refl (the_named (names p t r) false false alive there) (right (is_releasable p t family r b) may)
+-- it is of the operand's object
+pub released_object : (s : StatedSetup) (rows : TableRows) (t : ℕ) (element : Primitive) (r : Ref) (b : BufId) (mode : ℤ) (due : IsDue s rows t (Buffers (ReleaseArrayElements element r b mode))) (info : Info)
+    → buffer_named due.events b ≡ Some info → info.object.0 ≡ the_object due.events t r
+released_object s rows t element r b mode due info is =
+    let it = released due.events t (Elements element) r b due.unbroken.alive due.unbroken.not_null due.unbroken.right_buffer in
+    let told : info_of it.buffer ≡ info = one_info (info_of it.buffer) info (sym (ap (option_map info_of) it.is_open) ∙ is) in
+    ap (λ (i : Info). i.object.0) (sym told) ∙ it.object
 
 -- what is copied back fits
 pub back_fits : (s : StatedSetup) (rows : TableRows) (t : ℕ) (element : Primitive) (r : Ref) (b : BufId) (mode : ℤ) (due : IsDue s rows t (Buffers (ReleaseArrayElements element r b mode)))

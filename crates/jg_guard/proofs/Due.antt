@@ -11,7 +11,7 @@ use Rattle.jg_words.specs.declared.object.ObjId.{ObjId}
 use Rattle.jg_words.specs.declared.reference.Ref.TheVariants.{Null, To}
 use Rattle.jg_words.specs.declared.reference.Kind.TheVariants.{Local, Global, Weak}
 use Rattle.jg_words.specs.declared.value.Value.{Value}
-use Rattle.jg_words.specs.declared.value.Value.TheVariants.{Reference, Buffer as Lent, Busy, Throw as Threw}
+use Rattle.jg_words.specs.declared.value.Value.TheVariants.{Ok as Done, Reference, Buffer as Lent, Busy, Throw as Threw}
 use Rattle.jg_words.specs.declared.call.Call.{Call}
 use Rattle.jg_words.specs.declared.call.Call.TheVariants.{Vm, Refs, Frames, Exceptions, Objects, Strings, Arrays, Monitors, Buffers}
 use Rattle.jg_policy.specs.Stated.{StatedSetup}
@@ -228,6 +228,8 @@ can_settle s p tables t env call (Lent b) warned o own effective not_global afte
     }
 can_settle s p tables t env call Busy warned o own effective not_global after stand is room = absurd cc
 can_settle s p tables t env call (Threw kind) warned o own effective not_global after stand is room = absurd cc
+can_settle s p tables t env call Done warned (Some o) own effective not_global after stand is room =
+    is_on (done_by s t.0 call p) tables.threads t.0 stand.threads (attached_done s p t.0 call own (attached_caller p t.0 env call own is))
 can_settle s p tables t env call value warned o own effective not_global after stand is room = tt
 
 pub can_settle_global : {A : Type 0} (s : StatedSetup) (p : Parts) (tables : Tables A) (t : Tid) (env : Option EnvId) (call : Call) (value : Value) (warned : Bool) (o : Option ObjId)

@@ -9,7 +9,7 @@ use Rattle.jg_words.specs.declared.object.ObjId.{ObjId}
 use Rattle.jg_words.specs.declared.reference.Ref.TheVariants.{Null, To}
 use Rattle.jg_words.specs.declared.reference.Kind.TheVariants.{Local, Global, Weak}
 use Rattle.jg_words.specs.declared.value.Value.{Value}
-use Rattle.jg_words.specs.declared.value.Value.TheVariants.{Reference, Buffer as Lent, Busy, Throw as Threw}
+use Rattle.jg_words.specs.declared.value.Value.TheVariants.{Ok as Done, Reference, Buffer as Lent, Busy, Throw as Threw}
 use Rattle.jg_words.specs.declared.entry.Reply.{Reply}
 use Rattle.jg_words.specs.declared.call.Call.{Call}
 use Rattle.jg_policy.specs.Stated.{StatedSetup, class_count}
@@ -116,6 +116,7 @@ CanSettle tables t (Reference (To Weak maker n)) (Some o) = ⊥
 CanSettle tables t (Lent b) o = CanLend tables t
 CanSettle tables t Busy o = ⊥
 CanSettle tables t (Threw kind) o = ⊥
+CanSettle tables t Done (Some o) = IsTrue (row_of tables.threads t).attached
 CanSettle tables t value o = Unit {0}
 
 abbrev pub CanSettleGlobal : {A : Type 0} → Tables A → ℕ → Value → Option ObjId → Type 0

@@ -314,7 +314,8 @@ pub(crate) fn settle_global<A: Allocator + Clone>(
     }
 }
 
-/// Makes what an answer makes, where there is room for it.
+/// Makes what an answer makes, where there is room for it. The object behind a bare `ok` is the exception of
+/// a Throw, which becomes pending.
 pub(crate) fn settle<A: Allocator + Clone>(tables: &mut Tables<A>, tid: Tid, given: &Answer)
     requires { CanSettle tables.old tid.0 given.now.reply.value given.now.object }
     ensures stands { (setup : StatedSetup) (p : Parts) → TablesStand setup (rows_of tables.old) p
@@ -334,7 +335,11 @@ pub(crate) fn settle<A: Allocator + Clone>(tables: &mut Tables<A>, tid: Tid, giv
         Value::Buffer(_) => tables.threads.count_buf(tid),
         Value::Throw(_) => unreachable!(),
         Value::Busy => unreachable!(),
-        Value::Ok => {}
+        Value::Ok => {
+            if let Some(exception) = given.object {
+                tables.threads.set_pending(tid, exception);
+            }
+        }
         Value::Number(_) => {}
         Value::Truth(_) => {}
         Value::Null => {}

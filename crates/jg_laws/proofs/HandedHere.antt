@@ -1,5 +1,5 @@
 -- What a call hands out a reference for was made and isn't gone; so no legal history has a live reference to what is gone.
-use Rattle.std.proofs.Common.{ℕ, ℤ, pos, ◌≡◌, ◌+◌, ◌<◌, ◌≤◌, ◌++◌, ◌∙◌, Bool, true, false, List, [], ◌∷◌, map, length, Option, Some, None, refl, ap, sym, subst, arith, length-append}
+use Rattle.std.proofs.Common.{option_map, ℕ, ℤ, pos, ◌≡◌, ◌+◌, ◌<◌, ◌≤◌, ◌++◌, ◌∙◌, Bool, true, false, List, [], ◌∷◌, map, length, Option, Some, None, refl, ap, sym, subst, arith, length-append}
 use Rattle.std.specs.Prelude.{◌==◌, ◌&&◌, ◌||◌, not, nat_lt, int_lt}
 use Rattle.std.specs.List.{AllByRecursion}
 use Rattle.std.specs.Str.{bytes_eq}
@@ -57,7 +57,7 @@ use Rattle.jg_rules.specs.Effects.{parts, after, call_heap, done_if, if_effectiv
 use Rattle.jg_rules.specs.Rules.{verdict, is_stated_as, is_of_class}
 use Rattle.jg_policy.specs.declared.access.Operation.{Operation}
 use Rattle.jg_policy.specs.declared.access.Operation.TheVariants.{Link}
-use Rattle.jg_rules.specs.Answers.{answer, handed, plain, entered, present_env, class_found, field_found, registered, admitted, unless_pending, or_outside, is_outside, field_value, region}
+use Rattle.jg_rules.specs.Answers.{answer, handed, plain, saying, entered, present_env, class_found, field_found, registered, admitted, unless_pending, or_outside, is_outside, field_value, region}
 use Rattle.jg_rules.specs.Legal.{Legal, entry_by}
 use Rattle.jg_rules.specs.Unbroken.{Unbroken}
 use Rattle.jg_rules.proofs.Kept.{unbroken}
@@ -150,10 +150,11 @@ field_named s p (Object x) field o a b stated all there right some found =
 
 -- ---- what an answer hands out
 
--- the object that a reference is handed out for is there; an exception is the next object
+-- the object that a reference is handed out for is there, and so is one that becomes pending; an exception that is made is the next object
 abbrev pub HandsHere : ℕ → List heap.Event → Value → Option ObjId → Type 0
 HandsHere k e (Reference r) (Some o) = Here k e o.0
 HandsHere k e (Threw kind) (Some o) = o.0 ≡ heap.count_of k e
+HandsHere k e Done (Some o) = Here k e o.0
 HandsHere k e value o = Unit {0}
 
 abbrev pub AnswersHere : ℕ → List heap.Event → Answer → Type 0
@@ -162,6 +163,10 @@ AnswersHere k e a = HandsHere k e a.reply.value a.object
 handed_here : (k : ℕ) (e : List heap.Event) (p : Parts) (t : Tid) (kind : Kind) (found : Option ℕ) → ((o : ℕ) → found ≡ Some o → Here k e o) → AnswersHere k e (handed p t kind found)
 handed_here k e p t kind None here = tt
 handed_here k e p t kind (Some o) here = here o refl
+
+raised_here : (k : ℕ) (e : List heap.Event) (found : Option ℕ) → ((o : ℕ) → found ≡ Some o → Here k e o) → AnswersHere k e (saying Done (option_map (λ o. record { 0 = o }) found))
+raised_here k e None here = tt
+raised_here k e (Some o) here = here o refl
 
 -- a call that does nothing to the store
 none_if : (b : Bool) (e : List heap.Event) → if_effective b [] ++ e ≡ e
@@ -238,7 +243,8 @@ answer_here s p t env (Frames (PushLocalFrame capacity)) kept stated all = tt
 answer_here s p t env (Frames (PopLocalFrame r)) kept stated all =
     reads (class_count s) p.heap (answer s p t (Frames (PopLocalFrame r))) (handed_here (class_count s) p.heap p t Local (object_named p t.0 r) (λ o is. named_here s p t.0 o r all is))
 answer_here s p t env (Frames (EnsureLocalCapacity capacity)) kept stated all = tt
-answer_here s p t env (Exceptions (Throw r)) kept stated all = tt
+answer_here s p t env (Exceptions (Throw r)) kept stated all =
+    reads (class_count s) p.heap (answer s p t (Exceptions (Throw r))) (raised_here (class_count s) p.heap (object_named p t.0 r) (λ o is. named_here s p t.0 o r all is))
 answer_here s p t env (Exceptions ExceptionOccurred) kept stated all =
     reads (class_count s) p.heap (answer s p t (Exceptions ExceptionOccurred)) (handed_here (class_count s) p.heap p t Local (pending p t.0) (λ o is. all.pending t.0 o is))
 answer_here s p t env (Exceptions ExceptionDescribe) kept stated all = tt
@@ -379,7 +385,17 @@ settle_here s home q t (Threw kind) warned None here all = unlinked s _ _ refl (
 settle_here s home q t (Threw kind) warned (Some o) here all =
     let H : ℕ → Type 0 = Here (class_count s) (heap.Made (Plain (class_thrown kind) []) ∷ q.heap) in
     unlinked s _ _ refl (made_here s q t kind (threads.Raise o.0 ∷ []) (subst H (sym here) (here_new (class_count s) q.heap (Plain (class_thrown kind) [])), tt) all)
-settle_here s home q t Done warned o here all = unlinked s _ _ refl all
+settle_here s home q t Done warned None here all = unlinked s _ _ refl all
+settle_here s home q t Done warned (Some o) here all =
+    let raised : AllHere s (record q { threads = threads.by t (threads.Raise o.0) ∷ q.threads }) = record {
+      locals = all.locals;
+      pending = pending_more (Here (class_count s) q.heap) q.threads t (threads.Raise o.0 ∷ []) (here, tt) all.pending;
+      strong = all.strong;
+      weak = all.weak;
+      slots = all.slots;
+      known = all.known;
+    } in
+    unlinked s _ _ refl raised
 settle_here s home q t (Amount n) warned o here all = unlinked s _ _ refl all
 settle_here s home q t (Truth b) warned o here all = unlinked s _ _ refl all
 settle_here s home q t NullAnswer warned o here all = unlinked s _ _ refl all

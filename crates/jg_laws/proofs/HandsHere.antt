@@ -33,8 +33,8 @@ use Rattle.jg_rules.specs.declared.named.Named.{Named}
 use Rattle.jg_rules.specs.declared.named.Named.TheVariants.{Nothing, Null as NamesNull, Object}
 use Rattle.jg_rules.specs.Parts.{Parts}
 use Rattle.jg_rules.specs.Names.{names, object_in, object_named, the_object}
-use Rattle.jg_rules.specs.Effects.{call_threads, call_locals, call_globals, call_heap, done_by, started, deletes_local, pointer, first_value, wrote_pinned}
-use Rattle.jg_rules.specs.Buffers.{buffer_named, is_abort}
+use Rattle.jg_rules.specs.Effects.{call_threads, call_locals, call_globals, call_heap, done_by, started, deletes_local, pointer, first_value, wrote_back, wrote_pinned}
+use Rattle.jg_rules.specs.Buffers.{buffer_named, writes_back}
 use Rattle.jg_rules.specs.Rules.{is_nothing, is_null, is_machine}
 use Rattle.jg_rules.specs.Unbroken.{Unbroken}
 use Rattle.jg_rules.specs.Operands.{is_plain}
@@ -88,9 +88,13 @@ array_below : (s : StatedSetup) (element : Primitive) → array_class element < 
 array_below s element = omega (arith, array_class-le element)
 
 -- numbers name nothing
-back_still : (b : Bool) (k o : ℕ) (values : List ℤ) (e : List heap.Event) → SlotsMeet k e → Still k e ((if b then [] else heap.region_writes o 0 values) ++ e)
-back_still true k o values e slots = unmoved k e slots
-back_still false k o values e slots = region_still k o values 0 e slots
+found_still : (k : ℕ) (values : List ℤ) (found : Option Info) (e : List heap.Event) → SlotsMeet k e → Still k e (wrote_back values found ++ e)
+found_still k values None e slots = unmoved k e slots
+found_still k values (Some info) e slots = region_still k info.object.0 values 0 e slots
+
+back_still : (b : Bool) (k : ℕ) (values : List ℤ) (found : Option Info) (e : List heap.Event) → SlotsMeet k e → Still k e ((if b then wrote_back values found else []) ++ e)
+back_still true k values found e slots = found_still k values found e slots
+back_still false k values found e slots = unmoved k e slots
 
 pinned_if : (b : Bool) (k o index : ℕ) (v : ℤ) (e : List heap.Event) → SlotsMeet k e → Still k e ((if b then heap.Wrote o index (Number v) ∷ [] else []) ++ e)
 pinned_if true k o index v e slots = wrote_still k e o index (Number v) slots (λ x is. absurd (number_no v x is))
@@ -139,7 +143,7 @@ heap_done s p t env (Arrays (SetObjectArrayElement r index value)) kept own all 
     wrote_still (class_count s) p.heap _ _ (pointer (object_named p t value)) all.slots (λ o is. named_here s p t o.0 value all (pointer_is (object_named p t value) o is))
 heap_done s p t env (Monitors call) kept own all = unmoved (class_count s) p.heap all.slots
 heap_done s p t env (Buffers (GetArrayElements element r)) kept own all = unmoved (class_count s) p.heap all.slots
-heap_done s p t env (Buffers (ReleaseArrayElements element r b mode)) kept own all = back_still (is_abort mode) (class_count s) (the_object p t r) (buffers.contents p.buffers b.maker.0 b.n) p.heap all.slots
+heap_done s p t env (Buffers (ReleaseArrayElements element r b mode)) kept own all = back_still (writes_back mode) (class_count s) (buffers.contents p.buffers b.maker.0 b.n) (buffer_named p b) p.heap all.slots
 heap_done s p t env (Buffers (GetStringChars r)) kept own all = unmoved (class_count s) p.heap all.slots
 heap_done s p t env (Buffers (ReleaseStringChars r b)) kept own all = unmoved (class_count s) p.heap all.slots
 heap_done s p t env (Buffers (GetStringUTFChars r)) kept own all = unmoved (class_count s) p.heap all.slots
@@ -210,7 +214,7 @@ call_raises H s p t env (Vm (UnregisterNatives class)) kept named = tt
 call_raises H s p t env (Vm Collect) kept named = tt
 call_raises H s p t env (Refs call) kept named = tt
 call_raises H s p t env (Frames call) kept named = tt
-call_raises H s p t env (Exceptions (Throw r)) kept named = (named (the_object p t r) r (the_named (names p t r) false false kept.alive kept.not_null), tt)
+call_raises H s p t env (Exceptions (Throw r)) kept named = tt
 call_raises H s p t env (Exceptions ExceptionOccurred) kept named = tt
 call_raises H s p t env (Exceptions ExceptionDescribe) kept named = tt
 call_raises H s p t env (Exceptions ExceptionClear) kept named = tt

@@ -18,4 +18,5 @@ pub mod HandsHere
 pub mod StatedFields
 pub mod HandedHere
 pub mod Pinning
+pub mod Releasing
 pub mod Touching

@@ -24,8 +24,8 @@ use Rattle.jg_heap.specs.Making.{Making, Plain, Text, Filled, array_class, class
 use Rattle.jg_heap.specs.Reading.{natural}
 use Rattle.jg_rules.specs.Parts.{Parts}
 use Rattle.jg_rules.specs.Names.{the_object}
-use Rattle.jg_rules.specs.Buffers.{buffer_named, is_abort}
-use Rattle.jg_rules.specs.Effects.{call_heap, value_heap, first_value, wrote_pinned}
+use Rattle.jg_rules.specs.Buffers.{buffer_named, writes_back}
+use Rattle.jg_rules.specs.Effects.{call_heap, value_heap, first_value, wrote_back, wrote_pinned}
 use Rattle.jg_laws.specs.Laws.{IsStatedMaking, MakesStated}
 
 pub all_append : {X : Type 0} (P : X → Type 0) (xs ys : List X) → AllByRecursion P xs → AllByRecursion P ys → AllByRecursion P (xs ++ ys)
@@ -44,9 +44,13 @@ region_stated : (s : StatedSetup) (o j : ℕ) (values : List ℤ) → AllByRecur
 region_stated s o j [] = tt
 region_stated s o j (v ∷ values) = all_append (MakesStated s) (region_writes o (j + 1) values) _ (region_stated s o (j + 1) values) (tt, tt)
 
-back_stated : (s : StatedSetup) (o : ℕ) (values : List ℤ) (b : Bool) → AllByRecursion (MakesStated s) (if b then [] else region_writes o 0 values)
-back_stated s o values true = tt
-back_stated s o values false = region_stated s o 0 values
+found_stated : (s : StatedSetup) (values : List ℤ) (found : Option Info) → AllByRecursion (MakesStated s) (wrote_back values found)
+found_stated s values None = tt
+found_stated s values (Some info) = region_stated s info.object.0 0 values
+
+back_stated : (s : StatedSetup) (values : List ℤ) (found : Option Info) (b : Bool) → AllByRecursion (MakesStated s) (if b then wrote_back values found else [])
+back_stated s values found true = found_stated s values found
+back_stated s values found false = tt
 
 pin_if : (b : Bool) (s : StatedSetup) (ev : Event) → MakesStated s ev → AllByRecursion (MakesStated s) (if b then ev ∷ [] else [])
 pin_if true s ev is = (is, tt)
@@ -92,7 +96,7 @@ call_stated s p t (Arrays (GetObjectArrayElement r index)) = tt
 call_stated s p t (Arrays (SetObjectArrayElement r index value)) = (tt, tt)
 call_stated s p t (Monitors call) = tt
 call_stated s p t (Buffers (GetArrayElements element r)) = tt
-call_stated s p t (Buffers (ReleaseArrayElements element r b mode)) = back_stated s (the_object p t r) (buffers.contents p.buffers b.maker.0 b.n) (is_abort mode)
+call_stated s p t (Buffers (ReleaseArrayElements element r b mode)) = back_stated s (buffers.contents p.buffers b.maker.0 b.n) (buffer_named p b) (writes_back mode)
 call_stated s p t (Buffers (GetStringChars r)) = tt
 call_stated s p t (Buffers (ReleaseStringChars r b)) = tt
 call_stated s p t (Buffers (GetStringUTFChars r)) = tt

@@ -1,6 +1,8 @@
 -- Each call's answer is a proper one.
 use Rattle.std.proofs.Common.{ℕ, pos, ◌≡◌, Bool, true, false, length, Option, Some, None, refl}
+use Rattle.std.specs.Option.{option_map}
 use Rattle.jg_words.specs.declared.thread.Tid.{Tid}
+use Rattle.jg_words.specs.declared.value.Value.TheVariants.{Ok as Done}
 use Rattle.jg_words.specs.declared.object.FieldId.{FieldId}
 use Rattle.jg_words.specs.declared.reference.Kind.TheVariants.{Local, Global, Weak}
 use Rattle.jg_words.specs.declared.value.Thrown.{Thrown}
@@ -28,7 +30,7 @@ use Rattle.jg_monitors.specs.declared.entering.Entering.{Entering}
 use Rattle.jg_monitors.specs.declared.entering.Entering.TheVariants.{Entered, Busy}
 use Rattle.jg_policy.specs.declared.access.Operation.{Operation}
 use Rattle.jg_policy.specs.declared.access.Operation.TheVariants.{Link}
-use Rattle.jg_rules.specs.Answers.{answer, entered, handed, present_env, plain, admitted, unless_pending, registered, class_found, field_found, field_value, or_outside, is_outside}
+use Rattle.jg_rules.specs.Answers.{answer, entered, handed, present_env, plain, saying, admitted, unless_pending, registered, class_found, field_found, field_value, or_outside, is_outside}
 use Rattle.jg_policy.specs.Classes.{class_named}
 use Rattle.jg_heap.specs.Reading.{natural}
 use Rattle.jg_words.specs.declared.value.Thrown.TheVariants.{ArrayIndexOutOfBounds, StringIndexOutOfBounds}
@@ -81,6 +83,10 @@ field_proper : (s : StatedSetup) (p : Parts) (t : Tid) (call : Call) (found : Op
 field_proper s p t call None env = (env, refl, refl)
 field_proper s p t call (Some field) env = tt
 
+raised_proper : (s : StatedSetup) (p : Parts) (t : Tid) (call : Call) (found : Option ℕ) → needs_env (fun_of call) ≡ true → ProperAnswer s p t call (saying Done (option_map (λ o. record { 0 = o }) found))
+raised_proper s p t call None env = tt
+raised_proper s p t call (Some o) env = env
+
 pub proper : (s : StatedSetup) (p : Parts) (t : Tid) (call : Call) → ProperAnswer s p t call (answer s p t call)
 proper s p t (Vm AttachCurrentThread) = tt
 proper s p t (Vm DetachCurrentThread) = tt
@@ -103,7 +109,7 @@ proper s p t (Refs (GetObjectRefType r)) = tt
 proper s p t (Frames (PushLocalFrame capacity)) = tt
 proper s p t (Frames (PopLocalFrame r)) = local_proper s p t (Frames (PopLocalFrame r)) (object_named p t.0 r) refl
 proper s p t (Frames (EnsureLocalCapacity capacity)) = tt
-proper s p t (Exceptions (Throw r)) = tt
+proper s p t (Exceptions (Throw r)) = raised_proper s p t (Exceptions (Throw r)) (object_named p t.0 r) refl
 proper s p t (Exceptions ExceptionOccurred) = local_proper s p t (Exceptions ExceptionOccurred) (pending p t.0) refl
 proper s p t (Exceptions ExceptionDescribe) = tt
 proper s p t (Exceptions ExceptionClear) = tt

@@ -7,7 +7,7 @@ use Rattle.jg_words.specs.declared.reference.Ref.{Ref}
 use Rattle.jg_words.specs.declared.reference.Ref.TheVariants.{Null, To}
 use Rattle.jg_words.specs.declared.reference.Kind.TheVariants.{Local, Global, Weak}
 use Rattle.jg_words.specs.declared.value.Value.{Value}
-use Rattle.jg_words.specs.declared.value.Value.TheVariants.{Reference, Buffer as Lent, Throw as Threw}
+use Rattle.jg_words.specs.declared.value.Value.TheVariants.{Ok as Done, Reference, Buffer as Lent, Throw as Threw}
 use Rattle.jg_words.specs.declared.entry.Outcome.{Outcome}
 use Rattle.jg_words.specs.declared.entry.Outcome.TheVariants.{Passed, Denied}
 use Rattle.jg_words.specs.Entry.{Entry}
@@ -58,6 +58,7 @@ value_threads-le : (value : Value) (o : Option ObjId) → length (value_threads 
 value_threads-le (Reference r) o = omega arith
 value_threads-le (Lent b) o = omega arith
 value_threads-le (Threw kind) (Some o) = omega arith
+value_threads-le Done (Some o) = omega arith
 value_threads-le _ _ = omega arith
 
 started-le : (b : Bool) → length (started b) ≤ 1

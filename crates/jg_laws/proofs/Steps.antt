@@ -10,7 +10,7 @@ use Rattle.jg_words.specs.declared.reference.Ref.TheVariants.{Null, To}
 use Rattle.jg_words.specs.declared.reference.Kind.TheVariants.{Local, Global, Weak}
 use Rattle.jg_words.specs.declared.rule.Rule.{Rule}
 use Rattle.jg_words.specs.declared.value.Value.{Value}
-use Rattle.jg_words.specs.declared.value.Value.TheVariants.{Reference, Buffer as Lent, Throw as Threw}
+use Rattle.jg_words.specs.declared.value.Value.TheVariants.{Ok as Done, Reference, Buffer as Lent, Throw as Threw}
 use Rattle.jg_words.specs.Entry.{Entry}
 use Rattle.jg_words.specs.declared.call.Call.{Call}
 use Rattle.jg_words.specs.declared.call.Call.TheVariants.{Vm, Refs, Frames, Exceptions, Objects, Strings, Arrays, Monitors, Buffers}
@@ -213,7 +213,7 @@ each_done P s steps p t env (Refs (GetObjectRefType r)) kept none old = old
 each_done P s steps p t env (Frames (PushLocalFrame capacity)) kept none old = steps.pushes p t (natural capacity) old
 each_done P s steps p t env (Frames (PopLocalFrame r)) kept none old = steps.pops p t kept.right_frame old
 each_done P s steps p t env (Frames (EnsureLocalCapacity capacity)) kept none old = steps.widens p t (natural capacity) old
-each_done P s steps p t env (Exceptions (Throw r)) kept none old = steps.raises p t (the_object p t r) old
+each_done P s steps p t env (Exceptions (Throw r)) kept none old = old
 each_done P s steps p t env (Exceptions ExceptionOccurred) kept none old = old
 each_done P s steps p t env (Exceptions ExceptionDescribe) kept none old = steps.calms p t old
 each_done P s steps p t env (Exceptions ExceptionClear) kept none old = steps.calms p t old
@@ -249,6 +249,7 @@ settling P s steps home p q t call (Lent b) warned o is same none old = absurd (
 settling P s steps home p q t call (Threw kind) warned None is same none old = absurd is
 settling P s steps home p q t call (Threw kind) warned (Some o) is same none old =
     steps.raises (record q { heap = value_heap (Threw kind) ++ q.heap }) t.0 o.0 (steps.to_heap q (value_heap (Threw kind)) (thrown_stated s kind) old)
+settling P s steps home p q t call Done warned (Some o) is same none old = steps.raises q t.0 o.0 old
 settling P s steps home p q t call value warned o is same none old = old
 
 -- a call that opens no buffer

@@ -1,6 +1,6 @@
 -- In every legal history what a call touches is named by a live reference, and so it isn't gone: what it writes or
 -- pins is its first operand's object, and a critical buffer that it uses is its thread's own.
-use Rattle.std.proofs.Common.{ℕ, ℤ, ◌≡◌, ◌+◌, ◌<◌, Bool, true, false, zero, suc, List, [], ◌∷◌, length, Option, Some, None, refl, subst, inl, inr, arith}
+use Rattle.std.proofs.Common.{ℕ, ℤ, ◌≡◌, ◌+◌, ◌<◌, Bool, true, false, zero, suc, List, [], ◌∷◌, length, Option, Some, None, refl, subst, inl, inr, arith, ap, sym}
 use Rattle.std.specs.Prelude.{◌==◌, ◌&&◌, not, if◌then◌else◌, Any, slice_index_or}
 use Rattle.std.specs.List.{list_any, AllByRecursion}
 use Rattle.std.specs.Option.{option_map}
@@ -31,8 +31,8 @@ use Rattle.jg_rules.specs.declared.operand.Operand.{Operand}
 use Rattle.jg_rules.specs.Parts.{Parts}
 use Rattle.jg_rules.specs.Names.{names, object_named, the_object}
 use Rattle.jg_rules.specs.Operands.{required, optional}
-use Rattle.jg_rules.specs.Buffers.{buffer_named, is_open_and, is_of_family, is_of_object, is_anothers, is_of_array, is_commit, is_abort}
-use Rattle.jg_rules.specs.Effects.{parts, call_heap, call_buffers, closed_by, wrote_copy, wrote_pinned, is_effective, if_effective}
+use Rattle.jg_rules.specs.Buffers.{buffer_named, is_open_and, is_of_family, is_of_object, is_anothers, is_of_array, is_commit, writes_back}
+use Rattle.jg_rules.specs.Effects.{parts, call_heap, call_buffers, closed_by, wrote_back, wrote_copy, wrote_pinned, is_effective, if_effective}
 use Rattle.jg_rules.specs.Rules.{verdict, bad_buffer, is_nothing, is_null, is_releasable}
 use Rattle.jg_rules.specs.Legal.{Legal}
 use Rattle.jg_rules.specs.Unbroken.{Unbroken}
@@ -44,6 +44,7 @@ use Rattle.jg_laws.proofs.Steps.{closes_none, writes_none}
 use Rattle.jg_laws.proofs.Fresh.{Legal-before}
 use Rattle.jg_laws.proofs.Natives.{passed_unbroken}
 use Rattle.jg_laws.proofs.HandsHere.{the_named}
+use Rattle.jg_laws.proofs.Releasing.{released}
 use Rattle.jg_laws.proofs.HandedHere.{live_is_not_gone}
 use Rattle.jg_laws.proofs.Pinning.{PinsLive, pins_are_live}
 
@@ -158,10 +159,14 @@ region_meets H o j [] has = tt
 region_meets H o j (v ∷ values) has =
     all_append (WriteMeets H) (heap.region_writes o (j + 1) values) _ (region_meets H o (j + 1) values has) (has, tt)
 
-back_meets : (b : Bool) (H : ℕ → Type 0) (o : ℕ) (values : List ℤ) → H o
-    → AllByRecursion (WriteMeets H) (if b then [] else heap.region_writes o 0 values)
-back_meets true H o values has = tt
-back_meets false H o values has = region_meets H o 0 values has
+found_meets : (H : ℕ → Type 0) (values : List ℤ) (found : Option Info) (info : Info) → found ≡ Some info → H info.object.0
+    → AllByRecursion (WriteMeets H) (wrote_back values found)
+found_meets H values found info is has = rw is (region_meets H info.object.0 0 values has)
+
+back_meets : (b : Bool) (H : ℕ → Type 0) (values : List ℤ) (found : Option Info) (info : Info) → found ≡ Some info → H info.object.0
+    → AllByRecursion (WriteMeets H) (if b then wrote_back values found else [])
+back_meets true H values found info is has = found_meets H values found info is has
+back_meets false H values found info is has = tt
 
 pinned_if : (b : Bool) (H : ℕ → Type 0) (o index : ℕ) (v : ℤ) → (b ≡ true → H o)
     → AllByRecursion (WriteMeets H) (if b then heap.Wrote o index (Number v) ∷ [] else [])
@@ -197,8 +202,10 @@ writes_meet s p t env (Arrays (NewObjectArray n class fill)) kept live = (tt, tt
 writes_meet s p t env (Arrays (SetObjectArrayElement r index value)) kept live =
     (inl (first_named p t r ObjectArray (optional value ∷ []) kept.alive kept.not_null), tt)
 writes_meet s p t env (Buffers (ReleaseArrayElements element r b mode)) kept live =
-    back_meets (is_abort mode) (Reaches p t (Buffers (ReleaseArrayElements element r b mode))) (the_object p t r)
-    (contents p.buffers b.maker.0 b.n) (inl (first_named p t r (ArrayOf element) [] kept.alive kept.not_null))
+    let it = released p t (Elements element) r b kept.alive kept.not_null kept.right_buffer in
+    let H : ℕ → Type 0 = Reaches p t (Buffers (ReleaseArrayElements element r b mode)) in
+    back_meets (writes_back mode) H (contents p.buffers b.maker.0 b.n) (buffer_named p b) (info_of it.buffer) (ap (option_map info_of) it.is_open)
+    (subst H (sym it.object) (inl (first_named p t r (ArrayOf element) [] kept.alive kept.not_null)))
 writes_meet s p t env (Buffers (BufferWrite b index value)) kept live =
     pinned_meets p t (Buffers (BufferWrite b index value)) b (natural index) value (opened p.buffers b.maker.0 b.n)
     live refl kept.right_buffer

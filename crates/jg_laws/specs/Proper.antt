@@ -7,7 +7,7 @@ use Rattle.jg_words.specs.declared.object.ObjId.{ObjId}
 use Rattle.jg_words.specs.declared.reference.Kind.TheVariants.{Local, Global, Weak}
 use Rattle.jg_words.specs.declared.reference.Ref.TheVariants.{Null, To}
 use Rattle.jg_words.specs.declared.value.Value.{Value}
-use Rattle.jg_words.specs.declared.value.Value.TheVariants.{Reference, Buffer, Busy, Throw as Threw}
+use Rattle.jg_words.specs.declared.value.Value.TheVariants.{Ok as Done, Reference, Buffer, Busy, Throw as Threw}
 use Rattle.jg_words.specs.declared.call.Call.{Call}
 use Rattle.jg_policy.specs.Stated.{StatedSetup}
 use Rattle.jg_rules.specs.declared.answer.Answer.{Answer}
@@ -40,6 +40,7 @@ IsProper s p t call (Buffer b) warned o = (needs_env (fun_of call) ≡ true) × 
 IsProper s p t call (Threw kind) warned None = ⊥
 IsProper s p t call (Threw kind) warned (Some o) = (needs_env (fun_of call) ≡ true) × (o.0 ≡ object_count s p)
     × (warned ≡ false)
+IsProper s p t call Done warned (Some o) = needs_env (fun_of call) ≡ true
 IsProper s p t call Busy warned o = (needs_env (fun_of call) ≡ true) × (warned ≡ false)
 IsProper s p t call value warned o = Unit {0}
 

@@ -61,8 +61,9 @@ is_mode mode = is_within (pos 0) (pos 2) mode
 abbrev pub is_commit : ℤ → Bool
 is_commit mode = natural mode == 1
 
-abbrev pub is_abort : ℤ → Bool
-is_abort mode = natural mode == 2
+-- mode 0 and JNI_COMMIT write the items of a copy back
+abbrev pub writes_back : ℤ → Bool
+writes_back mode = is_within (pos 0) (pos 1) mode
 
 -- the place of one of so many items, counted from 0
 abbrev pub is_place : ℤ → ℕ → Bool

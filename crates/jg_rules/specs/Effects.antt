@@ -6,7 +6,7 @@ use Rattle.jg_words.specs.declared.reference.Ref.{Ref}
 use Rattle.jg_words.specs.declared.reference.Ref.TheVariants.{Null, To}
 use Rattle.jg_words.specs.declared.reference.Kind.TheVariants.{Local, Global, Weak}
 use Rattle.jg_words.specs.declared.value.Value.{Value}
-use Rattle.jg_words.specs.declared.value.Value.TheVariants.{Reference, Buffer as Lent, Busy, Throw as Threw}
+use Rattle.jg_words.specs.declared.value.Value.TheVariants.{Ok as Done, Reference, Buffer as Lent, Busy, Throw as Threw}
 use Rattle.jg_words.specs.declared.value.Thrown.{Thrown}
 use Rattle.jg_words.specs.declared.value.Thrown.TheVariants.{ArrayIndexOutOfBounds, StringIndexOutOfBounds, NoClassDefFound, NoSuchField, NoSuchMethod}
 use Rattle.jg_words.specs.declared.entry.Reply.{Reply}
@@ -55,7 +55,7 @@ use Rattle.jg_rules.specs.Names.{the_object, object_named, class_meant, native_m
 use Rattle.jg_rules.specs.Parts.{Parts, nothing_yet}
 use Rattle.jg_rules.specs.Access.{native_class, home_of}
 use Rattle.jg_rules.specs.Holding.{roots, going}
-use Rattle.jg_rules.specs.Buffers.{buffer_named, is_commit, is_abort}
+use Rattle.jg_rules.specs.Buffers.{buffer_named, is_commit, writes_back}
 
 -- ---- a call's own events
 
@@ -70,18 +70,19 @@ vm_threads (RegisterNatives class method signature) = []
 vm_threads (UnregisterNatives class) = []
 vm_threads Collect = []
 
-abbrev pub exceptions_threads : Parts → ℕ → ExceptionsCall → List threads.Act
-exceptions_threads p t (Throw r) = threads.Raise (the_object p t r) ∷ []
-exceptions_threads p t ExceptionOccurred = []
-exceptions_threads p t ExceptionDescribe = threads.Calm ∷ []
-exceptions_threads p t ExceptionClear = threads.Calm ∷ []
-exceptions_threads p t ExceptionCheck = []
+-- what a Throw makes pending comes with its answer
+abbrev pub exceptions_threads : ExceptionsCall → List threads.Act
+exceptions_threads (Throw r) = []
+exceptions_threads ExceptionOccurred = []
+exceptions_threads ExceptionDescribe = threads.Calm ∷ []
+exceptions_threads ExceptionClear = threads.Calm ∷ []
+exceptions_threads ExceptionCheck = []
 
 abbrev pub call_threads : StatedSetup → Parts → ℕ → Call → List threads.Act
 call_threads s p t (Vm call) = vm_threads call
 call_threads s p t (Refs call) = []
 call_threads s p t (Frames call) = []
-call_threads s p t (Exceptions call) = exceptions_threads p t call
+call_threads s p t (Exceptions call) = exceptions_threads call
 call_threads s p t (Objects call) = []
 call_threads s p t (Strings call) = []
 call_threads s p t (Arrays call) = []
@@ -297,10 +298,15 @@ arrays_heap p t (GetObjectArrayElement r index) = []
 arrays_heap p t (SetObjectArrayElement r index value) =
     heap.Wrote (the_object p t r) (natural index) (pointer (object_named p t value)) ∷ []
 
--- the items of a copy are written back, except by JNI_ABORT
-abbrev pub copied_back : Parts → ℕ → BufId → ℤ → List heap.Event
-copied_back p o b mode =
-    if is_abort mode then [] else heap.region_writes o 0 (buffers.contents p.buffers b.maker.0 b.n)
+-- these items go into the object that the buffer was made from
+abbrev pub wrote_back : List ℤ → Option Info → List heap.Event
+wrote_back items None = []
+wrote_back items (Some info) = heap.region_writes info.object.0 0 items
+
+-- the items of a copy are written back by mode 0 and by JNI_COMMIT
+abbrev pub copied_back : Parts → BufId → ℤ → List heap.Event
+copied_back p b mode =
+    if writes_back mode then wrote_back (buffers.contents p.buffers b.maker.0 b.n) (buffer_named p b) else []
 
 -- into the object of a pinned buffer
 abbrev pub wrote_pinned : ℕ → ℤ → Option Info → List heap.Event
@@ -310,7 +316,7 @@ wrote_pinned index v (Some info) =
 
 abbrev pub buffers_heap : Parts → ℕ → BuffersCall → List heap.Event
 buffers_heap p t (GetArrayElements element r) = []
-buffers_heap p t (ReleaseArrayElements element r b mode) = copied_back p (the_object p t r) b mode
+buffers_heap p t (ReleaseArrayElements element r b mode) = copied_back p b mode
 buffers_heap p t (GetStringChars r) = []
 buffers_heap p t (ReleaseStringChars r b) = []
 buffers_heap p t (GetStringUTFChars r) = []
@@ -400,12 +406,13 @@ done_if b s t call p = record {
 }
 
 -- ---- what an answer brings, whichever call it was: a reference or a buffer is handed out, an exception is made and
--- pending, a module is warned of
+-- pending, an object behind a bare `ok` is pending (it is a Throw's), a module is warned of
 
 abbrev pub value_threads : Value → Option ObjId → List threads.Act
 value_threads (Reference r) o = threads.CountRef ∷ []
 value_threads (Lent b) o = threads.CountBuffer ∷ []
 value_threads (Threw kind) (Some o) = threads.Raise o.0 ∷ []
+value_threads Done (Some o) = threads.Raise o.0 ∷ []
 value_threads value o = []
 
 abbrev pub value_locals : Value → Option ObjId → List locals.Act

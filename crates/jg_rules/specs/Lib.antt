@@ -3,7 +3,6 @@ pub mod Parts
 pub mod Names
 pub mod Buffers
 pub mod Access
-pub mod Passing
 pub mod Operands
 pub mod Effects
 pub mod Holding

@@ -50,7 +50,7 @@ use Rattle.std.specs.Str.{bytes_eq}
 use Rattle.jg_buffers.specs.History as buffers
 use Rattle.jg_monitors.specs.History as monitors
 use Rattle.jg_rules.specs.Access.{native_class, native_use, refuses}
-use Rattle.jg_rules.specs.Passing.{passes_critical, passes_pending}
+use Rattle.jg_words.specs.Passing.{passes_critical, passes_pending}
 use Rattle.jg_rules.specs.Names.{names, session, depth, open_frames, pending, class_of, native_meant, object_named}
 use Rattle.jg_rules.specs.Operands.{operands, is_of}
 use Rattle.jg_rules.specs.Buffers.{buffer_named, is_open_and, is_of_family, is_of_object, is_anothers, is_of_array, is_mode, is_place, item_type, is_value_of_type}

@@ -16,7 +16,6 @@ mod references;
 mod strings;
 mod vm;
 
-use crate::passing::{passes_critical_region, passes_pending_exception};
 use crate::view::View;
 use arrays::judge_arrays;
 use buffers::judge_buffers;
@@ -124,11 +123,11 @@ fn is_detached<A: Allocator + Clone>(
 fn is_in_critical<A: Allocator + Clone>(view: &View<'_, A>, tid: Tid, call: &Call) -> bool
     ensures { (p : Parts) → ViewStands view.now p → result ≡ in_critical p tid.0 call.now }
 {
-    !passes_critical_region(call.fun()) && view.buffers.in_critical(tid)
+    !call.fun().passes_in_critical() && view.buffers.in_critical(tid)
 }
 
 fn is_while_pending<A: Allocator + Clone>(view: &View<'_, A>, tid: Tid, call: &Call) -> bool
     ensures { (p : Parts) → ViewStands view.now p → result ≡ while_pending p tid.0 call.now }
 {
-    view.threads.pending(tid).is_some() && !passes_pending_exception(call.fun())
+    view.threads.pending(tid).is_some() && !call.fun().passes_pending()
 }

@@ -9,7 +9,6 @@ mod judge;
 mod named;
 mod object;
 mod operand;
-mod passing;
 mod view;
 
 pub use access::{home_named, is_warned_use};

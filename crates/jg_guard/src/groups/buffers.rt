@@ -233,10 +233,10 @@ fn pin_string<A: Allocator + Clone>(
     Ok(())
 }
 
-fn is_abort(mode: i32) -> bool
-    ensures { result ≡ buffers_of.is_abort mode }
+fn writes_back(mode: i32) -> bool
+    ensures { result ≡ buffers_of.writes_back mode }
 {
-    natural(mode) == 2
+    0 <= mode && mode <= 1
 }
 
 fn is_commit(mode: i32) -> bool
@@ -245,7 +245,7 @@ fn is_commit(mode: i32) -> bool
     natural(mode) == 1
 }
 
-/// Writes the items of a copy back into its array, unless the mode is JNI_ABORT.
+/// Writes the items of a copy back into its array, by mode 0 and by JNI_COMMIT.
 fn copy_back<A: Allocator + Clone>(
     tables: &mut Tables<A>,
     setup: &Setup,
@@ -258,16 +258,19 @@ fn copy_back<A: Allocator + Clone>(
     requires { IsDue setup.now (rows_of tables.old) tid.0 (Buffers (ReleaseArrayElements element array buffer mode)) }
     ensures stands { (p : Parts) → TablesStand setup.now (rows_of tables.old) p
         → TablesStand setup.now (rows_of tables.new)
-        (heap_on (copied_back p (names_of.the_object p tid.0 array) buffer mode) p) }
+        (heap_on (copied_back p buffer mode) p) }
     ensures locals { tables.new.locals ≡ tables.old.locals }
     ensures links { tables.new.links ≡ tables.old.links }
 {
     let _element = element;
-    if !is_abort(mode) {
-        let object = the_object(&tables.view(setup), tid, array);
-        let items = tables.buffers.commit(buffer);
-        tables.heap.set_region(object, 0, items);
+    let (_tid, _array) = (tid, array);
+    if !writes_back(mode) {
+        return;
     }
+    let found = buffer_named(&tables.view(setup), buffer);
+    let Some(info) = found else { return };
+    let items = tables.buffers.commit(buffer);
+    tables.heap.set_region(info.object, 0, items);
 }
 
 fn close<A: Allocator + Clone>(tables: &mut Tables<A>, buffer: BufId)

@@ -9,7 +9,7 @@ ghost use Rattle.jg_guard.specs.Tables.{rows_of, IsDue, IsEffective, KeepsRoom};
 use crate::settle::{handing_out, plain, saying};
 use crate::tables::Tables;
 use jg_policy::Setup;
-use jg_rules::{Answer, View, object_named, the_object};
+use jg_rules::{Answer, View, object_named};
 use jg_words::{ExceptionsCall, Kind, Tid, Value};
 use std::alloc::Allocator;
 
@@ -37,7 +37,7 @@ pub(crate) fn answer_exceptions<A: Allocator + Clone>(
     }
 }
 
-/// Does what a call of the group does beside handing out a reference.
+/// Does what a call of the group does beside handing out a reference, and beside what a Throw makes pending.
 pub(crate) fn perform_exceptions<A: Allocator + Clone>(
     tables: &mut Tables<A>,
     setup: &Setup,
@@ -49,11 +49,9 @@ pub(crate) fn perform_exceptions<A: Allocator + Clone>(
         → TablesStand setup.now (rows_of tables.new) (done_by setup.now tid.0 (Exceptions call.now) p) }
     ensures room { KeepsRoom tables.old tables.new tid.0 (Exceptions call.now) }
 {
+    let _setup = setup;
     match call {
-        ExceptionsCall::Throw { exception } => {
-            let object = the_object(&tables.view(setup), tid, *exception);
-            tables.threads.set_pending(tid, object);
-        }
+        ExceptionsCall::Throw { .. } => {}
         ExceptionsCall::ExceptionOccurred => {}
         ExceptionsCall::ExceptionDescribe => tables.threads.clear_pending(tid),
         ExceptionsCall::ExceptionClear => tables.threads.clear_pending(tid),

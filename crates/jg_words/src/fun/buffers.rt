@@ -1,5 +1,6 @@
 ghost use Rattle.std.specs.Prelude.{◌≡◌};
 ghost use Rattle.jg_words.specs.Fun.{buffers_name, buffers_needs_env};
+ghost use Rattle.jg_words.specs.Passing.{buffers_passes_critical, buffers_passes_pending};
 
 use crate::object::Primitive;
 
@@ -70,6 +71,47 @@ impl BuffersFun {
             BuffersFun::ReleaseStringCritical => true,
             BuffersFun::BufferRead => false,
             BuffersFun::BufferWrite => false,
+        }
+    }
+
+    /// Whether it may be called inside a critical region: the four critical functions, and what reads and writes a
+    /// buffer.
+    pub fn passes_in_critical(self) -> bool
+        ensures { result ≡ buffers_passes_critical self }
+    {
+        match self {
+            BuffersFun::GetArrayElements(_) => false,
+            BuffersFun::ReleaseArrayElements(_) => false,
+            BuffersFun::GetStringChars => false,
+            BuffersFun::ReleaseStringChars => false,
+            BuffersFun::GetStringUTFChars => false,
+            BuffersFun::ReleaseStringUTFChars => false,
+            BuffersFun::GetPrimitiveArrayCritical => true,
+            BuffersFun::ReleasePrimitiveArrayCritical => true,
+            BuffersFun::GetStringCritical => true,
+            BuffersFun::ReleaseStringCritical => true,
+            BuffersFun::BufferRead => true,
+            BuffersFun::BufferWrite => true,
+        }
+    }
+
+    /// Whether it may be called with an exception pending.
+    pub fn passes_pending(self) -> bool
+        ensures { result ≡ buffers_passes_pending self }
+    {
+        match self {
+            BuffersFun::GetArrayElements(_) => false,
+            BuffersFun::ReleaseArrayElements(_) => true,
+            BuffersFun::GetStringChars => false,
+            BuffersFun::ReleaseStringChars => true,
+            BuffersFun::GetStringUTFChars => false,
+            BuffersFun::ReleaseStringUTFChars => true,
+            BuffersFun::GetPrimitiveArrayCritical => false,
+            BuffersFun::ReleasePrimitiveArrayCritical => true,
+            BuffersFun::GetStringCritical => false,
+            BuffersFun::ReleaseStringCritical => true,
+            BuffersFun::BufferRead => true,
+            BuffersFun::BufferWrite => true,
         }
     }
 }

@@ -1,5 +1,6 @@
 ghost use Rattle.std.specs.Prelude.{◌≡◌};
 ghost use Rattle.jg_words.specs.Fun.{vm_name, vm_needs_env};
+ghost use Rattle.jg_words.specs.Passing.{vm_passes_pending};
 
 /// Attachment and environments (JNI Specification, chapter 5); native methods, and the libraries
 /// that have them (chapter 4, "Registering Native Methods"; JEP 472); the collector.
@@ -47,6 +48,23 @@ impl VmFun {
             VmFun::LoadLibrary => true,
             VmFun::RegisterNatives => true,
             VmFun::UnregisterNatives => true,
+            VmFun::Collect => false,
+        }
+    }
+
+    /// Whether it may be called with an exception pending.
+    pub fn passes_pending(self) -> bool
+        ensures { result ≡ vm_passes_pending self }
+    {
+        match self {
+            VmFun::AttachCurrentThread => true,
+            VmFun::DetachCurrentThread => true,
+            VmFun::GetEnv => true,
+            VmFun::NativeEnter => false,
+            VmFun::NativeLeave => true,
+            VmFun::LoadLibrary => false,
+            VmFun::RegisterNatives => false,
+            VmFun::UnregisterNatives => false,
             VmFun::Collect => false,
         }
     }

@@ -4,10 +4,10 @@ use Rattle.jg_guard.proofs.Due.{counts, can_start, can_enter, can_leave, can_lea
 use Rattle.jg_guard.proofs.groups.vm.perform_vm.Goals as goal
 
 pub attach-requires : goal.attach-requires
-attach-requires g c = counts c.requires.effective.due.events c.args.tables.now.threads c.args.tid.0 c.requires.effective.due.ordinary c.requires.effective.due.stand.threads
+attach-requires g c = (counts c.requires.effective.due.events c.args.tables.now.threads c.args.tid.0 c.requires.effective.due.ordinary c.requires.effective.due.stand.threads).sessions
 
 pub attach-requires-else-is_attached : goal.attach-requires-else-is_attached
-attach-requires-else-is_attached g c = counts c.requires.effective.due.events c.args.tables.now.threads c.args.tid.0 c.requires.effective.due.ordinary c.requires.effective.due.stand.threads
+attach-requires-else-is_attached g c = (counts c.requires.effective.due.events c.args.tables.now.threads c.args.tid.0 c.requires.effective.due.ordinary c.requires.effective.due.stand.threads).sessions
 
 pub start_thread-requires : goal.start_thread-requires
 start_thread-requires g c =
@@ -28,7 +28,7 @@ enter_native-requires-clause-seen g c =
     (attached_caller c.requires.effective.due.events c.args.tid.0 c.requires.effective.due.env _ refl (rw c.in-NativeEnter.is at c.requires.effective.due.unbroken.is_attached))
 
 pub enter_native-requires-clause-room : goal.enter_native-requires-clause-room
-enter_native-requires-clause-room g c = counts c.requires.effective.due.events c.args.tables.now.threads c.args.tid.0 c.requires.effective.due.ordinary c.requires.effective.due.stand.threads
+enter_native-requires-clause-room g c = (counts c.requires.effective.due.events c.args.tables.now.threads c.args.tid.0 c.requires.effective.due.ordinary c.requires.effective.due.stand.threads).depth
 
 pub leave-requires : goal.leave-requires
 leave-requires g c =
