@@ -123,7 +123,8 @@ class Outputs(Cases):
         full = lambda: opened('/dev/full', os.O_WRONLY)
         commands = {'a script': ([], self.script), 'a long script': ([], LONG), 'leaks': (['--leaks'], self.script),
                     'a journal': (['verify'], self.journal), 'help': (['--help'], b''),
-                    'help of check': (['check', '--help'], b''), 'version': (['--version'], b''),
+                    'help of check': (['check', '--help'], b''), 'help by its word': (['help', 'check'], b''),
+                    'version': (['--version'], b''),
                     'a play': (['play', self.play], b''),
                     'a script under a setup': (['--setup', self.setup], self.script)}
         for what, (words, given) in commands.items():
@@ -163,7 +164,9 @@ class Inputs(Cases):
         folder = lambda: opened('/', os.O_RDONLY)
         zeros = lambda: opened('/dev/zero', os.O_RDONLY)
         unreadable = lambda: opened('/dev/null', os.O_WRONLY)
-        for what, words in {'a script': [], 'a script under a setup': ['--setup', self.setup], 'a journal': ['verify']}.items():
+        commands = {'a script': [], 'a script under a setup': ['--setup', self.setup], 'a journal': ['verify'],
+                    'a play of it': ['play', '-']}
+        for what, words in commands.items():
             self.add(what + ', input closed', UNREAD, words, preexec_fn=closing(0))
             self.add_over(what + ', input a folder', UNREAD, words, folder, 'stdin')
             self.add_over(what + ', input written only', UNREAD, words, unreadable, 'stdin')
@@ -172,6 +175,7 @@ class Inputs(Cases):
         told = re.escape(b''.join(self.journal.splitlines(True)[:2]))
         self.add_over('a script, input silent after two lines', (4, told, rb'line 3: read failed\n'), [],
                       lambda: silent(two), 'stdin')
+        self.add('a play of input', (0, self.written, rb''), ['play', '-'], self.script)
         self.add('a play, input closed', (0, rb'(.* = .*\n){11,}', rb''), ['play', self.play], preexec_fn=closing(0))
         long, differs = (2, rb'', rb'line 1: LineTooLong\n'), (1, rb'differs at line 1\n', rb'')
         self.add_over('zeros as a script', long, [], zeros, 'stdin')
@@ -257,7 +261,7 @@ class Arguments(Cases):
 
     def fill(self):
         refused = {'no text': [b'\xff'], 'no text for a setup': ['--setup', b'\xff.toml'], 'no text for a file': ['play', b'\xed\xa0\x80'],
-                   'no text after the help': ['--help', b'\xff'],
+                   'no text after the help': ['--help', b'\xff'], 'help of no command': ['help', 'fly'],
                    'a mebibyte in eight': ['x' * 131_071] * 8, 'a mebibyte in 65,536': ['--fly' + 'x' * 10] * 65_536,
                    'a hundred thousand words': ['check'] * 100_000,
                    'nothing': [''], 'a long option': ['--' + 'x' * 131_069], 'a long limit': ['--limit', '9' * 131_071],

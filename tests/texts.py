@@ -28,6 +28,26 @@ def lines_of(text):
     return lines if lines[-1] else lines[:-1]
 
 
+def by_thread(calls):
+    """The calls of each thread, in their order."""
+    found = {}
+    for call in calls:
+        found.setdefault(call.split(b' ')[0], []).append(call)
+    return found
+
+
+def answered_by(journal):
+    """The calls of each thread that a play made. One that was busy and is made again counts once."""
+    last, calls = {}, []
+    for line in lines_of(journal):
+        call, _, outcome = line.partition(b' = ')
+        thread = call.split(b' ')[0]
+        if last.get(thread) != (call, b'busy'):
+            calls.append(call)
+        last[thread] = call, outcome
+    return by_thread(calls)
+
+
 class Altered:
     """Examples, each with the words that it is given to."""
 
@@ -144,7 +164,7 @@ class Plays(Altered):
         end = run(self.words('play') + [path])
         if end.status == 2 and is_documented(end) and not end.out:
             return None
-        if end.status != 0 or end.said or end.out.count(b'\n') != len(lines_of(text)):
+        if end.status != 0 or end.said or answered_by(end.out) != by_thread(lines_of(text)):
             return shown(end)
         return None if self.is_journal(end.out) else 'verify refuses what was written: ' + shown(end)
 

@@ -6,7 +6,7 @@ pub const MAX_NUMBER: u32 = 1_000_000;
 /// Why the words of a command line ask for nothing.
 #[derive(Clone, Copy, Debug, PartialEq, Eq, Error)]
 pub enum ArgsFault {
-    /// The words ask for the text of `--help` or of `--version`, which `help_text` makes.
+    /// The words ask for the text of `--help`, `help` or `--version`, which `help_text` makes.
     #[error("help is asked for")]
     Help,
     /// The words are no command line of this program.
@@ -24,7 +24,7 @@ pub enum Task<'a> {
     Check,
     /// Tests the journal text on standard input.
     Verify,
-    /// Plays the scripts of a file, the lines of each thread by a thread of its own.
+    /// Plays the scripts of a file, the lines of each thread by a thread of its own. `-` is standard input.
     Play(&'a str),
     /// Writes the setup of a file as a text of version 2.
     Migrate(&'a str),

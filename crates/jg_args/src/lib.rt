@@ -6,4 +6,4 @@ mod asked;
 mod words;
 
 pub use asked::{ArgsFault, Asked, MAX_NUMBER, Task};
-pub use words::{help_text, read_words};
+pub use words::{VERSION, help_text, read_words};

@@ -9,7 +9,8 @@ use std::alloc::{AllocError, Global};
 
 const DEFAULT_TURNS: u32 = 1000;
 
-const VERSION: &str = "0.1.0";
+/// The program's version.
+pub const VERSION: &str = "0.1.0";
 
 const STATUSES: &str =
     "Exit status: 0 done, 1 the journal differs, 2 faulty script, setup or arguments, 3 limit met or no memory, 4 reading or writing failed.";
@@ -19,6 +20,13 @@ fn setup_arg<'a>(alloc: Global) -> Arg<'a> {
         .long("setup")
         .value_name("FILE")
         .help("reads the setup from FILE")
+}
+
+fn file_arg<'a>(alloc: Global) -> Arg<'a> {
+    Arg::new(alloc, "file")
+        .value_name("FILE")
+        .required(true)
+        .help("the scripts, one call a line; - is standard input")
 }
 
 fn limit_arg<'a>(alloc: Global) -> Arg<'a> {
@@ -65,7 +73,7 @@ fn play_command<'a>(alloc: Global) -> Result<Command<'a>, AllocError> {
     Command::new(alloc, "play")
         .about("plays the scripts of FILE, the lines of each thread by a thread of its own")
         .after_help(STATUSES)
-        .arg(Arg::new(alloc, "file").value_name("FILE").required(true))?
+        .arg(file_arg(alloc))?
         .arg(setup_arg(alloc))?
         .arg(limit_arg(alloc))?
         .arg(turns_arg(alloc))
@@ -84,7 +92,7 @@ fn own_options<'a>(alloc: Global) -> Result<Command<'a>, AllocError> {
         .about("A guard for the Java Native Interface. Without a command it is `check`.")
         .after_help(STATUSES)
         .version(VERSION)
-        .disable_help_subcommand(true)
+        .override_usage("jg [check] [OPTIONS] | jg verify|play|migrate ..")
         .bin_name("jg")?
         .arg(setup_arg(alloc))?
         .arg(limit_arg(alloc))?
@@ -100,14 +108,17 @@ fn command<'a>(alloc: Global) -> Result<Command<'a>, AllocError> {
         .subcommand(migrate_command(alloc)?)
 }
 
-/// The text that the words ask for by `--help` or `--version`: the help of the program or of the
+/// The text that the words ask for by `--help`, `help` or `--version`: the help of the program or of the
 /// command that they name, or the program's name and version. Where they ask for no such text it is
 /// empty, or says what is wrong with them. Fails only for want of memory.
 pub fn help_text<'a>(alloc: Global, words: &'a [&'a str]) -> Result<String, AllocError> {
     let command = command(alloc)?;
     match command.no_binary_name(true).try_get_matches_from(words) {
         Ok(_) => Ok(String::new(alloc)),
-        Err(error) => format!(in alloc; "{error}"),
+        Err(error) => match error.kind() {
+            ErrorKind::OutOfMemory => Err(AllocError),
+            _ => format!(in alloc; "{error}"),
+        },
     }
 }
 

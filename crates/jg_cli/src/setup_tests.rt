@@ -1,8 +1,9 @@
 use crate::tests::{Broken, Difference, Ending, Unflushed, ends_so, writes_so, written_by};
 use jg_program::{Files, Status};
 use std::alloc::{AllocError, Global};
+use std::cell::Cell;
 use std::io;
-use std::io::{ErrorKind, Read};
+use std::io::{BufReader, ErrorKind, Read};
 use std::sync::Wait;
 use std::test::Fail;
 use std::thread::Threads;
@@ -231,6 +232,96 @@ fn each_unread_file_has_its_text(rt: HostRuntime) -> Result<(), Fail> {
     Ok(())
 }
 
+/// Of a play too a setup that is told to be too long isn't read.
+#[test]
+fn a_play_reads_no_setup_that_is_too_long(rt: HostRuntime) -> Result<(), Fail> {
+    let words = ["play", "app.toml", "--setup", "app.toml"];
+    let file = Held {
+        bytes: b"",
+        then: Then::Fails(ErrorKind::BrokenPipe),
+    };
+    let drawer = Drawer {
+        path: "app.toml",
+        file,
+        told: 16_777_217,
+    };
+    let ending = (Status::Faulty, "setup: TooMany\n");
+    assert_eq!(rt;
+        answers(&rt, rt.alloc(), &words, &drawer, "", ending)?,
+        None
+    );
+    Ok(())
+}
+
+/// A setup's file, which notes when it is closed.
+#[derive(Clone, Copy)]
+struct Noting<'a> {
+    closed: &'a Cell<bool>,
+}
+
+/// The same, open.
+struct NotingOpen<'a> {
+    bytes: &'a [u8],
+    closed: &'a Cell<bool>,
+}
+
+impl Drop for NotingOpen<'_> {
+    fn drop(self) {
+        let NotingOpen { bytes: _, closed } = self;
+        closed.set(true);
+    }
+}
+
+impl Read for NotingOpen<'_> {
+    fn read(&mut self, buf: &mut [u8]) -> io::Result<usize> {
+        self.bytes.read(buf)
+    }
+}
+
+impl<'a> Files for Noting<'a> {
+    type File = NotingOpen<'a>;
+
+    fn open(&self, _path: &str) -> io::Result<(NotingOpen<'a>, u64)> {
+        let open = NotingOpen {
+            bytes: CLOSED.as_bytes(),
+            closed: self.closed,
+        };
+        Ok((open, 0))
+    }
+}
+
+/// A reader that can be read once the setup's file is closed, and fails before.
+#[derive(Clone, Copy)]
+struct AfterClosing<'a> {
+    bytes: &'a [u8],
+    closed: &'a Cell<bool>,
+}
+
+impl Read for AfterClosing<'_> {
+    fn read(&mut self, buf: &mut [u8]) -> io::Result<usize> {
+        if self.closed.get() {
+            self.bytes.read(buf)
+        } else {
+            Err(io::Error::from(ErrorKind::BrokenPipe))
+        }
+    }
+}
+
+/// The setup's file is closed before the script's first byte: its number could be that of a standard input that
+/// was closed.
+#[test]
+fn the_setup_is_closed_before_the_script(rt: HostRuntime) -> Result<(), Fail> {
+    let closed = Cell::new(false);
+    let noting = Noting { closed: &closed };
+    let bytes = SCRIPT.as_bytes();
+    let closed = &closed;
+    let reader = BufReader::new(rt.alloc(), AfterClosing { bytes, closed })?;
+    let (words, ending) = (["--setup", "app.toml"], (Status::Done, ""));
+    let difference = writes_so(&rt, rt.alloc(), &words, &noting, reader, NOT_FOUND, ending)?;
+    assert_eq!(rt; difference, None);
+    Ok(())
+}
+
 #[test]
 fn files_that_are_not_there_cannot_be_read(rt: HostRuntime) -> Result<(), Fail> {
     let unread = (Status::Device, "setup: read failed\n");
@@ -296,13 +387,34 @@ T0 - Collect
 T1 E1.1 MonitorEnter L1.1
 ";
 
-/// What went at a collection isn't left; a class object's monitor may be.
+const CHAIN_ANSWERED: &str = "T1 - AttachCurrentThread = E1.1
+T1 E1.1 FindClass app/Main = L1.1
+T1 E1.1 AllocObject L1.1 = L1.2
+T1 E1.1 AllocObject L1.1 = L1.3
+T1 E1.1 SetObjectField L1.2 F15.2 L1.3 = ok
+T1 E1.1 DeleteLocalRef L1.3 = ok
+T1 E1.1 DeleteLocalRef L1.2 = ok
+T0 - Collect = 1
+T0 - Collect = 1
+T0 - Collect = 0
+T1 E1.1 MonitorEnter L1.1 = ok
+";
+
+/// One link of a chain goes at each collection. What went isn't left; a class object's monitor may be.
 #[test]
-fn a_chain_leaves_its_class(rt: HostRuntime) -> Result<(), Fail> {
+fn chain_and_leaks(rt: HostRuntime) -> Result<(), Fail> {
     let words = ["--setup", "app.toml", "--leaks"];
-    let drawer = Drawer::of(WITH_NEXT);
+    let (drawer, script) = (Drawer::of(WITH_NEXT), CHAIN.as_bytes());
     let ending = (Status::Done, "leak L1.1\nleak M15 T1 1\n");
-    let (difference, _) = written_by(&rt, rt.alloc(), &words, &drawer, CHAIN.as_bytes(), ending)?;
+    let difference = writes_so(
+        &rt,
+        rt.alloc(),
+        &words,
+        &drawer,
+        script,
+        CHAIN_ANSWERED,
+        ending,
+    )?;
     assert_eq!(rt; difference, None);
     Ok(())
 }

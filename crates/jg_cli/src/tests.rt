@@ -1,5 +1,7 @@
-use jg_program::{Files, Status, run};
-use jg_script::{Faulty, HandsOn};
+use jg_args::VERSION;
+use jg_policy::SetupFault;
+use jg_program::{Files, Status, Stop, run, tell};
+use jg_script::{Faulty, HandsOn, RunFault};
 use std::alloc::Global;
 use std::io;
 use std::io::{BufRead, BufReader, BufWriter, ErrorKind, Read, Write};
@@ -280,6 +282,71 @@ fn journals_are_tested(rt: HostRuntime) -> Result<(), Fail> {
     Ok(())
 }
 
+/// Ways to end before the work is done, each with its status and its text.
+const STOPS: [(Stop, Status, &str); 13] = [
+    (Stop::REFUSED, Status::Faulty, "arguments refused\n"),
+    (Stop::NO_MEMORY, Status::Exhausted, "arguments: no memory\n"),
+    (
+        Stop::Setup(SetupFault::NoMemory),
+        Status::Exhausted,
+        "setup: no memory\n",
+    ),
+    (
+        Stop::Setup(SetupFault::BadVersion),
+        Status::Faulty,
+        "setup: BadVersion\n",
+    ),
+    (Stop::SetupRead, Status::Device, "setup: read failed\n"),
+    (
+        Stop::Run(RunFault::Limit { line: 4 }),
+        Status::Exhausted,
+        "line 4: limit\n",
+    ),
+    (
+        Stop::Run(RunFault::NoMemory { line: 5 }),
+        Status::Exhausted,
+        "line 5: no memory\n",
+    ),
+    (
+        Stop::Run(RunFault::Read { line: 6 }),
+        Status::Device,
+        "line 6: read failed\n",
+    ),
+    (
+        Stop::Run(RunFault::Write { line: 7 }),
+        Status::Device,
+        "line 7: write failed\n",
+    ),
+    (Stop::Leaks, Status::Exhausted, "leaks: no memory\n"),
+    (
+        Stop::Mismatch {
+            thread: 1,
+            place: 3,
+        },
+        Status::Differs,
+        "differs at T1 place 3\n",
+    ),
+    (
+        Stop::Worker(jg_shell::Stop::Limit),
+        Status::Exhausted,
+        "limit\n",
+    ),
+    (
+        Stop::Worker(jg_shell::Stop::NoMemory),
+        Status::Exhausted,
+        "no memory\n",
+    ),
+];
+
+#[test]
+fn each_stop_is_told(rt: HostRuntime) {
+    for (stop, status, text) in STOPS {
+        let mut err = Vec::new(rt.alloc());
+        assert_eq!(rt; tell(stop, &mut err), status, "at {text}");
+        assert_eq!(rt; err.as_slice(), text.as_bytes());
+    }
+}
+
 #[test]
 fn failing_devices_end_a_test_of_a_journal(rt: HostRuntime) -> Result<(), Fail> {
     let journal = THREE_ANSWERED.as_bytes();
@@ -460,6 +527,103 @@ fn failing_devices_have_their_texts(rt: HostRuntime) -> Result<(), Fail> {
     Ok(())
 }
 
+/// A reader of a script and a writer of its journal, of which the first call is interrupted, and every later
+/// one works.
+#[derive(Drop)]
+struct Interrupted {
+    text: &'static [u8],
+    was: bool,
+}
+
+impl Interrupted {
+    fn new(text: &'static str) -> Interrupted {
+        Interrupted {
+            text: text.as_bytes(),
+            was: false,
+        }
+    }
+
+    fn interrupt(&mut self) -> io::Result<()> {
+        if self.was {
+            return Ok(());
+        }
+        self.was = true;
+        Err(io::Error::from(ErrorKind::Interrupted))
+    }
+}
+
+impl Read for Interrupted {
+    fn read(&mut self, buf: &mut [u8]) -> io::Result<usize> {
+        self.interrupt()?;
+        self.text.read(buf)
+    }
+}
+
+impl Write for Interrupted {
+    fn write(&mut self, buf: &[u8]) -> io::Result<usize> {
+        self.interrupt()?;
+        Ok(buf.len())
+    }
+
+    fn flush(&mut self) -> io::Result<()> {
+        Ok(())
+    }
+}
+
+impl HandsOn for Interrupted {
+    ghost holds_nothing = { λ _. Unit {0} };
+
+    fn hand_on(&mut self) -> io::Result<()> {
+        self.flush()
+    }
+}
+
+/// A writer that takes no byte, and calls that no failure.
+#[derive(Drop)]
+struct Full;
+
+impl Write for Full {
+    fn write(&mut self, _buf: &[u8]) -> io::Result<usize> {
+        Ok(0)
+    }
+
+    fn flush(&mut self) -> io::Result<()> {
+        Ok(())
+    }
+}
+
+impl HandsOn for Full {
+    ghost holds_nothing = { λ _. Unit {0} };
+
+    fn hand_on(&mut self) -> io::Result<()> {
+        self.flush()
+    }
+}
+
+/// An interrupted call is a failure, which isn't tried again, and so is a write that takes nothing.
+#[test]
+fn devices_get_no_second_chance(rt: HostRuntime) -> Result<(), Fail> {
+    let script = THREE_LINES.as_bytes();
+    let unread = (Status::Device, "line 1: read failed\n");
+    let unwritten = (Status::Device, "line 1: write failed\n");
+    let reader = BufReader::new(rt.alloc(), Interrupted::new(THREE_LINES))?;
+    let found = [
+        writes_so(&rt, rt.alloc(), &[], &rt, reader, "", unread)?,
+        ends_so(
+            &rt,
+            rt.alloc(),
+            &[],
+            &rt,
+            script,
+            Interrupted::new(""),
+            unwritten,
+        ),
+        ends_so(&rt, rt.alloc(), &[], &rt, script, Full, unwritten),
+    ];
+    assert_eq!(rt; found, [None; 3]);
+    Ok(())
+}
+
 const TWO_LINES: &str = "T1 - AttachCurrentThread
 T1 E1.1 NewString [72,105]
 ";
@@ -498,10 +662,14 @@ fn writes_part<T: Threads + Wait + Sync + Files>(
 
 #[test]
 fn the_help_goes_to_the_output(rt: HostRuntime) -> Result<(), Fail> {
-    let texts: [(&[&str], &str); 3] = [
-        (&["--help"], "Usage: jg [OPTIONS] [COMMAND]"),
+    let texts: [(&[&str], &str); 4] = [
+        (
+            &["--help"],
+            "Usage: jg [check] [OPTIONS] | jg verify|play|migrate ..",
+        ),
         (&["check", "--help"], "Usage: jg check [OPTIONS]"),
-        (&["--version"], "jg 0.1.0"),
+        (&["help", "check"], "Usage: jg check [OPTIONS]"),
+        (&["--version"], VERSION),
     ];
     for (words, part) in texts {
         assert_eq!(rt;

@@ -2,3 +2,4 @@ pub mod Ended
 pub mod StatedBy
 pub mod Plays
 pub mod Migrated
+pub mod Statuses

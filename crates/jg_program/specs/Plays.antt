@@ -1,5 +1,5 @@
 -- How playing the scripts of a file ended.
-use Rattle.std.specs.Prelude.{◌≡◌, ◌<◌, ◌⊎◌, ℕ, List, [], ◌∷◌, Option, None, Some, Result, Ok, Err, length, All, slice_index_or}
+use Rattle.std.specs.Prelude.{◌≡◌, ◌<◌, ◌⊎◌, ℕ, max, List, [], ◌∷◌, Option, None, Some, Result, Ok, Err, length, All, slice_index_or}
 use Rattle.std.specs.Option.{option_or}
 use Rattle.std.specs.Io.KnownBytes.{Keeps}
 use Rattle.jg_words.specs.declared.thread.Tid.{Tid}
@@ -38,11 +38,11 @@ abbrev pub first_stop_of : List Work → Option WorkerStop
 first_stop_of [] = None
 first_stop_of (worker ∷ later) = option_or worker.stopped (first_stop_of later)
 
--- what writing this guard's journal and handing it on ended by
+-- what writing this guard's journal and handing it on ended by; a failure of that last step is told as of the last line
 abbrev pub HandsOut : Option (List ℕ) → Option (List ℕ) → State → Result (Unit {0}) Stop → Type 0
 HandsOut bytes bytes' guard (Ok done) = WritesAll bytes bytes' guard.journal
 HandsOut bytes bytes' guard (Err (Run fault)) = WritesJournal bytes bytes' guard.journal (Err fault)
-    ⊎ ((line : ℕ) × (fault ≡ Write line))
+    ⊎ (fault ≡ Write (max (length guard.journal) 1))
 HandsOut bytes bytes' guard (Err (Setup fault)) = ⊥
 HandsOut bytes bytes' guard (Err SetupRead) = ⊥
 HandsOut bytes bytes' guard (Err (Arguments fault)) = ⊥

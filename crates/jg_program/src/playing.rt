@@ -1,6 +1,10 @@
 //! The scripts of a file are played, each thread's by a worker, and the journal is written.
 
-ghost use Rattle.std.specs.Prelude.{◌≡◌, ◌≤◌};
+ghost use Rattle.std.specs.Prelude.{◌≡◌, ◌≢◌, ◌≤◌};
+ghost use Rattle.std.specs.IoError.{error_kind};
+ghost use Rattle.std.specs.declared.io.ErrorKind.TheVariants.{OutOfMemory};
+ghost use Rattle.jg_script.specs.declared.run_fault.RunFault.TheVariants.{NoMemory, Read};
+ghost use Rattle.jg_program.specs.declared.stop.Stop.TheVariants.{Run};
 ghost use Rattle.jg_program.specs.Ended.{IsHandedOn};
 ghost use Rattle.jg_shell.specs.declared.settle.FinishFault.TheVariants.{Differs};
 ghost use Rattle.jg_shell.specs.Work.{AreApart};
@@ -10,7 +14,7 @@ use crate::stop::{Status, Stop};
 use jg_guard::Guard;
 use jg_policy::{Setup, SetupFault};
 use jg_script::{HandsOn, RunFault, Scripts, Watched, read_scripts, write_journal};
-use jg_shell::{FinishFault, Finished, OpenGate, SharedGuard, Worker, finish, play};
+use jg_shell::{FinishFault, Finished, Meeting, SharedGuard, Worker, finish, play};
 use jg_words::Tid;
 use std::alloc::Global;
 use std::io;
@@ -23,8 +27,14 @@ use std::thread::Threads;
 /// The most bytes of a file of scripts that are read at once.
 const BUFFER: usize = 65_536;
 
+/// How often a worker looks whether all others have come, before it begins without them.
+const LOOKS: u32 = 10_000;
+
 /// What ends the program where a file of scripts can't be opened.
-pub fn script_stop_of(error: &io::Error) -> Stop {
+pub fn script_stop_of(error: &io::Error) -> Stop
+    ensures memory { error_kind error.now ≡ OutOfMemory → result ≡ Run (NoMemory 1) }
+    ensures unread { error_kind error.now ≢ OutOfMemory → result ≡ Run (Read 1) }
+{
     match error.kind() {
         ErrorKind::OutOfMemory => Stop::Run(RunFault::NoMemory { line: 1 }),
         _ => Stop::Run(RunFault::Read { line: 1 }),
@@ -128,8 +138,8 @@ fn settle<L: Ledger, W: HandsOn>(
     }
 }
 
-/// Plays the scripts under this setup by a thread each, and writes the journal. A busy monitor is
-/// tried `turns` times at most. The shares of the ledger `L` count the calls.
+/// Plays the scripts under this setup by a thread each, which begin together, and writes the journal. A
+/// busy monitor is tried `turns` times at most. The shares of the ledger `L` count the calls.
 fn play_scripts<L: Ledger + Send + Sync, T: Threads + Wait + Sync, W: HandsOn>(
     rt: &T,
     alloc: Global,
@@ -151,7 +161,8 @@ fn play_scripts<L: Ledger + Send + Sync, T: Threads + Wait + Sync, W: HandsOn>(
     else {
         return Err(Stop::Setup(SetupFault::NoMemory));
     };
-    play(rt, &shared, workers.as_mut_slice(), turns, &OpenGate);
+    let gate = Meeting::new(workers.len(), LOOKS);
+    play(rt, &shared, workers.as_mut_slice(), turns, &gate);
     settle(alloc, shared, workers, out)
 }
 

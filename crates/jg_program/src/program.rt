@@ -21,6 +21,9 @@ use std::mem::forget;
 use std::sync::Wait;
 use std::thread::Threads;
 
+/// The path that stands for standard input.
+const STANDARD_INPUT: &str = "-";
+
 /// What is done with the bytes on standard input.
 #[derive(Clone, Copy, Debug, PartialEq, Eq)]
 pub enum Job {
@@ -195,13 +198,33 @@ fn serve<S: Files, R: BufRead + Drop, W: HandsOn + Drop>(
     }
 }
 
-/// Plays the scripts of the file at this path. The setup is read first.
-fn serve_play<T: Threads + Wait + Sync, S: Files, W: HandsOn + Drop>(
+/// Plays the scripts of a file, under this setup.
+fn play_under<T: Threads + Wait + Sync, F: Read + Drop, W: HandsOn + Drop>(
+    rt: &T,
+    alloc: Global,
+    setup: Setup,
+    asked: Asked<'_>,
+    file: F,
+    out: W,
+) -> Result<Ending, Stop>
+    requires { 1 ≤ asked.turns }
+{
+    let mut out = Watched::new(out);
+    let (limit, turns) = (asked.limit, asked.turns);
+    quietly(
+        alloc,
+        play_file(rt, alloc, setup, limit, turns, file, &mut out),
+    )
+}
+
+/// Plays the scripts of the file at this path, or of standard input. The setup is read first.
+fn serve_play<T: Threads + Wait + Sync, S: Files, R: BufRead + Drop, W: HandsOn + Drop>(
     rt: &T,
     alloc: Global,
     path: &str,
     asked: Asked<'_>,
     files: &S,
+    reader: R,
     out: W,
 ) -> Result<Ending, Stop>
     requires { 1 ≤ asked.turns }
@@ -210,15 +233,11 @@ fn serve_play<T: Threads + Wait + Sync, S: Files, W: HandsOn + Drop>(
         Ok(setup) => setup,
         Err(stop) => return Err(stop),
     };
+    if path == STANDARD_INPUT {
+        return play_under(rt, alloc, setup, asked, reader, out);
+    }
     match files.open(path) {
-        Ok((file, _)) => {
-            let mut out = Watched::new(out);
-            let turns = asked.turns;
-            quietly(
-                alloc,
-                play_file(rt, alloc, setup, asked.limit, turns, file, &mut out),
-            )
-        }
+        Ok((file, _)) => play_under(rt, alloc, setup, asked, file, out),
         Err(error) => Err(script_stop_of(&error)),
     }
 }
@@ -256,7 +275,7 @@ fn do_asked<T: Threads + Wait + Sync, S: Files, R: BufRead + Drop, W: HandsOn + 
             serve(alloc, job, asked, files, reader, out)
         }
         Task::Verify => serve(alloc, Job::Verify, asked, files, reader, out),
-        Task::Play(path) => serve_play(rt, alloc, path, asked, files, out),
+        Task::Play(path) => serve_play(rt, alloc, path, asked, files, reader, out),
         Task::Migrate(path) => serve_migration(alloc, path, files, out),
     }
 }

@@ -1,6 +1,8 @@
 //! The setup file of `--setup`, and the setup where none is given.
 
-ghost use Rattle.std.specs.Prelude.{◌≡◌, ◌⊎◌, ◌<◌, ◌≤◌, length, IfOk, IfErr, OnOk, string_bytes};
+ghost use Rattle.std.specs.Prelude.{◌≡◌, ◌≢◌, ◌⊎◌, ◌<◌, ◌≤◌, length, IfOk, IfErr, OnOk, string_bytes};
+ghost use Rattle.std.specs.IoError.{error_kind};
+ghost use Rattle.std.specs.declared.io.ErrorKind.TheVariants.{OutOfMemory};
 ghost use Rattle.jg_policy.specs.declared.fault.SetupFault.TheVariants.{NoMemory};
 ghost use Rattle.jg_program.specs.declared.stop.Stop.TheVariants.{Setup as Faulty, SetupRead};
 ghost use Rattle.jg_program.specs.StatedBy.{base_setup, Gives, IsFront, IsStated, IsRefused, IsUnreadable};
@@ -28,7 +30,9 @@ pub fn closed_setup(alloc: Global) -> Result<Setup, SetupFault>
 
 /// What ends the program where a setup file can't be opened or read.
 pub fn stop_of(error: &io::Error) -> Stop
-    ensures { (result ≡ SetupRead) ⊎ (result ≡ Faulty NoMemory) }
+    ensures either { (result ≡ SetupRead) ⊎ (result ≡ Faulty NoMemory) }
+    ensures memory { error_kind error.now ≡ OutOfMemory → result ≡ Faulty NoMemory }
+    ensures unread { error_kind error.now ≢ OutOfMemory → result ≡ SetupRead }
 {
     match error.kind() {
         ErrorKind::OutOfMemory => Stop::Setup(SetupFault::NoMemory),

@@ -1,6 +1,7 @@
 //! How the program ends.
 
 ghost use Rattle.std.specs.Prelude.{◌≡◌, [], Ok, Err, IfOk, IfErr, string_bytes};
+ghost use Rattle.jg_program.specs.Statuses.{status_of, status_of_words, status_of_setup, status_of_run};
 
 use jg_args::ArgsFault;
 use jg_policy::SetupFault;
@@ -58,23 +59,55 @@ impl Stop {
     pub const NO_MEMORY: Stop = Stop::Arguments(ArgsFault::NoMemory);
 
     /// The status that it ends with.
-    pub fn status(self) -> Status {
+    pub fn status(self) -> Status
+        ensures { result ≡ status_of self }
+    {
         match self {
-            Stop::Arguments(ArgsFault::Help) => Status::Done,
-            Stop::Arguments(ArgsFault::Refused) => Status::Faulty,
-            Stop::Arguments(ArgsFault::NoMemory) => Status::Exhausted,
-            Stop::Setup(SetupFault::NoMemory) => Status::Exhausted,
-            Stop::Setup(_) => Status::Faulty,
+            Stop::Arguments(fault) => status_of_words(fault),
+            Stop::Setup(fault) => status_of_setup(fault),
             Stop::SetupRead => Status::Device,
-            Stop::Run(RunFault::Script { .. }) => Status::Faulty,
-            Stop::Run(RunFault::Limit { .. }) => Status::Exhausted,
-            Stop::Run(RunFault::NoMemory { .. }) => Status::Exhausted,
-            Stop::Run(RunFault::Read { .. }) => Status::Device,
-            Stop::Run(RunFault::Write { .. }) => Status::Device,
+            Stop::Run(fault) => status_of_run(fault),
             Stop::Leaks => Status::Exhausted,
             Stop::Mismatch { .. } => Status::Differs,
             Stop::Worker(_) => Status::Exhausted,
         }
+    }
+}
+
+fn status_of_words(fault: ArgsFault) -> Status
+    ensures { result ≡ status_of_words fault }
+{
+    match fault {
+        ArgsFault::Help => Status::Done,
+        ArgsFault::Refused => Status::Faulty,
+        ArgsFault::NoMemory => Status::Exhausted,
+    }
+}
+
+fn status_of_setup(fault: SetupFault) -> Status
+    ensures { result ≡ status_of_setup fault }
+{
+    match fault {
+        SetupFault::NoMemory => Status::Exhausted,
+        SetupFault::NotToml
+        | SetupFault::BadVersion
+        | SetupFault::UnknownKey
+        | SetupFault::Missing
+        | SetupFault::BadType
+        | SetupFault::BadMode
+        | SetupFault::BadName
+        | SetupFault::Duplicate
+        | SetupFault::TooMany => Status::Faulty,
+    }
+}
+
+fn status_of_run(fault: RunFault) -> Status
+    ensures { result ≡ status_of_run fault }
+{
+    match fault {
+        RunFault::Script { .. } => Status::Faulty,
+        RunFault::Limit { .. } | RunFault::NoMemory { .. } => Status::Exhausted,
+        RunFault::Read { .. } | RunFault::Write { .. } => Status::Device,
     }
 }
 
@@ -100,7 +133,9 @@ pub fn quietly(alloc: Global, ended: Result<Status, Stop>) -> Result<Ending, Sto
 }
 
 /// Says why the program ends. A failed write of that changes nothing.
-pub fn tell<E: Write>(stop: Stop, err: &mut E) -> Status {
+pub fn tell<E: Write>(stop: Stop, err: &mut E) -> Status
+    ensures { result ≡ status_of stop }
+{
     let _ = writeln!(err, "{stop}");
     stop.status()
 }

@@ -1,8 +1,8 @@
 mod alone;
 mod busy;
-mod growths;
 mod limits;
 mod orders;
 mod pins;
 mod plays;
+mod refused;
 mod schedule;

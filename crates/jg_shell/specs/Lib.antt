@@ -4,4 +4,5 @@ pub mod Finish
 pub mod Played
 pub mod Receipts
 pub mod Settled
+pub mod Stopping
 pub mod Work

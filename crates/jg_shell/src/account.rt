@@ -2,6 +2,7 @@
 
 ghost use Rattle.std.specs.Prelude.{◌≡◌, ◌<◌, ◌≤◌, [], All, IfOk, OnOk, OnErr};
 ghost use Rattle.jg_shell.specs.Busy.{is_busy, is_monitor_enter};
+ghost use Rattle.jg_shell.specs.Stopping.{stop_for};
 ghost use Rattle.jg_shell.specs.Played.{AddsReceipt, AddsGroup, AddsPart};
 
 use crate::gate::Gate;
@@ -113,8 +114,7 @@ impl<L: Ledger> Account<L> {
                 self.receipts.push_reserved(receipt);
                 Ok(busy)
             }
-            Err(Refusal::Limit(_)) => Err(Stop::Limit),
-            Err(Refusal::NoMemory(_)) => Err(Stop::NoMemory),
+            Err(refusal) => Err(stop_of(&refusal)),
         }
     }
 
@@ -129,6 +129,16 @@ impl<L: Ledger> Account<L> {
         ensures { result ≡ self.now.tid }
     {
         self.tid
+    }
+}
+
+/// Why a thread stops whose call was refused.
+fn stop_of(refusal: &Refusal) -> Stop
+    ensures { result ≡ stop_for refusal.now }
+{
+    match refusal {
+        Refusal::Limit(_) => Stop::Limit,
+        Refusal::NoMemory(_) => Stop::NoMemory,
     }
 }
 

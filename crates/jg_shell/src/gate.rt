@@ -2,6 +2,8 @@
 
 use crate::receipt::Receipt;
 use jg_words::Tid;
+use std::sync::atomic::{AtomicUsize, Ordering};
+use std::thread;
 
 /// What a worker does around each of its calls, outside the lock.
 pub trait Gate: Sync {
@@ -21,6 +23,58 @@ pub struct OpenGate;
 
 impl Gate for OpenGate {
     fn before(&self, _tid: Tid, _line: usize, _turn: u32) {}
+
+    fn after(&self, _receipt: &Receipt) {}
+}
+
+/// A gate at which workers begin together: none makes its first call before all of them have come, so
+/// that their calls take turns. Before a busy MonitorEnter is made again, it lets other threads go on.
+#[derive(Drop)]
+pub struct Meeting {
+    workers: usize,
+    looks: u32,
+    come: AtomicUsize,
+    gone_on: AtomicUsize,
+}
+
+impl Meeting {
+    /// A meeting of so many workers. A worker looks at most `looks` times whether all have come, and
+    /// yields after each look. Then it goes on without the others: one whose thread couldn't be made
+    /// runs after another one, and comes too late.
+    pub fn new(workers: usize, looks: u32) -> Meeting {
+        Meeting {
+            workers,
+            looks,
+            come: AtomicUsize::new(0),
+            gone_on: AtomicUsize::new(0),
+        }
+    }
+
+    /// How many workers went on without the others.
+    pub fn gone_on(&self) -> usize {
+        self.gone_on.load(Ordering::SeqCst)
+    }
+
+    fn meet(&self) {
+        self.come.fetch_add(1, Ordering::SeqCst);
+        for _ in 0..self.looks {
+            if self.come.load(Ordering::SeqCst) >= self.workers {
+                return;
+            }
+            thread::yield_now();
+        }
+        self.gone_on.fetch_add(1, Ordering::SeqCst);
+    }
+}
+
+impl Gate for Meeting {
+    fn before(&self, _tid: Tid, line: usize, turn: u32) {
+        if turn > 1 {
+            thread::yield_now();
+        } else if line == 1 {
+            self.meet();
+        }
+    }
 
     fn after(&self, _receipt: &Receipt) {}
 }

@@ -14,7 +14,7 @@ mod threads;
 mod worker;
 
 pub use account::Stop;
-pub use gate::{Gate, OpenGate};
+pub use gate::{Gate, Meeting, OpenGate};
 pub use held::Held;
 pub use jg_script::{Line, Lines, Scripts};
 pub use receipt::Receipt;

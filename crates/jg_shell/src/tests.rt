@@ -1,5 +1,7 @@
 ghost use Rattle.std.specs.Prelude.{◌≡◌, ◌≤◌};
 
+mod refused;
+
 use super::*;
 use crate::compare::ended_so;
 use jg_guard::{Guard, Refusal};
@@ -8,7 +10,7 @@ use jg_script::{Verdict, Watched, read_scripts, verify, write_journal};
 use jg_words::{Call, Entry, Outcome, Reply, Tid, Value, VmCall};
 use std::alloc::{AllocError, Global};
 use std::marker::Brand;
-use std::sync::atomic::{AtomicBool, AtomicU64, Ordering};
+use std::sync::atomic::{AtomicBool, AtomicU64, AtomicUsize, Ordering};
 use std::sync::ledger::{Blank, Ledger};
 use std::sync::{Mutex, Wait};
 use std::test::Fail;
@@ -19,10 +21,7 @@ use std::thread::Threads;
 const LOOKS: u32 = 10_000_000;
 
 fn setup(alloc: Global) -> Result<Setup, Fail> {
-    match Setup::read(alloc, "version = 1\nillegal_native_access = \"deny\"\n") {
-        Ok(setup) => Ok(setup),
-        Err(_) => Err(Fail::from("the text is no setup")),
-    }
+    Ok(Setup::read(alloc, "version = 1\nillegal_native_access = \"deny\"\n")?)
 }
 
 fn attach() -> Call {
@@ -153,35 +152,81 @@ fn tally_of<R: Threads + Wait + Sync, G: Gate>(
     played::<Brand, _, _>(rt, alloc, Blank::new(64), scripts, gate)
 }
 
-/// A gate at which each of two workers waits, before its second line, until the other one is there.
+/// A meeting that counts who has come to it, and who got past it before all had.
 #[derive(Drop)]
-struct Meeting {
-    first: AtomicBool,
-    second: AtomicBool,
-    gave_up: AtomicBool,
+struct Counted {
+    meeting: Meeting,
+    come: AtomicUsize,
+    early: AtomicUsize,
 }
 
-impl Gate for Meeting {
-    fn before(&self, tid: Tid, line: usize, _turn: u32) {
-        if line != 2 {
-            return;
+impl Counted {
+    fn new(looks: u32) -> Counted {
+        Counted {
+            meeting: Meeting::new(WORKERS, looks),
+            come: AtomicUsize::new(0),
+            early: AtomicUsize::new(0),
         }
-        let (mine, theirs) = if tid == Tid(1) {
-            (&self.first, &self.second)
-        } else {
-            (&self.second, &self.first)
-        };
-        mine.store(true, Ordering::SeqCst);
-        for _ in 0..LOOKS {
-            if theirs.load(Ordering::SeqCst) {
-                return;
-            }
-            thread::yield_now();
-        }
-        self.gave_up.store(true, Ordering::SeqCst);
     }
 
-    fn after(&self, _receipt: &Receipt) {}
+    /// How many got past before all had come, and how many went on without the others.
+    fn counts(&self) -> (usize, usize) {
+        (self.early.load(Ordering::SeqCst), self.meeting.gone_on())
+    }
+}
+
+impl Gate for Counted {
+    fn before(&self, tid: Tid, line: usize, turn: u32) {
+        if line == 1 && turn == 1 {
+            self.come.fetch_add(1, Ordering::SeqCst);
+        }
+        self.meeting.before(tid, line, turn);
+        if line == 1 && self.come.load(Ordering::SeqCst) < WORKERS {
+            self.early.fetch_add(1, Ordering::SeqCst);
+        }
+    }
+
+    fn after(&self, receipt: &Receipt) {
+        self.meeting.after(receipt);
+    }
+}
+
+const WORKERS: usize = 6;
+
+const SIX: &str = "T1 - AttachCurrentThread
+T2 - AttachCurrentThread
+T3 - AttachCurrentThread
+T4 - AttachCurrentThread
+T5 - AttachCurrentThread
+T6 - AttachCurrentThread
+T1 E1.1 NewString [1]
+T2 E2.1 NewString [2]
+";
+
+const ALL_SIX: Tally = Tally {
+    entries: Some(8),
+    receipts: 8,
+    busy: 0,
+};
+
+/// Workers begin at once: none gets past its first line without the others.
+#[test]
+fn workers_meet(rt: HostRuntime) -> Result<(), Fail> {
+    let gate = Counted::new(LOOKS);
+    let met = tally_of(&rt, rt.alloc(), SIX, &gate)?;
+    assert_eq!(rt; met, ALL_SIX);
+    assert_eq!(rt; gate.counts(), (0, 0));
+    Ok(())
+}
+
+/// At a meeting where nobody looks, each goes on at once, and the play has an end.
+#[test]
+fn workers_go_on_without_each_other(rt: HostRuntime) -> Result<(), Fail> {
+    let gate = Counted::new(0);
+    let met = tally_of(&rt, rt.alloc(), SIX, &gate)?;
+    assert_eq!(rt; met, ALL_SIX);
+    assert_eq!(rt; gate.meeting.gone_on(), WORKERS);
+    Ok(())
 }
 
 const TWO: &str = "T1 - AttachCurrentThread
@@ -190,31 +235,14 @@ T1 E1.1 NewString [1]
 T2 E2.1 NewString [2]
 ";
 
-/// Workers run at once: neither gets past its second line without the other.
-#[test]
-fn workers_meet(rt: HostRuntime) -> Result<(), Fail> {
-    let gate = Meeting {
-        first: AtomicBool::new(false),
-        second: AtomicBool::new(false),
-        gave_up: AtomicBool::new(false),
-    };
-    let met = tally_of(&rt, rt.alloc(), TWO, &gate)?;
-    let wanted = Tally {
-        entries: Some(4),
-        receipts: 4,
-        busy: 0,
-    };
-    assert_eq!(rt; met, wanted);
-    assert!(rt; !gate.gave_up.load(Ordering::SeqCst));
-    Ok(())
-}
-
-/// A gate that counts each thread's receipts. The second thread's second line waits for the first's
-/// fourth receipt, and the first's fifth line for the second's fourth receipt.
+/// A gate that counts each thread's receipts, and writes down the turns of the second thread's second
+/// line, a digit each. That line waits for the first's fourth receipt, and the first's fifth line for the
+/// second's fourth receipt.
 #[derive(Drop)]
 struct Turns {
     first: AtomicU64,
     second: AtomicU64,
+    told: AtomicU64,
     gave_up: AtomicBool,
 }
 
@@ -231,9 +259,13 @@ impl Turns {
 }
 
 impl Gate for Turns {
-    fn before(&self, tid: Tid, line: usize, _turn: u32) {
+    fn before(&self, tid: Tid, line: usize, turn: u32) {
         if tid == Tid(2) && line == 2 {
             self.wait_for_four(&self.first);
+            let told = self.told.load(Ordering::SeqCst);
+            let turn = u64::from(turn);
+            self.told
+                .store(told.wrapping_mul(10).wrapping_add(turn), Ordering::SeqCst);
         }
         if tid == Tid(1) && line == 5 {
             self.wait_for_four(&self.second);
@@ -266,6 +298,7 @@ fn a_busy_monitor_is_tried_three_times(rt: HostRuntime) -> Result<(), Fail> {
     let gate = Turns {
         first: AtomicU64::new(0),
         second: AtomicU64::new(0),
+        told: AtomicU64::new(0),
         gave_up: AtomicBool::new(false),
     };
     let tried = tally_of(&rt, rt.alloc(), OWNED, &gate)?;
@@ -275,6 +308,7 @@ fn a_busy_monitor_is_tried_three_times(rt: HostRuntime) -> Result<(), Fail> {
         busy: 3,
     };
     assert_eq!(rt; tried, wanted);
+    assert_eq!(rt; gate.told.load(Ordering::SeqCst), 123);
     assert!(rt; !gate.gave_up.load(Ordering::SeqCst));
     Ok(())
 }

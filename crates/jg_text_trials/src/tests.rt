@@ -1,4 +1,5 @@
 mod arguments;
 mod lines;
+mod refused;
 mod setups;
 mod words;

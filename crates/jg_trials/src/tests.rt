@@ -5,6 +5,7 @@ mod growths;
 mod guard;
 mod journals;
 mod leaks;
+mod refused;
 mod rows;
 mod scripts;
 mod sessions;
@@ -21,10 +22,7 @@ use std::test::Fail;
 const CLOSED: &str = "version = 1\nillegal_native_access = \"deny\"\n";
 
 fn setup(alloc: Global, text: &str) -> Result<Setup, Fail> {
-    match Setup::read(alloc, text) {
-        Ok(setup) => Ok(setup),
-        Err(_) => Err(Fail::from("the text is no setup")),
-    }
+    Ok(Setup::read(alloc, text)?)
 }
 
 /// A device that holds this text and passes so many calls, of at most `most` bytes each.

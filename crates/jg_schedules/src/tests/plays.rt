@@ -51,18 +51,12 @@ impl Played {
     }
 }
 
-fn setup_of(alloc: Global, text: &str) -> Result<Setup, Fail> {
-    match Setup::read(alloc, text) {
-        Ok(setup) => Ok(setup),
-        Err(_) => Err(Fail::from("the text is no setup")),
-    }
+pub(super) fn setup_of(alloc: Global, text: &str) -> Result<Setup, Fail> {
+    Ok(Setup::read(alloc, text)?)
 }
 
-fn scripts_of(alloc: Global, text: &str) -> Result<Scripts, Fail> {
-    match read_scripts(alloc, &mut Watched::new(text.as_bytes())) {
-        Ok(scripts) => Ok(scripts),
-        Err(_) => Err(Fail::from("a line is refused")),
-    }
+pub(super) fn scripts_of(alloc: Global, text: &str) -> Result<Scripts, Fail> {
+    Ok(read_scripts(alloc, &mut Watched::new(text.as_bytes()))?)
 }
 
 fn text_of(bytes: Vec<u8>) -> Result<String, Fail> {
@@ -72,22 +66,17 @@ fn text_of(bytes: Vec<u8>) -> Result<String, Fail> {
     }
 }
 
+/// The text of the guard's journal. The writer has room for it before, so that it doesn't fail.
 fn journal_of(alloc: Global, guard: &Guard) -> Result<String, Fail> {
-    let mut writer = Watched::new(Vec::new(alloc));
-    match write_journal(alloc, guard, &mut writer) {
-        Ok(()) => text_of(writer.into_inner()),
-        Err(_) => Err(Fail::from("the journal isn't written")),
-    }
+    let mut writer = Watched::new(Vec::with_capacity(alloc, 65_536)?);
+    write_journal(alloc, guard, &mut writer)?;
+    text_of(writer.into_inner())
 }
 
 fn is_legal(alloc: Global, setup: &str, journal: &str) -> Result<bool, Fail> {
     let setup = setup_of(alloc, setup)?;
     let mut reader = Watched::new(journal.as_bytes());
-    match verify(alloc, alloc, setup, 100, &mut reader) {
-        Ok(Verdict::Legal) => Ok(true),
-        Ok(Verdict::Differs(_)) => Ok(false),
-        Err(_) => Err(Fail::from("the journal isn't read")),
-    }
+    Ok(verify(alloc, alloc, setup, 100, &mut reader)? == Verdict::Legal)
 }
 
 fn told<L: Ledger>(alloc: Global, finished: &Finished<L>) -> Result<Played, Fail> {

@@ -1,4 +1,4 @@
-use jg_args::{ArgsFault, Asked, Task, help_text, read_words};
+use jg_args::{ArgsFault, Asked, Task, VERSION, help_text, read_words};
 use std::alloc::Global;
 use std::test::Fail;
 
@@ -15,7 +15,7 @@ const STATUSES: &str =
     4 reading or writing failed.";
 
 /// Words, and what they ask for.
-const READ: [(&[&str], Asked<'static>); 6] = [
+const READ: [(&[&str], Asked<'static>); 7] = [
     (&[], DEFAULTS),
     (&["check"], DEFAULTS),
     (
@@ -39,6 +39,13 @@ const READ: [(&[&str], Asked<'static>); 6] = [
         Asked {
             task: Task::Play("two"),
             turns: 1,
+            ..DEFAULTS
+        },
+    ),
+    (
+        &["play", "-"],
+        Asked {
+            task: Task::Play("-"),
             ..DEFAULTS
         },
     ),
@@ -68,8 +75,9 @@ fn words_are_read(rt: HostRuntime) {
 }
 
 /// Words that ask for nothing.
-const REFUSED: [&[&str]; 22] = [
+const REFUSED: [&[&str]; 23] = [
     &["fly"],
+    &["help", "fly"],
     &["--fly"],
     &["--limit"],
     &["--limit", "1000001"],
@@ -113,9 +121,17 @@ fn words_are_refused(rt: HostRuntime) {
     assert_eq!(rt; other_refused(rt.alloc()), None);
 }
 
+const USAGE: &str = "Usage: jg [check] [OPTIONS] | jg verify|play|migrate ..";
+
 /// Words that ask for a text, and a part of it.
-const TEXTS: [(&[&str], &str); 12] = [
-    (&["--help"], "Usage: jg [OPTIONS] [COMMAND]"),
+const TEXTS: [(&[&str], &str); 14] = [
+    (&["--help"], USAGE),
+    (&["help"], USAGE),
+    (&["help", "verify"], "Usage: jg verify [OPTIONS]"),
+    (
+        &["play", "--help"],
+        "the scripts, one call a line; - is standard input",
+    ),
     (&["check", "--help"], "Usage: jg check [OPTIONS]"),
     (&["--help"], "--setup <FILE>"),
     (&["check", "--help"], "--setup <FILE>"),
@@ -126,7 +142,6 @@ const TEXTS: [(&[&str], &str); 12] = [
     (&["verify", "-h"], STATUSES),
     (&["play", "--help"], "Usage: jg play [OPTIONS] <FILE>"),
     (&["migrate", "--help"], "Usage: jg migrate --setup <FILE>"),
-    (&["--version"], "jg 0.1.0\n"),
 ];
 
 /// Whether the words ask for a text with this part.
@@ -148,5 +163,37 @@ fn other_text(alloc: Global) -> Result<Option<usize>, Fail> {
 #[test]
 fn texts_are_asked_for(rt: HostRuntime) -> Result<(), Fail> {
     assert_eq!(rt; other_text(rt.alloc())?, None);
+    Ok(())
+}
+
+#[test]
+fn the_version_is_told(rt: HostRuntime) -> Result<(), Fail> {
+    let wanted = format!(in rt.alloc(); "jg {VERSION}\n")?;
+    assert_eq!(rt; help_text(rt.alloc(), &["--version"])?, wanted);
+    Ok(())
+}
+
+/// Words that ask for the same text.
+const ALIKE: [(&[&str], &[&str]); 5] = [
+    (&["help"], &["--help"]),
+    (&["help", "check"], &["check", "--help"]),
+    (&["help", "verify"], &["verify", "--help"]),
+    (&["help", "play"], &["play", "--help"]),
+    (&["help", "migrate"], &["migrate", "--help"]),
+];
+
+/// The place of the first pair of words whose texts differ.
+fn other_pair(alloc: Global) -> Result<Option<usize>, Fail> {
+    for (place, (first, second)) in ALIKE.iter().enumerate() {
+        if help_text(alloc, *first)? != help_text(alloc, *second)? {
+            return Ok(Some(place));
+        }
+    }
+    Ok(None)
+}
+
+#[test]
+fn help_is_asked_for_in_two_ways(rt: HostRuntime) -> Result<(), Fail> {
+    assert_eq!(rt; other_pair(rt.alloc())?, None);
     Ok(())
 }

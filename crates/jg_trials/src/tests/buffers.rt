@@ -1,7 +1,7 @@
 //! The growths of calls on buffers, refused in turn.
 
 use super::growths::{
-    Answer, Growth, OPENING, SETUP, answer_to, goes_through, opens, refusals_of, spelt,
+    Answer, Growth, OPENING, ROOM, SETUP, answer_to, goes_through, leave, open, refusals_of, spelt,
 };
 use super::guarded;
 use jg_guard::Guard;
@@ -199,9 +199,7 @@ struct Change {
 }
 
 fn change_by(guard: &mut Guard, alloc: Global, growth: Growth<'_>) -> Result<Change, Fail> {
-    if !opens(guard, alloc, growth)? {
-        return Err(Fail::from("a large heap isn't enough"));
-    }
+    open(guard, alloc, growth)?;
     let before = outcome_of(guard, alloc, growth.earlier)?;
     passes(guard, alloc, growth.call)?;
     let after = outcome_of(guard, alloc, growth.earlier)?;
@@ -221,7 +219,7 @@ fn passes<A: Allocator + Clone>(
 }
 
 fn change_of(alloc: Global, growth: Growth<'_>) -> Result<Change, Fail> {
-    let mut guard = guarded(alloc, alloc, SETUP, 1000)?;
+    let mut guard = guarded(alloc, alloc, SETUP, 10_000)?;
     change_by(&mut guard, alloc, growth)
 }
 
@@ -239,33 +237,14 @@ fn finds<A: Allocator + Clone>(
     }
 }
 
-/// Takes the largest block that the heap still has, to within a thousand bytes.
-fn ballast<'a>(heap: &'a LocalHeap) -> Vec<u8, &'a LocalHeap> {
-    let mut block = Vec::new(heap);
-    for thousands in (0..1000usize).rev() {
-        if block.try_reserve(thousands.saturating_mul(1000)).is_ok() {
-            break;
-        }
-    }
-    block
-}
-
-/// Fills the journal up to the end of its first block, by calls that need nothing else.
-fn fill<A: Allocator + Clone>(guard: &mut Guard<A>, alloc: Global) -> Result<(), Fail> {
-    for _ in guard.journal_len()..1024 {
-        passes(guard, alloc, "T9 - GetEnv")?;
-    }
-    Ok(())
-}
-
 /// With no memory for another block the call is refused, and not journaled.
-fn refuses(
-    guard: &mut Guard<&LocalHeap>,
-    heap: &LocalHeap,
+fn refuses<'a>(
+    guard: &mut Guard<&'a LocalHeap>,
+    heap: &'a LocalHeap,
     alloc: Global,
     line: &str,
 ) -> Result<(), Fail> {
-    let kept = ballast(heap);
+    let kept = leave(heap, ROOM, alloc)?;
     let answer = answer_to(guard, alloc, line)?;
     drop(kept);
     if answer == Answer::Refused && guard.journal_len() == 1024 {
@@ -277,17 +256,14 @@ fn refuses(
 
 /// The call finds the journal's block full and no memory for another: it is refused and changes
 /// nothing. Once there is memory it does what it does for a guard that was never refused.
-fn finds_its_block_full(
-    guard: &mut Guard<&LocalHeap>,
-    heap: &LocalHeap,
+fn finds_its_block_full<'a>(
+    guard: &mut Guard<&'a LocalHeap>,
+    heap: &'a LocalHeap,
     alloc: Global,
     growth: Growth<'_>,
     change: &Change,
 ) -> Result<(), Fail> {
-    if !opens(guard, alloc, growth)? {
-        return Err(Fail::from("a large heap isn't enough"));
-    }
-    fill(guard, alloc)?;
+    open(guard, alloc, growth)?;
     refuses(guard, heap, alloc, growth.call)?;
     finds(guard, alloc, growth, &change.before)?;
     passes(guard, alloc, growth.call)?;
@@ -319,6 +295,7 @@ fn a_full_block_refuses_each_call(rt: HostRuntime) -> Result<(), Fail> {
         for (opening, earlier, call) in list {
             let growth = Growth {
                 setup: SETUP,
+                full: true,
                 opening: OPENING,
                 further: opening,
                 earlier,

@@ -3,6 +3,7 @@ ghost use Rattle.jg_words.specs.Call.{fun_of};
 
 use super::{CLOSED, guarded};
 use jg_caller::{Denial, Machine, denials, let_through};
+use jg_example::count_done;
 use jg_guard::{Guard, Refusal};
 use jg_words::{
     Call, Entry, EnvId, Fun, Items, Kind, Outcome, Ref, RefsCall, RefsFun, Rule, StringsCall,
@@ -153,4 +154,10 @@ fn the_machine_does_what_passes(rt: HostRuntime) -> Result<(), Fail> {
     let mut guard = guarded(rt.alloc(), rt.alloc(), CLOSED, 6)?;
     assert_eq!(rt; found_of(&mut guard, rt.alloc(), units), [true; 3]);
     Ok(())
+}
+
+/// The example of docs/LIBRARY.md: two of its three calls reach its machine.
+#[test]
+fn the_example_counts_two(rt: HostRuntime) {
+    assert_eq!(rt; count_done(rt.alloc()), Ok(2));
 }

@@ -7,7 +7,7 @@ use std::alloc::{AllocError, Allocator, Global};
 use std::test::Fail;
 
 /// Takes all that a heap has left.
-fn exhaust<'a>(
+pub(super) fn exhaust<'a>(
     heap: &'a LocalHeap,
     kept: &mut Vec<Vec<u8, &'a LocalHeap>>,
 ) -> Result<(), AllocError> {

@@ -1,4 +1,5 @@
-use super::{guarded, setup};
+use super::cleaning::exhaust;
+use super::guarded;
 use jg_guard::{Guard, Leaks, Refusal};
 use jg_script::read_call;
 use jg_words::{Call, Entry, EnvId, Outcome, Tid};
@@ -18,16 +19,21 @@ name = \"other/Tool\"
 module = \"other\"
 ";
 
+/// The most entries of the guards.
+const LIMIT: u32 = 10_000;
+
 pub(super) const OPENING: &str = "T1 - AttachCurrentThread
 T1 E1.1 FindClass lib/Tool
 T1 E1.1 RegisterNatives L1.1 go ()V
 ";
 
 /// A call that takes memory, after so many others, which take up what the tables have in reserve;
-/// `opening` and `further` are what comes before both, line by line.
+/// `opening` and `further` are what comes before both, line by line. The journal has room for the call,
+/// or its first block is full.
 #[derive(Clone, Copy)]
 pub(super) struct Growth<'a> {
     pub(super) setup: &'a str,
+    pub(super) full: bool,
     pub(super) opening: &'a str,
     pub(super) further: &'a str,
     pub(super) earlier: &'a str,
@@ -70,10 +76,7 @@ const LASTING: [(&str, &str); 4] = [
 ];
 
 pub(super) fn spelt(alloc: Global, line: &str) -> Result<(Tid, Option<EnvId>, Call), Fail> {
-    match read_call(alloc, line.as_bytes()) {
-        Ok(spelt) => Ok(spelt),
-        Err(_) => Err(Fail::from("the line spells no call")),
-    }
+    Ok(read_call(alloc, line.as_bytes())?)
 }
 
 /// Makes the call, and says whether memory was enough.
@@ -86,41 +89,46 @@ pub(super) fn goes_through<A: Allocator + Clone>(
     Ok(guard.call(tid, env, call).is_ok())
 }
 
-/// Makes the calls of the lines, and says whether memory was enough.
-fn goes_through_all<A: Allocator + Clone>(
+/// Makes the calls of the lines, for which there is memory.
+fn open_by<A: Allocator + Clone>(
     guard: &mut Guard<A>,
     alloc: Global,
     lines: &str,
-) -> Result<bool, Fail> {
+) -> Result<(), Fail> {
     for line in lines.lines() {
         if !goes_through(guard, alloc, line)? {
-            return Ok(false);
+            return Err(Fail::from("memory ran out"));
         }
     }
-    Ok(true)
+    Ok(())
 }
 
-/// Makes room for the entries and makes the calls before the one that grows, and says whether memory
-/// was enough.
-pub(super) fn opens<A: Allocator + Clone>(
+/// Fills the journal up to the end of its first block, by calls that need nothing else.
+fn fill<A: Allocator + Clone>(guard: &mut Guard<A>, alloc: Global) -> Result<(), Fail> {
+    for _ in guard.journal_len()..1024 {
+        open_by(guard, alloc, "T9 - GetEnv")?;
+    }
+    Ok(())
+}
+
+/// Makes room for entries and makes the calls before the one that grows, for which there is memory.
+pub(super) fn open<A: Allocator + Clone>(
     guard: &mut Guard<A>,
     alloc: Global,
     growth: Growth<'_>,
-) -> Result<bool, Fail> {
+) -> Result<(), Fail> {
     if guard.reserve(100).is_err() {
-        return Ok(false);
+        return Err(Fail::from("memory ran out"));
     }
-    if !goes_through_all(guard, alloc, growth.opening)?
-        || !goes_through_all(guard, alloc, growth.further)?
-    {
-        return Ok(false);
-    }
+    open_by(guard, alloc, growth.opening)?;
+    open_by(guard, alloc, growth.further)?;
     for _ in 0..growth.times {
-        if !goes_through(guard, alloc, growth.earlier)? {
-            return Ok(false);
-        }
+        open_by(guard, alloc, growth.earlier)?;
     }
-    Ok(true)
+    match growth.full {
+        true => fill(guard, alloc),
+        false => Ok(()),
+    }
 }
 
 /// The entries are equal in all their parts.
@@ -160,17 +168,6 @@ fn are_equal<A: Allocator + Clone>(guard: &Guard<A>, twin: &Guard) -> Result<boo
     Ok(have_equal_journals(guard, twin) && leave_equal_things(&left, &same))
 }
 
-/// What came of a call.
-#[derive(Clone, Copy, Debug, PartialEq, Eq)]
-pub(super) enum Met {
-    /// Memory ran out before it.
-    Unopened,
-    /// It was refused, changed nothing, and was answered once memory was given back.
-    Refused,
-    /// It was answered at once.
-    Answered,
-}
-
 /// How a call was answered.
 #[derive(Clone, Copy, Debug, PartialEq, Eq)]
 pub(super) enum Answer {
@@ -207,145 +204,114 @@ pub(super) fn answer_to<A: Allocator + Clone>(
     Ok(answer_of(guard.call(tid, env, call), &asked))
 }
 
-/// Memory that can be given back, once.
-pub(super) type Kept<A> = Option<Vec<u8, A>>;
+/// Memory of a heap that can be given back.
+pub(super) type Kept<'a> = Vec<Vec<u8, &'a LocalHeap>>;
 
-/// So many bytes to give back.
-pub(super) fn keep<A: Allocator>(tables: A, bytes: usize) -> Result<Kept<A>, Fail> {
-    let mut kept = Vec::new(tables);
-    kept.try_reserve(bytes)?;
-    Ok(Some(kept))
+/// Takes all that a heap has left but so many bytes in one piece.
+pub(super) fn leave<'a>(heap: &'a LocalHeap, room: usize, alloc: Global) -> Result<Kept<'a>, Fail> {
+    let mut kept = Vec::new(alloc);
+    let left: Vec<u8, &'a LocalHeap> = Vec::with_capacity(heap, room)?;
+    exhaust(heap, &mut kept)?;
+    drop(left);
+    Ok(kept)
 }
 
-/// Makes the call. Where it is refused it has changed nothing, and once what is kept is given back, it is
-/// answered.
-fn answers_at_last<A: Allocator + Clone>(
-    guard: &mut Guard<A>,
+/// Makes the call, and says whether it was refused. Then it has changed nothing, and once what is kept
+/// is given back, it is answered.
+fn is_refused_once(
+    guard: &mut Guard<&LocalHeap>,
     twin: &Guard,
-    kept: &mut Kept<A>,
+    kept: &mut Kept<'_>,
     alloc: Global,
     line: &str,
-) -> Result<Met, Fail> {
+) -> Result<bool, Fail> {
     match answer_to(guard, alloc, line)? {
-        Answer::Given => return Ok(Met::Answered),
+        Answer::Given => return Ok(false),
         Answer::Refused => {}
         Answer::Other => return Err(Fail::from("the limit is met, or another call comes back")),
     }
-    drop(kept.take());
+    kept.clear();
     if !are_equal(guard, twin)? {
         return Err(Fail::from("a refused call changed something"));
     }
     match goes_through(guard, alloc, line)? {
-        true => Ok(Met::Refused),
+        true => Ok(true),
         false => Err(Fail::from("refused again")),
     }
 }
 
-/// Makes the calls before the one that grows, and then that one; `kept` is memory to give back. The
-/// twin has all memory and makes the same calls.
-fn meets<A: Allocator + Clone>(
-    guard: &mut Guard<A>,
+/// The same, where the twin has all memory, makes the same call, and comes out alike.
+fn meets(
+    guard: &mut Guard<&LocalHeap>,
     twin: &mut Guard,
-    kept: &mut Kept<A>,
+    kept: &mut Kept<'_>,
     alloc: Global,
-    growth: Growth<'_>,
-) -> Result<Met, Fail> {
-    if !opens(guard, alloc, growth)? {
-        return Ok(Met::Unopened);
-    }
-    if !opens(twin, alloc, growth)? {
-        return Err(Fail::from("memory ran out"));
-    }
-    let met = answers_at_last(guard, twin, kept, alloc, growth.call)?;
-    drop(kept.take());
-    if goes_through(twin, alloc, growth.call)? && are_equal(guard, twin)? {
-        Ok(met)
+    line: &str,
+) -> Result<bool, Fail> {
+    let refused = is_refused_once(guard, twin, kept, alloc, line)?;
+    kept.clear();
+    if goes_through(twin, alloc, line)? && are_equal(guard, twin)? {
+        Ok(refused)
     } else {
         Err(Fail::from("another outcome"))
     }
 }
 
+/// The same with so many bytes left of the heap, after the calls that come before.
+fn meets_with<'a>(
+    guard: &mut Guard<&'a LocalHeap>,
+    twin: &mut Guard,
+    heap: &'a LocalHeap,
+    room: usize,
+    alloc: Global,
+    growth: Growth<'_>,
+) -> Result<bool, Fail> {
+    open(guard, alloc, growth)?;
+    open(twin, alloc, growth)?;
+    let mut kept = leave(heap, room, alloc)?;
+    meets(guard, twin, &mut kept, alloc, growth.call)
+}
+
 /// The same beside a new twin.
-fn meets_beside_a_twin<A: Allocator + Clone>(
-    guard: &mut Guard<A>,
-    kept: &mut Kept<A>,
+fn meets_beside_a_twin<'a>(
+    guard: &mut Guard<&'a LocalHeap>,
+    heap: &'a LocalHeap,
+    room: usize,
     alloc: Global,
     growth: Growth<'_>,
-) -> Result<Met, Fail> {
-    let mut twin = guarded(alloc, alloc, growth.setup, 1000)?;
-    meets(guard, &mut twin, kept, alloc, growth)
+) -> Result<bool, Fail> {
+    let mut twin = guarded(alloc, alloc, growth.setup, LIMIT)?;
+    meets_with(guard, &mut twin, heap, room, alloc, growth)
 }
 
-/// A new guard, where memory suffices for it.
-pub(super) fn guarded_if_room<A: Allocator + Copy>(
-    tables: A,
-    alloc: Global,
-    text: &str,
-) -> Result<Option<Guard<A>>, Fail> {
-    let setup = setup(alloc, text)?;
-    Ok(Guard::new(tables, alloc, setup, 1000).ok())
-}
-
-/// The same of a new guard, with this to give back.
-fn meets_anew<A: Allocator + Copy>(
-    tables: A,
-    kept: &mut Kept<A>,
-    alloc: Global,
-    growth: Growth<'_>,
-) -> Result<Met, Fail> {
-    match guarded_if_room(tables, alloc, growth.setup)? {
-        Some(mut guard) => meets_beside_a_twin(&mut guard, kept, alloc, growth),
-        None => Ok(Met::Unopened),
-    }
-}
-
-/// The same with 9,000 bytes to give back.
-fn meets_in(heap: &LocalHeap, alloc: Global, growth: Growth<'_>) -> Result<Met, Fail> {
-    let mut kept = keep(heap, 9_000)?;
-    meets_anew(heap, &mut kept, alloc, growth)
-}
-
-/// The same over a heap with room for so many bytes beside those to give back.
-fn over_a_heap(alloc: Global, room: usize, growth: Growth<'_>) -> Result<Met, Fail> {
-    let heap = LocalHeap::new(alloc, room.saturating_add(9_000))?;
-    meets_in(&heap, alloc, growth)
-}
-
-fn used_by(
-    guard: &mut Guard<&LocalHeap>,
+fn meets_in(
     heap: &LocalHeap,
+    room: usize,
     alloc: Global,
     growth: Growth<'_>,
-) -> Result<usize, Fail> {
-    if opens(guard, alloc, growth)? {
-        Ok(heap.used())
-    } else {
-        Err(Fail::from("a large heap isn't enough"))
-    }
+) -> Result<bool, Fail> {
+    let mut guard = guarded(heap, alloc, growth.setup, LIMIT)?;
+    meets_beside_a_twin(&mut guard, heap, room, alloc, growth)
 }
 
-fn used_in(heap: &LocalHeap, alloc: Global, growth: Growth<'_>) -> Result<usize, Fail> {
-    let mut guard = guarded(heap, alloc, growth.setup, 1000)?;
-    used_by(&mut guard, heap, alloc, growth)
-}
-
-/// How many bytes of a heap are in use before the call that grows.
-pub(super) fn used_before(alloc: Global, growth: Growth<'_>) -> Result<usize, Fail> {
+/// Whether the call that grows is refused where a heap has so many bytes left for it, in one piece.
+pub(super) fn is_refused(alloc: Global, room: usize, growth: Growth<'_>) -> Result<bool, Fail> {
     let heap = LocalHeap::new(alloc, 1_000_000)?;
-    used_in(&heap, alloc, growth)
+    meets_in(&heap, room, alloc, growth)
 }
 
-/// How often the call is refused over heaps of growing sizes, from too small for the calls before it
-/// up to one over which it is answered.
+/// Room for what a call takes, but not for a block of entries.
+pub(super) const ROOM: usize = 100_000;
+
+/// How often the call is refused where a heap has nothing left for it, and then 16 bytes more each
+/// time, up to where it is answered.
 pub(super) fn refusals(alloc: Global, growth: Growth<'_>) -> Result<u32, Fail> {
-    let used = used_before(alloc, growth)?;
     let mut count = 0u32;
     for more in 0..1000usize {
-        match over_a_heap(alloc, used.saturating_add(more.saturating_mul(16)), growth)? {
-            Met::Unopened => {}
-            Met::Refused => count = count.saturating_add(1),
-            Met::Answered => return Ok(count),
+        if !is_refused(alloc, more.saturating_mul(16), growth)? {
+            return Ok(count);
         }
+        count = count.saturating_add(1);
     }
     Err(Fail::from("never answered"))
 }
@@ -361,6 +327,7 @@ pub(super) fn refusals_of<'a>(
     for times in 0..6u32 {
         let growth = Growth {
             setup: SETUP,
+            full: false,
             opening: OPENING,
             further: opening,
             earlier,

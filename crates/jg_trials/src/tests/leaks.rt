@@ -1,4 +1,5 @@
-use super::growths::{Growth, Kept, OPENING, SETUP, guarded_if_room, keep, opens, used_before};
+use super::growths::{Growth, Kept, OPENING, SETUP, leave, open};
+use super::guarded;
 use jg_guard::{Guard, Leaks};
 use jg_script::write_leaks;
 use linked_list_allocator::LocalHeap;
@@ -31,23 +32,13 @@ leak M17 T1 1
 
 const GROWTH: Growth<'static> = Growth {
     setup: SETUP,
+    full: false,
     opening: OPENING,
     further: LEAVING,
     earlier: "T1 E1.1 NewLocalRef L1.1",
     times: 3,
     call: "",
 };
-
-/// What came of asking for what is left.
-#[derive(Clone, Copy, Debug, PartialEq, Eq)]
-enum Met {
-    /// Memory ran out before it.
-    Unopened,
-    /// It was refused, changed nothing, and was answered so once memory was given back.
-    Refused,
-    /// It was answered at once.
-    Listed,
-}
 
 /// Whether the list is that of all that stays.
 fn is_whole<A: Allocator>(alloc: Global, left: &Leaks<A>) -> Result<bool, Fail> {
@@ -66,68 +57,56 @@ fn lists<A: Allocator + Clone>(guard: &Guard<A>, alloc: Global) -> Result<bool, 
     }
 }
 
-/// Makes calls that leave something and asks for what is left; `kept` is memory to give back.
-fn meets<A: Allocator + Clone>(
-    guard: &mut Guard<A>,
-    kept: &mut Kept<A>,
+/// Asks for what is left, and says whether that was refused. Then it is answered once what is kept is
+/// given back.
+fn is_refused_once(
+    guard: &Guard<&LocalHeap>,
+    kept: &mut Kept<'_>,
     alloc: Global,
-) -> Result<Met, Fail> {
-    if !opens(guard, alloc, GROWTH)? {
-        return Ok(Met::Unopened);
-    }
-    let before = guard.journal_len();
+) -> Result<bool, Fail> {
     if lists(guard, alloc)? {
-        return Ok(Met::Listed);
+        return Ok(false);
     }
-    if guard.journal_len() != before {
-        return Err(Fail::from("a refused list changed something"));
-    }
-    drop(kept.take());
-    if lists(guard, alloc)? {
-        Ok(Met::Refused)
-    } else {
-        Err(Fail::from("refused again"))
+    kept.clear();
+    match lists(guard, alloc)? {
+        true => Ok(true),
+        false => Err(Fail::from("refused again")),
     }
 }
 
-/// The same of a new guard, with this to give back.
-fn meets_anew<A: Allocator + Copy>(
-    tables: A,
-    kept: &mut Kept<A>,
+/// The same after calls that leave something, with so many bytes left of the heap.
+fn is_refused_with<'a>(
+    guard: &mut Guard<&'a LocalHeap>,
+    heap: &'a LocalHeap,
+    room: usize,
     alloc: Global,
-) -> Result<Met, Fail> {
-    match guarded_if_room(tables, alloc, SETUP)? {
-        Some(mut guard) => meets(&mut guard, kept, alloc),
-        None => Ok(Met::Unopened),
-    }
+) -> Result<bool, Fail> {
+    open(guard, alloc, GROWTH)?;
+    let mut kept = leave(heap, room, alloc)?;
+    is_refused_once(guard, &mut kept, alloc)
 }
 
-/// The same with 9,000 bytes to give back.
-fn meets_in(heap: &LocalHeap, alloc: Global) -> Result<Met, Fail> {
-    let mut kept = keep(heap, 9_000)?;
-    meets_anew(heap, &mut kept, alloc)
+fn is_refused_in(heap: &LocalHeap, room: usize, alloc: Global) -> Result<bool, Fail> {
+    let mut guard = guarded(heap, alloc, SETUP, 1000)?;
+    is_refused_with(&mut guard, heap, room, alloc)
 }
 
-/// The same over a heap with room for so many bytes beside those to give back.
-fn over_a_heap(alloc: Global, room: usize) -> Result<Met, Fail> {
-    let heap = LocalHeap::new(alloc, room.saturating_add(9_000))?;
-    meets_in(&heap, alloc)
+fn is_refused(alloc: Global, room: usize) -> Result<bool, Fail> {
+    let heap = LocalHeap::new(alloc, 1_000_000)?;
+    is_refused_in(&heap, room, alloc)
 }
 
-/// A refused list changes nothing, and is whole later.
+/// A refused list is whole later. With nothing left it is refused, and with 16 bytes more each time up to
+/// where it is answered.
 #[test]
 fn every_growth_of_a_list_is_refused_in_turn(rt: HostRuntime) -> Result<(), Fail> {
-    let used = used_before(rt.alloc(), GROWTH)?;
-    let mut count = 0u32;
-    let mut listed = false;
+    let mut count = 0usize;
     for more in 0..200usize {
-        match over_a_heap(rt.alloc(), used.saturating_add(more.saturating_mul(16)))? {
-            Met::Unopened => {}
-            Met::Refused => count = count.saturating_add(1),
-            Met::Listed => listed = true,
+        if is_refused(rt.alloc(), more.saturating_mul(16))? {
+            count = count.saturating_add(1);
         }
     }
     assert!(rt; count > 0, "never refused");
-    assert!(rt; listed, "never listed");
+    assert!(rt; count < 200, "never listed");
     Ok(())
 }

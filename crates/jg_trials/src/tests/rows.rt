@@ -1,4 +1,4 @@
-use super::growths::{Growth, refusals};
+use super::growths::{Growth, ROOM, is_refused, refusals};
 use jg_rows::setups::{CLOSED, TWO_MODULES};
 use jg_rows::{
     access, collections, critical_regions, exceptions, frames, globals, natives, object_fields,
@@ -39,49 +39,80 @@ const UNDER_TWO_MODULES: [(&str, &str, &str); 7] = [
     ("chain_and_leaks", "deny", collections::CHAIN_AND_LEAKS),
 ];
 
-/// How often the calls of the row's text are refused where the growths of each are refused in turn.
-/// Each is answered later as if it had never been refused.
-fn refusals_in<'a>(alloc: Global, setup: &'a str, text: &'a str) -> Result<u32, Fail> {
+/// How often the calls of the row's text are refused; each is answered later as if it had never been
+/// refused. Where the journal's block isn't full, the growths of each call are refused in turn; where it
+/// is, there is no room for another one.
+fn refusals_in<'a>(
+    alloc: Global,
+    setup: &'a str,
+    text: &'a str,
+    full: bool,
+) -> Result<usize, Fail> {
     let mut opening = String::new(alloc);
-    let mut count = 0u32;
+    let mut count = 0usize;
     for line in text.lines() {
         let Some((call, _)) = line.split_once(" = ") else {
             return Err(Fail::from("a line has no outcome"));
         };
         let growth = Growth {
             setup,
+            full,
             opening: opening.as_str(),
             further: "",
             earlier: "",
             times: 0,
             call,
         };
-        count = count.saturating_add(refusals(alloc, growth)?);
+        count = count.saturating_add(refusals_by(alloc, growth)?);
         opening.push_str(call)?;
         opening.push_str("\n")?;
     }
     Ok(count)
 }
 
+/// How often the call is refused in one of these ways.
+fn refusals_by(alloc: Global, growth: Growth<'_>) -> Result<usize, Fail> {
+    match growth.full {
+        true => Ok(usize::from(is_refused(alloc, ROOM, growth)?)),
+        false => Ok(refusals(alloc, growth)? as usize),
+    }
+}
+
 #[test]
 fn every_growth_in_the_rows_is_refused_in_turn(rt: HostRuntime) -> Result<(), Fail> {
     for (name, text) in UNDER_NO_SETUP {
-        assert!(rt; refusals_in(rt.alloc(), CLOSED, text)? > 0, "in {name}");
+        let count = refusals_in(rt.alloc(), CLOSED, text, false)?;
+        assert!(rt; count > 0, "in {name}");
     }
     Ok(())
 }
 
-/// What the making of a guard with classes leaves free may be enough for all of a short row, so the
-/// refusals are counted over all rows.
+#[test]
+fn a_full_block_refuses_each_call_of_the_rows(rt: HostRuntime) -> Result<(), Fail> {
+    for (name, text) in UNDER_NO_SETUP {
+        let count = refusals_in(rt.alloc(), CLOSED, text, true)?;
+        assert_eq!(rt; count, text.lines().count(), "in {name}");
+    }
+    Ok(())
+}
+
+/// How often the calls of the row's text are refused under the setup of two modules, first as their
+/// growths are refused in turn, and then where the journal's block is full.
+fn refusals_under(alloc: Global, mode: &str, text: &str) -> Result<(usize, usize), Fail> {
+    let setup = format!(in alloc;
+        "version = 1\nillegal_native_access = \"{mode}\"\n{TWO_MODULES}"
+    )?;
+    let growing = refusals_in(alloc, setup.as_str(), text, false)?;
+    let full = refusals_in(alloc, setup.as_str(), text, true)?;
+    Ok((growing, full))
+}
+
 #[test]
 fn every_growth_in_the_rows_of_a_setup_is_refused_in_turn(rt: HostRuntime) -> Result<(), Fail> {
-    let mut count = 0u32;
-    for (_name, mode, text) in UNDER_TWO_MODULES {
-        let setup = format!(in rt.alloc();
-            "version = 1\nillegal_native_access = \"{mode}\"\n{TWO_MODULES}"
-        )?;
-        count = count.saturating_add(refusals_in(rt.alloc(), setup.as_str(), text)?);
+    for (name, mode, text) in UNDER_TWO_MODULES {
+        let (growing, full) = refusals_under(rt.alloc(), mode, text)?;
+        assert!(rt; growing > 0, "in {name}, {mode}");
+        assert_eq!(rt; full, text.lines().count(), "in {name}, {mode}");
     }
-    assert!(rt; count > 0, "no growth is refused");
     Ok(())
 }

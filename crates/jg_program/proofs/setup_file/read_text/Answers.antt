@@ -8,7 +8,7 @@ pub returns-then-told-gt-MAX_BYTES-clause-refused : goal.returns-then-told-gt-MA
 returns-then-told-gt-MAX_BYTES-clause-refused g c = told_long _ _ c.if-told-gt-MAX_BYTES.true
 
 pub returns-in-Err-clause-refused : goal.returns-in-Err-clause-refused
-returns-in-Err-clause-refused g c = failed _ _ _ c.stop_of.ensures
+returns-in-Err-clause-refused g c = failed _ _ _ c.stop_of.ensures.either
 
 pub returns-then-len-gt-MAX_BYTES-clause-refused : goal.returns-then-len-gt-MAX_BYTES-clause-refused
 returns-then-len-gt-MAX_BYTES-clause-refused g c =

@@ -1,0 +1,37 @@
+-- The status that the program ends with, by why it ends, as README lists them.
+use Rattle.jg_args.specs.declared.asked.ArgsFault.{ArgsFault}
+use Rattle.jg_args.specs.declared.asked.ArgsFault.TheVariants.{Help, Refused, NoMemory as NoRoomForWords}
+use Rattle.jg_policy.specs.declared.fault.SetupFault.{SetupFault}
+use Rattle.jg_policy.specs.declared.fault.SetupFault.TheVariants.{NoMemory as NoRoomForSetup}
+use Rattle.jg_script.specs.declared.run_fault.RunFault.{RunFault}
+use Rattle.jg_script.specs.declared.run_fault.RunFault.TheVariants.{Script, Limit, NoMemory, Read, Write}
+use Rattle.jg_program.specs.declared.stop.Status.{Status}
+use Rattle.jg_program.specs.declared.stop.Status.TheVariants.{Done, Differs, Faulty, Exhausted, Device}
+use Rattle.jg_program.specs.declared.stop.Stop.{Stop}
+use Rattle.jg_program.specs.declared.stop.Stop.TheVariants.{Arguments, Setup, SetupRead, Run, Leaks, Mismatch, Worker}
+
+abbrev pub status_of_words : ArgsFault → Status
+status_of_words Help = Done
+status_of_words Refused = Faulty
+status_of_words NoRoomForWords = Exhausted
+
+-- any other fault is one of the setup's text
+abbrev pub status_of_setup : SetupFault → Status
+status_of_setup NoRoomForSetup = Exhausted
+status_of_setup _ = Faulty
+
+abbrev pub status_of_run : RunFault → Status
+status_of_run (Script line fault) = Faulty
+status_of_run (Limit line) = Exhausted
+status_of_run (NoMemory line) = Exhausted
+status_of_run (Read line) = Device
+status_of_run (Write line) = Device
+
+abbrev pub status_of : Stop → Status
+status_of (Arguments fault) = status_of_words fault
+status_of (Setup fault) = status_of_setup fault
+status_of SetupRead = Device
+status_of (Run fault) = status_of_run fault
+status_of Leaks = Exhausted
+status_of (Mismatch thread place) = Differs
+status_of (Worker stop) = Exhausted
