@@ -6,5 +6,6 @@ pub mod Lookups
 pub mod Maps
 pub mod Means
 pub mod Numbers
+pub mod Ordered
 pub mod Pins
 pub mod Steps

@@ -1,6 +1,7 @@
 pub mod History
 pub mod Keys
 pub mod Laws
+pub mod Ordered
 pub mod Rows
 pub mod Seen
 pub mod Standing

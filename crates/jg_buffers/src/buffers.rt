@@ -1,5 +1,6 @@
-ghost use Rattle.std.specs.Prelude.{◌≡◌, ℕ, pos, true, false, ◌<◌, ◌≤◌, ◌++◌, List, [], ◌∷◌, map, length, vec_len, vec_capacity, OnOk, OnErr, option_map, slice_index_or};
+ghost use Rattle.std.specs.Prelude.{◌≡◌, ℕ, pos, true, false, ◌<◌, ◌≤◌, ◌++◌, List, [], ◌∷◌, map, length, vec_len, vec_capacity, OnOk, OnErr, IfOk, option_map, slice_index_or};
 ghost use Rattle.jg_buffers.specs.History.{Event, Opened, Wrote, Closed, is_critical, copy_with, pin_through, opened, content, contents, in_critical, pinned_by, pins_object, info_of, is_null};
+ghost use Rattle.jg_buffers.specs.Ordered.{pins_of, pins_through};
 ghost use Rattle.jg_buffers.specs.Rows.{AddsNumber, IsAbove, KeepsBuffers, KeepsNumbers, name_of, row_of, copy_length, items_in};
 ghost use Rattle.jg_buffers.specs.Standing.{Stands};
 ghost use Rattle.jg_lists.specs.Marks.{Marks};
@@ -10,7 +11,9 @@ use crate::info::Info;
 use crate::maker_counts::{lower_count, raise_count, widen_counts};
 use crate::pinned::{Pinned, ViaKey, family_of_pin, pin_kind, via_key};
 use crate::tally::{Tally, count_of, lower, make_room, raise};
-use crate::visits::{list_copies, list_pins, mark_objects, names_object};
+use crate::visits::{
+    list_copies, list_pins, list_pins_of, list_pins_through, mark_objects, names_object, sort_names,
+};
 use indexmap::IndexMap;
 use jg_lists::by_maker::{ByMaker, add, find, remove};
 use jg_lists::{ByThread, ObjectMarks, Recent, number_at};
@@ -274,5 +277,33 @@ impl<A: Allocator + Clone> Buffers<A> {
     {
         list_copies(&self.copies, buffers)?;
         list_pins(&self.pins, buffers)
+    }
+
+    /// The open pinned buffers that the thread was lent, by number. Takes time by how many there are.
+    /// Fails only for want of memory.
+    pub fn pins_of<B: Allocator>(&self, tid: Tid, alloc: B) -> Result<Vec<BufId, B>, AllocError>
+        ensures { IfOk result (λ buffers. (e : List Event) → Stands self.now e → buffers.items ≡ pins_of e tid.0) }
+    {
+        let mut buffers = Vec::new(alloc);
+        list_pins_of(&self.pins, tid.0, &mut buffers)?;
+        sort_names(&mut buffers);
+        Ok(buffers)
+    }
+
+    /// The open pinned buffers that were opened through the reference, by the thread that was lent
+    /// them and then by number. Takes time by how many pinned buffers are open in all. Fails only for
+    /// want of memory.
+    pub fn pins_through<B: Allocator>(
+        &self,
+        reference: Ref,
+        alloc: B,
+    ) -> Result<Vec<BufId, B>, AllocError>
+        ensures { IfOk result (λ buffers. (e : List Event) → Stands self.now e
+            → buffers.items ≡ pins_through e reference) }
+    {
+        let mut buffers = Vec::new(alloc);
+        list_pins_through(&self.pins, reference, &mut buffers)?;
+        sort_names(&mut buffers);
+        Ok(buffers)
     }
 }

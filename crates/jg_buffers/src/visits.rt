@@ -1,17 +1,20 @@
 //! Passes over all open buffers of one kind. Each visits what is open, and no more.
 
-ghost use Rattle.std.specs.Prelude.{◌≡◌, ◌≤◌, ◌==◌, ◌++◌, OnOk, OnErr, map, vec_len, vec_capacity};
+ghost use Rattle.std.specs.Prelude.{◌≡◌, ◌≤◌, ◌==◌, ◌++◌, IsPermutation, IsSortedByKey, OnOk, OnErr, filter, map, vec_len, vec_capacity};
 ghost use Rattle.std.specs.List.{list_any};
 ghost use Rattle.indexmap.specs.IndexMap.{keys};
 ghost use Rattle.jg_lists.specs.ByMaker.{named};
 ghost use Rattle.jg_lists.specs.Marks.{Marks};
+ghost use Rattle.jg_buffers.specs.History.{kind_number, same_ref};
+ghost use Rattle.jg_buffers.specs.Keys.{pair_cmp};
+ghost use Rattle.jg_buffers.specs.Ordered.{buffer_key};
 ghost use Rattle.jg_buffers.specs.Seen.{key_name};
 
 use crate::copied::Copies;
 use crate::pinned::Pinned;
 use jg_lists::by_maker::ByMaker;
 use jg_lists::{ByNumber, Numbered, ObjectMarks};
-use jg_words::{BufId, Tid};
+use jg_words::{BufId, Kind, Ref, Tid};
 use std::alloc::{AllocError, Allocator};
 
 fn some_pins(numbers: &[Numbered<Pinned>], object: u64) -> bool
@@ -129,4 +132,105 @@ pub fn list_pins<A: Allocator, B: Allocator>(
         list_in(&table.value, table.number as u16, buffers)?;
     }
     Ok(())
+}
+
+/// Appends the pinned buffers that the thread was lent.
+pub fn list_pins_of<A: Allocator, B: Allocator>(
+    pins: &ByMaker<Pinned, A>,
+    maker: u16,
+    buffers: &mut Vec<BufId, B>,
+) -> Result<(), AllocError>
+    ensures { OnOk result (buffers.new.items
+        ≡ buffers.old.items ++ map (λ e. key_name e.0) (filter (λ e. e.0.0 == maker) (named pins.now))) }
+{
+    match pins.get(maker) {
+        None => Ok(()),
+        Some(numbers) => list_in(numbers, maker, buffers),
+    }
+}
+
+fn is_same_kind(first: Kind, second: Kind) -> bool
+    ensures { result ≡ (kind_number first == kind_number second) }
+{
+    match (first, second) {
+        (Kind::Local, Kind::Local) => true,
+        (Kind::Global, Kind::Global) => true,
+        (Kind::Weak, Kind::Weak) => true,
+        _ => false,
+    }
+}
+
+/// Whether the two are one reference.
+fn is_same_ref(first: Ref, second: Ref) -> bool
+    ensures { result ≡ same_ref first second }
+{
+    match first {
+        Ref::Null => match second {
+            Ref::Null => true,
+            Ref::To { .. } => false,
+        },
+        Ref::To { kind, maker, n } => match second {
+            Ref::Null => false,
+            Ref::To {
+                kind: other_kind,
+                maker: other_maker,
+                n: other_n,
+            } => is_same_kind(kind, other_kind) && maker.0 == other_maker.0 && n == other_n,
+        },
+    }
+}
+
+fn list_numbers_through<B: Allocator>(
+    numbers: &[Numbered<Pinned>],
+    maker: u16,
+    via: Ref,
+    buffers: &mut Vec<BufId, B>,
+) -> Result<(), AllocError>
+    ensures { OnOk result (buffers.new.items ≡ buffers.old.items
+        ++ map (λ seat. key_name (maker, seat.number)) (filter (λ seat. same_ref seat.value.via via) numbers.now)) }
+{
+    for seat in numbers {
+        if is_same_ref(seat.value.via, via) {
+            buffers.push(BufId {
+                maker: Tid(maker),
+                n: seat.number,
+            })?;
+        }
+    }
+    Ok(())
+}
+
+fn list_in_through<A: Allocator, B: Allocator>(
+    numbers: &ByNumber<Pinned, A>,
+    maker: u16,
+    via: Ref,
+    buffers: &mut Vec<BufId, B>,
+) -> Result<(), AllocError>
+    ensures { OnOk result (buffers.new.items ≡ buffers.old.items
+        ++ map (λ e. key_name (maker, e.0)) (filter (λ e. same_ref e.1.via via) numbers.now)) }
+{
+    list_numbers_through(numbers.seats(), maker, via, buffers)
+}
+
+/// Appends the pinned buffers that were opened through the reference.
+pub fn list_pins_through<A: Allocator, B: Allocator>(
+    pins: &ByMaker<Pinned, A>,
+    via: Ref,
+    buffers: &mut Vec<BufId, B>,
+) -> Result<(), AllocError>
+    ensures { OnOk result (buffers.new.items
+        ≡ buffers.old.items ++ map (λ e. key_name e.0) (filter (λ e. same_ref e.1.via via) (named pins.now))) }
+{
+    for table in pins.seats() {
+        list_in_through(&table.value, table.number as u16, via, buffers)?;
+    }
+    Ok(())
+}
+
+/// Puts the buffers in order: by the thread that was lent them, and then by number.
+pub fn sort_names<B: Allocator>(buffers: &mut Vec<BufId, B>)
+    ensures same { IsPermutation buffers.old.items buffers.new.items }
+    ensures ascends { IsSortedByKey buffer_key pair_cmp buffers.new.items }
+{
+    buffers.sort_unstable_by_key(|buffer| (buffer.maker.0, buffer.n));
 }

@@ -3,6 +3,7 @@ ghost use Rattle.std.specs.Option.{option_copied};
 ghost use Rattle.jg_rules.specs.Legal.{Legal};
 ghost use Rattle.jg_rules.specs.Effects.{parts};
 ghost use Rattle.jg_rules.specs.Rules.{verdict};
+ghost use Rattle.jg_rules.specs.View.{ViewStands};
 ghost use Rattle.jg_guard.specs.Cleaning.{MayWant, cleans_up};
 ghost use Rattle.jg_guard.specs.Guard.{Takes, Unchanged};
 ghost use Rattle.jg_guard.specs.Places.{TouchesByLiveReference, TouchesWhatIsThere, LiveIsThere, PinsLive, OwnersAreOne, ReferenceIsNew, DeadStaysDead, LegalWithoutDenied};
@@ -22,7 +23,7 @@ use jg_heap::Heap;
 use jg_locals::Locals;
 use jg_monitors::Monitors;
 use jg_policy::{Links, Setup};
-use jg_rules::first_broken;
+use jg_rules::{View, first_broken};
 use jg_threads::Threads;
 use jg_words::{Call, Entry, EnvId, Outcome, Reply, Rule, Tid};
 use std::alloc::{AllocError, Allocator, Global};
@@ -124,6 +125,14 @@ impl<A: Allocator + Clone> Guard<A> {
         ensures { result ≡ verdict self.now.setup (parts self.now.setup self.now.journal) tid.0 env call.now }
     {
         first_broken(&self.tables.view(&self.setup), tid, env, call)
+    }
+
+    /// The setup and the tables, lent to be asked what holds after the journal.
+    pub fn view(&self) -> View<'_, A>
+        ensures setup { result.setup.now ≡ self.now.setup }
+        ensures stands { ViewStands result (parts self.now.setup self.now.journal) }
+    {
+        self.tables.view(&self.setup)
     }
 
     /// Judges the call, does it if it breaks no rule, and journals it. `tid` is the thread that

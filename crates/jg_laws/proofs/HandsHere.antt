@@ -167,7 +167,7 @@ delete_makes_none (To Local maker n) = refl
 delete_makes_none (To Global maker n) = refl
 delete_makes_none (To Weak maker n) = refl
 
-call_makes_none : (s : StatedSetup) (p : Parts) (t : ℕ) (call : Call) → make_none (call_locals s p t call) ≡ true
+pub call_makes_none : (s : StatedSetup) (p : Parts) (t : ℕ) (call : Call) → make_none (call_locals s p t call) ≡ true
 call_makes_none s p t (Vm AttachCurrentThread) = start_makes_none (threads.attached (threads.acts_of t p.threads))
 call_makes_none s p t (Vm DetachCurrentThread) = refl
 call_makes_none s p t (Vm GetEnv) = refl

@@ -28,7 +28,7 @@ kept_if true false z l o is = absurd cc
 kept_if false y z l o is = absurd cc
 
 -- a local that is live after one act more was so before, unless the act made it
-seen_still : (n o : ℕ) (a : Act) (found : Option Making) → object_of (local_if_live n (seen_after a found)) ≡ Some o → object_of (local_if_live n found) ≡ Some o
+pub seen_still : (n o : ℕ) (a : Act) (found : Option Making) → object_of (local_if_live n (seen_after a found)) ≡ Some o → object_of (local_if_live n found) ≡ Some o
 seen_still n o a None is = absurd cc
 seen_still n o a (Some m) is =
     kept_if (survives n m.later) (not (ends n a))
@@ -38,7 +38,7 @@ abbrev pub is_make : Act → Bool
 is_make (Make n o) = true
 is_make a = false
 
-live_still : (n o : ℕ) (a : Act) (acts : List Act) → is_make a ≡ false → live n (a ∷ acts) ≡ Some o → live n acts ≡ Some o
+pub live_still : (n o : ℕ) (a : Act) (acts : List Act) → is_make a ≡ false → live n (a ∷ acts) ≡ Some o → live n acts ≡ Some o
 live_still n o Start acts quiet is = seen_still n o Start (making n acts) is
 live_still n o (Make m p) acts quiet is = absurd cc
 live_still n o (Push room) acts quiet is = seen_still n o (Push room) (making n acts) is

@@ -141,7 +141,7 @@ clears_none : (objects : List ℕ) → make_no_global (map (λ o. globals.Clear 
 clears_none [] = refl
 clears_none (o ∷ objects) = clears_none objects
 
-makes_none : (s : StatedSetup) (p : Parts) (t : ℕ) (call : Call) → make_no_global (call_globals s p t call) ≡ true
+pub makes_none : (s : StatedSetup) (p : Parts) (t : ℕ) (call : Call) → make_no_global (call_globals s p t call) ≡ true
 makes_none s p t (Vm AttachCurrentThread) = refl
 makes_none s p t (Vm DetachCurrentThread) = refl
 makes_none s p t (Vm GetEnv) = refl

@@ -1,12 +1,12 @@
 -- What is kept at a class's number is what the setup states there.
-use Rattle.std.proofs.Common.{◌≡◌, ℕ, ◌+◌, ◌-◌, ◌≤◌, nat_lt, zero, suc, false, List, [], ◌∷◌, length, map, Some, None, slice_get, position, String, Global, string_bytes, refl, ap, ◌∙◌, sym, arith}
+use Rattle.std.proofs.Common.{◌≡◌, ℕ, ◌+◌, ◌-◌, ◌<◌, ◌≤◌, nat_lt, zero, suc, false, List, [], ◌∷◌, ◌++◌, length, map, Some, None, slice_get, position, String, Global, string_bytes, refl, ap, ◌∙◌, sym, arith}
 use Rattle.std.proofs.lemmas.Bool.Decides.{nat_tests}
 use Rattle.std.specs.Option.{option_map}
 use Rattle.std.specs.Str.{bytes_eq}
 use Rattle.jg_policy.specs.declared.class.Class.{Class}
 use Rattle.jg_policy.specs.BaseClasses.{base_names}
 use Rattle.jg_policy.specs.Stated.{StatedClass, StatedSetup, class_names}
-use Rattle.jg_policy.specs.Classes.{class_at, class_named}
+use Rattle.jg_policy.specs.Classes.{class_at, class_name_of, class_named, module_name_of}
 use Rattle.jg_policy.specs.Kept.{class_view}
 use Rattle.jg_policy.proofs.Places.{position-append, position-map}
 
@@ -34,6 +34,50 @@ module _ (s : StatedSetup) (es : Entries) (kept : map class_view es ≡ s.classe
 count_base : length base_names ≡ 15
 unfolding base_names
 count_base = refl
+
+get_front : {A : Type 0} (xs ys : List A) (i : ℕ) → i < length xs → slice_get (xs ++ ys) i ≡ slice_get xs i
+get_front [] ys i low = absurd (omega (arith, low))
+get_front (x ∷ xs) ys zero low = refl
+get_front (x ∷ xs) ys (suc i) low = get_front xs ys i (omega (arith, low))
+
+get_back : {A : Type 0} (xs ys : List A) (i : ℕ) → length xs ≤ i → slice_get (xs ++ ys) i ≡ slice_get ys (i - length xs)
+get_back [] ys i high = let same : i ≡ i - 0 = omega arith in ap (slice_get ys) same
+get_back (x ∷ xs) ys zero high = absurd (omega (arith, high))
+get_back (x ∷ xs) ys (suc i) high =
+    let same : i - length xs ≡ suc i - length (x ∷ xs) = omega arith in
+    get_back xs ys i (omega (arith, high)) ∙ ap (slice_get ys) same
+
+-- the names of classes by number
+pub name_of_base : (s : StatedSetup) (class : ℕ) → class < 15 → class_name_of s class ≡ slice_get base_names class
+name_of_base s class low = get_front base_names (class_names s) class (omega (arith, low, count_base))
+
+module _ (s : StatedSetup) (es : Entries) (kept : map class_view es ≡ s.classes) (class : ℕ) (above : 15 ≤ class) where
+  stated_kept : slice_get s.classes (class - 15) ≡ option_map class_view (slice_get es (class - 15))
+  stated_kept = ap (λ l. slice_get l (class - 15)) (sym kept) ∙ slice_get-map class_view es (class - 15)
+
+  name_kept : class_name_of s class ≡ option_map (λ (c : StatedClass). c.name) (option_map class_view (slice_get es (class - 15)))
+  name_kept =
+      get_back base_names (class_names s) class (omega (arith, above, count_base))
+      ∙ ap (λ n. slice_get (class_names s) (class - n)) count_base
+      ∙ slice_get-map (λ (c : StatedClass). c.name) s.classes (class - 15)
+      ∙ ap (option_map (λ (c : StatedClass). c.name)) stated_kept
+
+  pub name_found : (e : String Global × Class) → Some e ≡ slice_get es (class - 15) → class_name_of s class ≡ Some (string_bytes e.0)
+  name_found e there = name_kept ∙ ap (λ found. option_map (λ (c : StatedClass). c.name) (option_map class_view found)) (sym there)
+
+  pub name_absent : None ≡ slice_get es (class - 15) → class_name_of s class ≡ None
+  name_absent there = name_kept ∙ ap (λ found. option_map (λ (c : StatedClass). c.name) (option_map class_view found)) (sym there)
+
+  module_kept : module_name_of s class ≡ option_map (λ (c : StatedClass). c.module_name) (option_map class_view (slice_get es (class - 15)))
+  module_kept =
+      let is : nat_lt class 15 ≡ false = grind (arith, nat_tests) in
+      rw is (ap (option_map (λ (c : StatedClass). c.module_name)) stated_kept)
+
+  pub module_found : (e : String Global × Class) → Some e ≡ slice_get es (class - 15) → module_name_of s class ≡ Some (string_bytes e.1.module_name)
+  module_found e there = module_kept ∙ ap (λ found. option_map (λ (c : StatedClass). c.module_name) (option_map class_view found)) (sym there)
+
+  pub module_absent : None ≡ slice_get es (class - 15) → module_name_of s class ≡ None
+  module_absent there = module_kept ∙ ap (λ found. option_map (λ (c : StatedClass). c.module_name) (option_map class_view found)) (sym there)
 
 module _ (s : StatedSetup) (name : List ℕ) where
   pub named_base : (base : ℕ) → Some base ≡ position (bytes_eq name) base_names → Some base ≡ class_named s name

@@ -1,5 +1,5 @@
 //! The classes that every setup has.
-ghost use Rattle.std.specs.Prelude.{◌≡◌, ◌<◌, IfSome, position};
+ghost use Rattle.std.specs.Prelude.{◌≡◌, ◌<◌, IfSome, map, position, option_map, slice_get};
 ghost use Rattle.std.specs.Str.{bytes_eq};
 ghost use Rattle.jg_policy.specs.BaseClasses.{base_names};
 
@@ -31,6 +31,23 @@ pub(crate) fn base_class(name: &str) -> Option<usize>
     ensures within { IfSome result (λ number. number < 15) }
 {
     place_of(&BASE_CLASSES, name)
+}
+
+/// The name of the base class of a number, if there is such a class.
+pub(crate) fn base_name(number: usize) -> Option<&'static str>
+    ensures { option_map (λ name. name.now) result ≡ slice_get base_names number }
+{
+    name_at(&BASE_CLASSES, number)
+}
+
+fn name_at(names: &[&'static str], number: usize) -> Option<&'static str>
+    ensures { option_map (λ name. name.now) result ≡ slice_get (map (λ known. known.now) names.now) number }
+{
+    if number < names.len() {
+        Some(names[number])
+    } else {
+        None
+    }
 }
 
 fn place_of(names: &[&str], name: &str) -> Option<usize>

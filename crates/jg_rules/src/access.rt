@@ -33,7 +33,8 @@ fn class_asked_by_vm<A: Allocator + Clone>(
     }
 }
 
-fn class_asked<A: Allocator + Clone>(view: &View<'_, A>, tid: Tid, call: &Call) -> Option<u32>
+/// The class that the call asks for native access with, if it asks for it.
+pub fn class_asked<A: Allocator + Clone>(view: &View<'_, A>, tid: Tid, call: &Call) -> Option<u32>
     ensures { (p : Parts) → ViewStands view.now p → result ≡ native_class view.now.setup.now p tid.0 call.now }
 {
     match call {

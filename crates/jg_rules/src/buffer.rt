@@ -11,7 +11,7 @@ ghost use Rattle.jg_rules.specs.View.{ViewStands};
 use crate::object::class_of;
 use crate::view::View;
 use jg_buffers::{Family, Info};
-use jg_words::{BufId, Primitive, Tid};
+use jg_words::{BufId, ObjId, Primitive, Tid};
 use std::alloc::Allocator;
 
 /// The open buffer of that name, if there is one.
@@ -23,7 +23,7 @@ pub fn buffer_named<A: Allocator + Clone>(view: &View<'_, A>, buffer: BufId) -> 
 }
 
 /// Two families are one where their numbers are equal.
-pub(crate) fn family_number(family: Family) -> u8
+fn family_number(family: Family) -> u8
     ensures { result ≡ buffers_of.family_number family }
 {
     match family {
@@ -40,6 +40,23 @@ pub(crate) fn family_number(family: Family) -> u8
     }
 }
 
+/// Whether it was lent by a function of the family.
+pub fn is_of_family(family: Family, info: Info) -> bool
+    ensures { result ≡ buffers_of.is_of_family family info }
+{
+    family_number(info.family) == family_number(family)
+}
+
+/// Whether it is of that object. Where there is none, any buffer is.
+pub fn is_of_object(object: Option<ObjId>, info: Info) -> bool
+    ensures { result ≡ buffers_of.is_of_object (option_map (λ o. o.0) object) info }
+{
+    match object {
+        None => true,
+        Some(object) => info.object.0 == object.0,
+    }
+}
+
 fn is_critical(family: Family) -> bool
     ensures { result ≡ is_pinning family }
 {
@@ -53,14 +70,14 @@ fn is_critical(family: Family) -> bool
 }
 
 /// Whether it is a critical buffer that another thread was lent.
-pub(crate) fn is_anothers(tid: Tid, info: Info) -> bool
+pub fn is_anothers(tid: Tid, info: Info) -> bool
     ensures { result ≡ buffers_of.is_anothers tid.0 info }
 {
     is_critical(info.family) && info.maker.0 != tid.0
 }
 
 /// Whether its items are those of an array, and may be written.
-pub(crate) fn is_of_array(family: Family) -> bool
+pub fn is_of_array(family: Family) -> bool
     ensures { result ≡ buffers_of.is_of_array family }
 {
     match family {
@@ -88,7 +105,7 @@ fn element_of(class: u32) -> Option<Primitive>
 }
 
 /// The type of the buffer's items, where they may be written.
-pub(crate) fn item_type<A: Allocator + Clone>(view: &View<'_, A>, info: Info) -> Option<Primitive>
+pub fn item_type<A: Allocator + Clone>(view: &View<'_, A>, info: Info) -> Option<Primitive>
     ensures { (p : Parts) → ViewStands view.now p
         → result ≡ buffers_of.item_type view.now.setup.now p info info.family }
 {
@@ -102,7 +119,7 @@ pub(crate) fn item_type<A: Allocator + Clone>(view: &View<'_, A>, info: Info) ->
 }
 
 /// Whether it is the place of one of so many items, counted from 0.
-pub(crate) fn is_place(index: i32, length: u64) -> bool
+pub fn is_place(index: i32, length: u64) -> bool
     ensures { result ≡ buffers_of.is_place index length }
 {
     0 <= index && (index as u64) < length

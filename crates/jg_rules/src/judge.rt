@@ -21,10 +21,14 @@ use arrays::judge_arrays;
 use buffers::judge_buffers;
 use frames::judge_frames;
 use jg_words::{Call, EnvId, Rule, Tid, VmCall};
+pub use monitors::is_not_the_owner;
 use monitors::judge_monitors;
+pub use numbers::fits;
+pub use objects::is_field_of_type;
 use objects::judge_objects;
 use pinned::judge_refs;
 use references::judge_references;
+pub use references::{is_foreign_local, is_wrong_object};
 use std::alloc::Allocator;
 use strings::judge_strings;
 use vm::judge_vm;
@@ -75,7 +79,7 @@ fn judge_group<A: Allocator + Clone>(view: &View<'_, A>, tid: Tid, call: &Call) 
 }
 
 /// Whether the virtual machine itself makes the call.
-fn is_of_machine(call: &Call) -> bool
+pub fn is_of_machine(call: &Call) -> bool
     ensures { result ≡ is_machine call.now }
 {
     match call {
@@ -84,7 +88,9 @@ fn is_of_machine(call: &Call) -> bool
     }
 }
 
-fn is_wrong_caller(tid: Tid, is_of_machine: bool) -> bool
+/// Whether the thread may not make such a call: thread 0 stands for the virtual machine, which makes
+/// its own calls and no others.
+pub fn is_wrong_caller(tid: Tid, is_of_machine: bool) -> bool
     ensures { result ≡ wrong_caller tid.0 is_of_machine }
 {
     if is_of_machine {

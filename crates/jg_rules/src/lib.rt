@@ -11,10 +11,15 @@ mod object;
 mod operand;
 mod view;
 
-pub use access::{home_named, is_warned_use};
+pub use access::{class_asked, home_named, is_warned_use};
 pub use answer::Answer;
-pub use buffer::buffer_named;
-pub use judge::first_broken;
+pub use buffer::{
+    buffer_named, is_anothers, is_of_array, is_of_family, is_of_object, is_place, item_type,
+};
+pub use judge::{
+    first_broken, fits, is_field_of_type, is_foreign_local, is_not_the_owner, is_of_machine,
+    is_wrong_caller, is_wrong_object,
+};
 pub use named::{Named, class_meant, field_meant, look_up, native_meant, object_named, the_object};
 pub use object::{class_of, field_of, items_of, length_of, slot_of, slot_place_of, units_of};
 pub use operand::{ObjectType, Operand, Operands, operands_of};

@@ -17,11 +17,11 @@ mod word;
 mod write;
 
 pub use begun::{front_of_call, read_begun};
-pub use digits::push_number;
+pub use digits::{push_number, push_signed};
 pub use fault::ScriptFault;
 pub use meanings::{
     begins_with_one_call, call_is_short, entry_is_one_line, spelt_at_most_once, spelt_has_no_fault,
 };
 pub use read::{MAX_LINE, read_call};
-pub use word::{push_buf, push_ref, push_tid};
+pub use word::{push_buf, push_env, push_field, push_ref, push_tid};
 pub use write::{push_answer, push_entry, write_entry};

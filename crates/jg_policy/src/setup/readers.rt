@@ -5,11 +5,11 @@ ghost use Rattle.std.specs.Option.{option_map};
 ghost use Rattle.std.specs.Str.{bytes_eq};
 ghost use Rattle.jg_policy.specs.Stated.{class_count};
 ghost use Rattle.jg_policy.specs.Access.{access_of};
-ghost use Rattle.jg_policy.specs.Classes.{class_named, is_throwable, module_of, member_named, field_named, native_named, member_type, field_type, class_at, fields_in};
+ghost use Rattle.jg_policy.specs.Classes.{class_named, is_throwable, class_name_of, module_name_of, module_of, member_named, field_named, native_named, member_type, field_type, class_at, fields_in};
 ghost use Rattle.jg_policy.specs.Kept.{member_view};
 
 use crate::access::{Access, Operation};
-use crate::base::{BASE_COUNT, base_class};
+use crate::base::{BASE_COUNT, base_class, base_name};
 use crate::class::Member;
 use crate::setup::Setup;
 use jg_words::{FieldId, Name};
@@ -37,6 +37,19 @@ impl Setup {
         }
     }
 
+    /// The name of the class of a number; none where the number is that of no class.
+    pub fn class_name(&self, class: u32) -> Option<&str>
+        ensures { option_map (λ name. name.now) result ≡ class_name_of self.now class }
+    {
+        if class < BASE_COUNT {
+            return base_name(class as usize);
+        }
+        match self.classes.get_index((class - BASE_COUNT) as usize) {
+            None => None,
+            Some((name, _)) => Some(name.as_str()),
+        }
+    }
+
     /// Whether the class's objects can be thrown.
     pub fn is_throwable(&self, class: u32) -> bool
         ensures { result ≡ is_throwable self.now class }
@@ -61,6 +74,19 @@ impl Setup {
         match self.settled.get((class - BASE_COUNT) as usize) {
             None => None,
             Some(settled) => Some(settled.home),
+        }
+    }
+
+    /// The name of the class's module; none where the number is that of no class.
+    pub fn module_name(&self, class: u32) -> Option<&str>
+        ensures { option_map (λ name. name.now) result ≡ module_name_of self.now class }
+    {
+        if class < BASE_COUNT {
+            return Some("java.base");
+        }
+        match self.classes.get_index((class - BASE_COUNT) as usize) {
+            None => None,
+            Some((_, found)) => Some(found.module_name.as_str()),
         }
     }
 

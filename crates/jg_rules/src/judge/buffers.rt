@@ -1,5 +1,4 @@
 ghost use Rattle.std.specs.Prelude.{◌≡◌};
-ghost use Rattle.std.specs.Option.{option_map};
 ghost use Rattle.jg_words.specs.declared.call.Call.TheVariants.{Buffers};
 ghost use Rattle.jg_rules.specs.Buffers as buffers_of;
 ghost use Rattle.jg_rules.specs.Parts.{Parts};
@@ -8,21 +7,14 @@ ghost use Rattle.jg_rules.specs.Rules.{buffers_bad_buffer, buffers_bad_argument,
 ghost use Rattle.jg_rules.specs.View.{ViewStands};
 
 use super::numbers::fits;
-use crate::buffer::{buffer_named, family_number, is_anothers, is_of_array, is_place, item_type};
+use crate::buffer::{
+    buffer_named, is_anothers, is_of_array, is_of_family, is_of_object, is_place, item_type,
+};
 use crate::named::object_named;
 use crate::view::View;
 use jg_buffers::{Family, Info};
-use jg_words::{BufId, BuffersCall, ObjId, Primitive, Ref, Rule, Tid};
+use jg_words::{BufId, BuffersCall, Primitive, Ref, Rule, Tid};
 use std::alloc::Allocator;
-
-fn is_of_object(object: Option<ObjId>, info: Info) -> bool
-    ensures { result ≡ buffers_of.is_of_object (option_map (λ o. o.0) object) info }
-{
-    match object {
-        None => true,
-        Some(object) => info.object.0 == object.0,
-    }
-}
 
 fn is_releasable<A: Allocator + Clone>(
     view: &View<'_, A>,
@@ -37,7 +29,7 @@ fn is_releasable<A: Allocator + Clone>(
         None => false,
         Some(info) => {
             let is_own = is_of_object(object_named(view, tid, object), info);
-            family_number(info.family) == family_number(family) && is_own && !is_anothers(tid, info)
+            is_of_family(family, info) && is_own && !is_anothers(tid, info)
         }
     }
 }

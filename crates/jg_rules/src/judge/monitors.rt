@@ -10,7 +10,7 @@ use jg_words::{MonitorsCall, ObjId, Rule, Tid};
 use std::alloc::Allocator;
 
 /// Whether the object's monitor is another thread's, or free.
-fn is_not_the_owner<A: Allocator + Clone>(
+pub fn is_not_the_owner<A: Allocator + Clone>(
     view: &View<'_, A>,
     tid: Tid,
     object: Option<ObjId>,

@@ -18,7 +18,7 @@ pub(crate) fn is_too_long(length: i32) -> bool
 }
 
 /// Whether a field of the type, or an array or a string of such items, can hold the number.
-pub(crate) fn fits(element: Primitive, item: i64) -> bool
+pub fn fits(element: Primitive, item: i64) -> bool
     ensures { result ≡ is_value_of element item }
 {
     match element {

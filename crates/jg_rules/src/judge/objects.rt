@@ -28,7 +28,7 @@ fn type_letter(primitive: Primitive) -> &'static str
 }
 
 /// Whether a field of that type is of the primitive type, or of a class where none is wanted.
-fn is_of_type(wanted: Option<Primitive>, signature: &str) -> bool
+pub fn is_field_of_type(wanted: Option<Primitive>, signature: &str) -> bool
     ensures { result ≡ is_field_type wanted signature.now }
 {
     match wanted {
@@ -43,7 +43,7 @@ fn is_stated(wanted: Option<Primitive>, signature: Option<&str>) -> bool
 {
     match signature {
         None => false,
-        Some(signature) => is_of_type(wanted, signature),
+        Some(signature) => is_field_of_type(wanted, signature),
     }
 }
 

@@ -21,7 +21,8 @@ const STRING_CLASS: u32 = 2;
 
 const OBJECT_ARRAY_CLASS: u32 = 3;
 
-fn is_foreign_local(tid: Tid, reference: Ref) -> bool
+/// Whether it is a local reference that another thread was handed.
+pub fn is_foreign_local(tid: Tid, reference: Ref) -> bool
     ensures { result ≡ is_foreign tid.0 reference }
 {
     match reference {
@@ -87,7 +88,8 @@ fn is_object_of<A: Allocator + Clone>(
     }
 }
 
-fn is_wrong_object<A: Allocator + Clone>(
+/// Whether it is an object, and not of the type.
+pub fn is_wrong_object<A: Allocator + Clone>(
     view: &View<'_, A>,
     object_type: ObjectType,
     named: Named,
