@@ -1,0 +1,5 @@
+pub mod Breaches
+pub mod Causes
+pub mod Conditions
+pub mod Laws
+pub mod Turns
