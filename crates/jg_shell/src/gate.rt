@@ -27,43 +27,54 @@ impl Gate for OpenGate {
     fn after(&self, _receipt: &Receipt) {}
 }
 
-/// A gate at which workers begin together: none makes its first call before all of them have come, so
-/// that their calls take turns. Before a busy MonitorEnter is made again, it lets other threads go on.
+/// A gate at which workers begin together: none makes its first call before all have come, nor its
+/// second before all have made their first, so that their calls take turns. Before a busy MonitorEnter is
+/// made again, it lets other threads go on.
 #[derive(Drop)]
 pub struct Meeting {
     workers: usize,
     looks: u32,
     come: AtomicUsize,
+    /// How many calls were made, up to the number of the workers.
+    made: AtomicUsize,
     gone_on: AtomicUsize,
 }
 
 impl Meeting {
-    /// A meeting of so many workers. A worker looks at most `looks` times whether all have come, and
-    /// yields after each look. Then it goes on without the others: one whose thread couldn't be made
-    /// runs after another one, and comes too late.
+    /// A meeting of so many workers. A worker looks at most `looks` times whether all have come, or have
+    /// made a call, and yields after each look. Then it goes on without the others: one whose thread
+    /// couldn't be made runs after another one, and comes too late.
     pub fn new(workers: usize, looks: u32) -> Meeting {
         Meeting {
             workers,
             looks,
             come: AtomicUsize::new(0),
+            made: AtomicUsize::new(0),
             gone_on: AtomicUsize::new(0),
         }
     }
 
-    /// How many workers went on without the others.
+    /// How many workers made their first call without the others.
     pub fn gone_on(&self) -> usize {
         self.gone_on.load(Ordering::SeqCst)
     }
 
-    fn meet(&self) {
-        self.come.fetch_add(1, Ordering::SeqCst);
+    /// Whether the count comes to that of the workers within so many looks.
+    fn is_reached(&self, count: &AtomicUsize) -> bool {
         for _ in 0..self.looks {
-            if self.come.load(Ordering::SeqCst) >= self.workers {
-                return;
+            if count.load(Ordering::SeqCst) >= self.workers {
+                return true;
             }
             thread::yield_now();
         }
-        self.gone_on.fetch_add(1, Ordering::SeqCst);
+        false
+    }
+
+    fn meet(&self) {
+        self.come.fetch_add(1, Ordering::SeqCst);
+        if !self.is_reached(&self.come) {
+            self.gone_on.fetch_add(1, Ordering::SeqCst);
+        }
     }
 }
 
@@ -73,8 +84,14 @@ impl Gate for Meeting {
             thread::yield_now();
         } else if line == 1 {
             self.meet();
+        } else if line == 2 {
+            let _in_time = self.is_reached(&self.made);
         }
     }
 
-    fn after(&self, _receipt: &Receipt) {}
+    fn after(&self, _receipt: &Receipt) {
+        if self.made.load(Ordering::SeqCst) < self.workers {
+            self.made.fetch_add(1, Ordering::SeqCst);
+        }
+    }
 }
