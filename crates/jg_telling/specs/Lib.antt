@@ -1,0 +1,4 @@
+pub mod Breaches
+pub mod Moments
+pub mod Sentences
+pub mod Words
