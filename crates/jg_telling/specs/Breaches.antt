@@ -1,5 +1,5 @@
 -- In which way a call breaks a rule, as it is told.
-use Rattle.std.specs.Prelude.{ℕ, ℤ, pos, List, [], ◌∷◌, ◌++◌, codes, Option, Some, None}
+use Rattle.std.specs.Prelude.{ℕ, ℤ, List, [], ◌++◌, codes, Option, Some, None}
 use Rattle.std.specs.Fmt.{decimal, signed_decimal}
 use Rattle.jg_words.specs.Call.{fun_of}
 use Rattle.jg_words.specs.Fun.{name_of, buffers_name}

@@ -4,11 +4,10 @@ use Rattle.jg_words.specs.declared.object.Primitive.{Primitive}
 use Rattle.jg_words.specs.declared.object.Primitive.TheVariants.{Boolean, Byte, Char, Short, Int, Long}
 use Rattle.jg_words.specs.declared.fun.buffers.BuffersFun.{BuffersFun}
 use Rattle.jg_words.specs.declared.fun.buffers.BuffersFun.TheVariants.{GetArrayElements, GetStringChars, GetStringUTFChars, GetPrimitiveArrayCritical, GetStringCritical}
-use Rattle.jg_words.specs.Fun.{buffers_name}
 use Rattle.jg_buffers.specs.declared.family.Family.{Family}
 use Rattle.jg_buffers.specs.declared.family.Family.TheVariants.{Elements, Chars, UtfChars, ArrayCritical, StringCritical}
 use Rattle.jg_policy.specs.Stated.{StatedSetup}
-use Rattle.jg_policy.specs.Classes.{class_name_of, module_name_of, field_type}
+use Rattle.jg_policy.specs.Classes.{class_name_of, module_name_of}
 use Rattle.jg_policy.specs.declared.access.Operation.{Operation}
 use Rattle.jg_policy.specs.declared.access.Operation.TheVariants.{Load, Register, Link}
 use Rattle.jg_rules.specs.declared.operand.ObjectType.{ObjectType}

@@ -1,5 +1,8 @@
 //! Why a call was denied, in words: what the rule says and what helps, in which way the call breaks it,
 //! and at which entries that came to be so.
+//!
+//! Each `push_..` writes its text behind what `out` holds. Where memory is refused it answers `AllocError`, and a front
+//! of the text may stand there.
 #![tactic(auto)]
 
 mod breaches;
