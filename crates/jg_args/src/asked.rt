@@ -1,6 +1,6 @@
 use thiserror::Error;
 
-/// The greatest number that `--limit` and `--turns` take.
+/// The greatest number that `--limit`, `--explain` and `--turns` take.
 pub const MAX_NUMBER: u32 = 1_000_000;
 
 /// Why the words of a command line ask for nothing.
@@ -38,6 +38,10 @@ pub struct Asked<'a> {
     pub setup: Option<&'a str>,
     /// The most calls that the guard journals: 0 to 1,000,000, and 1,000,000 where none is given.
     pub limit: u32,
+    /// How many denials are explained, from the first on: 0 to 1,000,000, and 0 where none is given.
+    pub explain: u32,
+    /// Whether a denied call ends the program with a status of its own.
+    pub strict: bool,
     /// How often a worker tries to enter a busy monitor: 1 to 1,000,000, and 1,000 where none is
     /// given.
     pub turns: u32,

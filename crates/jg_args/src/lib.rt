@@ -3,7 +3,9 @@
 #![tactic(auto)]
 
 mod asked;
+mod refused;
 mod words;
 
 pub use asked::{ArgsFault, Asked, MAX_NUMBER, Task};
+pub use refused::refused_word;
 pub use words::{VERSION, help_text, read_words};

@@ -10,10 +10,10 @@ use std::alloc::{AllocError, Global};
 const DEFAULT_TURNS: u32 = 1000;
 
 /// The program's version.
-pub const VERSION: &str = "0.1.0";
+pub const VERSION: &str = "0.2.0";
 
 const STATUSES: &str =
-    "Exit status: 0 done, 1 the journal differs, 2 faulty script, setup or arguments, 3 limit met or no memory, 4 reading or writing failed.";
+    "Exit status: 0 done, 1 the journal differs, 2 faulty script, setup or arguments, 3 limit met or no memory, 4 reading or writing failed, 5 done, and a call was denied (with --strict).";
 
 fn setup_arg<'a>(alloc: Global) -> Arg<'a> {
     Arg::new(alloc, "setup")
@@ -37,6 +37,21 @@ fn limit_arg<'a>(alloc: Global) -> Arg<'a> {
         .help("journals at most N calls, 0 to 1000000 [default: 1000000]")
 }
 
+fn explain_arg<'a>(alloc: Global) -> Arg<'a> {
+    Arg::new(alloc, "explain")
+        .long("explain")
+        .value_name("N")
+        .value_parser(value_parser!(u32))
+        .help("explains the first N denials on standard error, 0 to 1000000 [default: 0]")
+}
+
+fn strict_arg<'a>(alloc: Global) -> Arg<'a> {
+    Arg::new(alloc, "strict")
+        .long("strict")
+        .action(ArgAction::SetTrue)
+        .help("ends with status 5 in the place of 0 where a call was denied")
+}
+
 fn turns_arg<'a>(alloc: Global) -> Arg<'a> {
     Arg::new(alloc, "turns")
         .long("turns")
@@ -52,31 +67,35 @@ fn leaks_arg<'a>(alloc: Global) -> Arg<'a> {
         .help("lists what is left at the end on standard error")
 }
 
-fn check_command<'a>(alloc: Global) -> Result<Command<'a>, AllocError> {
-    Command::new(alloc, "check")
-        .about("answers the script on standard input with its journal")
-        .after_help(STATUSES)
+/// The command with the options of all that make or test a journal.
+fn with_options<'a>(alloc: Global, command: Command<'a>) -> Result<Command<'a>, AllocError> {
+    command
         .arg(setup_arg(alloc))?
         .arg(limit_arg(alloc))?
-        .arg(leaks_arg(alloc))
+        .arg(explain_arg(alloc))?
+        .arg(strict_arg(alloc))
+}
+
+fn check_command<'a>(alloc: Global) -> Result<Command<'a>, AllocError> {
+    let command = Command::new(alloc, "check")
+        .about("answers the script on standard input with its journal")
+        .after_help(STATUSES);
+    with_options(alloc, command)?.arg(leaks_arg(alloc))
 }
 
 fn verify_command<'a>(alloc: Global) -> Result<Command<'a>, AllocError> {
-    Command::new(alloc, "verify")
+    let command = Command::new(alloc, "verify")
         .about("tests whether standard input is the journal of a legal history")
-        .after_help(STATUSES)
-        .arg(setup_arg(alloc))?
-        .arg(limit_arg(alloc))
+        .after_help(STATUSES);
+    with_options(alloc, command)
 }
 
 fn play_command<'a>(alloc: Global) -> Result<Command<'a>, AllocError> {
-    Command::new(alloc, "play")
+    let command = Command::new(alloc, "play")
         .about("plays the scripts of FILE, the lines of each thread by a thread of its own")
         .after_help(STATUSES)
-        .arg(file_arg(alloc))?
-        .arg(setup_arg(alloc))?
-        .arg(limit_arg(alloc))?
-        .arg(turns_arg(alloc))
+        .arg(file_arg(alloc))?;
+    with_options(alloc, command)?.arg(turns_arg(alloc))
 }
 
 fn migrate_command<'a>(alloc: Global) -> Result<Command<'a>, AllocError> {
@@ -88,15 +107,13 @@ fn migrate_command<'a>(alloc: Global) -> Result<Command<'a>, AllocError> {
 
 /// The command line of `jg` without its commands' words.
 fn own_options<'a>(alloc: Global) -> Result<Command<'a>, AllocError> {
-    Command::new(alloc, "jg")
+    let command = Command::new(alloc, "jg")
         .about("A guard for the Java Native Interface. Without a command it is `check`.")
         .after_help(STATUSES)
         .version(VERSION)
         .override_usage("jg [check] [OPTIONS] | jg verify|play|migrate ..")
-        .bin_name("jg")?
-        .arg(setup_arg(alloc))?
-        .arg(limit_arg(alloc))?
-        .arg(leaks_arg(alloc))
+        .bin_name("jg")?;
+    with_options(alloc, command)?.arg(leaks_arg(alloc))
 }
 
 /// The command line of `jg`.
@@ -139,19 +156,26 @@ fn number(matches: &ArgMatches<'_>, id: &str, least: u32, default: u32) -> Resul
 
 fn make_asked<'a>(task: Task<'a>, matches: &ArgMatches<'a>) -> Result<Asked<'a>, ArgsFault>
     ensures limit { IfOk result (λ asked. asked.limit ≤ 1000000) }
+    ensures explain { IfOk result (λ asked. asked.explain ≤ 1000000) }
     ensures turns { IfOk result (λ asked. (1 ≤ asked.turns) × (asked.turns ≤ 1000000)) }
 {
     Ok(Asked {
         task,
         setup: matches.get_str("setup"),
         limit: number(matches, "limit", 0, MAX_NUMBER)?,
+        explain: number(matches, "explain", 0, 0)?,
+        strict: matches.get_flag("strict"),
         turns: number(matches, "turns", 1, DEFAULT_TURNS)?,
         leaks: matches.get_flag("leaks"),
     })
 }
 
 fn has_options(matches: &ArgMatches<'_>) -> bool {
-    matches.contains_id("setup") || matches.contains_id("limit") || matches.get_flag("leaks")
+    matches.contains_id("setup")
+        || matches.contains_id("limit")
+        || matches.contains_id("explain")
+        || matches.get_flag("strict")
+        || matches.get_flag("leaks")
 }
 
 fn fault_of(kind: ErrorKind) -> ArgsFault {
@@ -166,6 +190,7 @@ fn fault_of(kind: ErrorKind) -> ArgsFault {
 /// refused.
 pub fn read_words<'a>(alloc: Global, words: &'a [&'a str]) -> Result<Asked<'a>, ArgsFault>
     ensures limit { IfOk result (λ asked. asked.limit ≤ 1000000) }
+    ensures explain { IfOk result (λ asked. asked.explain ≤ 1000000) }
     ensures turns { IfOk result (λ asked. (1 ≤ asked.turns) × (asked.turns ≤ 1000000)) }
 {
     let Ok(command) = command(alloc) else {

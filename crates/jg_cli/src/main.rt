@@ -3,6 +3,8 @@
 #![tactic(auto)]
 
 #[cfg(test)]
+mod explain_tests;
+#[cfg(test)]
 mod play_tests;
 #[cfg(test)]
 mod setup_tests;

@@ -1,10 +1,8 @@
 -- What a check did stays so where the writer keeps its bytes.
-use Rattle.std.proofs.Common.{◌≡◌, ◌∙◌, refl, subst, ℕ, Bool, List, length, Option, Result, Ok, Err}
+use Rattle.std.proofs.Common.{◌≡◌, ◌∙◌, refl, ℕ, Bool, List, length, Option, Result, Ok, Err}
 use Rattle.std.proofs.KnownBytes.{Appends-kept}
 use Rattle.std.specs.Io.KnownBytes.{Keeps}
 use Rattle.jg_words.specs.Entry.{Entry}
-use Rattle.jg_policy.specs.Stated.{StatedSetup}
-use Rattle.jg_rules.specs.Legal.{Legal}
 use Rattle.jg_script.specs.declared.run_fault.RunFault.{RunFault}
 use Rattle.jg_script.specs.declared.run_fault.RunFault.TheVariants.{Script, Limit, NoMemory, Read, Write}
 use Rattle.jg_script.specs.Checked.{Checks, WriterFails}
@@ -20,13 +18,6 @@ checks_kept input input' bytes mid bytes' limit h (Err (NoMemory line)) (read, (
 checks_kept input input' bytes mid bytes' limit h (Err (Read line)) (read, written, count) k = (read, Appends-kept _ _ _ _ written k, count)
 checks_kept input input' bytes mid bytes' limit h (Err (Write line)) (read, (e, g, is, (part, written, (n, short, front))), count) k =
     (read, (e, g, is, (part, written, (n, short, Appends-kept _ _ _ _ front k))), count)
-
--- what a check did, under the setup and the limit that its guard was made with
-pub answered : (setup own : StatedSetup) (limit most : ℕ) (input input' bytes mid bytes' : Option (List ℕ)) (h : List Entry) (r : Result ℕ RunFault) → own ≡ setup → most ≡ limit → Legal own h
-    → Checks input input' bytes mid most h r → Keeps mid bytes' → Legal setup h × Checks input input' bytes bytes' limit h r
-answered setup own limit most input input' bytes mid bytes' h r same full legal told k =
-    let within = subst (λ (l : ℕ). Checks input input' bytes mid l h r) full told in
-    (subst (λ (s : StatedSetup). Legal s h) same legal, checks_kept input input' bytes mid bytes' limit h r within k)
 
 -- the lines answered are the entries
 pub counted : (input input' bytes bytes' : Option (List ℕ)) (limit : ℕ) (h : List Entry) (n : ℕ) → Checks input input' bytes bytes' limit h (Ok n)

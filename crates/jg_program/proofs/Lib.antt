@@ -1,3 +1,4 @@
+pub mod Denied
 pub mod Closed
 pub mod Flushing
 pub mod Reading
@@ -6,3 +7,4 @@ pub mod Saying
 pub mod Workers
 pub mod FromStart
 pub mod Telling
+pub mod Reports

@@ -3,10 +3,9 @@ use Rattle.std.proofs.Common.{◌≡◌, ap, inl, inr, ℕ, Bool, true, false, L
 use Rattle.std.proofs.lemmas.Bool.{false≢true}
 use Rattle.std.proofs.KnownBytes.{Keeps-refl}
 use Rattle.jg_program.specs.declared.stop.Stop.{Stop}
-use Rattle.jg_program.specs.declared.stop.Stop.TheVariants.{Arguments, Setup, SetupRead, Run, Leaks, Mismatch, Worker}
-use Rattle.jg_program.specs.declared.program.Job.{Job}
+use Rattle.jg_program.specs.declared.stop.Stop.TheVariants.{Arguments, Setup, SetupRead, Run, Leaks, Explain, Mismatch, Worker}
 use Rattle.jg_program.specs.StatedBy.{IsRefused}
-use Rattle.jg_program.specs.Ended.{EndsUnder}
+use Rattle.jg_program.specs.Ended.{IsHandedOn}
 use Rattle.jg_program.specs.Migrated.{Migrates}
 
 is_of_setup : Stop → Bool
@@ -15,6 +14,7 @@ is_of_setup SetupRead = true
 is_of_setup (Run fault) = false
 is_of_setup (Arguments fault) = false
 is_of_setup Leaks = false
+is_of_setup Explain = false
 is_of_setup (Mismatch thread place) = false
 is_of_setup (Worker stop) = false
 
@@ -26,17 +26,6 @@ refused_by_setup known told stop (bytes, gives, inl (inr (inr (inl (long, by))))
 refused_by_setup known told stop (bytes, gives, inl (inr (inr (inr (no_text, low, short, not_utf8))))) = ap is_of_setup no_text
 refused_by_setup known told stop (bytes, gives, inr (fault, is, low, short, first)) = ap is_of_setup is
 
-pub ends_refused : (job : Job) (known : Option (List ℕ)) (told : ℕ) (input bytes : Option (List ℕ)) (limit : ℕ) (stop : Stop) → IsRefused known told stop
-    → EndsUnder job known told input input bytes bytes limit (Err stop)
-unfolding is_of_setup
-ends_refused job known told input bytes limit (Setup fault) refused = (refused, Keeps-refl input, Keeps-refl bytes)
-ends_refused job known told input bytes limit SetupRead refused = (Keeps-refl input, Keeps-refl bytes)
-ends_refused job known told input bytes limit (Run fault) refused = absurd (false≢true (refused_by_setup known told (Run fault) refused))
-ends_refused job known told input bytes limit (Arguments fault) refused = absurd (false≢true (refused_by_setup known told (Arguments fault) refused))
-ends_refused job known told input bytes limit Leaks refused = absurd (false≢true (refused_by_setup known told Leaks refused))
-ends_refused job known told input bytes limit (Mismatch thread place) refused = absurd (false≢true (refused_by_setup known told (Mismatch thread place) refused))
-ends_refused job known told input bytes limit (Worker stop) refused = absurd (false≢true (refused_by_setup known told (Worker stop) refused))
-
 pub migrates_refused : (known : Option (List ℕ)) (told : ℕ) (bytes : Option (List ℕ)) (stop : Stop) → IsRefused known told stop → Migrates known told bytes bytes (Err stop)
 unfolding is_of_setup
 migrates_refused known told bytes (Setup fault) refused = (refused, Keeps-refl bytes)
@@ -44,5 +33,18 @@ migrates_refused known told bytes SetupRead refused = Keeps-refl bytes
 migrates_refused known told bytes (Run fault) refused = absurd (false≢true (refused_by_setup known told (Run fault) refused))
 migrates_refused known told bytes (Arguments fault) refused = absurd (false≢true (refused_by_setup known told (Arguments fault) refused))
 migrates_refused known told bytes Leaks refused = absurd (false≢true (refused_by_setup known told Leaks refused))
+migrates_refused known told bytes Explain refused = absurd (false≢true (refused_by_setup known told Explain refused))
 migrates_refused known told bytes (Mismatch thread place) refused = absurd (false≢true (refused_by_setup known told (Mismatch thread place) refused))
 migrates_refused known told bytes (Worker stop) refused = absurd (false≢true (refused_by_setup known told (Worker stop) refused))
+
+-- nothing was written by then
+pub refused_on : (S : Type 0) (holds_nothing : Type 0) (failed : Bool) (known : Option (List ℕ)) (told : ℕ) (stop : Stop) → IsRefused known told stop → IsHandedOn {S = S} holds_nothing failed (Err stop)
+unfolding is_of_setup
+refused_on S holds_nothing failed known told (Setup fault) refused = tt
+refused_on S holds_nothing failed known told SetupRead refused = tt
+refused_on S holds_nothing failed known told (Run fault) refused = absurd (false≢true (refused_by_setup known told (Run fault) refused))
+refused_on S holds_nothing failed known told (Arguments fault) refused = absurd (false≢true (refused_by_setup known told (Arguments fault) refused))
+refused_on S holds_nothing failed known told Leaks refused = absurd (false≢true (refused_by_setup known told Leaks refused))
+refused_on S holds_nothing failed known told Explain refused = absurd (false≢true (refused_by_setup known told Explain refused))
+refused_on S holds_nothing failed known told (Mismatch thread place) refused = absurd (false≢true (refused_by_setup known told (Mismatch thread place) refused))
+refused_on S holds_nothing failed known told (Worker stop) refused = absurd (false≢true (refused_by_setup known told (Worker stop) refused))

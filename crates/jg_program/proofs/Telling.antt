@@ -1,5 +1,5 @@
 -- What the end of a play says of the whole where receipts and journal differ.
-use Rattle.std.proofs.Common.{◌≡◌, ℕ, List, Option, Result, Ok, Err, ◌⊎◌, sym, subst}
+use Rattle.std.proofs.Common.{◌≡◌, ℕ, List, [], Option, Result, Ok, Err, ◌⊎◌, sym, subst}
 use Rattle.jg_words.specs.declared.thread.Tid.{Tid}
 use Rattle.jg_rules.specs.Legal.{Legal}
 use Rattle.jg_guard.specs.Guard.{State}
@@ -11,8 +11,11 @@ use Rattle.jg_shell.specs.Finish.{IsWrongReceipt, IsUntoldEntry}
 use Rattle.jg_shell.specs.Work.{Work}
 use Rattle.jg_program.specs.declared.stop.Status.{Status}
 use Rattle.jg_program.specs.declared.stop.Stop.{Stop}
-use Rattle.jg_program.specs.declared.stop.Stop.TheVariants.{Arguments, Setup, SetupRead, Run, Leaks, Mismatch, Worker}
-use Rattle.jg_program.specs.Plays.{HandsOut, Settles, TellsDifference}
+use Rattle.jg_program.specs.declared.stop.Stop.TheVariants.{Arguments, Setup, SetupRead, Run, Leaks, Explain, Mismatch, Worker}
+use Rattle.jg_program.specs.declared.reporting.Reporting.{Reporting}
+use Rattle.jg_program.specs.declared.stop.Ending.{Ending}
+use Rattle.jg_program.specs.Plays.{HandsOut, Settles, SettlesBy, TellsDifference}
+use Rattle.jg_program.specs.Reported.{Reports}
 
 -- the journal wasn't written
 pub unwritten : (tid : Tid) (at : ℕ) (guard : State) (bytes bytes' : Option (List ℕ)) (stop : Stop) → HandsOut bytes bytes' guard (Err stop)
@@ -22,26 +25,30 @@ unwritten tid at guard bytes bytes' (Setup fault) handed = absurd handed
 unwritten tid at guard bytes bytes' SetupRead handed = absurd handed
 unwritten tid at guard bytes bytes' (Arguments fault) handed = absurd handed
 unwritten tid at guard bytes bytes' Leaks handed = absurd handed
+unwritten tid at guard bytes bytes' Explain handed = absurd handed
 unwritten tid at guard bytes bytes' (Mismatch thread place) handed = absurd handed
 unwritten tid at guard bytes bytes' (Worker other) handed = absurd handed
 
 -- the difference is a true one
-pub settled : (workers : List Work) (tid : Tid) (at : ℕ) (guard : State) (bytes bytes' : Option (List ℕ)) (result : Result Status Stop) → Legal guard.setup guard.journal
-    → IsWrongReceipt guard.journal workers tid at ⊎ IsUntoldEntry guard.journal workers tid at → TellsDifference tid at guard bytes bytes' result → Settles workers bytes bytes' result
-settled workers tid at guard bytes bytes' (Ok status) legal differs told = absurd told
-settled workers tid at guard bytes bytes' (Err (Run fault)) legal differs told = (guard, legal, told)
-settled workers tid at guard bytes bytes' (Err (Setup fault)) legal differs told = absurd told
-settled workers tid at guard bytes bytes' (Err SetupRead) legal differs told = absurd told
-settled workers tid at guard bytes bytes' (Err (Arguments fault)) legal differs told = absurd told
-settled workers tid at guard bytes bytes' (Err Leaks) legal differs told = absurd told
-settled workers tid at guard bytes bytes' (Err (Worker other)) legal differs told = absurd told
-settled workers tid at guard bytes bytes' (Err (Mismatch thread place)) legal differs told =
-    (guard, tid, told.0, legal, subst (λ (p : ℕ). IsWrongReceipt guard.journal workers tid p ⊎ IsUntoldEntry guard.journal workers tid p) (sym told.1) differs, told.2)
+settled : (workers : List Work) (tid : Tid) (at : ℕ) (guard : State) (bytes bytes' : Option (List ℕ)) (result : Result Status Stop)
+    → IsWrongReceipt guard.journal workers tid at ⊎ IsUntoldEntry guard.journal workers tid at → TellsDifference tid at guard bytes bytes' result → SettlesBy guard workers bytes bytes' result
+settled workers tid at guard bytes bytes' (Ok status) differs told = absurd told
+settled workers tid at guard bytes bytes' (Err (Run fault)) differs told = told
+settled workers tid at guard bytes bytes' (Err (Setup fault)) differs told = absurd told
+settled workers tid at guard bytes bytes' (Err SetupRead) differs told = absurd told
+settled workers tid at guard bytes bytes' (Err (Arguments fault)) differs told = absurd told
+settled workers tid at guard bytes bytes' (Err Leaks) differs told = absurd told
+settled workers tid at guard bytes bytes' (Err Explain) differs told = absurd told
+settled workers tid at guard bytes bytes' (Err (Worker other)) differs told = absurd told
+settled workers tid at guard bytes bytes' (Err (Mismatch thread place)) differs told =
+    (tid, told.0, subst (λ (p : ℕ). IsWrongReceipt guard.journal workers tid p ⊎ IsUntoldEntry guard.journal workers tid p) (sym told.1) differs, told.2)
 
--- the same of what the comparison answered
-pub settled_by : {L : Type 0} (workers : List Work) (fault : FinishFault L) (tid : Tid) (at : ℕ) (back : Finished L) (bytes bytes' : Option (List ℕ)) (result : Result Status Stop)
-    → fault ≡ Differs tid at back → Legal (back_of fault).guard.setup (back_of fault).guard.journal → IsFirstDifference workers fault → TellsDifference tid at back.guard bytes bytes' result
-    → Settles workers bytes bytes' result
-settled_by {L} workers fault tid at back bytes bytes' result is legal differs told =
-    settled workers tid at back.guard bytes bytes' result (subst (λ (f : FinishFault L). Legal (back_of f).guard.setup (back_of f).guard.journal) is legal)
-    (subst (λ (f : FinishFault L). IsFirstDifference workers f) is differs) told
+-- the same of what the comparison answered, and of what is told then
+pub settled_by : {L : Type 0} (workers : List Work) (fault : FinishFault L) (tid : Tid) (at : ℕ) (back : Finished L) (r : Reporting) (bytes bytes' : Option (List ℕ)) (result : Result Status Stop)
+    (ending : Ending) → fault ≡ Differs tid at back → Legal (back_of fault).guard.setup (back_of fault).guard.journal → IsFirstDifference workers fault
+    → TellsDifference tid at back.guard bytes bytes' result → Reports (λ about. about ≡ []) r back.guard.setup back.guard.journal result ending → Settles r workers bytes bytes' ending
+settled_by {L} workers fault tid at back r bytes bytes' result ending is legal differs told reports = (
+  back.guard,
+  subst (λ (f : FinishFault L). Legal (back_of f).guard.setup (back_of f).guard.journal) is legal,
+  (result, settled workers tid at back.guard bytes bytes' result (subst (λ (f : FinishFault L). IsFirstDifference workers f) is differs) told, reports),
+)

@@ -1,60 +1,51 @@
 -- How the program ended with a script or a journal, and what it did with the bytes.
-use Rattle.std.specs.Prelude.{ℕ, Bool, true, false, string_bytes, List, ◌∷◌, ◌++◌, [], length, codes, Option, Result, Ok, Err, ◌⊎◌, ◌≡◌}
+use Rattle.std.specs.Prelude.{ℕ, Bool, true, List, ◌∷◌, ◌++◌, [], length, codes, Option, Result, Ok, Err, ◌⊎◌, ◌≡◌}
 use Rattle.std.specs.Fmt.{decimal}
 use Rattle.std.specs.Io.KnownBytes.{Keeps, Appends}
-use Rattle.jg_words.specs.declared.reference.Ref.{Ref}
-use Rattle.jg_words.specs.declared.buffer.BufId.{BufId}
 use Rattle.jg_words.specs.Entry.{Entry}
 use Rattle.jg_policy.specs.declared.fault.SetupFault.TheVariants.{NoMemory as NoRoom}
 use Rattle.jg_policy.specs.Stated.{StatedSetup}
-use Rattle.jg_rules.specs.Effects.{parts}
 use Rattle.jg_rules.specs.Legal.{Legal}
-use Rattle.jg_guard.specs.Left.{AreLeft}
-use Rattle.jg_monitors.specs.declared.owned_monitor.OwnedMonitor.{OwnedMonitor}
+use Rattle.jg_script.specs.declared.run_fault.RunFault.{RunFault}
 use Rattle.jg_script.specs.declared.run_fault.RunFault.TheVariants.{Script, Limit, NoMemory, Read, Write}
+use Rattle.jg_script.specs.declared.replay.Replayed.{Replayed}
 use Rattle.jg_script.specs.declared.replay.Verdict.{Verdict}
 use Rattle.jg_script.specs.declared.replay.Verdict.TheVariants as verdict
-use Rattle.jg_script.specs.Checked.{Checks}
-use Rattle.jg_script.specs.Replayed.{Verifies}
-use Rattle.jg_script.specs.Leaks.{leaks_text}
+use Rattle.jg_script.specs.Checked.{Checks, HoldsFaulty}
+use Rattle.jg_script.specs.Replayed.{ReplaysJournal, verdict_of}
 use Rattle.jg_program.specs.declared.program.Job.{Job}
 use Rattle.jg_program.specs.declared.program.Job.TheVariants.{Check, Verify}
+use Rattle.jg_program.specs.declared.reporting.Reporting.{Reporting}
 use Rattle.jg_program.specs.declared.stop.Ending.{Ending}
 use Rattle.jg_program.specs.declared.stop.Status.{Status}
 use Rattle.jg_program.specs.declared.stop.Status.TheVariants.{Done, Differs}
 use Rattle.jg_program.specs.declared.stop.Stop.{Stop}
-use Rattle.jg_program.specs.declared.stop.Stop.TheVariants.{Arguments, Setup, SetupRead, Run, Leaks, Mismatch, Worker}
+use Rattle.jg_program.specs.declared.stop.Stop.TheVariants.{Arguments, Setup, SetupRead, Run, Leaks, Explain, Mismatch, Worker}
+use Rattle.jg_program.specs.About.{IsAboutJournal, IsAboutScript}
+use Rattle.jg_program.specs.Reported.{EndsQuietly, Reports}
 use Rattle.jg_program.specs.StatedBy.{base_setup, IsStated, IsRefused}
 
--- the text of what a history leaves behind, where it is asked for
-abbrev pub SaysLeaks : Bool → StatedSetup → List Entry → List ℕ → Type 0
-SaysLeaks false s h said = said ≡ []
-SaysLeaks true s h said = (refs : List Ref) × (lent : List BufId) × (owned : List OwnedMonitor)
-    × AreLeft (parts s h) refs lent owned × (said ≡ leaks_text refs lent owned)
-
--- how the answering of a script under this setup ended, and what it did to the bytes of the reader
--- and of the writer
-abbrev pub EndsScript : Bool → StatedSetup → Option (List ℕ) → Option (List ℕ) → Option (List ℕ) → Option (List ℕ)
-    → ℕ → Result Ending Stop → Type 0
--- all that the reader held are the calls of a legal history, the text of that history was written, and what it leaves
--- behind is said where that is asked for
-EndsScript leaks setup input input' bytes bytes' limit (Ok ending) = (ending.status ≡ Done)
-    × ((h : List Entry) × Legal setup h × Checks input input' bytes bytes' limit h (Ok (length h))
-    × SaysLeaks leaks setup h (string_bytes ending.said))
+-- how the lines of a script were answered, of which the guard has this journal then, and what that did to the bytes of the
+-- reader and of the writer; this line is the faulty one, if there is one
+abbrev pub AnswersLines : Option (List ℕ) → Option (List ℕ) → Option (List ℕ) → Option (List ℕ) → ℕ → List Entry
+    → List ℕ → Result Status Stop → Type 0
+-- all that the reader held are the calls of the journal, and its text was written
+AnswersLines input input' bytes bytes' limit h line (Ok status) =
+    (status ≡ Done) × Checks input input' bytes bytes' limit h (Ok (length h))
 -- the check of the script ended so; or what it wrote couldn't be handed on
-EndsScript leaks setup input input' bytes bytes' limit (Err (Run fault)) =
-    ((h : List Entry) × Legal setup h × Checks input input' bytes bytes' limit h (Err fault))
-    ⊎ ((line : ℕ) × (fault ≡ Write line))
--- no guard could be made, so nothing was read or written
-EndsScript leaks setup input input' bytes bytes' limit (Err (Setup fault)) =
-    (fault ≡ NoRoom) × Keeps input input' × Keeps bytes bytes'
-EndsScript leaks setup input input' bytes bytes' limit (Err SetupRead) = ⊥
-EndsScript leaks setup input input' bytes bytes' limit (Err (Arguments fault)) = ⊥
-EndsScript leaks setup input input' bytes bytes' limit (Err (Mismatch thread place)) = ⊥
-EndsScript leaks setup input input' bytes bytes' limit (Err (Worker stop)) = ⊥
--- all was answered and written, but memory ran out for what is left behind
-EndsScript leaks setup input input' bytes bytes' limit (Err Leaks) = (leaks ≡ true)
-    × ((h : List Entry) × Legal setup h × Checks input input' bytes bytes' limit h (Ok (length h)))
+AnswersLines input input' bytes bytes' limit h line (Err stop) = (fault : RunFault) × (stop ≡ Run fault)
+    × ((Checks input input' bytes bytes' limit h (Err fault) × HoldsFaulty input h line (Err fault))
+    ⊎ ((number : ℕ) × (fault ≡ Write number)))
+
+-- how the answering of a script under this setup ended: with a legal history, of which is told what is asked for; or no
+-- guard could be made, and nothing was read or written
+abbrev pub EndsScript : Reporting → StatedSetup → Option (List ℕ) → Option (List ℕ) → Option (List ℕ) → Option (List ℕ)
+    → ℕ → Ending → Type 0
+EndsScript r setup input input' bytes bytes' limit ending =
+    ((h : List Entry) × Legal setup h × ((line : List ℕ) × (result : Result Status Stop)
+    × AnswersLines input input' bytes bytes' limit h line result
+    × Reports (IsAboutScript line result) r setup h result ending))
+    ⊎ (EndsQuietly (Setup NoRoom) ending × Keeps input input' × Keeps bytes bytes')
 
 -- what is said of a journal
 abbrev pub verdict_text : Verdict → List ℕ
@@ -65,65 +56,51 @@ abbrev pub verdict_status : Verdict → Status
 verdict_status verdict.Legal = Done
 verdict_status (verdict.Differs line) = Differs
 
--- how the test of a journal under this setup ended
-abbrev pub EndsJournal : StatedSetup → Option (List ℕ) → Option (List ℕ) → Option (List ℕ) → Option (List ℕ) → ℕ
-    → Result Status Stop → Type 0
+-- how the lines of a journal were tested under this setup, of which the guard has this journal then; of the lines this one
+-- was read last
+abbrev pub TestsLines : Option (List ℕ) → Option (List ℕ) → Option (List ℕ) → Option (List ℕ) → StatedSetup → ℕ
+    → List Entry → List ℕ → Result Replayed Stop → Type 0
 -- the journal is so, and that was written
-EndsJournal setup input input' bytes bytes' limit (Ok status) =
-    (v : Verdict) × (status ≡ verdict_status v) × Verifies input input' setup limit (Ok v)
-    × Appends bytes bytes' (verdict_text v)
+TestsLines input input' bytes bytes' setup limit h line (Ok told) =
+    ReplaysJournal input input' setup limit h line (Ok told) × Appends bytes bytes' (verdict_text (verdict_of told))
 -- the test ended so, and nothing was written; or what is to be said couldn't be written or handed on
-EndsJournal setup input input' bytes bytes' limit (Err (Run fault)) =
-    (Verifies input input' setup limit (Err fault) × Keeps bytes bytes') ⊎ (fault ≡ Write 1)
-EndsJournal setup input input' bytes bytes' limit (Err (Setup fault)) = ⊥
-EndsJournal setup input input' bytes bytes' limit (Err SetupRead) = ⊥
-EndsJournal setup input input' bytes bytes' limit (Err (Arguments fault)) = ⊥
-EndsJournal setup input input' bytes bytes' limit (Err Leaks) = ⊥
-EndsJournal setup input input' bytes bytes' limit (Err (Mismatch thread place)) = ⊥
-EndsJournal setup input input' bytes bytes' limit (Err (Worker stop)) = ⊥
+TestsLines input input' bytes bytes' setup limit h line (Err stop) = (fault : RunFault) × (stop ≡ Run fault)
+    × ((ReplaysJournal input input' setup limit h line (Err fault) × Keeps bytes bytes') ⊎ (fault ≡ Write 1))
+
+abbrev pub status_told : Result Replayed Stop → Result Status Stop
+status_told (Ok told) = Ok (verdict_status (verdict_of told))
+status_told (Err stop) = Err stop
+
+-- how the test of a journal under this setup ended: with a legal history, of which is told what is asked for; or no guard
+-- could be made, or what was written before couldn't be handed on then, and nothing was read or written
+abbrev pub EndsJournal : Reporting → StatedSetup → Option (List ℕ) → Option (List ℕ) → Option (List ℕ) → Option (List ℕ)
+    → ℕ → Ending → Type 0
+EndsJournal r setup input input' bytes bytes' limit ending =
+    ((h : List Entry) × Legal setup h × ((line : List ℕ) × (result : Result Replayed Stop)
+    × TestsLines input input' bytes bytes' setup limit h line result
+    × Reports (IsAboutJournal result) r setup h (status_told result) ending))
+    ⊎ ((stop : Stop) × ((stop ≡ Run (NoMemory 1)) ⊎ (stop ≡ Run (Write 1))) × EndsQuietly stop ending
+    × Keeps input input' × Keeps bytes bytes')
 
 -- whichever was asked for
-abbrev pub Ends : Job → StatedSetup → Option (List ℕ) → Option (List ℕ) → Option (List ℕ) → Option (List ℕ) → ℕ
-    → Result Ending Stop → Type 0
-Ends (Check leaks) setup input input' bytes bytes' limit result =
-    EndsScript leaks setup input input' bytes bytes' limit result
-Ends Verify setup input input' bytes bytes' limit (Ok ending) =
-    EndsJournal setup input input' bytes bytes' limit (Ok ending.status) × (string_bytes ending.said ≡ [])
-Ends Verify setup input input' bytes bytes' limit (Err stop) =
-    EndsJournal setup input input' bytes bytes' limit (Err stop)
+abbrev pub Ends : Job → Reporting → StatedSetup → Option (List ℕ) → Option (List ℕ) → Option (List ℕ)
+    → Option (List ℕ) → ℕ → Ending → Type 0
+Ends Check r setup input input' bytes bytes' limit ending = EndsScript r setup input input' bytes bytes' limit ending
+Ends Verify r setup input input' bytes bytes' limit ending = EndsJournal r setup input input' bytes bytes' limit ending
 
 -- the same under the setup where none is given, or memory ran out before that was read
-abbrev pub EndsClosed : Job → Option (List ℕ) → Option (List ℕ) → Option (List ℕ) → Option (List ℕ) → ℕ
-    → Result Ending Stop → Type 0
-EndsClosed job input input' bytes bytes' limit (Ok ending) =
-    Ends job base_setup input input' bytes bytes' limit (Ok ending)
-EndsClosed job input input' bytes bytes' limit (Err (Run fault)) =
-    Ends job base_setup input input' bytes bytes' limit (Err (Run fault))
-EndsClosed job input input' bytes bytes' limit (Err (Setup fault)) =
-    (fault ≡ NoRoom) × Keeps input input' × Keeps bytes bytes'
-EndsClosed job input input' bytes bytes' limit (Err SetupRead) = ⊥
-EndsClosed job input input' bytes bytes' limit (Err (Arguments fault)) = ⊥
-EndsClosed job input input' bytes bytes' limit (Err (Mismatch thread place)) = ⊥
-EndsClosed job input input' bytes bytes' limit (Err (Worker stop)) = ⊥
-EndsClosed job input input' bytes bytes' limit (Err Leaks) =
-    Ends job base_setup input input' bytes bytes' limit (Err Leaks)
+abbrev pub EndsClosed : Job → Reporting → Option (List ℕ) → Option (List ℕ) → Option (List ℕ) → Option (List ℕ) → ℕ
+    → Ending → Type 0
+EndsClosed job r input input' bytes bytes' limit ending = Ends job r base_setup input input' bytes bytes' limit ending
+    ⊎ (EndsQuietly (Setup NoRoom) ending × Keeps input input' × Keeps bytes bytes')
 
--- the same under the setup that a file states, of which the bytes may be known and a length was told
-abbrev pub EndsUnder : Job → Option (List ℕ) → ℕ → Option (List ℕ) → Option (List ℕ) → Option (List ℕ)
-    → Option (List ℕ) → ℕ → Result Ending Stop → Type 0
-EndsUnder job known told input input' bytes bytes' limit (Ok ending) =
-    (setup : StatedSetup) × IsStated known setup × Ends job setup input input' bytes bytes' limit (Ok ending)
-EndsUnder job known told input input' bytes bytes' limit (Err (Run fault)) =
-    (setup : StatedSetup) × IsStated known setup × Ends job setup input input' bytes bytes' limit (Err (Run fault))
--- the file was refused, or no guard could be made, and nothing was read or written
-EndsUnder job known told input input' bytes bytes' limit (Err (Setup fault)) =
-    IsRefused known told (Setup fault) × Keeps input input' × Keeps bytes bytes'
-EndsUnder job known told input input' bytes bytes' limit (Err SetupRead) = Keeps input input' × Keeps bytes bytes'
-EndsUnder job known told input input' bytes bytes' limit (Err (Arguments fault)) = ⊥
-EndsUnder job known told input input' bytes bytes' limit (Err (Mismatch thread place)) = ⊥
-EndsUnder job known told input input' bytes bytes' limit (Err (Worker stop)) = ⊥
-EndsUnder job known told input input' bytes bytes' limit (Err Leaks) =
-    (setup : StatedSetup) × IsStated known setup × Ends job setup input input' bytes bytes' limit (Err Leaks)
+-- the same under the setup that a file states, of which the bytes may be known and a length was told; or it was refused,
+-- and nothing was read or written
+abbrev pub EndsUnder : Job → Reporting → Option (List ℕ) → ℕ → Option (List ℕ) → Option (List ℕ) → Option (List ℕ)
+    → Option (List ℕ) → ℕ → Ending → Type 0
+EndsUnder job r known told input input' bytes bytes' limit ending =
+    ((setup : StatedSetup) × IsStated known setup × Ends job r setup input input' bytes bytes' limit ending)
+    ⊎ ((stop : Stop) × IsRefused known told stop × EndsQuietly stop ending × Keeps input input' × Keeps bytes bytes')
 
 -- the writer holds nothing back at the end, or it failed and that is told
 abbrev pub IsHandedOn : {S : Type 0} → Type 0 → Bool → Result S Stop → Type 0
@@ -138,5 +115,6 @@ IsHandedOn holds_nothing failed (Err (Setup fault)) = Unit {0}
 IsHandedOn holds_nothing failed (Err SetupRead) = Unit {0}
 IsHandedOn holds_nothing failed (Err (Arguments fault)) = ⊥
 IsHandedOn holds_nothing failed (Err Leaks) = holds_nothing
+IsHandedOn holds_nothing failed (Err Explain) = holds_nothing
 IsHandedOn holds_nothing failed (Err (Mismatch thread place)) = holds_nothing
 IsHandedOn holds_nothing failed (Err (Worker stop)) = holds_nothing

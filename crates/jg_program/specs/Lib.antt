@@ -1,5 +1,7 @@
+pub mod About
 pub mod Ended
 pub mod StatedBy
 pub mod Plays
+pub mod Reported
 pub mod Migrated
 pub mod Statuses

@@ -17,10 +17,13 @@ use Rattle.jg_shell.specs.Finish.{IsWrongReceipt, IsUntoldEntry}
 use Rattle.jg_shell.specs.Played.{Ran}
 use Rattle.jg_shell.specs.Settled.{IsOwnEntries, IsOfSome}
 use Rattle.jg_shell.specs.Work.{Work, fresh}
+use Rattle.jg_program.specs.declared.reporting.Reporting.{Reporting}
+use Rattle.jg_program.specs.declared.stop.Ending.{Ending}
 use Rattle.jg_program.specs.declared.stop.Status.{Status}
 use Rattle.jg_program.specs.declared.stop.Status.TheVariants.{Done}
 use Rattle.jg_program.specs.declared.stop.Stop.{Stop}
-use Rattle.jg_program.specs.declared.stop.Stop.TheVariants.{Arguments, Setup, SetupRead, Run, Leaks, Mismatch, Worker}
+use Rattle.jg_program.specs.declared.stop.Stop.TheVariants.{Arguments, Setup, SetupRead, Run, Leaks, Explain, Mismatch, Worker}
+use Rattle.jg_program.specs.Reported.{EndsQuietly, Reports}
 
 -- the workers have run the scripts, one for each, in their order
 abbrev pub HaveRun : ℕ → List Lines → List Work → Type 0
@@ -47,6 +50,7 @@ HandsOut bytes bytes' guard (Err (Setup fault)) = ⊥
 HandsOut bytes bytes' guard (Err SetupRead) = ⊥
 HandsOut bytes bytes' guard (Err (Arguments fault)) = ⊥
 HandsOut bytes bytes' guard (Err Leaks) = ⊥
+HandsOut bytes bytes' guard (Err Explain) = ⊥
 HandsOut bytes bytes' guard (Err (Mismatch thread place)) = ⊥
 HandsOut bytes bytes' guard (Err (Worker stop)) = ⊥
 
@@ -57,31 +61,36 @@ TellsDifference tid at guard bytes bytes' (Err (Mismatch thread place)) =
 TellsDifference tid at guard bytes bytes' (Err (Run fault)) = HandsOut bytes bytes' guard (Err (Run fault))
 TellsDifference tid at guard bytes bytes' result = ⊥
 
--- what workers that have run ended by, and what that did to the bytes of the writer
-abbrev pub Settles : List Work → Option (List ℕ) → Option (List ℕ) → Result Status Stop → Type 0
+-- what workers that have run ended by, where this guard was taken out of its lock, and what that did to the bytes of the
+-- writer
+abbrev pub SettlesBy : State → List Work → Option (List ℕ) → Option (List ℕ) → Result Status Stop → Type 0
 -- none of them stopped, and the journal's text was written
-Settles workers bytes bytes' (Ok status) = (status ≡ Done) × (first_stop_of workers ≡ None)
-    × ((guard : State) × AreReceipts guard workers × WritesAll bytes bytes' guard.journal)
+SettlesBy guard workers bytes bytes' (Ok status) = (status ≡ Done) × (first_stop_of workers ≡ None)
+    × AreReceipts guard workers × WritesAll bytes bytes' guard.journal
 -- one of them stopped, and the journal's text was written
-Settles workers bytes bytes' (Err (Worker stop)) = (first_stop_of workers ≡ Some stop)
-    × ((guard : State) × AreReceipts guard workers × WritesAll bytes bytes' guard.journal)
+SettlesBy guard workers bytes bytes' (Err (Worker stop)) = (first_stop_of workers ≡ Some stop)
+    × AreReceipts guard workers × WritesAll bytes bytes' guard.journal
 -- a receipt isn't in the journal, or an entry is no worker's receipt; the journal's text was written
-Settles workers bytes bytes' (Err (Mismatch thread place)) = (guard : State) × (tid : Tid) × (thread ≡ tid.0)
-    × Legal guard.setup guard.journal
+SettlesBy guard workers bytes bytes' (Err (Mismatch thread place)) = (tid : Tid) × (thread ≡ tid.0)
     × (IsWrongReceipt guard.journal workers tid place ⊎ IsUntoldEntry guard.journal workers tid place)
     × WritesAll bytes bytes' guard.journal
 -- the journal couldn't be written to its end
-Settles workers bytes bytes' (Err (Run fault)) = (guard : State) × Legal guard.setup guard.journal
-    × HandsOut bytes bytes' guard (Err (Run fault))
-Settles workers bytes bytes' (Err (Setup fault)) = ⊥
-Settles workers bytes bytes' (Err SetupRead) = ⊥
-Settles workers bytes bytes' (Err (Arguments fault)) = ⊥
-Settles workers bytes bytes' (Err Leaks) = ⊥
+SettlesBy guard workers bytes bytes' (Err (Run fault)) = HandsOut bytes bytes' guard (Err (Run fault))
+SettlesBy guard workers bytes bytes' (Err (Setup fault)) = ⊥
+SettlesBy guard workers bytes bytes' (Err SetupRead) = ⊥
+SettlesBy guard workers bytes bytes' (Err (Arguments fault)) = ⊥
+SettlesBy guard workers bytes bytes' (Err Leaks) = ⊥
+SettlesBy guard workers bytes bytes' (Err Explain) = ⊥
+
+-- they ended by this, and what is told of the guard's journal was told
+abbrev pub Settles : Reporting → List Work → Option (List ℕ) → Option (List ℕ) → Ending → Type 0
+Settles r workers bytes bytes' ending = (guard : State) × Legal guard.setup guard.journal × ((result : Result Status Stop)
+    × SettlesBy guard workers bytes bytes' result × Reports (λ about. about ≡ []) r guard.setup guard.journal result ending)
 
 -- how playing these scripts ended: workers ran them, and ended so; or no guard could be made
-abbrev pub PlaysOut : ℕ → List Lines → Option (List ℕ) → Option (List ℕ) → Result Status Stop → Type 0
-PlaysOut turns scripts bytes bytes' result = ((workers : List Work) × HaveRun turns scripts workers
-    × Settles workers bytes bytes' result) ⊎ ((result ≡ Err (Setup NoRoom)) × Keeps bytes bytes')
+abbrev pub PlaysOut : Reporting → ℕ → List Lines → Option (List ℕ) → Option (List ℕ) → Ending → Type 0
+PlaysOut r turns scripts bytes bytes' ending = ((workers : List Work) × HaveRun turns scripts workers
+    × Settles r workers bytes bytes' ending) ⊎ (EndsQuietly (Setup NoRoom) ending × Keeps bytes bytes')
 
 -- what reading the scripts of a file did, of which the bytes may be known, or memory ran out before its first byte
 abbrev pub ReadsFile : Option (List ℕ) → Result (List Lines) RunFault → Type 0
@@ -89,7 +98,7 @@ ReadsFile known result = ((rest : Option (List ℕ)) × ReadsScripts known rest 
 
 -- how playing the scripts of a file ended: they were read and then played; or they weren't read to their end, and nothing
 -- was written
-abbrev pub EndsPlay : ℕ → Option (List ℕ) → Option (List ℕ) → Option (List ℕ) → Result Status Stop → Type 0
-EndsPlay turns known bytes bytes' result =
-    ((scripts : List Lines) × ReadsFile known (Ok scripts) × PlaysOut turns scripts bytes bytes' result)
-    ⊎ ((fault : RunFault) × (result ≡ Err (Run fault)) × Keeps bytes bytes' × ReadsFile known (Err fault))
+abbrev pub EndsPlay : Reporting → ℕ → Option (List ℕ) → Option (List ℕ) → Option (List ℕ) → Ending → Type 0
+EndsPlay r turns known bytes bytes' ending =
+    ((scripts : List Lines) × ReadsFile known (Ok scripts) × PlaysOut r turns scripts bytes bytes' ending)
+    ⊎ ((fault : RunFault) × EndsQuietly (Run fault) ending × Keeps bytes bytes' × ReadsFile known (Err fault))

@@ -1,4 +1,5 @@
 -- The status that the program ends with, by why it ends, as README lists them.
+use Rattle.std.specs.Prelude.{Result, Ok, Err}
 use Rattle.jg_args.specs.declared.asked.ArgsFault.{ArgsFault}
 use Rattle.jg_args.specs.declared.asked.ArgsFault.TheVariants.{Help, Refused, NoMemory as NoRoomForWords}
 use Rattle.jg_policy.specs.declared.fault.SetupFault.{SetupFault}
@@ -8,7 +9,7 @@ use Rattle.jg_script.specs.declared.run_fault.RunFault.TheVariants.{Script, Limi
 use Rattle.jg_program.specs.declared.stop.Status.{Status}
 use Rattle.jg_program.specs.declared.stop.Status.TheVariants.{Done, Differs, Faulty, Exhausted, Device}
 use Rattle.jg_program.specs.declared.stop.Stop.{Stop}
-use Rattle.jg_program.specs.declared.stop.Stop.TheVariants.{Arguments, Setup, SetupRead, Run, Leaks, Mismatch, Worker}
+use Rattle.jg_program.specs.declared.stop.Stop.TheVariants.{Arguments, Setup, SetupRead, Run, Leaks, Explain, Mismatch, Worker}
 
 abbrev pub status_of_words : ArgsFault → Status
 status_of_words Help = Done
@@ -33,5 +34,10 @@ status_of (Setup fault) = status_of_setup fault
 status_of SetupRead = Device
 status_of (Run fault) = status_of_run fault
 status_of Leaks = Exhausted
+status_of Explain = Exhausted
 status_of (Mismatch thread place) = Differs
 status_of (Worker stop) = Exhausted
+
+abbrev pub ended_status : Result Status Stop → Status
+ended_status (Ok status) = status
+ended_status (Err stop) = status_of stop

@@ -1,16 +1,24 @@
 //! A journal is tested, and it is said what it is.
 
-ghost use Rattle.std.specs.Prelude.{◌≡◌, true, IfOk, IfErr, OnErr, OnOk};
+ghost use Rattle.std.specs.Prelude.{◌≡◌, ◌⊎◌, [], true, IfErr, OnErr, OnOk};
 ghost use Rattle.std.specs.Fmt.{decimal};
-ghost use Rattle.std.specs.Io.KnownBytes.{Appends};
-ghost use Rattle.jg_script.specs.declared.run_fault.RunFault.TheVariants.{Write};
+ghost use Rattle.std.specs.Io.KnownBytes.{Appends, Keeps};
+ghost use Rattle.jg_rules.specs.Legal.{Legal};
+ghost use Rattle.jg_script.specs.declared.run_fault.RunFault.TheVariants.{NoMemory, Write};
+ghost use Rattle.jg_program.specs.declared.stop.Stop.{Stop as StopOf};
 ghost use Rattle.jg_program.specs.declared.stop.Stop.TheVariants.{Run};
-ghost use Rattle.jg_program.specs.Ended.{EndsJournal, IsHandedOn, verdict_status, verdict_text};
+ghost use Rattle.jg_program.specs.Ended.{EndsJournal, IsHandedOn, TestsLines, verdict_status, verdict_text};
+ghost use Rattle.jg_program.specs.Reported.{EndsQuietly};
 
-use crate::stop::{Status, Stop};
+use crate::about::About;
+use crate::reporting::{Reporting, report};
+use crate::stop::{Ending, Status, Stop, quietly};
 use itoa::Buffer;
+use jg_guard::Guard;
 use jg_policy::Setup;
-use jg_script::{DeviceFailed, HandsOn, RunFault, Verdict, Watched, verify, write_text};
+use jg_script::{
+    DeviceFailed, HandsOn, Replayed, RunFault, Verdict, Watched, replay_journal, write_text,
+};
 use std::alloc::Global;
 use std::io;
 use std::io::BufRead;
@@ -48,37 +56,90 @@ fn status_of(verdict: Verdict) -> Status
     }
 }
 
-/// Says what a journal is, and gives the status of that.
-fn say<W: io::Write>(out: &mut Watched<W>, verdict: Verdict) -> Result<Status, Stop>
-    ensures said { IfOk result (λ status. (status ≡ verdict_status verdict)
-        × Appends (W.contents out.old.device) (W.contents out.new.device) (verdict_text verdict)) }
+/// Says what a journal is.
+fn say<W: io::Write>(out: &mut Watched<W>, verdict: Verdict) -> Result<(), Stop>
+    ensures said { OnOk result (Appends (W.contents out.old.device) (W.contents out.new.device)
+        (verdict_text verdict)) }
     ensures failed { IfErr result (λ stop. (stop ≡ Run (Write 1)) × (out.new.failed ≡ true)) }
 {
     match write_verdict(out, verdict) {
-        Ok(()) => Ok(status_of(verdict)),
+        Ok(()) => Ok(()),
         Err(_) => Err(Stop::Run(RunFault::Write { line: 1 })),
     }
 }
 
-/// Tests the journal that the reader holds, under this setup, and says what it is. What is still
-/// buffered is handed on before it ends; a failure of that counts as a failed write of line 1.
-pub fn test_journal<R: BufRead, W: HandsOn>(
+/// Tests the journal that the reader holds, by a guard that has taken no call, and says what it is.
+/// `line` is room for one of its lines, and holds the one at which it differs. What is still buffered is
+/// handed on before it ends; a failure of that counts as a failed write of line 1.
+fn test_lines<R: BufRead, W: HandsOn>(
     alloc: Global,
-    setup: Setup,
-    limit: u32,
+    guard: &mut Guard,
     reader: &mut Watched<R>,
     out: &mut Watched<W>,
-) -> Result<Status, Stop>
-    ensures ends { EndsJournal setup (R.remaining reader.old.device) (R.remaining reader.new.device)
-        (W.contents out.old.device) (W.contents out.new.device) limit result }
+    line: &mut Vec<u8>,
+) -> Result<Replayed, Stop>
+    requires { guard.old.journal ≡ [] }
+    ensures tests { TestsLines (R.remaining reader.old.device) (R.remaining reader.new.device)
+        (W.contents out.old.device) (W.contents out.new.device) guard.old.setup guard.old.limit guard.new.journal
+        line.new.items result }
+    ensures legal { Legal guard.new.setup guard.new.journal }
+    ensures setup { guard.new.setup ≡ guard.old.setup }
     ensures handed_on { IsHandedOn (W.holds_nothing out.new.device) out.new.failed result }
 {
-    let said = match verify(alloc, alloc, setup, limit, reader) {
-        Ok(verdict) => say(out, verdict),
+    let said = match replay_journal(alloc, guard, reader, line) {
+        Ok(replayed) => match say(out, replayed.verdict()) {
+            Ok(()) => Ok(replayed),
+            Err(stop) => Err(stop),
+        },
         Err(fault) => Err(Stop::Run(fault)),
     };
     match out.flush() {
         Ok(()) => said,
         Err(_) => Err(Stop::Run(RunFault::Write { line: 1 })),
+    }
+}
+
+/// Ends where memory ran out for the guard.
+fn end_without_guard<W: HandsOn>(alloc: Global, out: &mut Watched<W>) -> Ending
+    ensures ends { (stop : StopOf) × ((stop ≡ Run (NoMemory 1)) ⊎ (stop ≡ Run (Write 1))) × EndsQuietly stop result }
+    ensures kept { Keeps (W.contents out.old.device) (W.contents out.new.device) }
+    ensures handed_on { IsHandedOn (W.holds_nothing out.new.device) out.new.failed result.ended }
+{
+    match out.flush() {
+        Ok(()) => quietly(alloc, Err(Stop::Run(RunFault::NoMemory { line: 1 }))),
+        Err(_) => quietly(alloc, Err(Stop::Run(RunFault::Write { line: 1 }))),
+    }
+}
+
+/// Tests the journal that the reader holds, under this setup, and says what it is.
+pub fn test_journal<R: BufRead, W: HandsOn>(
+    alloc: Global,
+    reporting: Reporting,
+    setup: Setup,
+    limit: u32,
+    reader: &mut Watched<R>,
+    out: &mut Watched<W>,
+) -> Ending
+    ensures ends { EndsJournal reporting setup (R.remaining reader.old.device) (R.remaining reader.new.device)
+        (W.contents out.old.device) (W.contents out.new.device) limit result }
+    ensures handed_on { IsHandedOn (W.holds_nothing out.new.device) out.new.failed result.ended }
+{
+    let Ok(mut guard) = Guard::new(alloc, alloc, setup, limit) else {
+        return end_without_guard(alloc, out);
+    };
+    let mut line = Vec::new(alloc);
+    let tested = test_lines(alloc, &mut guard, reader, out, &mut line);
+    match tested {
+        Ok(replayed) => {
+            let status = status_of(replayed.verdict());
+            report(
+                alloc,
+                reporting,
+                &guard,
+                About::Journal(replayed, &line),
+                Ok(status),
+            )
+        }
+        Err(stop) => report(alloc, reporting, &guard, About::Nothing, Err(stop)),
     }
 }

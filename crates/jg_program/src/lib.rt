@@ -2,12 +2,13 @@
 //! each of its wrong bodies is tried without the program around it.
 #![tactic(auto)]
 
+mod about;
 mod files;
 mod journal;
-mod leaks;
 mod migrating;
 mod playing;
 mod program;
+mod reporting;
 mod setup_file;
 mod stop;
 

@@ -1,16 +1,21 @@
 //! The scripts of a file are played, each thread's by a worker, and the journal is written.
 
-ghost use Rattle.std.specs.Prelude.{◌≡◌, ◌≢◌, ◌≤◌};
+ghost use Rattle.std.specs.Prelude.{◌≡◌, ◌≢◌, ◌≤◌, [], Result};
 ghost use Rattle.std.specs.IoError.{error_kind};
 ghost use Rattle.std.specs.declared.io.ErrorKind.TheVariants.{OutOfMemory};
 ghost use Rattle.jg_script.specs.declared.run_fault.RunFault.TheVariants.{NoMemory, Read};
 ghost use Rattle.jg_program.specs.declared.stop.Stop.TheVariants.{Run};
+ghost use Rattle.jg_program.specs.declared.stop.Status.{Status as StatusOf};
+ghost use Rattle.jg_program.specs.declared.stop.Stop.{Stop as StopOf};
 ghost use Rattle.jg_program.specs.Ended.{IsHandedOn};
 ghost use Rattle.jg_shell.specs.declared.settle.FinishFault.TheVariants.{Differs};
 ghost use Rattle.jg_shell.specs.Work.{AreApart};
-ghost use Rattle.jg_program.specs.Plays.{AreReceipts, EndsPlay, HandsOut, PlaysOut, ReadsFile, Settles, TellsDifference, first_stop_of};
+ghost use Rattle.jg_program.specs.Plays.{AreReceipts, EndsPlay, HandsOut, PlaysOut, ReadsFile, Settles, SettlesBy, TellsDifference, first_stop_of};
+ghost use Rattle.jg_program.specs.Reported.{Reports};
 
-use crate::stop::{Status, Stop};
+use crate::about::About;
+use crate::reporting::{Reporting, report};
+use crate::stop::{Ending, Status, Stop, quietly};
 use jg_guard::Guard;
 use jg_policy::{Setup, SetupFault};
 use jg_script::{HandsOn, RunFault, Scripts, Watched, read_scripts, write_journal};
@@ -70,14 +75,15 @@ fn hand_out<W: HandsOn>(alloc: Global, guard: &Guard, out: &mut Watched<W>) -> R
     }
 }
 
-/// Ends a play whose journal is just what its threads were told.
-fn end_told<L: Ledger, W: HandsOn>(
+/// Writes the journal of a play whose journal is just what its threads were told.
+fn hand_out_told<L: Ledger, W: HandsOn>(
     alloc: Global,
-    finished: Finished<L>,
+    finished: &Finished<L>,
     out: &mut Watched<W>,
 ) -> Result<Status, Stop>
-    requires { AreReceipts finished.guard finished.workers.items }
-    ensures settles { Settles finished.workers.items (W.contents out.old.device) (W.contents out.new.device) result }
+    requires { AreReceipts finished.now.guard finished.now.workers.items }
+    ensures settles { SettlesBy finished.now.guard finished.now.workers.items (W.contents out.old.device)
+        (W.contents out.new.device) result }
     ensures handed_on { IsHandedOn (W.holds_nothing out.new.device) out.new.failed result }
 {
     if let Err(stop) = hand_out(alloc, &finished.guard, out) {
@@ -89,6 +95,22 @@ fn end_told<L: Ledger, W: HandsOn>(
     }
 }
 
+/// Ends a play whose journal is just what its threads were told.
+fn end_told<L: Ledger, W: HandsOn>(
+    alloc: Global,
+    reporting: Reporting,
+    finished: Finished<L>,
+    out: &mut Watched<W>,
+) -> Ending
+    requires { AreReceipts finished.guard finished.workers.items }
+    ensures settles { Settles reporting finished.workers.items (W.contents out.old.device)
+        (W.contents out.new.device) result }
+    ensures handed_on { IsHandedOn (W.holds_nothing out.new.device) out.new.failed result.ended }
+{
+    let ended = hand_out_told(alloc, &finished, out);
+    report(alloc, reporting, &finished.guard, About::Nothing, ended)
+}
+
 /// The thread and the place of the first difference, and what is handed back.
 fn parts_of<L: Ledger>(fault: FinishFault<L>) -> (Tid, usize, Finished<L>)
     ensures { fault ≡ Differs result.0 result.1 result.2 }
@@ -97,16 +119,17 @@ fn parts_of<L: Ledger>(fault: FinishFault<L>) -> (Tid, usize, Finished<L>)
     (tid, place, back)
 }
 
-/// Ends a play whose journal isn't what its threads were told: it is the first difference that is
-/// handed in, of this thread at this place.
-fn end_different<L: Ledger, W: HandsOn>(
+/// Writes the journal of a play whose journal isn't what its threads were told: it is the first
+/// difference that is handed in, of this thread at this place.
+fn hand_out_different<L: Ledger, W: HandsOn>(
     alloc: Global,
     tid: Tid,
     place: usize,
-    back: Finished<L>,
+    back: &Finished<L>,
     out: &mut Watched<W>,
 ) -> Result<Status, Stop>
-    ensures tells { TellsDifference tid place back.guard (W.contents out.old.device) (W.contents out.new.device) result }
+    ensures tells { TellsDifference tid place back.now.guard (W.contents out.old.device) (W.contents out.new.device)
+        result }
     ensures handed_on { IsHandedOn (W.holds_nothing out.new.device) out.new.failed result }
 {
     if let Err(stop) = hand_out(alloc, &back.guard, out) {
@@ -118,22 +141,40 @@ fn end_different<L: Ledger, W: HandsOn>(
     })
 }
 
+/// Ends such a play.
+fn end_different<L: Ledger, W: HandsOn>(
+    alloc: Global,
+    reporting: Reporting,
+    tid: Tid,
+    place: usize,
+    back: Finished<L>,
+    out: &mut Watched<W>,
+) -> Ending
+    ensures tells { (ended : Result StatusOf StopOf) × TellsDifference tid place back.guard (W.contents out.old.device)
+        (W.contents out.new.device) ended × Reports (λ about. about ≡ []) reporting back.guard.setup back.guard.journal ended result }
+    ensures handed_on { IsHandedOn (W.holds_nothing out.new.device) out.new.failed result.ended }
+{
+    let ended = hand_out_different(alloc, tid, place, &back, out);
+    report(alloc, reporting, &back.guard, About::Nothing, ended)
+}
+
 /// Takes the guard out of its lock once its workers have run, and writes its journal.
 fn settle<L: Ledger, W: HandsOn>(
     alloc: Global,
+    reporting: Reporting,
     shared: SharedGuard<L>,
     workers: Vec<Worker<L>>,
     out: &mut Watched<W>,
-) -> Result<Status, Stop>
+) -> Ending
     requires { AreApart workers.items }
-    ensures settles { Settles workers.items (W.contents out.old.device) (W.contents out.new.device) result }
-    ensures handed_on { IsHandedOn (W.holds_nothing out.new.device) out.new.failed result }
+    ensures settles { Settles reporting workers.items (W.contents out.old.device) (W.contents out.new.device) result }
+    ensures handed_on { IsHandedOn (W.holds_nothing out.new.device) out.new.failed result.ended }
 {
     match finish(shared, workers) {
-        Ok(finished) => end_told(alloc, finished, out),
+        Ok(finished) => end_told(alloc, reporting, finished, out),
         Err(fault) => {
             let (tid, place, back) = parts_of(fault);
-            end_different(alloc, tid, place, back, out)
+            end_different(alloc, reporting, tid, place, back, out)
         }
     }
 }
@@ -143,27 +184,28 @@ fn settle<L: Ledger, W: HandsOn>(
 fn play_scripts<L: Ledger + Send + Sync, T: Threads + Wait + Sync, W: HandsOn>(
     rt: &T,
     alloc: Global,
+    reporting: Reporting,
     blank: Blank,
     setup: Setup,
     limit: u32,
     turns: u32,
     scripts: Scripts,
     out: &mut Watched<W>,
-) -> Result<Status, Stop>
+) -> Ending
     requires name { blank.name ≡ L.name }
     requires parts { blank.parts ≡ L.parts }
     requires enough { 64 ≤ blank.parts }
     requires turns { 1 ≤ turns }
-    ensures plays { PlaysOut turns scripts (W.contents out.old.device) (W.contents out.new.device) result }
-    ensures handed_on { IsHandedOn (W.holds_nothing out.new.device) out.new.failed result }
+    ensures plays { PlaysOut reporting turns scripts (W.contents out.old.device) (W.contents out.new.device) result }
+    ensures handed_on { IsHandedOn (W.holds_nothing out.new.device) out.new.failed result.ended }
 {
     let Ok((shared, mut workers)) = SharedGuard::<L>::new(alloc, setup, limit, scripts, blank)
     else {
-        return Err(Stop::Setup(SetupFault::NoMemory));
+        return quietly(alloc, Err(Stop::Setup(SetupFault::NoMemory)));
     };
     let gate = Meeting::new(workers.len(), LOOKS);
     play(rt, &shared, workers.as_mut_slice(), turns, &gate);
-    settle(alloc, shared, workers, out)
+    settle(alloc, reporting, shared, workers, out)
 }
 
 /// The scripts of a file.
@@ -181,20 +223,24 @@ fn scripts_in<F: Read + Drop>(alloc: Global, file: F) -> Result<Scripts, RunFaul
 pub fn play_file<T: Threads + Wait + Sync, F: Read + Drop, W: HandsOn>(
     rt: &T,
     alloc: Global,
+    reporting: Reporting,
     setup: Setup,
     limit: u32,
     turns: u32,
     file: F,
     out: &mut Watched<W>,
-) -> Result<Status, Stop>
+) -> Ending
     requires { 1 ≤ turns }
-    ensures ends { EndsPlay turns (F.remaining file) (W.contents out.old.device) (W.contents out.new.device) result }
+    ensures ends { EndsPlay reporting turns (F.remaining file) (W.contents out.old.device)
+        (W.contents out.new.device) result }
 {
     match scripts_in(alloc, file) {
         Ok(scripts) => {
             let blank = Blank::new(64);
-            play_scripts::<Brand, _, _>(rt, alloc, blank, setup, limit, turns, scripts, out)
+            play_scripts::<Brand, _, _>(
+                rt, alloc, reporting, blank, setup, limit, turns, scripts, out,
+            )
         }
-        Err(fault) => Err(Stop::Run(fault)),
+        Err(fault) => quietly(alloc, Err(Stop::Run(fault))),
     }
 }

@@ -1,20 +1,22 @@
 //! What the program does, over any words, reader and writers.
 
 ghost use Rattle.std.specs.Prelude.{IfOk, ◌≡◌, ◌≤◌, []};
+ghost use Rattle.jg_rules.specs.Legal.{Legal};
 ghost use Rattle.jg_program.specs.declared.stop.Status.TheVariants.{Done};
-ghost use Rattle.jg_program.specs.Ended.{Ends, EndsClosed, EndsScript, EndsUnder, IsHandedOn};
+ghost use Rattle.jg_program.specs.Ended.{AnswersLines, Ends, EndsClosed, EndsScript, EndsUnder, IsHandedOn};
 
+use crate::about::{About, end_refused};
 use crate::files::Files;
 use crate::journal::test_journal;
-use crate::leaks::leaks_of;
 use crate::migrating::migrate;
 use crate::playing::{play_file, script_stop_of};
+use crate::reporting::{Reporting, report};
 use crate::setup_file::{closed_setup, read_setup, stop_of};
-use crate::stop::{Ending, Status, Stop, quietly, tell};
+use crate::stop::{Ending, Status, Stop, quietly, tell_ending};
 use jg_args::{ArgsFault, Asked, Task, help_text, read_words};
 use jg_guard::Guard;
 use jg_policy::{Setup, SetupFault};
-use jg_script::{HandsOn, RunFault, Watched, check};
+use jg_script::{HandsOn, RunFault, Watched, check_lines};
 use std::alloc::Global;
 use std::io::{BufRead, Read, Write};
 use std::mem::forget;
@@ -27,40 +29,37 @@ const STANDARD_INPUT: &str = "-";
 /// What is done with the bytes on standard input.
 #[derive(Clone, Copy, Debug, PartialEq, Eq)]
 pub enum Job {
-    /// They are a script, which is answered; what it leaves behind is said, or not.
-    Check { leaks: bool },
+    /// They are a script, which is answered.
+    Check,
     /// They are a journal, which is tested.
     Verify,
 }
 
-/// Answers the script that the reader holds, by a guard that has taken no call. What is still buffered
-/// is handed on before it ends, also where it ends by a fault; a failure of that counts as a failed
-/// write of the last line that the guard took.
-fn answer_by<R: BufRead, W: HandsOn>(
+/// Answers the lines of a script, by a guard that has taken no call; `line` is room for one of them, and
+/// holds the faulty one at the end, if there is one. What is still buffered is handed on before it
+/// ends, also where it ends by a fault; a failure of that counts as a failed write of the last line
+/// that the guard took.
+fn answer_lines<R: BufRead, W: HandsOn>(
     alloc: Global,
-    leaks: bool,
     guard: &mut Guard,
     reader: &mut Watched<R>,
     out: &mut Watched<W>,
-) -> Result<Ending, Stop>
+    line: &mut Vec<u8>,
+) -> Result<Status, Stop>
     requires { guard.old.journal ≡ [] }
-    ensures ends { EndsScript leaks guard.old.setup (R.remaining reader.old.device) (R.remaining reader.new.device)
-        (W.contents out.old.device) (W.contents out.new.device) guard.old.limit result }
+    ensures answers { AnswersLines (R.remaining reader.old.device) (R.remaining reader.new.device)
+        (W.contents out.old.device) (W.contents out.new.device) guard.old.limit guard.new.journal line.new.items result }
+    ensures legal { Legal guard.new.setup guard.new.journal }
+    ensures setup { guard.new.setup ≡ guard.old.setup }
     ensures handed_on { IsHandedOn (W.holds_nothing out.new.device) out.new.failed result }
 {
-    let checked = check(alloc, guard, reader, out);
+    let checked = check_lines(alloc, guard, reader, out, line);
     let Ok(()) = out.flush() else {
         let line = guard.journal_len().max(1) as u64;
         return Err(Stop::Run(RunFault::Write { line }));
     };
     match checked {
-        Ok(_) => match leaks_of(alloc, leaks, guard) {
-            Ok(said) => Ok(Ending {
-                status: Status::Done,
-                said,
-            }),
-            Err(_) => Err(Stop::Leaks),
-        },
+        Ok(_) => Ok(Status::Done),
         Err(fault) => Err(Stop::Run(fault)),
     }
 }
@@ -68,42 +67,45 @@ fn answer_by<R: BufRead, W: HandsOn>(
 /// Answers the script that the reader holds, under this setup.
 fn answer_script<R: BufRead, W: HandsOn>(
     alloc: Global,
-    leaks: bool,
+    reporting: Reporting,
     setup: Setup,
     limit: u32,
     reader: &mut Watched<R>,
     out: &mut Watched<W>,
-) -> Result<Ending, Stop>
-    ensures ends { EndsScript leaks setup (R.remaining reader.old.device) (R.remaining reader.new.device)
+) -> Ending
+    ensures ends { EndsScript reporting setup (R.remaining reader.old.device) (R.remaining reader.new.device)
         (W.contents out.old.device) (W.contents out.new.device) limit result }
-    ensures handed_on { IsHandedOn (W.holds_nothing out.new.device) out.new.failed result }
+    ensures handed_on { IsHandedOn (W.holds_nothing out.new.device) out.new.failed result.ended }
 {
     let Ok(mut guard) = Guard::new(alloc, alloc, setup, limit) else {
-        return Err(Stop::Setup(SetupFault::NoMemory));
+        return quietly(alloc, Err(Stop::Setup(SetupFault::NoMemory)));
     };
-    let ended = answer_by(alloc, leaks, &mut guard, reader, out);
+    let mut line = Vec::new(alloc);
+    let ended = answer_lines(alloc, &mut guard, reader, out, &mut line);
+    let ending = report(alloc, reporting, &guard, About::Script(&line), ended);
     // Nothing but the ending's text comes after it: the system takes the journal back at once, and
     // not entry by entry.
     forget(guard);
-    ended
+    ending
 }
 
 /// Does what is asked for with the bytes of the reader, under this setup.
 fn work<R: BufRead, W: HandsOn>(
     alloc: Global,
     job: Job,
+    reporting: Reporting,
     setup: Setup,
     limit: u32,
     reader: &mut Watched<R>,
     out: &mut Watched<W>,
-) -> Result<Ending, Stop>
-    ensures ends { Ends job setup (R.remaining reader.old.device) (R.remaining reader.new.device)
+) -> Ending
+    ensures ends { Ends job reporting setup (R.remaining reader.old.device) (R.remaining reader.new.device)
         (W.contents out.old.device) (W.contents out.new.device) limit result }
-    ensures handed_on { IsHandedOn (W.holds_nothing out.new.device) out.new.failed result }
+    ensures handed_on { IsHandedOn (W.holds_nothing out.new.device) out.new.failed result.ended }
 {
     match job {
-        Job::Check { leaks } => answer_script(alloc, leaks, setup, limit, reader, out),
-        Job::Verify => quietly(alloc, test_journal(alloc, setup, limit, reader, out)),
+        Job::Check => answer_script(alloc, reporting, setup, limit, reader, out),
+        Job::Verify => test_journal(alloc, reporting, setup, limit, reader, out),
     }
 }
 
@@ -111,17 +113,18 @@ fn work<R: BufRead, W: HandsOn>(
 fn work_closed<R: BufRead, W: HandsOn>(
     alloc: Global,
     job: Job,
+    reporting: Reporting,
     limit: u32,
     reader: &mut Watched<R>,
     out: &mut Watched<W>,
-) -> Result<Ending, Stop>
-    ensures ends { EndsClosed job (R.remaining reader.old.device) (R.remaining reader.new.device)
+) -> Ending
+    ensures ends { EndsClosed job reporting (R.remaining reader.old.device) (R.remaining reader.new.device)
         (W.contents out.old.device) (W.contents out.new.device) limit result }
-    ensures handed_on { IsHandedOn (W.holds_nothing out.new.device) out.new.failed result }
+    ensures handed_on { IsHandedOn (W.holds_nothing out.new.device) out.new.failed result.ended }
 {
     match closed_setup(alloc) {
-        Ok(setup) => work(alloc, job, setup, limit, reader, out),
-        Err(fault) => Err(Stop::Setup(fault)),
+        Ok(setup) => work(alloc, job, reporting, setup, limit, reader, out),
+        Err(fault) => quietly(alloc, Err(Stop::Setup(fault))),
     }
 }
 
@@ -130,22 +133,23 @@ fn work_closed<R: BufRead, W: HandsOn>(
 fn work_under<F: Read + Drop, R: BufRead, W: HandsOn>(
     alloc: Global,
     job: Job,
+    reporting: Reporting,
     mut file: F,
     told: u64,
     limit: u32,
     reader: &mut Watched<R>,
     out: &mut Watched<W>,
-) -> Result<Ending, Stop>
-    ensures ends { EndsUnder job (F.remaining file) told (R.remaining reader.old.device)
+) -> Ending
+    ensures ends { EndsUnder job reporting (F.remaining file) told (R.remaining reader.old.device)
         (R.remaining reader.new.device) (W.contents out.old.device) (W.contents out.new.device) limit result }
-    ensures handed_on { IsHandedOn (W.holds_nothing out.new.device) out.new.failed result }
+    ensures handed_on { IsHandedOn (W.holds_nothing out.new.device) out.new.failed result.ended }
 {
     let read = read_setup(alloc, &mut file, told);
     // Else its number could be that of a standard input that was closed.
     drop(file);
     match read {
-        Ok(setup) => work(alloc, job, setup, limit, reader, out),
-        Err(stop) => Err(stop),
+        Ok(setup) => work(alloc, job, reporting, setup, limit, reader, out),
+        Err(stop) => quietly(alloc, Err(stop)),
     }
 }
 
@@ -187,14 +191,25 @@ fn serve<S: Files, R: BufRead + Drop, W: HandsOn + Drop>(
     files: &S,
     reader: R,
     out: W,
-) -> Result<Ending, Stop> {
+) -> Ending {
     let (mut reader, mut out) = (Watched::new(reader), Watched::new(out));
+    let reporting = reporting_of(asked);
+    let limit = asked.limit;
     let Some(path) = asked.setup else {
-        return work_closed(alloc, job, asked.limit, &mut reader, &mut out);
+        return work_closed(alloc, job, reporting, limit, &mut reader, &mut out);
     };
     match files.open(path) {
-        Ok((file, told)) => work_under(alloc, job, file, told, asked.limit, &mut reader, &mut out),
-        Err(error) => Err(stop_of(&error)),
+        Ok((file, told)) => work_under(
+            alloc,
+            job,
+            reporting,
+            file,
+            told,
+            limit,
+            &mut reader,
+            &mut out,
+        ),
+        Err(error) => quietly(alloc, Err(stop_of(&error))),
     }
 }
 
@@ -206,15 +221,13 @@ fn play_under<T: Threads + Wait + Sync, F: Read + Drop, W: HandsOn + Drop>(
     asked: Asked<'_>,
     file: F,
     out: W,
-) -> Result<Ending, Stop>
+) -> Ending
     requires { 1 ≤ asked.turns }
 {
     let mut out = Watched::new(out);
     let (limit, turns) = (asked.limit, asked.turns);
-    quietly(
-        alloc,
-        play_file(rt, alloc, setup, limit, turns, file, &mut out),
-    )
+    let reporting = reporting_of(asked);
+    play_file(rt, alloc, reporting, setup, limit, turns, file, &mut out)
 }
 
 /// Plays the scripts of the file at this path, or of standard input. The setup is read first.
@@ -226,19 +239,19 @@ fn serve_play<T: Threads + Wait + Sync, S: Files, R: BufRead + Drop, W: HandsOn 
     files: &S,
     reader: R,
     out: W,
-) -> Result<Ending, Stop>
+) -> Ending
     requires { 1 ≤ asked.turns }
 {
     let setup = match setup_at(alloc, files, asked.setup) {
         Ok(setup) => setup,
-        Err(stop) => return Err(stop),
+        Err(stop) => return quietly(alloc, Err(stop)),
     };
     if path == STANDARD_INPUT {
         return play_under(rt, alloc, setup, asked, reader, out);
     }
     match files.open(path) {
         Ok((file, _)) => play_under(rt, alloc, setup, asked, file, out),
-        Err(error) => Err(script_stop_of(&error)),
+        Err(error) => quietly(alloc, Err(script_stop_of(&error))),
     }
 }
 
@@ -248,13 +261,21 @@ fn serve_migration<S: Files, W: HandsOn + Drop>(
     path: &str,
     files: &S,
     out: W,
-) -> Result<Ending, Stop> {
+) -> Ending {
     match files.open(path) {
         Ok((mut file, told)) => {
             let mut out = Watched::new(out);
             quietly(alloc, migrate(alloc, &mut file, told, &mut out))
         }
-        Err(error) => Err(stop_of(&error)),
+        Err(error) => quietly(alloc, Err(stop_of(&error))),
+    }
+}
+
+fn reporting_of(asked: Asked<'_>) -> Reporting {
+    Reporting {
+        explain: asked.explain,
+        strict: asked.strict,
+        leaks: asked.leaks,
     }
 }
 
@@ -266,14 +287,11 @@ fn do_asked<T: Threads + Wait + Sync, S: Files, R: BufRead + Drop, W: HandsOn + 
     files: &S,
     reader: R,
     out: W,
-) -> Result<Ending, Stop>
+) -> Ending
     requires { 1 ≤ asked.turns }
 {
     match asked.task {
-        Task::Check => {
-            let job = Job::Check { leaks: asked.leaks };
-            serve(alloc, job, asked, files, reader, out)
-        }
+        Task::Check => serve(alloc, Job::Check, asked, files, reader, out),
         Task::Verify => serve(alloc, Job::Verify, asked, files, reader, out),
         Task::Play(path) => serve_play(rt, alloc, path, asked, files, reader, out),
         Task::Migrate(path) => serve_migration(alloc, path, files, out),
@@ -291,16 +309,10 @@ pub fn run<T: Threads + Wait + Sync, S: Files, R: BufRead + Drop, W: HandsOn + D
     mut out: W,
     err: &mut E,
 ) -> Status {
-    let done = match read_words(alloc, words) {
+    let ending = match read_words(alloc, words) {
         Ok(asked) => do_asked(rt, alloc, asked, files, reader, out),
         Err(ArgsFault::Help) => quietly(alloc, print_help(alloc, words, &mut out)),
-        Err(fault) => Err(Stop::Arguments(fault)),
+        Err(fault) => end_refused(alloc, words, fault),
     };
-    match done {
-        Ok(ending) => {
-            let _ = err.write_all(ending.said.as_bytes());
-            ending.status
-        }
-        Err(stop) => tell(stop, err),
-    }
+    tell_ending(ending, err)
 }

@@ -1,7 +1,8 @@
 //! How the program ends.
 
-ghost use Rattle.std.specs.Prelude.{◌≡◌, [], Ok, Err, IfOk, IfErr, string_bytes};
-ghost use Rattle.jg_program.specs.Statuses.{status_of, status_of_words, status_of_setup, status_of_run};
+ghost use Rattle.std.specs.Prelude.{◌≡◌, []};
+ghost use Rattle.jg_program.specs.Reported.{said_text};
+ghost use Rattle.jg_program.specs.Statuses.{ended_status, status_of, status_of_words, status_of_setup, status_of_run};
 
 use jg_args::ArgsFault;
 use jg_policy::SetupFault;
@@ -24,6 +25,8 @@ pub enum Status {
     Exhausted = 3,
     /// A device failed.
     Device = 4,
+    /// All was done, and a call was denied, where that is to be told by the status.
+    Denied = 5,
 }
 
 /// Why the program ends before its work is done. Each prints as its line on standard error.
@@ -42,6 +45,9 @@ pub enum Stop {
     /// Memory ran out for what is left behind, after the script was answered.
     #[error("leaks: no memory")]
     Leaks,
+    /// Memory ran out for what is explained, after all else was done.
+    #[error("explain: no memory")]
+    Explain,
     /// After a play, the receipt or the entry of this thread at this place of the journal, from 0, is
     /// the first that has no equal on the other side.
     #[error("differs at T{thread} place {place}")]
@@ -68,6 +74,7 @@ impl Stop {
             Stop::SetupRead => Status::Device,
             Stop::Run(fault) => status_of_run(fault),
             Stop::Leaks => Status::Exhausted,
+            Stop::Explain => Status::Exhausted,
             Stop::Mismatch { .. } => Status::Differs,
             Stop::Worker(_) => Status::Exhausted,
         }
@@ -111,24 +118,29 @@ fn status_of_run(fault: RunFault) -> Status
     }
 }
 
-/// How the program ends when its work is done: with this status, and with this text on standard error.
+/// What is said on standard error, behind the line that says why the program ends, if it has one.
+#[derive(Debug, Drop)]
+pub enum Said {
+    Text(String),
+    /// Memory ran out for it.
+    NoMemory,
+}
+
+/// How the program ends: with this status, or for this reason; and what is said then.
 #[derive(Debug, Drop)]
 pub struct Ending {
-    pub status: Status,
-    pub said: String,
+    pub ended: Result<Status, Stop>,
+    pub said: Said,
 }
 
 /// The ending with nothing to say.
-pub fn quietly(alloc: Global, ended: Result<Status, Stop>) -> Result<Ending, Stop>
-    ensures ok { IfOk result (λ ending. (ended ≡ Ok ending.status) × (string_bytes ending.said ≡ [])) }
-    ensures err { IfErr result (λ stop. ended ≡ Err stop) }
+pub fn quietly(alloc: Global, ended: Result<Status, Stop>) -> Ending
+    ensures ended { result.ended ≡ ended }
+    ensures said { said_text result.said ≡ [] }
 {
-    match ended {
-        Ok(status) => Ok(Ending {
-            status,
-            said: String::new(alloc),
-        }),
-        Err(stop) => Err(stop),
+    Ending {
+        ended,
+        said: Said::Text(String::new(alloc)),
     }
 }
 
@@ -138,4 +150,23 @@ pub fn tell<E: Write>(stop: Stop, err: &mut E) -> Status
 {
     let _ = writeln!(err, "{stop}");
     stop.status()
+}
+
+/// Says on standard error how the program ends, and gives its status. A failed write changes nothing.
+pub fn tell_ending<E: Write>(ending: Ending, err: &mut E) -> Status
+    ensures { result ≡ ended_status ending.ended }
+{
+    let status = match ending.ended {
+        Ok(status) => status,
+        Err(stop) => tell(stop, err),
+    };
+    match ending.said {
+        Said::Text(text) => {
+            let _ = err.write_all(text.as_bytes());
+        }
+        Said::NoMemory => {
+            let _ = writeln!(err, "{}", Stop::Explain);
+        }
+    }
+    status
 }

@@ -9,4 +9,5 @@ pub mod Leaking
 pub mod Threads
 pub mod Filing
 pub mod Writing
+pub mod Outcomes
 mod Unread

@@ -1,5 +1,5 @@
 -- What a line that was read says of what the reader had left.
-use Rattle.std.proofs.Common.{◌≡◌, ◌≢◌, ◌==◌, ℕ, ◌<◌, ◌≤◌, Bool, true, false, List, [], ◌∷◌, ◌++◌, length, codes, All, Option, Ok, refl, sym, ◌∙◌, ap, subst, arith, append_assoc, length-append, inl, inr, ◌⊎◌, eq-eqb}
+use Rattle.std.proofs.Common.{◌≡◌, ◌≢◌, ◌==◌, ℕ, ◌<◌, ◌≤◌, true, false, List, [], ◌∷◌, ◌++◌, length, codes, All, Option, Some, None, Ok, Err, refl, sym, ◌∙◌, ap, subst, arith, append_assoc, length-append, inl, inr, ◌⊎◌, eq-eqb}
 use Rattle.std.specs.Int.{IsInRange}
 use Rattle.std.specs.List.{AllByRecursion}
 use Rattle.std.proofs.lemmas.Bool.{ne_eqb}
@@ -19,10 +19,12 @@ use Rattle.jg_text.proofs.Cuts.{same_cut}
 use Rattle.jg_script.specs.Checked.{IsScript}
 use Rattle.jg_script.specs.Devices.{IsOneLine}
 use Rattle.jg_guard.specs.Guard.{State}
-use Rattle.jg_script.specs.Entries.{IsCut, Took, next_entry, Replays}
-use Rattle.jg_script.proofs.Taking.{next_fits}
-use Rattle.std.specs.Prelude.{IsTrue, ◌↔◌}
-use Rattle.jg_script.specs.Replayed.{GoesOn}
+use Rattle.jg_script.specs.Entries.{Took, next_entry, FailsCall, IsNoEntry, ReplaysLine}
+use Rattle.jg_script.specs.TextLines.{IsCut}
+use Rattle.jg_script.specs.declared.replay.Difference.TheVariants.{OtherOutcome}
+use Rattle.jg_script.specs.declared.run_fault.RunFault.{RunFault}
+use Rattle.jg_script.specs.declared.run_fault.RunFault.TheVariants.{Script, Limit, NoMemory, Read, Write}
+use Rattle.jg_script.proofs.Taking.{next_fits, next_begins}
 
 -- printable bytes have no line feed
 pub clean_of : (bs : List ℕ) → All (λ b. IsInRange 32 126 b) bs → IsOneLine bs
@@ -188,27 +190,40 @@ same_entry guard x text tail more t env call legal fits cut e begun =
     ∙ ap (λ (d : Call). next_entry guard t env d) same.2
 
 -- a text that begins with no call is the line of no entry
-pub no_call : (guard : State) (text : List ℕ) → ¬ BeginsCall text → (tail : List ℕ) → IsOneLine text → IsCut text tail → ¬ GoesOn guard.setup guard.journal (text ++ tail)
-no_call guard text none tail one cut = λ goes.
+pub no_call : (guard : State) (text : List ℕ) → ¬ BeginsCall text → IsNoEntry guard text
+no_call guard text none = λ tail one cut goes.
     let (x, more, legal, fits, e) = goes in
     none (x.tid, x.env, x.call, begun_in text tail x.tid x.env x.call cut (entry_begins x (text ++ tail) more (fits.0, tt) e))
 
 -- a text that isn't the line of its call's entry is the line of no entry
-pub not_replayed : (guard : State) (text : List ℕ) (t : Tid) (env : Option EnvId) (call : Call) → BeginsWith text t env call → FitsOutcome (next_entry guard t env call).outcome
+not_replayed : (guard : State) (text : List ℕ) (t : Tid) (env : Option EnvId) (call : Call) → BeginsWith text t env call → FitsOutcome (next_entry guard t env call).outcome
     → entry_text (next_entry guard t env call) ≢ text ++ 10 ∷ []
-    → (tail : List ℕ) → IsOneLine text → IsCut text tail → ¬ GoesOn guard.setup guard.journal (text ++ tail)
-not_replayed guard text t env call begun outcome other tail one cut = λ goes.
+    → IsNoEntry guard text
+not_replayed guard text t env call begun outcome other = λ tail one cut goes.
     let (x, more, legal, fits, e) = goes in
     let same = same_entry guard x text tail more t env call legal (fits.0, tt) cut e begun in
     let fitting = subst (λ (y : Entry). FitsOutcome y.outcome) (sym same) outcome in
     other (ap entry_text (sym same) ∙ entry_is_line x text tail more (fits.0, tt) fitting one cut e)
 
-pub answered : (old new : State) (text entry : List ℕ) (t : Tid) (env : Option EnvId) (call : Call) (n : ℕ) (r : Bool) → BeginsWith text t env call → FitsOutcome (next_entry old t env call).outcome
-    → Took old new (next_entry old t env call) → entry ≡ entry_text (next_entry old t env call)
-    → IsTrue r ↔ (entry ≡ text ++ 10 ∷ []) → Replays old new text n (Ok r)
-answered old new text entry t env call n true begun outcome took is told =
-    let fits = next_fits old t env call begun.tid begun.env begun.call in
-    let line = sym is ∙ told.0 refl in
-    (next_entry old t env call, took, fits, line, line_within (next_entry old t env call) text fits outcome line)
-answered old new text entry t env call n false begun outcome took is told =
-    not_replayed old text t env call begun outcome (λ line. let clash : false ≡ true = told.1 (is ∙ line) in absurd (cc))
+-- the call isn't taken
+pub not_taken : (old new : State) (e : Entry) (text : List ℕ) (n : ℕ) (fault : RunFault) → length old.journal < old.limit → FailsCall old new e n fault → ReplaysLine old new text n (Err fault)
+not_taken old new e text n (Limit line) room (same, full, is) = absurd (omega (arith, room, full))
+not_taken old new e text n (NoMemory line) room (inl same, is) = (is, inl same)
+not_taken old new e text n (NoMemory line) room (inr took, is) = (is, inr (e, took))
+not_taken old new e text n (Script line fault) room none = absurd none
+not_taken old new e text n (Read line) room none = absurd none
+not_taken old new e text n (Write line) room none = absurd none
+
+module _ (old new : State) (text entry : List ℕ) (t : Tid) (env : Option EnvId) (call : Call) (n : ℕ) (begun : BeginsWith text t env call)
+    (outcome : FitsOutcome (next_entry old t env call).outcome) (took : Took old new (next_entry old t env call)) (is : entry ≡ entry_text (next_entry old t env call)) where
+  pub is_its_line : entry ≡ text ++ 10 ∷ [] → ReplaysLine old new text n (Ok None)
+  is_its_line same =
+      let fits = next_fits old t env call begun.tid begun.env begun.call in
+      let line = sym is ∙ same in
+      (next_entry old t env call, took, fits, line, line_within (next_entry old t env call) text fits outcome line)
+
+  pub is_other_line : entry ≢ text ++ 10 ∷ [] → ReplaysLine old new text n (Ok (Some OtherOutcome))
+  is_other_line other = (
+    not_replayed old text t env call begun outcome (λ line. other (is ∙ line)),
+    (next_entry old t env call, took, next_begins old text t env call begun, λ line. other (is ∙ line)),
+  )

@@ -8,8 +8,8 @@ use Rattle.jg_text.specs.Journal.{call_lines, journal_text}
 use Rattle.jg_guard.specs.Guard.{State}
 use Rattle.jg_script.specs.declared.run_fault.RunFault.{RunFault}
 use Rattle.jg_script.specs.declared.run_fault.RunFault.TheVariants.{Script, Limit, NoMemory, Read, Write}
-use Rattle.jg_script.specs.Answered.{Answers, Journals}
-use Rattle.jg_script.specs.Checked.{Checks, Reads, script_text, IsWellFormed, WritesAll, IsScript}
+use Rattle.jg_script.specs.Answered.{Answers, Journals, KeepsFaulty}
+use Rattle.jg_script.specs.Checked.{Checks, HoldsFaulty, Reads, script_text, IsWellFormed, WritesAll, IsScript}
 use Rattle.jg_script.specs.TextLines.{lines_of, LinesTaken, BeginsTooLong, BeginsWith, AreFollowedBy, TakesOneMore, ReadsOneMore}
 use Rattle.jg_script.specs.Devices.{TakesFront}
 use Rattle.jg_script.proofs.TextLines.{followed, followed_by_long, begun, begun_before, one_more}
@@ -99,6 +99,17 @@ module _ (input mid input' bytes part bytes' : Option (List ℕ)) (limit line : 
       let len = ap length j.journal in
       let counted = h.counted in
       (begun _ _ _ (lines_of_calls _ _ old new text e j taken), (e, old.journal, j.journal, (part, h.written, front)), omega arith)
+
+  -- a faulty line is still there
+  pub answered_faulty : (text' : List ℕ) (fault : RunFault) → LinesTaken input input' (call_lines old.journal ++ text ∷ []) → Answers part bytes' old new text line (Err fault)
+      → KeepsFaulty text text' (Err fault) → HoldsFaulty input new.journal text' (Err fault)
+  answered_faulty text' (Script l f) taken (device, same, first, is) kept =
+      let P : List Entry → Type 0 = λ k. AreFollowedBy input (call_lines k) (λ next. next ≡ text') in
+      λ short. (subst P (sym same) (followed _ _ _ text (λ next. next ≡ text') taken (sym kept)), subst (λ (t : List ℕ). IsFirstFault t f) (sym kept) first)
+  answered_faulty text' (Limit l) taken answers kept = tt
+  answered_faulty text' (NoMemory l) taken answers kept = tt
+  answered_faulty text' (Read l) taken answers kept = tt
+  answered_faulty text' (Write l) taken answers kept = tt
 
 -- what was read
 pub reads_front : (input mid input' : Option (List ℕ)) (g : List Entry) → Consumes input mid (script_text g) → TakesFront mid input' → ReadsOneMore input input' (script_text g)

@@ -14,10 +14,11 @@ use Rattle.jg_rules.specs.Rules.{verdict}
 use Rattle.jg_text.specs.Words.{FitsTid, FitsEnv}
 use Rattle.jg_text.specs.Operands.{FitsCall}
 use Rattle.jg_text.specs.Spelling.{Spells}
+use Rattle.jg_text.specs.Begun.{BeginsWith}
 use Rattle.jg_text.specs.Journal.{call_line, answer_text, entry_text, FitsOutcome}
 use Rattle.jg_text.proofs.Writing.{completed}
 use Rattle.jg_guard.specs.Guard.{State}
-use Rattle.jg_script.specs.Answered.{Answers, Journals}
+use Rattle.jg_script.specs.Answered.{Answers, Journals, KeepsFaulty}
 use Rattle.jg_script.specs.Checked.{IsScript}
 use Rattle.jg_script.specs.Entries.{Took, next_entry, FailsCall}
 use Rattle.jg_script.specs.declared.run_fault.RunFault.{RunFault}
@@ -35,6 +36,16 @@ fits_by None a t env call ht he hc = ((ht, he, hc), tt)
 
 pub next_fits : (guard : State) (t : Tid) (env : Option EnvId) (call : Call) → FitsTid t → FitsEnv env → FitsCall call → IsScript (next_entry guard t env call ∷ [])
 next_fits guard t env call ht he hc = fits_by (verdict guard.setup (parts guard.setup guard.journal) t.0 env call) (answer guard.setup (parts guard.setup guard.journal) t call) t env call ht he hc
+
+begins_by : (rule : Option Rule) (a : Answer) (text : List ℕ) (t : Tid) (env : Option EnvId) (call : Call) → BeginsWith text t env call
+    → BeginsWith text (entry_by rule a t env call).tid (entry_by rule a t env call).env (entry_by rule a t env call).call
+begins_by (Some rule) a text t env call h = h
+begins_by None a text t env call h = h
+
+-- the text begins with the call of the entry that the guard takes for it
+pub next_begins : (guard : State) (text : List ℕ) (t : Tid) (env : Option EnvId) (call : Call) → BeginsWith text t env call
+    → BeginsWith text (next_entry guard t env call).tid (next_entry guard t env call).env (next_entry guard t env call).call
+next_begins guard text t env call h = begins_by (verdict guard.setup (parts guard.setup guard.journal) t.0 env call) (answer guard.setup (parts guard.setup guard.journal) t call) text t env call h
 
 pub journals : (old new : State) (text : List ℕ) (t : Tid) (env : Option EnvId) (call : Call) → Took old new (next_entry old t env call) → Spells text t env call
     → Journals old new text (next_entry old t env call)
@@ -62,6 +73,14 @@ not_taken bytes old new text t env call n (NoMemory line) (inr took, is) spelt =
 not_taken bytes old new text t env call n (Script line fault) none spelt = absurd none
 not_taken bytes old new text t env call n (Read line) none spelt = absurd none
 not_taken bytes old new text t env call n (Write line) none spelt = absurd none
+
+-- a line whose call isn't taken isn't faulty
+pub taken_kept : (old new : State) (e : Entry) (text : List ℕ) (n : ℕ) (fault : RunFault) → FailsCall old new e n fault → KeepsFaulty text text (Err fault)
+taken_kept old new e text n (Limit line) fails = tt
+taken_kept old new e text n (NoMemory line) fails = tt
+taken_kept old new e text n (Script line fault) none = absurd none
+taken_kept old new e text n (Read line) fails = tt
+taken_kept old new e text n (Write line) fails = tt
 
 -- the entry in front of the journal is the one that was taken
 pub newest_told : (old new : State) (e x : Entry) (out : List ℕ) → Took old new e → slice_get new.journal 0 ≡ Some x → FitsOutcome x.outcome → out ≡ [] ++ entry_text x

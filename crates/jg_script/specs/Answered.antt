@@ -30,3 +30,12 @@ Answers bytes bytes' old new text n (Err (NoMemory line)) =
 Answers bytes bytes' old new text n (Err (Read line)) = ⊥
 Answers bytes bytes' old new text n (Err (Write line)) =
     ((e : Entry) × Journals old new text e × WritesFront bytes bytes' e) × (line ≡ n)
+
+-- a line that is faulty stays as it is
+abbrev pub KeepsFaulty : List ℕ → List ℕ → Result (Unit {0}) RunFault → Type 0
+KeepsFaulty old new (Ok done) = Unit {0}
+KeepsFaulty old new (Err (Script line fault)) = new ≡ old
+KeepsFaulty old new (Err (Limit line)) = Unit {0}
+KeepsFaulty old new (Err (NoMemory line)) = Unit {0}
+KeepsFaulty old new (Err (Read line)) = Unit {0}
+KeepsFaulty old new (Err (Write line)) = Unit {0}

@@ -56,6 +56,17 @@ Checks input input' bytes bytes' limit h (Err (Write line)) =
     BeginsWith input (call_lines h) × ((e : Entry) × (g : List Entry) × (h ≡ e ∷ g)
     × ((mid : Option (List ℕ)) × WritesAll bytes mid g × WritesFront mid bytes' e)) × (line ≡ length h)
 
+-- where a check ends at a faulty line that isn't too long, the room for a line `text` holds just that line, which has
+-- this fault before all others
+abbrev pub HoldsFaulty : Option (List ℕ) → List Entry → List ℕ → Result ℕ RunFault → Type 0
+HoldsFaulty input h text (Ok n) = Unit {0}
+HoldsFaulty input h text (Err (Script line fault)) = fault ≢ LineTooLong
+    → AreFollowedBy input (call_lines h) (λ next. next ≡ text) × IsFirstFault text fault
+HoldsFaulty input h text (Err (Limit line)) = Unit {0}
+HoldsFaulty input h text (Err (NoMemory line)) = Unit {0}
+HoldsFaulty input h text (Err (Read line)) = Unit {0}
+HoldsFaulty input h text (Err (Write line)) = Unit {0}
+
 -- the lines of a history's calls, each with its line feed
 abbrev pub script_text : List Entry → List ℕ
 script_text [] = []

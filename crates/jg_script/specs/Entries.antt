@@ -1,6 +1,6 @@
 -- What taking one call does, and what replaying one line of a journal does. No public contract
 -- stands on this.
-use Rattle.std.specs.Prelude.{◌≡◌, ℕ, ◌<◌, ◌≤◌, List, [], ◌∷◌, ◌++◌, length, Option, Result, Ok, Err, ◌⊎◌, Bool, true, false}
+use Rattle.std.specs.Prelude.{◌≡◌, ◌≢◌, ℕ, ◌<◌, ◌≤◌, List, [], ◌∷◌, ◌++◌, length, Option, Some, None, Result, Ok, Err, ◌⊎◌}
 use Rattle.jg_words.specs.declared.thread.Tid.{Tid}
 use Rattle.jg_words.specs.declared.thread.EnvId.{EnvId}
 use Rattle.jg_words.specs.declared.call.Call.{Call}
@@ -8,13 +8,16 @@ use Rattle.jg_words.specs.Entry.{Entry}
 use Rattle.jg_rules.specs.Effects.{parts}
 use Rattle.jg_rules.specs.Legal.{entry_at}
 use Rattle.jg_guard.specs.Guard.{State}
-use Rattle.jg_text.specs.Begun.{BeginsCall}
+use Rattle.jg_text.specs.Begun.{BeginsCall, BeginsWith}
 use Rattle.jg_text.specs.Journal.{entry_text}
 use Rattle.jg_script.specs.Checked.{IsScript}
 use Rattle.jg_script.specs.Devices.{IsOneLine}
 use Rattle.jg_script.specs.Replayed.{GoesOn}
-use Rattle.jg_script.specs.declared.replay.Verdict.{Verdict}
-use Rattle.jg_script.specs.declared.replay.Verdict.TheVariants.{Legal, Differs}
+use Rattle.jg_script.specs.TextLines.{IsCut}
+use Rattle.jg_script.specs.declared.replay.Difference.{Difference}
+use Rattle.jg_script.specs.declared.replay.Difference.TheVariants.{NoLineFeed, NoCall, OtherOutcome}
+use Rattle.jg_script.specs.declared.replay.Replayed.{Replayed}
+use Rattle.jg_script.specs.declared.replay.Replayed.TheVariants.{Legal, Differs}
 use Rattle.jg_script.specs.declared.run_fault.RunFault.{RunFault}
 use Rattle.jg_script.specs.declared.run_fault.RunFault.TheVariants.{Script, Limit, NoMemory, Read, Write}
 
@@ -35,26 +38,31 @@ FailsCall old new e n (Script line fault) = ⊥
 FailsCall old new e n (Read line) = ⊥
 FailsCall old new e n (Write line) = ⊥
 
--- what the reader has left begins with this text: then comes the line feed, or nothing, or the
--- text has more bytes than a line may have
-abbrev pub IsCut : List ℕ → List ℕ → Type 0
-IsCut text tail = (tail ≡ []) ⊎ (((more : List ℕ) × (tail ≡ 10 ∷ more)) ⊎ (length text ≡ 65537))
+-- no entry with which the guard's journal stays legal has this line
+abbrev pub IsNoEntry : State → List ℕ → Type 0
+IsNoEntry guard text = (tail : List ℕ) → IsOneLine text → IsCut text tail
+    → ¬ GoesOn guard.setup guard.journal (text ++ tail)
 
 -- what replaying line n did: the guard took its entry, or there is no such entry
-abbrev pub Replays : State → State → List ℕ → ℕ → Result Bool RunFault → Type 0
-Replays old new text n (Ok true) = (e : Entry) × Took old new e × IsScript (e ∷ []) × (entry_text e ≡ text ++ 10 ∷ [])
-    × (length text ≤ 65536)
-Replays old new text n (Ok false) = (tail : List ℕ) → IsOneLine text → IsCut text tail
-    → ¬ GoesOn old.setup old.journal (text ++ tail)
-Replays old new text n (Err (NoMemory line)) = line ≡ n
-Replays old new text n (Err (Script line fault)) = ⊥
-Replays old new text n (Err (Limit line)) = ⊥
-Replays old new text n (Err (Read line)) = ⊥
-Replays old new text n (Err (Write line)) = ⊥
+abbrev pub ReplaysLine : State → State → List ℕ → ℕ → Result (Option Difference) RunFault → Type 0
+ReplaysLine old new text n (Ok None) = (e : Entry) × Took old new e × IsScript (e ∷ [])
+    × (entry_text e ≡ text ++ 10 ∷ []) × (length text ≤ 65536)
+ReplaysLine old new text n (Ok (Some NoLineFeed)) = ⊥
+ReplaysLine old new text n (Ok (Some NoCall)) = IsNoEntry old text × (new.journal ≡ old.journal) × (¬ BeginsCall text)
+ReplaysLine old new text n (Ok (Some OtherOutcome)) = IsNoEntry old text
+    × ((e : Entry) × Took old new e × BeginsWith text e.tid e.env e.call × (entry_text e ≢ text ++ 10 ∷ []))
+ReplaysLine old new text n (Err (NoMemory line)) = (line ≡ n)
+    × ((new.journal ≡ old.journal) ⊎ ((e : Entry) × Took old new e))
+ReplaysLine old new text n (Err (Script line fault)) = ⊥
+ReplaysLine old new text n (Err (Limit line)) = ⊥
+ReplaysLine old new text n (Err (Read line)) = ⊥
+ReplaysLine old new text n (Err (Write line)) = ⊥
 
 -- how a line past the limit is answered
-abbrev pub IsPast : List ℕ → ℕ → Result Verdict RunFault → Type 0
-IsPast text n (Ok (Differs line)) = (line ≡ n) × (¬ BeginsCall text)
+abbrev pub IsPast : List ℕ → ℕ → Result Replayed RunFault → Type 0
+IsPast text n (Ok (Differs line NoCall)) = (line ≡ n) × (¬ BeginsCall text)
+IsPast text n (Ok (Differs line NoLineFeed)) = ⊥
+IsPast text n (Ok (Differs line OtherOutcome)) = ⊥
 IsPast text n (Ok Legal) = ⊥
 IsPast text n (Err (Limit line)) = (line ≡ n) × BeginsCall text
 IsPast text n (Err (NoMemory line)) = line ≡ n

@@ -28,6 +28,15 @@ abbrev pub IsFrontOfLine : List ℕ → Type 0
 IsFrontOfLine bytes = (line : List ℕ) × All (λ b. (b == 10) ≡ false) line × ((bytes ≡ line) ⊎ (bytes ≡ line ++ 10 ∷ []))
     × (length bytes ≤ 65537)
 
+-- a line's end: nothing comes after it, or a line feed; or it has more bytes than a line may have, and what comes after
+-- those isn't read
+abbrev pub IsCut : List ℕ → List ℕ → Type 0
+IsCut line tail = (tail ≡ []) ⊎ (((more : List ℕ) × (tail ≡ 10 ∷ more)) ⊎ (length line ≡ 65537))
+
+-- the text begins with this line, as much of it as is read
+abbrev pub IsNextLine : List ℕ → List ℕ → Type 0
+IsNextLine line text = All (λ b. (b == 10) ≡ false) line × ((tail : List ℕ) × (text ≡ line ++ tail) × IsCut line tail)
+
 -- what was read is this text and a front of one more line
 abbrev pub ReadsOneMore : Option (List ℕ) → Option (List ℕ) → List ℕ → Type 0
 ReadsOneMore old new text = (bytes : List ℕ) × IsFrontOfLine bytes × Consumes old new (text ++ bytes)

@@ -4,7 +4,7 @@ ghost use Rattle.std.specs.Prelude.{◌≡◌, ◌<◌, ◌≤◌, Some, length,
 ghost use Rattle.std.specs.Str.{IsUtf8};
 ghost use Rattle.jg_rules.specs.Legal.{Legal};
 ghost use Rattle.jg_text.specs.Journal.{call_line, entry_text};
-ghost use Rattle.jg_script.specs.Answered.{Answers};
+ghost use Rattle.jg_script.specs.Answered.{Answers, KeepsFaulty};
 ghost use Rattle.jg_script.specs.Entries.{Took, next_entry, FailsCall};
 ghost use Rattle.jg_script.specs.Checked.{WriterFails};
 
@@ -86,6 +86,7 @@ pub fn answer_line<A: Allocator + Clone, W: Write>(
     requires { length guard.old.journal ≤ guard.old.limit }
     ensures answers { Answers (W.contents writer.old.device) (W.contents writer.new.device) guard.old guard.new
         text.old.items line result }
+    ensures kept { KeepsFaulty text.old.items text.new.items result }
     ensures legal { Legal guard.old.setup guard.old.journal → Legal guard.new.setup guard.new.journal }
     ensures setup { guard.new.setup ≡ guard.old.setup }
     ensures limit { guard.new.limit ≡ guard.old.limit }

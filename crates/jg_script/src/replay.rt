@@ -3,8 +3,8 @@
 ghost use Rattle.std.specs.Prelude.{◌≡◌, ◌<◌, ◌++◌, ◌∷◌, [], length, IsTrue, ◌↔◌};
 ghost use Rattle.jg_rules.specs.Legal.{Legal};
 ghost use Rattle.jg_script.specs.Checked.{ReaderFails};
-ghost use Rattle.jg_script.specs.Entries.{Replays, IsPast};
-ghost use Rattle.jg_script.specs.Replayed.{Verifies};
+ghost use Rattle.jg_script.specs.Entries.{ReplaysLine, IsPast};
+ghost use Rattle.jg_script.specs.Replayed.{verdict_of, ReplaysJournal, Verifies};
 
 use crate::answer::{newest, take_call};
 use crate::line::{Taken, next_line};
@@ -26,6 +26,38 @@ pub enum Verdict {
     Differs(u64),
 }
 
+/// How a line differs from each line with which the text of a legal history goes on.
+#[derive(Clone, Copy, Debug, PartialEq, Eq)]
+pub enum Difference {
+    /// It is the last line, and has no line feed.
+    NoLineFeed,
+    /// It doesn't begin with a call and ` = `.
+    NoCall,
+    /// It begins with a call and ` = `, and goes on otherwise than with that call's outcome.
+    OtherOutcome,
+}
+
+/// What a journal's text is, and how it differs.
+#[derive(Clone, Copy, Debug, PartialEq, Eq)]
+pub enum Replayed {
+    /// That of a legal history.
+    Legal,
+    /// Such a text up to this line, and no longer with it. Lines count from 1.
+    Differs { line: u64, how: Difference },
+}
+
+impl Replayed {
+    /// What the text is, without how it differs.
+    pub fn verdict(self) -> Verdict
+        ensures { result ≡ verdict_of self }
+    {
+        match self {
+            Replayed::Legal => Verdict::Legal,
+            Replayed::Differs { line, .. } => Verdict::Differs(line),
+        }
+    }
+}
+
 /// The entry's line is the text and a line feed.
 fn is_line_of(entry: &[u8], text: &[u8]) -> bool
     ensures { IsTrue result ↔ (entry.now ≡ text.now ++ 10 ∷ []) }
@@ -36,17 +68,18 @@ fn is_line_of(entry: &[u8], text: &[u8]) -> bool
     }
 }
 
-/// Whether line number `line`, without its line feed, is that of an entry with which the guard's
-/// journal stays legal; the guard takes its call then.
+/// How line number `line`, without its line feed, differs from those of the entries with which the
+/// guard's journal stays legal; `None` where it is one of them. The guard takes the call with which the
+/// line begins.
 fn replay_line<A: Allocator + Clone>(
     alloc: Global,
     guard: &mut Guard<A>,
     out: &mut String,
     text: &[u8],
     line: u64,
-) -> Result<bool, RunFault>
+) -> Result<Option<Difference>, RunFault>
     requires { length guard.old.journal < guard.old.limit }
-    ensures replays { Replays guard.old guard.new text.now line result }
+    ensures replays { ReplaysLine guard.old guard.new text.now line result }
     ensures legal { Legal guard.old.setup guard.old.journal → Legal guard.new.setup guard.new.journal }
     ensures setup { guard.new.setup ≡ guard.old.setup }
     ensures limit { guard.new.limit ≡ guard.old.limit }
@@ -55,43 +88,57 @@ fn replay_line<A: Allocator + Clone>(
         return Err(RunFault::NoMemory { line });
     };
     let Some((tid, env, call)) = begun else {
-        return Ok(false);
+        return Ok(Some(Difference::NoCall));
     };
     if let Err(fault) = take_call(guard, tid, env, call, line) {
         return Err(fault);
     }
     out.clear();
-    match push_entry(out, newest(guard)) {
-        Ok(()) => Ok(is_line_of(out.as_bytes(), text)),
-        Err(_) => Err(RunFault::NoMemory { line }),
+    let Ok(()) = push_entry(out, newest(guard)) else {
+        return Err(RunFault::NoMemory { line });
+    };
+    if is_line_of(out.as_bytes(), text) {
+        Ok(None)
+    } else {
+        Ok(Some(Difference::OtherOutcome))
     }
 }
 
 /// A line past the limit, or as much of it as a line may have.
-fn past_limit(alloc: Global, text: &[u8], line: u64) -> Result<Verdict, RunFault>
+fn past_limit(alloc: Global, text: &[u8], line: u64) -> Result<Replayed, RunFault>
     ensures { IsPast text.now line result }
 {
     match read_begun(alloc, text) {
         Ok(Some(_)) => Err(RunFault::Limit { line }),
-        Ok(None) => Ok(Verdict::Differs(line)),
+        Ok(None) => {
+            let how = Difference::NoCall;
+            Ok(Replayed::Differs { line, how })
+        }
         Err(_) => Err(RunFault::NoMemory { line }),
     }
 }
 
-/// Makes the calls of a journal's lines again, each before the next line is read. `text` is for a
-/// line that is read, `out` for what the line of its call's entry is.
-fn replay_lines<A: Allocator + Clone, R: BufRead>(
+/// Replays a journal as `verify` does, with a guard of the caller's, and says how the text differs. The
+/// guard's journal is empty before (`Guard::journal_len`). It takes the call of each line before the next
+/// line is read, and has the entries of the lines that don't differ afterwards. With `OtherOutcome` the
+/// entry of the differing line's call is in front of these, and with `NoMemory` it may be. `text` is room
+/// for a line: what it held is lost. Where a line differs, `text` holds it, without its line feed, or the
+/// first 65,537 bytes of a longer one.
+pub fn replay_journal<A: Allocator + Clone, R: BufRead>(
     alloc: Global,
     guard: &mut Guard<A>,
     reader: &mut Watched<R>,
     text: &mut Vec<u8>,
-    out: &mut String,
-) -> Result<Verdict, RunFault>
+) -> Result<Replayed, RunFault>
     requires { guard.old.journal ≡ [] }
-    ensures verifies { Verifies (R.remaining reader.old.device) (R.remaining reader.new.device) guard.old.setup
-        guard.old.limit result }
+    ensures replays { ReplaysJournal (R.remaining reader.old.device) (R.remaining reader.new.device) guard.old.setup
+        guard.old.limit guard.new.journal text.new.items result }
+    ensures legal { Legal guard.new.setup guard.new.journal }
+    ensures setup { guard.new.setup ≡ guard.old.setup }
+    ensures limit { guard.new.limit ≡ guard.old.limit }
     ensures reader { ReaderFails reader.old.failed reader.new.failed result }
 {
+    let mut out = String::new(alloc);
     let limit = u64::from(guard.limit());
     for line in 1..limit + 2 {
         let taken = match next_line(reader, text) {
@@ -100,21 +147,40 @@ fn replay_lines<A: Allocator + Clone, R: BufRead>(
             Err(LineFault::NoMemory) => return Err(RunFault::NoMemory { line }),
         };
         if let Taken::Nothing = taken {
-            return Ok(Verdict::Legal);
+            return Ok(Replayed::Legal);
         }
         if line > limit {
             return past_limit(alloc, text, line);
         }
         if let Taken::LastLine = taken {
-            return Ok(Verdict::Differs(line));
+            let how = Difference::NoLineFeed;
+            return Ok(Replayed::Differs { line, how });
         }
-        match replay_line(alloc, guard, out, text, line) {
-            Ok(true) => {}
-            Ok(false) => return Ok(Verdict::Differs(line)),
+        match replay_line(alloc, guard, &mut out, text, line) {
+            Ok(None) => {}
+            Ok(Some(how)) => return Ok(Replayed::Differs { line, how }),
             Err(fault) => return Err(fault),
         }
     }
     unreachable!()
+}
+
+/// The verdict on a journal that this guard replays.
+fn verdict_by<A: Allocator + Clone, R: BufRead>(
+    alloc: Global,
+    guard: &mut Guard<A>,
+    reader: &mut Watched<R>,
+    text: &mut Vec<u8>,
+) -> Result<Verdict, RunFault>
+    requires { guard.old.journal ≡ [] }
+    ensures verifies { Verifies (R.remaining reader.old.device) (R.remaining reader.new.device) guard.old.setup
+        guard.old.limit result }
+    ensures reader { ReaderFails reader.old.failed reader.new.failed result }
+{
+    match replay_journal(alloc, guard, reader, text) {
+        Ok(replayed) => Ok(replayed.verdict()),
+        Err(fault) => Err(fault),
+    }
 }
 
 /// Whether a reader holds the text of a legal history of at most `limit` entries, and else which
@@ -135,9 +201,8 @@ pub fn verify<A: Allocator + Copy, R: BufRead>(
     let Ok(mut text) = Vec::with_capacity(alloc, MAX_LINE + 1) else {
         return Err(RunFault::NoMemory { line: 1 });
     };
-    let mut out = String::new(alloc);
     let Ok(mut guard) = Guard::new(tables, alloc, setup, limit) else {
         return Err(RunFault::NoMemory { line: 1 });
     };
-    replay_lines(alloc, &mut guard, reader, &mut text, &mut out)
+    verdict_by(alloc, &mut guard, reader, &mut text)
 }

@@ -3,7 +3,7 @@
 ghost use Rattle.std.specs.Prelude.{◌≡◌, []};
 ghost use Rattle.std.specs.Io.KnownBytes.{Keeps};
 ghost use Rattle.jg_rules.specs.Legal.{Legal};
-ghost use Rattle.jg_script.specs.Checked.{Checks, Reads, IsScript, ReaderFails, WriterFails};
+ghost use Rattle.jg_script.specs.Checked.{Checks, HoldsFaulty, Reads, IsScript, ReaderFails, WriterFails};
 
 use crate::answer::answer_line;
 use crate::line::{Taken, next_line};
@@ -26,8 +26,9 @@ fn hand_over<R: BufRead, W: Write>(reader: &Watched<R>, writer: &mut Watched<W>)
     }
 }
 
-/// Answers the lines of a script as `check` does, each read into `text`.
-fn check_lines<A: Allocator + Clone, R: BufRead, W: Write>(
+/// Answers the lines of a script as `check` does. `text` is room for a line: what it held is lost. After
+/// `Script` it holds the faulty line, without its line feed, unless that is too long.
+pub fn check_lines<A: Allocator + Clone, R: BufRead, W: Write>(
     alloc: Global,
     guard: &mut Guard<A>,
     reader: &mut Watched<R>,
@@ -37,6 +38,7 @@ fn check_lines<A: Allocator + Clone, R: BufRead, W: Write>(
     requires { guard.old.journal ≡ [] }
     ensures checks { Checks (R.remaining reader.old.device) (R.remaining reader.new.device)
         (W.contents writer.old.device) (W.contents writer.new.device) guard.old.limit guard.new.journal result }
+    ensures faulty { HoldsFaulty (R.remaining reader.old.device) guard.new.journal text.new.items result }
     ensures reads { Reads (R.remaining reader.old.device) (R.remaining reader.new.device) guard.new.journal result }
     ensures legal { Legal guard.new.setup guard.new.journal }
     ensures script { IsScript guard.new.journal }

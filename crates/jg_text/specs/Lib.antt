@@ -7,3 +7,4 @@ pub mod Pieces
 pub mod Journal
 pub mod Laws
 pub mod Begun
+pub mod Places

@@ -98,3 +98,7 @@ pub record SpellCall (f : Fun) (texts : List (List ℕ)) (c : Call) : Type 0 whe
   pub fits : FitsCall c
   pub fun : fun_of c ≡ f
   pub texts_are : operand_texts c ≡ texts
+
+-- texts that are numbers
+abbrev pub AreNumbers : List (List ℕ) → Type 0
+AreNumbers texts = (xs : List ℤ) × All (λ x. FitsSigned w64 x) xs × (texts ≡ map signed_decimal xs)

@@ -53,7 +53,7 @@ fn fields_of_call(text: &[u8]) -> Option<usize>
 }
 
 /// So many fields, and what stands behind the space after them.
-fn cut_fields(text: &[u8], count: usize) -> Option<(&[u8], &[u8])>
+pub(crate) fn cut_fields(text: &[u8], count: usize) -> Option<(&[u8], &[u8])>
     requires { 0 < count }
     ensures some { IfSome result (λ parts. (text.now ≡ parts.0.now ++ 32 ∷ parts.1.now)
         × (count_by (λ b. b == 32) parts.0.now + 1 ≡ count)) }

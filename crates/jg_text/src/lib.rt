@@ -12,7 +12,9 @@ mod meanings;
 mod name;
 mod number;
 mod operand;
+mod place;
 mod read;
+mod takes;
 mod word;
 mod write;
 
@@ -22,6 +24,8 @@ pub use fault::ScriptFault;
 pub use meanings::{
     begins_with_one_call, call_is_short, entry_is_one_line, spelt_at_most_once, spelt_has_no_fault,
 };
+pub use place::{Place, function_of, place_of};
 pub use read::{MAX_LINE, read_call};
+pub use takes::{OperandKind, operands_of};
 pub use word::{push_buf, push_env, push_field, push_ref, push_tid};
 pub use write::{push_answer, push_entry, write_entry};

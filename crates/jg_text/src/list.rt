@@ -20,7 +20,7 @@ use std::str;
 const BLOCK: usize = 256;
 
 /// What stands between `[` and `]`.
-fn inside(text: &[u8]) -> Option<&[u8]>
+pub(crate) fn inside(text: &[u8]) -> Option<&[u8]>
     ensures { MatchOption result (¬ IsBracketed text.now) (λ inner. text.now ≡ 91 ∷ inner.now ++ 93 ∷ []) }
 {
     match text {
@@ -47,7 +47,7 @@ fn first_long_number(text: &[u8]) -> Option<(i64, Option<&[u8]>)>
 }
 
 /// The same, in one pass where the number is short.
-fn first_number(text: &[u8]) -> Option<(i64, Option<&[u8]>)>
+pub(crate) fn first_number(text: &[u8]) -> Option<(i64, Option<&[u8]>)>
     ensures some { IfSome result (λ r. IsFirstNumber text.now r.0 (option_copied r.1)) }
     ensures none { IfNone result (StartsNoNumber text.now) }
 {

@@ -189,7 +189,7 @@ pub fn cut(text: &[u8]) -> (&[u8], Option<&[u8]>)
 }
 
 /// The first field of what is left, and what is left behind it, where something is left.
-fn next_field(rest: Option<&[u8]>) -> Option<(&[u8], Option<&[u8]>)>
+pub(crate) fn next_field(rest: Option<&[u8]>) -> Option<(&[u8], Option<&[u8]>)>
     ensures { MatchOption result (rest_fields (option_copied rest.entry) ≡ [])
         (λ r. rest_fields (option_copied rest.entry) ≡ r.0.now ∷ rest_fields (option_copied r.1)) }
 {

@@ -1,4 +1,5 @@
 mod arguments;
+mod line_faults;
 mod lines;
 mod refused;
 mod setups;

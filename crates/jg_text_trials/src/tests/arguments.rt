@@ -1,23 +1,67 @@
-use jg_args::{ArgsFault, Asked, Task, VERSION, help_text, read_words};
-use std::alloc::Global;
+use jg_args::{ArgsFault, Asked, Task, VERSION, help_text, read_words, refused_word};
+use std::alloc::{AllocError, Global};
 use std::test::Fail;
 
 const DEFAULTS: Asked<'static> = Asked {
     task: Task::Check,
     setup: None,
     limit: 1_000_000,
+    explain: 0,
+    strict: false,
     turns: 1000,
     leaks: false,
 };
 
 const STATUSES: &str =
     "Exit status: 0 done, 1 the journal differs, 2 faulty script, setup or arguments, 3 limit met or no memory, \
-    4 reading or writing failed.";
+    4 reading or writing failed, 5 done, and a call was denied (with --strict).";
 
 /// Words, and what they ask for.
-const READ: [(&[&str], Asked<'static>); 7] = [
+const READ: [(&[&str], Asked<'static>); 13] = [
     (&[], DEFAULTS),
     (&["check"], DEFAULTS),
+    (
+        &["--explain", "1000000"],
+        Asked {
+            explain: 1_000_000,
+            ..DEFAULTS
+        },
+    ),
+    (&["check", "--explain", "0"], DEFAULTS),
+    (
+        &["check", "--strict", "--explain=3", "--leaks"],
+        Asked {
+            explain: 3,
+            strict: true,
+            leaks: true,
+            ..DEFAULTS
+        },
+    ),
+    (
+        &["--strict"],
+        Asked {
+            strict: true,
+            ..DEFAULTS
+        },
+    ),
+    (
+        &["verify", "--explain", "7", "--strict"],
+        Asked {
+            task: Task::Verify,
+            explain: 7,
+            strict: true,
+            ..DEFAULTS
+        },
+    ),
+    (
+        &["play", "--strict", "two", "--explain", "1"],
+        Asked {
+            task: Task::Play("two"),
+            explain: 1,
+            strict: true,
+            ..DEFAULTS
+        },
+    ),
     (
         &["check", "--leaks", "--limit", "0", "--setup=app.toml"],
         Asked {
@@ -75,7 +119,7 @@ fn words_are_read(rt: HostRuntime) {
 }
 
 /// Words that ask for nothing.
-const REFUSED: [&[&str]; 23] = [
+const REFUSED: [&[&str]; 35] = [
     &["fly"],
     &["help", "fly"],
     &["--fly"],
@@ -99,6 +143,18 @@ const REFUSED: [&[&str]; 23] = [
     &["migrate"],
     &["--setup", "app.toml", "migrate"],
     &["migrate", "--setup", "app.toml", "--limit", "1"],
+    &["--explain"],
+    &["--explain", "1000001"],
+    &["--explain", "-1"],
+    &["--explain", "all"],
+    &["--explain="],
+    &["check", "--explain", "1", "--explain", "1"],
+    &["--explain", "1", "check"],
+    &["migrate", "--setup", "app.toml", "--explain", "1"],
+    &["check", "--strict", "--strict"],
+    &["--strict=1"],
+    &["--strict", "play", "two"],
+    &["migrate", "--setup", "app.toml", "--strict"],
 ];
 
 /// Whether this is answered to the words.
@@ -121,10 +177,57 @@ fn words_are_refused(rt: HostRuntime) {
     assert_eq!(rt; other_refused(rt.alloc()), None);
 }
 
+/// Words that ask for nothing, and the place, from 0, of the one at which they are refused.
+const REFUSED_AT: [(&[&str], Option<usize>); 27] = [
+    (&["--fly"], None),
+    (&["verify", "--leaks"], None),
+    (&["--limit", "1000001"], None),
+    (&["--explain"], Some(0)),
+    (&["--explain", "1000001"], Some(1)),
+    (&["--explain", "all"], Some(1)),
+    (&["--explain", "-1"], Some(1)),
+    (&["--explain=all"], Some(0)),
+    (&["--explain="], Some(0)),
+    (&["--explain", "1", "check"], Some(2)),
+    (&["--explain", "1", "check", "--strict"], Some(2)),
+    (&["check", "--explain"], Some(1)),
+    (&["check", "--explain", "--limit", "1"], Some(2)),
+    (&["check", "--limit", "--explain", "1"], Some(2)),
+    (&["check", "--explain", "1", "--explain", "1"], Some(3)),
+    (&["check", "--explain", "1", "--fly", "--leaks"], Some(3)),
+    (&["--fly", "--explain", "1"], Some(0)),
+    (&["fly", "--explain", "1"], Some(0)),
+    (&["verify", "--leaks", "--explain", "1"], Some(1)),
+    (&["check", "--limit", "1000001", "--explain=1"], Some(2)),
+    (&["check", "--limit=1000001", "--explain=1"], Some(1)),
+    (&["check", "--explain", "1", "--setup"], Some(3)),
+    (&["play", "--explain", "1"], Some(2)),
+    (&["play", "--explain", "1", "--turns"], Some(3)),
+    (&["play", "--turns", "0", "--explain", "1", "two"], Some(2)),
+    (&["migrate", "--explain", "1"], Some(1)),
+    (&["help", "--explain"], Some(1)),
+];
+
+/// The place of the first of these words that are refused at another word.
+fn other_word(alloc: Global) -> Result<Option<usize>, AllocError> {
+    for (place, (words, want)) in REFUSED_AT.iter().enumerate() {
+        if !is_stopped(alloc, *words, ArgsFault::Refused) || refused_word(alloc, *words)? != *want {
+            return Ok(Some(place));
+        }
+    }
+    Ok(None)
+}
+
+#[test]
+fn the_refused_word_is_found(rt: HostRuntime) -> Result<(), Fail> {
+    assert_eq!(rt; other_word(rt.alloc())?, None);
+    Ok(())
+}
+
 const USAGE: &str = "Usage: jg [check] [OPTIONS] | jg verify|play|migrate ..";
 
 /// Words that ask for a text, and a part of it.
-const TEXTS: [(&[&str], &str); 14] = [
+const TEXTS: [(&[&str], &str); 20] = [
     (&["--help"], USAGE),
     (&["help"], USAGE),
     (&["help", "verify"], "Usage: jg verify [OPTIONS]"),
@@ -136,6 +239,12 @@ const TEXTS: [(&[&str], &str); 14] = [
     (&["--help"], "--setup <FILE>"),
     (&["check", "--help"], "--setup <FILE>"),
     (&["check", "--help"], "--leaks"),
+    (&["--help"], "--explain <N>"),
+    (&["check", "--help"], "--explain <N>"),
+    (&["verify", "--help"], "--explain <N>"),
+    (&["play", "--help"], "--explain <N>"),
+    (&["verify", "--help"], "--strict"),
+    (&["play", "--help"], "--strict"),
     (&["--help"], STATUSES),
     (&["check", "-h"], STATUSES),
     (&["verify", "--help"], "Usage: jg verify [OPTIONS]"),

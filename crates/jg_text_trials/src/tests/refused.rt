@@ -2,7 +2,7 @@
 //! is refused; `tests/refused --tests` runs these tests over memory that refuses one request after the
 //! other.
 
-use jg_args::{ArgsFault, Asked, Task, help_text, read_words};
+use jg_args::{ArgsFault, Asked, Task, help_text, read_words, refused_word};
 use jg_policy::{Setup, SetupFault};
 use jg_text::{ScriptFault, read_call, write_entry};
 use jg_words::{Call, Entry, Rule};
@@ -115,6 +115,8 @@ const DEFAULTS: Asked<'static> = Asked {
     task: Task::Check,
     setup: None,
     limit: 1_000_000,
+    explain: 0,
+    strict: false,
     turns: 1000,
     leaks: false,
 };
@@ -158,6 +160,19 @@ fn other_words(alloc: Global) -> Option<usize> {
 #[test]
 fn words_are_read_or_refused_for_want_of_memory(rt: HostRuntime) {
     assert_eq!(rt; other_words(rt.alloc()), None);
+}
+
+/// Whether the words are refused at the last of them, or memory runs out.
+fn are_refused_at_the_end(alloc: Global, words: &[&str]) -> bool {
+    match refused_word(alloc, words) {
+        Ok(place) => place == words.len().checked_sub(1),
+        Err(_) => true,
+    }
+}
+
+#[test]
+fn a_refused_word_is_found_or_memory_runs_out(rt: HostRuntime) {
+    assert!(rt; are_refused_at_the_end(rt.alloc(), &["--explain", "1", "verify"]));
 }
 
 /// Words that ask for a text, and how it begins.

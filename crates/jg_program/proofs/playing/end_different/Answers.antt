@@ -1,5 +1,8 @@
-use Rattle.jg_program.proofs.Telling.{unwritten}
+use Rattle.std.proofs.Common.{◌≡◌, ℕ, List, []}
+use Rattle.jg_program.proofs.Reports.{reported_on}
 use Rattle.jg_program.proofs.playing.end_different.Goals as goal
 
-pub returns-in-Err-clause-tells : goal.returns-in-Err-clause-tells
-returns-in-Err-clause-tells g c = unwritten _ _ c.args.back.guard _ _ c.in-Err.stop c.in-Err.ensures.written
+pub returns-clause-handed_on : goal.returns-clause-handed_on
+returns-clause-handed_on g c =
+    let guard = c.args.back.guard in
+    reported_on _ c.hand_out_different-ended.new.out.failed (λ (about : List ℕ). about ≡ []) c.args.reporting guard.setup guard.journal c.hand_out_different-ended.result c.report.result c.report.ensures c.hand_out_different-ended.ensures.handed_on

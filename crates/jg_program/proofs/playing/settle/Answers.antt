@@ -17,4 +17,5 @@ end_told-requires g c =
 
 pub returns-in-Err-clause-settles : goal.returns-in-Err-clause-settles
 returns-in-Err-clause-settles g c =
-    settled_by c.args.workers.items c.in-Err.fault _ _ _ _ _ c.end_different.result c.parts_of-place.ensures c.in-Err.ensures.legal c.in-Err.ensures.differs c.end_different.ensures.tells
+    let tells = c.end_different.ensures.tells in
+    settled_by c.args.workers.items c.in-Err.fault _ _ _ c.args.reporting _ _ tells.0 c.end_different.result c.parts_of-place.ensures c.in-Err.ensures.legal c.in-Err.ensures.differs tells.1 tells.2

@@ -1,6 +1,6 @@
 use Rattle.std.proofs.Common.{◌∙◌, arith, inl, refl}
 use Rattle.jg_script.proofs.TextLines.{lines_more, begun, ended}
-use Rattle.jg_script.proofs.Runs.{still_checked, line_reads, answered_reads, goes_on, answered_err, long_answered}
+use Rattle.jg_script.proofs.Runs.{still_checked, line_reads, answered_reads, goes_on, answered_err, answered_faulty, long_answered}
 use Rattle.jg_script.proofs.run.check_lines.Goals as goal
 
 pub returns-in-Err-Read-clause-checks : goal.returns-in-Err-Read-clause-checks
@@ -111,3 +111,26 @@ loop-line-preserved g c =
       reads = c.in-Ok.ensures.sound ∙ inv.reads;
       writes = c.in_default.ensures.device ∙ (c.hand_over.ensures.failed ∙ inv.writes);
     }
+
+pub returns-in-Err-clause-faulty : goal.returns-in-Err-clause-faulty
+returns-in-Err-clause-faulty g c =
+    let reads = g.R.Read.remaining in
+    let holds = g.W.Write.contents in
+    let line = rw c.in-Line.is at c.in-Ok.ensures.taken in
+    let h = c.loop-line.invariant.checked in
+    answered_faulty (reads c.args.reader.now.device) (reads c.loop-line.reader.device) (reads c.next_line.new.reader.device) (holds c.args.writer.now.device) (holds c.hand_over.new.writer.device)
+    (holds c.answer_line.new.writer.device)
+    c.args.guard.now.limit c.loop-line.line c.loop-line.guard c.answer_line.new.guard c.next_line.new.line.items c.answer_line.new.text.items c.in-Err.fault (lines_more _ _ _ _ _ h.read line)
+    c.in-Err.ensures.answers c.in-Err.ensures.kept
+
+pub returns-in-Err-answer_line-clause-faulty : goal.returns-in-Err-answer_line-clause-faulty
+returns-in-Err-answer_line-clause-faulty g c =
+    let reads = g.R.Read.remaining in
+    let holds = g.W.Write.contents in
+    let line = rw c.in-LastLine.is at c.in-Ok.ensures.taken in
+    let h = c.loop-line.invariant.checked in
+    let a = c.answer_line-in-LastLine in
+    answered_faulty (reads c.args.reader.now.device) (reads c.loop-line.reader.device) (reads c.next_line.new.reader.device) (holds c.args.writer.now.device) (holds c.hand_over.new.writer.device)
+    (holds a.new.writer.device)
+    c.args.guard.now.limit c.loop-line.line c.loop-line.guard a.new.guard c.next_line.new.line.items a.new.text.items c.in-Err-answer_line.fault (lines_more _ _ _ _ _ h.read line.0)
+    c.in-Err-answer_line.ensures.answers c.in-Err-answer_line.ensures.kept

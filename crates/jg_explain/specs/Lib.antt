@@ -1,0 +1,4 @@
+pub mod Explained
+pub mod Left
+pub mod Texts
+pub mod Watched

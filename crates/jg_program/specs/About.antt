@@ -1,0 +1,30 @@
+-- What is told of where the work stopped.
+use Rattle.std.specs.Prelude.{ℕ, ◌≡◌, List, [], ◌++◌, codes, Result, Ok, Err}
+use Rattle.std.specs.Fmt.{decimal}
+use Rattle.jg_faults.specs.Lines.{Tells}
+use Rattle.jg_script.specs.declared.replay.Replayed.{Replayed}
+use Rattle.jg_script.specs.declared.replay.Replayed.TheVariants.{Differs}
+use Rattle.jg_script.specs.declared.run_fault.RunFault.TheVariants.{Script}
+use Rattle.jg_program.specs.declared.about.About.{About}
+use Rattle.jg_program.specs.declared.about.About.TheVariants as about
+use Rattle.jg_program.specs.declared.stop.Status.{Status}
+use Rattle.jg_program.specs.declared.stop.Stop.{Stop}
+use Rattle.jg_program.specs.declared.stop.Stop.TheVariants.{Run}
+
+-- of a line at which a journal differs: its number, and how it differs
+abbrev pub IsDifferenceText : ℕ → List ℕ → Type 0
+IsDifferenceText line text = (words : List ℕ) × (text ≡ codes "line " ++ decimal line ++ codes ": " ++ words)
+
+-- of a faulty line of a script: where in it the fault stands
+abbrev pub IsAboutScript : List ℕ → Result Status Stop → List ℕ → Type 0
+IsAboutScript line (Err (Run (Script n fault))) text = Tells fault line text
+IsAboutScript line result text = text ≡ []
+
+abbrev pub IsAboutJournal : Result Replayed Stop → List ℕ → Type 0
+IsAboutJournal (Ok (Differs n how)) text = IsDifferenceText n text
+IsAboutJournal result text = text ≡ []
+
+abbrev pub IsAbout : About → Result Status Stop → List ℕ → Type 0
+IsAbout about.Nothing result text = text ≡ []
+IsAbout (about.Script line) result text = IsAboutScript line.now result text
+IsAbout (about.Journal told line) result text = IsAboutJournal (Ok told) text

@@ -1,0 +1,209 @@
+//! What is told beside the journal: by the status, and on standard error.
+
+ghost use Rattle.std.specs.Prelude.{◌≡◌, ◌⊎◌, ◌++◌, Err, IfOk, List, Ok, OnErr, OnOk, string_bytes, true, ℕ};
+ghost use Rattle.jg_explain.specs.Texts.{explanations_text};
+ghost use Rattle.jg_program.specs.About.{IsAbout};
+ghost use Rattle.jg_program.specs.Reported.{IsToldIf, Reports, SaysLeaks, Tells, TellsNothing, any_denied, is_explained, said_text, strict_status};
+
+use crate::about::{About, push_about};
+use crate::stop::{Ending, Said, Status, Stop, quietly};
+use jg_explain::{explain_first, explain_leaks};
+use jg_guard::{Guard, NoMemory};
+use jg_script::write_leaks;
+use std::alloc::{AllocError, Global};
+
+/// What is to be told beside the journal.
+#[derive(Clone, Copy, Debug, PartialEq, Eq)]
+pub struct Reporting {
+    /// How many denials are explained at most: the first ones.
+    pub explain: u32,
+    /// Whether a denied call is told by the status.
+    pub strict: bool,
+    /// Whether it is said what is left behind.
+    pub leaks: bool,
+}
+
+/// Whether some call of the guard's journal was denied.
+fn any_denied(guard: &Guard) -> bool
+    ensures { result ≡ any_denied guard.now.journal }
+{
+    for place in 0..guard.journal_len() {
+        let Some(entry) = guard.journal_entry(place) else {
+            unreachable!()
+        };
+        if entry.rule().is_some() {
+            return true;
+        }
+    }
+    false
+}
+
+fn strict_status(strict: bool, guard: &Guard, status: Status) -> Status
+    ensures { result ≡ strict_status strict guard.now.journal status }
+{
+    if strict && status == Status::Done && any_denied(guard) {
+        Status::Denied
+    } else {
+        status
+    }
+}
+
+/// Adds the explanations that are asked for; without any no memory is needed.
+fn push_explanations(
+    alloc: Global,
+    reporting: Reporting,
+    guard: &Guard,
+    out: &mut String,
+) -> Result<(), NoMemory>
+    ensures told { OnOk result (string_bytes out.new
+        ≡ string_bytes out.old ++ explanations_text guard.now.setup guard.now.journal reporting.explain) }
+    ensures refused { OnErr result (is_explained reporting ≡ true) }
+{
+    if reporting.explain == 0 {
+        return Ok(());
+    }
+    let text = explain_first(guard, alloc, reporting.explain as usize)?;
+    match out.push_str(text.as_str()) {
+        Ok(()) => Ok(()),
+        Err(_) => Err(NoMemory),
+    }
+}
+
+/// The text of what the guard's journal leaves behind.
+fn leaks_of(alloc: Global, explained: bool, guard: &Guard) -> Result<String, NoMemory>
+    ensures { IfOk result (λ said. SaysLeaks true explained guard.now.setup guard.now.journal (string_bytes said)) }
+{
+    let Ok(left) = guard.leaks() else {
+        return Err(NoMemory);
+    };
+    if explained {
+        return explain_leaks(guard, alloc, &left);
+    }
+    match write_leaks(alloc, &left) {
+        Ok(said) => Ok(said),
+        Err(_) => Err(NoMemory),
+    }
+}
+
+/// Adds what is left behind, where that is asked for.
+fn push_leaks(
+    alloc: Global,
+    reporting: Reporting,
+    guard: &Guard,
+    out: &mut String,
+) -> Result<(), NoMemory>
+    ensures said { OnOk result ((left : List ℕ) × SaysLeaks reporting.leaks (is_explained reporting) guard.now.setup
+        guard.now.journal left × (string_bytes out.new ≡ string_bytes out.old ++ left)) }
+    ensures asked { OnErr result (reporting.leaks ≡ true) }
+    ensures kept { OnErr result (string_bytes out.new ≡ string_bytes out.old) }
+{
+    if !reporting.leaks {
+        return Ok(());
+    }
+    let left = leaks_of(alloc, reporting.explain > 0, guard)?;
+    match out.push_str(left.as_str()) {
+        Ok(()) => Ok(()),
+        Err(_) => Err(NoMemory),
+    }
+}
+
+fn ending_with(ended: Result<Status, Stop>, text: String) -> Ending
+    ensures ended { result.ended ≡ ended }
+    ensures said { said_text result.said ≡ string_bytes text }
+{
+    Ending {
+        ended,
+        said: Said::Text(text),
+    }
+}
+
+/// Ends where memory ran out for what is explained.
+fn tell_nothing(alloc: Global, ended: Result<Status, Stop>) -> Ending
+    ensures { TellsNothing ended result }
+{
+    match ended {
+        Ok(_) => quietly(alloc, Err(Stop::Explain)),
+        Err(stop) => Ending {
+            ended: Err(stop),
+            said: Said::NoMemory,
+        },
+    }
+}
+
+/// Ends where the work was done.
+fn report_done(
+    alloc: Global,
+    reporting: Reporting,
+    guard: &Guard,
+    about: String,
+    status: Status,
+) -> Ending
+    ensures { Tells (string_bytes about) reporting guard.now.setup guard.now.journal (Ok status) result
+        ⊎ ((is_explained reporting ≡ true) × TellsNothing (Ok status) result) }
+{
+    let mut said = about;
+    let Ok(()) = push_explanations(alloc, reporting, guard, &mut said) else {
+        return tell_nothing(alloc, Ok(status));
+    };
+    match push_leaks(alloc, reporting, guard, &mut said) {
+        Ok(()) => ending_with(Ok(strict_status(reporting.strict, guard, status)), said),
+        Err(_) => ending_with(Err(Stop::Leaks), said),
+    }
+}
+
+/// Ends where the work was stopped.
+fn report_stopped(
+    alloc: Global,
+    reporting: Reporting,
+    guard: &Guard,
+    about: String,
+    stop: Stop,
+) -> Ending
+    ensures { Tells (string_bytes about) reporting guard.now.setup guard.now.journal (Err stop) result
+        ⊎ ((is_explained reporting ≡ true) × TellsNothing (Err stop) result) }
+{
+    let mut said = about;
+    match push_explanations(alloc, reporting, guard, &mut said) {
+        Ok(()) => ending_with(Err(stop), said),
+        Err(_) => tell_nothing(alloc, Err(stop)),
+    }
+}
+
+/// What is told of where the work stopped; nothing without explanations.
+fn about_text(
+    alloc: Global,
+    reporting: Reporting,
+    guard: &Guard,
+    about: About<'_>,
+    ended: Result<Status, Stop>,
+) -> Result<String, AllocError>
+    ensures told { IfOk result (λ text. IsToldIf (is_explained reporting) (IsAbout about.entry ended) (string_bytes text)) }
+    ensures refused { OnErr result (is_explained reporting ≡ true) }
+{
+    let mut text = String::new(alloc);
+    if reporting.explain > 0 {
+        push_about(alloc, guard, about, ended, &mut text)?;
+    }
+    Ok(text)
+}
+
+/// How the program ends after the guard's journal, where its work was done or stopped so: what there is
+/// to tell about that comes first, then the explanations, and then what is left behind. All of it is made
+/// before any of it is written.
+pub fn report(
+    alloc: Global,
+    reporting: Reporting,
+    guard: &Guard,
+    about: About<'_>,
+    ended: Result<Status, Stop>,
+) -> Ending
+    ensures { Reports (IsAbout about.entry ended) reporting guard.now.setup guard.now.journal ended result }
+{
+    match about_text(alloc, reporting, guard, about, ended) {
+        Ok(text) => match ended {
+            Ok(status) => report_done(alloc, reporting, guard, text, status),
+            Err(stop) => report_stopped(alloc, reporting, guard, text, stop),
+        },
+        Err(_) => tell_nothing(alloc, ended),
+    }
+}

@@ -1,9 +1,0 @@
-use Rattle.std.proofs.Common.{◌≡◌}
-use Rattle.jg_script.proofs.Reread.{HasReplayed}
-use Rattle.jg_script.proofs.replay.replay_lines.Given as goal
-
-abbrev pub invariant-loop-line : goal.invariant-loop-line
-invariant-loop-line g l = record {
-  replayed : HasReplayed (g.R.Read.remaining l.initial.reader.device) (g.R.Read.remaining l.reader.device) l.initial.guard.setup l.initial.guard.limit l.line l.guard;
-  sound : l.reader.failed ≡ l.initial.reader.failed;
-}
