@@ -13,7 +13,7 @@ SAID = {
     0: rb'(leak [LGWB]\d+\.\d+\n|leak M\d+ T\d+ \d+\n)*',
     1: rb'(differs at T\d+ place \d+\n)?',
     2: rb'(line \d+: ' + LINE_FAULT + rb'|line 65: TooManyThreads|setup: ' + SETUP_FAULT + rb'|arguments refused)\n',
-    3: rb'(line \d+: limit|(line \d+|setup|arguments|leaks): no memory|limit|no memory)\n',
+    3: rb'(line \d+: limit|(line \d+|setup|arguments|leaks|explain): no memory|limit|no memory)\n',
     4: rb'(line \d+: read failed|setup: read failed|line \d+: write failed)\n',
 }
 RULES = ('WrongThread Detached InCritical Pending ForeignLocal DeadReference WrongRefKind NullReference WrongType '
