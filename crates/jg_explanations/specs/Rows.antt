@@ -1,5 +1,5 @@
 -- Worked rows: a few calls in the order in which they are made, of which the last one is denied, and what is told of it.
-use Rattle.std.specs.Prelude.{◌≡◌, ℕ, pos, negsuc, Bool, true, false, List, [], ◌∷◌, map, Option, Some, None}
+use Rattle.std.specs.Prelude.{◌≡◌, ℕ, pos, negsuc, Bool, true, false, List, [], ◌∷◌, codes, map, Option, Some, None}
 use Rattle.jg_words.specs.declared.object.Primitive.TheVariants.{Int}
 use Rattle.jg_words.specs.declared.reference.Ref.TheVariants.{Null}
 use Rattle.jg_words.specs.declared.rule.Rule.{Rule}
@@ -9,25 +9,30 @@ use Rattle.jg_words.specs.declared.thread.Tid.{Tid}
 use Rattle.jg_words.specs.declared.object.ObjId.{ObjId}
 use Rattle.jg_words.specs.Entry.{Entry}
 use Rattle.jg_words.specs.declared.call.Call.{Call}
-use Rattle.jg_words.specs.declared.call.Call.TheVariants.{Vm, Refs, Frames, Exceptions, Strings, Arrays, Monitors, Buffers}
-use Rattle.jg_words.specs.declared.call.vm.VmCall.TheVariants.{AttachCurrentThread, DetachCurrentThread, Collect}
+use Rattle.jg_words.specs.declared.call.Call.TheVariants.{Vm, Refs, Frames, Exceptions, Objects, Strings, Arrays, Monitors, Buffers}
+use Rattle.jg_words.specs.declared.call.vm.VmCall.TheVariants.{AttachCurrentThread, DetachCurrentThread, NativeEnter, LoadLibrary, RegisterNatives, UnregisterNatives, Collect}
 use Rattle.jg_words.specs.declared.call.refs.RefsCall.TheVariants.{NewGlobalRef, NewWeakGlobalRef, DeleteLocalRef, DeleteGlobalRef}
 use Rattle.jg_words.specs.declared.call.frames.FramesCall.TheVariants.{PushLocalFrame, PopLocalFrame}
 use Rattle.jg_words.specs.declared.call.exceptions.ExceptionsCall.TheVariants.{ExceptionCheck}
+use Rattle.jg_words.specs.declared.call.objects.ObjectsCall.TheVariants.{FindClass, GetField}
 use Rattle.jg_words.specs.declared.call.strings.StringsCall.TheVariants.{NewString, GetStringLength}
 use Rattle.jg_words.specs.declared.call.arrays.ArraysCall.TheVariants.{NewArray, GetArrayLength, GetArrayRegion}
 use Rattle.jg_words.specs.declared.call.monitors.MonitorsCall.TheVariants.{MonitorEnter, MonitorExit}
 use Rattle.jg_words.specs.declared.call.buffers.BuffersCall.TheVariants.{GetArrayElements, ReleaseArrayElements, GetPrimitiveArrayCritical, ReleasePrimitiveArrayCritical, BufferRead}
+use Rattle.jg_policy.specs.declared.mode.Mode.TheVariants.{Deny}
+use Rattle.jg_policy.specs.declared.access.Operation.TheVariants.{Load}
+use Rattle.jg_policy.specs.Stated.{StatedSetup}
 use Rattle.jg_rules.specs.declared.operand.ObjectType.TheVariants.{StringObject}
 use Rattle.jg_rules.specs.Legal.{Asked, replay}
 use Rattle.jg_causes.specs.declared.breach.Argument.TheVariants.{Capacity}
 use Rattle.jg_causes.specs.declared.breach.Breach.{Breach}
 use Rattle.jg_causes.specs.declared.breach.Breach.TheVariants as breach
 use Rattle.jg_causes.specs.declared.condition.Condition.{Condition}
-use Rattle.jg_causes.specs.declared.condition.Condition.TheVariants.{IsAttached, IsPresent, HasPending, Names, NamesObject, IsOpen, Owns, IsOwned, HasFrame}
+use Rattle.jg_causes.specs.declared.condition.Condition.TheVariants.{IsAttached, IsPresent, HasPending, Names, NamesObject, IsOpen, Owns, IsOwned, HasFrame, IsLinked}
 use Rattle.jg_explain.specs.declared.watching.Watch.{Watch}
 use Rattle.jg_explain.specs.Explained.{Cause, all_known, causes}
 use Rattle.jg_rows.specs.Lines.{closed, environment, bare, env, local, global, weak, buffer}
+use Rattle.jg_rows.specs.Setups.{two_modules}
 
 -- t's call, with that environment or none
 abbrev pub by : ℕ → Option EnvId → Call → Asked
@@ -53,14 +58,18 @@ pub record Told : Type 0 where
   pub breach : Breach
   pub known : List Watch
 
-abbrev pub told_of : List Entry → Cause → Told
-told_of h c = record { rule = c.rule; breach = c.breach; known = all_known closed h c }
+abbrev pub told_of : StatedSetup → List Entry → Cause → Told
+told_of setup h c = record { rule = c.rule; breach = c.breach; known = all_known setup h c }
 
--- of these calls just one is denied, and this is told of it
-abbrev pub Tells : List Asked → Rule → Breach → List Watch → Type 0
-Tells calls rule breach known =
-    map (told_of (replay closed calls)) (causes closed (replay closed calls))
+-- of these calls just one is denied under the setup, and this is told of it
+abbrev pub TellsUnder : StatedSetup → List Asked → Rule → Breach → List Watch → Type 0
+TellsUnder setup calls rule breach known =
+    map (told_of setup (replay setup calls)) (causes setup (replay setup calls))
     ≡ record { rule = rule; breach = breach; known = known } ∷ []
+
+-- .. under the setup that states nothing
+abbrev pub Tells : List Asked → Rule → Breach → List Watch → Type 0
+Tells = TellsUnder closed
 
 -- just before the entry at that place the condition holds or not, it turned last at this entry, and before that at this one
 abbrev pub known : ℕ → Condition → Bool → Option ℕ → Option ℕ → Watch
@@ -211,6 +220,17 @@ other_type = Tells
     rule.WrongType (breach.OtherType (local 1 1) StringObject 8)
     (known 2 (Names (thread 1) (local 1 1)) true (Some 1) None ∷ [])
 
+-- ---- rule 10: a field of class 15 of a string, which is class 2
+
+abbrev pub other_class : Type 0
+other_class = TellsUnder (two_modules Deny)
+    (attach 1
+    ∷ own (Strings (NewString []))
+    ∷ own (Objects (GetField Int (local 1 1) (record { class = 15; field = 1 })))
+    ∷ [])
+    rule.BadField (breach.FieldOfOtherClass (local 1 1) (record { class = 15; field = 1 }) 2)
+    (known 2 (Names (thread 1) (local 1 1)) true (Some 1) None ∷ [])
+
 -- ---- rule 11: a released buffer
 
 abbrev pub released : Type 0
@@ -282,3 +302,24 @@ popped_twice = Tells
     ∷ [])
     rule.BadFrame breach.NoFrame
     (known 3 (HasFrame (thread 1)) false (Some 2) (Some 1) ∷ [])
+
+-- ---- rule 16: the module of class 16 is granted nothing
+
+abbrev pub refused : Type 0
+refused = TellsUnder (two_modules Deny)
+    (attach 1 ∷ own (Vm (LoadLibrary (codes "lib/Tool") (codes "tool"))) ∷ [])
+    rule.NoNativeAccess (breach.AccessRefused 16 Load)
+    []
+
+-- ---- rule 17: the native method of class 15 was unlinked
+
+abbrev pub unlinked : Type 0
+unlinked = TellsUnder (two_modules Deny)
+    (attach 1
+    ∷ own (Objects (FindClass (codes "app/Main")))
+    ∷ own (Vm (RegisterNatives (local 1 1) (codes "run") (codes "()V")))
+    ∷ own (Vm (UnregisterNatives (local 1 1)))
+    ∷ own (Vm (NativeEnter (codes "app/Main") (codes "run") (codes "()V")))
+    ∷ [])
+    rule.NotLinked (breach.NotLinked 15 1)
+    (known 4 (IsLinked 15 1) false (Some 3) (Some 2) ∷ [])

@@ -73,6 +73,11 @@ pub fn other_type()
     ensures { rows.other_type }
 {}
 
+/// A field of another class.
+pub fn other_class()
+    ensures { rows.other_class }
+{}
+
 /// A buffer that was released.
 pub fn released()
     ensures { rows.released }
@@ -101,4 +106,14 @@ pub fn exited()
 /// A frame that was popped before.
 pub fn popped_twice()
     ensures { rows.popped_twice }
+{}
+
+/// A library that a class of a module loads to which nothing is granted.
+pub fn refused()
+    ensures { rows.refused }
+{}
+
+/// A native method that was unlinked.
+pub fn unlinked()
+    ensures { rows.unlinked }
 {}
