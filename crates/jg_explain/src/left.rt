@@ -4,11 +4,12 @@ ghost use Rattle.std.specs.Prelude.{◌≡◌, ◌++◌, IfOk, OnOk, flat_map, l
 ghost use Rattle.jg_explain.specs.Left as left;
 
 use crate::replaying::new_guard;
-use crate::texts::push_begun;
+use crate::texts::push_told_at;
 use crate::watching::{Watch, watch_until};
 use jg_causes::{Condition, Turns};
 use jg_guard::{Guard, Leaks, NoMemory};
 use jg_monitors::OwnedMonitor;
+use jg_telling::begun;
 use jg_text::{push_buf, push_number, push_ref, push_tid};
 use jg_words::{BufId, Ref, Tid};
 use std::alloc::{AllocError, Allocator, Global};
@@ -137,7 +138,7 @@ fn push_since<A: Allocator + Clone>(
         None => Ok(()),
         Some(place) => {
             out.push_str(": ")?;
-            push_begun(out, guard, watch.condition, place)
+            push_told_at(out, guard, begun(watch.condition), place)
         }
     }
 }

@@ -33,29 +33,17 @@ fn push_at<A: Allocator + Clone>(
     }
 }
 
-pub(crate) fn push_begun<A: Allocator + Clone>(
+/// Those words, and behind them at which line, by which call.
+pub(crate) fn push_told_at<A: Allocator + Clone>(
     out: &mut String,
     guard: &Guard<A>,
-    condition: Condition,
+    told: &str,
     place: usize,
 ) -> Result<(), AllocError>
     ensures { OnOk result (string_bytes out.new
-        ≡ string_bytes out.old ++ texts.begun_at guard.now.journal condition place) }
+        ≡ string_bytes out.old ++ (told.now ++ texts.moment_at guard.now.journal place)) }
 {
-    out.push_str(begun(condition))?;
-    push_at(out, guard, place)
-}
-
-fn push_ended<A: Allocator + Clone>(
-    out: &mut String,
-    guard: &Guard<A>,
-    condition: Condition,
-    place: usize,
-) -> Result<(), AllocError>
-    ensures { OnOk result (string_bytes out.new
-        ≡ string_bytes out.old ++ texts.ended_at guard.now.journal condition place) }
-{
-    out.push_str(ended(condition))?;
+    out.push_str(told)?;
     push_at(out, guard, place)
 }
 
@@ -71,7 +59,7 @@ fn push_begun_before<A: Allocator + Clone>(
     match place {
         None => Ok(()),
         Some(place) => {
-            push_begun(out, guard, condition, place)?;
+            push_told_at(out, guard, begun(condition), place)?;
             out.push_str("; ")
         }
     }
@@ -88,7 +76,7 @@ fn push_over<A: Allocator + Clone>(
         ++ (texts.begun_before guard.now.journal condition earlier ++ texts.ended_at guard.now.journal condition place)) }
 {
     push_begun_before(out, guard, condition, earlier)?;
-    push_ended(out, guard, condition, place)
+    push_told_at(out, guard, ended(condition), place)
 }
 
 fn push_never(out: &mut String, condition: Condition) -> Result<(), AllocError>
@@ -143,7 +131,7 @@ fn push_held<A: Allocator + Clone>(
         None => Ok(()),
         Some(place) => {
             push_indent(out, breach, condition)?;
-            push_begun(out, guard, condition, place)?;
+            push_told_at(out, guard, begun(condition), place)?;
             out.push_str("\n")
         }
     }
