@@ -1,4 +1,5 @@
 pub mod Explained
+pub mod Followed
 pub mod Left
 pub mod Texts
 pub mod Watched

@@ -5,6 +5,7 @@ ghost use Rattle.jg_explain.specs.Explained.{IsExplained, IsFront, cause_at, den
 ghost use Rattle.jg_explain.specs.Texts.{explanations_text};
 
 use crate::denials::{Denials, denials_of, push_if_denied};
+use crate::following::watch_each;
 use crate::replaying::{new_guard, step};
 use crate::texts::push_explanations;
 use crate::watching::{Watch, watch_until};
@@ -103,14 +104,12 @@ pub fn explain_first<A: Allocator + Clone>(
         ≡ explanations_text guard.now.setup guard.now.journal most) }
 {
     let mut again = new_guard(guard, alloc)?;
-    let mut found = denials_of(guard, &mut again, alloc, most)?;
+    let Denials { denials, watches } = denials_of(guard, &mut again, alloc, most)?;
     let end = again.journal_len();
     drop(again);
-    let mut again = new_guard(guard, alloc)?;
-    watch_until(guard, &mut again, &mut found.watches, end)?;
-    drop(again);
+    let watches = watch_each(guard, watches, end, alloc)?;
     let mut text = String::new(alloc);
-    match push_explanations(&mut text, guard, &found.denials, &found.watches) {
+    match push_explanations(&mut text, guard, &denials, &watches) {
         Ok(()) => Ok(text),
         Err(_) => Err(NoMemory),
     }

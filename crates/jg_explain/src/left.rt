@@ -3,9 +3,9 @@
 ghost use Rattle.std.specs.Prelude.{◌≡◌, ◌++◌, IfOk, OnOk, flat_map, length, map, string_bytes};
 ghost use Rattle.jg_explain.specs.Left as left;
 
-use crate::replaying::new_guard;
+use crate::following::watch_each;
 use crate::texts::push_told_at;
-use crate::watching::{Watch, watch_until};
+use crate::watching::Watch;
 use jg_causes::{Condition, Turns};
 use jg_guard::{Guard, Leaks, NoMemory};
 use jg_monitors::OwnedMonitor;
@@ -194,12 +194,10 @@ pub fn explain_leaks<A: Allocator + Clone, B: Allocator>(
     let Ok(all) = all_left(leaks, alloc) else {
         return Err(NoMemory);
     };
-    let Ok(mut watches) = watches_of(&all, end, alloc) else {
+    let Ok(watches) = watches_of(&all, end, alloc) else {
         return Err(NoMemory);
     };
-    let mut again = new_guard(guard, alloc)?;
-    watch_until(guard, &mut again, &mut watches, end)?;
-    drop(again);
+    let watches = watch_each(guard, watches, end, alloc)?;
     let mut text = String::new(alloc);
     match push_lines(&mut text, guard, &all, &watches) {
         Ok(()) => Ok(text),

@@ -5,9 +5,13 @@
 
 mod denials;
 mod explaining;
+mod following;
 mod left;
 mod replaying;
+mod steady;
+mod suspects;
 mod texts;
+mod traces;
 mod watching;
 
 pub use denials::Denial;

@@ -20,7 +20,7 @@ pub struct Watch {
 }
 
 /// Whether the condition holds after the guard's journal.
-fn holds_now<A: Allocator + Clone>(guard: &Guard<A>, condition: Condition) -> bool
+pub(crate) fn holds_now<A: Allocator + Clone>(guard: &Guard<A>, condition: Condition) -> bool
     ensures { result ≡ after guard.now.setup condition guard.now.journal }
 {
     holds(&guard.view(), condition)
