@@ -1,22 +1,13 @@
 -- A reference comes to name an object at the entry alone that hands it out: what was cleared stays so.
-use Rattle.std.proofs.Common.{◌≡◌, ◌⊎◌, ◌++◌, ◌∙◌, ℕ, Bool, true, false, List, [], ◌∷◌, Option, Some, None, refl, ap, sym, subst, arith, inl, inr}
-use Rattle.std.specs.Prelude.{◌==◌, ◌||◌, if◌then◌else◌, not}
+use Rattle.std.proofs.Common.{◌≡◌, ◌⊎◌, ◌++◌, ◌∙◌, ℕ, Bool, true, false, List, [], ◌∷◌, Option, Some, None, refl, ap, sym, arith, inl, inr}
+use Rattle.std.specs.Prelude.{◌==◌, ◌||◌, if◌then◌else◌}
 use Rattle.std.specs.List.{list_any}
-use Rattle.std.specs.Option.{is_some}
-use Rattle.jg_words.specs.Entry.{Entry}
 use Rattle.jg_words.specs.declared.thread.Tid.{Tid}
-use Rattle.jg_words.specs.declared.thread.EnvId.{EnvId}
 use Rattle.jg_words.specs.declared.object.ObjId.{ObjId}
-use Rattle.jg_words.specs.declared.reference.Ref.{Ref}
 use Rattle.jg_words.specs.declared.reference.Ref.TheVariants.{Null, To}
 use Rattle.jg_words.specs.declared.reference.Kind.TheVariants.{Local, Global, Weak}
-use Rattle.jg_words.specs.declared.rule.Rule.{Rule}
-use Rattle.jg_words.specs.declared.call.Call.{Call}
-use Rattle.jg_words.specs.declared.entry.Outcome.TheVariants.{Passed}
-use Rattle.jg_words.specs.declared.entry.Reply.{Reply}
 use Rattle.jg_globals.specs.History as globals
 use Rattle.jg_globals.specs.declared.target.Target.TheVariants.{Object, Cleared}
-use Rattle.jg_rules.specs.Parts.{Parts}
 use Rattle.jg_rules.specs.Names.{named_by_target, object_in}
 use Rattle.jg_words.specs.declared.value.Value.{Value}
 use Rattle.jg_words.specs.declared.value.Value.TheVariants.{Ok as Done, Number, Truth, Null as NullAnswer, Reference, Buffer, Field, Environment, List as Listed, Busy, Detached, Throw}
@@ -100,11 +91,11 @@ module _ (m n : ℕ) (g : List globals.Event) (none : NamesNone m n g) where
       let e = globals.MakeWeak maker.0 k p ∷ g in
       let kept : globals.weak e m n ≡ globals.weak g m n = ap (λ (b : Bool). if b then Some p else globals.weak g m n) other in
       let behind : globals.after_making m n e ≡ globals.MakeWeak maker.0 k p ∷ globals.after_making m n g =
-          ap (λ (b : Bool). if b then [] else globals.MakeWeak maker.0 k p ∷ globals.after_making m n g) other in
+      ap (λ (b : Bool). if b then [] else globals.MakeWeak maker.0 k p ∷ globals.after_making m n g) other in
       let same : named_after e ≡ named_after (globals.MakeStrong maker.0 k p ∷ g) =
-          ap (λ found. object_in (named_by_target (globals.unless_cleared (globals.after_making m n e) found))) kept
-          ∙ ap (λ later. object_in (named_by_target (globals.unless_cleared later (globals.weak g m n)))) behind
-          ∙ unmoved (globals.weak g m n) in
+      ap (λ found. object_in (named_by_target (globals.unless_cleared (globals.after_making m n e) found))) kept
+      ∙ ap (λ later. object_in (named_by_target (globals.unless_cleared later (globals.weak g m n)))) behind
+      ∙ unmoved (globals.weak g m n) in
       absurd (strong_made maker.0 k p o (sym same ∙ some))
     where
       -- neither making clears anything

@@ -1,6 +1,6 @@
 -- A buffer that was released is never opened again.
-use Rattle.std.proofs.Common.{◌≡◌, ◌≢◌, ◌+◌, ◌<◌, ◌≤◌, ◌++◌, ◌∙◌, ℕ, Bool, true, false, List, [], ◌∷◌, Option, Some, None, refl, ap, sym, subst, arith}
-use Rattle.std.specs.Prelude.{◌==◌, ◌&&◌, if◌then◌else◌}
+use Rattle.std.proofs.Common.{◌≡◌, ◌+◌, ◌<◌, ◌≤◌, ◌++◌, ◌∙◌, ℕ, Bool, true, false, List, [], ◌∷◌, Some, None, refl, ap, sym, subst, arith}
+use Rattle.std.specs.Prelude.{if◌then◌else◌}
 use Rattle.std.proofs.lemmas.Bool.Decides.{nat_tests}
 use Rattle.jg_words.specs.Entry.{Entry}
 use Rattle.jg_policy.specs.Stated.{StatedSetup}
@@ -51,8 +51,8 @@ module _ (m n : ℕ) where
       let now : ℕ → ℕ = next_buffer (record p { threads = threads.by u threads.CountBuffer ∷ p.threads }) in
       let more : now u ≡ next_buffer p u + 1 = rw (did_more u threads.CountBuffer p.threads) refl in
       let rises : next_buffer p m ≤ now m =
-          each_thread (λ v. next_buffer p v ≤ now v) u (omega (arith, more))
-          (λ v differ. let same : now v ≡ next_buffer p v = rw (did_same v u threads.CountBuffer p.threads differ) refl in omega (arith, same)) m in
+      each_thread (λ v. next_buffer p v ≤ now v) u (omega (arith, more))
+      (λ v differ. let same : now v ≡ next_buffer p v = rw (did_same v u threads.CountBuffer p.threads differ) refl in omega (arith, same)) m in
       omega (arith, old, rises)
 
   pub given_steps : (s : StatedSetup) → Steps s IsGiven

@@ -4,7 +4,6 @@ use Rattle.std.specs.Prelude.{◌==◌}
 use Rattle.std.proofs.lemmas.Bool.Decides.{nat_tests}
 use Rattle.jg_words.specs.declared.call.Call.{Call}
 use Rattle.jg_words.specs.declared.call.Call.TheVariants.{Vm, Refs, Frames, Exceptions, Objects, Strings, Arrays, Monitors, Buffers}
-use Rattle.jg_words.specs.declared.call.vm.VmCall.{VmCall}
 use Rattle.jg_words.specs.declared.call.vm.VmCall.TheVariants.{AttachCurrentThread, DetachCurrentThread, GetEnv, NativeEnter, NativeLeave, LoadLibrary, RegisterNatives, UnregisterNatives, Collect}
 use Rattle.jg_words.specs.declared.entry.Outcome.{Outcome}
 use Rattle.jg_words.specs.declared.entry.Outcome.TheVariants.{Passed, Denied}
@@ -16,7 +15,7 @@ use Rattle.jg_monitors.specs.History as monitors
 use Rattle.jg_rules.specs.Parts.{Parts}
 use Rattle.jg_rules.specs.Access.{native_class, home_of}
 use Rattle.jg_rules.specs.Rules.{is_by}
-use Rattle.jg_rules.specs.Effects.{after, parts, call_links, call_monitors, if_effective, is_effective, warning, vm_links as linked_by}
+use Rattle.jg_rules.specs.Effects.{after, parts, call_links, call_monitors, if_effective, is_effective, warning}
 use Rattle.jg_causes.specs.declared.condition.Condition.{Condition}
 use Rattle.jg_causes.specs.declared.condition.Condition.TheVariants.{IsAttached, IsPresent, HasPending, Names, NamesObject, IsOpen, Owns, IsOwned, HasFrame, InNative, IsLinked}
 use Rattle.jg_causes.specs.Conditions.{holds}

@@ -1,5 +1,5 @@
 -- A reference or a buffer comes to be there at the entry at which its number is given.
-use Rattle.std.proofs.Common.{◌≡◌, ◌+◌, ◌<◌, ◌≤◌, ◌++◌, ◌∙◌, ℕ, Bool, true, false, List, [], ◌∷◌, length, Option, Some, None, inl, refl, ap, sym, subst, arith}
+use Rattle.std.proofs.Common.{◌≡◌, ◌+◌, ◌<◌, ◌≤◌, ◌++◌, ◌∙◌, ℕ, Bool, true, false, List, ◌∷◌, Option, Some, None, inl, ap, sym, arith}
 use Rattle.std.specs.Prelude.{nat_lt}
 use Rattle.std.proofs.lemmas.Bool.Decides.{nat_tests}
 use Rattle.jg_words.specs.Entry.{Entry}
@@ -58,8 +58,8 @@ module _ (s : StatedSetup) (p : Parts) (t : Tid) (call : Call) where
   by_buffer (Lent c) warned o b own is = same_buffer p t c b own.1 own.2 is
   by_buffer v warned o b own is = absurd (no_buffer is)
 
-ref_by_verdict : (s : StatedSetup) (p : Parts) (u : Tid) (env : Option EnvId) (call : Call) (kind : Kind) (maker : Tid) (n : ℕ) (verdict : Option Rule) (y : Entry) → y ≡ entry_by verdict (answer s p u call) u env call
-    → reference_of y.outcome ≡ Some (To kind maker n) → n ≡ next_ref p maker.0
+ref_by_verdict : (s : StatedSetup) (p : Parts) (u : Tid) (env : Option EnvId) (call : Call) (kind : Kind) (maker : Tid) (n : ℕ) (verdict : Option Rule) (y : Entry)
+    → y ≡ entry_by verdict (answer s p u call) u env call → reference_of y.outcome ≡ Some (To kind maker n) → n ≡ next_ref p maker.0
 ref_by_verdict s p u env call kind maker n (Some rule) y is handed = absurd (no_reference (sym (ap (λ (x : Entry). reference_of x.outcome) is) ∙ handed))
 ref_by_verdict s p u env call kind maker n None y is handed =
     let a = answer s p u call in
@@ -97,7 +97,8 @@ ref_still_given s newer h m n legal given =
     let still : n + 1 ≤ next_ref (parts s (newer ++ h)) m = each_since (AtLeast m (n + 1)) s (at_least_steps s m (n + 1)) newer h legal below in
     grind (arith, nat_tests, still)
 
-pub buffer_still_given : (s : StatedSetup) (newer h : List Entry) (m n : ℕ) → Legal s (newer ++ h) → nat_lt n (next_buffer (parts s h) m) ≡ true → nat_lt n (next_buffer (parts s (newer ++ h)) m) ≡ true
+pub buffer_still_given : (s : StatedSetup) (newer h : List Entry) (m n : ℕ) → Legal s (newer ++ h) → nat_lt n (next_buffer (parts s h) m) ≡ true
+    → nat_lt n (next_buffer (parts s (newer ++ h)) m) ≡ true
 buffer_still_given s newer h m n legal given =
     let below : n < next_buffer (parts s h) m = grind (arith, nat_tests, given) in
     let still : n < next_buffer (parts s (newer ++ h)) m = each_since (IsGiven m n) s (given_steps m n s) newer h legal below in

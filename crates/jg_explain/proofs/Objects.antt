@@ -20,7 +20,7 @@ use Rattle.jg_rules.specs.declared.named.Named.TheVariants.{Nothing}
 use Rattle.jg_rules.specs.Parts.{Parts}
 use Rattle.jg_rules.specs.Names.{named_by, named_by_target, object_in, object_named}
 use Rattle.jg_rules.specs.Rules.{is_nothing, verdict}
-use Rattle.jg_rules.specs.Effects.{parts, after, call_globals, if_effective, is_effective, value_globals}
+use Rattle.jg_rules.specs.Effects.{parts, after, call_globals, if_effective, is_effective}
 use Rattle.jg_rules.specs.Answers.{answer}
 use Rattle.jg_rules.specs.Legal.{Legal, entry_by}
 use Rattle.jg_laws.specs.Histories.{reference_in, reference_of}
@@ -55,8 +55,8 @@ weak_comes s p u call reply object t maker n none o some =
 clash : (found : Option ℕ) (o : ℕ) → found ≡ None → found ≡ Some o → ⊥
 clash found o none some = cc
 
-weak_hands : (s : StatedSetup) (p : Parts) (u : Tid) (env : Option EnvId) (call : Call) (t : ℕ) (maker : Tid) (n : ℕ) (verdict : Option Rule) (y : Entry) → y ≡ entry_by verdict (answer s p u call) u env call
-    → object_named p t (To Weak maker n) ≡ None → (o : ℕ) → object_named (after s y.tid.0 y.call y.outcome y.object p) t (To Weak maker n) ≡ Some o → reference_of y.outcome ≡ Some (To Weak maker n)
+weak_hands : (s : StatedSetup) (p : Parts) (u : Tid) (env : Option EnvId) (call : Call) (t : ℕ) (maker : Tid) (n : ℕ) (verdict : Option Rule) (y : Entry)
+    → y ≡ entry_by verdict (answer s p u call) u env call → object_named p t (To Weak maker n) ≡ None → (o : ℕ) → object_named (after s y.tid.0 y.call y.outcome y.object p) t (To Weak maker n) ≡ Some o → reference_of y.outcome ≡ Some (To Weak maker n)
 weak_hands s p u env call t maker n (Some rule) y is none o some =
     absurd (clash (object_named p t (To Weak maker n)) o none (sym (ap (λ (x : Entry). object_named (after s x.tid.0 x.call x.outcome x.object p) t (To Weak maker n)) is) ∙ some))
 weak_hands s p u env call t maker n None y is none o some =
@@ -74,8 +74,8 @@ global_same : (found : Option ℕ) → is_some (object_in (named_by_target (glob
 global_same None = refl
 global_same (Some o) = refl
 
-pub object_by_its_answer : (s : StatedSetup) (h : List Entry) (x : Entry) (t : Tid) (r : Ref) → Legal s (x ∷ h) → holds (parts s h) (NamesObject t r) ≡ false → holds (parts s (x ∷ h)) (NamesObject t r) ≡ true
-    → reference_of x.outcome ≡ Some r
+pub object_by_its_answer : (s : StatedSetup) (h : List Entry) (x : Entry) (t : Tid) (r : Ref) → Legal s (x ∷ h) → holds (parts s h) (NamesObject t r) ≡ false
+    → holds (parts s (x ∷ h)) (NamesObject t r) ≡ true → reference_of x.outcome ≡ Some r
 object_by_its_answer s h x t Null legal none some = absurd cc
 object_by_its_answer s h x t (To Local maker n) legal none some =
     let same : (p : Parts) → holds p (NamesObject t (To Local maker n)) ≡ holds p (Names t (To Local maker n)) = λ p. local_same (maker.0 == t.0) (live n (acts_of t.0 p.locals)) in

@@ -1,5 +1,5 @@
 -- What comes to hold once and then holds no more: a few entries at which it is asked tell where it turned.
-use Rattle.std.proofs.Common.{◌≡◌, ◌+◌, ◌-◌, ◌<◌, ◌≤◌, ℕ, zero, suc, Bool, true, false, List, [], length, Some, None, refl, ap, sym, ◌∙◌, subst, arith, add-one}
+use Rattle.std.proofs.Common.{◌≡◌, ◌+◌, ◌-◌, ◌<◌, ◌≤◌, ℕ, zero, suc, Bool, true, false, List, length, Some, None, refl, ap, sym, ◌∙◌, arith, add-one}
 use Rattle.jg_words.specs.Entry.{Entry}
 use Rattle.jg_lists.proofs.Oldest.{oldest}
 use Rattle.jg_causes.specs.declared.turns.Turns.{Turns}

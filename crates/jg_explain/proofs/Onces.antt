@@ -10,7 +10,7 @@ use Rattle.jg_words.specs.declared.reference.Ref.TheVariants.{To}
 use Rattle.jg_words.specs.declared.thread.Tid.{Tid}
 use Rattle.jg_policy.specs.Stated.{StatedSetup}
 use Rattle.jg_buffers.specs.History.{Buffer, opened, info_of}
-use Rattle.jg_rules.specs.Parts.{Parts, nothing_yet}
+use Rattle.jg_rules.specs.Parts.{nothing_yet}
 use Rattle.jg_rules.specs.declared.named.Named.TheVariants.{Nothing}
 use Rattle.jg_rules.specs.Names.{object_in, object_named}
 use Rattle.jg_rules.specs.Rules.{is_nothing}

@@ -1,6 +1,6 @@
 -- A buffer comes to be open at the entry alone that lends it.
-use Rattle.std.proofs.Common.{◌≡◌, ◌++◌, ◌∙◌, ℕ, Bool, true, false, List, [], ◌∷◌, Option, Some, None, refl, ap, sym, arith}
-use Rattle.std.specs.Prelude.{ℤ, ◌==◌, ◌&&◌, if◌then◌else◌}
+use Rattle.std.proofs.Common.{◌≡◌, ◌++◌, ◌∙◌, ℕ, Bool, true, false, List, ◌∷◌, Option, Some, None, refl, ap, sym, arith}
+use Rattle.std.specs.Prelude.{if◌then◌else◌}
 use Rattle.std.proofs.lemmas.Bool.Decides.{nat_tests}
 use Rattle.jg_words.specs.Entry.{Entry}
 use Rattle.jg_words.specs.declared.buffer.BufId.{BufId}
@@ -17,7 +17,7 @@ use Rattle.jg_words.specs.declared.value.Value.{Value}
 use Rattle.jg_words.specs.declared.value.Value.TheVariants.{Buffer as Lent}
 use Rattle.jg_policy.specs.Stated.{StatedSetup}
 use Rattle.jg_heap.specs.Reading.{natural}
-use Rattle.jg_buffers.specs.History.{Buffer, Event, Opened, opened, is_same}
+use Rattle.jg_buffers.specs.History.{Buffer, Event, opened, is_same}
 use Rattle.jg_rules.specs.Parts.{Parts}
 use Rattle.jg_rules.specs.Names.{next_buffer}
 use Rattle.jg_rules.specs.Buffers.{buffer_named, is_commit}
@@ -99,7 +99,8 @@ by_verdict s p u env call m n b None y is none some =
     ap (λ (x : Entry). buffer_of x.outcome) is ∙ by_call s p u m n b none call here
 
 -- at no other entry of a legal history
-pub opened_by_its_answer : (s : StatedSetup) (h : List Entry) (x : Entry) (m n : ℕ) (b : Buffer) → Legal s (x ∷ h) → opened (parts s h).buffers m n ≡ None → opened (parts s (x ∷ h)).buffers m n ≡ Some b
+pub opened_by_its_answer : (s : StatedSetup) (h : List Entry) (x : Entry) (m n : ℕ) (b : Buffer) → Legal s (x ∷ h) → opened (parts s h).buffers m n ≡ None
+    → opened (parts s (x ∷ h)).buffers m n ≡ Some b
     → buffer_of x.outcome ≡ Some (record { maker = record { 0 = m }; n = n })
 opened_by_its_answer s h x m n b legal none some =
     by_verdict s (parts s h) x.tid x.env x.call m n b (verdict s (parts s h) x.tid.0 x.env x.call) x legal.0 none some

@@ -1,7 +1,5 @@
 -- A call changes nothing of what is asked of another thread.
-use Rattle.std.proofs.Common.{◌≡◌, ◌≢◌, ◌++◌, ◌∙◌, ℕ, Bool, List, [], ◌∷◌, map, Option, Some, None, refl, ap, sym, subst}
-use Rattle.std.specs.Prelude.{not, nat_lt}
-use Rattle.std.specs.Option.{is_some}
+use Rattle.std.proofs.Common.{◌≡◌, ◌≢◌, ◌++◌, ◌∙◌, ℕ, List, [], ◌∷◌, map, Option, Some, None, refl, ap, sym}
 use Rattle.std.proofs.lemmas.Option.{same_Some}
 use Rattle.jg_words.specs.declared.call.Call.{Call}
 use Rattle.jg_words.specs.declared.entry.Outcome.{Outcome}
@@ -14,7 +12,7 @@ use Rattle.jg_locals.specs.History as locals
 use Rattle.jg_lists.specs.Acts.{Event, acts_of, by}
 use Rattle.jg_lists.proofs.Acts.{acts_same}
 use Rattle.jg_rules.specs.Parts.{Parts}
-use Rattle.jg_rules.specs.Effects.{after, parts, call_locals, call_threads, if_effective, is_effective, value_locals, value_threads}
+use Rattle.jg_rules.specs.Effects.{after, call_locals, call_threads, if_effective, is_effective, value_locals, value_threads}
 use Rattle.jg_causes.specs.declared.condition.Condition.{Condition}
 use Rattle.jg_causes.specs.declared.condition.Condition.TheVariants.{IsAttached, IsPresent, HasPending, Names, NamesObject, IsOpen, Owns, IsOwned, HasFrame, InNative, IsLinked}
 use Rattle.jg_causes.specs.Conditions.{holds}

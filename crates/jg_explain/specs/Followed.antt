@@ -97,7 +97,6 @@ moves_monitors (Vm call) = vm_monitors call
 moves_monitors (Monitors call) = true
 moves_monitors call = false
 
-
 -- a call of the thread may turn it
 abbrev pub may_turn : Condition → ℕ → Call → Bool
 may_turn (IsAttached t) u call = t.0 == u

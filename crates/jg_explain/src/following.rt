@@ -146,7 +146,9 @@ fn known_now<B: Allocator + Clone>(
         → IfSome result (λ known. known ≡ watched whole.setup whole.journal end watch) }
 {
     if comes_once(watch.condition) {
-        let place = following.suspects.trace_of(&following.traces, watch.condition)?;
+        let place = following
+            .suspects
+            .trace_of(&following.traces, watch.condition)?;
         let trace = following.traces.get(place)?;
         if trace.condition == watch.condition {
             return conclude(again, *trace, watch.place);

@@ -165,7 +165,12 @@ impl Suspects {
     }
 
     /// Has the trace at that place, which is the next one, stand for the condition.
-    pub(crate) fn add(&mut self, condition: Condition, place: usize, alloc: Global) -> Result<(), AllocError> {
+    pub(crate) fn add(
+        &mut self,
+        condition: Condition,
+        place: usize,
+        alloc: Global,
+    ) -> Result<(), AllocError> {
         match self.first_of(condition) {
             None => {
                 self.next.push(None)?;
@@ -187,15 +192,30 @@ impl Suspects {
         Ok(())
     }
 
-    fn put_first(&mut self, condition: Condition, place: usize, alloc: Global) -> Result<(), AllocError> {
+    fn put_first(
+        &mut self,
+        condition: Condition,
+        place: usize,
+        alloc: Global,
+    ) -> Result<(), AllocError> {
         match condition {
             Condition::Names { reference, .. } | Condition::NamesObject { reference, .. } => {
                 match reference {
                     Ref::Null => Ok(()),
-                    Ref::To { maker, n, .. } => put(&mut self.references, (maker.0, n), place, alloc),
+                    Ref::To { maker, n, .. } => put(
+                        &mut self.references,
+                        (maker.0, n),
+                        place,
+                        alloc,
+                    ),
                 }
             }
-            Condition::IsOpen { buffer } => put(&mut self.buffers, (buffer.maker.0, buffer.n), place, alloc),
+            Condition::IsOpen { buffer } => put(
+                &mut self.buffers,
+                (buffer.maker.0, buffer.n),
+                place,
+                alloc,
+            ),
             _ => Ok(()),
         }
     }
@@ -264,10 +284,12 @@ impl Suspects {
                 push_traces(&self.next, Some(first), suspected)?;
                 match reference {
                     Ref::To {
-                        kind: Kind::Local, ..
+                        kind: Kind::Local,
+                        ..
                     } => self.lay(tid, Layer::Local(first), alloc),
                     Ref::To {
-                        kind: Kind::Weak, ..
+                        kind: Kind::Weak,
+                        ..
                     } => {
                         self.weak.push(first)?;
                         Ok(())
@@ -275,7 +297,11 @@ impl Suspects {
                     _ => Ok(()),
                 }
             }
-            Value::Buffer(buffer) => push_traces(&self.next, self.first_of_buffer(*buffer), suspected),
+            Value::Buffer(buffer) => push_traces(
+                &self.next,
+                self.first_of_buffer(*buffer),
+                suspected,
+            ),
             _ => Ok(()),
         }
     }

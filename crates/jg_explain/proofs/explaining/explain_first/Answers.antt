@@ -1,4 +1,4 @@
-use Rattle.std.proofs.Common.{◌≡◌, ◌++◌, flat_map, length, map, take, ap, sym, subst, ◌∙◌}
+use Rattle.std.proofs.Common.{◌≡◌, ◌++◌, flat_map, map, take, ap, sym, subst, ◌∙◌}
 use Rattle.jg_explain.specs.Explained.{AreWithin, causes, watches_of}
 use Rattle.jg_explain.specs.Texts.{explanations_text}
 use Rattle.jg_explain.specs.Watched.{watched}

@@ -1,5 +1,4 @@
-use Rattle.std.proofs.Common.{◌≡◌, ◌<◌, ◌+◌, List, length, map, sym, ap, ◌∙◌, subst, arith, All}
-use Rattle.std.proofs.lemmas.List.{length-map}
+use Rattle.std.proofs.Common.{◌+◌, List, map, sym, ap, ◌∙◌, subst, arith, All}
 use Rattle.jg_words.specs.Entry.{Entry}
 use Rattle.jg_policy.specs.Stated.{StatedSetup}
 use Rattle.jg_explain.specs.Followed.{IsSeen, IsSteady, IsTraced, asked_steady}
@@ -23,9 +22,10 @@ returns-clause-followed g c old =
     let entry = c.in-Some.entry.now in
     let asked = all_asked_steady s h at entry c.requires.within (sym c.in-Some.ensures.entry) steady.items old.asked in
     let made = c.ask_steady.ensures ∙ ap (λ (r : StatedSetup). map (asked_steady r again.journal entry at) c.deref_mut-2.result.now) front.setup
-        ∙ ap (λ (j : List Entry). map (asked_steady s j entry at) c.deref_mut-2.result.now) front.journal in
+    ∙ ap (λ (j : List Entry). map (asked_steady s j entry at) c.deref_mut-2.result.now) front.journal in
     let all = subst (All (IsSteady s h (at + 1))) (sym (made ∙ ap (map (asked_steady s _ entry at)) c.deref_mut-2.ensures.value)) asked in
     record {
       seen = all_through (IsTraced s h) traces.len traces.items c.deref_mut.result.now c.trace_each.new.traces (omega (arith, traces.ok)) c.deref_mut.ensures.value c.trace_each.auto.traces seen;
-      asked = all_through (IsSteady s h (at + 1)) steady.len steady.items c.deref_mut-2.result.now c.ask_steady.new.all (omega (arith, steady.ok)) c.deref_mut-2.ensures.value c.ask_steady.auto.all all;
+      asked = all_through (IsSteady s h (at + 1)) steady.len steady.items c.deref_mut-2.result.now c.ask_steady.new.all (omega (arith, steady.ok)) c.deref_mut-2.ensures.value
+          c.ask_steady.auto.all all;
     }

@@ -1,4 +1,4 @@
-use Rattle.std.proofs.Common.{◌≡◌, length, map, ap, sym, ◌∙◌}
+use Rattle.std.proofs.Common.{◌≡◌, map, ap, sym, ◌∙◌}
 use Rattle.jg_explain.specs.Left.{watch_of}
 use Rattle.jg_explain.specs.Watched.{watched}
 use Rattle.jg_explain.proofs.Leaving.{all_left_known}

@@ -1,4 +1,4 @@
-use Rattle.std.proofs.Common.{◌≡◌, ◌+◌, ◌<◌, length, sym, arith}
+use Rattle.std.proofs.Common.{◌+◌, ◌<◌, length, arith}
 use Rattle.std.proofs.lemmas.List.Elements.{All-set}
 use Rattle.jg_explain.specs.Followed.{IsTraced}
 use Rattle.jg_explain.proofs.traces.trace_one.Goals as goal
