@@ -47,4 +47,6 @@ pub struct Asked<'a> {
     pub turns: u32,
     /// Whether what is left at the end is listed.
     pub leaks: bool,
+    /// Whether calls and denials are counted at the end.
+    pub summary: bool,
 }

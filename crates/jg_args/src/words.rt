@@ -52,6 +52,13 @@ fn strict_arg<'a>(alloc: Global) -> Arg<'a> {
         .help("ends with status 5 in the place of 0 where a call was denied")
 }
 
+fn summary_arg<'a>(alloc: Global) -> Arg<'a> {
+    Arg::new(alloc, "summary")
+        .long("summary")
+        .action(ArgAction::SetTrue)
+        .help("counts calls, denials and what was there at once on standard error")
+}
+
 fn turns_arg<'a>(alloc: Global) -> Arg<'a> {
     Arg::new(alloc, "turns")
         .long("turns")
@@ -73,7 +80,8 @@ fn with_options<'a>(alloc: Global, command: Command<'a>) -> Result<Command<'a>, 
         .arg(setup_arg(alloc))?
         .arg(limit_arg(alloc))?
         .arg(explain_arg(alloc))?
-        .arg(strict_arg(alloc))
+        .arg(strict_arg(alloc))?
+        .arg(summary_arg(alloc))
 }
 
 fn check_command<'a>(alloc: Global) -> Result<Command<'a>, AllocError> {
@@ -167,6 +175,7 @@ fn make_asked<'a>(task: Task<'a>, matches: &ArgMatches<'a>) -> Result<Asked<'a>,
         strict: matches.get_flag("strict"),
         turns: number(matches, "turns", 1, DEFAULT_TURNS)?,
         leaks: matches.get_flag("leaks"),
+        summary: matches.get_flag("summary"),
     })
 }
 
@@ -176,6 +185,7 @@ fn has_options(matches: &ArgMatches<'_>) -> bool {
         || matches.contains_id("explain")
         || matches.get_flag("strict")
         || matches.get_flag("leaks")
+        || matches.get_flag("summary")
 }
 
 fn fault_of(kind: ErrorKind) -> ArgsFault {

@@ -1,8 +1,10 @@
 -- The counts of the pinned buffers, from one call to the next.
-use Rattle.std.proofs.Common.{◌≡◌, ℕ, ◌+◌, ◌-◌, Bool, true, false, List, ◌∷◌, refl, ◌∙◌, ap, sym, arith, eqb-true, IsPermutation}
+use Rattle.std.proofs.Common.{◌≡◌, ℕ, ◌+◌, ◌-◌, Bool, true, false, length, List, ◌∷◌, refl, ◌∙◌, ap, sym, arith, eqb-true, IsPermutation}
 use Rattle.std.specs.Prelude.{◌==◌, ◌&&◌, if◌then◌else◌, slice_index_or}
 use Rattle.indexmap.specs.IndexMap.{IndexMap, get}
 use Rattle.std.proofs.lemmas.Bool.Decides.{nat_tests}
+use Rattle.std.proofs.lemmas.List.{length-append}
+use Rattle.std.proofs.lemmas.List.Sorted.{length_permutation}
 use Rattle.jg_words.specs.declared.thread.Tid.{Tid}
 use Rattle.jg_words.specs.declared.reference.Ref.{Ref}
 use Rattle.jg_words.specs.declared.reference.Ref.TheVariants.{Null, To}
@@ -89,3 +91,18 @@ counts_lowered pins news makers makers' vias vias' t n w was taken maker via = r
       (lower_by (how_many (λ e. same_ref e.1.via w.via) pins) (how_many (λ e. same_ref e.1.via r) pins) _ (same_ref w.via r)
       (λ is. ap (λ u. how_many (λ e. same_ref e.1.via u) pins) (same_ref_is w.via r is)) (counted_popped (λ e. same_ref e.1.via r) ((t, n), w) pins news taken));
 }
+
+-- ---- the count of all
+
+-- one more pinned buffer
+pub all_raised : (pins news : List (Name × Pinned)) (q : Name) (w : Pinned) (count : ℕ) → count ≡ length pins → Adds q w pins news → count + 1 ≡ length news
+all_raised pins news q w count was adds =
+    let before = ap length adds.was ∙ length-append adds.front adds.back in
+    let after = ap length adds.now ∙ length-append adds.front ((q, w) ∷ adds.back) in
+    omega (arith, was, before, after)
+
+-- one pinned buffer less
+pub all_lowered : (pins news : List (Name × Pinned)) (e : Name × Pinned) (count : ℕ) → count ≡ length pins → IsPermutation pins (e ∷ news) → count ≡ length news + 1
+all_lowered pins news e count was taken =
+    let same = length_permutation pins (e ∷ news) taken in
+    omega (arith, was, same)

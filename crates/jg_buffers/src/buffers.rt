@@ -1,4 +1,4 @@
-ghost use Rattle.std.specs.Prelude.{◌≡◌, ℕ, pos, true, false, ◌<◌, ◌≤◌, ◌++◌, List, [], ◌∷◌, map, length, vec_len, vec_capacity, OnOk, OnErr, IfOk, option_map, slice_index_or};
+ghost use Rattle.std.specs.Prelude.{◌≡◌, ℕ, pos, true, false, ◌<◌, ◌≤◌, ◌^◌, ◌++◌, List, [], ◌∷◌, map, length, vec_len, vec_capacity, OnOk, OnErr, IfOk, option_map, slice_index_or};
 ghost use Rattle.jg_buffers.specs.History.{Event, Opened, Wrote, Closed, is_critical, copy_with, pin_through, opened, content, contents, in_critical, pinned_by, pins_object, info_of, is_null};
 ghost use Rattle.jg_buffers.specs.Ordered.{pins_of, pins_through};
 ghost use Rattle.jg_buffers.specs.Rows.{AddsNumber, IsAbove, KeepsBuffers, KeepsNumbers, name_of, row_of, copy_length, items_in};
@@ -30,6 +30,8 @@ pub struct Buffers<A: Allocator = Global> {
     pins: ByMaker<Pinned, A>,
     makers: Vec<usize, A>,
     vias: Tally<ViaKey, A>,
+    /// How many pinned buffers are open.
+    pinned: u64,
     alloc: A,
     recent_copy: Recent,
 }
@@ -43,6 +45,7 @@ impl<A: Allocator> Drop for Buffers<A> {
             pins: _pins,
             makers: _makers,
             vias: _vias,
+            pinned: _pinned,
             alloc: _alloc,
             recent_copy: _recent_copy,
         } = self;
@@ -50,7 +53,7 @@ impl<A: Allocator> Drop for Buffers<A> {
 }
 
 impl<A: Allocator> Model for Buffers<A> {
-    ghost use Rattle.std.specs.Prelude.{◌++◌, map};
+    ghost use Rattle.std.specs.Prelude.{◌≡◌, ◌++◌, length, map};
     ghost use Rattle.jg_lists.specs.ByMaker.{named};
     ghost use Rattle.jg_buffers.specs.Rows.{Rows};
     ghost use Rattle.jg_buffers.specs.Seen.{copy_seen, pin_seen};
@@ -60,7 +63,7 @@ impl<A: Allocator> Model for Buffers<A> {
 
     ghost view = { λ a. record { lent = map copy_seen a.copies.entries ++ map pin_seen (named a.pins) } };
 
-    ghost invariant = { λ a. Counted (named a.pins) a.makers.items a.vias };
+    ghost invariant = { λ a. Counted (named a.pins) a.makers.items a.vias × (a.pinned ≡ length (named a.pins)) };
 }
 
 impl<A: Allocator + Copy> Buffers<A> {
@@ -77,6 +80,7 @@ impl<A: Allocator + Copy> Buffers<A> {
             pins: ByThread::new(pins, pins),
             makers: Vec::new(makers),
             vias: IndexMap::new(vias),
+            pinned: 0,
             alloc,
             recent_copy: Recent::new(),
         }
@@ -138,6 +142,10 @@ impl<A: Allocator + Clone> Buffers<A> {
         ensures err { OnErr result (self.new ≡ self.old) }
         ensures numbers { AddsNumber tid.0 n self.old self.new }
     {
+        // At most 2^16 threads have fewer than 2^32 each, so that nothing is refused here.
+        let Some(pinned) = self.pinned.checked_add(1) else {
+            return Err(AllocError);
+        };
         let key = via_key(via);
         widen_counts(&mut self.makers, tid.0)?;
         make_room(&mut self.vias, key)?;
@@ -154,6 +162,7 @@ impl<A: Allocator + Clone> Buffers<A> {
         )?;
         raise_count(&mut self.makers, tid.0);
         raise(&mut self.vias, &key);
+        self.pinned = pinned;
         Ok(())
     }
 
@@ -236,7 +245,16 @@ impl<A: Allocator + Clone> Buffers<A> {
         if let Some(pin) = remove(&mut self.pins, (buf.maker.0, buf.n)) {
             lower_count(&mut self.makers, buf.maker.0);
             lower(&mut self.vias, &via_key(pin.via));
+            self.pinned -= 1;
         }
+    }
+
+    /// How many buffers are open, copies and pinned ones. Takes one step, however many there are.
+    pub fn len(&self) -> u128
+        ensures count { result ≡ length self.now.lent }
+        ensures few { result ≤ 2 ^ 126 }
+    {
+        u128::from(self.pinned) + self.copies.len() as u128
     }
 
     /// Whether the thread is in a critical region: a pinned buffer that it was lent is open.

@@ -95,6 +95,51 @@ line 1: deny 2 Detached: no environment was handed in
     ),
 ];
 
+const SUMMED: &str = "calls 4, passed 3, denied 1
+deny 6 DeadReference 1
+most at once: references 1, objects 1, buffers 0
+";
+
+/// Scripts, a journal and a play, with their summaries.
+const SUMMARIES: [Row; 4] = [
+    (&["--summary"], DEAD, ANSWERED, Status::Done, SUMMED),
+    (
+        &["--summary", "--leaks"],
+        "T1 - AttachCurrentThread
+T1 E1.1 NewString [72]
+T1 E1.1 NewGlobalRef L1.1
+T1 E1.1 GetStringChars G1.2
+T1 E1.1 DeleteLocalRef L1.1
+oops
+",
+        "T1 - AttachCurrentThread = E1.1
+T1 E1.1 NewString [72] = L1.1
+T1 E1.1 NewGlobalRef L1.1 = G1.2
+T1 E1.1 GetStringChars G1.2 = B1.1
+T1 E1.1 DeleteLocalRef L1.1 = ok
+",
+        Status::Faulty,
+        "line 6: NoThread
+calls 5, passed 5, denied 0
+most at once: references 2, objects 1, buffers 1
+",
+    ),
+    (
+        &["verify", "--summary"],
+        ANSWERED,
+        "legal\n",
+        Status::Done,
+        SUMMED,
+    ),
+    (
+        &["play", "-", "--summary"],
+        DEAD,
+        ANSWERED,
+        Status::Done,
+        SUMMED,
+    ),
+];
+
 const OTHER_OUTCOME: &str = "T1 - AttachCurrentThread = E1.1
 T1 E1.1 NewString [72] = L1.1
 T1 E1.1 DeleteLocalRef L1.1 = ok
@@ -173,6 +218,17 @@ const OTHERS: [Row; 8] = [
 #[test]
 fn scripts_are_explained(rt: HostRuntime) -> Result<(), Fail> {
     for (words, input, text, status, said) in CHECKS {
+        let ending = (status, said);
+        let difference = writes_so(&rt, rt.alloc(), words, &rt, input.as_bytes(), text, ending)?;
+        assert_eq!(rt; difference, None, "at {words:?}: {said}");
+    }
+    Ok(())
+}
+
+/// The summary comes last.
+#[test]
+fn calls_are_counted(rt: HostRuntime) -> Result<(), Fail> {
+    for (words, input, text, status, said) in SUMMARIES {
         let ending = (status, said);
         let difference = writes_so(&rt, rt.alloc(), words, &rt, input.as_bytes(), text, ending)?;
         assert_eq!(rt; difference, None, "at {words:?}: {said}");

@@ -232,6 +232,67 @@ fn each_unread_file_has_its_text(rt: HostRuntime) -> Result<(), Fail> {
     Ok(())
 }
 
+const MISSPELT: &str = "version = 1
+illegal_native_access = \"deny\"
+[[class]]
+name = \"app/Main\"
+module = \"app\"
+fields = [{ name = \"size\", type = \"int\" }]
+";
+
+const CHECK: [&str; 2] = ["--setup=app.toml", "--explain=1"];
+
+const VERIFY: [&str; 3] = ["verify", "--setup=app.toml", "--explain=1"];
+
+const PLAY: [&str; 4] = ["play", "-", "--setup=app.toml", "--explain=1"];
+
+const UNEXPLAINED: [&str; 2] = ["--setup=app.toml", "--explain=0"];
+
+/// With explanations a second line tells where the fault stands, whichever command reads the setup.
+#[test]
+fn the_place_of_the_fault_is_told(rt: HostRuntime) -> Result<(), Fail> {
+    let misspelt = "setup: BadName\nclass 1, field 1: type: int is no field type\n";
+    let rows: [(&[&str], &[u8], u64, &str); 7] = [
+        (&CHECK, MISSPELT.as_bytes(), 0, misspelt),
+        (&VERIFY, MISSPELT.as_bytes(), 0, misspelt),
+        (&PLAY, MISSPELT.as_bytes(), 0, misspelt),
+        (&UNEXPLAINED, MISSPELT.as_bytes(), 0, "setup: BadName\n"),
+        (
+            &CHECK,
+            b"version",
+            0,
+            "setup: NotToml\nline 1, column 8: key with no value, expected `=`\n",
+        ),
+        (
+            &CHECK,
+            b"\xff",
+            0,
+            "setup: NotToml\nline 1, column 1: invalid UTF-8\n",
+        ),
+        (
+            &PLAY,
+            b"",
+            16_777_217,
+            "setup: TooMany\nmore than 16777216 bytes\n",
+        ),
+    ];
+    for (words, bytes, told, said) in rows {
+        let file = Held {
+            bytes,
+            then: Then::Ends,
+        };
+        let drawer = Drawer {
+            path: "app.toml",
+            file,
+            told,
+        };
+        let ending = (Status::Faulty, said);
+        let difference = answers(&rt, rt.alloc(), words, &drawer, "", ending)?;
+        assert_eq!(rt; difference, None, "at {words:?}: {said}");
+    }
+    Ok(())
+}
+
 /// Of a play too a setup that is told to be too long isn't read.
 #[test]
 fn a_play_reads_no_setup_that_is_too_long(rt: HostRuntime) -> Result<(), Fail> {

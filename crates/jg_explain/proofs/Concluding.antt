@@ -19,7 +19,7 @@ use Rattle.jg_explain.specs.Explained.{after, turns_before, was}
 use Rattle.jg_explain.specs.Followed.{GaveOther, Was, comes_once, given_in, was_given}
 use Rattle.jg_explain.proofs.Giving.{buffer_numbered, buffer_still_given, ref_numbered, ref_still_given}
 use Rattle.jg_explain.proofs.Objects.{object_by_its_answer}
-use Rattle.jg_explain.proofs.Once.{HoldsOnce, holding, over_now, unmade}
+use Rattle.jg_explain.proofs.Once.{HoldsOnce, clash, holding, over_now, unmade}
 use Rattle.jg_explain.proofs.Onces.{names_once, object_once, open_none, open_once, open_there}
 use Rattle.jg_explain.proofs.Opening.{opened_by_its_answer}
 use Rattle.jg_explain.proofs.Splits.{behind, front_legal}
@@ -87,9 +87,6 @@ order i g = by (nat_lt i g) (nat_lt g i) refl refl
     by true d below is = inl (grind (arith, nat_tests, below))
     by false true is above = inr (inr (grind (arith, nat_tests, above)))
     by false false low high = inr (inl (grind (arith, nat_tests, low, high)))
-
-clash : (b : Bool) → b ≡ true → b ≡ false → ⊥
-clash b is isnt = cc
 
 module _ (s : StatedSetup) (h : List Entry) (legal : Legal s h) (c : Condition) (is : comes_once c ≡ true) where
   once : HoldsOnce (after s c) h

@@ -28,19 +28,12 @@ use Rattle.jg_laws.proofs.Steps.{make_no_global, makes_none}
 use Rattle.jg_causes.specs.declared.condition.Condition.TheVariants.{Names, NamesObject}
 use Rattle.jg_causes.specs.Conditions.{holds}
 use Rattle.jg_causes.proofs.Making.{made_by_its_answer}
+use Rattle.jg_explain.proofs.Onces.{is_none, is_there}
 use Rattle.jg_explain.proofs.Clearing.{by_value, none_kept, none_names}
 
 none_if : (b : Bool) (e : List globals.Event) → make_no_global e ≡ true → make_no_global (if_effective b e) ≡ true
 none_if true e none = none
 none_if false e none = refl
-
-is_there : (found : Option ℕ) → is_some found ≡ true → (o : ℕ) × (found ≡ Some o)
-is_there None is = absurd cc
-is_there (Some o) is = (o, refl)
-
-is_none : (found : Option ℕ) → is_some found ≡ false → found ≡ None
-is_none None is = refl
-is_none (Some o) is = absurd cc
 
 -- a weak reference that a passed call brings to an object
 weak_comes : (s : StatedSetup) (p : Parts) (u : ℕ) (call : Call) (reply : Reply) (object : Option ObjId) (t : ℕ) (maker : Tid) (n : ℕ) → object_named p t (To Weak maker n) ≡ None

@@ -11,7 +11,7 @@ pub record HoldsOnce (test : List Entry → Bool) (h : List Entry) : Type 0 wher
   pub first : test (oldest 0 h) ≡ false
   pub over : (i j k : ℕ) → i ≤ j → j ≤ k → k ≤ length h → test (oldest i h) ≡ true → test (oldest j h) ≡ false → test (oldest k h) ≡ false
 
-clash : (b : Bool) → b ≡ true → b ≡ false → ⊥
+pub clash : (b : Bool) → b ≡ true → b ≡ false → ⊥
 clash b is isnt = cc
 
 module _ (test : List Entry → Bool) (h : List Entry) (once : HoldsOnce test h) where

@@ -62,11 +62,11 @@ object_none t maker Local n = by (maker.0 == t.0)
 object_none t maker Global n = refl
 object_none t maker Weak n = refl
 
-is_there : {X : Type 0} (found : Option X) → is_some found ≡ true → (x : X) × (found ≡ Some x)
+pub is_there : {X : Type 0} (found : Option X) → is_some found ≡ true → (x : X) × (found ≡ Some x)
 is_there None is = absurd cc
 is_there (Some x) is = (x, refl)
 
-is_none : {X : Type 0} (found : Option X) → is_some found ≡ false → found ≡ None
+pub is_none : {X : Type 0} (found : Option X) → is_some found ≡ false → found ≡ None
 is_none None is = refl
 is_none (Some x) is = absurd cc
 

@@ -1,6 +1,7 @@
 //! Why the calls of a guard's journal were denied: in which way each broke its rule, what the rule asks
 //! of the journal, and at which entries the answer turned. A second guard goes over the journal again
-//! and is asked before and after each entry, so nothing is told that the tables don't say.
+//! and is asked, so nothing is told that the tables don't say; not at each entry, but where what it answers
+//! tells of the others.
 #![tactic(auto)]
 
 mod denials;

@@ -1,5 +1,6 @@
 pub mod Callers
 mod Changed
+mod Counting
 mod Ended
 mod Listed
 mod Lookups

@@ -1,8 +1,9 @@
-ghost use Rattle.std.specs.Prelude.{◌≡◌, ◌≤◌, ℕ, List, [], ◌∷◌, ◌++◌, map, vec_len, vec_capacity, OnOk, OnErr};
+ghost use Rattle.std.specs.Prelude.{◌≡◌, ◌≤◌, ◌+◌, ◌^◌, ℕ, List, [], ◌∷◌, ◌++◌, length, map, vec_len, vec_capacity, OnOk, OnErr};
 ghost use Rattle.std.specs.Option.{option_map};
 ghost use Rattle.jg_globals.specs.History.{Event, MakeStrong, MakeWeak, Clear, strong_target, target_of, deletion, holds_object};
 ghost use Rattle.jg_globals.specs.Rows.{AddsNumber, IsAbove, KeepsNumbers, strong_ref, weak_ref};
 ghost use Rattle.jg_globals.specs.Standing.{Stands, IsListOf};
+ghost use Rattle.jg_lists.specs.ByMaker.{Name, named, Drops, IsThereOnce};
 ghost use Rattle.jg_lists.specs.Marks.{Marks};
 
 use crate::sweep::clear_rows;
@@ -20,11 +21,13 @@ use std::marker::Model;
 pub struct Globals<A: Allocator = Global> {
     strong: ByMaker<ObjId, A>,
     weak: ByMaker<Target, A>,
+    /// How many references of both kinds are in being.
+    count: u64,
     alloc: A,
 }
 
 impl<A: Allocator> Model for Globals<A> {
-    ghost use Rattle.std.specs.Prelude.{map};
+    ghost use Rattle.std.specs.Prelude.{◌≡◌, ◌+◌, length, map};
     ghost use Rattle.jg_globals.specs.Rows.{Rows};
     ghost use Rattle.jg_lists.specs.ByMaker.{named};
     ghost use Rattle.jg_globals.specs.Seen.{strong_seen, weak_seen};
@@ -32,6 +35,8 @@ impl<A: Allocator> Model for Globals<A> {
     ghost Value = { Rows };
 
     ghost view = { λ a. record { strong = map strong_seen (named a.strong); weak = map weak_seen (named a.weak) } };
+
+    ghost invariant = { λ a. a.count ≡ length (named a.strong) + length (named a.weak) };
 }
 
 impl<A: Allocator + Copy> Globals<A> {
@@ -45,6 +50,7 @@ impl<A: Allocator + Copy> Globals<A> {
         Globals {
             strong: ByThread::new(makers, makers),
             weak: ByThread::new(makers, makers),
+            count: 0,
             alloc,
         }
     }
@@ -62,8 +68,13 @@ impl<A: Allocator + Clone> Globals<A> {
         ensures err { OnErr result (self.new ≡ self.old) }
         ensures numbers { AddsNumber maker.0 n self.old self.new }
     {
+        // At most 2^16 makers have fewer than 2^32 each of a kind, so that nothing is refused here.
+        let Some(count) = self.count.checked_add(1) else {
+            return Err(AllocError);
+        };
         let name = (maker.0, n);
         add(&mut self.strong, &self.alloc, name, object)?;
+        self.count = count;
         Ok(())
     }
 
@@ -77,8 +88,13 @@ impl<A: Allocator + Clone> Globals<A> {
         ensures err { OnErr result (self.new ≡ self.old) }
         ensures numbers { AddsNumber maker.0 n self.old self.new }
     {
+        // At most 2^16 makers have fewer than 2^32 each of a kind, so that nothing is refused here.
+        let Some(count) = self.count.checked_add(1) else {
+            return Err(AllocError);
+        };
         let name = (maker.0, n);
         add(&mut self.weak, &self.alloc, name, Target::Object(object))?;
+        self.count = count;
         Ok(())
     }
 }
@@ -98,14 +114,23 @@ impl<A: Allocator> Globals<A> {
                 match kind {
                     Kind::Local => {}
                     Kind::Global => {
-                        remove(&mut self.strong, name);
+                        self.count -= end(&mut self.strong, name);
                     }
                     Kind::Weak => {
-                        remove(&mut self.weak, name);
+                        self.count -= end(&mut self.weak, name);
                     }
                 }
             }
         }
+    }
+
+    /// How many global and weak global references are in being, cleared ones too. Takes one step,
+    /// however many there are.
+    pub fn len(&self) -> u128
+        ensures count { result ≡ length self.now.strong + length self.now.weak }
+        ensures few { result ≤ 2 ^ 126 }
+    {
+        u128::from(self.count)
     }
 
     /// What a global or weak global reference in being names; `None` where it isn't in being, and
@@ -173,6 +198,18 @@ impl<A: Allocator> Globals<A> {
     {
         list_names(&self.strong, Kind::Global, refs)?;
         list_names(&self.weak, Kind::Weak, refs)
+    }
+}
+
+/// Takes the name's value out, and answers how many it had: one or none.
+fn end<V: Drop, A: Allocator>(tables: &mut ByMaker<V, A>, name: (u16, u64)) -> u64
+    ensures drops { Drops name (named tables.old) (named tables.new) }
+    ensures once { (q : Name) → IsThereOnce q (named tables.old) → IsThereOnce q (named tables.new) }
+    ensures count { length (named tables.old) ≡ result + length (named tables.new) }
+{
+    match remove(tables, name) {
+        None => 0,
+        Some(_value) => 1,
     }
 }
 

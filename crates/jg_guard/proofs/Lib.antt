@@ -8,4 +8,7 @@ pub mod Slots
 pub mod Linking
 pub mod Collecting
 pub mod Listing
+pub mod Counting
+pub mod Most
+pub mod Tallies
 pub mod Places

@@ -107,7 +107,7 @@ module _ (s : StatedSetup) (rows : TableRows) (p : Parts) (stands : TablesStand 
 
   -- ---- buffers
 
-  buffers_listed : ListsBuffers p (map name_of rows.buffers.lent)
+  pub buffers_listed : ListsBuffers p (map name_of rows.buffers.lent)
   buffers_listed m n =
       how_many-map (λ (b : BufId). is_same m n b.maker.0 b.n) name_of rows.buffers.lent ∙ counted_filter (is_buffer m n) rows.buffers.lent ∙ ap length (stands.buffers m n)
       ∙ once (opened p.buffers m n)

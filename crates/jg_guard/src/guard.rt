@@ -7,15 +7,19 @@ ghost use Rattle.jg_rules.specs.View.{ViewStands};
 ghost use Rattle.jg_guard.specs.Cleaning.{MayWant, cleans_up};
 ghost use Rattle.jg_guard.specs.Guard.{Takes, Unchanged};
 ghost use Rattle.jg_guard.specs.Places.{TouchesByLiveReference, TouchesWhatIsThere, LiveIsThere, PinsLive, OwnersAreOne, ReferenceIsNew, DeadStaysDead, LegalWithoutDenied};
+ghost use Rattle.jg_guard.specs.Peaks.{ArePeaks};
+ghost use Rattle.jg_guard.specs.Tally.{denied_in, passed_in};
 ghost use Rattle.jg_guard.specs.Left.{ListsRefs, RefsAscend, ListsBuffers, BuffersAscend, ListsMonitors};
 ghost use Rattle.jg_monitors.specs.Rows.{Ascends};
 
 use crate::answer::answer_to;
 use crate::collect::{Held, find_held_for};
 use crate::leaks::{Leaks, list_buffers, list_refs};
+use crate::peaks::{Peaks, counted, raised};
 use crate::perform::perform;
 use crate::settle::is_noticed;
 use crate::tables::Tables;
+use crate::tally::{Tally, count};
 use jg_blocks::Blocks;
 use jg_buffers::Buffers;
 use jg_globals::Globals;
@@ -52,6 +56,8 @@ pub struct Guard<A: Allocator = Global> {
     tables: Tables<A>,
     /// What the last collection found, whose marks serve the next one.
     held: Held<A>,
+    peaks: Peaks,
+    tally: Tally,
 }
 
 // Not derived, so that who owns a guard lets it go by one call: else each way out of a function
@@ -64,6 +70,8 @@ impl<A: Allocator> Drop for Guard<A> {
             journal: _journal,
             tables: _tables,
             held: _held,
+            peaks: _,
+            tally: _,
         } = self;
     }
 }
@@ -71,6 +79,8 @@ impl<A: Allocator> Drop for Guard<A> {
 impl<A: Allocator> Model for Guard<A> {
     ghost use Rattle.std.specs.Prelude.{reverse};
     ghost use Rattle.jg_guard.specs.Guard.{State, IsSound};
+    ghost use Rattle.jg_guard.specs.Peaks.{ArePeaks};
+    ghost use Rattle.jg_guard.specs.Tally.{IsTally};
     ghost use Rattle.jg_guard.specs.Tables.{rows_of};
 
     ghost Value = { State };
@@ -78,7 +88,7 @@ impl<A: Allocator> Model for Guard<A> {
     ghost view = { λ g. record { setup = g.setup; limit = g.limit; journal = reverse g.journal.items; spare = g.journal.spare } };
 
     ghost invariant = { λ g. IsSound (record { setup = g.setup; limit = g.limit; journal = reverse g.journal.items; spare = g.journal.spare })
-        (rows_of g.tables) };
+        (rows_of g.tables) × ArePeaks g.setup (reverse g.journal.items) g.peaks × IsTally (reverse g.journal.items) g.tally };
 }
 
 impl<A: Allocator + Copy> Guard<A> {
@@ -114,6 +124,12 @@ impl<A: Allocator + Copy> Guard<A> {
             journal,
             tables,
             held: Held::new(alloc, alloc),
+            peaks: Peaks {
+                references: 0,
+                objects: 0,
+                buffers: 0,
+            },
+            tally: [0; 18],
         })
     }
 }
@@ -179,6 +195,7 @@ impl<A: Allocator + Clone> Guard<A> {
             return Err(Refusal::NoMemory(call));
         }
         let entry = Entry::denied(tid, env, call, rule);
+        count(&mut self.tally, rule.number());
         push_reserved(&mut self.journal, entry);
         Ok(Outcome::Denied(rule))
     }
@@ -226,6 +243,8 @@ impl<A: Allocator + Clone> Guard<A> {
             noticed,
         };
         let entry = Entry::passed(tid, env, call, reply, given.object);
+        self.peaks = raised(self.peaks, counted(&self.tables));
+        count(&mut self.tally, 0);
         push_reserved(&mut self.journal, entry);
         Ok(Outcome::Passed(Reply {
             value,
@@ -262,6 +281,27 @@ impl<A: Allocator + Clone> Guard<A> {
         ensures legal { Legal self.now.setup self.now.journal }
     {
         self.journal.len()
+    }
+
+    /// The most that there was at once.
+    pub fn peaks(&self) -> Peaks
+        ensures { ArePeaks self.now.setup self.now.journal result }
+    {
+        self.peaks
+    }
+
+    /// How many calls passed.
+    pub fn passed(&self) -> u32
+        ensures { result ≡ passed_in self.now.journal }
+    {
+        self.tally[0]
+    }
+
+    /// How many calls the rule denied.
+    pub fn denied_by(&self, rule: Rule) -> u32
+        ensures { result ≡ denied_in rule self.now.journal }
+    {
+        self.tally[rule.number() as usize]
     }
 
     /// An entry of the journal, the oldest at 0; None past the end. Whatever the journal is, at each

@@ -7,11 +7,14 @@ mod collect;
 mod groups;
 mod guard;
 mod leaks;
+mod peaks;
 mod perform;
 mod region;
 mod settle;
 mod tables;
+mod tally;
 
 pub use guard::{Guard, NoMemory, Refusal};
 pub use jg_monitors::OwnedMonitor;
 pub use leaks::Leaks;
+pub use peaks::Peaks;

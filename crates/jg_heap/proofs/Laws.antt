@@ -267,7 +267,7 @@ pub made_as : MadeAs
 made_as k later before m =
     made_stays k later (Made m ∷ before) (count_of k before) (omega arith) ∙ cond-true _ _ _ (eq-eqb (count_of k before) (count_of k before) refl)
 
-classes_counted : (k : ℕ) (e : List Event) → k ≤ count_of k e
+pub classes_counted : (k : ℕ) (e : List Event) → k ≤ count_of k e
 classes_counted k [] = omega arith
 classes_counted k (Made m ∷ e) = omega (arith, classes_counted k e)
 classes_counted k (Wrote p j v ∷ e) = classes_counted k e

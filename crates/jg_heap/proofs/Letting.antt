@@ -127,7 +127,7 @@ trues_map f (o ∷ os) =
     ]
 
 -- as many are true as are in being
-trues_live : {A : Type 0} (bodies : List (Body A)) (there : List Bool) → length there ≡ length bodies → trues there ≡ length (live_in (map row_of (objects_of bodies there)))
+pub trues_live : {A : Type 0} (bodies : List (Body A)) (there : List Bool) → length there ≡ length bodies → trues there ≡ length (live_in (map row_of (objects_of bodies there)))
 trues_live bodies there same =
     let rows : List Row = map row_of (objects_of bodies there) in
     let count : length rows ≡ length bodies = length-map (objects_of bodies there) row_of ∙ length-objects_of bodies there same in

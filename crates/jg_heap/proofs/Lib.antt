@@ -14,6 +14,7 @@ mod Shapes
 mod Next
 mod Objects
 mod Letting
+mod Counting
 mod Whole
 mod Decoding
 pub mod Callers

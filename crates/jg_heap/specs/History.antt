@@ -1,5 +1,5 @@
 -- The object store as its history tells it, by looking back. A history has the newest event first.
-use Rattle.std.specs.Prelude.{ℕ, ℤ, pos, ◌+◌, ◌==◌, Bool, false, not, ◌&&◌, ◌||◌, List, [], ◌∷◌, ◌++◌, nat_lt, if◌then◌else◌, Some, None, filter}
+use Rattle.std.specs.Prelude.{ℕ, ℤ, pos, ◌+◌, ◌-◌, ◌==◌, Bool, false, not, ◌&&◌, ◌||◌, List, [], ◌∷◌, ◌++◌, nat_lt, if◌then◌else◌, Some, None, filter}
 use Rattle.std.specs.List.{list_any, range_with_len}
 use Rattle.jg_heap.specs.declared.object.Slot.{Slot}
 use Rattle.jg_heap.specs.declared.object.Slot.TheVariants.{Number, Object}
@@ -87,3 +87,7 @@ held_at k roots e o = held_by (gone_at k e) k roots e o
 -- the objects that go at a collection now, ascending
 abbrev pub going : ℕ → List ℕ → List Event → List ℕ
 going k roots e = filter (λ o. not (gone_at k e o) && not (held_at k roots e o)) (range_with_len 0 (count_of k e))
+
+-- the objects in being, but for the class objects, ascending
+abbrev pub others_in_being : ℕ → List Event → List ℕ
+others_in_being k e = filter (λ o. not (gone_at k e o)) (range_with_len k (count_of k e - k))

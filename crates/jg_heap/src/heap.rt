@@ -2,7 +2,7 @@ ghost use Rattle.std.specs.Prelude.{◌≡◌, ℕ, ◌+◌, ◌<◌, ◌≤◌,
 ghost use Rattle.std.specs.List.{range_with_len};
 ghost use Rattle.jg_heap.specs.declared.object.Slot.TheVariants.{Number};
 ghost use Rattle.jg_heap.specs.Making.{making_of, class_in, units_in, length_in, CanMake, HasFields, IsArrayClass, IsPrimitiveArray, TakesItem};
-ghost use Rattle.jg_heap.specs.History.{Event, Event.Made as Made, Event.Wrote as Wrote, Event.Collected as Collected, count_of, making_at, value_at, gone_at, going, region_writes};
+ghost use Rattle.jg_heap.specs.History.{Event, Event.Made as Made, Event.Wrote as Wrote, Event.Collected as Collected, count_of, making_at, value_at, gone_at, going, others_in_being, region_writes};
 ghost use Rattle.jg_heap.specs.Rows.{count_in, class_at, length_at, units_at, slot_at, class_rows, row_of_making, KeepsShapes};
 ghost use Rattle.jg_heap.specs.Standing.{Stands, MarksRoots, MarksHeld, AreListed, held_objects};
 
@@ -30,6 +30,8 @@ pub struct Heap<A: Allocator = Global> {
     /// Whether each object is in being. A list of its own, so that a collection compares many at once, and
     /// touches nothing else of what goes.
     there: Vec<bool, A>,
+    /// How many objects are in being, with the class objects.
+    in_being: u64,
     /// The first numbers of the blocks of 32 objects in which some may be in being, ascending. A
     /// collection looks into no other.
     blocks: Vec<u64, A>,
@@ -47,14 +49,14 @@ pub struct Heap<A: Allocator = Global> {
 impl<A: Allocator> Model for Heap<A> {
     ghost use Rattle.std.specs.Prelude.{map, ◌≡◌, ◌≤◌, length};
     ghost use Rattle.jg_heap.specs.Rows.{Rows};
-    ghost use Rattle.jg_heap.specs.Kept.{objects_of, row_of, Stored};
+    ghost use Rattle.jg_heap.specs.Kept.{objects_of, row_of, trues, Stored};
 
     ghost Value = { Rows };
 
     ghost view = { λ h. record { classes = h.class_count; objects = map row_of (objects_of h.objects.items h.there.items) } };
 
     ghost invariant = { λ h. Stored h.objects.items h.there.items h.blocks.items h.loose h.pointing.items
-        × (length h.there.items ≤ length h.marks) };
+        × (length h.there.items ≤ length h.marks) × (h.in_being ≡ trues h.there.items) };
 }
 
 /// Adds a number where it is asked for. There is room for it.
@@ -88,6 +90,7 @@ impl<A: Allocator + Clone> Heap<A> {
             class_count,
             objects,
             there,
+            in_being: class_count,
             blocks,
             loose: 0,
             stale: 0,
@@ -119,6 +122,7 @@ impl<A: Allocator + Clone> Heap<A> {
         self.marks.widen(number + 1)?;
         self.objects.push(body)?;
         self.there.push_reserved(true);
+        self.in_being += 1;
         self.loose = fill_block(&mut self.blocks, self.loose, number + 1);
         add_if(&mut self.pointing, number as u64, may_point);
         Ok(ObjId(number as u64))
@@ -133,6 +137,16 @@ impl<A: Allocator> Heap<A> {
         ensures fits { result < 2 ^ 63 }
     {
         self.objects.len() as u64
+    }
+
+    /// How many objects are in being, but for the class objects, which stay. Takes one step, however many
+    /// there are.
+    pub fn in_being(&self) -> u64
+        ensures history { (e : List Event) → Stands self.now e
+            → result ≡ length (others_in_being self.now.classes e) }
+        ensures fits { result < 2 ^ 63 }
+    {
+        self.in_being.saturating_sub(self.class_count)
     }
 
     /// The number of the class of an object that was made (chapter 4, `GetObjectClass`).
@@ -288,6 +302,7 @@ impl<A: Allocator> Heap<A> {
             &self.blocks,
             self.loose,
         );
+        self.in_being -= went as u64;
         retain_held(&mut self.pointing, &self.marks, roots);
         let stale = self.stale.saturating_add(went);
         self.stale = close_up_if(&mut self.blocks, &self.there, stale);
@@ -325,6 +340,7 @@ impl<A: Allocator> Heap<A> {
         ensures shapes { KeepsShapes self.old self.new }
     {
         let_all_go(&mut self.there, unheld);
+        self.in_being -= unheld.len() as u64;
         retain_marked(&mut self.pointing, marks);
         let stale = self.stale.saturating_add(unheld.len());
         self.stale = close_up_if(&mut self.blocks, &self.there, stale);

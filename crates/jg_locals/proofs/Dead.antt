@@ -49,3 +49,25 @@ one_more_if false = refl
 pub byte-le : (b : Bool) → bool_byte b ≤ 1
 byte-le true = omega arith
 byte-le false = omega arith
+
+-- ---- how many live
+
+-- one that is marked dead is one less, if it was live
+pub live-ended : (slots : List Slot) (i : ℕ) (s : Slot) → i < length slots → s ≡ get_or slots i s
+    → length (filter is_live slots) ≡ length (filter is_live (set slots i (ended s))) + (if s.live then 1 else 0)
+live-ended [] i s within is = absurd (omega (arith, within))
+live-ended (x ∷ slots) zero s within is =
+    elim (cases_Bool s.live) [
+      | inl live ↦ let here : x.live ≡ true = ap (λ (y : Slot). y.live) (sym is) ∙ live in rw (here, live) (omega arith)
+      | inr out ↦ let here : x.live ≡ false = ap (λ (y : Slot). y.live) (sym is) ∙ out in rw (here, out) (omega arith)
+    ]
+live-ended (x ∷ slots) (suc i) s within is =
+    let rest = live-ended slots i s (omega (arith, within)) is in
+    elim (cases_Bool x.live) [ inl live ↦ rw live (omega (arith, rest)) | inr out ↦ rw out (omega (arith, rest)) ]
+
+pub live-append : (xs ys : List Slot) → length (filter is_live (xs ++ ys)) ≡ length (filter is_live xs) + length (filter is_live ys)
+live-append xs ys = ap length (filter-append is_live xs ys) ∙ length-append (filter is_live xs) (filter is_live ys)
+
+pub live-le : (slots : List Slot) → length (filter is_live slots) ≤ length slots
+live-le [] = omega arith
+live-le (s ∷ slots) = let rest = live-le slots in elim (cases_Bool s.live) [ inl is ↦ rw is (omega (arith, rest)) | inr out ↦ rw out (omega (arith, rest)) ]

@@ -24,3 +24,4 @@ mod StandingSteps
 mod Threads
 mod Tops
 mod Worked
+mod Tallies

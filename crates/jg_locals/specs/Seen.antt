@@ -1,11 +1,12 @@
 -- What contracts see of the stacks that the code keeps.
-use Rattle.std.specs.Prelude.{◌≡◌, ◌≢◌, ℕ, ◌+◌, ◌-◌, ◌<◌, length, slice_index_or, Bool, true, false, ◌==◌, ◌&&◌, ◌||◌, not, if◌then◌else◌, nat_lt, nat_le, List, [], ◌∷◌, ◌++◌, map, filter, Option, Some, None}
+use Rattle.std.specs.Prelude.{◌≡◌, ◌≢◌, ℕ, ◌+◌, ◌-◌, ◌<◌, ◌^◌, length, slice_index_or, Bool, true, false, ◌==◌, ◌&&◌, ◌||◌, not, if◌then◌else◌, nat_lt, nat_le, List, [], ◌∷◌, ◌++◌, map, filter, Option, Some, None}
 use Rattle.std.specs.Option.{option_or}
 use Rattle.std.specs.List.{AllByRecursion, list_any}
 use Rattle.std.specs.Map.{lookup}
 use Rattle.std.specs.Ordering.{nat_cmp, ordering_then}
 use Rattle.std.specs.declared.cmp.Ordering.{Ordering}
 use Rattle.jg_lists.specs.Acts.{how_many}
+use Rattle.jg_lists.specs.ByThread.{IsOnce}
 use Rattle.std.specs.BTreeMap.{is_at}
 use Rattle.jg_locals.specs.declared.row.Slot.{Slot}
 use Rattle.jg_locals.specs.declared.row.Frame.{Frame}
@@ -218,3 +219,18 @@ pub record Changes (u : ℕ) (old new : List (ℕ × StackRows)) (slots : List S
   pub locals : slots_in (stack_at u new) ≡ slots
   pub frames : frames_in (stack_at u new) ≡ opened
   pub others : (t : ℕ) → t ≢ u → stack_at t new ≡ stack_at t old
+
+-- no thread has more locals than a `Vec` holds
+abbrev pub AreFew : List (ℕ × StackRows) → Type 0
+AreFew es = AllByRecursion (λ e. length e.1.locals < 2 ^ 63) es
+
+-- so many locals were made, and so many ended
+pub record Counts (made ended : ℕ) (old new : List (ℕ × StackRows)) : Type 0 where
+  pub all : length (rows_seen old).locals + made ≡ length (rows_seen new).locals + ended
+  pub few : AreFew old → AreFew new
+
+-- the count is that of the locals of all threads, each of which is there once
+pub record Tallied (stacks : List (ℕ × StackRows)) (live : ℕ) : Type 0 where
+  pub once : IsOnce stacks
+  pub all : live ≡ length (rows_seen stacks).locals
+  pub few : AreFew stacks

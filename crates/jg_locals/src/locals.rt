@@ -1,4 +1,4 @@
-ghost use Rattle.std.specs.Prelude.{◌≡◌, ℕ, ◌+◌, ◌<◌, ◌≤◌, ◌↔◌, ◌++◌, List, [], ◌∷◌, OnOk, OnErr, IsOk, IsNone, IsSome, IsTrue, All, map, vec_len, vec_capacity};
+ghost use Rattle.std.specs.Prelude.{◌≡◌, ℕ, ◌+◌, ◌<◌, ◌≤◌, ◌^◌, ◌↔◌, ◌++◌, List, [], ◌∷◌, OnOk, OnErr, IsOk, IsNone, IsSome, IsTrue, All, length, map, vec_len, vec_capacity};
 ghost use Rattle.std.specs.Option.{is_some, option_map};
 ghost use Rattle.jg_locals.specs.History.{Event, by, Start, Make, Push, Ensure, Enter, Delete, Pop, Leave, End, acts_of, has_session, depth, frames, live, holds_object};
 ghost use Rattle.jg_lists.specs.Marks.{Marks};
@@ -27,19 +27,20 @@ const PROMISED: u64 = 16;
 #[derive(Drop)]
 pub struct Locals<A: Allocator = Global> {
     stacks: ByThread<Stack<A>, A>,
+    /// How many locals are live, of all threads.
+    live: u128,
     alloc: A,
 }
 
 impl<A: Allocator> Model for Locals<A> {
-    ghost use Rattle.jg_lists.specs.ByThread.{IsOnce};
     ghost use Rattle.jg_locals.specs.Rows.{Table};
-    ghost use Rattle.jg_locals.specs.Seen.{rows_seen, rooms_seen};
+    ghost use Rattle.jg_locals.specs.Seen.{rows_seen, rooms_seen, Tallied};
 
     ghost Value = { Table };
 
     ghost view = { λ a. record { rows = rows_seen a.stacks; room = rooms_seen a.stacks } };
 
-    ghost invariant = { λ a. IsOnce a.stacks };
+    ghost invariant = { λ a. Tallied a.stacks a.live };
 }
 
 impl<A: Allocator + Clone> Locals<A> {
@@ -51,6 +52,7 @@ impl<A: Allocator + Clone> Locals<A> {
     {
         Locals {
             stacks: ByThread::new(places, stacks),
+            live: 0,
             alloc,
         }
     }
@@ -90,7 +92,11 @@ impl<A: Allocator + Clone> Locals<A> {
         ensures room { 0 < spare self.old tid.0 → IsOk result }
         ensures lowered { spare self.old tid.0 ≤ spare self.new tid.0 + 1 }
     {
-        make_at(&mut self.stacks, tid.0, n, object.0)
+        // No more are live than each stack's `Vec` holds, and a slice bounds the stacks.
+        let _stacks = self.stacks.seats();
+        make_at(&mut self.stacks, tid.0, n, object.0)?;
+        self.live += 1;
+        Ok(())
     }
 
     /// Makes room for one more local of the thread, so that the next `make` can't fail. Fails only
@@ -182,7 +188,8 @@ impl<A: Allocator + Clone> Locals<A> {
         ensures stands { (e : List Event) → Stands self.old.rows e → Stands self.new.rows (by tid.0 (Delete n) ∷ e) }
         ensures room { spare self.old tid.0 ≤ spare self.new tid.0 }
     {
-        delete_at(&mut self.stacks, tid.0, n);
+        let ended = delete_at(&mut self.stacks, tid.0, n);
+        self.live -= ended as u128;
     }
 
     /// Pops the thread's newest frame, with the locals made in it (chapter 4, `PopLocalFrame`). Asks
@@ -193,7 +200,8 @@ impl<A: Allocator + Clone> Locals<A> {
         ensures room { spare self.old tid.0 ≤ spare self.new tid.0 }
     {
         let top = top_at(&self.stacks, tid.0).unwrap();
-        pop_at(&mut self.stacks, tid.0, top);
+        let ended = pop_at(&mut self.stacks, tid.0, top);
+        self.live -= ended as u128;
     }
 
     /// Leaves the native method, with all frames and locals of its activation (chapter 2, "Global and
@@ -205,7 +213,8 @@ impl<A: Allocator + Clone> Locals<A> {
         ensures room { spare self.old tid.0 ≤ spare self.new tid.0 }
     {
         let top = top_at(&self.stacks, tid.0).unwrap();
-        leave_at(&mut self.stacks, tid.0, top);
+        let ended = leave_at(&mut self.stacks, tid.0, top);
+        self.live -= ended as u128;
     }
 
     /// Ends the thread's session, if it has one, with all its frames and locals (chapter 5,
@@ -215,7 +224,18 @@ impl<A: Allocator + Clone> Locals<A> {
         ensures locals { spare self.new tid.0 ≡ 0 }
         ensures frames { spare_starts self.new tid.0 ≡ 0 }
     {
-        drop_at(&mut self.stacks, tid.0);
+        let ended = drop_at(&mut self.stacks, tid.0);
+        self.live -= ended as u128;
+    }
+
+    /// How many local references are live, of all threads. Takes one step, however many there are.
+    pub fn len(&self) -> u128
+        ensures count { result ≡ length self.now.rows.locals }
+        ensures few { result ≤ 2 ^ 126 }
+    {
+        // No more are live than each stack's `Vec` holds, and a slice bounds the stacks.
+        let _stacks = self.stacks.seats();
+        self.live
     }
 
     /// The object that the thread's local `n` names, where it is live. What other threads did

@@ -1,6 +1,6 @@
 //! One thread's list of locals, which ascends by number.
 
-ghost use Rattle.std.specs.Prelude.{◌≡◌, ◌≤◌, ◌<◌, ◌+◌, ◌-◌, ◌/◌, ◌&&◌, ◌==◌, ◌||◌, ◌++◌, ◌∷◌, ◌↔◌, [], IfSome, IsTrue, List, All, OnOk, OnErr, map, Some, None, MatchOption, true, false, not, if◌then◌else◌, filter, find, length, slice_index_or, vec_len, vec_capacity};
+ghost use Rattle.std.specs.Prelude.{◌≡◌, ◌≤◌, ◌<◌, ◌+◌, ◌-◌, ◌/◌, ◌&&◌, ◌==◌, ◌||◌, ◌++◌, ◌∷◌, ◌↔◌, [], IfSome, IsTrue, List, All, OnOk, OnErr, map, Some, None, MatchOption, true, false, not, if◌then◌else◌, filter, find, length, option_to_list, slice_index_or, vec_len, vec_capacity};
 ghost use Rattle.std.specs.Option.{is_some, option_map};
 ghost use Rattle.std.specs.List.{AllByRecursion, list_any};
 ghost use Rattle.jg_locals.specs.Seen.{Chain, is_before, is_live, dead_in, last, passes, stays, is_below, IsBelowAll, Sound, slot_ref};
@@ -30,6 +30,8 @@ fn mark_dead<A: Allocator>(slots: &mut SlotList<A>, n: u64) -> Option<Slot>
     ensures rises { Chain is_before slots.new.items }
     ensures room { slots.old.room ≤ slots.new.room }
     ensures dead { dead_in slots.new.items ≤ dead_in slots.old.items + (if is_some result then 1 else 0) }
+    ensures counted { length (filter is_live slots.old.items)
+        ≡ length (filter is_live slots.new.items) + (if is_some result then 1 else 0) }
 {
     match slots.place_of(n) {
         Some(i) => live_slot(slots.end(i)),
@@ -70,8 +72,19 @@ fn ends_well(slots: &[Slot], from: Option<Frame>) -> bool
     }
 }
 
-/// Cuts off the newest slots that are dead or, where a frame is named, not below it.
-pub fn cut<A: Allocator>(slots: &mut SlotList<A>, from: Option<Frame>)
+/// How many live slots that is: one or none.
+fn live_count(slot: Option<Slot>) -> usize
+    ensures { result ≡ length (filter is_live (option_to_list slot)) }
+{
+    match slot {
+        None => 0,
+        Some(slot) => { if slot.live { 1 } else { 0 } }
+    }
+}
+
+/// Cuts off the newest slots that are dead or, where a frame is named, not below it, and answers how many
+/// of them were live.
+pub fn cut<A: Allocator>(slots: &mut SlotList<A>, from: Option<Frame>) -> usize
     requires { Chain is_before slots.old.items }
     ensures live { filter is_live slots.new.items ≡ filter (stays from) slots.old.items }
     ensures below { IsBelowAll from slots.new.items }
@@ -79,10 +92,15 @@ pub fn cut<A: Allocator>(slots: &mut SlotList<A>, from: Option<Frame>)
     ensures ends { passes is_live (last slots.new.items) ≡ true }
     ensures room { slots.old.room ≤ slots.new.room }
     ensures dead { dead_in slots.new.items ≤ dead_in slots.old.items }
+    ensures counted { length (filter is_live slots.old.items) ≡ length (filter is_live slots.new.items) + result }
 {
+    // No more are live than there are slots, which a `Vec` bounds.
+    let _slots = slots.as_slice();
+    let mut ended = 0usize;
     while !ends_well(slots.as_slice(), from) {
-        slots.pop();
+        ended += live_count(slots.pop());
     }
+    ended
 }
 
 /// Ends the local `n`, and answers it if it was live.
@@ -94,6 +112,8 @@ pub fn end_local<A: Allocator>(slots: &mut SlotList<A>, n: u64) -> Option<Slot>
     ensures ends { passes is_live (last slots.new.items) ≡ true }
     ensures room { slots.old.room ≤ slots.new.room }
     ensures dead { dead_in slots.new.items ≤ dead_in slots.old.items + (if is_some result then 1 else 0) }
+    ensures counted { length (filter is_live slots.old.items)
+        ≡ length (filter is_live slots.new.items) + (if is_some result then 1 else 0) }
 {
     let was = mark_dead(slots, n);
     cut(slots, None);

@@ -1,4 +1,4 @@
-ghost use Rattle.std.specs.Prelude.{◌≡◌, ◌≤◌, ◌<◌, ◌+◌, ◌^◌, ◌&&◌, ◌==◌, ◌++◌, ◌∷◌, ◌↔◌, [], All, OnOk, OnErr, IsOk, IsSome, IsTrue, Some, false, not, filter, find, map, vec_len, vec_capacity};
+ghost use Rattle.std.specs.Prelude.{◌≡◌, ◌≤◌, ◌<◌, ◌+◌, ◌^◌, ◌&&◌, ◌==◌, ◌++◌, ◌∷◌, ◌↔◌, [], All, OnOk, OnErr, IsOk, IsSome, IsTrue, Some, false, not, filter, find, length, map, vec_len, vec_capacity};
 ghost use Rattle.std.specs.Option.{option_map};
 ghost use Rattle.std.specs.List.{list_any};
 ghost use Rattle.jg_lists.specs.Marks.{Marks};
@@ -21,10 +21,12 @@ pub struct Stack<A: Allocator> {
     frames: Vec<Opened, A>,
     /// At least as many as are dead.
     dead: usize,
+    /// How many are live.
+    live: usize,
 }
 
 impl<A: Allocator> Model for Stack<A> {
-    ghost use Rattle.std.specs.Prelude.{◌-◌, ◌≤◌, filter, map, vec_len, vec_capacity};
+    ghost use Rattle.std.specs.Prelude.{◌≡◌, ◌-◌, ◌≤◌, filter, length, map, vec_len, vec_capacity};
     ghost use Rattle.jg_locals.specs.Seen.{StackRows, dead_in, is_live, frame_of, Stacked};
 
     ghost Value = { StackRows };
@@ -38,7 +40,8 @@ impl<A: Allocator> Model for Stack<A> {
       };
     } };
 
-    ghost invariant = { λ a. Stacked a.slots.items a.frames.items × (dead_in a.slots.items ≤ a.dead) };
+    ghost invariant = { λ a. Stacked a.slots.items a.frames.items × (dead_in a.slots.items ≤ a.dead)
+        × (a.live ≡ length (filter is_live a.slots.items)) };
 }
 
 impl<A: Allocator> Stack<A> {
@@ -50,6 +53,7 @@ impl<A: Allocator> Stack<A> {
             slots: SlotList::new(slots, objects, offsets, bases),
             frames: Vec::new(frames),
             dead: 0,
+            live: 0,
         }
     }
 
@@ -83,6 +87,8 @@ impl<A: Allocator> Stack<A> {
         ensures frames { self.new.frames ≡ self.old.frames }
         ensures room { 0 < self.old.room.locals → IsOk result }
         ensures lowered { self.old.room.locals ≤ self.new.room.locals + 1 }
+        ensures made { OnOk result ((length self.new.locals ≡ length self.old.locals + 1)
+            × (length self.new.locals < 2 ^ 63)) }
     {
         let top = self.top().unwrap();
         self.slots.push(Slot {
@@ -95,6 +101,7 @@ impl<A: Allocator> Stack<A> {
         // A frame counts no more than all slots, which fit a `usize`.
         let _slots = self.slots.as_slice();
         count_more(&mut self.frames, top.depth, top.frame);
+        self.live += 1;
         Ok(())
     }
 
@@ -116,42 +123,50 @@ impl<A: Allocator> Stack<A> {
         self.frames.try_reserve(1)
     }
 
-    /// Ends the local `n`, if it is live.
-    pub fn delete(&mut self, n: u64)
+    /// Ends the local `n`, if it is live, and answers how many that were: one or none.
+    pub fn delete(&mut self, n: u64) -> usize
         ensures locals { self.new.locals ≡ filter (λ s. not (s.n == n)) self.old.locals }
         ensures frames { self.new.frames ≡ self.old.frames }
         ensures room { self.old.room.locals ≤ self.new.room.locals }
+        ensures ended { length self.old.locals ≡ length self.new.locals + result }
     {
         // No more are dead than there are slots, which a `Vec` bounds.
         let _slots = self.slots.as_slice();
         let gone = end_local(&mut self.slots, n);
         count_gone(&mut self.frames, gone);
-        let dead = self.dead.saturating_add(gone.is_some() as usize);
+        let ended = gone.is_some() as usize;
+        let dead = self.dead.saturating_add(ended);
         let dead = close_up_if(&mut self.slots, dead);
         self.dead = dead;
+        self.live -= ended;
+        ended
     }
 
-    /// Closes the newest frame, with its locals.
-    pub fn pop(&mut self, top: Frame)
+    /// Closes the newest frame, with its locals, and answers how many those were.
+    pub fn pop(&mut self, top: Frame) -> usize
         requires { last self.old.frames ≡ Some top }
         ensures locals { self.new.locals ≡ filter (λ s. not (s.depth == top.depth && s.frame == top.frame))
             self.old.locals }
         ensures frames { self.new.frames ≡ filter (λ f. not (f.depth == top.depth && f.frame == top.frame))
             self.old.frames }
         ensures room { self.old.room.locals ≤ self.new.room.locals }
+        ensures ended { length self.old.locals ≡ length self.new.locals + result }
     {
         close_from(&mut self.frames, top);
-        cut(&mut self.slots, Some(top));
+        let ended = cut(&mut self.slots, Some(top));
         let dead = close_up_if(&mut self.slots, self.dead);
         self.dead = dead;
+        self.live -= ended;
+        ended
     }
 
-    /// Closes the newest activation, with its frames and locals.
-    pub fn leave(&mut self, top: Frame)
+    /// Closes the newest activation, with its frames and locals, and answers how many locals those were.
+    pub fn leave(&mut self, top: Frame) -> usize
         requires { last self.old.frames ≡ Some top }
         ensures locals { self.new.locals ≡ filter (λ s. not (s.depth == top.depth)) self.old.locals }
         ensures frames { self.new.frames ≡ filter (λ f. not (f.depth == top.depth)) self.old.frames }
         ensures room { self.old.room.locals ≤ self.new.room.locals }
+        ensures ended { length self.old.locals ≡ length self.new.locals + result }
     {
         let base = Frame {
             depth: top.depth,
@@ -159,22 +174,28 @@ impl<A: Allocator> Stack<A> {
             room: 0,
         };
         close_from(&mut self.frames, base);
-        cut(&mut self.slots, Some(base));
+        let ended = cut(&mut self.slots, Some(base));
         let dead = close_up_if(&mut self.slots, self.dead);
         self.dead = dead;
+        self.live -= ended;
+        ended
     }
 
-    /// Ends all its locals and frames, and gives their memory back.
-    pub fn clear(&mut self)
+    /// Ends all its locals and frames, gives their memory back, and answers how many locals those were.
+    pub fn clear(&mut self) -> usize
         ensures locals { self.new.locals ≡ [] }
         ensures frames { self.new.frames ≡ [] }
         ensures room { self.new.room.locals ≡ 0 }
         ensures starts { self.new.room.frames ≡ 0 }
+        ensures ended { length self.old.locals ≡ result }
     {
+        let ended = self.live;
         self.slots.clear();
         self.frames.clear();
         self.frames.shrink_to_fit();
         self.dead = 0;
+        self.live = 0;
+        ended
     }
 
     /// Sets the room of the frame.

@@ -7,7 +7,7 @@ ghost use Rattle.std.specs.List.{list_any};
 ghost use Rattle.jg_lists.specs.ByThread.{IsOnce};
 ghost use Rattle.jg_lists.specs.Marks.{Marks};
 ghost use Rattle.jg_locals.specs.Rows.{local_ref};
-ghost use Rattle.jg_locals.specs.Seen.{last, slot_made, room_set, held_in, is_full, IsNext, stack_at, slots_in, frames_in, room_seen, rows_seen, Changes};
+ghost use Rattle.jg_locals.specs.Seen.{last, slot_made, room_set, held_in, is_full, IsNext, stack_at, slots_in, frames_in, room_seen, rows_seen, Changes, Counts};
 
 use crate::row::Frame;
 use crate::stack::Stack;
@@ -84,6 +84,8 @@ pub fn make_at<A: Allocator>(
     ensures room { 0 < (room_seen stacks.old tid).locals → IsOk result }
     ensures lowered { (room_seen stacks.old tid).locals ≤ (room_seen stacks.new tid).locals + 1 }
     ensures once { IsOnce stacks.old → IsOnce stacks.new }
+    ensures made { OnOk result (Counts 1 0 stacks.old stacks.new) }
+    ensures refused { OnErr result (Counts 0 0 stacks.old stacks.new) }
 {
     match stacks.get_mut(tid) {
         None => Ok(()),
@@ -105,6 +107,7 @@ pub fn open_at<A: Allocator>(
     ensures room { (room_seen stacks.old tid).locals ≤ (room_seen stacks.new tid).locals }
     ensures has_room { 0 < (room_seen stacks.old tid).frames → IsOk result }
     ensures once { IsOnce stacks.old → IsOnce stacks.new }
+    ensures counted { Counts 0 0 stacks.old stacks.new }
 {
     match stacks.get_mut(tid) {
         None => Ok(()),
@@ -126,6 +129,7 @@ pub fn add_stack<A: Allocator + Clone>(
     ensures room { (room_seen stacks.old tid).locals ≤ (room_seen stacks.new tid).locals }
     ensures starts { (room_seen stacks.old tid).frames ≤ (room_seen stacks.new tid).frames }
     ensures once { IsOnce stacks.old → IsOnce stacks.new }
+    ensures counted { Counts 0 0 stacks.old stacks.new }
 {
     if stacks.contains(tid) {
         return Ok(());
@@ -151,6 +155,7 @@ pub fn reserve_at<A: Allocator>(
     ensures rows { rows_seen stacks.new ≡ rows_seen stacks.old }
     ensures starts { (room_seen stacks.old tid).frames ≤ (room_seen stacks.new tid).frames }
     ensures once { IsOnce stacks.old → IsOnce stacks.new }
+    ensures counted { Counts 0 0 stacks.old stacks.new }
 {
     match stacks.get_mut(tid) {
         None => Ok(()),
@@ -168,6 +173,7 @@ pub fn reserve_frame_at<A: Allocator>(
     ensures rows { rows_seen stacks.new ≡ rows_seen stacks.old }
     ensures room { (room_seen stacks.old tid).locals ≤ (room_seen stacks.new tid).locals }
     ensures once { IsOnce stacks.old → IsOnce stacks.new }
+    ensures counted { Counts 0 0 stacks.old stacks.new }
 {
     match stacks.get_mut(tid) {
         None => Ok(()),
@@ -175,16 +181,18 @@ pub fn reserve_frame_at<A: Allocator>(
     }
 }
 
-/// Ends the thread's local `n`, if it is live.
-pub fn delete_at<A: Allocator>(stacks: &mut ByThread<Stack<A>, A>, tid: u16, n: u64)
+/// Ends the thread's local `n`, if it is live, and answers how many that were: one or none.
+pub fn delete_at<A: Allocator>(stacks: &mut ByThread<Stack<A>, A>, tid: u16, n: u64) -> usize
     ensures changes { Changes tid stacks.old stacks.new
         (filter (λ s. not (s.n == n)) (slots_in (stack_at tid stacks.old)))
         (frames_in (stack_at tid stacks.old)) }
     ensures room { (room_seen stacks.old tid).locals ≤ (room_seen stacks.new tid).locals }
     ensures once { IsOnce stacks.old → IsOnce stacks.new }
+    ensures counted { Counts 0 result stacks.old stacks.new }
 {
-    if let Some(stack) = stacks.get_mut(tid) {
-        stack.delete(n);
+    match stacks.get_mut(tid) {
+        None => 0,
+        Some(stack) => stack.delete(n),
     }
 }
 
@@ -199,14 +207,15 @@ pub fn set_room_at<A: Allocator>(
         (map (room_set room frame.depth frame.frame) (frames_in (stack_at tid stacks.old))) }
     ensures room { (room_seen stacks.old tid).locals ≤ (room_seen stacks.new tid).locals }
     ensures once { IsOnce stacks.old → IsOnce stacks.new }
+    ensures counted { Counts 0 0 stacks.old stacks.new }
 {
     if let Some(stack) = stacks.get_mut(tid) {
         stack.set_room(frame, room);
     }
 }
 
-/// Closes the thread's newest frame, with its locals.
-pub fn pop_at<A: Allocator>(stacks: &mut ByThread<Stack<A>, A>, tid: u16, top: Frame)
+/// Closes the thread's newest frame, with its locals, and answers how many those were.
+pub fn pop_at<A: Allocator>(stacks: &mut ByThread<Stack<A>, A>, tid: u16, top: Frame) -> usize
     requires { last (frames_in (stack_at tid stacks.old)) ≡ Some top }
     ensures changes { Changes tid stacks.old stacks.new
         (filter (λ s. not (s.depth == top.depth && s.frame == top.frame)) (slots_in (stack_at tid stacks.old)))
@@ -214,35 +223,42 @@ pub fn pop_at<A: Allocator>(stacks: &mut ByThread<Stack<A>, A>, tid: u16, top: F
         (frames_in (stack_at tid stacks.old))) }
     ensures room { (room_seen stacks.old tid).locals ≤ (room_seen stacks.new tid).locals }
     ensures once { IsOnce stacks.old → IsOnce stacks.new }
+    ensures counted { Counts 0 result stacks.old stacks.new }
 {
-    if let Some(stack) = stacks.get_mut(tid) {
-        stack.pop(top);
+    match stacks.get_mut(tid) {
+        None => 0,
+        Some(stack) => stack.pop(top),
     }
 }
 
-/// Closes the thread's newest activation, with its frames and locals.
-pub fn leave_at<A: Allocator>(stacks: &mut ByThread<Stack<A>, A>, tid: u16, top: Frame)
+/// Closes the thread's newest activation, with its frames and locals, and answers how many locals those
+/// were.
+pub fn leave_at<A: Allocator>(stacks: &mut ByThread<Stack<A>, A>, tid: u16, top: Frame) -> usize
     requires { last (frames_in (stack_at tid stacks.old)) ≡ Some top }
     ensures changes { Changes tid stacks.old stacks.new
         (filter (λ s. not (s.depth == top.depth)) (slots_in (stack_at tid stacks.old)))
         (filter (λ f. not (f.depth == top.depth)) (frames_in (stack_at tid stacks.old))) }
     ensures room { (room_seen stacks.old tid).locals ≤ (room_seen stacks.new tid).locals }
     ensures once { IsOnce stacks.old → IsOnce stacks.new }
+    ensures counted { Counts 0 result stacks.old stacks.new }
 {
-    if let Some(stack) = stacks.get_mut(tid) {
-        stack.leave(top);
+    match stacks.get_mut(tid) {
+        None => 0,
+        Some(stack) => stack.leave(top),
     }
 }
 
-/// Ends all frames and locals of the thread.
-pub fn drop_at<A: Allocator>(stacks: &mut ByThread<Stack<A>, A>, tid: u16)
+/// Ends all frames and locals of the thread, and answers how many locals those were.
+pub fn drop_at<A: Allocator>(stacks: &mut ByThread<Stack<A>, A>, tid: u16) -> usize
     ensures changes { Changes tid stacks.old stacks.new [] [] }
     ensures room { (room_seen stacks.new tid).locals ≡ 0 }
     ensures starts { (room_seen stacks.new tid).frames ≡ 0 }
     ensures once { IsOnce stacks.old → IsOnce stacks.new }
+    ensures counted { Counts 0 result stacks.old stacks.new }
 {
-    if let Some(stack) = stacks.get_mut(tid) {
-        stack.clear();
+    match stacks.get_mut(tid) {
+        None => 0,
+        Some(stack) => stack.clear(),
     }
 }
 

@@ -25,4 +25,5 @@ pub use meanings::{
     native_numbers_tell_names, only_classes_have_modules, text_states_one_setup, warned_means,
 };
 pub use mode::Mode;
+pub use names::Spelling;
 pub use setup::Setup;

@@ -3,6 +3,7 @@ pub mod Closed
 pub mod Flushing
 pub mod Reading
 pub mod Refusing
+pub mod Refusals
 pub mod Saying
 pub mod Workers
 pub mod FromStart

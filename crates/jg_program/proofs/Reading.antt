@@ -11,18 +11,18 @@ use Rattle.jg_policy.specs.declared.fault.SetupFault.TheVariants.{NotToml, TooMa
 use Rattle.jg_program.specs.declared.stop.Stop.{Stop}
 use Rattle.jg_program.specs.declared.stop.Stop.TheVariants.{Setup, SetupRead}
 use Rattle.jg_program.proofs.Closed.{memory_or_not}
-use Rattle.jg_program.specs.StatedBy.{Gives, IsFront, HasNoText, HasFault, IsUnreadable, IsRefused}
+use Rattle.jg_program.specs.StatedBy.{Gives, IsFront, HasNoText, HasFault, IsRefused}
 
-gives_known : (known : Option (List ℕ)) → Gives known (unwrap_or known [])
+pub gives_known : (known : Option (List ℕ)) → Gives known (unwrap_or known [])
 gives_known None = tt
 gives_known (Some bytes) = refl
 
-pub told_long : (known : Option (List ℕ)) (told : ℕ) → 16777216 < told → IsUnreadable known told (Setup TooMany)
-told_long known told long = (unwrap_or known [], gives_known known, inr (inr (inl (refl, inl long))))
+pub told_long : (known : Option (List ℕ)) (told : ℕ) → 16777216 < told → IsRefused known told (Setup TooMany)
+told_long known told long = (unwrap_or known [], gives_known known, inl (inr (inr (inl (refl, inl long)))))
 
-pub failed : (known : Option (List ℕ)) (told : ℕ) (stop : Stop) → (stop ≡ SetupRead) ⊎ (stop ≡ Setup NoMemory) → IsUnreadable known told stop
-failed known told stop (inl read) = (unwrap_or known [], gives_known known, inl read)
-failed known told stop (inr memory) = (unwrap_or known [], gives_known known, inr (inl memory))
+pub failed : (known : Option (List ℕ)) (told : ℕ) (stop : Stop) → (stop ≡ SetupRead) ⊎ (stop ≡ Setup NoMemory) → IsRefused known told stop
+failed known told stop (inl read) = (unwrap_or known [], gives_known known, inl (inl read))
+failed known told stop (inr memory) = (unwrap_or known [], gives_known known, inl (inr (inl memory)))
 
 -- what a reader of a limit gives is the front of what the reader itself gives
 pub of_take : {R : Type 0} (remaining : R → Option (List ℕ)) (t : Take R) (r : R) (old bytes : List ℕ) → take_limit t ≡ 16777217 → take_inner t ≡ r → old ≡ []
@@ -38,16 +38,16 @@ of_take {R = R} remaining t r old bytes limit inner none gives =
 length_of_front : (known bytes : List ℕ) → IsFront (Some known) bytes → length bytes ≡ min 16777217 (length known)
 length_of_front known bytes front = ap length front ∙ length-take 16777217 known
 
-pub read_long : (known : Option (List ℕ)) (told : ℕ) (bytes : List ℕ) → IsFront known bytes → 16777216 < length bytes → IsUnreadable known told (Setup TooMany)
-read_long None told bytes front long = (bytes, tt, inr (inr (inl (refl, inr long))))
-read_long (Some known) told bytes front long = (known, refl, inr (inr (inl (refl, inr (let read = length_of_front known bytes front in omega arith)))))
+pub read_long : (known : Option (List ℕ)) (told : ℕ) (bytes : List ℕ) → IsFront known bytes → 16777216 < length bytes → IsRefused known told (Setup TooMany)
+read_long None told bytes front long = (bytes, tt, inl (inr (inr (inl (refl, inr long)))))
+read_long (Some known) told bytes front long = (known, refl, inl (inr (inr (inl (refl, inr (let read = length_of_front known bytes front in omega arith))))))
 
 pub gives_all : (known : Option (List ℕ)) (bytes : List ℕ) → IsFront known bytes → length bytes ≤ 16777216 → Gives known bytes
 gives_all None bytes front short = tt
 gives_all (Some known) bytes front short = front ∙ take_all 16777217 known (let read = length_of_front known bytes front in omega arith)
 
-pub no_text : (known : Option (List ℕ)) (told : ℕ) (bytes : List ℕ) → IsFront known bytes → told ≤ 16777216 → length bytes ≤ 16777216 → ¬ IsUtf8 bytes → IsUnreadable known told (Setup NotToml)
-no_text known told bytes front low short no_utf8 = (bytes, gives_all known bytes front short, inr (inr (inr (refl, low, short, no_utf8))))
+pub no_text : (known : Option (List ℕ)) (told : ℕ) (bytes : List ℕ) → IsFront known bytes → told ≤ 16777216 → length bytes ≤ 16777216 → ¬ IsUtf8 bytes → IsRefused known told (Setup NotToml)
+no_text known told bytes front low short no_utf8 = (bytes, gives_all known bytes front short, inl (inr (inr (inr (refl, low, short, no_utf8)))))
 
 -- the first fault of the text, unless memory ran out
 pub faulted : (known : Option (List ℕ)) (told : ℕ) (bytes : List ℕ) (fault : SetupFault) → Gives known bytes → told ≤ 16777216 → length bytes ≤ 16777216

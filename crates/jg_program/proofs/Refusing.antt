@@ -3,7 +3,7 @@ use Rattle.std.proofs.Common.{◌≡◌, ap, inl, inr, ℕ, Bool, true, false, L
 use Rattle.std.proofs.lemmas.Bool.{false≢true}
 use Rattle.std.proofs.KnownBytes.{Keeps-refl}
 use Rattle.jg_program.specs.declared.stop.Stop.{Stop}
-use Rattle.jg_program.specs.declared.stop.Stop.TheVariants.{Arguments, Setup, SetupRead, Run, Leaks, Explain, Mismatch, Worker}
+use Rattle.jg_program.specs.declared.stop.Stop.TheVariants.{Arguments, Setup, SetupRead, Run, Leaks, Summary, Explain, Mismatch, Worker}
 use Rattle.jg_program.specs.StatedBy.{IsRefused}
 use Rattle.jg_program.specs.Ended.{IsHandedOn}
 use Rattle.jg_program.specs.Migrated.{Migrates}
@@ -14,6 +14,7 @@ is_of_setup SetupRead = true
 is_of_setup (Run fault) = false
 is_of_setup (Arguments fault) = false
 is_of_setup Leaks = false
+is_of_setup Summary = false
 is_of_setup Explain = false
 is_of_setup (Mismatch thread place) = false
 is_of_setup (Worker stop) = false
@@ -33,6 +34,7 @@ migrates_refused known told bytes SetupRead refused = Keeps-refl bytes
 migrates_refused known told bytes (Run fault) refused = absurd (false≢true (refused_by_setup known told (Run fault) refused))
 migrates_refused known told bytes (Arguments fault) refused = absurd (false≢true (refused_by_setup known told (Arguments fault) refused))
 migrates_refused known told bytes Leaks refused = absurd (false≢true (refused_by_setup known told Leaks refused))
+migrates_refused known told bytes Summary refused = absurd (false≢true (refused_by_setup known told Summary refused))
 migrates_refused known told bytes Explain refused = absurd (false≢true (refused_by_setup known told Explain refused))
 migrates_refused known told bytes (Mismatch thread place) refused = absurd (false≢true (refused_by_setup known told (Mismatch thread place) refused))
 migrates_refused known told bytes (Worker stop) refused = absurd (false≢true (refused_by_setup known told (Worker stop) refused))
@@ -45,6 +47,7 @@ refused_on S holds_nothing failed known told SetupRead refused = tt
 refused_on S holds_nothing failed known told (Run fault) refused = absurd (false≢true (refused_by_setup known told (Run fault) refused))
 refused_on S holds_nothing failed known told (Arguments fault) refused = absurd (false≢true (refused_by_setup known told (Arguments fault) refused))
 refused_on S holds_nothing failed known told Leaks refused = absurd (false≢true (refused_by_setup known told Leaks refused))
+refused_on S holds_nothing failed known told Summary refused = absurd (false≢true (refused_by_setup known told Summary refused))
 refused_on S holds_nothing failed known told Explain refused = absurd (false≢true (refused_by_setup known told Explain refused))
 refused_on S holds_nothing failed known told (Mismatch thread place) refused = absurd (false≢true (refused_by_setup known told (Mismatch thread place) refused))
 refused_on S holds_nothing failed known told (Worker stop) refused = absurd (false≢true (refused_by_setup known told (Worker stop) refused))

@@ -9,7 +9,7 @@ use Rattle.jg_program.specs.declared.reporting.Reporting.{Reporting}
 use Rattle.jg_program.specs.declared.stop.Ending.{Ending}
 use Rattle.jg_program.specs.declared.stop.Status.{Status}
 use Rattle.jg_program.specs.declared.stop.Stop.{Stop}
-use Rattle.jg_program.specs.declared.stop.Stop.TheVariants.{Arguments, Setup, SetupRead, Run, Leaks, Explain, Mismatch, Worker}
+use Rattle.jg_program.specs.declared.stop.Stop.TheVariants.{Arguments, Setup, SetupRead, Run, Leaks, Summary, Explain, Mismatch, Worker}
 use Rattle.jg_program.specs.About.{IsAboutJournal, IsAboutScript}
 use Rattle.jg_program.specs.Ended.{AnswersLines, EndsJournal, EndsScript, IsHandedOn, TestsLines, status_told}
 use Rattle.jg_program.specs.Reported.{IsToldIf, Reports, Tells, TellsNothing, is_explained}
@@ -24,7 +24,8 @@ reported IsSuch r s h about result ending told (inr lost) = inr lost
 pub reported_on : (holds_nothing : Type 0) (failed : Bool) (IsSuch : List ℕ → Type 0) (r : Reporting) (s : StatedSetup) (h : List Entry) (result : Result Status Stop) (ending : Ending)
     → Reports IsSuch r s h result ending → IsHandedOn {S = Status} holds_nothing failed result → IsHandedOn {S = Status} holds_nothing failed ending.ended
 reported_on holds_nothing failed IsSuch r s h (Ok status) ending (inl (about, told, inl done)) on = subst (λ (e : Result Status Stop). IsHandedOn holds_nothing failed e) (sym done.0) on
-reported_on holds_nothing failed IsSuch r s h (Ok status) ending (inl (about, told, inr left)) on = subst (λ (e : Result Status Stop). IsHandedOn holds_nothing failed e) (sym left.0) on
+reported_on holds_nothing failed IsSuch r s h (Ok status) ending (inl (about, told, inr (inl left))) on = subst (λ (e : Result Status Stop). IsHandedOn holds_nothing failed e) (sym left.0) on
+reported_on holds_nothing failed IsSuch r s h (Ok status) ending (inl (about, told, inr (inr short))) on = subst (λ (e : Result Status Stop). IsHandedOn holds_nothing failed e) (sym short.0) on
 reported_on holds_nothing failed IsSuch r s h (Ok status) ending (inr lost) on = subst (λ (e : Result Status Stop). IsHandedOn holds_nothing failed e) (sym lost.1.0) on
 reported_on holds_nothing failed IsSuch r s h (Err stop) ending (inl (about, told, tells)) on = subst (λ (e : Result Status Stop). IsHandedOn holds_nothing failed e) (sym tells.0) on
 reported_on holds_nothing failed IsSuch r s h (Err stop) ending (inr lost) on = subst (λ (e : Result Status Stop). IsHandedOn holds_nothing failed e) (sym lost.1.0) on
@@ -72,6 +73,7 @@ on_err A B holds_nothing failed (Setup fault) on = on
 on_err A B holds_nothing failed SetupRead on = on
 on_err A B holds_nothing failed (Arguments fault) on = on
 on_err A B holds_nothing failed Leaks on = on
+on_err A B holds_nothing failed Summary on = on
 on_err A B holds_nothing failed Explain on = on
 on_err A B holds_nothing failed (Mismatch thread place) on = on
 on_err A B holds_nothing failed (Worker stop) on = on

@@ -11,7 +11,7 @@ use Rattle.jg_shell.specs.Finish.{IsWrongReceipt, IsUntoldEntry}
 use Rattle.jg_shell.specs.Work.{Work}
 use Rattle.jg_program.specs.declared.stop.Status.{Status}
 use Rattle.jg_program.specs.declared.stop.Stop.{Stop}
-use Rattle.jg_program.specs.declared.stop.Stop.TheVariants.{Arguments, Setup, SetupRead, Run, Leaks, Explain, Mismatch, Worker}
+use Rattle.jg_program.specs.declared.stop.Stop.TheVariants.{Arguments, Setup, SetupRead, Run, Leaks, Summary, Explain, Mismatch, Worker}
 use Rattle.jg_program.specs.declared.reporting.Reporting.{Reporting}
 use Rattle.jg_program.specs.declared.stop.Ending.{Ending}
 use Rattle.jg_program.specs.Plays.{HandsOut, Settles, SettlesBy, TellsDifference}
@@ -25,6 +25,7 @@ unwritten tid at guard bytes bytes' (Setup fault) handed = absurd handed
 unwritten tid at guard bytes bytes' SetupRead handed = absurd handed
 unwritten tid at guard bytes bytes' (Arguments fault) handed = absurd handed
 unwritten tid at guard bytes bytes' Leaks handed = absurd handed
+unwritten tid at guard bytes bytes' Summary handed = absurd handed
 unwritten tid at guard bytes bytes' Explain handed = absurd handed
 unwritten tid at guard bytes bytes' (Mismatch thread place) handed = absurd handed
 unwritten tid at guard bytes bytes' (Worker other) handed = absurd handed
@@ -38,6 +39,7 @@ settled workers tid at guard bytes bytes' (Err (Setup fault)) differs told = abs
 settled workers tid at guard bytes bytes' (Err SetupRead) differs told = absurd told
 settled workers tid at guard bytes bytes' (Err (Arguments fault)) differs told = absurd told
 settled workers tid at guard bytes bytes' (Err Leaks) differs told = absurd told
+settled workers tid at guard bytes bytes' (Err Summary) differs told = absurd told
 settled workers tid at guard bytes bytes' (Err Explain) differs told = absurd told
 settled workers tid at guard bytes bytes' (Err (Worker other)) differs told = absurd told
 settled workers tid at guard bytes bytes' (Err (Mismatch thread place)) differs told =

@@ -20,9 +20,9 @@ use Rattle.jg_program.specs.declared.stop.Ending.{Ending}
 use Rattle.jg_program.specs.declared.stop.Status.{Status}
 use Rattle.jg_program.specs.declared.stop.Status.TheVariants.{Done, Differs}
 use Rattle.jg_program.specs.declared.stop.Stop.{Stop}
-use Rattle.jg_program.specs.declared.stop.Stop.TheVariants.{Arguments, Setup, SetupRead, Run, Leaks, Explain, Mismatch, Worker}
-use Rattle.jg_program.specs.About.{IsAboutJournal, IsAboutScript}
-use Rattle.jg_program.specs.Reported.{EndsQuietly, Reports}
+use Rattle.jg_program.specs.declared.stop.Stop.TheVariants.{Arguments, Setup, SetupRead, Run, Leaks, Summary, Explain, Mismatch, Worker}
+use Rattle.jg_program.specs.About.{IsAboutJournal, IsAboutScript, IsAboutSetup}
+use Rattle.jg_program.specs.Reported.{EndsQuietly, EndsTelling, Reports, is_explained}
 use Rattle.jg_program.specs.StatedBy.{base_setup, IsStated, IsRefused}
 
 -- how the lines of a script were answered, of which the guard has this journal then, and what that did to the bytes of the
@@ -94,13 +94,17 @@ abbrev pub EndsClosed : Job → Reporting → Option (List ℕ) → Option (List
 EndsClosed job r input input' bytes bytes' limit ending = Ends job r base_setup input input' bytes bytes' limit ending
     ⊎ (EndsQuietly (Setup NoRoom) ending × Keeps input input' × Keeps bytes bytes')
 
--- the same under the setup that a file states, of which the bytes may be known and a length was told; or it was refused,
--- and nothing was read or written
+-- how the program ends where the file of a setup is refused, of which the bytes may be known and a length was told
+abbrev pub EndsRefused : Bool → Option (List ℕ) → ℕ → Ending → Type 0
+EndsRefused explained known told ending = (stop : Stop) × IsRefused known told stop
+    × EndsTelling explained (IsAboutSetup known stop) stop ending
+
+-- the same under the setup that a file states; or it was refused, and nothing was read or written
 abbrev pub EndsUnder : Job → Reporting → Option (List ℕ) → ℕ → Option (List ℕ) → Option (List ℕ) → Option (List ℕ)
     → Option (List ℕ) → ℕ → Ending → Type 0
 EndsUnder job r known told input input' bytes bytes' limit ending =
     ((setup : StatedSetup) × IsStated known setup × Ends job r setup input input' bytes bytes' limit ending)
-    ⊎ ((stop : Stop) × IsRefused known told stop × EndsQuietly stop ending × Keeps input input' × Keeps bytes bytes')
+    ⊎ (EndsRefused (is_explained r) known told ending × Keeps input input' × Keeps bytes bytes')
 
 -- the writer holds nothing back at the end, or it failed and that is told
 abbrev pub IsHandedOn : {S : Type 0} → Type 0 → Bool → Result S Stop → Type 0
@@ -115,6 +119,7 @@ IsHandedOn holds_nothing failed (Err (Setup fault)) = Unit {0}
 IsHandedOn holds_nothing failed (Err SetupRead) = Unit {0}
 IsHandedOn holds_nothing failed (Err (Arguments fault)) = ⊥
 IsHandedOn holds_nothing failed (Err Leaks) = holds_nothing
+IsHandedOn holds_nothing failed (Err Summary) = holds_nothing
 IsHandedOn holds_nothing failed (Err Explain) = holds_nothing
 IsHandedOn holds_nothing failed (Err (Mismatch thread place)) = holds_nothing
 IsHandedOn holds_nothing failed (Err (Worker stop)) = holds_nothing

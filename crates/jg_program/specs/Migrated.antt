@@ -7,7 +7,7 @@ use Rattle.jg_script.specs.declared.run_fault.RunFault.TheVariants.{Write}
 use Rattle.jg_program.specs.declared.stop.Status.{Status}
 use Rattle.jg_program.specs.declared.stop.Status.TheVariants.{Done}
 use Rattle.jg_program.specs.declared.stop.Stop.{Stop}
-use Rattle.jg_program.specs.declared.stop.Stop.TheVariants.{Arguments, Setup, SetupRead, Run, Leaks, Explain, Mismatch, Worker}
+use Rattle.jg_program.specs.declared.stop.Stop.TheVariants.{Arguments, Setup, SetupRead, Run, Leaks, Summary, Explain, Mismatch, Worker}
 use Rattle.jg_program.specs.StatedBy.{IsStated, IsRefused}
 
 -- a text that states this setup was written
@@ -25,6 +25,7 @@ Migrates known told bytes bytes' (Err (Setup fault)) = IsRefused known told (Set
 Migrates known told bytes bytes' (Err SetupRead) = Keeps bytes bytes'
 Migrates known told bytes bytes' (Err (Arguments fault)) = ⊥
 Migrates known told bytes bytes' (Err Leaks) = ⊥
+Migrates known told bytes bytes' (Err Summary) = ⊥
 Migrates known told bytes bytes' (Err Explain) = ⊥
 Migrates known told bytes bytes' (Err (Mismatch thread place)) = ⊥
 Migrates known told bytes bytes' (Err (Worker stop)) = ⊥

@@ -22,7 +22,7 @@ use Rattle.jg_program.specs.declared.stop.Ending.{Ending}
 use Rattle.jg_program.specs.declared.stop.Status.{Status}
 use Rattle.jg_program.specs.declared.stop.Status.TheVariants.{Done}
 use Rattle.jg_program.specs.declared.stop.Stop.{Stop}
-use Rattle.jg_program.specs.declared.stop.Stop.TheVariants.{Arguments, Setup, SetupRead, Run, Leaks, Explain, Mismatch, Worker}
+use Rattle.jg_program.specs.declared.stop.Stop.TheVariants.{Arguments, Setup, SetupRead, Run, Leaks, Summary, Explain, Mismatch, Worker}
 use Rattle.jg_program.specs.Reported.{EndsQuietly, Reports}
 
 -- the workers have run the scripts, one for each, in their order
@@ -50,6 +50,7 @@ HandsOut bytes bytes' guard (Err (Setup fault)) = ⊥
 HandsOut bytes bytes' guard (Err SetupRead) = ⊥
 HandsOut bytes bytes' guard (Err (Arguments fault)) = ⊥
 HandsOut bytes bytes' guard (Err Leaks) = ⊥
+HandsOut bytes bytes' guard (Err Summary) = ⊥
 HandsOut bytes bytes' guard (Err Explain) = ⊥
 HandsOut bytes bytes' guard (Err (Mismatch thread place)) = ⊥
 HandsOut bytes bytes' guard (Err (Worker stop)) = ⊥
@@ -80,6 +81,7 @@ SettlesBy guard workers bytes bytes' (Err (Setup fault)) = ⊥
 SettlesBy guard workers bytes bytes' (Err SetupRead) = ⊥
 SettlesBy guard workers bytes bytes' (Err (Arguments fault)) = ⊥
 SettlesBy guard workers bytes bytes' (Err Leaks) = ⊥
+SettlesBy guard workers bytes bytes' (Err Summary) = ⊥
 SettlesBy guard workers bytes bytes' (Err Explain) = ⊥
 
 -- they ended by this, and what is told of the guard's journal was told

@@ -43,9 +43,6 @@ HasFault told bytes stop =
     × IsFirstFault (text_faults_of (parse_document bytes)) fault
 
 -- why the file of a reader, of which this length was told, has no text, or states no setup
-abbrev pub IsUnreadable : Option (List ℕ) → ℕ → Stop → Type 0
-IsUnreadable known told stop = (bytes : List ℕ) × Gives known bytes × HasNoText told bytes stop
-
 abbrev pub IsRefused : Option (List ℕ) → ℕ → Stop → Type 0
 IsRefused known told stop =
     (bytes : List ℕ) × Gives known bytes × (HasNoText told bytes stop ⊎ HasFault told bytes stop)

@@ -9,7 +9,7 @@ use Rattle.jg_script.specs.declared.run_fault.RunFault.TheVariants.{Script, Limi
 use Rattle.jg_program.specs.declared.stop.Status.{Status}
 use Rattle.jg_program.specs.declared.stop.Status.TheVariants.{Done, Differs, Faulty, Exhausted, Device}
 use Rattle.jg_program.specs.declared.stop.Stop.{Stop}
-use Rattle.jg_program.specs.declared.stop.Stop.TheVariants.{Arguments, Setup, SetupRead, Run, Leaks, Explain, Mismatch, Worker}
+use Rattle.jg_program.specs.declared.stop.Stop.TheVariants.{Arguments, Setup, SetupRead, Run, Leaks, Summary, Explain, Mismatch, Worker}
 
 abbrev pub status_of_words : ArgsFault → Status
 status_of_words Help = Done
@@ -34,6 +34,7 @@ status_of (Setup fault) = status_of_setup fault
 status_of SetupRead = Device
 status_of (Run fault) = status_of_run fault
 status_of Leaks = Exhausted
+status_of Summary = Exhausted
 status_of Explain = Exhausted
 status_of (Mismatch thread place) = Differs
 status_of (Worker stop) = Exhausted

@@ -1,10 +1,10 @@
 //! What there is to tell of where the program stops: of the faulty line of a script, the line at which a journal
 //! differs, or the words after the program's name. It is told with explanations only.
 
-ghost use Rattle.std.specs.Prelude.{◌≡◌, ◌++◌, [], Err, false, List, ℕ, OnOk, string_bytes};
+ghost use Rattle.std.specs.Prelude.{◌≡◌, ◌++◌, [], false, List, ℕ, OnOk, string_bytes};
 ghost use Rattle.jg_program.specs.About.{IsAbout, IsDifferenceText};
 
-use crate::stop::{Ending, Said, Status, Stop, quietly};
+use crate::stop::{Ending, Status, Stop, quietly, telling};
 use jg_args::{ArgsFault, refused_word};
 use jg_faults::push_line_fault;
 use jg_guard::Guard;
@@ -126,19 +126,6 @@ pub fn push_about(
     }
 }
 
-fn ending_with(stop: Stop, said: Result<String, AllocError>) -> Ending
-    ensures { result.ended ≡ Err stop }
-{
-    let said = match said {
-        Ok(text) => Said::Text(text),
-        Err(_) => Said::NoMemory,
-    };
-    Ending {
-        ended: Err(stop),
-        said,
-    }
-}
-
 /// The word at which the words are refused; empty where explanations aren't asked for.
 fn refused_at(alloc: Global, words: &[&str]) -> Result<String, AllocError> {
     let mut said = String::new(alloc);
@@ -162,7 +149,7 @@ fn push_word(out: &mut String, place: usize, word: &str) -> Result<(), AllocErro
 pub fn end_refused(alloc: Global, words: &[&str], fault: ArgsFault) -> Ending {
     let stop = Stop::Arguments(fault);
     match fault {
-        ArgsFault::Refused => ending_with(stop, refused_at(alloc, words)),
+        ArgsFault::Refused => telling(stop, refused_at(alloc, words)),
         _ => quietly(alloc, Err(stop)),
     }
 }

@@ -11,6 +11,7 @@ mod program;
 mod reporting;
 mod setup_file;
 mod stop;
+mod summary;
 
 pub use files::Files;
 pub use program::run;

@@ -53,9 +53,9 @@ pub fn migrate<F: Read, W: HandsOn>(
     ensures ends { Migrates (F.remaining file.old) told (W.contents out.old.device) (W.contents out.new.device) result }
     ensures handed_on { IsHandedOn (W.holds_nothing out.new.device) out.new.failed result }
 {
-    let setup = match read_setup(alloc, file, told) {
+    let setup = match read_setup(alloc, false, file, told) {
         Ok(setup) => setup,
-        Err(stop) => return Err(stop),
+        Err(ending) => return ending.ended,
     };
     let text = match text_of(alloc, &setup) {
         Ok(text) => text,

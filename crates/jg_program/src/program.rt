@@ -144,12 +144,12 @@ fn work_under<F: Read + Drop, R: BufRead, W: HandsOn>(
         (R.remaining reader.new.device) (W.contents out.old.device) (W.contents out.new.device) limit result }
     ensures handed_on { IsHandedOn (W.holds_nothing out.new.device) out.new.failed result.ended }
 {
-    let read = read_setup(alloc, &mut file, told);
+    let read = read_setup(alloc, reporting.explain > 0, &mut file, told);
     // Else its number could be that of a standard input that was closed.
     drop(file);
     match read {
         Ok(setup) => work(alloc, job, reporting, setup, limit, reader, out),
-        Err(stop) => quietly(alloc, Err(stop)),
+        Err(ending) => ending,
     }
 }
 
@@ -169,17 +169,17 @@ fn print_help<W: HandsOn>(alloc: Global, words: &[&str], out: &mut W) -> Result<
     }
 }
 
-/// The setup of the file at this path, or the one where none is named.
-fn setup_at<S: Files>(alloc: Global, files: &S, path: Option<&str>) -> Result<Setup, Stop> {
-    let Some(path) = path else {
+/// The setup of the file that is asked for, or the one where none is; or how the program ends without it.
+fn setup_at<S: Files>(alloc: Global, asked: Asked<'_>, files: &S) -> Result<Setup, Ending> {
+    let Some(path) = asked.setup else {
         return match closed_setup(alloc) {
             Ok(setup) => Ok(setup),
-            Err(fault) => Err(Stop::Setup(fault)),
+            Err(fault) => Err(quietly(alloc, Err(Stop::Setup(fault)))),
         };
     };
     match files.open(path) {
-        Ok((mut file, told)) => read_setup(alloc, &mut file, told),
-        Err(error) => Err(stop_of(&error)),
+        Ok((mut file, told)) => read_setup(alloc, asked.explain > 0, &mut file, told),
+        Err(error) => Err(quietly(alloc, Err(stop_of(&error)))),
     }
 }
 
@@ -242,9 +242,9 @@ fn serve_play<T: Threads + Wait + Sync, S: Files, R: BufRead + Drop, W: HandsOn 
 ) -> Ending
     requires { 1 ≤ asked.turns }
 {
-    let setup = match setup_at(alloc, files, asked.setup) {
+    let setup = match setup_at(alloc, asked, files) {
         Ok(setup) => setup,
-        Err(stop) => return quietly(alloc, Err(stop)),
+        Err(ending) => return ending,
     };
     if path == STANDARD_INPUT {
         return play_under(rt, alloc, setup, asked, reader, out);
@@ -276,6 +276,7 @@ fn reporting_of(asked: Asked<'_>) -> Reporting {
         explain: asked.explain,
         strict: asked.strict,
         leaks: asked.leaks,
+        summary: asked.summary,
     }
 }
 

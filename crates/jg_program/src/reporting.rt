@@ -1,12 +1,13 @@
 //! What is told beside the journal: by the status, and on standard error.
 
-ghost use Rattle.std.specs.Prelude.{◌≡◌, ◌⊎◌, ◌++◌, Err, IfOk, List, Ok, OnErr, OnOk, string_bytes, true, ℕ};
+ghost use Rattle.std.specs.Prelude.{◌≡◌, ◌⊎◌, ◌++◌, codes, Err, IfOk, List, Ok, OnErr, OnOk, string_bytes, true, ℕ};
 ghost use Rattle.jg_explain.specs.Texts.{explanations_text};
 ghost use Rattle.jg_program.specs.About.{IsAbout};
-ghost use Rattle.jg_program.specs.Reported.{IsToldIf, Reports, SaysLeaks, Tells, TellsNothing, any_denied, is_explained, said_text, strict_status};
+ghost use Rattle.jg_program.specs.Reported.{EndsSummed, IsToldIf, Reports, SaysLeaks, SaysSummary, Tells, TellsNothing, any_denied, is_explained, said_text, strict_status};
 
 use crate::about::{About, push_about};
 use crate::stop::{Ending, Said, Status, Stop, quietly};
+use crate::summary::push_summary;
 use jg_explain::{explain_first, explain_leaks};
 use jg_guard::{Guard, NoMemory};
 use jg_script::write_leaks;
@@ -21,6 +22,8 @@ pub struct Reporting {
     pub strict: bool,
     /// Whether it is said what is left behind.
     pub leaks: bool,
+    /// Whether the summary is said.
+    pub summary: bool,
 }
 
 /// Whether some call of the guard's journal was denied.
@@ -130,6 +133,43 @@ fn tell_nothing(alloc: Global, ended: Result<Status, Stop>) -> Ending
     }
 }
 
+/// Adds the summary, where it is asked for.
+fn push_summary_if(
+    alloc: Global,
+    asked: bool,
+    guard: &Guard,
+    out: &mut String,
+) -> Result<(), AllocError>
+    ensures said { OnOk result ((summary : List ℕ) × SaysSummary asked guard.now.setup guard.now.journal summary
+        × (string_bytes out.new ≡ string_bytes out.old ++ summary)) }
+    ensures asked { OnErr result (asked ≡ true) }
+    ensures kept { OnErr result (string_bytes out.new ≡ string_bytes out.old) }
+{
+    if !asked {
+        return Ok(());
+    }
+    let mut text = String::new(alloc);
+    push_summary(&mut text, guard)?;
+    out.push_str(text.as_str())
+}
+
+/// Ends where the work was done and what is left behind was said.
+fn report_left(
+    alloc: Global,
+    reporting: Reporting,
+    guard: &Guard,
+    said: String,
+    status: Status,
+) -> Ending
+    ensures { EndsSummed (string_bytes said) reporting guard.now.setup guard.now.journal status result }
+{
+    let mut said = said;
+    match push_summary_if(alloc, reporting.summary, guard, &mut said) {
+        Ok(()) => ending_with(Ok(strict_status(reporting.strict, guard, status)), said),
+        Err(_) => ending_with(Err(Stop::Summary), said),
+    }
+}
+
 /// Ends where the work was done.
 fn report_done(
     alloc: Global,
@@ -146,8 +186,18 @@ fn report_done(
         return tell_nothing(alloc, Ok(status));
     };
     match push_leaks(alloc, reporting, guard, &mut said) {
-        Ok(()) => ending_with(Ok(strict_status(reporting.strict, guard, status)), said),
+        Ok(()) => report_left(alloc, reporting, guard, said, status),
         Err(_) => ending_with(Err(Stop::Leaks), said),
+    }
+}
+
+fn ending_short(stop: Stop, text: String) -> Ending
+    ensures ended { result.ended ≡ Err stop }
+    ensures said { said_text result.said ≡ string_bytes text ++ codes "summary: no memory\n" }
+{
+    Ending {
+        ended: Err(stop),
+        said: Said::Short(text),
     }
 }
 
@@ -163,9 +213,12 @@ fn report_stopped(
         ⊎ ((is_explained reporting ≡ true) × TellsNothing (Err stop) result) }
 {
     let mut said = about;
-    match push_explanations(alloc, reporting, guard, &mut said) {
+    let Ok(()) = push_explanations(alloc, reporting, guard, &mut said) else {
+        return tell_nothing(alloc, Err(stop));
+    };
+    match push_summary_if(alloc, reporting.summary, guard, &mut said) {
         Ok(()) => ending_with(Err(stop), said),
-        Err(_) => tell_nothing(alloc, Err(stop)),
+        Err(_) => ending_short(stop, said),
     }
 }
 
@@ -188,7 +241,7 @@ fn about_text(
 }
 
 /// How the program ends after the guard's journal, where its work was done or stopped so: what there is
-/// to tell about that comes first, then the explanations, and then what is left behind. All of it is made
+/// to tell about that comes first, then the explanations, then what is left behind, and last the summary. All of it is made
 /// before any of it is written.
 pub fn report(
     alloc: Global,

@@ -1,15 +1,19 @@
 //! The setup file of `--setup`, and the setup where none is given.
 
-ghost use Rattle.std.specs.Prelude.{◌≡◌, ◌≢◌, ◌⊎◌, ◌<◌, ◌≤◌, length, IfOk, IfErr, OnOk, string_bytes};
+ghost use Rattle.std.specs.Prelude.{◌≡◌, ◌≢◌, ◌⊎◌, ◌<◌, ◌≤◌, codes, length, true, IfOk, IfErr, OnErr, OnOk, string_bytes};
 ghost use Rattle.std.specs.IoError.{error_kind};
 ghost use Rattle.std.specs.declared.io.ErrorKind.TheVariants.{OutOfMemory};
-ghost use Rattle.jg_policy.specs.declared.fault.SetupFault.TheVariants.{NoMemory};
+ghost use Rattle.jg_faults.specs.Setups.{TellsSetup};
+ghost use Rattle.jg_policy.specs.declared.fault.SetupFault.TheVariants.{NoMemory, TooMany};
 ghost use Rattle.jg_program.specs.declared.stop.Stop.TheVariants.{Setup as Faulty, SetupRead};
-ghost use Rattle.jg_program.specs.StatedBy.{base_setup, Gives, IsFront, IsStated, IsRefused, IsUnreadable};
+ghost use Rattle.jg_program.specs.Ended.{EndsRefused};
+ghost use Rattle.jg_program.specs.Reported.{EndsTelling, IsToldIf};
+ghost use Rattle.jg_program.specs.StatedBy.{base_setup, Gives, IsFront, IsStated};
 
-use crate::stop::Stop;
+use crate::stop::{Ending, Stop, quietly, telling};
+use jg_faults::push_setup_fault;
 use jg_policy::{Setup, SetupFault};
-use std::alloc::Global;
+use std::alloc::{AllocError, Global};
 use std::io;
 use std::io::{ErrorKind, Read};
 
@@ -40,44 +44,104 @@ pub fn stop_of(error: &io::Error) -> Stop
     }
 }
 
-/// Reads the setup of a file that was said to be so long. A file that was said to be too long isn't read, and of any
-/// other one no more than one byte past the longest that it may be.
-pub fn read_setup<F: Read>(alloc: Global, file: &mut F, told: u64) -> Result<Setup, Stop>
+/// Where in its bytes a setup has this fault; nothing without explanations.
+fn fault_text(
+    alloc: Global,
+    explained: bool,
+    bytes: &[u8],
+    fault: SetupFault,
+) -> Result<String, AllocError>
+    ensures told { IfOk result (λ text. IsToldIf explained (TellsSetup fault bytes.now) (string_bytes text)) }
+    ensures refused { OnErr result (explained ≡ true) }
+{
+    let mut text = String::new(alloc);
+    if explained {
+        push_setup_fault(&mut text, alloc, bytes, fault)?;
+    }
+    Ok(text)
+}
+
+/// How the program ends where the bytes of a setup have this fault.
+fn end_faulty(alloc: Global, explained: bool, bytes: &[u8], fault: SetupFault) -> Ending
+    ensures { EndsTelling explained (TellsSetup fault bytes.now) (Faulty fault) result }
+{
+    telling(
+        Stop::Setup(fault),
+        fault_text(alloc, explained, bytes, fault),
+    )
+}
+
+/// What is told of a setup file that is too long; nothing without explanations.
+fn length_text(alloc: Global, explained: bool) -> Result<String, AllocError>
+    ensures told { IfOk result (λ text. IsToldIf explained (λ it. it ≡ codes "more than 16777216 bytes\n")
+        (string_bytes text)) }
+    ensures refused { OnErr result (explained ≡ true) }
+{
+    let mut text = String::new(alloc);
+    if explained {
+        text.push_str("more than 16777216 bytes\n")?;
+    }
+    Ok(text)
+}
+
+/// How the program ends where a setup file is too long.
+fn end_too_long(alloc: Global, explained: bool) -> Ending
+    ensures { EndsTelling explained (λ it. it ≡ codes "more than 16777216 bytes\n") (Faulty TooMany) result }
+{
+    telling(
+        Stop::Setup(SetupFault::TooMany),
+        length_text(alloc, explained),
+    )
+}
+
+/// Reads the setup of a file that was said to be so long, or says how the program ends without it. A file that was said
+/// to be too long isn't read, and of any other one no more than one byte past the longest that it may be.
+pub fn read_setup<F: Read>(
+    alloc: Global,
+    explained: bool,
+    file: &mut F,
+    told: u64,
+) -> Result<Setup, Ending>
     ensures stated { IfOk result (IsStated (F.remaining file.old)) }
-    ensures refused { IfErr result (IsRefused (F.remaining file.old) told) }
+    ensures refused { IfErr result (EndsRefused explained (F.remaining file.old) told) }
     ensures unread { 16777216 < told → file.new ≡ file.old }
 {
-    let text = match read_text(alloc, file, told) {
+    let text = match read_text(alloc, explained, file, told) {
         Ok(text) => text,
-        Err(stop) => return Err(stop),
+        Err(ending) => return Err(ending),
     };
     match Setup::read(alloc, text.as_str()) {
         Ok(setup) => Ok(setup),
-        Err(fault) => Err(Stop::Setup(fault)),
+        Err(fault) => Err(end_faulty(alloc, explained, text.as_bytes(), fault)),
     }
 }
 
 // The text of a setup file that was said to be so long.
-fn read_text<F: Read>(alloc: Global, file: &mut F, told: u64) -> Result<String, Stop>
+fn read_text<F: Read>(
+    alloc: Global,
+    explained: bool,
+    file: &mut F,
+    told: u64,
+) -> Result<String, Ending>
     ensures bytes { IfOk result (λ text. Gives (F.remaining file.old) (string_bytes text)) }
     ensures told { OnOk result (told ≤ 16777216) }
     ensures short { IfOk result (λ text. length (string_bytes text) ≤ 16777216) }
-    ensures refused { IfErr result (IsUnreadable (F.remaining file.old) told) }
+    ensures refused { IfErr result (EndsRefused explained (F.remaining file.old) told) }
     ensures unread { 16777216 < told → file.new ≡ file.old }
 {
     if told > MAX_BYTES {
-        return Err(Stop::Setup(SetupFault::TooMany));
+        return Err(end_too_long(alloc, explained));
     }
     let bytes = match read_bytes(alloc, file) {
         Ok(bytes) => bytes,
-        Err(error) => return Err(stop_of(&error)),
+        Err(error) => return Err(quietly(alloc, Err(stop_of(&error)))),
     };
     if bytes.len() as u64 > MAX_BYTES {
-        return Err(Stop::Setup(SetupFault::TooMany));
+        return Err(end_too_long(alloc, explained));
     }
     match String::from_utf8(bytes) {
         Ok(text) => Ok(text),
-        Err(_) => Err(Stop::Setup(SetupFault::NotToml)),
+        Err(error) => Err(end_faulty(alloc, explained, error.as_bytes(), SetupFault::NotToml)),
     }
 }
 

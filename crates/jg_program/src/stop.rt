@@ -1,13 +1,14 @@
 //! How the program ends.
 
-ghost use Rattle.std.specs.Prelude.{◌≡◌, []};
+ghost use Rattle.std.specs.Prelude.{◌≡◌, [], Err, IfOk, OnErr, string_bytes};
+ghost use Rattle.jg_program.specs.declared.stop.Said.TheVariants.{NoMemory};
 ghost use Rattle.jg_program.specs.Reported.{said_text};
 ghost use Rattle.jg_program.specs.Statuses.{ended_status, status_of, status_of_words, status_of_setup, status_of_run};
 
 use jg_args::ArgsFault;
 use jg_policy::SetupFault;
 use jg_script::RunFault;
-use std::alloc::Global;
+use std::alloc::{AllocError, Global};
 use std::io::Write;
 use thiserror::Error;
 
@@ -45,6 +46,9 @@ pub enum Stop {
     /// Memory ran out for what is left behind, after the script was answered.
     #[error("leaks: no memory")]
     Leaks,
+    /// Memory ran out for the summary, after the script was answered.
+    #[error("summary: no memory")]
+    Summary,
     /// Memory ran out for what is explained, after all else was done.
     #[error("explain: no memory")]
     Explain,
@@ -74,6 +78,7 @@ impl Stop {
             Stop::SetupRead => Status::Device,
             Stop::Run(fault) => status_of_run(fault),
             Stop::Leaks => Status::Exhausted,
+            Stop::Summary => Status::Exhausted,
             Stop::Explain => Status::Exhausted,
             Stop::Mismatch { .. } => Status::Differs,
             Stop::Worker(_) => Status::Exhausted,
@@ -122,6 +127,8 @@ fn status_of_run(fault: RunFault) -> Status
 #[derive(Debug, Drop)]
 pub enum Said {
     Text(String),
+    /// The same, behind which memory ran out for the summary.
+    Short(String),
     /// Memory ran out for it.
     NoMemory,
 }
@@ -144,6 +151,22 @@ pub fn quietly(alloc: Global, ended: Result<Status, Stop>) -> Ending
     }
 }
 
+/// The ending by this, with what is told of it; or memory ran out for that.
+pub fn telling(stop: Stop, told: Result<String, AllocError>) -> Ending
+    ensures ended { result.ended ≡ Err stop }
+    ensures said { IfOk told (λ text. said_text result.said ≡ string_bytes text) }
+    ensures memory { OnErr told (result.said ≡ NoMemory) }
+{
+    let said = match told {
+        Ok(text) => Said::Text(text),
+        Err(_) => Said::NoMemory,
+    };
+    Ending {
+        ended: Err(stop),
+        said,
+    }
+}
+
 /// Says why the program ends. A failed write of that changes nothing.
 pub fn tell<E: Write>(stop: Stop, err: &mut E) -> Status
     ensures { result ≡ status_of stop }
@@ -163,6 +186,10 @@ pub fn tell_ending<E: Write>(ending: Ending, err: &mut E) -> Status
     match ending.said {
         Said::Text(text) => {
             let _ = err.write_all(text.as_bytes());
+        }
+        Said::Short(text) => {
+            let _ = err.write_all(text.as_bytes());
+            let _ = writeln!(err, "{}", Stop::Summary);
         }
         Said::NoMemory => {
             let _ = writeln!(err, "{}", Stop::Explain);

@@ -2,5 +2,6 @@ mod arguments;
 mod line_faults;
 mod lines;
 mod refused;
+mod setup_places;
 mod setups;
 mod words;

@@ -204,6 +204,32 @@ fn listed(rt: HostRuntime) -> Result<(), Fail> {
     list_some(&rt, rt.alloc(), &mut table)
 }
 
+/// How many of three buffers are open: at first, with a copy closed, with the pinned one closed too, and
+/// with that one closed again.
+fn counts(table: &mut Buffers) -> [u128; 4] {
+    let opened = table.len();
+    table.close(buffer(T2, 1));
+    let without_copy = table.len();
+    table.close(buffer(T1, 1));
+    let without_pin = table.len();
+    table.close(buffer(T1, 1));
+    [opened, without_copy, without_pin, table.len()]
+}
+
+fn count_closed(rt: &impl Abort, table: &mut Buffers) -> Result<(), Fail>
+    requires { (k i : ℕ) → IsAbove k i table.old }
+{
+    open_some(table)?;
+    assert_eq!(rt; counts(table), [3, 2, 1, 1]);
+    Ok(())
+}
+
+#[test]
+fn counted(rt: HostRuntime) -> Result<(), Fail> {
+    let mut table = Buffers::new(rt.alloc(), rt.alloc(), rt.alloc(), rt.alloc(), rt.alloc());
+    count_closed(&rt, &mut table)
+}
+
 /// What is so where a buffer of each kind is refused while `block` takes up the heap; both are
 /// opened after that.
 fn goes_on<'a>(

@@ -175,6 +175,32 @@ fn listed(rt: HostRuntime) -> Result<(), Fail> {
     list_some(&rt, rt.alloc(), &mut table)
 }
 
+/// How many of four references are in being: at first, with one of each kind deleted, and with one of
+/// these deleted again and the other weak one cleared.
+fn counts(table: &mut Globals) -> [u128; 3] {
+    let made = table.len();
+    table.delete(global(T2, 1));
+    table.delete(weak(T1, 3));
+    let deleted = table.len();
+    table.delete(weak(T1, 3));
+    table.clear_weak(ObjId(1));
+    [made, deleted, table.len()]
+}
+
+fn count_ended(rt: &impl Abort, table: &mut Globals) -> Result<(), Fail>
+    requires { (k i : ℕ) → IsAbove k i table.old }
+{
+    make_four(table)?;
+    assert_eq!(rt; counts(table), [4, 2, 2]);
+    Ok(())
+}
+
+#[test]
+fn counted(rt: HostRuntime) -> Result<(), Fail> {
+    let mut table = Globals::new(rt.alloc(), rt.alloc());
+    count_ended(&rt, &mut table)
+}
+
 /// A hundred references, and their numbers in a plain list.
 fn make_hundred(table: &mut Globals, kept: &mut Vec<u64>) -> Result<(), AllocError>
     requires { (k i : ℕ) → IsAbove k i table.old }

@@ -187,6 +187,32 @@ fn each_way_to_end(rt: HostRuntime) -> Result<(), Fail> {
     end_each_way(&rt, &mut locals, &mut marks)
 }
 
+/// How many locals of all threads are live after the calls.
+fn count_after(rt: &impl Abort, locals: &mut Locals, acts: &[Act]) -> Result<u128, AllocError> {
+    live_after(rt, locals, acts)?;
+    Ok(locals.len())
+}
+
+fn count_ended(rt: &impl Abort, locals: &mut Locals) -> Result<(), Fail> {
+    assert_eq!(rt; count_after(rt, locals, &FRAMES)?, 3);
+    start(rt, locals, Tid(2))?;
+    make_for(rt, locals, Tid(2), 1)?;
+    assert_eq!(rt; locals.len(), 4);
+    let popped = [Act::Pop, Act::Delete(2), Act::Delete(2)];
+    assert_eq!(rt; count_after(rt, locals, &popped)?, 2);
+    assert_eq!(rt; count_after(rt, locals, &[Act::Make(4), Act::Leave])?, 2);
+    locals.drop_thread(T);
+    assert_eq!(rt; locals.len(), 1);
+    Ok(())
+}
+
+/// Each way to make a local and to end some is counted, of all threads.
+#[test]
+fn counted(rt: HostRuntime) -> Result<(), Fail> {
+    let mut locals = Locals::new(rt.alloc(), rt.alloc(), rt.alloc());
+    count_ended(&rt, &mut locals)
+}
+
 /// Makes the locals from `first` to `last`.
 fn make_each<A: Allocator + Clone>(
     rt: &impl Abort,

@@ -1,7 +1,7 @@
-use Rattle.std.proofs.Common.{◌≡◌, ◌≤◌, List}
+use Rattle.std.proofs.Common.{◌≡◌, ◌≤◌, ◌+◌, List}
 use Rattle.std.specs.Prelude.{filter, length}
 use Rattle.jg_locals.specs.declared.row.Frame.{Frame}
-use Rattle.jg_locals.specs.Seen.{Chain, dead_in, is_before, stays, Sound}
+use Rattle.jg_locals.specs.Seen.{Chain, dead_in, is_before, is_live, stays, Sound}
 use Rattle.jg_locals.proofs.slots.cut.Given as goal
 
 -- what is cut off does not stay
@@ -12,6 +12,7 @@ invariant-loop-from g l =
     × ((frames : List Frame) → Sound l.initial.slots.items frames → Sound l.slots.items frames)
     × (l.initial.slots.room ≤ l.slots.room)
     × (dead_in l.slots.items ≤ dead_in l.initial.slots.items)
+    × (length (filter is_live l.initial.slots.items) ≡ length (filter is_live l.slots.items) + l.ended)
 
 abbrev pub decreases-loop-from : goal.decreases-loop-from
 decreases-loop-from g l = length l.slots.items

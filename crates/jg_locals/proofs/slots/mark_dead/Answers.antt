@@ -1,8 +1,8 @@
-use Rattle.std.proofs.Common.{◌∙◌, sym, ap, arith}
-use Rattle.std.specs.Prelude.{if◌then◌else◌}
+use Rattle.std.proofs.Common.{◌∙◌, sym, ap, arith, length}
+use Rattle.std.specs.Prelude.{filter, if◌then◌else◌}
 use Rattle.std.specs.Option.{is_some}
-use Rattle.jg_locals.specs.Seen.{dead_in}
-use Rattle.jg_locals.proofs.Dead.{dead-ended, one_of}
+use Rattle.jg_locals.specs.Seen.{dead_in, is_live}
+use Rattle.jg_locals.proofs.Dead.{dead-ended, live-ended, one_of}
 use Rattle.jg_locals.proofs.Numbers.{marked_there, sound_there, rises_there, unmarked, slot_found, no_slot}
 use Rattle.jg_locals.proofs.slots.mark_dead.Goals as goal
 
@@ -29,3 +29,9 @@ returns-in-Some-clause-dead g c =
     let one = dead-ended c.args.slots.now.items c.in-Some.i c.end.result c.in-Some.ensures.0 c.end.ensures.was in
     let counted = ap (λ found. if is_some found then 1 else 0) c.live_slot.ensures ∙ one_of c.end.result in
     omega (arith, one, ap dead_in c.end.ensures.items, counted)
+
+pub returns-in-Some-clause-counted : goal.returns-in-Some-clause-counted
+returns-in-Some-clause-counted g c =
+    let one = live-ended c.args.slots.now.items c.in-Some.i c.end.result c.in-Some.ensures.0 c.end.ensures.was in
+    let counted = ap (λ found. if is_some found then 1 else 0) c.live_slot.ensures ∙ one_of c.end.result in
+    omega (arith, one, ap (λ slots. length (filter is_live slots)) c.end.ensures.items, counted)

@@ -1,9 +1,9 @@
-use Rattle.jg_program.proofs.Refusing.{migrates_refused}
+use Rattle.jg_program.proofs.Refusals.{migrates_refusal}
 use Rattle.jg_program.proofs.Saying.{migrates_said}
 use Rattle.jg_program.proofs.migrating.migrate.Goals as goal
 
 pub returns-in-Err-clause-ends : goal.returns-in-Err-clause-ends
-returns-in-Err-clause-ends g c = migrates_refused _ _ _ _ c.in-Err.ensures.refused
+returns-in-Err-clause-ends g c = migrates_refusal _ _ _ _ c.in-Err.ending c.in-Err.ensures.refused
 
 pub returns-in-Ok-flush-clause-ends : goal.returns-in-Ok-flush-clause-ends
 returns-in-Ok-flush-clause-ends g c =

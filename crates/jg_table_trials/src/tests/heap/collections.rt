@@ -193,3 +193,30 @@ fn a_chain_goes_by_roots_too(rt: HostRuntime) -> Result<(), Fail> {
     assert_eq!(rt; ends_by_roots(&mut heap), [0, 1, 1, 0]);
     Ok(())
 }
+
+/// How many objects of a chain of two are in being: at first, and after each of two collections.
+fn counts(alloc: Global, heap: &mut Heap, marks: &mut ObjectMarks) -> [u64; 3] {
+    let made = heap.in_being();
+    heap.collect(&NOTHING);
+    let left = heap.in_being();
+    collect(alloc, heap, marks, &[]);
+    [made, left, heap.in_being()]
+}
+
+fn count_chain(
+    rt: &impl Abort,
+    alloc: Global,
+    heap: &mut Heap,
+    marks: &mut ObjectMarks,
+) -> Result<(), Fail> {
+    make_chain(rt, alloc, heap)?;
+    assert_eq!(rt; counts(alloc, heap, marks), [2, 1, 0]);
+    Ok(())
+}
+
+#[test]
+fn what_is_in_being_is_counted(rt: HostRuntime) -> Result<(), Fail> {
+    let mut heap = Heap::new(rt.alloc(), 15)?;
+    let mut marks = ObjectMarks::new(rt.alloc());
+    count_chain(&rt, rt.alloc(), &mut heap, &mut marks)
+}

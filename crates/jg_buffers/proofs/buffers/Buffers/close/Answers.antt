@@ -1,6 +1,6 @@
-use Rattle.std.proofs.Common.{refl}
+use Rattle.std.proofs.Common.{refl, arith}
 use Rattle.jg_buffers.specs.Standing.{Stands}
-use Rattle.jg_buffers.proofs.Counts.{counts_lowered}
+use Rattle.jg_buffers.proofs.Counts.{counts_lowered, all_lowered}
 use Rattle.jg_buffers.proofs.Lookups.{reopened, above_in}
 use Rattle.jg_buffers.proofs.Calls.{seen, close_law, closed_numbers}
 use Rattle.jg_lists.specs.ByMaker.{named}
@@ -10,8 +10,11 @@ use Rattle.jg_buffers.proofs.buffers.Buffers.close.Goals as goal
 pub invariant_of-self : goal.invariant_of-self
 invariant_of-self g c =
     let vias = rw c.via_key.ensures at c.lower.ensures.count in
-    counts_lowered (named c.self.inside.pins) (named c.remove.new.tables) c.self.inside.makers.items c.lower_count.new.makers.items c.self.inside.vias c.lower.new.map c.args.buf.maker.0 c.args.buf.n
-    c.in-Some.pin c.self.invariant c.in-Some.ensures.taken c.lower_count.ensures vias
+    let count = all_lowered (named c.self.inside.pins) (named c.remove.new.tables) _ c.self.inside.pinned c.self.invariant.1 c.in-Some.ensures.taken in (
+      counts_lowered (named c.self.inside.pins) (named c.remove.new.tables) c.self.inside.makers.items c.lower_count.new.makers.items c.self.inside.vias c.lower.new.map c.args.buf.maker.0 c.args.buf.n
+          c.in-Some.pin c.self.invariant.0 c.in-Some.ensures.taken c.lower_count.ensures vias,
+      omega (arith, count),
+    )
 
 -- no pinned buffer has the number, and the counts are the same
 pub invariant_of-self-in_default : goal.invariant_of-self-in_default

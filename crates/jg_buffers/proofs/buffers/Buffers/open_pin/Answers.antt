@@ -1,7 +1,7 @@
-use Rattle.std.proofs.Common.{refl}
+use Rattle.std.proofs.Common.{refl, ◌∙◌}
 use Rattle.jg_buffers.specs.Standing.{Stands}
 use Rattle.jg_buffers.specs.Tallies.{Counted}
-use Rattle.jg_buffers.proofs.Counts.{counts_same, counts_raised}
+use Rattle.jg_buffers.proofs.Counts.{counts_same, counts_raised, all_raised}
 use Rattle.jg_buffers.proofs.Lookups.{reopened, above_in}
 use Rattle.jg_buffers.proofs.Calls.{seen, no_pin, open_pin_law, pin_numbers}
 use Rattle.jg_lists.specs.ByMaker.{named}
@@ -13,17 +13,20 @@ add-requires g c = no_pin c.self.inside.copies.entries (named c.self.inside.pins
 
 -- room was made, and the counts are the same
 pub invariant_of-self-in_err-make_room : goal.invariant_of-self-in_err-make_room
-invariant_of-self-in_err-make_room g c = counts_same _ _ _ _ _ c.self.invariant c.widen_counts.ensures.same c.make_room.ensures.same
+invariant_of-self-in_err-make_room g c = (counts_same _ _ _ _ _ c.self.invariant.0 c.widen_counts.ensures.same c.make_room.ensures.same, c.self.invariant.1)
 
 pub invariant_of-self-in_err-add : goal.invariant_of-self-in_err-add
-invariant_of-self-in_err-add g c = rw c.in_err-add.ensures.err (counts_same _ _ _ _ _ c.self.invariant c.widen_counts.ensures.same c.make_room.ensures.same)
+invariant_of-self-in_err-add g c = rw c.in_err-add.ensures.err (counts_same _ _ _ _ _ c.self.invariant.0 c.widen_counts.ensures.same c.make_room.ensures.same, c.self.invariant.1)
 
 -- the counts are raised
 pub invariant_of-self-2 : goal.invariant_of-self-2
 invariant_of-self-2 g c =
-    let was : Counted (named c.self.inside.pins) c.widen_counts.new.makers.items c.make_room.new.map = counts_same _ _ _ _ _ c.self.invariant c.widen_counts.ensures.same c.make_room.ensures.same in
-    let vias = rw c.via_key-key.ensures at c.raise.ensures in
-    counts_raised (named c.self.inside.pins) (named c.add.new.tables) c.widen_counts.new.makers.items c.raise_count.new.makers.items c.make_room.new.map c.raise.new.map c.args.tid.0 c.args.n _ was c.in_ok-add.ensures.ok c.raise_count.ensures vias
+    let was : Counted (named c.self.inside.pins) c.widen_counts.new.makers.items c.make_room.new.map = counts_same _ _ _ _ _ c.self.invariant.0 c.widen_counts.ensures.same c.make_room.ensures.same in
+    let vias = rw c.via_key-key.ensures at c.raise.ensures in (
+      counts_raised (named c.self.inside.pins) (named c.add.new.tables) c.widen_counts.new.makers.items c.raise_count.new.makers.items c.make_room.new.map c.raise.new.map c.args.tid.0 c.args.n _
+          was c.in_ok-add.ensures.ok c.raise_count.ensures vias,
+      c.in-Some.ensures.1 ∙ all_raised (named c.self.inside.pins) (named c.add.new.tables) _ _ c.self.inside.pinned c.self.invariant.1 c.in_ok-add.ensures.ok,
+    )
 
 -- the pinned buffer is added
 pub returns-clause-ok : goal.returns-clause-ok

@@ -1,4 +1,4 @@
-use Rattle.std.proofs.Common.{arith, ◌≡◌, ap, ◌∙◌, ◌+◌, ◌++◌, ◌∷◌, [], ℕ, Bool, List, map, cond, subst, sym, length, true}
+use Rattle.std.proofs.Common.{arith, rules, ◌≡◌, ◌<◌, ◌^◌, ap, ◌∙◌, ◌+◌, ◌++◌, ◌∷◌, [], ℕ, Bool, List, map, cond, subst, sym, length, true}
 use Rattle.std.proofs.lemmas.List.{length-append, length-map, map-append}
 use Rattle.jg_heap.specs.Making.{making_of}
 use Rattle.jg_heap.specs.Rows.{Row, Rows}
@@ -6,6 +6,8 @@ use Rattle.jg_heap.specs.Kept.{objects_of, row_of, row_of_body, numbers_in, AreW
 use Rattle.jg_heap.proofs.Objects.{length-objects_of, more_of, stored_made}
 use Rattle.jg_heap.proofs.Told.{count_stands}
 use Rattle.jg_heap.proofs.Calls.{rows_made}
+use Rattle.jg_heap.proofs.Counting.{being_more}
+use Rattle.jg_heap.proofs.Letting.{trues_within}
 use Rattle.jg_heap.proofs.heap.Heap.alloc.Goals as goal
 
 pub returns-clause-number : goal.returns-clause-number
@@ -39,4 +41,10 @@ invariant_of-self-2 g c =
           (c.add_if.ensures ∙ ap (λ (os : List ℕ). os ++ cond c.may_point-may_point.result (c.len-number.result ∷ []) []) c.in_ok-reserve-3.ensures.items
           ∙ ap (λ b. c.self.inside.pointing.items ++ cond b (c.len-number.result ∷ []) []) c.may_point-may_point.ensures),
       omega (arith, ap length (c.push_reserved.ensures.items ∙ ap (λ (bs : List Bool). bs ++ true ∷ []) c.in_ok-reserve.ensures.items), length-append c.self.inside.there.items (true ∷ []), c.in_ok-widen.ensures.ok, n-is),
+      being_more c.self.inside.there.items _ c.self.inside.in_being c.self.invariant.2 (c.push_reserved.ensures.items ∙ ap (λ (bs : List Bool). bs ++ true ∷ []) c.in_ok-reserve.ensures.items),
     )
+
+pub overflow_add-self : goal.overflow_add-self
+overflow_add-self g c =
+    let fits : length c.self.inside.there.items < 2 ^ 63 = search rules in
+    omega (arith, c.self.invariant.2, trues_within c.self.inside.there.items, fits)

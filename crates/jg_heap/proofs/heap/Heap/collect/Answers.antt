@@ -1,11 +1,11 @@
-use Rattle.std.proofs.Common.{ℕ, ◌≡◌, ◌<◌, ◌≤◌, ◌∙◌, ◌||◌, ap, arith, sym, subst, refl, get_or, false, eqb, ltb, length, map, List, Bool}
+use Rattle.std.proofs.Common.{ℕ, ◌≡◌, ◌<◌, ◌≤◌, ◌-◌, ◌∙◌, ◌||◌, ap, arith, sym, subst, refl, get_or, false, eqb, ltb, length, map, List, Bool}
 use Rattle.std.specs.Prelude.{filter}
 use Rattle.std.specs.List.{list_any}
 use Rattle.std.proofs.lemmas.List.{with_items_is, length-map}
 use Rattle.jg_lists.proofs.Marks.{marks_length}
 use Rattle.jg_heap.specs.declared.body.Body.{Body}
 use Rattle.jg_heap.specs.Rows.{Row, Rows, KeepsShapes, row_in}
-use Rattle.jg_heap.specs.Kept.{objects_of, row_of, row_of_body, slot_of_row_holds, ended_row, numbers_in, AreWhole, LetsGo, marked_or_root, Stored}
+use Rattle.jg_heap.specs.Kept.{objects_of, row_of, row_of_body, slot_of_row_holds, ended_row, numbers_in, AreWhole, LetsGo, marked_or_root, trues, Stored}
 use Rattle.jg_heap.proofs.Calls.{shapes_swept}
 use Rattle.jg_heap.proofs.Letting.{unheld, ended, stored_let, rows_let, went}
 use Rattle.jg_heap.proofs.Marking.{mark_is}
@@ -54,7 +54,12 @@ invariant_of-self g c =
           (c.close_up_if-self-inside.ensures.there loose))
           (subst (λ (bs : List Bool). AreWhole after (length bs)) seen c.close_up_if-self-inside.ensures.whole) c.retain_held.ensures),
       subst (λ (bs : List Bool). length bs ≤ length marks) flagged (omega (arith, count, many, c.self.invariant.1)),
+      subst (λ (bs : List Bool). c.self.inside.in_being - c.let_unheld_go-went.result ≡ trues bs) flagged
+          (omega (arith, c.self.invariant.2, rw c.deref_mut.ensures.value at c.let_unheld_go-went.ensures.count)),
     )
+
+pub overflow_sub-self : goal.overflow_sub-self
+overflow_sub-self g c = omega (arith, c.self.invariant.2, rw c.deref_mut.ensures.value at c.let_unheld_go-went.ensures.count)
 
 pub returns-clause-stands : goal.returns-clause-stands
 returns-clause-stands g c e stands =

@@ -1,10 +1,11 @@
-use Rattle.std.proofs.Common.{arith, ap, refl, ◌∙◌, [], ◌∷◌, ◌++◌, replicate, ◌≡◌, length, map, List}
+use Rattle.std.proofs.Common.{arith, rules, ap, sym, refl, ◌∙◌, [], ◌∷◌, ◌++◌, replicate, ◌≡◌, length, map, List}
 use Rattle.std.proofs.lemmas.List.{length-map, length-replicate, map-append, replicate_more}
-use Rattle.jg_heap.specs.Kept.{objects_of, row_of}
+use Rattle.jg_heap.specs.Kept.{objects_of, row_of, Stored}
 use Rattle.jg_heap.proofs.Objects.{length-objects_of, more_of, stored_made}
 use Rattle.jg_heap.specs.Making.{Plain}
 use Rattle.jg_heap.specs.Rows.{Row, row_of_making}
 use Rattle.jg_heap.proofs.Collecting.{standing_new}
+use Rattle.jg_heap.proofs.Counting.{being_more}
 use Rattle.jg_heap.proofs.heap.Heap.new.Goals as goal
 
 pub returns-clause-stands : goal.returns-clause-stands
@@ -29,10 +30,19 @@ loop-class-preserved g c =
           ∙ ap (λ (rs : List Row). rs ++ row_of_making (Plain 1 []) ∷ []) c.loop-class.invariant.rows ∙ replicate_more c.loop-class.class (row_of_making (Plain 1 []));
       keeps = stored_made c.loop-class.objects.items _ c.loop-class.there.items _ [] [] 0 0 [] [] _ c.loop-class.class c.loop-class.invariant.keeps c.in_ok-push-2.ensures.items
           (omega arith) c.in_ok-push.ensures.items refl (λ whole. whole) (omega arith) refl;
+      all = being_more c.loop-class.there.items _ c.loop-class.class c.loop-class.invariant.all c.in_ok-push.ensures.items;
     }
 
 pub loop-class-init : goal.loop-class-init
 loop-class-init g c = rw (c.new-objects.ensures.items, c.new-there.ensures.items) (record {
   rows = refl;
   keeps = record { same = refl; keeps = record { flags = refl; whole = λ i d h. absurd (omega (arith, h)); order = omega arith; live = refl; pointing = refl } };
+  all = refl;
 })
+
+pub invariant_of-result : goal.invariant_of-result
+invariant_of-result g c =
+    let all : c.loop-class.class ≡ c.args.class_count = omega arith in
+    let stored : Stored c.loop-class.objects.items c.loop-class.there.items c.new-blocks.result.items 0 c.new-pointing.result.items = rw (c.new-blocks.ensures.items, c.new-pointing.ensures.items)
+    c.loop-class.invariant.keeps in
+    (stored, search rules, sym all ∙ c.loop-class.invariant.all)

@@ -32,4 +32,5 @@ invariant_of-self g c = (
   stored_written c.self.inside.objects.items c.self.inside.there.items _ _ _ c.args.object.0 c.index_mut.result.now c.set_field.new.self c.self.invariant.0
       (made_body c.self.inside.objects.items c.self.inside.there.items c.args.self.now.objects c.args.object.0 c.self.invariant.0.same (ap (λ (r : Rows). r.objects) c.self.view_is) c.requires.made) c.index_mut.ensures.value c.set_field.ensures.kind,
   c.self.invariant.1,
+  c.self.invariant.2,
 )

@@ -1,12 +1,13 @@
-use Rattle.std.proofs.Common.{◌≤◌, arith, ◌∙◌, ◌≡◌, ◌&&◌, ap, sym, subst, refl, get_or, false, not, eqb, length, map, List, ℕ, Bool}
+use Rattle.std.proofs.Common.{◌≤◌, ◌-◌, arith, ◌∙◌, ◌≡◌, ◌&&◌, ap, sym, subst, refl, get_or, false, not, eqb, length, map, List, ℕ, Bool}
 use Rattle.std.specs.Prelude.{filter}
 use Rattle.std.specs.List.{list_any}
 use Rattle.std.proofs.lemmas.List.{with_items_is, length-map}
 use Rattle.jg_heap.specs.Rows.{Row, Rows, KeepsShapes, row_in}
-use Rattle.jg_heap.specs.Kept.{objects_of, row_of, live_in, ended_row, numbers_in, AreWhole, Stored}
+use Rattle.jg_heap.specs.Kept.{objects_of, row_of, live_in, ended_row, numbers_in, trues, AreWhole, Stored}
 use Rattle.jg_heap.proofs.Objects.{length-objects_of, all_of, swept_of, stored_swept}
 use Rattle.jg_heap.proofs.Collecting.{rows_swept}
 use Rattle.jg_heap.proofs.Calls.{shapes_swept}
+use Rattle.jg_heap.proofs.Counting.{being_less}
 use Rattle.jg_heap.proofs.heap.Heap.sweep.Goals as goal
 
 pub let_all_go-requires : goal.let_all_go-requires
@@ -36,7 +37,18 @@ invariant_of-self g c =
           (c.close_up_if-self-inside.ensures.there loose))
           (subst (λ (bs : List Bool). AreWhole blocks (length bs)) seen c.close_up_if-self-inside.ensures.whole) c.retain_marked.ensures),
       subst (λ (bs : List Bool). length bs ≤ length c.self.inside.marks) flagged (omega (arith, count, c.self.invariant.1)),
+      subst (λ (bs : List Bool). c.self.inside.in_being - length unheld ≡ trues bs) flagged
+          (omega (arith, c.self.invariant.2, being_less bodies there marks unheld c.self.invariant.0.same listed flags count goes)),
     )
+
+pub overflow_sub-self : goal.overflow_sub-self
+overflow_sub-self g c =
+    let there = c.self.inside.there.items in
+    let listed = c.requires ∙ ap (λ (r : Rows). filter (λ o. not (get_or c.args.marks.now o false)) (live_in r.objects)) (sym c.self.view_is) in
+    let less = being_less c.self.inside.objects.items there c.args.marks.now c.args.unheld.now c.self.invariant.0.same listed c.let_all_go.new.there
+    (c.let_all_go.auto.there ∙ ap (λ (bs : List Bool). length bs) c.deref_mut.ensures.value)
+    (λ o. c.let_all_go.ensures o ∙ ap (λ (bs : List Bool). get_or bs o false && not (list_any (λ p. eqb p o) c.args.unheld.now)) c.deref_mut.ensures.value) in
+    omega (arith, c.self.invariant.2, less)
 
 pub returns-clause-stands : goal.returns-clause-stands
 returns-clause-stands g c e roots stands held =

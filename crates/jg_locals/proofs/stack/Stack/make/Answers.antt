@@ -4,7 +4,7 @@ use Rattle.std.proofs.lemmas.List.Elements.{filter-append}
 use Rattle.jg_locals.specs.declared.row.Frame.{Frame}
 use Rattle.jg_locals.specs.Seen.{dead_in, last, StackRows, is_live, frame_of, one_more, slot_made}
 use Rattle.jg_locals.proofs.Keeping.{opens_ascending, counts_fit, length-push, make_stacked}
-use Rattle.jg_locals.proofs.Dead.{dead-pushed}
+use Rattle.jg_locals.proofs.Dead.{dead-pushed, live-append, live-le}
 use Rattle.jg_locals.proofs.Opened.{recounted}
 use Rattle.jg_locals.proofs.stack.Stack.make.Goals as goal
 
@@ -24,6 +24,19 @@ invariant_of-self-2 g c =
     let above : All (λ s. s.n < c.args.n) (filter is_live c.self.inside.slots.items) = subst (λ (r : StackRows). All (λ s. s.n < c.args.n) r.locals) (sym c.self.view_is) c.requires.above in (
       rw c.in_ok-push.ensures.ok (make_stacked c.self.inside.slots.items c.self.inside.frames.items _ c.unwrap-top.result c.args.n c.args.object c.self.invariant.0 is above c.count_more.ensures.counted),
       omega (arith, ap dead_in c.in_ok-push.ensures.ok ∙ dead-pushed c.self.inside.slots.items _ refl, c.self.invariant.1),
+      omega (arith, ap (λ slots. length (filter is_live slots)) c.in_ok-push.ensures.ok ∙ live-append c.self.inside.slots.items (_ ∷ []), c.self.invariant.2),
+    )
+
+pub overflow_add-self : goal.overflow_add-self
+overflow_add-self g c =
+    let most : length c.push.new.self.items < 2 ^ 63 = search rules in
+    omega (arith, most, ap (λ slots. length (filter is_live slots)) c.in_ok-push.ensures.ok ∙ live-append c.self.inside.slots.items (_ ∷ []), live-le c.push.new.self.items, c.self.invariant.2)
+
+pub returns-clause-made : goal.returns-clause-made
+returns-clause-made g c =
+    let most : length c.push.new.self.items < 2 ^ 63 = search rules in (
+      omega (arith, ap (λ slots. length (filter is_live slots)) c.in_ok-push.ensures.ok ∙ live-append c.self.inside.slots.items (_ ∷ []), ap (λ (r : StackRows). length r.locals) c.self.view_is),
+      omega (arith, most, live-le c.push.new.self.items),
     )
 
 pub returns-clause-frames : goal.returns-clause-frames

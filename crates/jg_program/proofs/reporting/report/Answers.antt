@@ -1,0 +1,17 @@
+use Rattle.std.proofs.Common.{◌≡◌, ◌⊎◌, true, Result, string_bytes, subst, sym}
+use Rattle.jg_program.specs.declared.stop.Status.{Status}
+use Rattle.jg_program.specs.declared.stop.Stop.{Stop}
+use Rattle.jg_program.specs.About.{IsAbout}
+use Rattle.jg_program.specs.Reported.{Tells, TellsNothing, is_explained}
+use Rattle.jg_program.proofs.Reports.{reported}
+use Rattle.jg_program.proofs.reporting.report.Goals as goal
+
+pub returns-in-Err-ended : goal.returns-in-Err-ended
+returns-in-Err-ended c =
+    let r = c.args.reporting in
+    let s = c.args.guard.now.setup in
+    let h = c.args.guard.now.journal in
+    let about = string_bytes c.in-Ok.text in
+    let ending = c.report_stopped.result in
+    reported (IsAbout c.args.about c.args.ended) r s h about c.args.ended ending c.in-Ok.ensures.told
+    (subst (λ (e : Result Status Stop). Tells about r s h e ending ⊎ ((is_explained r ≡ true) × TellsNothing e ending)) (sym c.in-Err-ended.is) c.report_stopped.ensures)
