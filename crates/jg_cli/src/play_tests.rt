@@ -115,7 +115,7 @@ type Run = (
     &'static str,
 );
 
-const RUNS: [Run; 9] = [
+const RUNS: [Run; 11] = [
     (
         &["play", "one", "--setup", "app.toml"],
         Status::Done,
@@ -141,10 +141,22 @@ const RUNS: [Run; 9] = [
         "line 2: UnknownFunction\n",
     ),
     (
+        &["play", "faulty", "--explain", "1"],
+        Status::Faulty,
+        Some(""),
+        "line 2: UnknownFunction\nfield 3, column 6: Fly is no function\n",
+    ),
+    (
         &["play", "many"],
         Status::Faulty,
         Some(""),
         "line 65: TooManyThreads\n",
+    ),
+    (
+        &["play", "--explain=1", "many"],
+        Status::Faulty,
+        Some(""),
+        "line 65: TooManyThreads\nfield 1, column 1: T65 is one thread more than a file of scripts may have\n",
     ),
     (&["play", "most"], Status::Done, None, ""),
     (

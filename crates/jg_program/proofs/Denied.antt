@@ -1,27 +1,51 @@
--- Whether some call was denied, entry by entry from the oldest on.
-use Rattle.std.proofs.Common.{◌≡◌, ◌+◌, ◌≤◌, ◌||◌, ℕ, suc, Bool, true, false, List, ◌∷◌, drop, length, Some, refl, ap, ◌∙◌, arith, take_all}
-use Rattle.std.specs.Prelude.{reverse, slice_get}
-use Rattle.std.specs.List.{list_any}
-use Rattle.std.proofs.lemmas.List.{length-reverse, reverse-reverse}
-use Rattle.std.proofs.lemmas.List.Folds.{list_any-append}
-use Rattle.jg_lists.proofs.Oldest.{oldest, oldest_before, oldest_more}
+-- Some call was denied where fewer passed than there are.
+use Rattle.std.proofs.Common.{◌≡◌, ◌+◌, ◌<◌, ◌≤◌, ◌||◌, ℕ, suc, Bool, true, false, List, [], ◌∷◌, length, if◌then◌else◌, refl, arith}
+use Rattle.std.specs.Prelude.{◌==◌, nat_lt}
+use Rattle.std.specs.Option.{is_some}
+use Rattle.std.proofs.lemmas.Bool.Decides.{nat_tests}
+use Rattle.jg_words.specs.declared.entry.Outcome.{Outcome}
+use Rattle.jg_words.specs.declared.entry.Outcome.TheVariants.{Passed, Denied}
+use Rattle.jg_words.specs.declared.rule.Rule.{Rule}
+use Rattle.jg_words.specs.declared.rule.Rule.TheVariants.{WrongThread, Detached, InCritical, Pending, ForeignLocal, DeadReference, WrongRefKind, NullReference, WrongType, BadField, BadBuffer, BadArgument, Pinned, NotOwner, BadFrame, NoNativeAccess, NotLinked}
+use Rattle.jg_words.specs.Entry.{Entry, rule_in}
+use Rattle.jg_words.specs.Rule.{number_of}
+use Rattle.jg_guard.specs.Tally.{outcome_number, passed_in}
+use Rattle.jg_program.specs.Reported.{any_denied}
 
-or_true : (a b : Bool) → (a || (true || b)) ≡ true
-or_true true b = refl
-or_true false b = refl
+-- a denied call doesn't count as one that passed
+not_passed : (rule : Rule) → (number_of rule == 0) ≡ false
+not_passed WrongThread = refl
+not_passed Detached = refl
+not_passed InCritical = refl
+not_passed Pending = refl
+not_passed ForeignLocal = refl
+not_passed DeadReference = refl
+not_passed WrongRefKind = refl
+not_passed NullReference = refl
+not_passed WrongType = refl
+not_passed BadField = refl
+not_passed BadBuffer = refl
+not_passed BadArgument = refl
+not_passed Pinned = refl
+not_passed NotOwner = refl
+not_passed BadFrame = refl
+not_passed NoNativeAccess = refl
+not_passed NotLinked = refl
 
-module _ {X : Type 0} (test : X → Bool) (h : List X) (n : ℕ) where
-  pub none_more : (x : X) → slice_get (reverse h) n ≡ Some x → list_any test (oldest n h) ≡ false → test x ≡ false → list_any test (oldest (n + 1) h) ≡ false
-  none_more x there none isnt =
-      ap (list_any test) (oldest_more h n x there) ∙ ap (λ b. b || list_any test (oldest n h)) isnt ∙ none
+-- with one outcome more, where so many of these passed
+few_more : (b : Bool) (passed all : ℕ) → passed ≤ all → (if b then passed + 1 else passed) ≤ suc all
+few_more true passed all few = omega (arith, few)
+few_more false passed all few = omega (arith, few)
 
-  pub some_there : (x : X) → slice_get (reverse h) n ≡ Some x → test x ≡ true → list_any test h ≡ true
-  some_there x there is =
-      let later : List X = reverse (drop (suc n) (reverse h)) in
-      ap (list_any test) (oldest_before h n x there) ∙ list_any-append test later (x ∷ oldest n h)
-      ∙ ap (λ b. list_any test later || (b || list_any test (oldest n h))) is ∙ or_true (list_any test later) (list_any test (oldest n h))
+few_pass : (h : List Entry) → passed_in h ≤ length h
+few_pass [] = omega arith
+few_pass (x ∷ h) = few_more (outcome_number x.outcome == 0) (passed_in h) (length h) (few_pass h)
 
-  pub none_at_all : length h ≤ n → list_any test (oldest n h) ≡ false → list_any test h ≡ false
-  none_at_all all none =
-      let whole : oldest n h ≡ h = ap reverse (take_all n (reverse h) (omega (arith, all, length-reverse h))) ∙ reverse-reverse h in
-      rw whole at none
+one_more : (outcome : Outcome) (passed all : ℕ) (any : Bool) → passed ≤ all → nat_lt passed all ≡ any
+    → nat_lt (if outcome_number outcome == 0 then passed + 1 else passed) (suc all) ≡ (is_some (rule_in outcome) || any)
+one_more (Passed reply) passed all any few is = grind (arith, nat_tests, is)
+one_more (Denied rule) passed all any few is = rw (not_passed rule) (grind (arith, nat_tests, few))
+
+pub fewer_pass : (h : List Entry) → nat_lt (passed_in h) (length h) ≡ any_denied h
+fewer_pass [] = refl
+fewer_pass (x ∷ h) = one_more x.outcome (passed_in h) (length h) (any_denied h) (few_pass h) (fewer_pass h)

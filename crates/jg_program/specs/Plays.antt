@@ -10,7 +10,7 @@ use Rattle.jg_script.specs.declared.run_fault.RunFault.{RunFault}
 use Rattle.jg_script.specs.declared.run_fault.RunFault.TheVariants.{NoMemory, Write}
 use Rattle.jg_script.specs.declared.scripts.Lines.{Lines}
 use Rattle.jg_script.specs.Checked.{WritesAll}
-use Rattle.jg_script.specs.ScriptFile.{ReadsScripts}
+use Rattle.jg_script.specs.ScriptFile.{HoldsRefused, ReadsScripts}
 use Rattle.jg_script.specs.Written.{WritesJournal}
 use Rattle.jg_shell.specs.declared.account.Stop.{Stop as WorkerStop}
 use Rattle.jg_shell.specs.Finish.{IsWrongReceipt, IsUntoldEntry}
@@ -23,7 +23,8 @@ use Rattle.jg_program.specs.declared.stop.Status.{Status}
 use Rattle.jg_program.specs.declared.stop.Status.TheVariants.{Done}
 use Rattle.jg_program.specs.declared.stop.Stop.{Stop}
 use Rattle.jg_program.specs.declared.stop.Stop.TheVariants.{Arguments, Setup, SetupRead, Run, Leaks, Summary, Explain, Mismatch, Worker}
-use Rattle.jg_program.specs.Reported.{EndsQuietly, Reports}
+use Rattle.jg_program.specs.About.{IsAboutScript}
+use Rattle.jg_program.specs.Reported.{EndsQuietly, EndsTelling, Reports, is_explained}
 
 -- the workers have run the scripts, one for each, in their order
 abbrev pub HaveRun : ℕ → List Lines → List Work → Type 0
@@ -94,13 +95,16 @@ abbrev pub PlaysOut : Reporting → ℕ → List Lines → Option (List ℕ) →
 PlaysOut r turns scripts bytes bytes' ending = ((workers : List Work) × HaveRun turns scripts workers
     × Settles r workers bytes bytes' ending) ⊎ (EndsQuietly (Setup NoRoom) ending × Keeps bytes bytes')
 
--- what reading the scripts of a file did, of which the bytes may be known, or memory ran out before its first byte
-abbrev pub ReadsFile : Option (List ℕ) → Result (List Lines) RunFault → Type 0
-ReadsFile known result = ((rest : Option (List ℕ)) × ReadsScripts known rest result) ⊎ (result ≡ Err (NoMemory 1))
+-- what reading the scripts of a file did, of which the bytes may be known, or memory ran out before its first byte; this
+-- line is the one that is refused, if one is
+abbrev pub ReadsFile : Option (List ℕ) → List ℕ → Result (List Lines) RunFault → Type 0
+ReadsFile known line result = ((rest : Option (List ℕ)) × ReadsScripts known rest result × HoldsRefused known line result)
+    ⊎ (result ≡ Err (NoMemory 1))
 
--- how playing the scripts of a file ended: they were read and then played; or they weren't read to their end, and nothing
--- was written
+-- how playing the scripts of a file ended: they were read and then played; or they weren't read to their end, of which is
+-- told what is asked for, and nothing was written
 abbrev pub EndsPlay : Reporting → ℕ → Option (List ℕ) → Option (List ℕ) → Option (List ℕ) → Ending → Type 0
-EndsPlay r turns known bytes bytes' ending =
-    ((scripts : List Lines) × ReadsFile known (Ok scripts) × PlaysOut r turns scripts bytes bytes' ending)
-    ⊎ ((fault : RunFault) × EndsQuietly (Run fault) ending × Keeps bytes bytes' × ReadsFile known (Err fault))
+EndsPlay r turns known bytes bytes' ending = (line : List ℕ) × (((scripts : List Lines) × ReadsFile known line (Ok scripts)
+    × PlaysOut r turns scripts bytes bytes' ending)
+    ⊎ ((fault : RunFault) × ReadsFile known line (Err fault)
+    × EndsTelling (is_explained r) (IsAboutScript line (Err (Run fault))) (Run fault) ending × Keeps bytes bytes'))

@@ -1,8 +1,10 @@
 //! What there is to tell of where the program stops: of the faulty line of a script, the line at which a journal
 //! differs, or the words after the program's name. It is told with explanations only.
 
-ghost use Rattle.std.specs.Prelude.{◌≡◌, ◌++◌, [], false, List, ℕ, OnOk, string_bytes};
-ghost use Rattle.jg_program.specs.About.{IsAbout, IsDifferenceText};
+ghost use Rattle.std.specs.Prelude.{◌≡◌, ◌++◌, [], true, Err, List, ℕ, IfOk, OnErr, OnOk, string_bytes};
+ghost use Rattle.jg_program.specs.declared.stop.Stop.TheVariants.{Run};
+ghost use Rattle.jg_program.specs.About.{IsAbout, IsAboutScript, IsDifferenceText};
+ghost use Rattle.jg_program.specs.Reported.{EndsTelling, IsToldIf};
 
 use crate::stop::{Ending, Status, Stop, quietly, telling};
 use jg_args::{ArgsFault, refused_word};
@@ -102,6 +104,21 @@ fn push_difference(
     out.push_str(words.as_str())
 }
 
+/// Adds where in the faulty line of a script the fault stands, where the work ended at one.
+fn push_about_script(
+    line: &[u8],
+    ended: Result<Status, Stop>,
+    out: &mut String,
+) -> Result<(), AllocError>
+    ensures { OnOk result ((text : List ℕ) × IsAboutScript line.now ended text
+        × (string_bytes out.new ≡ string_bytes out.old ++ text)) }
+{
+    match ended {
+        Err(Stop::Run(RunFault::Script { fault, .. })) => push_line_fault(out, line, fault),
+        _ => Ok(()),
+    }
+}
+
 /// Adds what there is to tell of where the work of this guard stopped, where it ended so.
 pub fn push_about(
     alloc: Global,
@@ -115,15 +132,41 @@ pub fn push_about(
 {
     match about {
         About::Nothing => Ok(()),
-        About::Script(line) => match ended {
-            Err(Stop::Run(RunFault::Script { fault, .. })) => push_line_fault(out, line, fault),
-            _ => Ok(()),
-        },
+        About::Script(line) => push_about_script(line, ended, out),
         About::Journal(Replayed::Legal, _) => Ok(()),
         About::Journal(Replayed::Differs { line: number, how }, line) => {
             push_difference(alloc, guard, number, how, line, out)
         }
     }
+}
+
+/// Where in its line a file of scripts has this fault; nothing without explanations.
+fn script_fault_text(
+    alloc: Global,
+    explained: bool,
+    line: &[u8],
+    fault: RunFault,
+) -> Result<String, AllocError>
+    ensures told { IfOk result (λ text. IsToldIf explained (IsAboutScript line.now (Err (Run fault)))
+        (string_bytes text)) }
+    ensures refused { OnErr result (explained ≡ true) }
+{
+    let mut text = String::new(alloc);
+    if explained {
+        push_about_script(line, Err(Stop::Run(fault)), &mut text)?;
+    }
+    Ok(text)
+}
+
+/// How the program ends where a file of scripts wasn't read to its end, for this fault; `line` is the line that is
+/// refused, if one is.
+pub fn end_unread(alloc: Global, explained: bool, line: &[u8], fault: RunFault) -> Ending
+    ensures { EndsTelling explained (IsAboutScript line.now (Err (Run fault))) (Run fault) result }
+{
+    telling(
+        Stop::Run(fault),
+        script_fault_text(alloc, explained, line, fault),
+    )
 }
 
 /// The word at which the words are refused; empty where explanations aren't asked for.

@@ -13,12 +13,12 @@ ghost use Rattle.jg_shell.specs.Work.{AreApart};
 ghost use Rattle.jg_program.specs.Plays.{AreReceipts, EndsPlay, HandsOut, PlaysOut, ReadsFile, Settles, SettlesBy, TellsDifference, first_stop_of};
 ghost use Rattle.jg_program.specs.Reported.{Reports};
 
-use crate::about::About;
+use crate::about::{About, end_unread};
 use crate::reporting::{Reporting, report};
 use crate::stop::{Ending, Status, Stop, quietly};
 use jg_guard::Guard;
 use jg_policy::{Setup, SetupFault};
-use jg_script::{HandsOn, RunFault, Scripts, Watched, read_scripts, write_journal};
+use jg_script::{HandsOn, RunFault, Scripts, Watched, read_script_lines, write_journal};
 use jg_shell::{FinishFault, Finished, Meeting, SharedGuard, Worker, finish, play};
 use jg_words::Tid;
 use std::alloc::Global;
@@ -208,14 +208,19 @@ fn play_scripts<L: Ledger + Send + Sync, T: Threads + Wait + Sync, W: HandsOn>(
     settle(alloc, reporting, shared, workers, out)
 }
 
-/// The scripts of a file.
-fn scripts_in<F: Read + Drop>(alloc: Global, file: F) -> Result<Scripts, RunFault>
-    ensures { ReadsFile (F.remaining file) result }
+/// The scripts of a file. `line` is room for one of its lines, and holds the one that is refused at the end, if there is
+/// one.
+fn scripts_in<F: Read + Drop>(
+    alloc: Global,
+    file: F,
+    line: &mut Vec<u8>,
+) -> Result<Scripts, RunFault>
+    ensures { ReadsFile (F.remaining file) line.new.items result }
 {
     let Ok(reader) = BufReader::with_capacity(alloc, BUFFER, file) else {
         return Err(RunFault::NoMemory { line: 1 });
     };
-    read_scripts(alloc, &mut Watched::new(reader))
+    read_script_lines(alloc, &mut Watched::new(reader), line)
 }
 
 /// Plays the scripts of the file under this setup, and writes the journal. A busy monitor is tried
@@ -234,13 +239,14 @@ pub fn play_file<T: Threads + Wait + Sync, F: Read + Drop, W: HandsOn>(
     ensures ends { EndsPlay reporting turns (F.remaining file) (W.contents out.old.device)
         (W.contents out.new.device) result }
 {
-    match scripts_in(alloc, file) {
+    let mut line = Vec::new(alloc);
+    match scripts_in(alloc, file, &mut line) {
         Ok(scripts) => {
             let blank = Blank::new(64);
             play_scripts::<Brand, _, _>(
                 rt, alloc, reporting, blank, setup, limit, turns, scripts, out,
             )
         }
-        Err(fault) => quietly(alloc, Err(Stop::Run(fault))),
+        Err(fault) => end_unread(alloc, reporting.explain > 0, &line, fault),
     }
 }

@@ -3,12 +3,13 @@ use Rattle.std.proofs.Common.{◌≡◌, ℕ, ◌+◌, ◌≤◌, ◌==◌, Bool
 use Rattle.std.specs.Io.KnownBytes.{Consumes, IsAtEnd}
 use Rattle.std.proofs.KnownBytes.{Consumes-trans}
 use Rattle.std.proofs.lemmas.List.{map-append}
+use Rattle.jg_text.specs.declared.fault.ScriptFault.{ScriptFault}
 use Rattle.jg_text.specs.declared.fault.ScriptFault.TheVariants.{LineTooLong}
 use Rattle.jg_text.specs.Spelling.{Spells}
 use Rattle.jg_script.specs.Checked.{IsWellFormed}
 use Rattle.jg_script.specs.Devices.{TakesFront}
 use Rattle.jg_script.specs.TextLines.{LinesTaken, BeginsTooLong}
-use Rattle.jg_script.specs.ScriptFile.{CallLine, text_of, file_text, AreSpelt, lines_by, IsFile, IsRefused, ReadsScripts}
+use Rattle.jg_script.specs.ScriptFile.{CallLine, text_of, file_text, AreSpelt, lines_by, HoldsRefused, IsFile, IsRefused, ReadsScripts}
 use Rattle.jg_script.specs.Threads.{Adds, TakesLine}
 use Rattle.jg_script.specs.declared.run_fault.RunFault.{RunFault}
 use Rattle.jg_script.specs.declared.run_fault.RunFault.TheVariants.{Script, Limit, NoMemory, Read, Write}
@@ -89,12 +90,15 @@ module _ (input mid input' : Option (List ℕ)) (n : ℕ) (old : List Lines) (h 
   all_read none done =
       (h.file, h.is_file, ended input input' _ (subst (λ (ls : List (List ℕ)). LinesTaken input input' ls) (append-nil (map text_of h.file)) (lines_more input mid input' _ _ h.read none)) done, done)
 
-  pub refused : (new : List Lines) (text : List ℕ) (fault : RunFault) → TakesLine text n old new (Err fault) → LinesTaken mid input' (text ∷ []) → TakesFront mid input' → ReadsScripts input input' (Err fault)
-  refused new text (Script l f) (is, inl first) line front =
-      (h.file, (old, h.is_file, followed input input' _ text (IsRefused h.file old f) (lines_more input mid input' _ _ h.read line) (inl first)), is ∙ h.counted, one_more input mid input' _ h.taken front)
-  refused new text (Script l f) (is, inr (many, all, within, new_thread)) line front =
+  is_refused : (new : List Lines) (text : List ℕ) (l : ℕ) (f : ScriptFault) → TakesLine text n old new (Err (Script l f)) → IsRefused h.file old f text
+  is_refused new text l f (is, inl first) = inl first
+  is_refused new text l f (is, inr (many, all, within, new_thread)) =
       let counted = h.counted in
-      (h.file, (old, h.is_file, followed input input' _ text (IsRefused h.file old f) (lines_more input mid input' _ _ h.read line) (inr (many, all, omega arith, new_thread))), is ∙ h.counted, one_more input mid input' _ h.taken front)
+      inr (many, all, omega arith, new_thread)
+
+  pub refused : (new : List Lines) (text : List ℕ) (fault : RunFault) → TakesLine text n old new (Err fault) → LinesTaken mid input' (text ∷ []) → TakesFront mid input' → ReadsScripts input input' (Err fault)
+  refused new text (Script l f) takes line front =
+      (h.file, (old, h.is_file, followed input input' _ text (IsRefused h.file old f) (lines_more input mid input' _ _ h.read line) (is_refused new text l f takes)), takes.0 ∙ h.counted, one_more input mid input' _ h.taken front)
   refused new text (Limit l) (is, past, well) line front =
       let counted = h.counted in
       let few = h.is_file.few_lines in
@@ -102,6 +106,14 @@ module _ (input mid input' : Option (List ℕ)) (n : ℕ) (old : List Lines) (h 
   refused new text (NoMemory l) is line front = (h.file, (old, h.is_file), begun input mid _ h.read, is ∙ h.counted, one_more input mid input' _ h.taken front)
   refused new text (Read l) none line front = absurd none
   refused new text (Write l) none line front = absurd none
+
+  pub holds_refused : (new : List Lines) (text : List ℕ) (fault : RunFault) → TakesLine text n old new (Err fault) → LinesTaken mid input' (text ∷ []) → HoldsRefused input text (Err fault)
+  holds_refused new text (Script l f) takes line =
+      λ short. (h.file, (old, h.is_file, followed input input' _ text (λ next. next ≡ text) (lines_more input mid input' _ _ h.read line) refl, is_refused new text l f takes), takes.0 ∙ h.counted)
+  holds_refused new text (Limit l) takes line = tt
+  holds_refused new text (NoMemory l) takes line = tt
+  holds_refused new text (Read l) takes line = tt
+  holds_refused new text (Write l) takes line = tt
 
   pub too_long : BeginsTooLong mid → TakesFront mid input' → ReadsScripts input input' (Err (Script n LineTooLong))
   too_long long front = (h.file, (old, h.is_file, followed_by_more input _ _ (IsRefused h.file old LineTooLong) (λ next first. inl first) (followed_by_long input mid _ h.read long)), h.counted, one_more input mid input' _ h.taken front)

@@ -1,12 +1,12 @@
 -- The scripts of several threads, which stand in one file, a line for each call.
-use Rattle.std.specs.Prelude.{◌≡◌, ◌<◌, ◌≤◌, ◌+◌, ◌==◌, ℕ, List, [], ◌∷◌, ◌++◌, length, map, vec_len, All, AllPairs, Option, Result, Ok, Err, ◌⊎◌, if◌then◌else◌}
+use Rattle.std.specs.Prelude.{◌≡◌, ◌≢◌, ◌<◌, ◌≤◌, ◌+◌, ◌==◌, ℕ, List, [], ◌∷◌, ◌++◌, length, map, vec_len, All, AllPairs, Option, Result, Ok, Err, ◌⊎◌, if◌then◌else◌}
 use Rattle.std.specs.List.{AllByRecursion}
 use Rattle.std.specs.Io.KnownBytes.{IsAtEnd}
 use Rattle.jg_words.specs.declared.thread.Tid.{Tid}
 use Rattle.jg_words.specs.declared.thread.EnvId.{EnvId}
 use Rattle.jg_words.specs.declared.call.Call.{Call}
 use Rattle.jg_text.specs.declared.fault.ScriptFault.{ScriptFault}
-use Rattle.jg_text.specs.declared.fault.ScriptFault.TheVariants.{TooManyThreads}
+use Rattle.jg_text.specs.declared.fault.ScriptFault.TheVariants.{LineTooLong, TooManyThreads}
 use Rattle.jg_text.specs.Spelling.{Spells, spelling}
 use Rattle.jg_text.specs.Words.{FitsTid, FitsEnv}
 use Rattle.jg_text.specs.Operands.{FitsCall}
@@ -91,3 +91,14 @@ ReadsScripts input input' (Err (NoMemory line)) = (file : List CallLine) × ((sc
 ReadsScripts input input' (Err (Read line)) = (file : List CallLine) × ((scripts : List Lines) × IsFile file scripts)
     × BeginsWith input (map text_of file) × (line ≡ length file + 1) × ReadsOneMore input input' (file_text file)
 ReadsScripts input input' (Err (Write line)) = ⊥
+
+-- where reading ended at a line that is refused and isn't too long, the room for a line `text` holds just that line
+abbrev pub HoldsRefused : Option (List ℕ) → List ℕ → Result (List Lines) RunFault → Type 0
+HoldsRefused input text (Ok scripts) = Unit {0}
+HoldsRefused input text (Err (Script line fault)) = fault ≢ LineTooLong → (file : List CallLine) × ((scripts : List Lines)
+    × IsFile file scripts × AreFollowedBy input (map text_of file) (λ next. next ≡ text) × IsRefused file scripts fault text)
+    × (line ≡ length file + 1)
+HoldsRefused input text (Err (Limit line)) = Unit {0}
+HoldsRefused input text (Err (NoMemory line)) = Unit {0}
+HoldsRefused input text (Err (Read line)) = Unit {0}
+HoldsRefused input text (Err (Write line)) = Unit {0}

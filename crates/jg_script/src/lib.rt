@@ -25,5 +25,5 @@ pub use outcome::outcome_in;
 pub use replay::{Difference, Replayed, Verdict, replay_journal, verify};
 pub use run::{check, check_lines};
 pub use run_fault::RunFault;
-pub use scripts::{Line, Lines, MAX_LINES, MAX_THREADS, Scripts, read_scripts};
+pub use scripts::{Line, Lines, MAX_LINES, MAX_THREADS, Scripts, read_script_lines, read_scripts};
 pub use watched::{DeviceFailed, Watched};

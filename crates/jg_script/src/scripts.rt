@@ -2,7 +2,7 @@
 
 ghost use Rattle.std.specs.Prelude.{◌≡◌, ◌<◌, ◌≤◌, [], ◌∷◌, length, vec_len, IfOk, IfErr, OnOk};
 ghost use Rattle.jg_script.specs.Checked.{ReaderFails};
-ghost use Rattle.jg_script.specs.ScriptFile.{Ascend, ReadsScripts};
+ghost use Rattle.jg_script.specs.ScriptFile.{Ascend, HoldsRefused, ReadsScripts};
 ghost use Rattle.jg_script.specs.Threads.{IsAt, IsGap, Adds, NotAdded, TakesLine};
 
 use crate::line::{Taken, next_line};
@@ -148,19 +148,20 @@ fn take_line(
     add(alloc, threads, tid, Line { env, call }, number)
 }
 
-/// Reads the scripts of several threads, which stand in one file: a line for each call, the lines
-/// of a thread in their order. At most 1,000,000 lines of at most 64 threads are taken: a call on a
-/// line after these is `Limit`, and one of a 65th thread `TooManyThreads`. Nothing is read after the
-/// first line that is refused. `Read` comes only where the device failed, which is then marked so;
-/// `NoMemory` may come at any line; `Write` isn't answered.
-pub fn read_scripts<R: BufRead>(alloc: Global, reader: &mut Watched<R>) -> Result<Scripts, RunFault>
+/// Reads the scripts of a file as `read_scripts` does. `text` is room for a line: what it held is lost. After
+/// `Script` it holds the line that is refused, without its line feed, unless that is too long.
+pub fn read_script_lines<R: BufRead>(
+    alloc: Global,
+    reader: &mut Watched<R>,
+    text: &mut Vec<u8>,
+) -> Result<Scripts, RunFault>
     ensures reads { ReadsScripts (R.remaining reader.old.device) (R.remaining reader.new.device) result }
+    ensures refused { HoldsRefused (R.remaining reader.old.device) text.new.items result }
     ensures reader { ReaderFails reader.old.failed reader.new.failed result }
 {
     let mut threads = Vec::new(alloc);
-    let mut text = Vec::new(alloc);
     for line in 1..MAX_LINES + 2 {
-        let taken = match next_line(reader, &mut text) {
+        let taken = match next_line(reader, text) {
             Ok(taken) => taken,
             Err(LineFault::Read) => return Err(RunFault::Read { line }),
             Err(LineFault::NoMemory) => return Err(RunFault::NoMemory { line }),
@@ -174,12 +175,12 @@ pub fn read_scripts<R: BufRead>(alloc: Global, reader: &mut Watched<R>) -> Resul
                 });
             }
             Taken::Line => {
-                if let Err(fault) = take_line(alloc, &mut threads, &text, line) {
+                if let Err(fault) = take_line(alloc, &mut threads, text, line) {
                     return Err(fault);
                 }
             }
             Taken::LastLine => {
-                return match take_line(alloc, &mut threads, &text, line) {
+                return match take_line(alloc, &mut threads, text, line) {
                     Ok(()) => Ok(Scripts { threads }),
                     Err(fault) => Err(fault),
                 };
@@ -187,4 +188,17 @@ pub fn read_scripts<R: BufRead>(alloc: Global, reader: &mut Watched<R>) -> Resul
         }
     }
     unreachable!()
+}
+
+/// Reads the scripts of several threads, which stand in one file: a line for each call, the lines
+/// of a thread in their order. At most 1,000,000 lines of at most 64 threads are taken: a call on a
+/// line after these is `Limit`, and one of a 65th thread `TooManyThreads`. Nothing is read after the
+/// first line that is refused. `Read` comes only where the device failed, which is then marked so;
+/// `NoMemory` may come at any line; `Write` isn't answered.
+pub fn read_scripts<R: BufRead>(alloc: Global, reader: &mut Watched<R>) -> Result<Scripts, RunFault>
+    ensures reads { ReadsScripts (R.remaining reader.old.device) (R.remaining reader.new.device) result }
+    ensures reader { ReaderFails reader.old.failed reader.new.failed result }
+{
+    let mut text = Vec::new(alloc);
+    read_script_lines(alloc, reader, &mut text)
 }

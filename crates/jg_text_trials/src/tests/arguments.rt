@@ -10,6 +10,7 @@ const DEFAULTS: Asked<'static> = Asked {
     strict: false,
     turns: 1000,
     leaks: false,
+    summary: false,
 };
 
 const STATUSES: &str =
@@ -29,11 +30,12 @@ const READ: [(&[&str], Asked<'static>); 13] = [
     ),
     (&["check", "--explain", "0"], DEFAULTS),
     (
-        &["check", "--strict", "--explain=3", "--leaks"],
+        &["check", "--strict", "--explain=3", "--leaks", "--summary"],
         Asked {
             explain: 3,
             strict: true,
             leaks: true,
+            summary: true,
             ..DEFAULTS
         },
     ),

@@ -119,6 +119,7 @@ const DEFAULTS: Asked<'static> = Asked {
     strict: false,
     turns: 1000,
     leaks: false,
+    summary: false,
 };
 
 /// Words of command lines, and what they ask for, or why they ask for nothing.

@@ -1,6 +1,6 @@
 use Rattle.std.proofs.Common.{◌≡◌}
 use Rattle.jg_script.proofs.Filing.{HasRead}
-use Rattle.jg_script.proofs.scripts.read_scripts.Given as goal
+use Rattle.jg_script.proofs.scripts.read_script_lines.Given as goal
 
 abbrev pub invariant-loop-line : goal.invariant-loop-line
 invariant-loop-line g l = record {
