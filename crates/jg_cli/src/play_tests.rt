@@ -144,7 +144,7 @@ const RUNS: [Run; 11] = [
         &["play", "faulty", "--explain", "1"],
         Status::Faulty,
         Some(""),
-        "line 2: UnknownFunction\nfield 3, column 6: Fly is no function\n",
+        "line 2: UnknownFunction\nfield 3, column 6: Fly is no function; a function of the JNI is wanted\n",
     ),
     (
         &["play", "many"],
