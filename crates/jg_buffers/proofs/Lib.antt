@@ -8,4 +8,6 @@ pub mod Means
 pub mod Numbers
 pub mod Ordered
 pub mod Pins
+pub mod Released
 pub mod Steps
+pub mod Taken

@@ -1,6 +1,6 @@
 -- What the lists of buffers have.
 use Rattle.std.proofs.Common.{◌≡◌, ◌<◌, ◌+◌, ℕ, Bool, true, false, List, [], ◌∷◌, ◌++◌, length, get_or, take, Option, Some, None, refl, ◌∙◌, ap, sym, subst, eqb-true}
-use Rattle.std.specs.Prelude.{◌==◌, if◌then◌else◌, filter, map}
+use Rattle.std.specs.Prelude.{ℤ, ◌==◌, if◌then◌else◌, filter, map}
 use Rattle.std.specs.BTreeMap.{is_at}
 use Rattle.std.specs.Cmp.{nat_cmp_total, eq_by_cmp_equiv}
 use Rattle.std.specs.Map.{keys_of}
@@ -33,23 +33,23 @@ listed_left key left rest old new whole is now was =
     ∙ ap (λ l. old ++ map key_name l) (sym is)
     ∙ was
 
-copy_names : {A : Type 0} (es : List ((ℕ × ℕ) × Copied A)) → map name_of (map copy_seen es) ≡ map key_name (keys_of es)
-copy_names es = map-map name_of copy_seen es ∙ sym (map-map key_name (λ e. e.0) es)
+copy_names : {I : Type 0} (shows : I → List ℤ) (es : List ((ℕ × ℕ) × Copied I)) → map name_of (map (copy_seen shows) es) ≡ map key_name (keys_of es)
+copy_names shows es = map-map name_of (copy_seen shows) es ∙ sym (map-map key_name (λ e. e.0) es)
 
 pin_names : (es : List ((ℕ × ℕ) × Pinned)) → map name_of (map pin_seen es) ≡ map (λ e. key_name e.0) es
 pin_names es = map-map name_of pin_seen es
 
 -- the names of both kinds are those of the rows that the table shows
-pub listed_law : {A : Type 0} (rows : Rows) (copies : List ((ℕ × ℕ) × Copied A)) (pins : List ((ℕ × ℕ) × Pinned)) (old mid new : List BufId)
-    → record { lent = map copy_seen copies ++ map pin_seen pins } ≡ rows
+pub listed_law : {I : Type 0} (shows : I → List ℤ) (rows : Rows) (copies : List ((ℕ × ℕ) × Copied I)) (pins : List ((ℕ × ℕ) × Pinned)) (old mid new : List BufId)
+    → record { lent = map (copy_seen shows) copies ++ map pin_seen pins } ≡ rows
     → mid ≡ old ++ map key_name (keys_of copies)
     → new ≡ mid ++ map (λ (e : (ℕ × ℕ) × Pinned). key_name e.0) pins
     → new ≡ old ++ map name_of rows.lent
-listed_law rows copies pins old mid new seen first second =
+listed_law shows rows copies pins old mid new seen first second =
     let P : Rows → Type 0 = λ r. new ≡ old ++ map name_of r.lent in
-    let names : map name_of (map copy_seen copies ++ map pin_seen pins) ≡ map key_name (keys_of copies) ++ map (λ (e : (ℕ × ℕ) × Pinned). key_name e.0) pins =
-    map-append name_of (map copy_seen copies) (map pin_seen pins)
-    ∙ ap (λ l. l ++ map name_of (map pin_seen pins)) (copy_names copies)
+    let names : map name_of (map (copy_seen shows) copies ++ map pin_seen pins) ≡ map key_name (keys_of copies) ++ map (λ (e : (ℕ × ℕ) × Pinned). key_name e.0) pins =
+    map-append name_of (map (copy_seen shows) copies) (map pin_seen pins)
+    ∙ ap (λ l. l ++ map name_of (map pin_seen pins)) (copy_names shows copies)
     ∙ ap (λ l. map key_name (keys_of copies) ++ l) (pin_names pins) in
     let listed = second
     ∙ ap (λ l. l ++ map (λ (e : (ℕ × ℕ) × Pinned). key_name e.0) pins) first

@@ -1,6 +1,6 @@
 -- What the look-ups answer where the rows stand.
 use Rattle.std.proofs.Common.{◌≡◌, ℕ, ◌<◌, length, Bool, true, false, List, [], ◌++◌, Option, Some, None, refl, ◌∙◌, ap, sym, subst, arith, zero-add}
-use Rattle.std.specs.Prelude.{ℤ, pos, if◌then◌else◌, map, find, slice_index_or}
+use Rattle.std.specs.Prelude.{◌&&◌, ℤ, pos, if◌then◌else◌, map, find, slice_index_or}
 use Rattle.std.specs.List.{range_with_len}
 use Rattle.std.specs.Option.{option_map}
 use Rattle.std.specs.Map.{lookup}
@@ -11,7 +11,7 @@ use Rattle.jg_buffers.specs.declared.copied.Copied.{Copied}
 use Rattle.jg_buffers.specs.declared.pinned.PinKind.{PinKind}
 use Rattle.jg_buffers.specs.declared.pinned.PinKind.TheVariants.{Array, String}
 use Rattle.jg_buffers.specs.declared.pinned.Pinned.{Pinned}
-use Rattle.jg_buffers.specs.History.{Buffer, Event, is_critical, opened, content, items_of, contents, info_of}
+use Rattle.jg_buffers.specs.History.{Buffer, Event, is_critical, copied_only, opened, content, items_of, contents, info_of}
 use Rattle.jg_lists.specs.ByMaker.{same_name}
 use Rattle.jg_buffers.specs.Rows.{Rows, is_buffer, row_of, copy_length, items_in, IsAbove}
 use Rattle.jg_buffers.specs.Seen.{copy_seen, pin_seen, copy_family, pin_family}
@@ -26,12 +26,13 @@ reopened a b e is stands =
     subst P (sym is) stands
 
 -- the row of a buffer is what the look-ups find
-pub row_is : {A : Type 0} (es : List ((ℕ × ℕ) × Copied A)) (fs : List ((ℕ × ℕ) × Pinned)) (rows : Rows) (m n : ℕ) → record { lent = map copy_seen es ++ map pin_seen fs } ≡ rows
-    → row_of m n rows ≡ first_of (option_map (λ w. copy_seen ((m, n), w)) (lookup (same_name (m, n)) es)) (option_map (λ w. pin_seen ((m, n), w)) (lookup (same_name (m, n)) fs))
-row_is es fs rows m n is =
-    ap (row_of m n) (sym is) ∙ (find_both (is_buffer m n) (map copy_seen es) (map pin_seen fs)
-    ∙ (ap (λ c. first_of c (find (is_buffer m n) (map pin_seen fs))) (found_row copy_seen (λ i j e. refl) m n es)
-    ∙ ap (first_of (option_map (λ w. copy_seen ((m, n), w)) (lookup (same_name (m, n)) es))) (found_row pin_seen (λ i j e. refl) m n fs)))
+pub row_is : {I : Type 0} (shows : I → List ℤ) (es : List ((ℕ × ℕ) × Copied I)) (fs : List ((ℕ × ℕ) × Pinned)) (rows : Rows) (m n : ℕ)
+    → record { lent = map (copy_seen shows) es ++ map pin_seen fs } ≡ rows
+    → row_of m n rows ≡ first_of (option_map (λ w. copy_seen shows ((m, n), w)) (lookup (same_name (m, n)) es)) (option_map (λ w. pin_seen ((m, n), w)) (lookup (same_name (m, n)) fs))
+row_is shows es fs rows m n is =
+    ap (row_of m n) (sym is) ∙ (find_both (is_buffer m n) (map (copy_seen shows) es) (map pin_seen fs)
+    ∙ (ap (λ c. first_of c (find (is_buffer m n) (map pin_seen fs))) (found_row (copy_seen shows) (λ i j e. refl) m n es)
+    ∙ ap (first_of (option_map (λ w. copy_seen shows ((m, n), w)) (lookup (same_name (m, n)) es))) (found_row pin_seen (λ i j e. refl) m n fs)))
 
 info_now : (e : List Event) (m n : ℕ) (found : Option Buffer) → option_map info_of (row_now e m n found) ≡ option_map info_of found
 info_now e m n None = refl
@@ -71,19 +72,20 @@ pub pins_critical : (k : PinKind) → is_critical (pin_family k) ≡ true
 pins_critical Array = refl
 pins_critical String = refl
 
-long_by : {A : Type 0} (q : ℕ × ℕ) (copy : Option (Copied A)) (pin : Option Pinned)
-    → copy_length (first_of (option_map (λ w. copy_seen (q, w)) copy) (option_map (λ w. pin_seen (q, w)) pin))
-    ≡ length (items_in (first_of (option_map (λ w. copy_seen (q, w)) copy) (option_map (λ w. pin_seen (q, w)) pin)))
-long_by q (Some w) pin = rw (copies_free w.kind) refl
-long_by q None None = refl
-long_by q None (Some w) = rw (pins_critical w.kind) refl
+long_by : {I : Type 0} (shows : I → List ℤ) (q : ℕ × ℕ) (copy : Option (Copied I)) (pin : Option Pinned)
+    → copy_length (first_of (option_map (λ w. copy_seen shows (q, w)) copy) (option_map (λ w. pin_seen (q, w)) pin))
+    ≡ length (items_in (first_of (option_map (λ w. copy_seen shows (q, w)) copy) (option_map (λ w. pin_seen (q, w)) pin)))
+long_by shows q (Some w) pin = rw (copies_free w.kind) refl
+long_by shows q None None = refl
+long_by shows q None (Some w) = rw (pins_critical w.kind) refl
 
 -- an open copy is as long as its items
-pub long_law : {A : Type 0} (es : List ((ℕ × ℕ) × Copied A)) (fs : List ((ℕ × ℕ) × Pinned)) (rows : Rows) (m n : ℕ) → record { lent = map copy_seen es ++ map pin_seen fs } ≡ rows
+pub long_law : {I : Type 0} (shows : I → List ℤ) (es : List ((ℕ × ℕ) × Copied I)) (fs : List ((ℕ × ℕ) × Pinned)) (rows : Rows) (m n : ℕ)
+    → record { lent = map (copy_seen shows) es ++ map pin_seen fs } ≡ rows
     → copy_length (row_of m n rows) ≡ length (items_in (row_of m n rows))
-long_law es fs rows m n is =
-    let row = row_is es fs rows m n is in
-    ap copy_length row ∙ (long_by (m, n) (lookup (same_name (m, n)) es) (lookup (same_name (m, n)) fs) ∙ ap (λ r. length (items_in r)) (sym row))
+long_law shows es fs rows m n is =
+    let row = row_is shows es fs rows m n is in
+    ap copy_length row ∙ (long_by shows (m, n) (lookup (same_name (m, n)) es) (lookup (same_name (m, n)) fs) ∙ ap (λ r. length (items_in r)) (sym row))
 
 -- ---- critical buffers
 
@@ -94,6 +96,19 @@ IsBlind P = (b : Buffer) (items : List ℤ) → P (record b { items = items }) �
 pub still_open : (found : Option Buffer) (c : Bool) (b : Buffer) → if◌then◌else◌ {A = Option Buffer} c None found ≡ Some b → found ≡ Some b
 still_open found true b now = cc
 still_open found false b now = now
+
+pub some_is : (a b : Buffer) → Some a ≡ Some b → a ≡ b
+some_is a b is = cc
+
+left_by : (x b : Buffer) (critical : Bool) → is_critical x.family ≡ critical → if◌then◌else◌ {A = Option Buffer} critical None (Some x) ≡ Some b → (Some x ≡ Some b) × (is_critical b.family ≡ false)
+left_by x b true is now = cc
+left_by x b false is now = (now, ap (λ y. is_critical y.family) (sym (some_is x b now)) ∙ is)
+
+-- what is open after the end of a session was open before it, and is a copy where the session was its thread's
+pub still_lent : (found : Option Buffer) (c : Bool) (b : Buffer) → (if c then copied_only found else found) ≡ Some b → (found ≡ Some b) × ((c && is_critical b.family) ≡ false)
+still_lent None true b now = cc
+still_lent (Some x) true b now = left_by x b (is_critical x.family) refl now
+still_lent found false b now = (now, refl)
 
 -- a pinned buffer has no items of its own
 pub pin_items : (q : ℕ × ℕ) (found : Option Pinned) → [] ≡ items_in (option_map (λ w. pin_seen (q, w)) found)

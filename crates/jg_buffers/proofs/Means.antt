@@ -1,24 +1,24 @@
 -- What the definitions mean, by one case for each event.
 use Rattle.std.proofs.Common.{◌≡◌, ℕ, ◌<◌, Bool, true, false, List, [], ◌∷◌, ◌++◌, Option, Some, None, refl, ◌∙◌, ap, sym, subst, arith, eqb-true}
-use Rattle.std.specs.Prelude.{◌==◌, ◌||◌, ℤ, pos, if◌then◌else◌, slice_index_or}
+use Rattle.std.specs.Prelude.{◌==◌, ◌&&◌, ◌||◌, ℤ, pos, if◌then◌else◌, slice_index_or}
 use Rattle.std.specs.List.{list_any}
 use Rattle.std.proofs.lemmas.Bool.Decides.{nat_tests}
 use Rattle.jg_words.specs.declared.reference.Ref.{Ref}
 use Rattle.jg_words.specs.declared.reference.Ref.TheVariants.{Null, To}
 use Rattle.jg_words.specs.declared.reference.Kind.TheVariants.{Local, Global, Weak}
-use Rattle.jg_buffers.specs.History.{Buffer, Event, Opened, Wrote, Closed, is_same, opened, content, in_critical, pinned_by, pins_object, same_ref}
+use Rattle.jg_buffers.specs.History.{Buffer, Event, Opened, Wrote, Closed, ReleaseAll, is_same, is_critical, opened, content, in_critical, pinned_by, pins_object, same_ref}
 use Rattle.jg_buffers.specs.Laws.{about, OpenSince, changes, CriticalBuffer, IsOpenedBelow, NumbersRise, opens}
 use Rattle.jg_buffers.specs.Rows.{Rows, IsAbove}
 use Rattle.jg_buffers.specs.Standing.{Stands}
 use Rattle.jg_buffers.proofs.Counts.{same_ref_is}
-use Rattle.jg_buffers.proofs.Lookups.{still_open}
+use Rattle.jg_buffers.proofs.Lookups.{some_is, still_open, still_lent}
 use Rattle.jg_buffers.proofs.Numbers.{above_law}
 use Rattle.jg_buffers.proofs.Pins.{OpenPin, pins_law, pins_have}
 use Rattle.jg_buffers.proofs.Steps.{row_law, row_now}
 
 -- ---- open
 
-same_later : (ev : Event) (e : List Event) (m n : ℕ) (b : Buffer) → about m n ev ≡ false → OpenSince e m n b → OpenSince (ev ∷ e) m n b
+same_later : (ev : Event) (e : List Event) (m n : ℕ) (b : Buffer) → about b ev ≡ false → OpenSince e m n b → OpenSince (ev ∷ e) m n b
 same_later ev e m n b other since = record {
   later = ev ∷ since.later;
   before = since.before;
@@ -27,8 +27,11 @@ same_later ev e m n b other since = record {
   kept = rw (other, since.kept) refl;
 }
 
-some_is : (a b : Buffer) → Some a ≡ Some b → a ≡ b
-some_is a b is = cc
+own_name : (m n k i : ℕ) (b : Buffer) → is_same m n b.maker b.n ≡ true → is_same b.maker b.n k i ≡ is_same m n k i
+own_name m n k i b own = grind (arith, nat_tests)
+
+own_maker : (m n : ℕ) (b : Buffer) → is_same m n b.maker b.n ≡ true → b.maker ≡ m
+own_maker m n b own = grind (arith, nat_tests)
 
 opened_since : (e : List Event) (m n : ℕ) (at b : Buffer) (c : Bool) → is_same m n at.maker at.n ≡ c → (opened e m n ≡ Some b → OpenSince e m n b) → (if c then Some at else opened e m n) ≡ Some b
     → OpenSince (Opened at ∷ e) m n b
@@ -36,34 +39,49 @@ opened_since e m n at b true is older now =
     let same : at ≡ b = some_is at b now in
     let P : Buffer → Type 0 = λ x. OpenSince (Opened at ∷ e) m n x in
     subst P same (record { later = []; before = e; made = refl; own = is; kept = refl })
-opened_since e m n at b false is older now = same_later (Opened at) e m n b is (older now)
+opened_since e m n at b false is older now =
+    let since = older now in
+    same_later (Opened at) e m n b (own_name m n at.maker at.n b since.own ∙ is) since
 
 closed_since : (e : List Event) (m n k i : ℕ) (b : Buffer) (c : Bool) → is_same m n k i ≡ c → (opened e m n ≡ Some b → OpenSince e m n b)
     → if◌then◌else◌ {A = Option Buffer} c None (opened e m n) ≡ Some b → OpenSince (Closed k i ∷ e) m n b
 closed_since e m n k i b true is older now = cc
-closed_since e m n k i b false is older now = same_later (Closed k i) e m n b is (older now)
+closed_since e m n k i b false is older now =
+    let since = older now in
+    same_later (Closed k i) e m n b (own_name m n k i b since.own ∙ is) since
 
 pub open_since : (e : List Event) (m n : ℕ) (b : Buffer) → opened e m n ≡ Some b → OpenSince e m n b
 open_since [] m n b now = cc
 open_since (Opened at ∷ e) m n b now = opened_since e m n at b (is_same m n at.maker at.n) refl (open_since e m n b) now
 open_since (Wrote k i j v ∷ e) m n b now = same_later (Wrote k i j v) e m n b refl (open_since e m n b now)
 open_since (Closed k i ∷ e) m n b now = closed_since e m n k i b (is_same m n k i) refl (open_since e m n b) now
+open_since (ReleaseAll k ∷ e) m n b now =
+    let left = still_lent (opened e m n) (k == m) b now in
+    let since = open_since e m n b left.0 in
+    same_later (ReleaseAll k) e m n b (ap (λ o. (k == o) && is_critical b.family) (own_maker m n b since.own) ∙ left.1) since
 
 none_either : (a b : Bool) → (a || b) ≡ false → (a ≡ false) × (b ≡ false)
 none_either true b none = cc
 none_either false b none = (refl, none)
 
--- an event that isn't about it changes nothing
-open_other : (ev : Event) (e : List Event) (m n : ℕ) → about m n ev ≡ false → opened (ev ∷ e) m n ≡ opened e m n
-open_other (Opened at) e m n other = rw other refl
-open_other (Wrote k i j v) e m n other = refl
-open_other (Closed k i) e m n other = rw other refl
+left_open : (b : Buffer) (c critical : Bool) → (c && critical) ≡ false → (if c then if◌then◌else◌ {A = Option Buffer} critical None (Some b) else Some b) ≡ Some b
+left_open b true true some = cc
+left_open b true false none = refl
+left_open b false critical none = refl
 
-open_kept : (later before : List Event) (m n : ℕ) (b : Buffer) → is_same m n b.maker b.n ≡ true → list_any (about m n) later ≡ false → opened (later ++ Opened b ∷ before) m n ≡ Some b
+-- an event that isn't about it leaves it open
+open_left : (ev : Event) (e : List Event) (m n : ℕ) (b : Buffer) → is_same m n b.maker b.n ≡ true → about b ev ≡ false → opened e m n ≡ Some b → opened (ev ∷ e) m n ≡ Some b
+open_left (Opened at) e m n b own other was = rw (sym (own_name m n at.maker at.n b own) ∙ other) was
+open_left (Wrote k i j v) e m n b own other was = was
+open_left (Closed k i) e m n b own other was = rw (sym (own_name m n k i b own) ∙ other) was
+open_left (ReleaseAll k) e m n b own other was =
+    rw was (left_open b (k == m) (is_critical b.family) (sym (ap (λ o. (k == o) && is_critical b.family) (own_maker m n b own)) ∙ other))
+
+open_kept : (later before : List Event) (m n : ℕ) (b : Buffer) → is_same m n b.maker b.n ≡ true → list_any (about b) later ≡ false → opened (later ++ Opened b ∷ before) m n ≡ Some b
 open_kept [] before m n b own kept = rw own refl
 open_kept (ev ∷ later) before m n b own kept =
-    let parts = none_either (about m n ev) (list_any (about m n) later) kept in
-    open_other ev (later ++ Opened b ∷ before) m n parts.0 ∙ open_kept later before m n b own parts.1
+    let parts = none_either (about b ev) (list_any (about b) later) kept in
+    open_left ev (later ++ Opened b ∷ before) m n b own parts.0 (open_kept later before m n b own parts.1)
 
 pub since_open : (e : List Event) (m n : ℕ) (b : Buffer) → OpenSince e m n b → opened e m n ≡ Some b
 since_open e m n b since = rw since.made (open_kept since.later since.before m n b since.own since.kept)
@@ -74,6 +92,7 @@ content_other : (ev : Event) (e : List Event) (m n i : ℕ) → changes m n i ev
 content_other (Opened at) e m n i other = rw other refl
 content_other (Wrote k j p v) e m n i other = rw other refl
 content_other (Closed k j) e m n i other = refl
+content_other (ReleaseAll k) e m n i other = refl
 
 same_self : (m n : ℕ) → is_same m n m n ≡ true
 same_self m n = grind (arith, nat_tests)
@@ -140,6 +159,7 @@ given_below (Opened b ∷ e) m n k i made below =
     grind (arith, nat_tests, older, here, below.1)
 given_below (Wrote j l p v ∷ e) m n k i made below = given_below e m n k i made below
 given_below (Closed j l ∷ e) m n k i made below = given_below e m n k i made below
+given_below (ReleaseAll j ∷ e) m n k i made below = given_below e m n k i made below
 
 was_given : (later e : List Event) (m n : ℕ) → list_any (opens m n) e ≡ true → list_any (opens m n) (later ++ e) ≡ true
 was_given [] e m n made = made
@@ -151,6 +171,8 @@ stays_closed (Opened b ∷ later) e m n rise made none = rw (given_below (later 
 stays_closed (Wrote k i j v ∷ later) e m n rise made none = stays_closed later e m n rise made none
 stays_closed (Closed k i ∷ later) e m n rise made none =
     rw (stays_closed later e m n rise made none) (elim (is_same m n k i) as (λ b. if◌then◌else◌ {A = Option Buffer} b None None ≡ None) [ true ↦ refl | false ↦ refl ])
+stays_closed (ReleaseAll k ∷ later) e m n rise made none =
+    rw (stays_closed later e m n rise made none) (elim (k == m) as (λ b. if◌then◌else◌ {A = Option Buffer} b None None ≡ None) [ true ↦ refl | false ↦ refl ])
 
 open_below : (e : List Event) (k i n : ℕ) (b : Buffer) → opened e k i ≡ Some b → IsOpenedBelow k n e → i < n
 open_below [] k i n b now below = cc
@@ -161,6 +183,7 @@ open_below (Opened at ∷ e) k i n b now below =
     grind (arith, nat_tests, older, here, rest)
 open_below (Wrote j l p v ∷ e) k i n b now below = open_below e k i n b now below
 open_below (Closed j l ∷ e) k i n b now below = open_below e k i n b (still_open (opened e k i) (is_same k i j l) b now) below
+open_below (ReleaseAll j ∷ e) k i n b now below = open_below e k i n b (still_lent (opened e k i) (j == k) b now).0 below
 
 was_open : (e : List Event) (m n : ℕ) (found : Option Buffer) (b : Buffer) → opened e m n ≡ found → row_now e m n found ≡ Some b → (x : Buffer) × (opened e m n ≡ Some x)
 was_open e m n None b is now = cc

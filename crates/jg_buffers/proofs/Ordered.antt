@@ -1,10 +1,9 @@
 -- Names of buffers in order: what puts them there, and that the order tells the list.
 use Rattle.std.proofs.Common.{◌≡◌, ℕ, suc, ◌+◌, ◌≤◌, Bool, true, false, cond, List, [], ◌∷◌, ◌++◌, length, Option, Some, None, refl, ◌∙◌, ap, sym, subst, arith, add-one}
 use mathlib.Core.Bool.{true≢false}
-use Rattle.std.specs.Prelude.{◌==◌, ◌&&◌, ◌||◌, nat_lt, if◌then◌else◌, map, filter, slice_index_or, IsPermutation, IsSortedByKey}
+use Rattle.std.specs.Prelude.{ℤ, ◌==◌, ◌&&◌, ◌||◌, nat_lt, if◌then◌else◌, map, filter, slice_index_or, IsPermutation, IsSortedByKey}
 use Rattle.std.specs.List.{list_any}
-use Rattle.std.specs.Ordering.{nat_cmp, ordering_then, is_lt}
-use Rattle.std.specs.declared.cmp.Ordering.{Ordering}
+use Rattle.std.specs.Ordering.{ordering_then, is_lt}
 use Rattle.std.specs.declared.cmp.Ordering.TheVariants.{Less, Equal, Greater}
 use Rattle.std.proofs.lemmas.Bool.Decides.{nat_tests}
 use Rattle.std.proofs.lemmas.List.{length-map, length-append}
@@ -259,7 +258,8 @@ row_once e m n (Some b) = omega arith
 abbrev named_so : (ℕ × ℕ) × Pinned → BufId
 named_so f = key_name f.0
 
-module _ {A : Type 0} (es : List ((ℕ × ℕ) × Copied A)) (fs : List ((ℕ × ℕ) × Pinned)) (e : List Event) (stands : Stands (record { lent = map copy_seen es ++ map pin_seen fs }) e) where
+module _ {I : Type 0} (shows : I → List ℤ) (es : List ((ℕ × ℕ) × Copied I)) (fs : List ((ℕ × ℕ) × Pinned)) (e : List Event)
+    (stands : Stands (record { lent = map (copy_seen shows) es ++ map pin_seen fs }) e) where
   -- each pinned row has a name of its own
   pins_once : (m n : ℕ) → length (filter (λ f. is_same m n f.0.0 f.0.1) fs) ≤ 1
   pins_once m n =
@@ -267,9 +267,9 @@ module _ {A : Type 0} (es : List ((ℕ × ℕ) × Copied A)) (fs : List ((ℕ ×
       let long : length (map pin_seen here) ≡ length here = length-map here pin_seen in
       let mapped : map pin_seen here ≡ filter (is_buffer m n) (map pin_seen fs) = map-filter pin_seen (λ f. is_same m n f.0.0 f.0.1) (is_buffer m n) (λ f. refl) fs in
       let sizes : length (map pin_seen here) ≡ length (filter (is_buffer m n) (map pin_seen fs)) = ap length mapped in
-      let both : length (filter (is_buffer m n) (map copy_seen es)) + length (filter (is_buffer m n) (map pin_seen fs)) ≡ length (rows_of e m n (opened e m n)) =
-      sym (length-append (filter (is_buffer m n) (map copy_seen es)) (filter (is_buffer m n) (map pin_seen fs)))
-      ∙ ap length (sym (filter-append (is_buffer m n) (map copy_seen es) (map pin_seen fs)) ∙ stands m n) in
+      let both : length (filter (is_buffer m n) (map (copy_seen shows) es)) + length (filter (is_buffer m n) (map pin_seen fs)) ≡ length (rows_of e m n (opened e m n)) =
+      sym (length-append (filter (is_buffer m n) (map (copy_seen shows) es)) (filter (is_buffer m n) (map pin_seen fs)))
+      ∙ ap length (sym (filter-append (is_buffer m n) (map (copy_seen shows) es) (map pin_seen fs)) ∙ stands m n) in
       omega (arith, long, sizes, both, row_once e m n (opened e m n))
 
   names_once : (T : (ℕ × ℕ) × Pinned → Bool) (m n : ℕ) → length (filter (names m n) (map named_so (filter T fs))) ≤ 1
@@ -298,6 +298,6 @@ module _ {A : Type 0} (es : List ((ℕ × ℕ) × Copied A)) (fs : List ((ℕ ×
           ∙ sym (list_any-map named_so (λ f. is_same m n f.0.0 f.0.1) (names m n) (λ f. refl) (filter T fs))
           ∙ any_filter (λ f. is_same m n f.0.0 f.0.1) T fs
           ∙ any_same (λ f. T f && is_same m n f.0.0 f.0.1) (λ f. Q (pin_seen f)) (λ f. ap (λ b. b && is_same m n f.0.0 f.0.1) (alike f)) fs
-          ∙ pin_law Q (λ b items. ap (λ t. t && is_same m n b.maker b.n) (blind b items)) es fs e stands
+          ∙ pin_law shows Q (λ b items. ap (λ t. t && is_same m n b.maker b.n) (blind b items)) es fs e stands
           ∙ sym (any_filter (λ b. is_same m n b.maker b.n) P (pins e))
           ∙ sym (any_in_order m n (filter P (pins e)))

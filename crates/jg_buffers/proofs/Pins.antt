@@ -1,13 +1,13 @@
 -- The open critical buffers and the rows of the pinned ones.
 use Rattle.std.proofs.Common.{◌≡◌, ℕ, Bool, true, false, List, [], ◌∷◌, ◌++◌, Option, Some, None, refl, ◌∙◌, ap, sym, subst, arith, inl, inr}
-use Rattle.std.specs.Prelude.{◌==◌, ◌||◌, if◌then◌else◌, filter, map, find}
+use Rattle.std.specs.Prelude.{ℤ, ◌==◌, ◌||◌, if◌then◌else◌, filter, map, find}
 use Rattle.std.specs.List.{list_any, filter_map, cons_option}
 use Rattle.std.specs.Option.{option_map, option_to_list}
 use Rattle.std.specs.Map.{lookup}
 use Rattle.std.proofs.lemmas.Bool.Decides.{nat_tests}
 use Rattle.jg_buffers.specs.declared.copied.Copied.{Copied}
 use Rattle.jg_buffers.specs.declared.pinned.Pinned.{Pinned}
-use Rattle.jg_buffers.specs.History.{Buffer, Event, Opened, Wrote, Closed, is_same, is_critical, opened, critical_only, pin_of, pins, pins_object}
+use Rattle.jg_buffers.specs.History.{Buffer, Event, Opened, Wrote, Closed, ReleaseAll, is_same, is_critical, opened, critical_only, pin_of, pins, pins_object}
 use Rattle.jg_lists.specs.ByMaker.{same_name}
 use Rattle.jg_buffers.specs.Rows.{is_buffer}
 use Rattle.jg_buffers.specs.Seen.{copy_seen, pin_seen}
@@ -15,7 +15,7 @@ use Rattle.jg_buffers.specs.Standing.{rows_of, Stands}
 use Rattle.jg_lists.proofs.Lists.{Member, any_member, any_of_filter, member_filter, both_ways, list_any-map}
 use Rattle.jg_buffers.proofs.Maps.{found_row}
 use Rattle.jg_buffers.proofs.Steps.{tells}
-use Rattle.jg_buffers.proofs.Lookups.{IsBlind, copies_free, pins_critical, still_open}
+use Rattle.jg_buffers.proofs.Lookups.{IsBlind, copies_free, pins_critical, some_is, still_open, still_lent}
 
 -- an open critical buffer that passes
 pub record OpenPin (P : Buffer → Bool) (e : List Event) : Type 0 where
@@ -47,6 +47,7 @@ has_pin P all [] some = cc
 has_pin P all (Opened at ∷ e) some = of_found P all at.maker at.n (opened all at.maker at.n) (filter_map (pin_of all) e) refl (has_pin P all e) some
 has_pin P all (Wrote k i j v ∷ e) some = has_pin P all e some
 has_pin P all (Closed k i ∷ e) some = has_pin P all e some
+has_pin P all (ReleaseAll k ∷ e) some = has_pin P all e some
 
 either : (a b : Bool) → b ≡ true → (a || b) ≡ true
 either true b is = refl
@@ -71,6 +72,7 @@ was_pin P all [] m n b now critical passes here = cc
 was_pin P all (Opened at ∷ e) m n b now critical passes here = pin_here P all e m n at b (is_same m n at.maker at.n) refl now critical passes (was_pin P all e m n b now critical passes) here
 was_pin P all (Wrote k i j v ∷ e) m n b now critical passes here = was_pin P all e m n b now critical passes here
 was_pin P all (Closed k i ∷ e) m n b now critical passes here = was_pin P all e m n b now critical passes (still_open (opened e m n) (is_same m n k i) b here)
+was_pin P all (ReleaseAll k ∷ e) m n b now critical passes here = was_pin P all e m n b now critical passes (still_lent (opened e m n) (k == m) b here).0
 
 -- a test passes some open critical buffer
 pub pins_law : (P : Buffer → Bool) (e : List Event) → list_any P (pins e) ≡ true → OpenPin P e
@@ -91,9 +93,6 @@ head_or d (b ∷ bs) = Some b
 head_is : (a b : Buffer) (rest : List Buffer) → a ∷ rest ≡ b ∷ [] → a ≡ b
 head_is a b rest is = cc
 
-some_is : (a b : Buffer) → Some a ≡ Some b → a ≡ b
-some_is a b is = cc
-
 the_pin : (copy pin : Option Buffer) (b : Buffer) → option_to_list copy ++ option_to_list pin ≡ b ∷ [] → ((x : Buffer) → copy ≡ Some x → is_critical x.family ≡ false) → is_critical b.family ≡ true → pin ≡ Some b
 the_pin None None b is free critical = cc
 the_pin None (Some p) b is free critical = ap (λ l. head_or p l) is
@@ -102,9 +101,9 @@ the_pin (Some q) pin b is free critical =
     let own : is_critical b.family ≡ false = ap (λ x. is_critical x.family) (sym same) ∙ free q refl in
     absurd (clash (is_critical b.family) critical own)
 
-free_copy : {A : Type 0} (q : ℕ × ℕ) (found : Option (Copied A)) (x : Buffer) → option_map (λ w. copy_seen (q, w)) found ≡ Some x → is_critical x.family ≡ false
-free_copy q None x is = cc
-free_copy q (Some w) x is = ap (λ b. is_critical b.family) (sym (some_is (copy_seen (q, w)) x is)) ∙ copies_free w.kind
+pub free_copy : {I : Type 0} (shows : I → List ℤ) (q : ℕ × ℕ) (found : Option (Copied I)) (x : Buffer) → option_map (λ w. copy_seen shows (q, w)) found ≡ Some x → is_critical x.family ≡ false
+free_copy shows q None x is = cc
+free_copy shows q (Some w) x is = ap (λ b. is_critical b.family) (sym (some_is (copy_seen shows (q, w)) x is)) ∙ copies_free w.kind
 
 critical_pin : (fs : List ((ℕ × ℕ) × Pinned)) (x : Buffer) → Member x (map pin_seen fs) → is_critical x.family ≡ true
 critical_pin [] x there = absurd there
@@ -128,41 +127,42 @@ of_row e m n x P blind (Some b) is (inl same) critical passes = record {
   passes = sym (blind b _) ∙ (ap P (sym same) ∙ passes);
 }
 
-row_pins : {A : Type 0} (P : Buffer → Bool) (blind : IsBlind P) (es : List ((ℕ × ℕ) × Copied A)) (fs : List ((ℕ × ℕ) × Pinned)) (e : List Event)
-    → Stands (record { lent = map copy_seen es ++ map pin_seen fs }) e
+row_pins : {I : Type 0} (shows : I → List ℤ) (P : Buffer → Bool) (blind : IsBlind P) (es : List ((ℕ × ℕ) × Copied I)) (fs : List ((ℕ × ℕ) × Pinned)) (e : List Event)
+    → Stands (record { lent = map (copy_seen shows) es ++ map pin_seen fs }) e
     → list_any P (map pin_seen fs) ≡ true → list_any P (pins e) ≡ true
-row_pins P blind es fs e stands some =
+row_pins shows P blind es fs e stands some =
     let found = any_member P (map pin_seen fs) some in
     let x : Buffer = found.0 in
     let mine : is_buffer x.maker x.n x ≡ true = grind (arith, nat_tests) in
-    let kept = member_filter (is_buffer x.maker x.n) x (map copy_seen es ++ map pin_seen fs) (in_whole x (map copy_seen es) (map pin_seen fs) found.1.0) mine in
+    let kept = member_filter (is_buffer x.maker x.n) x (map (copy_seen shows) es ++ map pin_seen fs) (in_whole x (map (copy_seen shows) es) (map pin_seen fs) found.1.0) mine in
     let Q : List Buffer → Type 0 = λ l. Member x l in
     pins_have P e (of_row e x.maker x.n x P blind (opened e x.maker x.n) refl (subst Q (stands x.maker x.n) kept) (critical_pin fs x found.1.0) found.1.1)
 
-pinned_row : {A : Type 0} (P : Buffer → Bool) (blind : IsBlind P) (es : List ((ℕ × ℕ) × Copied A)) (fs : List ((ℕ × ℕ) × Pinned)) (e : List Event)
-    → Stands (record { lent = map copy_seen es ++ map pin_seen fs }) e
+pinned_row : {I : Type 0} (shows : I → List ℤ) (P : Buffer → Bool) (blind : IsBlind P) (es : List ((ℕ × ℕ) × Copied I)) (fs : List ((ℕ × ℕ) × Pinned)) (e : List Event)
+    → Stands (record { lent = map (copy_seen shows) es ++ map pin_seen fs }) e
     → list_any P (pins e) ≡ true → list_any P (map pin_seen fs) ≡ true
-pinned_row P blind es fs e stands some =
+pinned_row shows P blind es fs e stands some =
     let pin = pins_law P e some in
-    let told = tells (map copy_seen es) (map pin_seen fs) e pin.maker pin.n stands in
+    let told = tells (map (copy_seen shows) es) (map pin_seen fs) e pin.maker pin.n stands in
     let row : Buffer = record pin.buffer { items = [] } in
     let rows : rows_of e pin.maker pin.n (opened e pin.maker pin.n) ≡ row ∷ [] = rw (pin.is_open, pin.critical) refl in
-    let free = λ (x : Buffer) (is : find (is_buffer pin.maker pin.n) (map copy_seen es) ≡ Some x). free_copy (pin.maker, pin.n) (lookup (same_name (pin.maker, pin.n)) es) x
-    (sym (found_row copy_seen (λ i j y. refl) pin.maker pin.n es) ∙ is) in
-    let found = the_pin (find (is_buffer pin.maker pin.n) (map copy_seen es)) (find (is_buffer pin.maker pin.n) (map pin_seen fs)) row (told.agrees ∙ rows) free pin.critical in
+    let free = λ (x : Buffer) (is : find (is_buffer pin.maker pin.n) (map (copy_seen shows) es) ≡ Some x). free_copy shows (pin.maker, pin.n) (lookup (same_name (pin.maker, pin.n)) es) x
+    (sym (found_row (copy_seen shows) (λ i j y. refl) pin.maker pin.n es) ∙ is) in
+    let found = the_pin (find (is_buffer pin.maker pin.n) (map (copy_seen shows) es)) (find (is_buffer pin.maker pin.n) (map pin_seen fs)) row (told.agrees ∙ rows) free pin.critical in
     let kept : filter (is_buffer pin.maker pin.n) (map pin_seen fs) ≡ row ∷ [] = told.pin ∙ ap option_to_list found in
     let passes : P row ≡ true = blind pin.buffer [] ∙ pin.passes in
     any_of_filter P (is_buffer pin.maker pin.n) (map pin_seen fs) (rw (kept, passes) refl)
 
 -- a test of the pinned rows and of the open critical buffers
-pub pin_law : {A : Type 0} (P : Buffer → Bool) (blind : IsBlind P) (es : List ((ℕ × ℕ) × Copied A)) (fs : List ((ℕ × ℕ) × Pinned)) (e : List Event)
-    → Stands (record { lent = map copy_seen es ++ map pin_seen fs }) e
+pub pin_law : {I : Type 0} (shows : I → List ℤ) (P : Buffer → Bool) (blind : IsBlind P) (es : List ((ℕ × ℕ) × Copied I)) (fs : List ((ℕ × ℕ) × Pinned)) (e : List Event)
+    → Stands (record { lent = map (copy_seen shows) es ++ map pin_seen fs }) e
     → list_any (λ f. P (pin_seen f)) fs ≡ list_any P (pins e)
-pin_law P blind es fs e stands =
+pin_law shows P blind es fs e stands =
     list_any-map pin_seen (λ f. P (pin_seen f)) P (λ f. refl) fs
-    ∙ both_ways (list_any P (map pin_seen fs)) (list_any P (pins e)) (row_pins P blind es fs e stands) (pinned_row P blind es fs e stands)
+    ∙ both_ways (list_any P (map pin_seen fs)) (list_any P (pins e)) (row_pins shows P blind es fs e stands) (pinned_row shows P blind es fs e stands)
 
 -- a pinned buffer of the object
-pub object_law : {A : Type 0} (o : ℕ) (es : List ((ℕ × ℕ) × Copied A)) (fs : List ((ℕ × ℕ) × Pinned)) (e : List Event) → Stands (record { lent = map copy_seen es ++ map pin_seen fs }) e
+pub object_law : {I : Type 0} (shows : I → List ℤ) (o : ℕ) (es : List ((ℕ × ℕ) × Copied I)) (fs : List ((ℕ × ℕ) × Pinned)) (e : List Event)
+    → Stands (record { lent = map (copy_seen shows) es ++ map pin_seen fs }) e
     → list_any (λ f. f.1.object == o) fs ≡ pins_object e o
-object_law o es fs e stands = pin_law (λ b. b.object == o) (λ b items. refl) es fs e stands
+object_law shows o es fs e stands = pin_law shows (λ b. b.object == o) (λ b items. refl) es fs e stands

@@ -21,7 +21,7 @@ map_same f g alike [] = refl
 map_same f g alike (x ∷ xs) = rw (alike x, map_same f g alike xs) refl
 
 -- a buffer whose items an event doesn't touch
-rows_kept : (e older : List Event) (m n : ℕ) (found : Option Buffer) → ((i : ℕ) → content e m n i ≡ content older m n i) → rows_of e m n found ≡ rows_of older m n found
+pub rows_kept : (e older : List Event) (m n : ℕ) (found : Option Buffer) → ((i : ℕ) → content e m n i ≡ content older m n i) → rows_of e m n found ≡ rows_of older m n found
 rows_kept e older m n None alike = refl
 rows_kept e older m n (Some b) alike = ap (λ l. record b { items = if is_critical b.family then [] else l } ∷ []) (map_same (content e m n) (content older m n) alike (range_with_len 0 b.length))
 

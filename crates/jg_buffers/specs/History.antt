@@ -22,11 +22,12 @@ pub record Buffer : Type 0 where
   pub items : List ℤ
 
 -- what happens to buffers: one is opened; an item of a copy is written; one is released for good, which JNI_COMMIT does
--- not do
+-- not do; a thread's session ends, and with it each critical buffer that it was lent, while its copies stay open
 pub data Event : Type 0 where
   Opened : Buffer → Event
   Wrote : (maker : ℕ) → (n : ℕ) → (index : ℕ) → (value : ℤ) → Event
   Closed : (maker : ℕ) → (n : ℕ) → Event
+  ReleaseAll : (maker : ℕ) → Event
 
 -- the families that pin, and so open a critical region (JNI chapter 4, "GetPrimitiveArrayCritical" and
 -- "GetStringCritical")
@@ -63,12 +64,18 @@ same_ref (To k m n) (To j i o) = (kind_number k == kind_number j) && ((m.0 == i.
 abbrev pub is_same : ℕ → ℕ → ℕ → ℕ → Bool
 is_same maker n k i = (k == maker) && (i == n)
 
+-- what an end of the session leaves of a buffer
+abbrev pub copied_only : Option Buffer → Option Buffer
+copied_only None = None
+copied_only (Some b) = if is_critical b.family then None else Some b
+
 -- the open buffer: it was opened, and not closed since
 abbrev pub opened : List Event → ℕ → ℕ → Option Buffer
 opened [] maker n = None
 opened (Opened b ∷ e) maker n = if is_same maker n b.maker b.n then Some b else opened e maker n
 opened (Closed k i ∷ e) maker n = if is_same maker n k i then None else opened e maker n
 opened (Wrote k i j v ∷ e) maker n = opened e maker n
+opened (ReleaseAll k ∷ e) maker n = if k == maker then copied_only (opened e maker n) else opened e maker n
 
 -- an item of a copy: what was written there last, else the item at the making
 abbrev pub content : List Event → ℕ → ℕ → ℕ → ℤ
@@ -77,6 +84,7 @@ content (Opened b ∷ e) maker n index =
     if is_same maker n b.maker b.n then slice_index_or b.items index (pos 0) else content e maker n index
 content (Wrote k i j v ∷ e) maker n index = if is_same maker n k i && (j == index) then v else content e maker n index
 content (Closed k i ∷ e) maker n index = content e maker n index
+content (ReleaseAll k ∷ e) maker n index = content e maker n index
 
 -- the items of an open buffer as they are now; none for a critical one
 abbrev pub items_now : List Event → ℕ → ℕ → Buffer → List ℤ

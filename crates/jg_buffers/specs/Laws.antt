@@ -2,15 +2,16 @@
 use Rattle.std.specs.Prelude.{◌≡◌, ℕ, ℤ, pos, ◌<◌, ◌&&◌, ◌==◌, Bool, true, false, ◌↔◌, List, [], ◌∷◌, ◌++◌, slice_index_or, Some, None}
 use Rattle.std.specs.List.{list_any}
 use Rattle.jg_words.specs.declared.reference.Ref.{Ref}
-use Rattle.jg_buffers.specs.History.{Buffer, Event, Opened, Wrote, Closed, is_same, is_critical, opened, content, in_critical, pinned_by, pins_object}
+use Rattle.jg_buffers.specs.History.{Buffer, Event, Opened, Wrote, Closed, ReleaseAll, is_same, is_critical, opened, content, in_critical, pinned_by, pins_object}
 use Rattle.jg_buffers.specs.Rows.{Rows, IsAbove}
 use Rattle.jg_buffers.specs.Standing.{Stands}
 
--- the event opens or closes that buffer
-abbrev pub about : ℕ → ℕ → Event → Bool
-about maker n (Opened b) = is_same maker n b.maker b.n
-about maker n (Closed k i) = is_same maker n k i
-about maker n (Wrote k i j v) = false
+-- the event opens that buffer anew or closes it, as the end of its thread's session closes a critical one
+abbrev pub about : Buffer → Event → Bool
+about b (Opened c) = is_same b.maker b.n c.maker c.n
+about b (Closed k i) = is_same b.maker b.n k i
+about b (ReleaseAll k) = (k == b.maker) && is_critical b.family
+about b (Wrote k i j v) = false
 
 -- some event opened the buffer, and none opened or closed it later
 pub record OpenSince (e : List Event) (maker n : ℕ) (b : Buffer) : Type 0 where
@@ -18,7 +19,7 @@ pub record OpenSince (e : List Event) (maker n : ℕ) (b : Buffer) : Type 0 wher
   pub before : List Event
   pub made : e ≡ later ++ Opened b ∷ before
   pub own : is_same maker n b.maker b.n ≡ true
-  pub kept : list_any (about maker n) later ≡ false
+  pub kept : list_any (about b) later ≡ false
 
 -- a buffer is open where it was opened and not closed since
 abbrev pub OpenMeans : Type 0
@@ -29,6 +30,7 @@ abbrev pub changes : ℕ → ℕ → ℕ → Event → Bool
 changes maker n index (Opened b) = is_same maker n b.maker b.n
 changes maker n index (Wrote k i j v) = is_same maker n k i && (j == index)
 changes maker n index (Closed k i) = false
+changes maker n index (ReleaseAll k) = false
 
 -- an item is what was written there last
 abbrev pub WrittenMeans : Type 0
@@ -68,6 +70,7 @@ IsOpenedBelow maker n [] = Unit {0}
 IsOpenedBelow maker n (Opened b ∷ e) = (b.maker ≡ maker → b.n < n) × IsOpenedBelow maker n e
 IsOpenedBelow maker n (Wrote k i j v ∷ e) = IsOpenedBelow maker n e
 IsOpenedBelow maker n (Closed k i ∷ e) = IsOpenedBelow maker n e
+IsOpenedBelow maker n (ReleaseAll k ∷ e) = IsOpenedBelow maker n e
 
 -- each buffer was given a number above all earlier ones of its maker, so that none was handed out twice
 abbrev pub NumbersRise : List Event → Type 0
@@ -75,12 +78,14 @@ NumbersRise [] = Unit {0}
 NumbersRise (Opened b ∷ e) = IsOpenedBelow b.maker b.n e × NumbersRise e
 NumbersRise (Wrote k i j v ∷ e) = NumbersRise e
 NumbersRise (Closed k i ∷ e) = NumbersRise e
+NumbersRise (ReleaseAll k ∷ e) = NumbersRise e
 
 -- the event opens the buffer of that maker and number
 abbrev pub opens : ℕ → ℕ → Event → Bool
 opens maker n (Opened b) = is_same maker n b.maker b.n
 opens maker n (Wrote k i j v) = false
 opens maker n (Closed k i) = false
+opens maker n (ReleaseAll k) = false
 
 -- a buffer that was opened and isn't open never is again
 abbrev pub ClosedStaysClosed : Type 0

@@ -1,5 +1,6 @@
 -- What contracts see of what the code keeps.
-use Rattle.std.specs.Prelude.{ℕ, ℤ, slice_set, [], length, option_map, Option, Some, None}
+use Rattle.std.specs.Prelude.{ℕ, ℤ, slice_set, List, [], length, option_map, Option, Some, None}
+use Rattle.std.specs.declared.vec.Vec.{Vec}
 use Rattle.jg_words.specs.declared.buffer.BufId.{BufId}
 use Rattle.jg_words.specs.declared.reference.Ref.{Ref}
 use Rattle.jg_words.specs.declared.reference.Ref.TheVariants.{Null, To}
@@ -24,15 +25,20 @@ abbrev pub pin_family : PinKind → Family
 pin_family Array = ArrayCritical
 pin_family String = StringCritical
 
-abbrev pub copy_seen : {A : Type 0} → (ℕ × ℕ) × Copied A → Buffer
-copy_seen e = record {
+-- what a list of items shows of them
+abbrev pub listed : {A : Type 0} → Vec ℤ A → List ℤ
+listed list = list.items
+
+-- an open copy, by the items that what is kept of them stands for
+abbrev pub copy_seen : {I : Type 0} → (I → List ℤ) → (ℕ × ℕ) × Copied I → Buffer
+copy_seen items_of e = record {
   maker = e.0.0;
   n = e.0.1;
   object = e.1.object;
   family = copy_family e.1.kind;
   via = Null;
-  length = length e.1.items.items;
-  items = e.1.items.items;
+  length = length (items_of e.1.items);
+  items = items_of e.1.items;
 }
 
 abbrev pub pin_seen : (ℕ × ℕ) × Pinned → Buffer
@@ -64,8 +70,8 @@ abbrev pub count_at : Option ℕ → ℕ
 count_at None = 0
 count_at (Some count) = count
 
-abbrev pub copy_at : {A : Type 0} → ℕ × ℕ → Option (Copied A) → Option Buffer
-copy_at q found = option_map (λ w. copy_seen (q, w)) found
+abbrev pub copy_at : {I : Type 0} → (I → List ℤ) → ℕ × ℕ → Option (Copied I) → Option Buffer
+copy_at items_of q found = option_map (λ w. copy_seen items_of (q, w)) found
 
 -- a copy with one item written
 abbrev pub copy_item_set : ℕ → ℤ → Option Buffer → Option Buffer

@@ -1,5 +1,5 @@
-ghost use Rattle.std.specs.Prelude.{◌≡◌, ℕ, pos, true, false, ◌<◌, ◌≤◌, ◌^◌, ◌++◌, List, [], ◌∷◌, map, length, vec_len, vec_capacity, OnOk, OnErr, IfOk, option_map, slice_index_or};
-ghost use Rattle.jg_buffers.specs.History.{Event, Opened, Wrote, Closed, is_critical, copy_with, pin_through, opened, content, contents, in_critical, pinned_by, pins_object, info_of, is_null};
+ghost use Rattle.std.specs.Prelude.{◌≡◌, ℕ, pos, true, false, ◌==◌, ◌<◌, ◌≤◌, ◌^◌, ◌++◌, if◌then◌else◌, List, [], ◌∷◌, map, length, replicate, vec_len, vec_capacity, OnOk, OnErr, IfOk, option_map, slice_index_or};
+ghost use Rattle.jg_buffers.specs.History.{Event, Opened, Wrote, Closed, ReleaseAll, is_critical, copy_with, pin_through, copied_only, opened, content, contents, in_critical, pinned_by, pins_object, info_of, is_null};
 ghost use Rattle.jg_buffers.specs.Ordered.{pins_of, pins_through};
 ghost use Rattle.jg_buffers.specs.Rows.{AddsNumber, IsAbove, KeepsBuffers, KeepsNumbers, name_of, row_of, copy_length, items_in};
 ghost use Rattle.jg_buffers.specs.Standing.{Stands};
@@ -8,15 +8,16 @@ ghost use Rattle.jg_lists.specs.Marks.{Marks};
 use crate::copied::{Copied, Copies, copy_kind, family_of_copy, item_at, set_item};
 use crate::family::Family;
 use crate::info::Info;
+use crate::items::{Items, Unseen};
 use crate::maker_counts::{lower_count, raise_count, widen_counts};
-use crate::pinned::{Pinned, ViaKey, family_of_pin, pin_kind, via_key};
+use crate::pinned::{Pinned, ViaKey, family_of_pin, pin_kind, take_pin, via_key};
 use crate::tally::{Tally, count_of, lower, make_room, raise};
 use crate::visits::{
     list_copies, list_pins, list_pins_of, list_pins_through, mark_objects, names_object, sort_names,
 };
 use indexmap::IndexMap;
 use jg_lists::by_maker::{ByMaker, add, find, remove};
-use jg_lists::{ByThread, ObjectMarks, Recent, number_at};
+use jg_lists::{ByThread, Marking, Recent, number_at};
 use jg_words::{BufId, ObjId, Ref, Tid};
 use std::alloc::{AllocError, Allocator, Global};
 use std::marker::Model;
@@ -24,9 +25,10 @@ use std::marker::Model;
 /// The open buffers. Contracts see the rows. Copies and pinned buffers are kept apart, and the
 /// pinned ones are counted by thread and by reference, so that no look-up goes over all of them. It takes
 /// memory for as many as were ever open at once, and 16 bytes for each thread up to the one of the
-/// greatest number that had a pinned buffer.
-pub struct Buffers<A: Allocator = Global> {
-    copies: Copies<A>,
+/// greatest number that had a pinned buffer. Of a copy's items it keeps all, in a list, or with
+/// [`Unseen`] no more than how many there are.
+pub struct Buffers<A: Allocator = Global, I: Items = Vec<i64, A>> {
+    copies: Copies<A, I>,
     pins: ByMaker<Pinned, A>,
     makers: Vec<usize, A>,
     vias: Tally<ViaKey, A>,
@@ -38,7 +40,7 @@ pub struct Buffers<A: Allocator = Global> {
 
 // Not derived, so that who owns a table lets it go by one call: else each way out of a function
 // drops each part of the maps, which its proof goes through one by one.
-impl<A: Allocator> Drop for Buffers<A> {
+impl<A: Allocator, I: Items> Drop for Buffers<A, I> {
     fn drop(self) {
         let Buffers {
             copies: _copies,
@@ -52,7 +54,7 @@ impl<A: Allocator> Drop for Buffers<A> {
     }
 }
 
-impl<A: Allocator> Model for Buffers<A> {
+impl<A: Allocator, I: Items> Model for Buffers<A, I> {
     ghost use Rattle.std.specs.Prelude.{◌≡◌, ◌++◌, length, map};
     ghost use Rattle.jg_lists.specs.ByMaker.{named};
     ghost use Rattle.jg_buffers.specs.Rows.{Rows};
@@ -61,16 +63,16 @@ impl<A: Allocator> Model for Buffers<A> {
 
     ghost Value = { Rows };
 
-    ghost view = { λ a. record { lent = map copy_seen a.copies.entries ++ map pin_seen (named a.pins) } };
+    ghost view = { λ a. record { lent = map (copy_seen I.items_of) a.copies.entries ++ map pin_seen (named a.pins) } };
 
     ghost invariant = { λ a. Counted (named a.pins) a.makers.items a.vias × (a.pinned ≡ length (named a.pins)) };
 }
 
-impl<A: Allocator + Copy> Buffers<A> {
+impl<A: Allocator + Copy, I: Items> Buffers<A, I> {
     /// No buffer is open. Takes no memory: the copies, the threads with pinned buffers, and the counts
     /// by thread and by reference grow from the first four handles, and the items of copies and what
     /// each thread has pinned from clones of the last.
-    pub fn new(copies: A, pins: A, makers: A, vias: A, alloc: A) -> Buffers<A>
+    pub fn new(copies: A, pins: A, makers: A, vias: A, alloc: A) -> Buffers<A, I>
         ensures empty { result.lent ≡ [] }
         ensures stands { Stands result [] }
         ensures numbers { (k i : ℕ) → IsAbove k i result }
@@ -109,6 +111,90 @@ impl<A: Allocator + Clone> Buffers<A> {
         ensures numbers { AddsNumber tid.0 n self.old self.new }
     {
         let items = Vec::from_slice(self.alloc.clone()?, items)?;
+        self.open_with(tid, n, object, family, items)
+    }
+
+    /// The item of an open copy. The index is below the copy's length, which [`Buffers::commit`]
+    /// and [`Buffers::find`] tell.
+    pub fn read(&self, buf: BufId, index: u64) -> i64
+        requires { index < copy_length (row_of buf.maker.0 buf.n self.now) }
+        ensures row { result ≡ slice_index_or (items_in (row_of buf.maker.0 buf.n self.now)) index (pos 0) }
+        ensures stands { (e : List Event) → Stands self.now e → result ≡ content e buf.maker.0 buf.n index }
+    {
+        item_at(self.commit(buf), index as usize)
+    }
+
+    /// Writes the item of an open copy. The index is below the copy's length, which
+    /// [`Buffers::commit`] and [`Buffers::find`] tell. The object that it was copied from keeps its
+    /// own.
+    pub fn write(&mut self, buf: BufId, index: u64, value: i64)
+        requires { index < copy_length (row_of buf.maker.0 buf.n self.old) }
+        ensures stands { (e : List Event) → Stands self.old e
+            → Stands self.new (Wrote buf.maker.0 buf.n index value ∷ e) }
+        ensures numbers { KeepsNumbers self.old self.new }
+        ensures buffers { KeepsBuffers self.old self.new }
+    {
+        set_item(
+            &mut self.copies,
+            (buf.maker.0, buf.n),
+            index as usize,
+            value,
+        );
+    }
+
+    /// Lends the items of an open copy as they are now, to be written back into its object; none
+    /// for any other buffer. The copy stays open (chapter 4, `JNI_COMMIT`).
+    pub fn commit(&self, buf: BufId) -> &[i64]
+        ensures row { result.now ≡ items_in (row_of buf.maker.0 buf.n self.now) }
+        ensures length { length result.now ≡ copy_length (row_of buf.maker.0 buf.n self.now) }
+        ensures stands { (e : List Event) → Stands self.now e → result.now ≡ contents e buf.maker.0 buf.n }
+    {
+        match self.recent_copy.find(&self.copies, &(buf.maker.0, buf.n)) {
+            Some(copy) => copy.items.as_slice(),
+            None => &[],
+        }
+    }
+}
+
+impl<A: Allocator + Clone> Buffers<A, Unseen> {
+    /// Opens buffer `n` of the thread, a copy of so many items that stand elsewhere. The family, the
+    /// number and what fails are as for [`Buffers::open_copy`].
+    pub fn open_unseen(
+        &mut self,
+        tid: Tid,
+        n: u64,
+        object: ObjId,
+        family: Family,
+        count: u64,
+    ) -> Result<(), AllocError>
+        requires above { IsAbove tid.0 n self.old }
+        requires copies { is_critical family ≡ false }
+        ensures ok { OnOk result ((e : List Event) → Stands self.old e
+            → Stands self.new (Opened (copy_with tid.0 n object.0 family (replicate count (pos 0))) ∷ e)) }
+        ensures err { OnErr result (self.new ≡ self.old) }
+        ensures numbers { AddsNumber tid.0 n self.old self.new }
+    {
+        self.open_with(tid, n, object, family, Unseen { count })
+    }
+}
+
+impl<A: Allocator + Clone, I: Items> Buffers<A, I> {
+    /// Opens a copy, with what is kept of its items.
+    fn open_with(
+        &mut self,
+        tid: Tid,
+        n: u64,
+        object: ObjId,
+        family: Family,
+        items: I,
+    ) -> Result<(), AllocError>
+        requires above { IsAbove tid.0 n self.old }
+        requires copies { is_critical family ≡ false }
+        ensures ok { OnOk result ((e : List Event) → Stands self.old e
+            → Stands self.new (Opened (copy_with tid.0 n object.0 family (I.items_of items)) ∷ e)) }
+        ensures err { OnErr result (self.new ≡ self.old) }
+        ensures numbers { AddsNumber tid.0 n self.old self.new }
+    {
         self.copies.insert(
             (tid.0, n),
             Copied {
@@ -179,7 +265,7 @@ impl<A: Allocator + Clone> Buffers<A> {
                 object: ObjId(copy.object),
                 family: family_of_copy(copy.kind),
                 via: Ref::Null,
-                length: copy.items.as_slice().len() as u64,
+                length: copy.items.count(),
             });
         }
         match find(&self.pins, (buf.maker.0, buf.n)) {
@@ -194,47 +280,6 @@ impl<A: Allocator + Clone> Buffers<A> {
         }
     }
 
-    /// The item of an open copy. The index is below the copy's length, which [`Buffers::commit`]
-    /// and [`Buffers::find`] tell.
-    pub fn read(&self, buf: BufId, index: u64) -> i64
-        requires { index < copy_length (row_of buf.maker.0 buf.n self.now) }
-        ensures row { result ≡ slice_index_or (items_in (row_of buf.maker.0 buf.n self.now)) index (pos 0) }
-        ensures stands { (e : List Event) → Stands self.now e → result ≡ content e buf.maker.0 buf.n index }
-    {
-        item_at(self.commit(buf), index as usize)
-    }
-
-    /// Writes the item of an open copy. The index is below the copy's length, which
-    /// [`Buffers::commit`] and [`Buffers::find`] tell. The object that it was copied from keeps its
-    /// own.
-    pub fn write(&mut self, buf: BufId, index: u64, value: i64)
-        requires { index < copy_length (row_of buf.maker.0 buf.n self.old) }
-        ensures stands { (e : List Event) → Stands self.old e
-            → Stands self.new (Wrote buf.maker.0 buf.n index value ∷ e) }
-        ensures numbers { KeepsNumbers self.old self.new }
-        ensures buffers { KeepsBuffers self.old self.new }
-    {
-        set_item(
-            &mut self.copies,
-            (buf.maker.0, buf.n),
-            index as usize,
-            value,
-        );
-    }
-
-    /// Lends the items of an open copy as they are now, to be written back into its object; none
-    /// for any other buffer. The copy stays open (chapter 4, `JNI_COMMIT`).
-    pub fn commit(&self, buf: BufId) -> &[i64]
-        ensures row { result.now ≡ items_in (row_of buf.maker.0 buf.n self.now) }
-        ensures length { length result.now ≡ copy_length (row_of buf.maker.0 buf.n self.now) }
-        ensures stands { (e : List Event) → Stands self.now e → result.now ≡ contents e buf.maker.0 buf.n }
-    {
-        match self.recent_copy.find(&self.copies, &(buf.maker.0, buf.n)) {
-            Some(copy) => copy.items.as_slice(),
-            None => &[],
-        }
-    }
-
     /// Closes the buffer, if it is open (chapter 4, a release in mode 0 or `JNI_ABORT`). With the
     /// last pinned buffer of its thread that thread's critical region ends.
     pub fn close(&mut self, buf: BufId)
@@ -244,6 +289,22 @@ impl<A: Allocator + Clone> Buffers<A> {
         self.copies.swap_remove(&(buf.maker.0, buf.n));
         if let Some(pin) = remove(&mut self.pins, (buf.maker.0, buf.n)) {
             lower_count(&mut self.makers, buf.maker.0);
+            lower(&mut self.vias, &via_key(pin.via));
+            self.pinned -= 1;
+        }
+    }
+
+    /// Closes each pinned buffer that the thread was lent, as the end of its session does (chapter 5,
+    /// `DetachCurrentThread`), and with them its critical region. Its copies stay open. Takes no memory,
+    /// and time by how many it closes.
+    pub fn release_pins(&mut self, tid: Tid)
+        ensures stands { (e : List Event) → Stands self.old e → Stands self.new (ReleaseAll tid.0 ∷ e) }
+        ensures rows { (m i : ℕ) → row_of m i self.new
+            ≡ (if tid.0 == m then copied_only (row_of m i self.old) else row_of m i self.old) }
+        ensures numbers { KeepsNumbers self.old self.new }
+    {
+        while let Some(pin) = take_pin(&mut self.pins, tid.0) {
+            lower_count(&mut self.makers, tid.0);
             lower(&mut self.vias, &via_key(pin.via));
             self.pinned -= 1;
         }
@@ -280,8 +341,9 @@ impl<A: Allocator + Clone> Buffers<A> {
 
     /// Sets the mark of each object of which a pinned buffer is open and leaves the other marks. An
     /// object without a mark is passed over.
-    pub fn mark_held(&self, marks: &mut ObjectMarks<A>)
-        ensures { (e : List Event) → Stands self.now e → Marks (pins_object e) marks.old marks.new }
+    pub fn mark_held<M: Marking>(&self, marks: &mut M)
+        ensures { (e : List Event) → Stands self.now e
+            → Marks (pins_object e) (M.mark_of marks.old) (M.mark_of marks.new) }
     {
         mark_objects(&self.pins, marks);
     }

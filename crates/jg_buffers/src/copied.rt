@@ -1,13 +1,13 @@
 ghost use Rattle.std.specs.Prelude.{◌≡◌, ◌<◌, ℕ, pos, false, if◌then◌else◌, length, slice_index_or};
 ghost use Rattle.jg_buffers.specs.History.{is_critical};
-ghost use Rattle.jg_buffers.specs.Seen.{copy_family, copy_at, copy_item_set};
+ghost use Rattle.jg_buffers.specs.Seen.{copy_family, copy_at, copy_item_set, listed};
 ghost use Rattle.indexmap.specs.IndexMap.{get, IsUnique};
 ghost use Rattle.jg_lists.specs.ByMaker.{same_name};
 
 use crate::family::Family;
 use indexmap::IndexMap;
 use jg_words::Primitive;
-use std::alloc::{Allocator, Global};
+use std::alloc::Allocator;
 use std::hash::{BuildHasherDefault, FoldHasher};
 
 /// The families that copy.
@@ -18,16 +18,16 @@ pub enum CopyKind {
     UtfChars,
 }
 
-/// An open copy: its object, its family, and its items as they are now.
+/// An open copy: its object, its family, and what is kept of its items as they are now.
 #[derive(Drop)]
-pub struct Copied<A: Allocator = Global> {
+pub struct Copied<I> {
     pub object: u64,
     pub kind: CopyKind,
-    pub items: Vec<i64, A>,
+    pub items: I,
 }
 
 /// The open copies, by thread and number.
-pub type Copies<A> = IndexMap<(u16, u64), Copied<A>, BuildHasherDefault<FoldHasher>, A>;
+pub type Copies<A, I> = IndexMap<(u16, u64), Copied<I>, BuildHasherDefault<FoldHasher>, A>;
 
 pub fn copy_kind(family: Family) -> CopyKind
     requires { is_critical family ≡ false }
@@ -53,11 +53,16 @@ pub fn family_of_copy(kind: CopyKind) -> Family
 }
 
 /// Writes an item of the copy, if it is there.
-pub fn set_item<A: Allocator>(map: &mut Copies<A>, key: (u16, u64), index: usize, value: i64)
+pub fn set_item<A: Allocator>(
+    map: &mut Copies<A, Vec<i64, A>>,
+    key: (u16, u64),
+    index: usize,
+    value: i64,
+)
     ensures unique { IsUnique same_name map.new }
-    ensures set { (q : ℕ × ℕ) → copy_at q (get same_name map.new q)
-        ≡ (if same_name key q then copy_item_set index value (copy_at q (get same_name map.old q))
-        else copy_at q (get same_name map.old q)) }
+    ensures set { (q : ℕ × ℕ) → copy_at listed q (get same_name map.new q)
+        ≡ (if same_name key q then copy_item_set index value (copy_at listed q (get same_name map.old q))
+        else copy_at listed q (get same_name map.old q)) }
 {
     if let Some(copy) = map.get_mut(&key) {
         if index < copy.items.len() {

@@ -7,6 +7,7 @@ mod buffers;
 mod copied;
 mod family;
 mod info;
+mod items;
 mod maker_counts;
 mod meanings;
 mod pinned;
@@ -16,6 +17,7 @@ mod visits;
 pub use buffers::Buffers;
 pub use family::Family;
 pub use info::Info;
+pub use items::{Items, Unseen};
 pub use meanings::{
     closed_stays_closed, content_means, critical_means, new_number_is_above, open_means,
     pinned_means,

@@ -11,9 +11,10 @@ ghost use Rattle.jg_buffers.specs.Ordered.{buffer_key};
 ghost use Rattle.jg_buffers.specs.Seen.{key_name};
 
 use crate::copied::Copies;
+use crate::items::Items;
 use crate::pinned::Pinned;
 use jg_lists::by_maker::ByMaker;
-use jg_lists::{ByNumber, Numbered, ObjectMarks};
+use jg_lists::{ByNumber, Marking, Numbered};
 use jg_words::{BufId, Kind, Ref, Tid};
 use std::alloc::{AllocError, Allocator};
 
@@ -42,22 +43,25 @@ pub fn names_object<A: Allocator>(pins: &ByMaker<Pinned, A>, object: u64) -> boo
     some_table_pins(pins.seats(), object)
 }
 
-fn mark_numbers<A: Allocator>(numbers: &[Numbered<Pinned>], marks: &mut ObjectMarks<A>)
-    ensures { Marks (λ o. list_any (λ seat. seat.value.object == o) numbers.now) marks.old marks.new }
+fn mark_numbers<M: Marking>(numbers: &[Numbered<Pinned>], marks: &mut M)
+    ensures { Marks (λ o. list_any (λ seat. seat.value.object == o) numbers.now) (M.mark_of marks.old)
+        (M.mark_of marks.new) }
 {
     for seat in numbers {
         marks.set(seat.value.object);
     }
 }
 
-fn mark_in<A: Allocator>(numbers: &ByNumber<Pinned, A>, marks: &mut ObjectMarks<A>)
-    ensures { Marks (λ o. list_any (λ e. e.1.object == o) numbers.now) marks.old marks.new }
+fn mark_in<A: Allocator, M: Marking>(numbers: &ByNumber<Pinned, A>, marks: &mut M)
+    ensures { Marks (λ o. list_any (λ e. e.1.object == o) numbers.now) (M.mark_of marks.old)
+        (M.mark_of marks.new) }
 {
     mark_numbers(numbers.seats(), marks);
 }
 
-fn mark_tables<A: Allocator>(tables: &[Numbered<ByNumber<Pinned, A>>], marks: &mut ObjectMarks<A>)
-    ensures { Marks (λ o. list_any (λ table. list_any (λ e. e.1.object == o) table.value) tables.now) marks.old marks.new }
+fn mark_tables<A: Allocator, M: Marking>(tables: &[Numbered<ByNumber<Pinned, A>>], marks: &mut M)
+    ensures { Marks (λ o. list_any (λ table. list_any (λ e. e.1.object == o) table.value) tables.now)
+        (M.mark_of marks.old) (M.mark_of marks.new) }
 {
     for table in tables {
         mark_in(&table.value, marks);
@@ -65,15 +69,16 @@ fn mark_tables<A: Allocator>(tables: &[Numbered<ByNumber<Pinned, A>>], marks: &m
 }
 
 /// Sets the mark of each object that a pinned buffer is of.
-pub fn mark_objects<A: Allocator>(pins: &ByMaker<Pinned, A>, marks: &mut ObjectMarks<A>)
-    ensures { Marks (λ o. list_any (λ e. e.1.object == o) (named pins.now)) marks.old marks.new }
+pub fn mark_objects<A: Allocator, M: Marking>(pins: &ByMaker<Pinned, A>, marks: &mut M)
+    ensures { Marks (λ o. list_any (λ e. e.1.object == o) (named pins.now)) (M.mark_of marks.old)
+        (M.mark_of marks.new) }
 {
     mark_tables(pins.seats(), marks);
 }
 
 /// Appends the open copies.
-pub fn list_copies<A: Allocator, B: Allocator>(
-    copies: &Copies<A>,
+pub fn list_copies<A: Allocator, I: Items, B: Allocator>(
+    copies: &Copies<A, I>,
     buffers: &mut Vec<BufId, B>,
 ) -> Result<(), AllocError>
     ensures ok { OnOk result (buffers.new.items ≡ buffers.old.items ++ map key_name (keys copies.now)) }

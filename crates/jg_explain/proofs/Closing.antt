@@ -1,13 +1,14 @@
 -- A buffer that was released is never opened again.
-use Rattle.std.proofs.Common.{◌≡◌, ◌+◌, ◌<◌, ◌≤◌, ◌++◌, ◌∙◌, ℕ, Bool, true, false, List, [], ◌∷◌, Some, None, refl, ap, sym, subst, arith}
-use Rattle.std.specs.Prelude.{if◌then◌else◌}
+use Rattle.std.proofs.Common.{◌≡◌, ◌+◌, ◌<◌, ◌≤◌, ◌++◌, ◌∙◌, ℕ, Bool, true, false, List, [], ◌∷◌, Option, Some, None, refl, ap, sym, subst, arith}
+use Rattle.std.specs.Prelude.{◌==◌, if◌then◌else◌}
 use Rattle.std.proofs.lemmas.Bool.Decides.{nat_tests}
 use Rattle.jg_words.specs.Entry.{Entry}
 use Rattle.jg_policy.specs.Stated.{StatedSetup}
 use Rattle.jg_threads.specs.History as threads
 use Rattle.jg_locals.proofs.Callers.{each_thread}
-use Rattle.jg_buffers.specs.History.{Buffer, Event, Opened, Wrote, Closed, opened, is_same}
+use Rattle.jg_buffers.specs.History.{Buffer, Event, Opened, Wrote, Closed, ReleaseAll, copied_only, opened, is_same}
 use Rattle.jg_buffers.specs.Laws.{IsOpenedBelow}
+use Rattle.jg_buffers.proofs.Lookups.{still_lent}
 use Rattle.jg_rules.specs.Parts.{Parts}
 use Rattle.jg_rules.specs.Names.{next_buffer}
 use Rattle.jg_rules.specs.Effects.{parts}
@@ -33,6 +34,7 @@ below_by m n k (Closed j i ∷ e) b below is = by (below_by m n k e b below) (is
     by : (opened e m n ≡ Some b → n < k) → (t : Bool) → (if t then None else opened e m n) ≡ Some b → n < k
     by older true is = absurd cc
     by older false is = older is
+below_by m n k (ReleaseAll j ∷ e) b below is = below_by m n k e b below (still_lent (opened e m n) (j == m) b is).0
 
 module _ (m n : ℕ) where
   -- its number was given
@@ -88,6 +90,11 @@ module _ (m n : ℕ) where
       by : opened (e ++ old) m n ≡ None → (t : Bool) → (if t then None else opened (e ++ old) m n) ≡ None
       by older true = refl
       by older false = older
+  closed_still (ReleaseAll k ∷ e) old none is = by (k == m) (opened (e ++ old) m n) (closed_still e old none is)
+    where
+      by : (t : Bool) (found : Option Buffer) → found ≡ None → (if t then copied_only found else found) ≡ None
+      by true found none = rw none refl
+      by false found none = none
 
   another_lent : (s : StatedSetup) (p : Parts) (u : ℕ) (b : Buffer) → IsLent s p u b → IsOver p → opened (Opened b ∷ p.buffers) m n ≡ None
   another_lent s p u b lent old = by (is_same m n b.maker b.n) refl

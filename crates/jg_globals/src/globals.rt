@@ -10,7 +10,7 @@ use crate::sweep::clear_rows;
 use crate::target::Target;
 use crate::visits::{list_names, mark_objects, names_object};
 use jg_lists::by_maker::{ByMaker, add, find, remove};
-use jg_lists::{ByThread, ObjectMarks};
+use jg_lists::{ByThread, Marking};
 use jg_words::{Kind, ObjId, Ref, Tid};
 use std::alloc::{AllocError, Allocator, Global};
 use std::marker::Model;
@@ -182,8 +182,9 @@ impl<A: Allocator> Globals<A> {
 
     /// Sets the mark of each object that a global reference names and leaves the other marks. An
     /// object without a mark is passed over.
-    pub fn mark_held(&self, marks: &mut ObjectMarks<A>)
-        ensures { (e : List Event) → Stands self.now e → Marks (holds_object e) marks.old marks.new }
+    pub fn mark_held<M: Marking>(&self, marks: &mut M)
+        ensures { (e : List Event) → Stands self.now e
+            → Marks (holds_object e) (M.mark_of marks.old) (M.mark_of marks.new) }
     {
         mark_objects(&self.strong, marks);
     }

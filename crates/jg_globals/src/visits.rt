@@ -7,7 +7,7 @@ ghost use Rattle.jg_lists.specs.ByMaker.{named};
 ghost use Rattle.jg_globals.specs.Seen.{ref_named};
 
 use jg_lists::by_maker::ByMaker;
-use jg_lists::{ByNumber, Numbered, ObjectMarks};
+use jg_lists::{ByNumber, Marking, Numbered};
 use jg_words::{Kind, ObjId, Ref, Tid};
 use std::alloc::{AllocError, Allocator};
 
@@ -36,22 +36,24 @@ pub fn names_object<A: Allocator>(rows: &ByMaker<ObjId, A>, object: ObjId) -> bo
     some_table_names(rows.seats(), object)
 }
 
-fn mark_numbers<A: Allocator>(numbers: &[Numbered<ObjId>], marks: &mut ObjectMarks<A>)
-    ensures { Marks (λ o. list_any (λ seat. seat.value.0 == o) numbers.now) marks.old marks.new }
+fn mark_numbers<M: Marking>(numbers: &[Numbered<ObjId>], marks: &mut M)
+    ensures { Marks (λ o. list_any (λ seat. seat.value.0 == o) numbers.now) (M.mark_of marks.old)
+        (M.mark_of marks.new) }
 {
     for seat in numbers {
         marks.set(seat.value.0);
     }
 }
 
-fn mark_in<A: Allocator>(numbers: &ByNumber<ObjId, A>, marks: &mut ObjectMarks<A>)
-    ensures { Marks (λ o. list_any (λ e. e.1.0 == o) numbers.now) marks.old marks.new }
+fn mark_in<A: Allocator, M: Marking>(numbers: &ByNumber<ObjId, A>, marks: &mut M)
+    ensures { Marks (λ o. list_any (λ e. e.1.0 == o) numbers.now) (M.mark_of marks.old) (M.mark_of marks.new) }
 {
     mark_numbers(numbers.seats(), marks);
 }
 
-fn mark_tables<A: Allocator>(tables: &[Numbered<ByNumber<ObjId, A>>], marks: &mut ObjectMarks<A>)
-    ensures { Marks (λ o. list_any (λ table. list_any (λ e. e.1.0 == o) table.value) tables.now) marks.old marks.new }
+fn mark_tables<A: Allocator, M: Marking>(tables: &[Numbered<ByNumber<ObjId, A>>], marks: &mut M)
+    ensures { Marks (λ o. list_any (λ table. list_any (λ e. e.1.0 == o) table.value) tables.now)
+        (M.mark_of marks.old) (M.mark_of marks.new) }
 {
     for table in tables {
         mark_in(&table.value, marks);
@@ -59,8 +61,8 @@ fn mark_tables<A: Allocator>(tables: &[Numbered<ByNumber<ObjId, A>>], marks: &mu
 }
 
 /// Sets the mark of each object that a reference names.
-pub fn mark_objects<A: Allocator>(rows: &ByMaker<ObjId, A>, marks: &mut ObjectMarks<A>)
-    ensures { Marks (λ o. list_any (λ e. e.1.0 == o) (named rows.now)) marks.old marks.new }
+pub fn mark_objects<A: Allocator, M: Marking>(rows: &ByMaker<ObjId, A>, marks: &mut M)
+    ensures { Marks (λ o. list_any (λ e. e.1.0 == o) (named rows.now)) (M.mark_of marks.old) (M.mark_of marks.new) }
 {
     mark_tables(rows.seats(), marks);
 }

@@ -12,7 +12,7 @@ use Rattle.jg_words.specs.declared.reference.Ref.TheVariants.{Null, To}
 use Rattle.jg_words.specs.declared.call.Call.TheVariants.{Buffers}
 use Rattle.jg_words.specs.declared.call.buffers.BuffersCall.TheVariants.{GetArrayElements, ReleaseArrayElements, BufferRead, BufferWrite}
 use Rattle.jg_policy.specs.Stated.{StatedSetup, class_count}
-use Rattle.jg_heap.specs.Making.{array_class, IsPrimitiveArray}
+use Rattle.jg_heap.specs.Making.{Making, array_class, class_in, IsPrimitiveArray}
 use Rattle.jg_heap.specs.Rows.{count_in, class_at, length_at}
 use Rattle.jg_heap.specs.Reading.{natural}
 use Rattle.jg_heap.specs.History.{making_at}
@@ -28,7 +28,7 @@ use Rattle.jg_rules.specs.Parts.{Parts, TableRows, TablesStand}
 use Rattle.jg_rules.specs.Names.{names, object_in, the_object, class_of, length_of}
 use Rattle.jg_rules.specs.Buffers.{buffer_named, is_open_and, family_number, is_anothers, is_of_array, is_place, item_type, is_value_of_type}
 use Rattle.jg_rules.specs.Rules.{is_nothing, is_null as is_null_named, is_wrong, is_outside_of, is_wrong_item}
-use Rattle.jg_rules.proofs.Objects.{IsThere, is_there, made_there, first_is_of}
+use Rattle.jg_rules.proofs.Objects.{IsThere, as_made, made_there, first_is_of}
 use Rattle.jg_laws.specs.Laws.{FitsMaking, FitsObject}
 use Rattle.jg_laws.proofs.Lent.{is_string, within, four}
 use Rattle.jg_laws.proofs.Releasing.{released}
@@ -137,9 +137,9 @@ pub record PinnedThere (rows : TableRows) (info : Info) : Type 0 where
 
 array_pinned : (s : StatedSetup) (rows : TableRows) (p : Parts) (x : Buffer) → TablesStand s rows p → FitsObject (class_count s) p.heap x → x.family ≡ ArrayCritical → PinnedThere rows (info_of x)
 array_pinned s rows p x stand fits is =
-    let fit : IsPrimitiveArray (class_of s p x.object) × (x.length ≡ length_of s p x.object) =
-    subst (λ (f : Family). FitsMaking f (making_at (class_count s) p.heap x.object) x.length) is fits.1 in
-    let there = is_there s rows p x.object (class_of s p x.object) stand refl (omega (arith, fit.0.0)) in
+    let made : Making = making_at (class_count s) p.heap x.object in
+    let fit : IsPrimitiveArray (class_in made) × (x.length ≡ length_of s p x.object) = subst (λ (f : Family). FitsMaking f made x.length) is fits.1 in
+    let there = as_made s rows p x.object stand fits.0 in
     record {
       made = there.made;
       class = rw there.class fit.0;

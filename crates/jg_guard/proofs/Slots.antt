@@ -1,23 +1,22 @@
 -- What the store has of the object that a field's function takes.
-use Rattle.std.proofs.Common.{ℕ, ◌≡◌, ◌<◌, ◌≤◌, Bool, true, false, length, Option, ap, ◌∙◌, arith}
+use Rattle.std.proofs.Common.{ℕ, ◌≡◌, ◌<◌, ◌≤◌, Bool, true, false, Option, arith}
 use Rattle.std.specs.Prelude.{◌==◌, ◌&&◌, ◌||◌, not}
 use Rattle.std.specs.List.{AllByRecursion}
 use Rattle.std.specs.Option.{unwrap_or}
 use Rattle.jg_words.specs.declared.object.FieldId.{FieldId}
 use Rattle.jg_words.specs.declared.object.Primitive.{Primitive}
-use Rattle.jg_policy.specs.Stated.{StatedSetup, class_count}
-use Rattle.jg_policy.specs.Classes.{class_at, fields_in, field_type}
+use Rattle.jg_policy.specs.Stated.{StatedSetup}
+use Rattle.jg_policy.specs.Classes.{field_type}
 use Rattle.jg_heap.specs.Making.{HasFields}
 use Rattle.jg_heap.specs.Rows.{count_in, class_at as class_in_row, length_at}
-use Rattle.jg_heap.specs.History.{making_at}
 use Rattle.jg_rules.specs.declared.named.Named.{Named}
 use Rattle.jg_rules.specs.declared.named.Named.TheVariants.{Nothing, Null as NamesNull, Object}
 use Rattle.jg_rules.specs.Parts.{Parts, TableRows, TablesStand}
-use Rattle.jg_rules.specs.Names.{object_in, class_of, length_of, slot_place}
+use Rattle.jg_rules.specs.Names.{object_in, class_of, slot_place}
 use Rattle.jg_rules.specs.Rules.{is_nothing, is_null, is_stated_as, is_of_class}
 use Rattle.jg_rules.proofs.Objects.{is_there}
 use Rattle.jg_laws.specs.Laws.{MakesStated}
-use Rattle.jg_laws.proofs.Makings.{stated_at, stated_length}
+use Rattle.jg_laws.proofs.Makings.{length_stated}
 use Rattle.jg_laws.proofs.StatedFields.{IsStatedField, stated_field, both_true, same_number}
 
 -- the object is in the store and has a slot for the field
@@ -33,9 +32,7 @@ slot_here : (s : StatedSetup) (rows : TableRows) (p : Parts) (o : ℕ) (field : 
     → IsStatedField s field.class field.field → class_of s p o ≡ field.class → HasSlot rows o field
 slot_here s rows p o field stand stated is same =
     let there = is_there s rows p o field.class stand same (omega (arith, is.high)) in
-    let high : 10 ≤ class_of s p o = omega (arith, is.high, same) in
-    let size = stated_length s (making_at (class_count s) p.heap o) (stated_at s (class_count s) p.heap o stated) high in
-    let wide : length_of s p o ≡ length (fields_in (class_at s field.class)) = size ∙ ap (λ (c : ℕ). length (fields_in (class_at s c))) same in
+    let wide = length_stated s p o field.class stated same (omega (arith, is.high)) in
     record {
       named = is.named;
       made = there.made;

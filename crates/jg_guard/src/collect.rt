@@ -24,14 +24,14 @@ ghost use Rattle.jg_guard.specs.Settled.{collected_on};
 use crate::tables::Tables;
 use jg_globals::Globals;
 use jg_heap::Heap;
-use jg_lists::ObjectMarks;
+use jg_lists::{Marking, ObjectMarks};
 use jg_rules::View;
 use jg_words::{Call, ObjId, VmCall};
 use std::alloc::{AllocError, Allocator};
 
 /// Marks each object that something outside the store holds.
-fn mark_roots<A: Allocator + Clone>(view: &View<'_, A>, marks: &mut ObjectMarks<A>)
-    ensures { (p : Parts) → ViewStands view.now p → Marks (is_root p) marks.old marks.new }
+fn mark_roots<A: Allocator + Clone, M: Marking>(view: &View<'_, A>, marks: &mut M)
+    ensures { (p : Parts) → ViewStands view.now p → Marks (is_root p) (M.mark_of marks.old) (M.mark_of marks.new) }
 {
     view.locals.mark_held(marks);
     view.globals.mark_held(marks);

@@ -1,7 +1,8 @@
 -- Proofs of what the definitions over a history mean.
 use Rattle.std.proofs.Common.{ℕ, ℤ, zero, suc, ◌≢◌, ◌⊎◌, append_assoc, ◌≡◌, ◌+◌, ◌<◌, ◌≤◌, ◌∙◌, sym, ap, subst, refl, inl, inr, List, [], ◌∷◌, ◌++◌, length, get_or, Bool, true, false, not, ◌&&◌, ◌||◌, ltb, eqb, Some, None, arith, zero-add}
 use Rattle.std.specs.List.{Contains, AllByRecursion, list_any, range_with_len}
-use Rattle.std.proofs.lemmas.Bool.{cases_Bool, and_left, or_cases, or_left, or_right, and_parts, and_from, and_right, not-true, not_from_false, ltb-true, lt-ltb, eqb-true, eq-eqb, ne_eqb, cond-true, cond-false, false≢true}
+use Rattle.std.proofs.lemmas.Bool.{cases_Bool, and_left, or_cases, or_left, or_right, and_parts, and_from, and_right, not-true, not_from_false, ltb-true, lt-ltb, le-ltb, eqb-true, eq-eqb, ne_eqb, cond-true, cond-false, false≢true}
+use Rattle.std.proofs.lemmas.Bool.Decides.{nat_tests}
 use Rattle.std.proofs.lemmas.List.Folds.{Any-from_list_any, list_any_at}
 use Rattle.std.proofs.lemmas.List.FromFn.{length-range_with_len, get_or-range_with_len}
 use Rattle.std.proofs.lemmas.Map.Views.{any-filter_same}
@@ -10,42 +11,51 @@ use Rattle.jg_heap.specs.declared.object.Slot.{Slot}
 use Rattle.jg_heap.specs.declared.object.Slot.TheVariants.{Number, Object as ToObject}
 use Rattle.jg_heap.specs.Making.{Making, slots_in, slot_in}
 use Rattle.jg_heap.specs.Rows.{count_in}
-use Rattle.jg_heap.specs.History.{Event, Made, Wrote, Collected, count_of, making_at, value_at, gone_at, held_at, held_by, holds, points_at, some_slot, going, region_writes}
-use Rattle.jg_heap.specs.Laws.{StandsInASlot, HoldsInASlot, PointsMeans, ValuePasses, RegionWritten, RegionSpares, RegionKeeps, KeepsObjects, HeldMeans, WasCollected, GoneMeans, StaysGone, ClassesStay, GoingMeans, Spares, LatestWrite, FirstValue, MadeAs, MadeStays, ClassesAre, RootsMean, GoingIsBounded, RowsMean}
+use Rattle.jg_heap.specs.History.{Event, Made, Wrote, Collected, Went, count_of, making_at, value_at, gone_at, held_at, held_by, holds, points_at, some_slot, going, region_writes}
+use Rattle.jg_heap.specs.Laws.{StandsInASlot, HoldsInASlot, PointsMeans, ValuePasses, RegionWritten, RegionSpares, RegionKeeps, KeepsObjects, HeldMeans, WasCollected, WasLetGo, GoneMeans, StaysGone, ClassesStay, GoingMeans, Spares, LatestWrite, FirstValue, MadeAs, MadeStays, ClassesAre, RootsMean, GoingIsBounded, RowsMean}
 use Rattle.jg_heap.proofs.Lists.{kept_any, length-filter-le}
 use Rattle.jg_heap.proofs.Pointing.{points_same, by_slot}
-use Rattle.jg_heap.proofs.Told.{count_stands, class_stands, length_stands}
+use Rattle.jg_heap.proofs.Told.{count_stands, class_stands, gone_stands, length_stands}
 
 -- ---- gone
-
-later_too : (k : ℕ) (ev : Event) (e : List Event) (o : ℕ) → WasCollected k e o → WasCollected k (ev ∷ e) o
-later_too k ev e o w = (ev ∷ w.0, w.1, w.2, ap (λ (l : List Event). ev ∷ l) w.3, w.4, w.5)
-
-was_collected : (k : ℕ) (e : List Event) (o : ℕ) → gone_at k e o ≡ true → WasCollected k e o
-was_collected k [] o h = absurd (false≢true h)
-was_collected k (Made m ∷ e) o h = later_too k (Made m) e o (was_collected k e o h)
-was_collected k (Wrote p j v ∷ e) o h = later_too k (Wrote p j v) e o (was_collected k e o h)
-was_collected k (Collected roots ∷ e) o h =
-    elim (or_cases (gone_at k e o) (ltb o (count_of k e) && not (held_by (gone_at k e) k roots e o)) h) [
-      | inl before ↦ later_too k (Collected roots) e o (was_collected k e o before)
-      | inr now ↦ let parts = and_parts _ _ now in ([], roots, e, refl, ltb-true o (count_of k e) parts.0, not-true _ parts.1)
-    ]
-
-collected_stays : (k : ℕ) (later : List Event) (roots : List ℕ) (before : List Event) (o : ℕ) → o < count_of k before → held_at k roots before o ≡ false
-    → gone_at k (later ++ Collected roots ∷ before) o ≡ true
-collected_stays k [] roots before o h u = or_right (gone_at k before o) _ (and_from _ _ (lt-ltb o (count_of k before) h) (not_from_false _ u))
-collected_stays k (Made m ∷ later) roots before o h u = collected_stays k later roots before o h u
-collected_stays k (Wrote p j v ∷ later) roots before o h u = collected_stays k later roots before o h u
-collected_stays k (Collected rs ∷ later) roots before o h u = or_left _ _ (collected_stays k later roots before o h u)
-
-pub gone_means : GoneMeans
-gone_means k e o = (was_collected k e o, λ w. ap (λ (l : List Event). gone_at k l o) w.3 ∙ collected_stays k w.0 w.1 w.2 o w.4 w.5)
 
 pub stays_gone : StaysGone
 stays_gone k [] before o h = h
 stays_gone k (Made m ∷ later) before o h = stays_gone k later before o h
 stays_gone k (Wrote p j v ∷ later) before o h = stays_gone k later before o h
 stays_gone k (Collected roots ∷ later) before o h = or_left _ _ (stays_gone k later before o h)
+stays_gone k (Went p ∷ later) before o h = or_left _ _ (stays_gone k later before o h)
+
+later_too : (k : ℕ) (ev : Event) (e : List Event) (o : ℕ) → WasCollected k e o ⊎ WasLetGo k e o → WasCollected k (ev ∷ e) o ⊎ WasLetGo k (ev ∷ e) o
+later_too k ev e o (inl w) = inl (ev ∷ w.0, w.1, w.2, ap (λ (l : List Event). ev ∷ l) w.3, w.4, w.5)
+later_too k ev e o (inr w) = inr (ev ∷ w.0, w.1, ap (λ (l : List Event). ev ∷ l) w.2, w.3, w.4)
+
+was_ended : (k : ℕ) (e : List Event) (o : ℕ) → gone_at k e o ≡ true → WasCollected k e o ⊎ WasLetGo k e o
+was_ended k [] o h = absurd (false≢true h)
+was_ended k (Made m ∷ e) o h = later_too k (Made m) e o (was_ended k e o h)
+was_ended k (Wrote p j v ∷ e) o h = later_too k (Wrote p j v) e o (was_ended k e o h)
+was_ended k (Collected roots ∷ e) o h =
+    elim (or_cases (gone_at k e o) (ltb o (count_of k e) && not (held_by (gone_at k e) k roots e o)) h) [
+      | inl before ↦ later_too k (Collected roots) e o (was_ended k e o before)
+      | inr now ↦ let parts = and_parts _ _ now in inl ([], roots, e, refl, ltb-true o (count_of k e) parts.0, not-true _ parts.1)
+    ]
+was_ended k (Went p ∷ e) o h =
+    elim (or_cases (gone_at k e o) (eqb o p && (ltb o (count_of k e) && not (ltb o k))) h) [
+      | inl before ↦ later_too k (Went p) e o (was_ended k e o before)
+      | inr now ↦ (let parts = and_parts _ _ now in let made = and_parts _ _ parts.1 in
+          inr ([], e, ap (λ q. Went q ∷ e) (sym (eqb-true o p parts.0)), ltb-true o (count_of k e) made.0, grind (arith, nat_tests, made.1)))
+    ]
+
+ended_is_gone : (k : ℕ) (e : List Event) (o : ℕ) → WasCollected k e o ⊎ WasLetGo k e o → gone_at k e o ≡ true
+ended_is_gone k e o (inl (later, roots, before, is, made, unheld)) =
+    ap (λ (l : List Event). gone_at k l o) is
+    ∙ stays_gone k later (Collected roots ∷ before) o (or_right (gone_at k before o) _ (and_from _ _ (lt-ltb o (count_of k before) made) (not_from_false _ unheld)))
+ended_is_gone k e o (inr (later, before, is, made, other)) =
+    ap (λ (l : List Event). gone_at k l o) is
+    ∙ stays_gone k later (Went o ∷ before) o (or_right (gone_at k before o) _ (and_from _ _ (eq-eqb o o refl) (and_from _ _ (lt-ltb o (count_of k before) made) (not_from_false _ (le-ltb o k other)))))
+
+pub gone_means : GoneMeans
+gone_means k e o = (was_ended k e o, ended_is_gone k e o)
 
 pub classes_stay : ClassesStay
 classes_stay k [] o h = refl
@@ -54,6 +64,8 @@ classes_stay k (Wrote p j v ∷ e) o h = classes_stay k e o h
 classes_stay k (Collected roots ∷ e) o h =
     let held : held_at k roots e o ≡ true = or_left _ _ (or_left _ _ (lt-ltb o k h)) in
     rw (classes_stay k e o h) (ap (λ b. ltb o (count_of k e) && not b) held ∙ and_right (ltb o (count_of k e)) false refl)
+classes_stay k (Went p ∷ e) o h =
+    rw (classes_stay k e o h) (ap (λ b. eqb o p && (ltb o (count_of k e) && not b)) (lt-ltb o k h) ∙ ap (λ b. eqb o p && b) (and_right (ltb o (count_of k e)) false refl) ∙ and_right (eqb o p) false refl)
 
 -- ---- held
 
@@ -129,6 +141,7 @@ rows_mean rows e stands =
       count = n;
       class = λ o h. class_stands rows e o stands (omega arith);
       len = λ o h. length_stands rows e o stands (omega arith);
+      gone = λ o h. gone_stands rows e o stands (omega arith);
     }
 
 -- ---- values
@@ -138,12 +151,14 @@ count_later k [] before = omega arith
 count_later k (Made m ∷ later) before = omega (arith, count_later k later before)
 count_later k (Wrote p j v ∷ later) before = count_later k later before
 count_later k (Collected roots ∷ later) before = count_later k later before
+count_later k (Went p ∷ later) before = count_later k later before
 
 kept : (k : ℕ) (later before : List Event) (o j : ℕ) → o < count_of k before → AllByRecursion (Spares o j) later → value_at k (later ++ before) o j ≡ value_at k before o j
 kept k [] before o j h s = refl
 kept k (Made m ∷ later) before o j h s = cond-false _ _ _ (ne_eqb o (count_of k (later ++ before)) (λ same. omega (arith, count_later k later before))) ∙ kept k later before o j h s.1
 kept k (Wrote p i v ∷ later) before o j h s = cond-false _ _ _ s.0 ∙ kept k later before o j h s.1
 kept k (Collected roots ∷ later) before o j h s = kept k later before o j h s.1
+kept k (Went p ∷ later) before o j h s = kept k later before o j h s.1
 
 wrote_value : (k : ℕ) (before : List Event) (o j : ℕ) (v : Slot) → value_at k (Wrote o j v ∷ before) o j ≡ v
 wrote_value k before o j v = rw (eq-eqb o o refl, eq-eqb j j refl) refl
@@ -176,6 +191,7 @@ value_passes test k (Wrote p i v ∷ e) o j first w =
       | inr other ↦ rw (other) (value_passes test k e o j first w.1)
     ]
 value_passes test k (Collected roots ∷ e) o j first w = value_passes test k e o j first w.1
+value_passes test k (Went p ∷ e) o j first w = value_passes test k e o j first w.1
 
 -- ---- regions
 
@@ -262,6 +278,7 @@ made_stays k (Made m ∷ later) before o h =
     cond-false _ _ _ (ne_eqb o (count_of k (later ++ before)) (λ same. omega arith)) ∙ made_stays k later before o h
 made_stays k (Wrote p j v ∷ later) before o h = made_stays k later before o h
 made_stays k (Collected roots ∷ later) before o h = made_stays k later before o h
+made_stays k (Went p ∷ later) before o h = made_stays k later before o h
 
 pub made_as : MadeAs
 made_as k later before m =
@@ -272,6 +289,7 @@ classes_counted k [] = omega arith
 classes_counted k (Made m ∷ e) = omega (arith, classes_counted k e)
 classes_counted k (Wrote p j v ∷ e) = classes_counted k e
 classes_counted k (Collected roots ∷ e) = classes_counted k e
+classes_counted k (Went p ∷ e) = classes_counted k e
 
 pub classes_are : ClassesAre
 classes_are k [] o h = refl
@@ -280,6 +298,7 @@ classes_are k (Made m ∷ e) o h =
     cond-false _ _ _ (ne_eqb o (count_of k e) (λ same. omega arith)) ∙ classes_are k e o h
 classes_are k (Wrote p j v ∷ e) o h = classes_are k e o h
 classes_are k (Collected roots ∷ e) o h = classes_are k e o h
+classes_are k (Went p ∷ e) o h = classes_are k e o h
 
 pub roots_mean : RootsMean
 roots_mean is_held n o h = kept_any is_held n o h

@@ -5,8 +5,8 @@ use Rattle.std.proofs.lemmas.Bool.{cases_Bool, or_cases, or_left, or_right, and_
 use Rattle.std.proofs.lemmas.List.Folds.{list_any_at, Any-from_list_any}
 use Rattle.std.proofs.lemmas.List.FromFn.{length-range_with_len, get_or-range_with_len}
 use Rattle.jg_heap.specs.declared.object.Slot.TheVariants.{Number}
-use Rattle.jg_heap.specs.Making.{Making, Plain, Text, Filled, slots_in, slot_in}
-use Rattle.jg_heap.specs.History.{Event, Made, Wrote, Collected, count_of, making_at, value_at, holds, made_with, wrote_for, some_slot, points_at}
+use Rattle.jg_heap.specs.Making.{Making, Plain, Text, Filled, Opaque, slots_in, slot_in}
+use Rattle.jg_heap.specs.History.{Event, Made, Wrote, Collected, Went, count_of, making_at, value_at, holds, made_with, wrote_for, some_slot, points_at}
 use Rattle.jg_heap.specs.Standing.{slots_at}
 use Rattle.jg_heap.proofs.Lists.{list_any_map, list_any_implies, both_imply}
 
@@ -15,6 +15,7 @@ abbrev writes : ℕ → ℕ → Event → Bool
 writes p j (Made m) = false
 writes p j (Wrote q i v) = eqb q p && eqb i j
 writes p j (Collected roots) = false
+writes p j (Went q) = false
 
 same_slot : (p q j i : ℕ) → (eqb p q && eqb j i) ≡ true → (eqb q p && eqb i j) ≡ true
 same_slot p q j i h = let parts = and_parts _ _ h in and_from _ _ (eq-eqb q p (sym (eqb-true p q parts.0))) (eq-eqb i j (sym (eqb-true j i parts.1)))
@@ -33,12 +34,14 @@ first_or_written k (Wrote q i v ∷ e) p j =
       | inr other ↦ elim (first_or_written k e p j) [ inl first ↦ inl (rw (other) first) | inr written ↦ inr (or_right (eqb q p && eqb i j) _ written) ]
     ]
 first_or_written k (Collected roots ∷ e) p j = first_or_written k e p j
+first_or_written k (Went q ∷ e) p j = first_or_written k e p j
 
 -- where no slot held it at the making, its first value doesn't
 first_holds : (o : ℕ) (m : Making) (j : ℕ) → j < slots_in m → holds o (slot_in m j) ≡ true → made_with o m ≡ true
 first_holds o (Plain class fields) j h t = list_any_at (holds o) fields j (Number (pos 0)) h t
 first_holds o (Text units) j h t = absurd (omega arith)
 first_holds o (Filled class n item) j h t = t
+first_holds o (Opaque class n) j h t = absurd (false≢true t)
 
 wrote_it : (k : ℕ) (e : List Event) (p o j : ℕ) → j < slots_in (making_at k e p) → holds o (value_at k e p j) ≡ true → (ev : Event) → writes p j ev ≡ true → wrote_for k e p o ev ≡ true
 wrote_it k e p o j h t (Made m) w = absurd (false≢true w)
@@ -48,6 +51,7 @@ wrote_it k e p o j h t (Wrote q i v) w =
     let P : ℕ → Type 0 = λ n. (ltb n (slots_in (making_at k e p)) && holds o (value_at k e p n)) ≡ true in
     and_from _ _ parts.0 (subst P (sym same) (and_from _ _ (lt-ltb j (slots_in (making_at k e p)) h) t))
 wrote_it k e p o j h t (Collected roots) w = absurd (false≢true w)
+wrote_it k e p o j h t (Went q) w = absurd (false≢true w)
 
 at_range : (n j : ℕ) → j < n → get_or (range_with_len 0 n) j 0 ≡ j
 at_range n j h = get_or-range_with_len 0 n j 0 h ∙ zero-add j
@@ -68,6 +72,7 @@ by_write k e (Wrote q i v ∷ later) p o h =
       | inr past ↦ by_write k e later p o past
     ]
 by_write k e (Collected roots ∷ later) p o h = by_write k e later p o h
+by_write k e (Went q ∷ later) p o h = by_write k e later p o h
 
 by_some : (k : ℕ) (e : List Event) (p o : ℕ) → made_with o (making_at k e p) ≡ false → some_slot k e p o ≡ true → list_any (wrote_for k e p o) e ≡ true
 by_some k e p o none h =

@@ -1,16 +1,16 @@
 -- What each event does to the rows that the history tells.
-use Rattle.std.proofs.Common.{ℕ, ◌≡◌, ◌≢◌, ◌<◌, ◌≤◌, ◌∙◌, sym, ap, refl, List, ◌∷◌, ◌++◌, [], length, map, get_or, set, arith, Bool, false, inl, inr, get_or-set_same, get_or-set_other, pos}
+use Rattle.std.proofs.Common.{ℕ, ◌≡◌, ◌≢◌, ◌<◌, ◌≤◌, ◌∙◌, sym, ap, refl, List, ◌∷◌, ◌++◌, [], length, map, get_or, set, arith, Bool, false, eqb, inl, inr, get_or-set_same, get_or-set_other, pos}
 use Rattle.std.specs.List.{range_with_len}
 use Rattle.std.proofs.lemmas.List.FromFn.{fill_by_all, map-range_with_len_more}
 use Rattle.std.proofs.lemmas.List.{length-set, length-replicate, get_or-replicate}
-use Rattle.std.proofs.lemmas.Bool.{cases_eq, eq-eqb, ne_eqb, cond-true, cond-false, le-ltb}
+use Rattle.std.proofs.lemmas.Bool.{and_right, cases_eq, eq-eqb, ne_eqb, cond-true, cond-false, le-ltb}
 use Rattle.jg_heap.specs.declared.object.Slot.{Slot}
 use Rattle.jg_heap.specs.declared.object.Slot.TheVariants.{Number}
-use Rattle.jg_heap.specs.Making.{Making, Plain, Text, Filled, class_in, units_in, slots_in, slot_in}
+use Rattle.jg_heap.specs.Making.{Making, Plain, Text, Filled, Opaque, class_in, units_in, slots_in, slot_in}
 use Rattle.jg_heap.specs.Rows.{Row, no_row}
 use Rattle.jg_heap.specs.Kept.{with_slot}
 use Rattle.jg_heap.specs.Rows.{first_slots, row_of_making}
-use Rattle.jg_heap.specs.History.{Event, Made, Wrote, Collected, count_of, making_at, value_at, gone_at}
+use Rattle.jg_heap.specs.History.{Event, Made, Wrote, Collected, Went, count_of, making_at, value_at, gone_at}
 use Rattle.jg_heap.specs.Standing.{standing, row_at, slots_at}
 use Rattle.jg_heap.proofs.Lists.{map_agree}
 use Rattle.jg_heap.proofs.Told.{length-standing, row_in-standing, length-slots_at, get_or-slots_at}
@@ -29,11 +29,13 @@ length-first_slots : (m : Making) → length (first_slots m) ≡ slots_in m
 length-first_slots (Plain class fields) = refl
 length-first_slots (Text units) = refl
 length-first_slots (Filled class n item) = length-replicate n item
+length-first_slots (Opaque class n) = length-replicate n (Number (pos 0))
 
 get_or-first_slots : (m : Making) (j : ℕ) → j < slots_in m → get_or (first_slots m) j (Number (pos 0)) ≡ slot_in m j
 get_or-first_slots (Plain class fields) j h = refl
 get_or-first_slots (Text units) j h = refl
 get_or-first_slots (Filled class n item) j h = get_or-replicate n j item (Number (pos 0)) h
+get_or-first_slots (Opaque class n) j h = get_or-replicate n j (Number (pos 0)) (Number (pos 0)) h
 
 value_made_new : (k : ℕ) (m : Making) (e : List Event) (j : ℕ) → value_at k (Made m ∷ e) (count_of k e) j ≡ slot_in m j
 value_made_new k m e j = cond-true _ _ _ (eq-eqb (count_of k e) (count_of k e) refl)
@@ -65,6 +67,7 @@ gone_past k [] o h = refl
 gone_past k (Made m ∷ e) o h = gone_past k e o (omega arith)
 gone_past k (Wrote p j v ∷ e) o h = gone_past k e o h
 gone_past k (Collected roots ∷ e) o h = rw (gone_past k e o h, le-ltb o (count_of k e) h) refl
+gone_past k (Went p ∷ e) o h = rw (gone_past k e o h, le-ltb o (count_of k e) h) (and_right (eqb o p) false refl)
 
 row_made_old : (k : ℕ) (m : Making) (e : List Event) (o : ℕ) → o ≢ count_of k e → row_at k (Made m ∷ e) o ≡ row_at k e o
 unfolding row_at

@@ -11,7 +11,7 @@ use Rattle.jg_heap.specs.declared.object.Slot.{Slot}
 use Rattle.jg_heap.specs.declared.object.Slot.TheVariants.{Number}
 use Rattle.jg_words.specs.declared.object.Primitive.{Primitive}
 use Rattle.jg_words.specs.declared.object.Primitive.TheVariants.{Boolean, Byte, Char, Short, Int, Long}
-use Rattle.jg_heap.specs.Making.{Making, Plain, Text, Filled, array_class, class_in, units_in, length_in, slots_in}
+use Rattle.jg_heap.specs.Making.{Making, Plain, Text, Filled, Opaque, array_class, class_in, units_in, length_in, slots_in}
 use Rattle.jg_heap.specs.Rows.{Row, Rows, row_in, no_row, count_in, class_at, length_at, units_at}
 use Rattle.jg_heap.specs.Kept.{Object, row_of, class_of_body, units_of_body, slots_of_body}
 use Rattle.jg_heap.specs.History.{Event, count_of, making_at, value_at, gone_at}
@@ -54,6 +54,7 @@ units_or_slots : (m : Making) → length (units_in m) + slots_in m ≡ length_in
 units_or_slots (Plain class fields) = omega arith
 units_or_slots (Text units) = omega arith
 units_or_slots (Filled class n item) = omega arith
+units_or_slots (Opaque class n) = omega arith
 
 -- ---- what the rows say of an object, against the history
 
@@ -112,6 +113,7 @@ slots_by_length rows e o stands made other =
     slots_all (Plain class fields) h = refl
     slots_all (Text units) h = absurd (h refl)
     slots_all (Filled class n item) h = refl
+    slots_all (Opaque class n) h = refl
 
 slots_of_other : {A : Type 0} (body : Body A) (j : ℕ) → class_of_body body ≢ 2 → j < length (units_of_body body) + length (slots_of_body body) → j < length (slots_of_body body)
 slots_of_other Class j h l = omega arith

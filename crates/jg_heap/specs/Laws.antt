@@ -5,11 +5,11 @@ use Rattle.jg_words.specs.declared.object.ObjId.{ObjId}
 use Rattle.jg_heap.specs.declared.object.Slot.{Slot}
 use Rattle.jg_heap.specs.declared.object.Slot.TheVariants.{Number, Object as ToObject}
 use Rattle.jg_heap.specs.Making.{Making, Plain, class_in, length_in, slots_in, slot_in}
-use Rattle.jg_heap.specs.Rows.{Rows, count_in, class_at, length_at}
+use Rattle.jg_heap.specs.Rows.{Rows, count_in, class_at, gone_in, length_at}
 use Rattle.jg_heap.specs.Standing.{Stands, held_objects}
 use Rattle.jg_heap.specs.Spelling.{spelt, AreUnits, IsSpeltInItems}
 use Rattle.jg_heap.specs.Reading.{decoded}
-use Rattle.jg_heap.specs.History.{Event, Made, Wrote, Collected, count_of, making_at, value_at, gone_at, held_at, going, points_at, region_writes}
+use Rattle.jg_heap.specs.History.{Event, Made, Wrote, Collected, Went, count_of, making_at, value_at, gone_at, held_at, going, points_at, region_writes}
 
 -- some slot of an object that isn't gone holds it
 abbrev pub StandsInASlot : ℕ → List Event → ℕ → Type 0
@@ -35,9 +35,13 @@ abbrev pub WasCollected : ℕ → List Event → ℕ → Type 0
 WasCollected k e o = (later : List Event) × (roots : List ℕ) × (before : List Event)
     × (e ≡ later ++ Collected roots ∷ before) × (o < count_of k before) × (held_at k roots before o ≡ false)
 
--- an object is gone exactly where that was so
+-- a virtual machine let it go, and it was made before that and is no class object
+abbrev pub WasLetGo : ℕ → List Event → ℕ → Type 0
+WasLetGo k e o = (later : List Event) × (before : List Event) × (e ≡ later ++ Went o ∷ before) × (o < count_of k before) × (k ≤ o)
+
+-- an object is gone exactly where either was so
 abbrev pub GoneMeans : Type 0
-GoneMeans = (k : ℕ) (e : List Event) (o : ℕ) → IsTrue (gone_at k e o) ↔ WasCollected k e o
+GoneMeans = (k : ℕ) (e : List Event) (o : ℕ) → IsTrue (gone_at k e o) ↔ (WasCollected k e o ⊎ WasLetGo k e o)
 
 -- what is gone stays gone, whatever comes later
 abbrev pub StaysGone : Type 0
@@ -58,6 +62,7 @@ abbrev pub Spares : ℕ → ℕ → Event → Type 0
 Spares o j (Made m) = Unit {0}
 Spares o j (Wrote p i v) = ((o == p) && (j == i)) ≡ false
 Spares o j (Collected roots) = Unit {0}
+Spares o j (Went p) = Unit {0}
 
 -- a slot of an object that was made holds what the latest write wrote into it
 abbrev pub LatestWrite : Type 0
@@ -75,6 +80,7 @@ abbrev pub WritesPassing : (Slot → Bool) → ℕ → ℕ → Event → Type 0
 WritesPassing test o j (Made m) = Unit {0}
 WritesPassing test o j (Wrote p i v) = IsTrue ((o == p) && (j == i)) → IsTrue (test v)
 WritesPassing test o j (Collected roots) = Unit {0}
+WritesPassing test o j (Went p) = Unit {0}
 
 -- a slot holds what passes a test, as being a number, where its first value and all that was written into it do
 abbrev pub ValuePasses : Type 0
@@ -128,6 +134,7 @@ pub record RowsTell (rows : Rows) (e : List Event) : Type 0 where
   pub count : count_in rows ≡ count_of rows.classes e
   pub class : (o : ℕ) → o < count_of rows.classes e → class_at rows o ≡ class_in (making_at rows.classes e o)
   pub len : (o : ℕ) → o < count_of rows.classes e → length_at rows o ≡ length_in (making_at rows.classes e o)
+  pub gone : (o : ℕ) → o < count_of rows.classes e → gone_in rows o ≡ gone_at rows.classes e o
 
 abbrev pub RowsMean : Type 0
 RowsMean = (rows : Rows) (e : List Event) → Stands rows e → RowsTell rows e

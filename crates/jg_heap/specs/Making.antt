@@ -7,41 +7,48 @@ use Rattle.jg_heap.specs.declared.object.Slot.TheVariants.{Number, Object}
 use Rattle.jg_heap.specs.declared.object.Shape.{Shape}
 use Rattle.jg_heap.specs.declared.object.Shape.TheVariants.{Plain as PlainShape, Text as TextShape, Numbers, Objects}
 
--- with these fields, of these UTF-16 units, or as an array of so many equal items
+-- with these fields, of these UTF-16 units, or as an array of so many equal items; or an object of which the class and
+-- the length alone are known, so that it counts as holding nothing
 pub data Making : Type 0 where
   Plain : (class : ℕ) → (fields : List Slot) → Making
   Text : (units : List ℕ) → Making
   Filled : (class : ℕ) → (length : ℕ) → (item : Slot) → Making
+  Opaque : (class : ℕ) → (length : ℕ) → Making
 
 -- its class, by its number; 2 is java/lang/String
 abbrev pub class_in : Making → ℕ
 class_in (Plain class fields) = class
 class_in (Text units) = 2
 class_in (Filled class n item) = class
+class_in (Opaque class n) = class
 
 -- a string's units
 abbrev pub units_in : Making → List ℕ
 units_in (Plain class fields) = []
 units_in (Text units) = units
 units_in (Filled class n item) = []
+units_in (Opaque class n) = []
 
 -- how many fields, units or items it has
 abbrev pub length_in : Making → ℕ
 length_in (Plain class fields) = length fields
 length_in (Text units) = length units
 length_in (Filled class n item) = n
+length_in (Opaque class n) = n
 
 -- how many slots it has: each field and each item of an array is one, a string has none
 abbrev pub slots_in : Making → ℕ
 slots_in (Plain class fields) = length fields
 slots_in (Text units) = 0
 slots_in (Filled class n item) = n
+slots_in (Opaque class n) = n
 
 -- what a slot holds at the making
 abbrev pub slot_in : Making → ℕ → Slot
 slot_in (Plain class fields) j = slice_index_or fields j (Number (pos 0))
 slot_in (Text units) j = Number (pos 0)
 slot_in (Filled class n item) j = item
+slot_in (Opaque class n) j = Number (pos 0)
 
 -- the number of the class of arrays of these: [Z, [B, [C, [S, [I and [J are 4 to 9
 abbrev pub array_class : Primitive → ℕ

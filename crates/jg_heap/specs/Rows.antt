@@ -2,7 +2,7 @@
 use Rattle.std.specs.Prelude.{ℕ, pos, ◌≡◌, ◌+◌, Bool, false, List, [], length, replicate, slice_index_or}
 use Rattle.jg_heap.specs.declared.object.Slot.{Slot}
 use Rattle.jg_heap.specs.declared.object.Slot.TheVariants.{Number}
-use Rattle.jg_heap.specs.Making.{Making, Plain, Text, Filled, class_in, units_in}
+use Rattle.jg_heap.specs.Making.{Making, Plain, Text, Filled, Opaque, class_in, units_in}
 
 -- an object: its class, a string's units, what the slots of any other hold, and whether it is gone
 pub record Row : Type 0 where
@@ -28,6 +28,7 @@ abbrev pub first_slots : Making → List Slot
 first_slots (Plain class fields) = fields
 first_slots (Text units) = []
 first_slots (Filled class n item) = replicate n item
+first_slots (Opaque class n) = replicate n (Number (pos 0))
 
 -- the row of an object as it is made
 abbrev pub row_of_making : Making → Row
@@ -52,6 +53,10 @@ units_at rows o = (row_in rows.objects o).units
 -- what a slot holds
 abbrev pub slot_at : Rows → ℕ → ℕ → Slot
 slot_at rows o j = slice_index_or (row_in rows.objects o).slots j (Number (pos 0))
+
+-- whether it is gone
+abbrev pub gone_in : Rows → ℕ → Bool
+gone_in rows o = (row_in rows.objects o).gone
 
 -- how many units, fields or items it has: a string has units alone, any other slots alone
 abbrev pub length_at : Rows → ℕ → ℕ

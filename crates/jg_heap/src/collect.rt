@@ -1,4 +1,4 @@
-ghost use Rattle.std.specs.Prelude.{◌≡◌, ℕ, ◌+◌, ◌-◌, ◌++◌, ◌<◌, ◌≤◌, ◌&&◌, All, false, not, ◌==◌, OnOk, length, slice_index_or, nat_lt, map, filter, vec_len, vec_capacity};
+ghost use Rattle.std.specs.Prelude.{◌≡◌, ℕ, ◌+◌, ◌-◌, ◌++◌, ◌<◌, ◌≤◌, ◌&&◌, All, false, not, ◌==◌, OnOk, length, slice_get, slice_index_or, nat_lt, map, filter, vec_len, vec_capacity};
 ghost use Rattle.std.specs.List.{list_any, range_with_len};
 ghost use Rattle.jg_heap.specs.declared.object.Slot.TheVariants.{Object as ToObject};
 ghost use Rattle.jg_heap.specs.History.{holds};
@@ -8,13 +8,13 @@ ghost use Rattle.jg_lists.specs.Marks.{Marks};
 use crate::body::Body;
 use crate::object::Slot;
 use crate::roots::Roots;
-use jg_lists::ObjectMarks;
+use jg_lists::{Marking, ObjectMarks};
 use jg_words::ObjId;
 use std::alloc::{AllocError, Allocator};
 
 /// Marks the object that is named, if one is.
 fn mark_target<A: Allocator>(marks: &mut ObjectMarks<A>, target: Option<ObjId>)
-    ensures { Marks (λ o. holds o (ToObject target)) marks.old marks.new }
+    ensures { Marks (λ o. holds o (ToObject target)) (slice_get marks.old) (slice_get marks.new) }
 {
     if let Some(target) = target {
         marks.set(target.0);
@@ -23,7 +23,7 @@ fn mark_target<A: Allocator>(marks: &mut ObjectMarks<A>, target: Option<ObjId>)
 
 /// Marks the object that a slot names, if it names one.
 fn mark_slot<A: Allocator>(marks: &mut ObjectMarks<A>, slot: Slot)
-    ensures { Marks (λ o. holds o slot) marks.old marks.new }
+    ensures { Marks (λ o. holds o slot) (slice_get marks.old) (slice_get marks.new) }
 {
     if let Slot::Object(target) = slot {
         mark_target(marks, target);
@@ -32,7 +32,7 @@ fn mark_slot<A: Allocator>(marks: &mut ObjectMarks<A>, slot: Slot)
 
 /// Marks the class objects.
 pub(crate) fn mark_classes<A: Allocator>(marks: &mut ObjectMarks<A>, class_count: u64)
-    ensures { Marks (λ o. nat_lt o class_count) marks.old marks.new }
+    ensures { Marks (λ o. nat_lt o class_count) (slice_get marks.old) (slice_get marks.new) }
 {
     for object in 0..class_count {
         marks.set(object);
@@ -41,7 +41,7 @@ pub(crate) fn mark_classes<A: Allocator>(marks: &mut ObjectMarks<A>, class_count
 
 /// Marks each object that a field names.
 fn mark_fields<A: Allocator>(marks: &mut ObjectMarks<A>, slots: &[Slot])
-    ensures { Marks (λ o. list_any (holds o) slots.now) marks.old marks.new }
+    ensures { Marks (λ o. list_any (holds o) slots.now) (slice_get marks.old) (slice_get marks.new) }
 {
     for slot in slots {
         mark_slot(marks, *slot);
@@ -50,7 +50,8 @@ fn mark_fields<A: Allocator>(marks: &mut ObjectMarks<A>, slots: &[Slot])
 
 /// Marks each object that an array's item names.
 fn mark_items<A: Allocator>(marks: &mut ObjectMarks<A>, items: &[Option<ObjId>])
-    ensures { Marks (λ o. list_any (λ target. holds o (ToObject target)) items.now) marks.old marks.new }
+    ensures { Marks (λ o. list_any (λ target. holds o (ToObject target)) items.now) (slice_get marks.old)
+        (slice_get marks.new) }
 {
     for target in items {
         mark_target(marks, *target);
@@ -59,7 +60,7 @@ fn mark_items<A: Allocator>(marks: &mut ObjectMarks<A>, items: &[Option<ObjId>])
 
 /// Marks each object that stands in a slot.
 fn mark_slots<A: Allocator>(marks: &mut ObjectMarks<A>, body: &Body<A>)
-    ensures { Marks (λ o. list_any (holds o) (slots_of_body body.now)) marks.old marks.new }
+    ensures { Marks (λ o. list_any (holds o) (slots_of_body body.now)) (slice_get marks.old) (slice_get marks.new) }
 {
     match body {
         Body::Fields(instance) => mark_fields(marks, &instance.slots),
@@ -76,7 +77,8 @@ pub(crate) fn mark_pointed<A: Allocator>(
     pointing: &[u64],
 )
     requires { All (λ p. p < length objects.now) pointing.now }
-    ensures { Marks (λ o. list_any (slot_of_row_holds (map row_of_body objects.now) o) pointing.now) marks.old marks.new }
+    ensures { Marks (λ o. list_any (slot_of_row_holds (map row_of_body objects.now) o) pointing.now)
+        (slice_get marks.old) (slice_get marks.new) }
 {
     for object in pointing {
         mark_slots(marks, &objects[*object as usize]);

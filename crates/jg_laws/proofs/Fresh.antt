@@ -166,7 +166,7 @@ gone_made p u k o t n is =
     (λ v differ old. rw (acts_same v u (Make k o) p.locals differ) old.1)
     t
 
-gone_steps : (s : StatedSetup) (t n : ℕ) → Steps s (Gone t n)
+pub gone_steps : (s : StatedSetup) (t n : ℕ) → Steps s (Gone t n)
 gone_steps s t n =
     let counts = at_least_steps s t (n + 1) in
     record {
@@ -207,10 +207,10 @@ object_in-named_by None = refl
 object_in-named_by (Some o) = refl
 
 -- the object that a local names, where it is the thread's own or another's
-abbrev own_object : Bool → Option ℕ → Option ℕ
+abbrev pub own_object : Bool → Option ℕ → Option ℕ
 own_object mine found = object_in (if◌then◌else◌ {A = Named} mine (named_by found) Nothing)
 
-own_gone : (mine : Bool) (o : ℕ) (first middle last : Option ℕ) → (first ≡ Some o → middle ≡ None → last ≡ None)
+pub own_gone : (mine : Bool) (o : ℕ) (first middle last : Option ℕ) → (first ≡ Some o → middle ≡ None → last ≡ None)
     → own_object mine first ≡ Some o → own_object mine middle ≡ None → own_object mine last ≡ None
 own_gone true o first middle last gone was is =
     object_in-named_by last ∙ gone (sym (object_in-named_by first) ∙ was) (sym (object_in-named_by middle) ∙ is)
@@ -293,7 +293,7 @@ not_same p u k t n is old =
     (λ v differ below. grind (arith, nat_tests, differ))
     t old
 
-ended_steps : (s : StatedSetup) (kind : Kind) (t n : ℕ) → Steps s (Ended kind t n)
+pub ended_steps : (s : StatedSetup) (kind : Kind) (t n : ℕ) → Steps s (Ended kind t n)
 ended_steps s kind t n =
     let counts = at_least_steps s t (n + 1) in
     record {

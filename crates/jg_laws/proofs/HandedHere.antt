@@ -1,6 +1,6 @@
 -- What a call hands out a reference for was made and isn't gone; so no legal history has a live reference to what is gone.
-use Rattle.std.proofs.Common.{option_map, ℕ, ℤ, pos, ◌≡◌, ◌+◌, ◌<◌, ◌≤◌, ◌++◌, ◌∙◌, Bool, true, false, List, [], ◌∷◌, map, length, Option, Some, None, refl, ap, sym, subst, arith, length-append}
-use Rattle.std.specs.Prelude.{◌==◌, ◌&&◌, ◌||◌, not, nat_lt, int_lt}
+use Rattle.std.proofs.Common.{option_map, ℕ, ℤ, pos, ◌≡◌, ◌+◌, ◌<◌, ◌≤◌, ◌++◌, Bool, true, false, List, [], ◌∷◌, map, length, Option, Some, None, refl, ap, sym, subst, arith, length-append}
+use Rattle.std.specs.Prelude.{◌==◌, ◌&&◌, ◌||◌, not, nat_lt, int_lt, if◌then◌else◌}
 use Rattle.std.specs.List.{AllByRecursion}
 use Rattle.std.specs.Str.{bytes_eq}
 use Rattle.std.specs.Option.{unwrap_or}
@@ -42,7 +42,7 @@ use Rattle.jg_monitors.specs.declared.entering.Entering.{Entering}
 use Rattle.jg_monitors.specs.declared.entering.Entering.TheVariants.{Entered, Busy as KeptOut}
 use Rattle.jg_heap.specs.declared.object.Slot.{Slot}
 use Rattle.jg_heap.specs.declared.object.Slot.TheVariants.{Number, Object as Pointer}
-use Rattle.jg_heap.specs.Making.{Making, Plain, Text, Filled, class_in, length_in, slots_in, array_class}
+use Rattle.jg_heap.specs.Making.{Making, Plain, Text, Filled, Opaque, class_in, length_in, slots_in, array_class}
 use Rattle.jg_heap.specs.Reading.{natural, decoded}
 use Rattle.jg_heap.specs.History as heap
 use Rattle.jg_heap.proofs.Callers.{classes_law, gone_law}
@@ -51,7 +51,7 @@ use Rattle.jg_rules.specs.declared.named.Named.{Named}
 use Rattle.jg_rules.specs.declared.named.Named.TheVariants.{Nothing, Null as NamesNull, Object}
 use Rattle.jg_rules.specs.declared.operand.ObjectType.TheVariants.{ObjectArray}
 use Rattle.jg_rules.specs.Parts.{Parts}
-use Rattle.jg_rules.specs.Names.{names, object_in, object_named, the_object, class_of, length_of, units_of, items_of, slot_of, slot_place, target_in, pending, session, class_meant, native_meant, field_meant}
+use Rattle.jg_rules.specs.Names.{names, object_in, object_named, the_object, is_here, class_of, length_of, units_of, items_of, slot_of, slot_place, target_in, pending, session, class_meant, native_meant, field_meant}
 use Rattle.jg_rules.specs.Access.{native_class, home_of}
 use Rattle.jg_rules.specs.Effects.{parts, after, call_heap, done_if, if_effective, is_effective, class_thrown, settled, first_value, pointer}
 use Rattle.jg_rules.specs.Rules.{verdict, is_stated_as, is_of_class}
@@ -61,9 +61,9 @@ use Rattle.jg_rules.specs.Answers.{answer, handed, plain, saying, entered, prese
 use Rattle.jg_rules.specs.Legal.{Legal, entry_by}
 use Rattle.jg_rules.specs.Unbroken.{Unbroken}
 use Rattle.jg_rules.proofs.Kept.{unbroken}
-use Rattle.jg_rules.proofs.Objects.{first_is_of}
+use Rattle.jg_rules.proofs.Objects.{first_is_of, made_so}
 use Rattle.jg_laws.specs.Laws.{MakesStated, StaysGone, LiveIsNotGone}
-use Rattle.jg_laws.proofs.Makings.{stated_at, stated_length}
+use Rattle.jg_laws.proofs.Makings.{length_stated}
 use Rattle.jg_laws.proofs.Natives.{all_stated}
 use Rattle.jg_laws.proofs.StatedFields.{IsStatedField, stated_field, both_true, same_number}
 use Rattle.jg_laws.proofs.Steps.{Steps, each_since, heap_steps}
@@ -79,6 +79,7 @@ counted k [] = omega arith
 counted k (heap.Made m ∷ e) = omega (arith, counted k e)
 counted k (heap.Wrote p j v ∷ e) = counted k e
 counted k (heap.Collected roots ∷ e) = counted k e
+counted k (heap.Went p ∷ e) = counted k e
 
 -- a class object is there
 class_here : (k : ℕ) (e : List heap.Event) (c : ℕ) → c < k → Here k e c
@@ -95,6 +96,11 @@ class_below s name c is =
     let own : length (class_names s) ≡ length s.classes = length-map s.classes _ in
     omega (arith, within, both, own, fifteen)
 
+-- each object's class is one of the setup's
+class_known : (b : Bool) (s : StatedSetup) (class : ℕ) → class < class_count s → (if b then class else 1) < class_count s
+class_known true s class is = is
+class_known false s class is = omega arith
+
 -- ---- what a slot names
 
 pointed : (v : Slot) (o : ℕ) → target_in v ≡ Some o → v ≡ Pointer (Some (record { 0 = o }))
@@ -102,15 +108,12 @@ pointed (Number v) o is = absurd cc
 pointed (Pointer None) o is = absurd cc
 pointed (Pointer (Some x)) o is = (let same : x.0 ≡ o = cc in ap (λ (n : ℕ). Pointer (Some (record { 0 = n }))) same)
 
-slots_of_array : (m : Making) → (class_in m == 3) ≡ true → length_in m ≡ slots_in m
-slots_of_array (Plain class fields) is = refl
-slots_of_array (Text units) is = absurd cc
-slots_of_array (Filled class n item) is = refl
-
-slots_of_fields : (m : Making) → 10 ≤ class_in m → length_in m ≡ slots_in m
-slots_of_fields (Plain class fields) high = refl
-slots_of_fields (Text units) high = absurd (omega (arith, high))
-slots_of_fields (Filled class n item) high = refl
+-- what is no string has a slot for each field or item
+slots_of : (m : Making) → 3 ≤ class_in m → length_in m ≡ slots_in m
+slots_of (Plain class fields) high = refl
+slots_of (Text units) high = absurd (omega (arith, high))
+slots_of (Filled class n item) high = refl
+slots_of (Opaque class n) high = refl
 
 inside : (a b c : Bool) → (a || (b || c)) ≡ false → c ≡ false
 inside true b c is = absurd cc
@@ -121,32 +124,30 @@ element_here : (s : StatedSetup) (p : Parts) (t : ℕ) (env : Option EnvId) (r :
     → is_outside index (pos 1) (length_of s p (the_object p t r)) ≡ false → target_in (slot_of s p (the_object p t r) (natural index)) ≡ Some o → Here (class_count s) p.heap o
 element_here s p t env r index o kept all within is =
     let x : ℕ = the_object p t r in
-    let there = named_here s p t x r all (the_named (names p t r) false false kept.alive kept.not_null) in
-    let array = first_is_of s p ObjectArray (names p t r) false false false kept.alive kept.not_null kept.right_type in
-    let size = slots_of_array (heap.making_at (class_count s) p.heap x) array in
+    let array : class_of s p x ≡ 3 = same_number (class_of s p x) 3 (first_is_of s p ObjectArray (names p t r) false false false kept.alive kept.not_null kept.right_type) in
+    let made = made_so s p x 3 array (omega arith) in
+    let size = slots_of (heap.making_at (class_count s) p.heap x) (omega (arith, made.class)) in
     let low : nat_lt (length_of s p x) (natural index + 1) ≡ false = inside (int_lt index (pos 0)) (int_lt (pos 1) (pos 0)) _ within in
     let below : natural index < slots_in (heap.making_at (class_count s) p.heap x) = subst (λ (n : ℕ). natural index < n) size (grind (arith, nat_tests, low)) in
-    all.slots x (natural index) (record { 0 = o }) there.0 there.1 below (pointed (slot_of s p x (natural index)) o is)
+    all.slots x (natural index) (record { 0 = o }) made.made made.here below (pointed (slot_of s p x (natural index)) o is)
 
-field_at : (s : StatedSetup) (p : Parts) (x : ℕ) (field : FieldId) (o : ℕ) → AllByRecursion (MakesStated s) p.heap → AllHere s p → Here (class_count s) p.heap x
+field_at : (s : StatedSetup) (p : Parts) (x : ℕ) (field : FieldId) (o : ℕ) → AllByRecursion (MakesStated s) p.heap → AllHere s p
     → IsStatedField s field.class field.field → class_of s p x ≡ field.class → target_in (field_value s p x field) ≡ Some o → Here (class_count s) p.heap o
-field_at s p x field o stated all there is same found =
+field_at s p x field o stated all is same found =
     let m : Making = heap.making_at (class_count s) p.heap x in
-    let high : 10 ≤ class_in m = omega (arith, is.high, same) in
-    let size = stated_length s m (stated_at s (class_count s) p.heap x stated) high in
-    let wide : length_in m ≡ length (fields_in (class_at s field.class)) = size ∙ ap (λ (c : ℕ). length (fields_in (class_at s c))) same in
-    let below : slot_place field < slots_in m = omega (arith, slots_of_fields m high, wide, is.within) in
-    all.slots x (slot_place field) (record { 0 = o }) there.0 there.1 below (pointed (field_value s p x field) o found)
+    let made = made_so s p x field.class same (omega (arith, is.high)) in
+    let wide = length_stated s p x field.class stated same (omega (arith, is.high)) in
+    let below : slot_place field < slots_in m = omega (arith, slots_of m (omega (arith, made.class, is.high)), wide, is.within) in
+    all.slots x (slot_place field) (record { 0 = o }) made.made made.here below (pointed (field_value s p x field) o found)
 
 field_named : (s : StatedSetup) (p : Parts) (named : Named) (field : FieldId) (o : ℕ) (a b : Bool) → AllByRecursion (MakesStated s) p.heap → AllHere s p
-    → ((x : ℕ) → object_in named ≡ Some x → Here (class_count s) p.heap x)
     → not (is_stated_as None (field_type s field.class field.field) && is_of_class s p field.class named) ≡ false → object_in named ≡ Some (unwrap_or (object_in named) 0)
     → target_in (field_value s p (unwrap_or (object_in named) 0) field) ≡ Some o → Here (class_count s) p.heap o
-field_named s p Nothing field o a b stated all there right some found = absurd cc
-field_named s p NamesNull field o a b stated all there right some found = absurd cc
-field_named s p (Object x) field o a b stated all there right some found =
+field_named s p Nothing field o a b stated all right some found = absurd cc
+field_named s p NamesNull field o a b stated all right some found = absurd cc
+field_named s p (Object x) field o a b stated all right some found =
     let both = both_true (is_stated_as None (field_type s field.class field.field)) (class_of s p x.0 == field.class) right in
-    field_at s p x.0 field o stated all (there x.0 refl) (stated_field s field.class field.field None both.0) (same_number (class_of s p x.0) field.class both.1) found
+    field_at s p x.0 field o stated all (stated_field s field.class field.field None both.0) (same_number (class_of s p x.0) field.class both.1) found
 
 -- ---- what an answer hands out
 
@@ -252,7 +253,8 @@ answer_here s p t env (Exceptions ExceptionClear) kept stated all = tt
 answer_here s p t env (Exceptions ExceptionCheck) kept stated all = tt
 answer_here s p t env (Objects (FindClass name)) kept stated all =
     reads (class_count s) p.heap (answer s p t (Objects (FindClass name))) (found_here s p t (class_named s name) (λ o is. class_here (class_count s) p.heap o (class_below s name o is)))
-answer_here s p t env (Objects (GetObjectClass r)) kept stated all = class_here (class_count s) p.heap (class_of s p (the_object p t.0 r)) (all.known (the_object p t.0 r))
+answer_here s p t env (Objects (GetObjectClass r)) kept stated all =
+    class_here (class_count s) p.heap (class_of s p (the_object p t.0 r)) (class_known (is_here s p (the_object p t.0 r)) s _ (all.known (the_object p t.0 r)))
 answer_here s p t env (Objects (IsInstanceOf r class)) kept stated all = tt
 answer_here s p t env (Objects (AllocObject class)) kept stated all = here_new (class_count s) p.heap (Plain (the_object p t.0 class) (map first_value (fields_in (class_at s (the_object p t.0 class)))))
 answer_here s p t env (Objects (GetFieldID class field signature)) kept stated all =
@@ -260,7 +262,7 @@ answer_here s p t env (Objects (GetFieldID class field signature)) kept stated a
 answer_here s p t env (Objects (GetField primitive r field)) kept stated all = tt
 answer_here s p t env (Objects (GetObjectField r field)) kept stated all =
     reads (class_count s) p.heap (answer s p t (Objects (GetObjectField r field))) (handed_here (class_count s) p.heap p t Local (target_in (field_value s p (the_object p t.0 r) field))
-    (λ o is. field_named s p (names p t.0 r) field o false false stated all (λ x named. named_here s p t.0 x r all named) kept.right_field (the_named (names p t.0 r) false false kept.alive kept.not_null) is))
+    (λ o is. field_named s p (names p t.0 r) field o false false stated all kept.right_field (the_named (names p t.0 r) false false kept.alive kept.not_null) is))
 answer_here s p t env (Objects (SetField primitive r field value)) kept stated all = tt
 answer_here s p t env (Objects (SetObjectField r field value)) kept stated all = tt
 answer_here s p t env (Strings (NewString units)) kept stated all = here_new (class_count s) p.heap (Text (map natural units))

@@ -7,7 +7,7 @@ use Rattle.jg_words.specs.declared.object.ObjId.{ObjId}
 use Rattle.jg_heap.specs.declared.object.Slot.{Slot}
 use Rattle.jg_heap.specs.declared.object.Slot.TheVariants.{Number, Object}
 use Rattle.jg_heap.specs.Making.{Making, class_in, slots_in, slot_in}
-use Rattle.jg_heap.specs.History.{Event, Made, Wrote, Collected, count_of, making_at, value_at, gone_at, held_by, held_at, going, region_writes}
+use Rattle.jg_heap.specs.History.{Event, Made, Wrote, Collected, Went, count_of, making_at, value_at, gone_at, held_by, held_at, going, region_writes}
 use Rattle.jg_heap.specs.Standing.{held_objects}
 use Rattle.jg_heap.proofs.Callers.{roots_law, held_law}
 
@@ -25,10 +25,19 @@ AreKnown k e = (o : ℕ) → class_in (making_at k e o) < k
 
 -- ---- an object is made
 
+both_no : (b : Bool) → (b && false) ≡ false
+both_no true = refl
+both_no false = refl
+
 unmade_if : (k : ℕ) (e : List Event) (roots : List ℕ) (o : ℕ) → count_of k e ≤ o → gone_at k e o ≡ false → (gone_at k e o || (nat_lt o (count_of k e) && not (held_by (gone_at k e) k roots e o))) ≡ false
 unmade_if k e roots o past old =
     let none : nat_lt o (count_of k e) ≡ false = grind (arith, nat_tests) in
     rw (old, none) refl
+
+unmade_went : (k : ℕ) (e : List Event) (p o : ℕ) → count_of k e ≤ o → gone_at k e o ≡ false → (gone_at k e o || ((o == p) && (nat_lt o (count_of k e) && not (nat_lt o k)))) ≡ false
+unmade_went k e p o past old =
+    let none : nat_lt o (count_of k e) ≡ false = grind (arith, nat_tests) in
+    rw (old, none) (both_no (o == p))
 
 -- what wasn't made isn't gone
 pub unmade : (k : ℕ) (e : List Event) (o : ℕ) → count_of k e ≤ o → gone_at k e o ≡ false
@@ -36,6 +45,7 @@ unmade k [] o past = refl
 unmade k (Made m ∷ e) o past = unmade k e o (omega (arith, past))
 unmade k (Wrote p j v ∷ e) o past = unmade k e o past
 unmade k (Collected roots ∷ e) o past = unmade_if k e roots o past (unmade k e o past)
+unmade k (Went p ∷ e) o past = unmade_went k e p o past (unmade k e o past)
 
 pub here_made : (k : ℕ) (e : List Event) (m : Making) (o : ℕ) → Here k e o → Here k (Made m ∷ e) o
 here_made k e m o here = (omega (arith, here.0), here.1)

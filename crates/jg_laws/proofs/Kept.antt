@@ -153,7 +153,7 @@ below_more n m (Leave ∷ acts) le below = below_more n m acts le below
 below_more n m (End ∷ acts) le below = below_more n m acts le below
 
 -- an act that hands out nothing leaves each thread's next number
-next_same : (p : Parts) (u : ℕ) (a : threads.Act) → threads.is_count_ref a ≡ false → (t : ℕ) → next_ref (record p { threads = threads.by u a ∷ p.threads }) t ≡ next_ref p t
+pub next_same : (p : Parts) (u : ℕ) (a : threads.Act) → threads.is_count_ref a ≡ false → (t : ℕ) → next_ref (record p { threads = threads.by u a ∷ p.threads }) t ≡ next_ref p t
 next_same p u a quiet t = ap (λ n. n + 1) (refs_same p.threads u a quiet t)
 
 -- an act that makes no local

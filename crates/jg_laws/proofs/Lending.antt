@@ -9,8 +9,9 @@ use Rattle.jg_threads.specs.History as threads
 use Rattle.jg_locals.proofs.Callers.{each_thread}
 use Rattle.jg_heap.specs.History as heap
 use Rattle.jg_heap.specs.Making.{Making}
-use Rattle.jg_buffers.specs.History.{Buffer, Event, Opened, Wrote, Closed, opened, is_same}
+use Rattle.jg_buffers.specs.History.{Buffer, Event, Opened, Wrote, Closed, ReleaseAll, opened, is_same}
 use Rattle.jg_buffers.specs.Laws.{IsOpenedBelow}
+use Rattle.jg_buffers.proofs.Lookups.{still_lent}
 use Rattle.jg_rules.specs.Parts.{Parts}
 use Rattle.jg_rules.specs.Names.{next_buffer}
 use Rattle.jg_rules.specs.Effects.{parts}
@@ -32,12 +33,14 @@ below_more t n m [] le below = tt
 below_more t n m (Opened b ∷ e) le below = ((λ own. omega (arith, below.0 own, le)), below_more t n m e le below.1)
 below_more t n m (Wrote k i j v ∷ e) le below = below_more t n m e le below
 below_more t n m (Closed k i ∷ e) le below = below_more t n m e le below
+below_more t n m (ReleaseAll k ∷ e) le below = below_more t n m e le below
 
 none_below : (t n : ℕ) (new e : List Event) → opens_one new ≡ false → IsOpenedBelow t n e → IsOpenedBelow t n (new ++ e)
 none_below t n [] e none below = below
 none_below t n (Opened b ∷ new) e none below = absurd cc
 none_below t n (Wrote k i j v ∷ new) e none below = none_below t n new e none below
 none_below t n (Closed k i ∷ new) e none below = none_below t n new e none below
+none_below t n (ReleaseAll k ∷ new) e none below = none_below t n new e none below
 
 quiet : (p : Parts) (u : ℕ) (a : threads.Act) → threads.is_count_buffer a ≡ false → LentBelow p → (t : ℕ) → IsOpenedBelow t (next_buffer (record p { threads = threads.by u a ∷ p.threads }) t) p.buffers
 quiet p u a is old t = subst (λ (n : ℕ). IsOpenedBelow t n p.buffers) (sym (ap (λ n. n + 1) (buffers_same p.threads u a is t))) (old t)
@@ -58,7 +61,7 @@ lent_below p s u b lent old t =
     (λ v differ. ((λ own. absurd (differ (sym own ∙ lent.maker))), subst (λ (n : ℕ). IsOpenedBelow v n p.buffers) (sym (next_other p v u differ)) (old v)))
     t
 
-below_steps : (s : StatedSetup) → Steps s LentBelow
+pub below_steps : (s : StatedSetup) → Steps s LentBelow
 below_steps s = record {
   begins = λ p u is old. quiet p u threads.Attach refl old;
   begun = λ p u is old. quiet p u threads.Attach refl old;
@@ -91,6 +94,7 @@ abbrev pub OpenedFits : ℕ → List heap.Event → Event → Type 0
 OpenedFits k e (Opened b) = FitsObject k e b
 OpenedFits k e (Wrote m i j v) = Unit {0}
 OpenedFits k e (Closed m i) = Unit {0}
+OpenedFits k e (ReleaseAll m) = Unit {0}
 
 fits_made : (k : ℕ) (e : List heap.Event) (m : Making) (b : Buffer) → FitsObject k e b → FitsObject k (heap.Made m ∷ e) b
 fits_made k e m b fits =
@@ -104,18 +108,21 @@ fits_later k [] e b fits = fits
 fits_later k (heap.Made m ∷ new) e b fits = fits_made k (new ++ e) m b (fits_later k new e b fits)
 fits_later k (heap.Wrote o j v ∷ new) e b fits = fits_later k new e b fits
 fits_later k (heap.Collected roots ∷ new) e b fits = fits_later k new e b fits
+fits_later k (heap.Went o ∷ new) e b fits = fits_later k new e b fits
 
 all_later : (k : ℕ) (new e : List heap.Event) (bs : List Event) → AllByRecursion (OpenedFits k e) bs → AllByRecursion (OpenedFits k (new ++ e)) bs
 all_later k new e [] all = tt
 all_later k new e (Opened b ∷ bs) all = (fits_later k new e b all.0, all_later k new e bs all.1)
 all_later k new e (Wrote m i j v ∷ bs) all = (tt, all_later k new e bs all.1)
 all_later k new e (Closed m i ∷ bs) all = (tt, all_later k new e bs all.1)
+all_later k new e (ReleaseAll m ∷ bs) all = (tt, all_later k new e bs all.1)
 
 none_fits : (k : ℕ) (e : List heap.Event) (new bs : List Event) → opens_one new ≡ false → AllByRecursion (OpenedFits k e) bs → AllByRecursion (OpenedFits k e) (new ++ bs)
 none_fits k e [] bs none all = all
 none_fits k e (Opened b ∷ new) bs none all = absurd cc
 none_fits k e (Wrote m i j v ∷ new) bs none all = (tt, none_fits k e new bs none all)
 none_fits k e (Closed m i ∷ new) bs none all = (tt, none_fits k e new bs none all)
+none_fits k e (ReleaseAll m ∷ new) bs none all = (tt, none_fits k e new bs none all)
 
 abbrev pub AllFit : StatedSetup → Parts → Type 0
 AllFit s p = AllByRecursion (OpenedFits (class_count s) p.heap) p.buffers
@@ -163,6 +170,7 @@ opened_fits k e [] m n b all is = absurd cc
 opened_fits k e (Opened x ∷ bs) m n b all is = opened_if (is_same m n x.maker x.n) k e b x (opened bs m n) all.0 (λ rest. opened_fits k e bs m n b all.1 rest) is
 opened_fits k e (Wrote q i j v ∷ bs) m n b all is = opened_fits k e bs m n b all.1 is
 opened_fits k e (Closed q i ∷ bs) m n b all is = closed_if (is_same m n q i) k e b (opened bs m n) (λ rest. opened_fits k e bs m n b all.1 rest) is
+opened_fits k e (ReleaseAll q ∷ bs) m n b all is = opened_fits k e bs m n b all.1 (still_lent (opened bs m n) (q == m) b is).0
 
 pub buffers_fit : BuffersFit
 buffers_fit s h maker n b legal is = opened_fits (class_count s) (parts s h).heap (parts s h).buffers maker n b (all_fit s h legal) is

@@ -1,5 +1,5 @@
 -- Each object that a call makes has the fields that the setup states for its class.
-use Rattle.std.proofs.Common.{ℕ, ℤ, ◌≡◌, ◌≤◌, ◌+◌, ◌++◌, Bool, true, false, List, [], ◌∷◌, length, Option, Some, None, refl, arith}
+use Rattle.std.proofs.Common.{ℕ, ℤ, ◌≡◌, ◌≤◌, ◌+◌, ◌++◌, Bool, true, false, List, [], ◌∷◌, length, Option, Some, None, refl, ap, ◌∙◌, arith}
 use Rattle.std.specs.Prelude.{◌==◌, if◌then◌else◌}
 use Rattle.std.specs.List.{AllByRecursion}
 use Rattle.std.proofs.lemmas.List.{length-map}
@@ -17,15 +17,16 @@ use Rattle.jg_words.specs.declared.call.arrays.ArraysCall.TheVariants.{NewArray,
 use Rattle.jg_words.specs.declared.call.buffers.BuffersCall.TheVariants.{GetArrayElements, ReleaseArrayElements, GetStringChars, ReleaseStringChars, GetStringUTFChars, ReleaseStringUTFChars, GetPrimitiveArrayCritical, ReleasePrimitiveArrayCritical, GetStringCritical, ReleaseStringCritical, BufferRead, BufferWrite}
 use Rattle.jg_buffers.specs.declared.info.Info.{Info}
 use Rattle.jg_buffers.specs.History as buffers
-use Rattle.jg_policy.specs.Stated.{StatedSetup}
+use Rattle.jg_policy.specs.Stated.{StatedSetup, class_count}
 use Rattle.jg_policy.specs.Classes.{class_at, fields_in}
-use Rattle.jg_heap.specs.History.{Event, Made, Wrote, Collected, count_of, making_at, region_writes}
-use Rattle.jg_heap.specs.Making.{Making, Plain, Text, Filled, array_class, class_in, length_in}
+use Rattle.jg_heap.specs.History.{Event, Made, Wrote, Collected, Went, count_of, making_at, region_writes}
+use Rattle.jg_heap.specs.Making.{Making, Plain, Text, Filled, Opaque, array_class, class_in, length_in}
 use Rattle.jg_heap.specs.Reading.{natural}
 use Rattle.jg_rules.specs.Parts.{Parts}
-use Rattle.jg_rules.specs.Names.{the_object}
+use Rattle.jg_rules.specs.Names.{class_of, length_of, the_object}
 use Rattle.jg_rules.specs.Buffers.{buffer_named, writes_back}
 use Rattle.jg_rules.specs.Effects.{call_heap, value_heap, first_value, wrote_back, wrote_pinned}
+use Rattle.jg_rules.proofs.Objects.{made_so}
 use Rattle.jg_laws.specs.Laws.{IsStatedMaking, MakesStated}
 
 pub all_append : {X : Type 0} (P : X → Type 0) (xs ys : List X) → AllByRecursion P xs → AllByRecursion P ys → AllByRecursion P (xs ++ ys)
@@ -120,14 +121,24 @@ stated_if true s m n a b = a
 stated_if false s m n a b = b
 
 -- so each object was made
-pub stated_at : (s : StatedSetup) (k : ℕ) (e : List Event) (o : ℕ) → AllByRecursion (MakesStated s) e → IsStatedMaking s (making_at k e o)
+stated_at : (s : StatedSetup) (k : ℕ) (e : List Event) (o : ℕ) → AllByRecursion (MakesStated s) e → IsStatedMaking s (making_at k e o)
 stated_at s k [] o all = refl
 stated_at s k (Made m ∷ e) o all = stated_if (o == count_of k e) s m (making_at k e o) all.0 (stated_at s k e o all.1)
 stated_at s k (Wrote p j v ∷ e) o all = stated_at s k e o all.1
 stated_at s k (Collected roots ∷ e) o all = stated_at s k e o all.1
+stated_at s k (Went p ∷ e) o all = stated_at s k e o all.1
 
 -- one of a class of the setup is plain
-pub stated_length : (s : StatedSetup) (m : Making) → IsStatedMaking s m → 10 ≤ class_in m → length_in m ≡ length (fields_in (class_at s (class_in m)))
+stated_length : (s : StatedSetup) (m : Making) → IsStatedMaking s m → 10 ≤ class_in m → length_in m ≡ length (fields_in (class_at s (class_in m)))
 stated_length s (Plain class fields) is high = is
 stated_length s (Text units) is high = absurd (omega (arith, high))
 stated_length s (Filled class n item) is high = absurd (omega (arith, is, high))
+stated_length s (Opaque class n) is high = absurd is
+
+-- an object of such a class is as long
+pub length_stated : (s : StatedSetup) (p : Parts) (o kind : ℕ) → AllByRecursion (MakesStated s) p.heap → class_of s p o ≡ kind → 10 ≤ kind
+    → length_of s p o ≡ length (fields_in (class_at s kind))
+length_stated s p o kind stated is high =
+    let made = made_so s p o kind is (omega (arith, high)) in
+    stated_length s (making_at (class_count s) p.heap o) (stated_at s (class_count s) p.heap o stated) (omega (arith, made.class, high))
+    ∙ ap (λ (class : ℕ). length (fields_in (class_at s class))) made.class

@@ -9,8 +9,8 @@ use Rattle.jg_words.specs.declared.entry.Outcome.TheVariants.{Passed, Denied}
 use Rattle.jg_words.specs.declared.call.Call.{Call}
 use Rattle.jg_words.specs.declared.call.Call.TheVariants.{Vm}
 use Rattle.jg_words.specs.declared.call.vm.VmCall.TheVariants.{NativeEnter}
-use Rattle.jg_policy.specs.Stated.{StatedSetup, class_count}
-use Rattle.jg_heap.specs.History.{making_at}
+use Rattle.jg_policy.specs.Stated.{StatedSetup}
+use Rattle.jg_rules.specs.Names.{class_of}
 use Rattle.jg_rules.specs.Parts.{Parts}
 use Rattle.jg_rules.specs.Effects.{parts}
 use Rattle.jg_rules.specs.Rules.{verdict}
@@ -19,7 +19,7 @@ use Rattle.jg_rules.specs.Legal.{Legal, entry_by}
 use Rattle.jg_rules.specs.Unbroken.{Unbroken}
 use Rattle.jg_rules.proofs.Kept.{unbroken}
 use Rattle.jg_laws.specs.Laws.{MakesStated, FieldsAreStated, EnteredWasLinked}
-use Rattle.jg_laws.proofs.Makings.{all_append, stated_at, stated_length}
+use Rattle.jg_laws.proofs.Makings.{all_append, length_stated}
 use Rattle.jg_laws.proofs.Steps.{Steps, heap_steps, each_legal}
 use Rattle.jg_laws.proofs.Fresh.{Legal-before}
 
@@ -37,7 +37,7 @@ all_stated s h legal = each_legal (AllStated s) s (stated_steps s) tt h legal
 
 pub fields_are_stated : FieldsAreStated
 fields_are_stated s h o legal high =
-    stated_length s (making_at (class_count s) (parts s h).heap o) (stated_at s (class_count s) (parts s h).heap o (all_stated s h legal)) high
+    length_stated s (parts s h) o (class_of s (parts s h) o) (all_stated s h legal) refl high
 
 -- ---- native methods
 

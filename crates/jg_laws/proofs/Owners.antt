@@ -45,7 +45,7 @@ none_else e t u o (suc n) is all mine differ =
     let some : 0 < count e u o = omega (arith, is) in
     absurd (differ (one_owner_of e u t o all some mine))
 
-alone : (e : List Event) (t o : ℕ) (found : Option ℕ) → owner e o ≡ found → AllAllowed e → entering t found ≡ Entered → IsAllowed t (Enter o) e
+pub alone : (e : List Event) (t o : ℕ) (found : Option ℕ) → owner e o ≡ found → AllAllowed e → entering t found ≡ Entered → IsAllowed t (Enter o) e
 alone e t o None is all may = λ u differ. all_free e u o all is
 alone e t o (Some v) is all may =
     let same : v ≡ t = eqb-true v t (own_if (v == t) may) in

@@ -32,7 +32,8 @@ use Rattle.jg_heap.specs.Reading.{natural}
 use Rattle.jg_heap.proofs.Callers.{roots_law}
 use Rattle.jg_monitors.specs.History as monitors
 use Rattle.jg_buffers.specs.History as buffers
-use Rattle.jg_buffers.specs.History.{Buffer, Event, Opened, Wrote, Closed, opened, is_same, is_critical}
+use Rattle.jg_buffers.specs.History.{Buffer, Event, Opened, Wrote, Closed, ReleaseAll, opened, is_same, is_critical}
+use Rattle.jg_buffers.proofs.Lookups.{still_lent}
 use Rattle.jg_buffers.proofs.Callers.{critical_law, pinned_law, pinned_object_law}
 use Rattle.jg_rules.specs.declared.named.Named.TheVariants.{Nothing}
 use Rattle.jg_rules.specs.Parts.{Parts}
@@ -86,6 +87,7 @@ none_live p (Opened x ∷ e) none old m n b is = absurd cc
 none_live p (Wrote k i j v ∷ e) none old m n b is = none_live p e none old m n b is
 none_live p (Closed k i ∷ e) none old m n b is =
     closed_if (is_same m n k i) b (opened (e ++ p.buffers) m n) (is_critical b.family ≡ true → object_named p b.maker b.via ≡ Some b.object) (none_live p e none old m n b) is
+none_live p (ReleaseAll k ∷ e) none old m n b is = none_live p e none old m n b (still_lent (opened (e ++ p.buffers) m n) (k == m) b is).0
 
 buffers_live : (s : StatedSetup) (p : Parts) (t : Tid) (env : Option EnvId) (call : BuffersCall) → Unbroken s p t.0 env (Buffers call) → PinsLive p
     → PinsLive (answered s p t (Buffers call) (answer s p t (Buffers call)))

@@ -217,3 +217,4 @@ count_of-le k [] = omega arith
 count_of-le k (heap.Made m ∷ e) = omega (arith, count_of-le k e)
 count_of-le k (heap.Wrote o j v ∷ e) = omega (arith, count_of-le k e)
 count_of-le k (heap.Collected roots ∷ e) = omega (arith, count_of-le k e)
+count_of-le k (heap.Went o ∷ e) = omega (arith, count_of-le k e)

@@ -24,7 +24,7 @@ use Rattle.jg_heap.specs.declared.object.Slot.TheVariants.{Number}
 use Rattle.jg_buffers.specs.declared.family.Family.{Family}
 use Rattle.jg_buffers.specs.declared.family.Family.TheVariants.{Elements, Chars, UtfChars, ArrayCritical, StringCritical}
 use Rattle.jg_buffers.specs.declared.info.Info.{Info}
-use Rattle.jg_buffers.specs.History.{Buffer, Event, Opened, Wrote, Closed, opened, contents, info_of, is_critical}
+use Rattle.jg_buffers.specs.History.{Buffer, Event, Opened, Wrote, Closed, ReleaseAll, opened, contents, info_of, is_critical}
 use Rattle.jg_rules.specs.declared.operand.ObjectType.{ObjectType}
 use Rattle.jg_rules.specs.declared.operand.ObjectType.TheVariants.{AnyObject, StringObject, PrimitiveArray, ArrayOf, ObjectArray}
 use Rattle.jg_rules.specs.declared.operand.Operand.{Operand}
@@ -147,11 +147,13 @@ abbrev WriteMeets : (ℕ → Type 0) → heap.Event → Type 0
 WriteMeets H (heap.Made m) = Unit {0}
 WriteMeets H (heap.Wrote o j v) = H o
 WriteMeets H (heap.Collected roots) = Unit {0}
+WriteMeets H (heap.Went p) = Unit {0}
 
 write_says : (H : ℕ → Type 0) (o : ℕ) (ev : heap.Event) → WriteMeets H ev → WritesSlotOf o ev → H o
 write_says H o (heap.Made m) meets is = absurd is
 write_says H o (heap.Wrote p j v) meets is = subst H is meets
 write_says H o (heap.Collected roots) meets is = absurd is
+write_says H o (heap.Went p) meets is = absurd is
 
 region_meets : (H : ℕ → Type 0) (o j : ℕ) (values : List ℤ) → H o
     → AllByRecursion (WriteMeets H) (heap.region_writes o j values)
@@ -217,17 +219,20 @@ abbrev OpeningMeets : (ℕ → Type 0) → Event → Type 0
 OpeningMeets H (Opened b) = is_critical b.family ≡ true → H b.object
 OpeningMeets H (Wrote maker n index v) = Unit {0}
 OpeningMeets H (Closed maker n) = Unit {0}
+OpeningMeets H (ReleaseAll maker) = Unit {0}
 
 opening_says : (H : ℕ → Type 0) (o : ℕ) (ev : Event) → OpeningMeets H ev → OpensPinOf o ev → H o
 opening_says H o (Opened b) meets is = subst H is.1 (meets is.0)
 opening_says H o (Wrote maker n index v) meets is = absurd is
 opening_says H o (Closed maker n) meets is = absurd is
+opening_says H o (ReleaseAll maker) meets is = absurd is
 
 none_opened : (H : ℕ → Type 0) (e : List Event) → opens_one e ≡ false → AllByRecursion (OpeningMeets H) e
 none_opened H [] none = tt
 none_opened H (Opened b ∷ e) none = absurd cc
 none_opened H (Wrote maker n index v ∷ e) none = (tt, none_opened H e none)
 none_opened H (Closed maker n ∷ e) none = (tt, none_opened H e none)
+none_opened H (ReleaseAll maker ∷ e) none = (tt, none_opened H e none)
 
 -- of what a call that breaks no rule opens a critical buffer, it reaches
 openings_meet : (s : StatedSetup) (p : Parts) (t : ℕ) (env : Option EnvId) (call : Call) → Unbroken s p t env call

@@ -15,7 +15,7 @@ use Rattle.jg_policy.specs.Classes.{class_at, class_named, fields_in}
 use Rattle.jg_threads.specs.History as threads
 use Rattle.jg_locals.specs.History as locals
 use Rattle.jg_heap.specs.History as heap
-use Rattle.jg_heap.specs.Making.{Making, Plain, Text, Filled}
+use Rattle.jg_heap.specs.Making.{Making, Plain, Text, Filled, Opaque}
 use Rattle.jg_heap.specs.Making.{array_class, class_in, units_in, length_in, IsPrimitiveArray}
 use Rattle.jg_heap.specs.Spelling.{spelt}
 use Rattle.jg_buffers.specs.History as buffers
@@ -75,16 +75,19 @@ abbrev pub DepthsAgree : Type 0
 DepthsAgree = (s : StatedSetup) (h : List Entry) (t : ℕ) → Legal s h
     → Agree (threads.acts_of t (parts s h).threads) (locals.acts_of t (parts s h).locals)
 
--- a plain object is made with as many fields as the setup states for its class, and no array is of such a class
+-- a plain object is made with as many fields as the setup states for its class, and no array is of such a class; no
+-- call makes an object of which the class and the length alone are known
 abbrev pub IsStatedMaking : StatedSetup → Making → Type 0
 IsStatedMaking s (Plain class fields) = length fields ≡ length (fields_in (class_at s class))
 IsStatedMaking s (Text units) = Unit {0}
 IsStatedMaking s (Filled class n item) = class ≤ 9
+IsStatedMaking s (Opaque class n) = ⊥
 
 abbrev pub MakesStated : StatedSetup → heap.Event → Type 0
 MakesStated s (heap.Made m) = IsStatedMaking s m
 MakesStated s (heap.Wrote o j v) = Unit {0}
 MakesStated s (heap.Collected roots) = Unit {0}
+MakesStated s (heap.Went o) = Unit {0}
 
 -- an object of a class of the setup has the fields that the setup states for the class
 abbrev pub FieldsAreStated : Type 0

@@ -22,6 +22,7 @@ opens_one [] = false
 opens_one (buffers.Opened b ∷ e) = true
 opens_one (buffers.Wrote maker n index v ∷ e) = opens_one e
 opens_one (buffers.Closed maker n ∷ e) = opens_one e
+opens_one (buffers.ReleaseAll maker ∷ e) = opens_one e
 
 -- a call that takes an environment hands out its thread's next local; one that does nothing else hands out the next
 -- global or weak one; one that opens a buffer lends the thread's next; the exception that a call throws is the next object; where nothing is done of the call's own,

@@ -31,6 +31,7 @@ abbrev pub WritesSlotOf : ℕ → heap.Event → Type 0
 WritesSlotOf o (heap.Made m) = ⊥
 WritesSlotOf o (heap.Wrote p j v) = p ≡ o
 WritesSlotOf o (heap.Collected roots) = ⊥
+WritesSlotOf o (heap.Went p) = ⊥
 
 -- the call writes a slot of the object, which is a field or an item: itself, by a release that copies back, or through
 -- a critical buffer (JNI Specification, chapter 4, "Accessing Fields of Objects", "Array Operations"). A call that
@@ -48,6 +49,7 @@ abbrev pub OpensPinOf : ℕ → buffers.Event → Type 0
 OpensPinOf o (buffers.Opened b) = IsPinOf o b
 OpensPinOf o (buffers.Wrote maker n index v) = ⊥
 OpensPinOf o (buffers.Closed maker n) = ⊥
+OpensPinOf o (buffers.ReleaseAll maker) = ⊥
 
 -- the call opens a critical buffer of the object
 abbrev pub PinsObject : StatedSetup → Parts → ℕ → Call → Value → ℕ → Type 0

@@ -1,5 +1,5 @@
 -- Marks that are set one after another.
-use Rattle.std.proofs.Common.{◌≡◌, ◌≢◌, ◌<◌, ◌≤◌, ◌+◌, ◌-◌, length, get_or, drop, take, ℕ, Bool, true, false, List, ◌∷◌, Option, Some, None, refl, ◌∙◌, sym, ap, arith, inl, inr}
+use Rattle.std.proofs.Common.{◌≡◌, ◌≢◌, ◌<◌, ◌≤◌, ◌+◌, ◌-◌, length, get_or, drop, take, ℕ, Bool, true, false, List, Option, Some, None, refl, ◌∙◌, sym, ap, arith, inl, inr}
 use Rattle.std.specs.Prelude.{◌==◌, ◌||◌, ◌⊎◌, All, false, map, min, slice_get, slice_set}
 use Rattle.std.specs.List.{list_any}
 use Rattle.std.specs.Option.{option_map}
@@ -40,7 +40,7 @@ within_or_past marks i o (inr past) =
     rw (slice_get_past (slice_set marks i true) o new, slice_get_past marks o past) refl
 
 -- one mark is set
-pub marked : (marks : List Bool) (i : ℕ) → Marks (λ o. i == o) marks (slice_set marks i true)
+pub marked : (marks : List Bool) (i : ℕ) → Marks (λ o. i == o) (slice_get marks) (slice_get (slice_set marks i true))
 marked marks i o = within_or_past marks i o (cases_lt o (length marks))
 
 marked_twice : (a b : Bool) (mark : Option Bool) → option_map (λ m. m || b) (option_map (λ m. m || a) mark) ≡ option_map (λ m. m || (a || b)) mark
@@ -52,8 +52,8 @@ same_mark None = refl
 same_mark (Some m) = ap Some (sym (or_false m))
 
 -- none is set
-pub marks_stay : (marks : List Bool) → Marks (λ o. false) marks marks
-marks_stay marks o = same_mark (slice_get marks o)
+pub marks_stay : (marks : ℕ → Option Bool) → Marks (λ o. false) marks marks
+marks_stay marks o = same_mark (marks o)
 
 -- ---- marks by the turn in which each was set last
 
@@ -61,7 +61,7 @@ pub length-but_last : (turns : List ℕ) → length (but_last turns) ≡ length 
 length-but_last turns = length-take-le (length turns - 1) turns (omega arith)
 
 -- a mark is set in this turn
-pub noted : (turns : List ℕ) (turn i : ℕ) → Marks (λ o. i == o) (map (λ t. t == turn) turns) (map (λ t. t == turn) (slice_set turns i turn))
+pub noted : (turns : List ℕ) (turn i : ℕ) → Marks (λ o. i == o) (slice_get (map (λ t. t == turn) turns)) (slice_get (map (λ t. t == turn) (slice_set turns i turn)))
 noted turns turn i =
     let now : (turn == turn) ≡ true = grind (arith, nat_tests) in
     rw (map-set (λ t. t == turn) turns i turn, now) (marked (map (λ t. t == turn) turns) i)
@@ -92,12 +92,12 @@ passed_by turns turn i o past (inr out) =
     without_mark (slice_get (map (λ t. t == turn) turns) o) (i == o) (slice_get_past (map (λ t. t == turn) turns) o none)
 
 -- an object without a mark is passed over
-pub passed_over : (turns : List ℕ) (turn i : ℕ) → length turns ≤ i → Marks (λ o. i == o) (map (λ t. t == turn) turns) (map (λ t. t == turn) turns)
+pub passed_over : (turns : List ℕ) (turn i : ℕ) → length turns ≤ i → Marks (λ o. i == o) (slice_get (map (λ t. t == turn) turns)) (slice_get (map (λ t. t == turn) turns))
 passed_over turns turn i past o = passed_by turns turn i o past (cases_lt o (length turns))
 
 -- an object is noted at its place, or at the last if that is of no object
 noted_at : (turns : List ℕ) (turn i : ℕ) → 0 < length turns → (i < length turns - 1) ⊎ (length turns - 1 ≤ i)
-    → Marks (λ o. i == o) (marks_in turn turns) (marks_in turn (slice_set turns (min i (length turns - 1)) turn))
+    → Marks (λ o. i == o) (slice_get (marks_in turn turns)) (slice_get (marks_in turn (slice_set turns (min i (length turns - 1)) turn)))
 noted_at turns turn i some (inl within) =
     let place : min i (length turns - 1) ≡ i = omega (arith, within) in
     let set : but_last (slice_set turns i turn) ≡ slice_set (but_last turns) i turn =
@@ -110,7 +110,8 @@ noted_at turns turn i some (inr past) =
     ∙ take-set-le (length turns - 1) turns (length turns - 1) turn (omega arith) in
     rw (place, set) (passed_over (but_last turns) turn i (omega (arith, past, length-but_last turns)))
 
-pub noted_somewhere : (turns : List ℕ) (turn i : ℕ) → 0 < length turns → Marks (λ o. i == o) (marks_in turn turns) (marks_in turn (slice_set turns (min i (length turns - 1)) turn))
+pub noted_somewhere : (turns : List ℕ) (turn i : ℕ) → 0 < length turns
+    → Marks (λ o. i == o) (slice_get (marks_in turn turns)) (slice_get (marks_in turn (slice_set turns (min i (length turns - 1)) turn)))
 noted_somewhere turns turn i some = noted_at turns turn i some (cases_lt i (length turns - 1))
 
 -- in a turn that is past all of them none is set
@@ -137,12 +138,12 @@ set_from turns turn first n i within marked =
     ∙ sym (get_or-map (λ t. t == turn) (but_last turns) (first + i) 0 false (omega (arith, within, marked, length-but_last turns)))
 
 -- marks that are set in two turns
-pub marks_more : (before last all : ℕ → Bool) (old mid new : List Bool) → Marks before old mid → Marks last mid new → ((o : ℕ) → all o ≡ (before o || last o)) → Marks all old new
+pub marks_more : (before last all : ℕ → Bool) (old mid new : ℕ → Option Bool) → Marks before old mid → Marks last mid new → ((o : ℕ) → all o ≡ (before o || last o)) → Marks all old new
 marks_more before last all old mid new was now both o =
-    now o ∙ ap (option_map (λ m. m || last o)) (was o) ∙ marked_twice (before o) (last o) (slice_get old o) ∙ ap (λ b. option_map (λ m. m || b) (slice_get old o)) (sym (both o))
+    now o ∙ ap (option_map (λ m. m || last o)) (was o) ∙ marked_twice (before o) (last o) (old o) ∙ ap (λ b. option_map (λ m. m || b) (old o)) (sym (both o))
 
 -- the marks of what one more item of a list names
-pub marks_item : {X : Type 0} (test : X → ℕ → Bool) (xs : List X) (i : ℕ) (d : X) (old mid new : List Bool) → i < length xs → Marks (λ o. list_any (λ x. test x o) (take i xs)) old mid
+pub marks_item : {X : Type 0} (test : X → ℕ → Bool) (xs : List X) (i : ℕ) (d : X) (old mid new : ℕ → Option Bool) → i < length xs → Marks (λ o. list_any (λ x. test x o) (take i xs)) old mid
     → Marks (test (get_or xs i d)) mid new
     → Marks (λ o. list_any (λ x. test x o) (take (i + 1) xs)) old new
 marks_item test xs i d old mid new within was now =
@@ -150,18 +151,9 @@ marks_item test xs i d old mid new within was now =
     (λ o. list_any_more (λ x. test x o) xs i d within)
 
 -- those of all items
-pub marks_all : {X : Type 0} (test : X → ℕ → Bool) (xs : List X) (i : ℕ) (old new : List Bool) → length xs ≤ i → Marks (λ o. list_any (λ x. test x o) (take i xs)) old new
+pub marks_all : {X : Type 0} (test : X → ℕ → Bool) (xs : List X) (i : ℕ) (old new : ℕ → Option Bool) → length xs ≤ i → Marks (λ o. list_any (λ x. test x o) (take i xs)) old new
     → Marks (λ o. list_any (λ x. test x o) xs) old new
-marks_all test xs i old new past was o = was o ∙ ap (λ l. option_map (λ m. m || list_any (λ x. test x o) l) (slice_get old o)) (take_all i xs past)
-
--- with the marks of one item set, those of the rest are left
-pub marks_left : {X : Type 0} (test : X → ℕ → Bool) (x : X) (left rest : List X) (o : ℕ) (mid new : List Bool) (whole : Option Bool) → left ≡ x ∷ rest → Marks (test x) mid new
-    → option_map (λ m. m || list_any (λ y. test y o) left) (slice_get mid o) ≡ whole → option_map (λ m. m || list_any (λ y. test y o) rest) (slice_get new o) ≡ whole
-marks_left test x left rest o mid new whole is now was =
-    ap (option_map (λ m. m || list_any (λ y. test y o) rest)) (now o)
-    ∙ marked_twice (test x o) (list_any (λ y. test y o) rest) (slice_get mid o)
-    ∙ ap (λ l. option_map (λ m. m || list_any (λ y. test y o) l) (slice_get mid o)) (sym is)
-    ∙ was
+marks_all test xs i old new past was o = was o ∙ ap (λ l. option_map (λ m. m || list_any (λ x. test x o) l) (old o)) (take_all i xs past)
 
 -- what is past a turn is not after it
 pub at_most : (turns : List ℕ) (turn : ℕ) → All (λ t. t < turn) turns → All (λ t. t ≤ turn) turns
@@ -180,7 +172,7 @@ none_before b None none = refl
 none_before b (Some m) none = cc
 
 -- to set marks makes none
-pub marks_length : (test : ℕ → Bool) (old new : List Bool) → Marks test old new → length new ≡ length old
+pub marks_length : (test : ℕ → Bool) (old new : List Bool) → Marks test (slice_get old) (slice_get new) → length new ≡ length old
 marks_length test old new are =
     let fewer : length new ≤ length old = past_of_none new false (length old) (are (length old) ∙ ap (option_map (λ m. m || test (length old))) (slice_get_past old (length old) (omega arith))) in
     let more : length old ≤ length new = past_of_none old false (length new) (none_before (test (length new)) (slice_get old (length new)) (sym (are (length new)) ∙ slice_get_past new (length new) (omega arith))) in

@@ -1,6 +1,6 @@
 -- What look-ups of numbers find, once one number's value is written, added or taken out.
 use Rattle.std.proofs.Common.{◌≡◌, ◌<◌, ℕ, Bool, true, false, List, [], ◌∷◌, ◌++◌, Option, Some, None, refl, ◌∙◌, sym, ap, subst, arith, eqb-true}
-use Rattle.std.specs.Prelude.{All, ◌==◌, ◌||◌, if◌then◌else◌, IsPermutation, IsSome, map, slice_get}
+use Rattle.std.specs.Prelude.{All, ◌==◌, ◌||◌, if◌then◌else◌, IsPermutation, IsSome, map}
 use Rattle.std.specs.List.{IsDistinct, list_any}
 use Rattle.std.specs.Option.{is_some, option_map}
 use Rattle.std.specs.Map.{keys_of, values_of, set_value}
@@ -115,9 +115,9 @@ pub any_value : {V : Type 0} (p : V → Bool) (seats : List (Numbered V)) (es : 
 any_value p seats es is = any_in p seats ∙ ap (λ l. list_any p (values_of l)) is
 
 -- the marks of what some thread's value names
-pub marks_value : {V : Type 0} (test : V → ℕ → Bool) (seats : List (Numbered V)) (es : List (ℕ × V)) (old new : List Bool) → map seen seats ≡ es → Marks (λ o. list_any (λ seat. test seat.value o) seats) old new
-    → Marks (λ o. list_any (λ v. test v o) (values_of es)) old new
-marks_value test seats es old new is marks o = marks o ∙ ap (λ b. option_map (λ mark. mark || b) (slice_get old o)) (any_value (λ v. test v o) seats es is)
+pub marks_value : {V : Type 0} (test : V → ℕ → Bool) (seats : List (Numbered V)) (es : List (ℕ × V)) (old new : ℕ → Option Bool) → map seen seats ≡ es
+    → Marks (λ o. list_any (λ seat. test seat.value o) seats) old new → Marks (λ o. list_any (λ v. test v o) (values_of es)) old new
+marks_value test seats es old new is marks o = marks o ∙ ap (λ b. option_map (λ mark. mark || b) (old o)) (any_value (λ v. test v o) seats es is)
 
 set_past : {V : Type 0} (e : ℕ × V) (es new : List (ℕ × V)) (w : V) (mine : Bool) → mine ≡ false → new ≡ es → (if mine then (e.0, w) ∷ es else e ∷ new) ≡ e ∷ es
 set_past e es new w true other same = cc

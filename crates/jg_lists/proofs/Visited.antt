@@ -1,6 +1,6 @@
 -- What passes over all tables find and list.
-use Rattle.std.proofs.Common.{◌≡◌, ◌<◌, ◌+◌, ℕ, Bool, List, [], ◌∷◌, ◌++◌, length, get_or, take, refl, ◌∙◌, ap, sym}
-use Rattle.std.specs.Prelude.{◌||◌, map, slice_get}
+use Rattle.std.proofs.Common.{◌≡◌, ◌<◌, ◌+◌, ℕ, Bool, List, [], ◌∷◌, ◌++◌, Option, length, get_or, take, refl, ◌∙◌, ap, sym}
+use Rattle.std.specs.Prelude.{◌||◌, map}
 use Rattle.std.specs.List.{list_any}
 use Rattle.std.specs.Option.{option_map}
 use Rattle.std.proofs.lemmas.List.{append_assoc, append-nil, map-append, take_more}
@@ -32,8 +32,8 @@ any_table p seats tables is =
     ∙ ap (list_any (λ table. list_any (λ e. p e.1) table.1)) is
     ∙ any_named p tables
 
-pub marks_alike : (f g : ℕ → Bool) (old new : List Bool) → ((o : ℕ) → f o ≡ g o) → Marks f old new → Marks g old new
-marks_alike f g old new alike marks o = marks o ∙ ap (λ b. option_map (λ mark. mark || b) (slice_get old o)) (alike o)
+pub marks_alike : (f g : ℕ → Bool) (old new : ℕ → Option Bool) → ((o : ℕ) → f o ≡ g o) → Marks f old new → Marks g old new
+marks_alike f g old new alike marks o = marks o ∙ ap (λ b. option_map (λ mark. mark || b) (old o)) (alike o)
 
 -- ---- what is made of each name, in a list
 

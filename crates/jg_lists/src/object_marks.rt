@@ -1,7 +1,8 @@
-ghost use Rattle.std.specs.Prelude.{◌≡◌, ℕ, ◌+◌, ◌<◌, ◌≤◌, ◌^◌, max, ◌==◌, ◌&&◌, [], All, false, not, Some, length, slice_get, slice_index_or, true, OnOk};
+ghost use Rattle.std.specs.Prelude.{◌≡◌, ℕ, ◌+◌, ◌<◌, ◌≤◌, max, ◌==◌, ◌&&◌, [], All, false, not, Some, length, slice_get, slice_index_or, true, OnOk};
 ghost use Rattle.std.specs.List.{list_any, range_with_len};
 ghost use Rattle.jg_lists.specs.Marks.{Marks, but_last, marks_in};
 
+use crate::marking::Marking;
 use std::alloc::{AllocError, Allocator, Global};
 use std::marker::Model;
 
@@ -98,7 +99,8 @@ fn other_turn(turns: &[u8], turn: u8, wanted: &[bool]) -> bool
 /// Notes the turn for an object, or at the last place if it has no mark.
 fn note(turns: &mut [u8], object: u64, turn: u8)
     requires { 0 < length turns.old }
-    ensures set { Marks (λ o. object == o) (marks_in turn turns.old) (marks_in turn turns.new) }
+    ensures set { Marks (λ o. object == o) (slice_get (marks_in turn turns.old))
+        (slice_get (marks_in turn turns.new)) }
     ensures past { All (λ t. t ≤ turn) turns.old → All (λ t. t ≤ turn) turns.new }
 {
     let last = turns.len() - 1;
@@ -108,7 +110,8 @@ fn note(turns: &mut [u8], object: u64, turn: u8)
 /// Notes the turn for each of the objects.
 fn note_all(turns: &mut [u8], objects: &[u64], turn: u8)
     requires { 0 < length turns.old }
-    ensures set { Marks (λ o. list_any (λ x. x == o) objects.now) (marks_in turn turns.old) (marks_in turn turns.new) }
+    ensures set { Marks (λ o. list_any (λ x. x == o) objects.now) (slice_get (marks_in turn turns.old))
+        (slice_get (marks_in turn turns.new)) }
     ensures past { All (λ t. t ≤ turn) turns.old → All (λ t. t ≤ turn) turns.new }
 {
     for object in objects {
@@ -179,22 +182,19 @@ impl<A: Allocator> ObjectMarks<A> {
         }
         other_turn(&self.turns[first..first + wanted.len()], self.turn, wanted)
     }
+}
 
-    /// Sets the object's mark. An object without a mark is passed over.
-    pub fn set(&mut self, object: u64)
-        ensures { Marks (λ o. object == o) self.old self.new }
-    {
+impl<A: Allocator> Marking for ObjectMarks<A> {
+    ghost mark_of = { slice_get };
+
+    fn set(&mut self, object: u64) {
         if !self.turns.is_empty() {
             note(&mut self.turns, object, self.turn);
         }
     }
 
-    /// Sets the mark of each of the objects. One without a mark is passed over, and so is the greatest
-    /// number of all: there are never so many marks.
-    pub fn set_all(&mut self, objects: &[u64])
-        ensures set { Marks (λ o. list_any (λ x. x == o) objects.now) self.old self.new }
-        ensures few { length self.old < 2 ^ 63 }
-    {
+    // The greatest number never has a mark, since there are never so many.
+    fn set_all(&mut self, objects: &[u64]) {
         if !self.turns.is_empty() {
             note_all(&mut self.turns, objects, self.turn);
         }

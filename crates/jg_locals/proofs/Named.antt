@@ -1,13 +1,11 @@
 -- The objects that stand beside a thread's slots.
-use Rattle.std.proofs.Common.{◌≡◌, ℕ, suc, ◌<◌, ◌≤◌, ◌+◌, ◌^◌, length, get_or, take, Bool, true, false, List, [], ◌∷◌, ◌++◌, None, refl, ◌∙◌, ap, sym, arith, inl, inr}
-use Rattle.std.specs.Prelude.{◌⊎◌, ◌==◌, ◌&&◌, ◌||◌, if◌then◌else◌, filter, map, slice_get}
+use Rattle.std.proofs.Common.{◌≡◌, ◌≢◌, ℕ, suc, ◌<◌, ◌+◌, length, get_or, take, Bool, true, false, List, [], ◌∷◌, ◌++◌, Option, Some, None, refl, ◌∙◌, ap, sym, arith}
+use Rattle.std.specs.Prelude.{◌==◌, ◌&&◌, ◌||◌, if◌then◌else◌, filter, map}
 use Rattle.std.specs.Option.{option_map}
 use Rattle.std.specs.List.{list_any}
 use Rattle.std.proofs.Math.Seq.{take-suc}
 use Rattle.std.proofs.lemmas.Bool.Decides.{nat_tests}
-use Rattle.std.proofs.lemmas.Bool.{cases_lt}
 use Rattle.std.proofs.lemmas.List.{map-append}
-use Rattle.std.proofs.lemmas.Option.{slice_get_past}
 use Rattle.jg_lists.specs.Marks.{Marks}
 use Rattle.jg_locals.specs.declared.row.Slot.{Slot}
 use Rattle.jg_locals.specs.Seen.{is_live, named}
@@ -18,24 +16,22 @@ named_more slots i d within =
     let next : i + 1 ≡ suc i = omega arith in
     sym (ap (λ k. map named (take k slots)) next ∙ (ap (map named) (take-suc slots i d within) ∙ map-append named (take i slots) (get_or slots i d ∷ [])))
 
-one : (live : Bool) (object o : ℕ) → o < 2 ^ 63 → ((if live then object else 18446744073709551615) == o) ≡ (live && object == o)
-one true object o small = refl
-one false object o small = grind (arith, nat_tests)
+one : (live : Bool) (object o : ℕ) → o ≢ 18446744073709551615 → ((if live then object else 18446744073709551615) == o) ≡ (live && object == o)
+one true object o other = refl
+one false object o other = grind (arith, nat_tests)
 
-any_named : (slots : List Slot) (o : ℕ) → o < 2 ^ 63 → list_any (λ x. x == o) (map named slots) ≡ list_any (λ s. s.live && s.object == o) slots
-any_named [] o small = refl
-any_named (s ∷ rest) o small = rw (one s.live s.object o small, any_named rest o small) refl
+any_named : (slots : List Slot) (o : ℕ) → o ≢ 18446744073709551615 → list_any (λ x. x == o) (map named slots) ≡ list_any (λ s. s.live && s.object == o) slots
+any_named [] o other = refl
+any_named (s ∷ rest) o other = rw (one s.live s.object o other, any_named rest o other) refl
 
-marked_at : (slots : List Slot) (old new : List Bool) (o : ℕ) → length old < 2 ^ 63 → slice_get new o ≡ option_map (λ mark. mark || list_any (λ x. x == o) (map named slots)) (slice_get old o)
-    → (o < length old) ⊎ (length old ≤ o)
-    → slice_get new o ≡ option_map (λ mark. mark || list_any (λ s. s.object == o) (filter is_live slots)) (slice_get old o)
-marked_at slots old new o few is (inl within) =
-    is ∙ ap (λ b. option_map (λ mark. mark || b) (slice_get old o)) (any_named slots o (omega (arith, few, within)) ∙ any_live (λ s. s.object == o) slots)
-marked_at slots old new o few is (inr past) =
-    let none : slice_get old o ≡ None = slice_get_past old o past in
-    is ∙ rw none refl
+marked_at : (slots : List Slot) (o : ℕ) (mark : Option Bool) → (o ≡ 18446744073709551615 → mark ≡ None)
+    → option_map (λ m. m || list_any (λ x. x == o) (map named slots)) mark ≡ option_map (λ m. m || list_any (λ s. s.object == o) (filter is_live slots)) mark
+marked_at slots o None none = refl
+marked_at slots o (Some m) none =
+    let other : o ≢ 18446744073709551615 = λ greatest. let is = none greatest in cc in
+    ap (λ b. Some (m || b)) (any_named slots o other ∙ any_live (λ s. s.object == o) slots)
 
 -- what has a mark and is named beside the slots, a live slot names
-pub marked_live : (slots : List Slot) (old new : List Bool) → length old < 2 ^ 63 → Marks (λ o. list_any (λ x. x == o) (map named slots)) old new
+pub marked_live : (slots : List Slot) (old new : ℕ → Option Bool) → old 18446744073709551615 ≡ None → Marks (λ o. list_any (λ x. x == o) (map named slots)) old new
     → Marks (λ o. list_any (λ s. s.object == o) (filter is_live slots)) old new
-marked_live slots old new few are o = marked_at slots old new o few (are o) (cases_lt o (length old))
+marked_live slots old new none are o = are o ∙ marked_at slots o (old o) (λ greatest. ap old greatest ∙ none)

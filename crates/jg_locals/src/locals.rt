@@ -14,7 +14,7 @@ use crate::stacks::{
     mark_named_in, names_object_in, object_at, open_at, pop_at, reserve_at, reserve_frame_at,
     set_room_at, top_at,
 };
-use jg_lists::{ByThread, ObjectMarks};
+use jg_lists::{ByThread, Marking};
 use jg_words::{ObjId, Ref, Tid};
 use std::alloc::{AllocError, Allocator, Global};
 use std::marker::Model;
@@ -317,8 +317,9 @@ impl<A: Allocator + Clone> Locals<A> {
 
     /// Sets the mark of each object that a live local of some thread names and leaves the other
     /// marks. An object without a mark is passed over.
-    pub fn mark_held(&self, marks: &mut ObjectMarks<A>)
-        ensures { (e : List Event) → Stands self.now.rows e → Marks (holds_object e) marks.old marks.new }
+    pub fn mark_held<M: Marking>(&self, marks: &mut M)
+        ensures { (e : List Event) → Stands self.now.rows e
+            → Marks (holds_object e) (M.mark_of marks.old) (M.mark_of marks.new) }
     {
         mark_named_in(&self.stacks, marks);
     }

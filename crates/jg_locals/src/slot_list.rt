@@ -5,7 +5,7 @@ ghost use Rattle.jg_locals.specs.Seen.{Chain, IsPlaceOf, is_before, is_live, nam
 
 use crate::hints::Hints;
 use crate::row::Slot;
-use jg_lists::ObjectMarks;
+use jg_lists::Marking;
 use std::alloc::{AllocError, Allocator};
 use std::cell::Cell;
 use std::marker::Model;
@@ -214,8 +214,9 @@ impl<A: Allocator> SlotList<A> {
     }
 
     /// Marks each object that a live slot names. Objects without a mark are passed over.
-    pub fn mark_named(&self, marks: &mut ObjectMarks<A>)
-        ensures { Marks (λ o. list_any (λ s. s.object == o) (filter is_live self.now.items)) marks.old marks.new }
+    pub fn mark_named<M: Marking>(&self, marks: &mut M)
+        ensures { Marks (λ o. list_any (λ s. s.object == o) (filter is_live self.now.items)) (M.mark_of marks.old)
+            (M.mark_of marks.new) }
     {
         marks.set_all(&self.objects);
     }

@@ -8,7 +8,7 @@ use crate::frames::{close_from, count_gone, count_more, newest, newest_frame, se
 use crate::row::{Frame, Opened, Slot};
 use crate::slot_list::SlotList;
 use crate::slots::{close_up_if, cut, end_local, is_above_all, list_live, names_object, object_of};
-use jg_lists::ObjectMarks;
+use jg_lists::Marking;
 use jg_words::Ref;
 use std::alloc::{AllocError, Allocator};
 use std::marker::Model;
@@ -250,8 +250,9 @@ impl<A: Allocator> Stack<A> {
         names_object(self.slots.as_slice(), object)
     }
 
-    pub fn mark_held(&self, marks: &mut ObjectMarks<A>)
-        ensures { Marks (λ o. list_any (λ s. s.object == o) self.now.locals) marks.old marks.new }
+    pub fn mark_held<M: Marking>(&self, marks: &mut M)
+        ensures { Marks (λ o. list_any (λ s. s.object == o) self.now.locals) (M.mark_of marks.old)
+            (M.mark_of marks.new) }
     {
         self.slots.mark_named(marks);
     }

@@ -11,7 +11,7 @@ ghost use Rattle.jg_locals.specs.Seen.{last, slot_made, room_set, held_in, is_fu
 
 use crate::row::Frame;
 use crate::stack::Stack;
-use jg_lists::{ByThread, Numbered, ObjectMarks};
+use jg_lists::{ByThread, Marking, Numbered};
 use jg_words::Ref;
 use std::alloc::{AllocError, Allocator};
 
@@ -275,9 +275,9 @@ pub fn names_object_in<A: Allocator>(stacks: &ByThread<Stack<A>, A>, object: u64
     some_names(stacks.seats(), object)
 }
 
-fn mark_seats<A: Allocator>(seats: &[Numbered<Stack<A>>], marks: &mut ObjectMarks<A>)
-    ensures { Marks (λ o. list_any (λ seat. list_any (λ s. s.object == o) seat.value.locals) seats.now) marks.old
-        marks.new }
+fn mark_seats<A: Allocator, M: Marking>(seats: &[Numbered<Stack<A>>], marks: &mut M)
+    ensures { Marks (λ o. list_any (λ seat. list_any (λ s. s.object == o) seat.value.locals) seats.now)
+        (M.mark_of marks.old) (M.mark_of marks.new) }
 {
     for seat in seats {
         seat.value.mark_held(marks);
@@ -285,9 +285,9 @@ fn mark_seats<A: Allocator>(seats: &[Numbered<Stack<A>>], marks: &mut ObjectMark
 }
 
 /// Marks each object that a live local of some thread names.
-pub fn mark_named_in<A: Allocator>(stacks: &ByThread<Stack<A>, A>, marks: &mut ObjectMarks<A>)
-    ensures { Marks (λ o. list_any (λ v. list_any (λ s. s.object == o) v.locals) (values_of stacks.now)) marks.old
-        marks.new }
+pub fn mark_named_in<A: Allocator, M: Marking>(stacks: &ByThread<Stack<A>, A>, marks: &mut M)
+    ensures { Marks (λ o. list_any (λ v. list_any (λ s. s.object == o) v.locals) (values_of stacks.now))
+        (M.mark_of marks.old) (M.mark_of marks.new) }
 {
     mark_seats(stacks.seats(), marks);
 }

@@ -9,7 +9,7 @@ use crate::held::ByOwner;
 use crate::holdings::{lower, release, take};
 use crate::owned::{ByObject, Found, Owned, list_all, look, mark_keys, raise_own};
 use crate::owned_monitor::OwnedMonitor;
-use jg_lists::{ByNumber, ByThread, ObjectMarks};
+use jg_lists::{ByNumber, ByThread, Marking};
 use jg_words::{ObjId, Tid};
 use std::alloc::{AllocError, Allocator, Global};
 use std::marker::Model;
@@ -133,8 +133,8 @@ impl<A: Allocator + Clone> Monitors<A> {
 
     /// Sets the mark of each object whose monitor is owned and leaves the other marks. An object
     /// without a mark is passed over.
-    pub fn mark_held(&self, marks: &mut ObjectMarks<A>)
-        ensures { (e : List Event) → Stands self.now e → Marks (held e) marks.old marks.new }
+    pub fn mark_held<M: Marking>(&self, marks: &mut M)
+        ensures { (e : List Event) → Stands self.now e → Marks (held e) (M.mark_of marks.old) (M.mark_of marks.new) }
     {
         mark_keys(&self.owned, marks);
     }

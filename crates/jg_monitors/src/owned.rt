@@ -8,7 +8,7 @@ ghost use Rattle.jg_monitors.specs.Rows.{Ascends, is_of, owned_monitor};
 ghost use Rattle.jg_monitors.specs.Seen.{count_kept, finds, raised, lowered, seen};
 
 use crate::owned_monitor::OwnedMonitor;
-use jg_lists::{ByNumber, ObjectMarks};
+use jg_lists::{ByNumber, Marking};
 use jg_words::{ObjId, Tid};
 use std::alloc::{AllocError, Allocator};
 
@@ -95,8 +95,8 @@ pub fn free<A: Allocator>(map: &mut ByObject<A>, object: u64)
     map.remove(object);
 }
 
-pub fn mark_keys<A: Allocator>(map: &ByObject<A>, marks: &mut ObjectMarks<A>)
-    ensures { Marks (λ o. list_any (λ k. k == o) (keys_of map.now)) marks.old marks.new }
+pub fn mark_keys<A: Allocator, M: Marking>(map: &ByObject<A>, marks: &mut M)
+    ensures { Marks (λ o. list_any (λ k. k == o) (keys_of map.now)) (M.mark_of marks.old) (M.mark_of marks.new) }
 {
     for seat in map.seats() {
         marks.set(seat.number);

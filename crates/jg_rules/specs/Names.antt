@@ -1,5 +1,5 @@
 -- What references name, and what is known of threads and objects.
-use Rattle.std.specs.Prelude.{ℕ, ℤ, pos, ◌+◌, ◌-◌, ◌==◌, nat_lt, if◌then◌else◌, List, map, Option, Some, None, option_and_then}
+use Rattle.std.specs.Prelude.{ℕ, ℤ, pos, Bool, ◌+◌, ◌-◌, ◌==◌, nat_lt, if◌then◌else◌, List, map, Option, Some, None, option_and_then}
 use Rattle.std.specs.List.{range_with_len}
 use Rattle.std.specs.Option.{option_map, unwrap_or}
 use Rattle.jg_words.specs.declared.object.FieldId.{FieldId}
@@ -56,8 +56,13 @@ the_object p t r = unwrap_or (object_named p t r) 0
 abbrev pub object_count : StatedSetup → Parts → ℕ
 object_count s p = heap.count_of (class_count s) p.heap
 
+-- the object was made and isn't gone
+abbrev pub is_here : StatedSetup → Parts → ℕ → Bool
+is_here s p o = heap.is_there (class_count s) p.heap o
+
+-- the class of an object; one that isn't there counts as a class object
 abbrev pub class_of : StatedSetup → Parts → ℕ → ℕ
-class_of s p o = class_in (heap.making_at (class_count s) p.heap o)
+class_of s p o = heap.class_there (class_count s) p.heap o
 
 -- the UTF-16 units of a string
 abbrev pub units_of : StatedSetup → Parts → ℕ → List ℕ

@@ -36,23 +36,35 @@ pub record Parts : Type 0 where
 abbrev pub nothing_yet : Parts
 nothing_yet = record { threads = []; locals = []; globals = []; buffers = []; monitors = []; heap = []; links = [] }
 
--- what the tables keep
-pub record TableRows : Type 0 where
+-- what the tables keep, where the store of objects keeps this
+pub record RowsBeside (Store : Type 0) : Type 0 where
   pub threads : List (ℕ × Row)
   pub locals : local_rows.Rows
   pub globals : global_rows.Rows
   pub buffers : buffer_rows.Rows
   pub monitors : monitor_rows.Rows
-  pub heap : heap_rows.Rows
+  pub heap : Store
   pub links : link_rows.Rows
 
--- each table stands for its events, and the store has the setup's class objects
-pub record TablesStand (setup : StatedSetup) (rows : TableRows) (p : Parts) : Type 0 where
+-- each table stands for its events; so does the store, beside the setup's class objects, as `Tells` says of it
+pub record StandBeside {Store : Type 0} (Tells : Store → ℕ → List heap.Event → Type 0) (setup : StatedSetup)
+    (rows : RowsBeside Store) (p : Parts) : Type 0 where
   pub threads : thread_standing.Stands rows.threads p.threads
   pub locals : local_standing.Stands rows.locals p.locals
   pub globals : global_standing.Stands rows.globals p.globals
   pub buffers : buffer_standing.Stands rows.buffers p.buffers
   pub monitors : monitor_standing.Stands rows.monitors p.monitors
-  pub heap : heap_standing.Stands rows.heap p.heap
+  pub heap : Tells rows.heap (class_count setup) p.heap
   pub links : link_standing.Stands rows.links p.links
-  pub classes : rows.heap.classes ≡ class_count setup
+
+-- the guard's store stands for its events, and has so many class objects
+pub record HeapTells (rows : heap_rows.Rows) (k : ℕ) (e : List heap.Event) : Type 0 where
+  pub stands : heap_standing.Stands rows e
+  pub classes : rows.classes ≡ k
+
+-- what the guard's tables keep, and when they stand for such events
+abbrev pub TableRows : Type 0
+TableRows = RowsBeside heap_rows.Rows
+
+abbrev pub TablesStand : StatedSetup → TableRows → Parts → Type 0
+TablesStand setup rows p = StandBeside HeapTells setup rows p

@@ -5,20 +5,21 @@ ghost use Rattle.std.specs.Prelude.{◌≡◌, ◌<◌, IfSome};
 ghost use Rattle.jg_policy.specs.Stated.{class_count};
 ghost use Rattle.jg_rules.specs.Parts.{Parts};
 ghost use Rattle.jg_rules.specs.Access.{native_class, vm_class, home_of, refuses, unwarned, warns};
-ghost use Rattle.jg_rules.specs.View.{ViewStands};
+ghost use Rattle.jg_rules.specs.View.{ViewTells};
 
 use crate::named::class_meant;
+use crate::store::Store;
 use crate::view::View;
 use jg_policy::{Access, Operation};
 use jg_words::{Call, Tid, VmCall};
 use std::alloc::Allocator;
 
-fn class_asked_by_vm<A: Allocator + Clone>(
-    view: &View<'_, A>,
+fn class_asked_by_vm<A: Allocator + Clone, S: Store>(
+    view: &View<'_, A, S>,
     tid: Tid,
     call: &VmCall,
 ) -> Option<u32>
-    ensures { (p : Parts) → ViewStands view.now p → result ≡ vm_class view.now.setup.now p tid.0 call.now }
+    ensures { (p : Parts) → ViewTells S.Tells view.now p → result ≡ vm_class view.now.setup.now p tid.0 call.now }
 {
     match call {
         VmCall::AttachCurrentThread => None,
@@ -34,8 +35,12 @@ fn class_asked_by_vm<A: Allocator + Clone>(
 }
 
 /// The class that the call asks for native access with, if it asks for it.
-pub fn class_asked<A: Allocator + Clone>(view: &View<'_, A>, tid: Tid, call: &Call) -> Option<u32>
-    ensures { (p : Parts) → ViewStands view.now p → result ≡ native_class view.now.setup.now p tid.0 call.now }
+pub fn class_asked<A: Allocator + Clone, S: Store>(
+    view: &View<'_, A, S>,
+    tid: Tid,
+    call: &Call,
+) -> Option<u32>
+    ensures { (p : Parts) → ViewTells S.Tells view.now p → result ≡ native_class view.now.setup.now p tid.0 call.now }
 {
     match call {
         Call::Vm(call) => class_asked_by_vm(view, tid, call),
@@ -51,8 +56,12 @@ pub fn class_asked<A: Allocator + Clone>(view: &View<'_, A>, tid: Tid, call: &Ca
 }
 
 /// The number of the module that a warning of the call would name.
-pub fn home_named<A: Allocator + Clone>(view: &View<'_, A>, tid: Tid, call: &Call) -> Option<u32>
-    ensures { (p : Parts) → ViewStands view.now p
+pub fn home_named<A: Allocator + Clone, S: Store>(
+    view: &View<'_, A, S>,
+    tid: Tid,
+    call: &Call,
+) -> Option<u32>
+    ensures { (p : Parts) → ViewTells S.Tells view.now p
         → result ≡ home_of view.now.setup.now (native_class view.now.setup.now p tid.0 call.now) }
 {
     match class_asked(view, tid, call) {
@@ -62,8 +71,8 @@ pub fn home_named<A: Allocator + Clone>(view: &View<'_, A>, tid: Tid, call: &Cal
 }
 
 /// Whether this use of native code by the class is refused.
-pub(crate) fn is_refused_to<A: Allocator + Clone>(
-    view: &View<'_, A>,
+pub(crate) fn is_refused_to<A: Allocator + Clone, S: Store>(
+    view: &View<'_, A, S>,
     operation: Operation,
     class: Option<u32>,
 ) -> bool
@@ -80,8 +89,8 @@ pub(crate) fn is_refused_to<A: Allocator + Clone>(
     }
 }
 
-fn is_unwarned<A: Allocator + Clone>(view: &View<'_, A>, home: Option<u32>) -> bool
-    ensures { (p : Parts) → ViewStands view.now p → result ≡ unwarned p home }
+fn is_unwarned<A: Allocator + Clone, S: Store>(view: &View<'_, A, S>, home: Option<u32>) -> bool
+    ensures { (p : Parts) → ViewTells S.Tells view.now p → result ≡ unwarned p home }
 {
     match home {
         None => false,
@@ -91,13 +100,13 @@ fn is_unwarned<A: Allocator + Clone>(view: &View<'_, A>, home: Option<u32>) -> b
 
 /// Whether this use of native code by the class comes with a warning: the first one by its module,
 /// where it is neither refused nor allowed without. The class is one of the setup's.
-pub fn is_warned_use<A: Allocator + Clone>(
-    view: &View<'_, A>,
+pub fn is_warned_use<A: Allocator + Clone, S: Store>(
+    view: &View<'_, A, S>,
     operation: Operation,
     class: Option<u32>,
 ) -> bool
     requires { IfSome class (λ c. c < class_count view.now.setup.now) }
-    ensures { (p : Parts) → ViewStands view.now p → result ≡ warns view.now.setup.now p operation class }
+    ensures { (p : Parts) → ViewTells S.Tells view.now p → result ≡ warns view.now.setup.now p operation class }
 {
     match class {
         None => false,

@@ -6,17 +6,21 @@ ghost use Rattle.jg_buffers.specs.History.{info_of, is_critical as is_pinning};
 ghost use Rattle.jg_buffers.specs.Rows.{row_of};
 ghost use Rattle.jg_rules.specs.Buffers as buffers_of;
 ghost use Rattle.jg_rules.specs.Parts.{Parts};
-ghost use Rattle.jg_rules.specs.View.{ViewStands};
+ghost use Rattle.jg_rules.specs.View.{ViewTells};
 
 use crate::object::class_of;
+use crate::store::Store;
 use crate::view::View;
 use jg_buffers::{Family, Info};
 use jg_words::{BufId, ObjId, Primitive, Tid};
 use std::alloc::Allocator;
 
 /// The open buffer of that name, if there is one.
-pub fn buffer_named<A: Allocator + Clone>(view: &View<'_, A>, buffer: BufId) -> Option<Info>
-    ensures told { (p : Parts) → ViewStands view.now p → result ≡ buffers_of.buffer_named p buffer }
+pub fn buffer_named<A: Allocator + Clone, S: Store>(
+    view: &View<'_, A, S>,
+    buffer: BufId,
+) -> Option<Info>
+    ensures told { (p : Parts) → ViewTells S.Tells view.now p → result ≡ buffers_of.buffer_named p buffer }
     ensures row { result ≡ option_map info_of (row_of buffer.maker.0 buffer.n view.now.buffers.now) }
 {
     view.buffers.find(buffer)
@@ -105,8 +109,11 @@ fn element_of(class: u32) -> Option<Primitive>
 }
 
 /// The type of the buffer's items, where they may be written.
-pub fn item_type<A: Allocator + Clone>(view: &View<'_, A>, info: Info) -> Option<Primitive>
-    ensures { (p : Parts) → ViewStands view.now p
+pub fn item_type<A: Allocator + Clone, S: Store>(
+    view: &View<'_, A, S>,
+    info: Info,
+) -> Option<Primitive>
+    ensures { (p : Parts) → ViewTells S.Tells view.now p
         → result ≡ buffers_of.item_type view.now.setup.now p info info.family }
 {
     match info.family {

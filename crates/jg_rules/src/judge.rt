@@ -3,7 +3,7 @@
 ghost use Rattle.std.specs.Prelude.{◌≡◌};
 ghost use Rattle.jg_rules.specs.Parts.{Parts};
 ghost use Rattle.jg_rules.specs.Rules.{verdict, own_verdict, is_machine, wrong_caller, wrong_thread, detached, in_critical, while_pending};
-ghost use Rattle.jg_rules.specs.View.{ViewStands};
+ghost use Rattle.jg_rules.specs.View.{ViewTells};
 
 mod arrays;
 mod buffers;
@@ -16,6 +16,7 @@ mod references;
 mod strings;
 mod vm;
 
+use crate::store::Store;
 use crate::view::View;
 use arrays::judge_arrays;
 use buffers::judge_buffers;
@@ -34,13 +35,13 @@ use strings::judge_strings;
 use vm::judge_vm;
 
 /// The first rule that the call breaks, as the tables are now; None where it breaks none.
-pub fn first_broken<A: Allocator + Clone>(
-    view: &View<'_, A>,
+pub fn first_broken<A: Allocator + Clone, S: Store>(
+    view: &View<'_, A, S>,
     tid: Tid,
     env: Option<EnvId>,
     call: &Call,
 ) -> Option<Rule>
-    ensures { (p : Parts) → ViewStands view.now p → result ≡ verdict view.now.setup.now p tid.0 env call.now }
+    ensures { (p : Parts) → ViewTells S.Tells view.now p → result ≡ verdict view.now.setup.now p tid.0 env call.now }
 {
     if is_wrong_thread(tid, env, call) {
         return Some(Rule::WrongThread);
@@ -62,8 +63,12 @@ pub fn first_broken<A: Allocator + Clone>(
 }
 
 /// The first of rules 10 to 17 that the call breaks.
-fn judge_group<A: Allocator + Clone>(view: &View<'_, A>, tid: Tid, call: &Call) -> Option<Rule>
-    ensures { (p : Parts) → ViewStands view.now p → result ≡ own_verdict view.now.setup.now p tid.0 call.now }
+fn judge_group<A: Allocator + Clone, S: Store>(
+    view: &View<'_, A, S>,
+    tid: Tid,
+    call: &Call,
+) -> Option<Rule>
+    ensures { (p : Parts) → ViewTells S.Tells view.now p → result ≡ own_verdict view.now.setup.now p tid.0 call.now }
 {
     match call {
         Call::Vm(call) => judge_vm(view, tid, call),
@@ -109,13 +114,13 @@ fn is_wrong_thread(tid: Tid, env: Option<EnvId>, call: &Call) -> bool
     }
 }
 
-fn is_detached<A: Allocator + Clone>(
-    view: &View<'_, A>,
+fn is_detached<A: Allocator + Clone, S: Store>(
+    view: &View<'_, A, S>,
     tid: Tid,
     env: Option<EnvId>,
     call: &Call,
 ) -> bool
-    ensures { (p : Parts) → ViewStands view.now p → result ≡ detached p tid.0 env call.now }
+    ensures { (p : Parts) → ViewTells S.Tells view.now p → result ≡ detached p tid.0 env call.now }
 {
     match env {
         None => call.fun().takes_env(),
@@ -126,14 +131,22 @@ fn is_detached<A: Allocator + Clone>(
     }
 }
 
-fn is_in_critical<A: Allocator + Clone>(view: &View<'_, A>, tid: Tid, call: &Call) -> bool
-    ensures { (p : Parts) → ViewStands view.now p → result ≡ in_critical p tid.0 call.now }
+fn is_in_critical<A: Allocator + Clone, S: Store>(
+    view: &View<'_, A, S>,
+    tid: Tid,
+    call: &Call,
+) -> bool
+    ensures { (p : Parts) → ViewTells S.Tells view.now p → result ≡ in_critical p tid.0 call.now }
 {
     !call.fun().passes_in_critical() && view.buffers.in_critical(tid)
 }
 
-fn is_while_pending<A: Allocator + Clone>(view: &View<'_, A>, tid: Tid, call: &Call) -> bool
-    ensures { (p : Parts) → ViewStands view.now p → result ≡ while_pending p tid.0 call.now }
+fn is_while_pending<A: Allocator + Clone, S: Store>(
+    view: &View<'_, A, S>,
+    tid: Tid,
+    call: &Call,
+) -> bool
+    ensures { (p : Parts) → ViewTells S.Tells view.now p → result ≡ while_pending p tid.0 call.now }
 {
     view.threads.pending(tid).is_some() && !call.fun().passes_pending()
 }

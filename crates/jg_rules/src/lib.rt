@@ -9,6 +9,7 @@ mod judge;
 mod named;
 mod object;
 mod operand;
+mod store;
 mod view;
 
 pub use access::{class_asked, home_named, is_warned_use};
@@ -23,4 +24,5 @@ pub use judge::{
 pub use named::{Named, class_meant, field_meant, look_up, native_meant, object_named, the_object};
 pub use object::{class_of, field_of, items_of, length_of, slot_of, slot_place_of, units_of};
 pub use operand::{ObjectType, Operand, Operands, operands_of};
+pub use store::Store;
 pub use view::View;

@@ -4,8 +4,9 @@ ghost use Rattle.jg_policy.specs.Stated.{class_count};
 ghost use Rattle.jg_rules.specs.Parts.{Parts};
 ghost use Rattle.jg_rules.specs.Names as names_of;
 ghost use Rattle.jg_rules.specs.Names.{names, named_by_target, class_by};
-ghost use Rattle.jg_rules.specs.View.{ViewStands};
+ghost use Rattle.jg_rules.specs.View.{ViewTells};
 
+use crate::store::Store;
 use crate::view::View;
 use jg_globals::Target;
 use jg_policy::Setup;
@@ -22,8 +23,12 @@ pub enum Named {
 }
 
 /// What a reference names for the thread, as the tables are now.
-pub fn look_up<A: Allocator + Clone>(view: &View<'_, A>, tid: Tid, reference: Ref) -> Named
-    ensures { (p : Parts) → ViewStands view.now p → result ≡ names p tid.0 reference }
+pub fn look_up<A: Allocator + Clone, S: Store>(
+    view: &View<'_, A, S>,
+    tid: Tid,
+    reference: Ref,
+) -> Named
+    ensures { (p : Parts) → ViewTells S.Tells view.now p → result ≡ names p tid.0 reference }
 {
     match reference {
         Ref::Null => Named::Null,
@@ -61,12 +66,12 @@ fn named_by(target: Option<Target>) -> Named
 }
 
 /// The object that a reference names for the thread, if it names one.
-pub fn object_named<A: Allocator + Clone>(
-    view: &View<'_, A>,
+pub fn object_named<A: Allocator + Clone, S: Store>(
+    view: &View<'_, A, S>,
     tid: Tid,
     reference: Ref,
 ) -> Option<ObjId>
-    ensures { (p : Parts) → ViewStands view.now p
+    ensures { (p : Parts) → ViewTells S.Tells view.now p
         → option_map (λ o. o.0) result ≡ names_of.object_named p tid.0 reference }
 {
     match look_up(view, tid, reference) {
@@ -77,8 +82,12 @@ pub fn object_named<A: Allocator + Clone>(
 }
 
 /// The same for an operand that the rules have found to name one. Object 0 stands for none.
-pub fn the_object<A: Allocator + Clone>(view: &View<'_, A>, tid: Tid, reference: Ref) -> ObjId
-    ensures { (p : Parts) → ViewStands view.now p → result.0 ≡ names_of.the_object p tid.0 reference }
+pub fn the_object<A: Allocator + Clone, S: Store>(
+    view: &View<'_, A, S>,
+    tid: Tid,
+    reference: Ref,
+) -> ObjId
+    ensures { (p : Parts) → ViewTells S.Tells view.now p → result.0 ≡ names_of.the_object p tid.0 reference }
 {
     match object_named(view, tid, reference) {
         None => ObjId(0),
@@ -100,12 +109,12 @@ fn class_by_object(setup: &Setup, object: ObjId) -> Option<u32>
 }
 
 /// The class whose class object the reference names for the thread, if it names one.
-pub fn class_meant<A: Allocator + Clone>(
-    view: &View<'_, A>,
+pub fn class_meant<A: Allocator + Clone, S: Store>(
+    view: &View<'_, A, S>,
     tid: Tid,
     reference: Ref,
 ) -> Option<u32>
-    ensures told { (p : Parts) → ViewStands view.now p
+    ensures told { (p : Parts) → ViewTells S.Tells view.now p
         → result ≡ names_of.class_meant view.now.setup.now p tid.0 reference }
     ensures within { IfSome result (λ class. class < class_count view.now.setup.now) }
 {

@@ -8,24 +8,19 @@ ghost use Rattle.jg_rules.specs.Parts.{Parts};
 ghost use Rattle.jg_rules.specs.Names as names_of;
 ghost use Rattle.jg_rules.specs.Names.{slot_place};
 ghost use Rattle.jg_rules.specs.Answers.{field_value};
-ghost use Rattle.jg_rules.specs.View.{ViewStands};
+ghost use Rattle.jg_rules.specs.View.{ViewStands, ViewTells};
 
+use crate::store::Store;
 use crate::view::View;
 use jg_heap::Slot;
 use jg_words::{FieldId, ObjId};
 use std::alloc::Allocator;
 
-const CLASS_CLASS: u32 = 1;
-
-/// The number of its class.
-pub fn class_of<A: Allocator + Clone>(view: &View<'_, A>, object: ObjId) -> u32
-    ensures { (p : Parts) → ViewStands view.now p → result ≡ names_of.class_of view.now.setup.now p object.0 }
+/// The number of its class. An object that isn't there counts as a class object.
+pub fn class_of<A: Allocator + Clone, S: Store>(view: &View<'_, A, S>, object: ObjId) -> u32
+    ensures { (p : Parts) → ViewTells S.Tells view.now p → result ≡ names_of.class_of view.now.setup.now p object.0 }
 {
-    if object.0 < view.heap.len() {
-        view.heap.class_of(object)
-    } else {
-        CLASS_CLASS
-    }
+    view.heap.class_there(object)
 }
 
 /// How many UTF-16 units a string has, items an array, fields any other object.

@@ -5,6 +5,7 @@ mod heap;
 mod locals;
 mod monitors;
 mod numbers;
+mod objects;
 mod threads;
 
 use linked_list_allocator::LocalHeap;

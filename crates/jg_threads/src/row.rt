@@ -2,8 +2,7 @@ ghost use Rattle.std.specs.Prelude.{◌≡◌};
 ghost use Rattle.jg_threads.specs.History.{is_object};
 ghost use Rattle.jg_lists.specs.Marks.{Marks};
 
-use jg_lists::ObjectMarks;
-use std::alloc::Allocator;
+use jg_lists::Marking;
 
 /// What is kept of a thread.
 #[derive(Clone, Copy, Debug, PartialEq, Eq)]
@@ -45,8 +44,8 @@ impl Row {
 
     /// Sets the mark of the thread's pending exception.
     #[tactic(auto, using(crate::proofs::Pending::none))]
-    pub(crate) fn mark_pending<A: Allocator>(&self, marks: &mut ObjectMarks<A>)
-        ensures { Marks (λ o. is_object o self.now.pending) marks.old marks.new }
+    pub(crate) fn mark_pending<M: Marking>(&self, marks: &mut M)
+        ensures { Marks (λ o. is_object o self.now.pending) (M.mark_of marks.old) (M.mark_of marks.new) }
     {
         if let Some(pending) = self.pending {
             marks.set(pending);

@@ -9,7 +9,7 @@ ghost use Rattle.jg_threads.specs.Rows.{row_of};
 ghost use Rattle.jg_lists.specs.Marks.{Marks};
 
 use crate::row::{NO_ROW, Row};
-use jg_lists::{ByThread, Numbered, ObjectMarks};
+use jg_lists::{ByThread, Marking, Numbered};
 use std::alloc::{AllocError, Allocator};
 
 /// The row of the thread.
@@ -60,8 +60,9 @@ pub fn is_pending_in<A: Allocator>(rows: &ByThread<Row, A>, object: u64) -> bool
     some_pending(rows.seats(), object)
 }
 
-fn mark_seats<A: Allocator>(seats: &[Numbered<Row>], marks: &mut ObjectMarks<A>)
-    ensures { Marks (λ o. list_any (λ seat. is_object o seat.value.pending) seats.now) marks.old marks.new }
+fn mark_seats<M: Marking>(seats: &[Numbered<Row>], marks: &mut M)
+    ensures { Marks (λ o. list_any (λ seat. is_object o seat.value.pending) seats.now) (M.mark_of marks.old)
+        (M.mark_of marks.new) }
 {
     for seat in seats {
         seat.value.mark_pending(marks);
@@ -69,8 +70,9 @@ fn mark_seats<A: Allocator>(seats: &[Numbered<Row>], marks: &mut ObjectMarks<A>)
 }
 
 /// Marks each object that is pending by some row.
-pub fn mark_pending_in<A: Allocator>(rows: &ByThread<Row, A>, marks: &mut ObjectMarks<A>)
-    ensures marks { Marks (λ o. list_any (λ row. is_object o row.pending) (values_of rows.now)) marks.old marks.new }
+pub fn mark_pending_in<A: Allocator, M: Marking>(rows: &ByThread<Row, A>, marks: &mut M)
+    ensures marks { Marks (λ o. list_any (λ row. is_object o row.pending) (values_of rows.now)) (M.mark_of marks.old)
+        (M.mark_of marks.new) }
     ensures once { IsOnce rows.now }
 {
     mark_seats(rows.seats(), marks);

@@ -8,7 +8,7 @@ ghost use Rattle.jg_threads.specs.Standing.{Stands};
 
 use crate::row::{NO_ROW, Row};
 use crate::rows::{is_pending_in, mark_pending_in, put_row, row_at};
-use jg_lists::{ByThread, ObjectMarks};
+use jg_lists::{ByThread, Marking};
 use jg_words::{EnvId, ObjId, Tid};
 use std::alloc::{AllocError, Allocator, Global};
 use std::marker::Model;
@@ -223,8 +223,9 @@ impl<A: Allocator + Clone> Threads<A> {
 
     /// Sets the mark of each object that is pending in some thread and leaves the other marks. An
     /// object without a mark is passed over.
-    pub fn mark_held(&self, marks: &mut ObjectMarks<A>)
-        ensures { (e : List Event) → Stands self.now e → Marks (is_pending e) marks.old marks.new }
+    pub fn mark_held<M: Marking>(&self, marks: &mut M)
+        ensures { (e : List Event) → Stands self.now e
+            → Marks (is_pending e) (M.mark_of marks.old) (M.mark_of marks.new) }
     {
         mark_pending_in(&self.rows, marks);
     }

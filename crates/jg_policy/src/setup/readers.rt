@@ -1,11 +1,11 @@
 //! What a setup says of its classes, their members and their modules. Classes go by their
 //! numbers: the base classes 0 to 14, and then those of the text in their order.
 ghost use Rattle.std.specs.Prelude.{◌≡◌, ◌<◌, ◌≤◌, ◌&&◌, length, string_bytes, map, IfSome, position};
-ghost use Rattle.std.specs.Option.{option_map};
+ghost use Rattle.std.specs.Option.{is_some, option_map};
 ghost use Rattle.std.specs.Str.{bytes_eq};
 ghost use Rattle.jg_policy.specs.Stated.{class_count};
 ghost use Rattle.jg_policy.specs.Access.{access_of};
-ghost use Rattle.jg_policy.specs.Classes.{class_named, is_throwable, class_name_of, module_name_of, module_of, member_named, field_named, native_named, member_type, field_type, class_at, fields_in};
+ghost use Rattle.jg_policy.specs.Classes.{class_named, is_throwable, class_name_of, module_name_of, module_of, module_names, member_named, field_named, native_at, native_named, member_type, field_type, class_at, fields_in};
 ghost use Rattle.jg_policy.specs.Kept.{member_view};
 
 use crate::access::{Access, Operation};
@@ -145,6 +145,26 @@ impl Setup {
                 member_named(found.natives.as_slice(), name.as_str(), signature.as_str())
             }
         }
+    }
+
+    /// Whether the setup states a native method of the class with this number. They count from 1.
+    pub fn has_native(&self, class: u32, native: u32) -> bool
+        ensures { result ≡ is_some (native_at self.now class native) }
+    {
+        if class < BASE_COUNT {
+            return false;
+        }
+        match self.classes.get_index((class - BASE_COUNT) as usize) {
+            None => false,
+            Some((_, found)) => 1 <= native && native as usize <= found.natives.as_slice().len(),
+        }
+    }
+
+    /// How many numbers of modules there may be: those that [`Setup::module_of`] answers are below.
+    pub fn module_count(&self) -> u32
+        ensures count { result ≡ length (module_names self.now) }
+    {
+        1 + self.classes.len() as u32
     }
 
     /// What is done with a use of native code by the class (JEP 472): it goes by the operation and

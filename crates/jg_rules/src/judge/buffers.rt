@@ -4,26 +4,27 @@ ghost use Rattle.jg_rules.specs.Buffers as buffers_of;
 ghost use Rattle.jg_rules.specs.Parts.{Parts};
 ghost use Rattle.jg_rules.specs.Rules as rules_of;
 ghost use Rattle.jg_rules.specs.Rules.{buffers_bad_buffer, buffers_bad_argument, own_verdict};
-ghost use Rattle.jg_rules.specs.View.{ViewStands};
+ghost use Rattle.jg_rules.specs.View.{ViewTells};
 
 use super::numbers::fits;
 use crate::buffer::{
     buffer_named, is_anothers, is_of_array, is_of_family, is_of_object, is_place, item_type,
 };
 use crate::named::object_named;
+use crate::store::Store;
 use crate::view::View;
 use jg_buffers::{Family, Info};
 use jg_words::{BufId, BuffersCall, Primitive, Ref, Rule, Tid};
 use std::alloc::Allocator;
 
-fn is_releasable<A: Allocator + Clone>(
-    view: &View<'_, A>,
+fn is_releasable<A: Allocator + Clone, S: Store>(
+    view: &View<'_, A, S>,
     tid: Tid,
     family: Family,
     object: Ref,
     buffer: BufId,
 ) -> bool
-    ensures { (p : Parts) → ViewStands view.now p → result ≡ rules_of.is_releasable p tid.0 family object buffer }
+    ensures { (p : Parts) → ViewTells S.Tells view.now p → result ≡ rules_of.is_releasable p tid.0 family object buffer }
 {
     match buffer_named(view, buffer) {
         None => false,
@@ -34,8 +35,12 @@ fn is_releasable<A: Allocator + Clone>(
     }
 }
 
-fn is_readable<A: Allocator + Clone>(view: &View<'_, A>, tid: Tid, buffer: BufId) -> bool
-    ensures { (p : Parts) → ViewStands view.now p → result ≡ rules_of.is_readable p tid.0 buffer }
+fn is_readable<A: Allocator + Clone, S: Store>(
+    view: &View<'_, A, S>,
+    tid: Tid,
+    buffer: BufId,
+) -> bool
+    ensures { (p : Parts) → ViewTells S.Tells view.now p → result ≡ rules_of.is_readable p tid.0 buffer }
 {
     match buffer_named(view, buffer) {
         None => false,
@@ -43,8 +48,12 @@ fn is_readable<A: Allocator + Clone>(view: &View<'_, A>, tid: Tid, buffer: BufId
     }
 }
 
-fn is_writable<A: Allocator + Clone>(view: &View<'_, A>, tid: Tid, buffer: BufId) -> bool
-    ensures { (p : Parts) → ViewStands view.now p → result ≡ rules_of.is_writable p tid.0 buffer }
+fn is_writable<A: Allocator + Clone, S: Store>(
+    view: &View<'_, A, S>,
+    tid: Tid,
+    buffer: BufId,
+) -> bool
+    ensures { (p : Parts) → ViewTells S.Tells view.now p → result ≡ rules_of.is_writable p tid.0 buffer }
 {
     match buffer_named(view, buffer) {
         None => false,
@@ -53,8 +62,12 @@ fn is_writable<A: Allocator + Clone>(view: &View<'_, A>, tid: Tid, buffer: BufId
 }
 
 /// Whether the call breaks rule 11.
-fn is_bad_buffer<A: Allocator + Clone>(view: &View<'_, A>, tid: Tid, call: &BuffersCall) -> bool
-    ensures { (p : Parts) → ViewStands view.now p → result ≡ buffers_bad_buffer p tid.0 call.now }
+fn is_bad_buffer<A: Allocator + Clone, S: Store>(
+    view: &View<'_, A, S>,
+    tid: Tid,
+    call: &BuffersCall,
+) -> bool
+    ensures { (p : Parts) → ViewTells S.Tells view.now p → result ≡ buffers_bad_buffer p tid.0 call.now }
 {
     match call {
         BuffersCall::GetArrayElements { .. } => false,
@@ -91,8 +104,12 @@ fn is_mode(mode: i32) -> bool
     0 <= mode && mode <= 2
 }
 
-fn is_outside<A: Allocator + Clone>(view: &View<'_, A>, index: i32, buffer: BufId) -> bool
-    ensures { (p : Parts) → ViewStands view.now p
+fn is_outside<A: Allocator + Clone, S: Store>(
+    view: &View<'_, A, S>,
+    index: i32,
+    buffer: BufId,
+) -> bool
+    ensures { (p : Parts) → ViewTells S.Tells view.now p
         → result ≡ rules_of.is_outside_of index (buffers_of.buffer_named p buffer) }
 {
     match buffer_named(view, buffer) {
@@ -110,13 +127,13 @@ fn is_of_type(element: Option<Primitive>, value: i64) -> bool
     }
 }
 
-fn is_wrong_item<A: Allocator + Clone>(
-    view: &View<'_, A>,
+fn is_wrong_item<A: Allocator + Clone, S: Store>(
+    view: &View<'_, A, S>,
     index: i32,
     value: i64,
     buffer: BufId,
 ) -> bool
-    ensures { (p : Parts) → ViewStands view.now p → result
+    ensures { (p : Parts) → ViewTells S.Tells view.now p → result
         ≡ rules_of.is_wrong_item view.now.setup.now p index value (buffers_of.buffer_named p buffer) }
 {
     match buffer_named(view, buffer) {
@@ -129,8 +146,11 @@ fn is_wrong_item<A: Allocator + Clone>(
 }
 
 /// Whether the call breaks rule 12.
-fn is_bad_argument<A: Allocator + Clone>(view: &View<'_, A>, call: &BuffersCall) -> bool
-    ensures { (p : Parts) → ViewStands view.now p
+fn is_bad_argument<A: Allocator + Clone, S: Store>(
+    view: &View<'_, A, S>,
+    call: &BuffersCall,
+) -> bool
+    ensures { (p : Parts) → ViewTells S.Tells view.now p
         → result ≡ buffers_bad_argument view.now.setup.now p call.now }
 {
     match call {
@@ -154,12 +174,12 @@ fn is_bad_argument<A: Allocator + Clone>(view: &View<'_, A>, call: &BuffersCall)
 }
 
 /// The first of rules 10 to 17 that a call of the group breaks.
-pub(crate) fn judge_buffers<A: Allocator + Clone>(
-    view: &View<'_, A>,
+pub(crate) fn judge_buffers<A: Allocator + Clone, S: Store>(
+    view: &View<'_, A, S>,
     tid: Tid,
     call: &BuffersCall,
 ) -> Option<Rule>
-    ensures { (p : Parts) → ViewStands view.now p
+    ensures { (p : Parts) → ViewTells S.Tells view.now p
         → result ≡ own_verdict view.now.setup.now p tid.0 (Buffers call.now) }
 {
     if is_bad_buffer(view, tid, call) {

@@ -4,11 +4,12 @@ ghost use Rattle.jg_words.specs.declared.call.Call.TheVariants.{Objects};
 ghost use Rattle.jg_rules.specs.Parts.{Parts};
 ghost use Rattle.jg_rules.specs.Rules.{own_verdict, field_of_another, is_field_type, is_stated_as, type_letter as letter_of};
 ghost use Rattle.jg_rules.specs.Rules as rules_of;
-ghost use Rattle.jg_rules.specs.View.{ViewStands};
+ghost use Rattle.jg_rules.specs.View.{ViewTells};
 
 use super::numbers::fits;
 use crate::named::{Named, look_up};
 use crate::object::class_of;
+use crate::store::Store;
 use crate::view::View;
 use jg_words::{FieldId, ObjectsCall, Primitive, Ref, Rule, Tid};
 use std::alloc::Allocator;
@@ -48,8 +49,12 @@ fn is_stated(wanted: Option<Primitive>, signature: Option<&str>) -> bool
 }
 
 /// Whether the object that the reference names, if it names one, is of that class.
-fn is_of_class<A: Allocator + Clone>(view: &View<'_, A>, class: u32, named: Named) -> bool
-    ensures { (p : Parts) → ViewStands view.now p → result ≡ rules_of.is_of_class view.now.setup.now p class named }
+fn is_of_class<A: Allocator + Clone, S: Store>(
+    view: &View<'_, A, S>,
+    class: u32,
+    named: Named,
+) -> bool
+    ensures { (p : Parts) → ViewTells S.Tells view.now p → result ≡ rules_of.is_of_class view.now.setup.now p class named }
 {
     match named {
         Named::Nothing => true,
@@ -58,14 +63,14 @@ fn is_of_class<A: Allocator + Clone>(view: &View<'_, A>, class: u32, named: Name
     }
 }
 
-fn judge_field<A: Allocator + Clone>(
-    view: &View<'_, A>,
+fn judge_field<A: Allocator + Clone, S: Store>(
+    view: &View<'_, A, S>,
     tid: Tid,
     wanted: Option<Primitive>,
     object: Ref,
     field: FieldId,
 ) -> bool
-    ensures { (p : Parts) → ViewStands view.now p
+    ensures { (p : Parts) → ViewTells S.Tells view.now p
         → result ≡ field_of_another view.now.setup.now p tid.0 wanted object field }
 {
     let is_right_type = is_stated(wanted, view.setup.field_type(field));
@@ -73,12 +78,12 @@ fn judge_field<A: Allocator + Clone>(
 }
 
 /// The first of rules 10 to 17 that a call of the group breaks.
-pub(crate) fn judge_objects<A: Allocator + Clone>(
-    view: &View<'_, A>,
+pub(crate) fn judge_objects<A: Allocator + Clone, S: Store>(
+    view: &View<'_, A, S>,
     tid: Tid,
     call: &ObjectsCall,
 ) -> Option<Rule>
-    ensures { (p : Parts) → ViewStands view.now p
+    ensures { (p : Parts) → ViewTells S.Tells view.now p
         → result ≡ own_verdict view.now.setup.now p tid.0 (Objects call.now) }
 {
     let is_bad_field = match call {

@@ -4,14 +4,15 @@ ghost use Rattle.std.specs.Prelude.{◌≡◌};
 ghost use Rattle.jg_words.specs.declared.call.Call.TheVariants.{Refs};
 ghost use Rattle.jg_rules.specs.Parts.{Parts};
 ghost use Rattle.jg_rules.specs.Rules.{own_verdict, refs_pinned};
-ghost use Rattle.jg_rules.specs.View.{ViewStands};
+ghost use Rattle.jg_rules.specs.View.{ViewTells};
 
+use crate::store::Store;
 use crate::view::View;
 use jg_words::{RefsCall, Rule, Tid};
 use std::alloc::Allocator;
 
-fn is_pinned<A: Allocator + Clone>(view: &View<'_, A>, call: &RefsCall) -> bool
-    ensures { (p : Parts) → ViewStands view.now p → result ≡ refs_pinned p call.now }
+fn is_pinned<A: Allocator + Clone, S: Store>(view: &View<'_, A, S>, call: &RefsCall) -> bool
+    ensures { (p : Parts) → ViewTells S.Tells view.now p → result ≡ refs_pinned p call.now }
 {
     match call {
         RefsCall::NewLocalRef { .. } => false,
@@ -26,12 +27,12 @@ fn is_pinned<A: Allocator + Clone>(view: &View<'_, A>, call: &RefsCall) -> bool
 }
 
 /// The first of rules 10 to 17 that a call of the group breaks.
-pub(crate) fn judge_refs<A: Allocator + Clone>(
-    view: &View<'_, A>,
+pub(crate) fn judge_refs<A: Allocator + Clone, S: Store>(
+    view: &View<'_, A, S>,
     tid: Tid,
     call: &RefsCall,
 ) -> Option<Rule>
-    ensures { (p : Parts) → ViewStands view.now p
+    ensures { (p : Parts) → ViewTells S.Tells view.now p
         → result ≡ own_verdict view.now.setup.now p tid.0 (Refs call.now) }
 {
     let _tid = tid;

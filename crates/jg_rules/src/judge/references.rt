@@ -6,11 +6,12 @@ ghost use Rattle.jg_heap.specs.Making as making;
 ghost use Rattle.jg_rules.specs.Parts.{Parts};
 ghost use Rattle.jg_rules.specs.Operands.{is_of, is_plain, listed, operands};
 ghost use Rattle.jg_rules.specs.Rules.{is_foreign, is_not, is_wrong, operands_verdict, refs_wrong_kind, wrong_kind};
-ghost use Rattle.jg_rules.specs.View.{ViewStands};
+ghost use Rattle.jg_rules.specs.View.{ViewTells};
 
 use crate::named::{Named, look_up};
 use crate::object::class_of;
 use crate::operand::{ObjectType, Operand, Operands, operands_of};
+use crate::store::Store;
 use crate::view::View;
 use jg_words::{Call, Kind, ObjId, Primitive, Ref, RefsCall, Rule, Tid};
 use std::alloc::Allocator;
@@ -36,7 +37,7 @@ pub fn is_foreign_local(tid: Tid, reference: Ref) -> bool
 }
 
 /// Whether it is the class object of a class with plain instances. It has its class's number.
-fn is_plain_class<A: Allocator + Clone>(view: &View<'_, A>, object: ObjId) -> bool
+fn is_plain_class<A: Allocator + Clone, S: Store>(view: &View<'_, A, S>, object: ObjId) -> bool
     ensures { result ≡ is_plain view.now.setup.now object.0 }
 {
     object.0 == 0 || 10 <= object.0 && object.0 < u64::from(view.setup.class_count())
@@ -68,12 +69,12 @@ fn array_class(element: Primitive) -> u32
     }
 }
 
-fn is_object_of<A: Allocator + Clone>(
-    view: &View<'_, A>,
+fn is_object_of<A: Allocator + Clone, S: Store>(
+    view: &View<'_, A, S>,
     object_type: ObjectType,
     object: ObjId,
 ) -> bool
-    ensures { (p : Parts) → ViewStands view.now p → result ≡ is_of view.now.setup.now p object_type object.0 }
+    ensures { (p : Parts) → ViewTells S.Tells view.now p → result ≡ is_of view.now.setup.now p object_type object.0 }
 {
     match object_type {
         ObjectType::AnyObject => true,
@@ -89,12 +90,12 @@ fn is_object_of<A: Allocator + Clone>(
 }
 
 /// Whether it is an object, and not of the type.
-pub fn is_wrong_object<A: Allocator + Clone>(
-    view: &View<'_, A>,
+pub fn is_wrong_object<A: Allocator + Clone, S: Store>(
+    view: &View<'_, A, S>,
     object_type: ObjectType,
     named: Named,
 ) -> bool
-    ensures { (p : Parts) → ViewStands view.now p → result ≡ is_wrong view.now.setup.now p object_type named }
+    ensures { (p : Parts) → ViewTells S.Tells view.now p → result ≡ is_wrong view.now.setup.now p object_type named }
 {
     match named {
         Named::Nothing | Named::Null => false,
@@ -144,24 +145,24 @@ fn is_wrong_kind(call: &Call) -> bool
 }
 
 /// The first of rules 5 to 9 that the call breaks.
-pub(crate) fn judge_references<A: Allocator + Clone>(
-    view: &View<'_, A>,
+pub(crate) fn judge_references<A: Allocator + Clone, S: Store>(
+    view: &View<'_, A, S>,
     tid: Tid,
     call: &Call,
 ) -> Option<Rule>
-    ensures { (p : Parts) → ViewStands view.now p
+    ensures { (p : Parts) → ViewTells S.Tells view.now p
         → result ≡ operands_verdict view.now.setup.now p tid.0 (operands call.now) (wrong_kind call.now) }
 {
     judge_operands(view, tid, operands_of(call), is_wrong_kind(call))
 }
 
-fn judge_operands<A: Allocator + Clone>(
-    view: &View<'_, A>,
+fn judge_operands<A: Allocator + Clone, S: Store>(
+    view: &View<'_, A, S>,
     tid: Tid,
     operands: Operands,
     is_wrong_kind: bool,
 ) -> Option<Rule>
-    ensures { (p : Parts) → ViewStands view.now p
+    ensures { (p : Parts) → ViewTells S.Tells view.now p
         → result ≡ operands_verdict view.now.setup.now p tid.0 (listed operands) is_wrong_kind }
 {
     match operands {
@@ -177,13 +178,13 @@ fn judge_operands<A: Allocator + Clone>(
     }
 }
 
-fn judge_one<A: Allocator + Clone>(
-    view: &View<'_, A>,
+fn judge_one<A: Allocator + Clone, S: Store>(
+    view: &View<'_, A, S>,
     tid: Tid,
     operand: Operand,
     is_wrong_kind: bool,
 ) -> Option<Rule>
-    ensures { (p : Parts) → ViewStands view.now p
+    ensures { (p : Parts) → ViewTells S.Tells view.now p
         → result ≡ operands_verdict view.now.setup.now p tid.0 (operand ∷ []) is_wrong_kind }
 {
     let named = look_up(view, tid, operand.reference);
@@ -202,14 +203,14 @@ fn judge_one<A: Allocator + Clone>(
     }
 }
 
-fn judge_two<A: Allocator + Clone>(
-    view: &View<'_, A>,
+fn judge_two<A: Allocator + Clone, S: Store>(
+    view: &View<'_, A, S>,
     tid: Tid,
     first: Operand,
     second: Operand,
     is_wrong_kind: bool,
 ) -> Option<Rule>
-    ensures { (p : Parts) → ViewStands view.now p
+    ensures { (p : Parts) → ViewTells S.Tells view.now p
         → result ≡ operands_verdict view.now.setup.now p tid.0 (first ∷ second ∷ []) is_wrong_kind }
 {
     let one = look_up(view, tid, first.reference);

@@ -3,23 +3,24 @@ ghost use Rattle.jg_words.specs.declared.call.Call.TheVariants.{Vm};
 ghost use Rattle.jg_words.specs.declared.call.vm.VmCall.TheVariants.{NativeEnter};
 ghost use Rattle.jg_rules.specs.Parts.{Parts};
 ghost use Rattle.jg_rules.specs.Rules.{own_verdict};
-ghost use Rattle.jg_rules.specs.View.{ViewStands};
+ghost use Rattle.jg_rules.specs.View.{ViewTells};
 
 use crate::access::is_refused_to;
 use crate::named::{class_meant, native_meant};
+use crate::store::Store;
 use crate::view::View;
 use jg_policy::Operation;
 use jg_words::{Name, Rule, Tid, VmCall};
 use std::alloc::Allocator;
 
-fn judge_enter<A: Allocator + Clone>(
-    view: &View<'_, A>,
+fn judge_enter<A: Allocator + Clone, S: Store>(
+    view: &View<'_, A, S>,
     tid: Tid,
     class: &Name,
     method: &Name,
     signature: &Name,
 ) -> Option<Rule>
-    ensures { (p : Parts) → ViewStands view.now p → result
+    ensures { (p : Parts) → ViewTells S.Tells view.now p → result
         ≡ own_verdict view.now.setup.now p tid.0 (Vm (NativeEnter class.now method.now signature.now)) }
 {
     let _tid = tid;
@@ -43,12 +44,12 @@ fn judge_enter<A: Allocator + Clone>(
 }
 
 /// The first of the rules 10 to 17 that a call of the group breaks.
-pub(crate) fn judge_vm<A: Allocator + Clone>(
-    view: &View<'_, A>,
+pub(crate) fn judge_vm<A: Allocator + Clone, S: Store>(
+    view: &View<'_, A, S>,
     tid: Tid,
     call: &VmCall,
 ) -> Option<Rule>
-    ensures { (p : Parts) → ViewStands view.now p → result ≡ own_verdict view.now.setup.now p tid.0 (Vm call.now) }
+    ensures { (p : Parts) → ViewTells S.Tells view.now p → result ≡ own_verdict view.now.setup.now p tid.0 (Vm call.now) }
 {
     match call {
         VmCall::AttachCurrentThread => None,

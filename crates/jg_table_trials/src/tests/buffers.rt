@@ -4,7 +4,7 @@ ghost use Rattle.jg_buffers.specs.Rows.{IsAbove};
 
 use super::ballast;
 use jg_buffers::{Buffers, Family, Info};
-use jg_lists::ObjectMarks;
+use jg_lists::{Marking, ObjectMarks};
 use jg_words::{BufId, Kind, ObjId, Primitive, Ref, Tid};
 use linked_list_allocator::LocalHeap;
 use std::alloc::{AllocError, Global};

@@ -3,7 +3,7 @@ ghost use Rattle.jg_globals.specs.Rows.{IsAbove};
 
 use super::ballast;
 use jg_globals::{Globals, Target};
-use jg_lists::ObjectMarks;
+use jg_lists::{Marking, ObjectMarks};
 use jg_words::{Kind, ObjId, Ref, Tid};
 use linked_list_allocator::LocalHeap;
 use std::alloc::{AllocError, Global};

@@ -1,5 +1,5 @@
 use super::ballast;
-use jg_lists::ObjectMarks;
+use jg_lists::{Marking, ObjectMarks};
 use jg_monitors::{Entering, Monitors, OwnedMonitor};
 use jg_words::{ObjId, Tid};
 use linked_list_allocator::LocalHeap;

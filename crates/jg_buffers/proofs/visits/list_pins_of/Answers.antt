@@ -1,9 +1,8 @@
-use Rattle.std.proofs.Common.{rules, ◌≡◌, None, Some, ◌++◌, ◌∙◌, List, ℕ, ap, sym}
+use Rattle.std.proofs.Common.{rules, ◌≡◌, None, Some, ◌++◌, ◌∙◌, ap, sym}
 use Rattle.std.proofs.lemmas.List.{append-nil}
 use Rattle.std.proofs.lemmas.Result.{on_ok_weaker}
 use Rattle.jg_lists.specs.ByThread.{at}
 use Rattle.jg_buffers.specs.Seen.{key_name}
-use Rattle.jg_buffers.specs.declared.pinned.Pinned.{Pinned}
 use Rattle.jg_buffers.proofs.Listed.{own_names}
 use Rattle.jg_buffers.proofs.visits.list_pins_of.Goals as goal
 

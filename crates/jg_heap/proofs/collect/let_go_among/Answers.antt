@@ -1,4 +1,4 @@
-use Rattle.std.proofs.Common.{◌≡◌, ◌<◌, length, ◌∙◌, ◌-◌, arith, sym, subst, get_or, true, false, Bool, ℕ}
+use Rattle.std.proofs.Common.{◌≡◌, ◌<◌, length, ◌∙◌, ◌-◌, arith, sym, subst, get_or, false, Bool, ℕ}
 use Rattle.std.specs.List.{range_with_len}
 use Rattle.jg_heap.specs.Kept.{LetsGo, marked_or_root}
 use Rattle.jg_heap.proofs.Letting.{lets_start, lets_go, lets_stay, lets_row, trues_less, both_are}

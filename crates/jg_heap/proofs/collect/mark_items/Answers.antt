@@ -5,14 +5,14 @@ use Rattle.jg_heap.specs.History.{holds}
 use Rattle.jg_heap.proofs.collect.mark_items.Goals as goal
 
 pub loop-target-init : goal.loop-target-init
-loop-target-init g c = marks_stay c.args.marks.now
+loop-target-init g c = marks_stay _
 
 pub loop-target-preserved : goal.loop-target-preserved
 loop-target-preserved g c =
-    marks_item (λ target o. holds o (ToObject target)) c.args.items.now c.loop-target.target-index None c.args.marks.now c.loop-target.marks c.mark_target.new.marks
+    marks_item (λ target o. holds o (ToObject target)) c.args.items.now c.loop-target.target-index None _ _ _
     c.loop-target-test.true c.loop-target.invariant c.mark_target.ensures
 
 pub returns : goal.returns
 returns g c =
-    marks_all (λ target o. holds o (ToObject target)) c.args.items.now c.loop-target.target-index c.args.marks.now c.loop-target.marks (omega (arith, c.loop-target-test.false))
+    marks_all (λ target o. holds o (ToObject target)) c.args.items.now c.loop-target.target-index _ _ (omega (arith, c.loop-target-test.false))
     c.loop-target.invariant

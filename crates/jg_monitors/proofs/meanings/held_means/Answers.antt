@@ -1,5 +1,5 @@
-use Rattle.jg_monitors.proofs.Counting.{holder, held_by}
+use Rattle.jg_monitors.proofs.Callers.{held_law}
 use Rattle.jg_monitors.proofs.meanings.held_means.Goals as goal
 
 pub returns : goal.returns
-returns c = λ e o. ((λ is. holder e o is), (λ some. held_by e some.0 o some.1))
+returns c = held_law

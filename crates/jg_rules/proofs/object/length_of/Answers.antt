@@ -6,4 +6,4 @@ use Rattle.jg_rules.proofs.object.length_of.Goals as goal
 -- past the end the definition tells of a class object, too
 pub returns-else-object-len-clause-told : goal.returns-else-object-len-clause-told
 returns-else-object-len-clause-told g c = λ p stands.
-    sym (ap length_in (making_at-past _ _ p c.args.object.0 c.len.result stands (c.len.ensures.history p.heap stands.heap) c.if-object-len.false))
+    sym (ap length_in (making_at-past _ _ p c.args.object.0 c.len.result stands (c.len.ensures.history p.heap stands.heap.stands) c.if-object-len.false))

@@ -1,5 +1,5 @@
 use jg_heap::{Heap, Roots, Shape, Slot};
-use jg_lists::ObjectMarks;
+use jg_lists::{Marking, ObjectMarks};
 use jg_words::ObjId;
 use std::alloc::{AllocError, Global};
 use std::process::Abort;

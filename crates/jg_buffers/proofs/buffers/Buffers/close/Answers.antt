@@ -23,23 +23,25 @@ invariant_of-self-in_default g c = rw (c.in_default.ensures.none refl) c.self.in
 -- the buffer goes
 pub returns-in-Some-clause-stands : goal.returns-in-Some-clause-stands
 returns-in-Some-clause-stands g c = λ e stands.
-    let was : Stands (seen c.self.inside.copies.entries (named c.self.inside.pins)) e = reopened _ _ e c.self.view_is stands in
-    close_law c.self.inside.copies.entries c.swap_remove.new.self.entries (named c.self.inside.pins) (named c.remove.new.tables) e c.args.buf.maker.0 c.args.buf.n was c.swap_remove.ensures.unique
+    let was : Stands (seen g.I.Items.items_of c.self.inside.copies.entries (named c.self.inside.pins)) e = reopened _ _ e c.self.view_is stands in
+    close_law g.I.Items.items_of c.self.inside.copies.entries c.swap_remove.new.self.entries (named c.self.inside.pins) (named c.remove.new.tables) e c.args.buf.maker.0 c.args.buf.n was
+    c.swap_remove.ensures.unique
     c.remove.ensures.once c.swap_remove.ensures.updates.0 c.remove.ensures.drops
 
 pub returns-in_default-clause-stands : goal.returns-in_default-clause-stands
 returns-in_default-clause-stands g c = λ e stands.
-    let was : Stands (seen c.self.inside.copies.entries (named c.self.inside.pins)) e = reopened _ _ e c.self.view_is stands in
-    close_law c.self.inside.copies.entries c.swap_remove.new.self.entries (named c.self.inside.pins) (named c.remove.new.tables) e c.args.buf.maker.0 c.args.buf.n was c.swap_remove.ensures.unique
+    let was : Stands (seen g.I.Items.items_of c.self.inside.copies.entries (named c.self.inside.pins)) e = reopened _ _ e c.self.view_is stands in
+    close_law g.I.Items.items_of c.self.inside.copies.entries c.swap_remove.new.self.entries (named c.self.inside.pins) (named c.remove.new.tables) e c.args.buf.maker.0 c.args.buf.n was
+    c.swap_remove.ensures.unique
     c.remove.ensures.once c.swap_remove.ensures.updates.0 c.remove.ensures.drops
 
 -- no number is added
 pub returns-in-Some-clause-numbers : goal.returns-in-Some-clause-numbers
 returns-in-Some-clause-numbers g c = λ k i above.
-    closed_numbers c.self.inside.copies.entries c.swap_remove.new.self.entries (named c.self.inside.pins) (named c.remove.new.tables) c.args.buf.maker.0 c.args.buf.n
+    closed_numbers g.I.Items.items_of c.self.inside.copies.entries c.swap_remove.new.self.entries (named c.self.inside.pins) (named c.remove.new.tables) c.args.buf.maker.0 c.args.buf.n
     c.swap_remove.ensures.updates.0 c.remove.ensures.drops k i (above_in _ _ k i c.self.view_is above)
 
 pub returns-in_default-clause-numbers : goal.returns-in_default-clause-numbers
 returns-in_default-clause-numbers g c = λ k i above.
-    closed_numbers c.self.inside.copies.entries c.swap_remove.new.self.entries (named c.self.inside.pins) (named c.remove.new.tables) c.args.buf.maker.0 c.args.buf.n
+    closed_numbers g.I.Items.items_of c.self.inside.copies.entries c.swap_remove.new.self.entries (named c.self.inside.pins) (named c.remove.new.tables) c.args.buf.maker.0 c.args.buf.n
     c.swap_remove.ensures.updates.0 c.remove.ensures.drops k i (above_in _ _ k i c.self.view_is above)

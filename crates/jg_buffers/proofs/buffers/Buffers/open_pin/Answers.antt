@@ -9,7 +9,7 @@ use Rattle.jg_buffers.proofs.buffers.Buffers.open_pin.Goals as goal
 
 -- a number above all of the maker's is new
 pub add-requires : goal.add-requires
-add-requires g c = no_pin c.self.inside.copies.entries (named c.self.inside.pins) c.args.tid.0 c.args.n (above_in _ _ c.args.tid.0 c.args.n c.self.view_is c.requires.above)
+add-requires g c = no_pin g.I.Items.items_of c.self.inside.copies.entries (named c.self.inside.pins) c.args.tid.0 c.args.n (above_in _ _ c.args.tid.0 c.args.n c.self.view_is c.requires.above)
 
 -- room was made, and the counts are the same
 pub invariant_of-self-in_err-make_room : goal.invariant_of-self-in_err-make_room
@@ -31,12 +31,14 @@ invariant_of-self-2 g c =
 -- the pinned buffer is added
 pub returns-clause-ok : goal.returns-clause-ok
 returns-clause-ok g c = λ e stands.
-    let was : Stands (seen c.self.inside.copies.entries (named c.self.inside.pins)) e = reopened _ _ e c.self.view_is stands in
-    open_pin_law c.self.inside.copies.entries (named c.self.inside.pins) (named c.add.new.tables) e c.args.tid.0 c.args.n c.args.object.0 c.args.family c.args.via c.args.length _ c.requires.pins was
+    let was : Stands (seen g.I.Items.items_of c.self.inside.copies.entries (named c.self.inside.pins)) e = reopened _ _ e c.self.view_is stands in
+    open_pin_law g.I.Items.items_of c.self.inside.copies.entries (named c.self.inside.pins) (named c.add.new.tables) e c.args.tid.0 c.args.n c.args.object.0 c.args.family c.args.via
+    c.args.length _ c.requires.pins was
     (above_in _ _ c.args.tid.0 c.args.n c.self.view_is c.requires.above) c.in_ok-add.ensures.once c.in_ok-add.ensures.found (rw c.pin_kind.ensures refl)
 
 -- no other number is there
 pub returns-clause-numbers : goal.returns-clause-numbers
 returns-clause-numbers g c = λ k i above below.
-    pin_numbers c.self.inside.copies.entries (named c.self.inside.pins) (named c.add.new.tables) c.args.tid.0 c.args.n _ c.in_ok-add.ensures.found k i (above_in _ _ k i c.self.view_is above)
+    pin_numbers g.I.Items.items_of c.self.inside.copies.entries (named c.self.inside.pins) (named c.add.new.tables) c.args.tid.0 c.args.n _ c.in_ok-add.ensures.found k i
+    (above_in _ _ k i c.self.view_is above)
     below

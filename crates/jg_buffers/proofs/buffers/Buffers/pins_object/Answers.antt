@@ -8,5 +8,5 @@ use Rattle.jg_buffers.proofs.buffers.Buffers.pins_object.Goals as goal
 
 pub returns : goal.returns
 returns g c = λ e stands.
-    let was : Stands (record { lent = map copy_seen c.self.inside.copies.entries ++ map pin_seen (named c.self.inside.pins) }) e = reopened _ _ e c.self.view_is stands in
-    rw c.names_object.ensures (object_law c.args.object.0 c.self.inside.copies.entries (named c.self.inside.pins) e was)
+    let was : Stands (record { lent = map (copy_seen g.I.Items.items_of) c.self.inside.copies.entries ++ map pin_seen (named c.self.inside.pins) }) e = reopened _ _ e c.self.view_is stands in
+    rw c.names_object.ensures (object_law g.I.Items.items_of c.args.object.0 c.self.inside.copies.entries (named c.self.inside.pins) e was)

@@ -27,7 +27,9 @@ returns-in_ok-alloc-in-NewObjectArray-clause-stands g c = λ p stands.
       globals = stands.globals;
       buffers = stands.buffers;
       monitors = stands.monitors;
-      heap = filled_at _ p.heap _ _ _ _ size target (c.in_ok-alloc-in-NewObjectArray.ensures.stands p.heap stands.heap);
+      heap = record {
+        stands = filled_at _ p.heap _ _ _ _ size target (c.in_ok-alloc-in-NewObjectArray.ensures.stands p.heap stands.heap.stands);
+        classes = c.in_ok-alloc-in-NewObjectArray.ensures.classes ∙ stands.heap.classes;
+      };
       links = stands.links;
-      classes = c.in_ok-alloc-in-NewObjectArray.ensures.classes ∙ stands.classes;
     })

@@ -25,7 +25,7 @@ open_copy-requires-clause-above g c =
 pub returns-clause-stands : goal.returns-clause-stands
 returns-clause-stands g c = λ p stands.
     let object = c.the_object-object.ensures p (stand_at _ _ _ _ p c.view.ensures.setup c.view.ensures.rows stands) in
-    let items = items_are c.args.setup.now _ p c.the_object-object.result.0 c.items-items.result.now stands (c.items-items.ensures.items p.heap stands.heap) in
+    let items = items_are c.args.setup.now _ p c.the_object-object.result.0 c.items-items.result.now stands (c.items-items.ensures.items p.heap stands.heap.stands) in
     record {
       threads = stands.threads;
       locals = stands.locals;
@@ -35,5 +35,4 @@ returns-clause-stands g c = λ p stands.
       monitors = stands.monitors;
       heap = stands.heap;
       links = stands.links;
-      classes = stands.classes;
     }

@@ -1,4 +1,5 @@
-use Rattle.std.proofs.Common.{rules, ◌≡◌, ◌∙◌, Some, sym, arith}
+use Rattle.std.proofs.Common.{rules, ◌≡◌, ◌∙◌, Some, sym, arith, w64}
+use mir.Val.{to_z, of_z}
 use Rattle.jg_heap.specs.Reading.{natural}
 use Rattle.jg_rules.specs.Buffers.{buffer_named}
 use Rattle.jg_guard.proofs.Due.{stand_at}
@@ -28,3 +29,19 @@ set_element-requires-clause-within g c =
     let below = written_within _ _ c.args.tid.0 c.args.buffer c.args.index c.args.value c.in-Some.info due named in
     let place : c.natural-place.result ≡ natural c.args.index = search rules in
     omega (arith, place, below, len)
+
+pub returns-in-Elements-clause-stands : goal.returns-in-Elements-clause-stands
+returns-in-Elements-clause-stands g c = λ p stands.
+    let seen = stand_at _ _ _ _ p c.view.ensures.setup c.view.ensures.rows stands in
+    let named : buffer_named p c.args.buffer ≡ Some c.in-Some.info = sym (c.buffer_named-found.ensures.told p seen) ∙ c.in-Some.is in
+    let place : c.from.result ≡ natural c.args.index = search rules in
+    let value : to_z w64 (of_z w64 c.args.value) ≡ c.args.value = search rules in
+    rw (named, c.in-Elements.is) (record {
+      threads = stands.threads;
+      locals = stands.locals;
+      globals = stands.globals;
+      buffers = rw (place, value) at c.write.ensures.stands p.buffers stands.buffers;
+      monitors = stands.monitors;
+      heap = stands.heap;
+      links = stands.links;
+    })

@@ -45,7 +45,9 @@ returns-clause-stands g c = λ p stands.
       globals = stands.globals;
       buffers = stands.buffers;
       monitors = stands.monitors;
-      heap = wrote_at _ p.heap _ _ _ _ _ _ object place target (c.set_field.ensures.stands p.heap stands.heap);
+      heap = record {
+        stands = wrote_at _ p.heap _ _ _ _ _ _ object place target (c.set_field.ensures.stands p.heap stands.heap.stands);
+        classes = c.set_field.ensures.classes ∙ stands.heap.classes;
+      };
       links = stands.links;
-      classes = c.set_field.ensures.classes ∙ stands.classes;
     }

@@ -16,9 +16,8 @@ invariant_of-result g c = (
       globals = search rules;
       buffers = (let none : c.new-journal.result.items ≡ [] = search rules in rw none c.new-buffers.ensures.stands);
       monitors = search rules;
-      heap = search rules;
+      heap = record { stands = search rules; classes = search rules };
       links = search rules;
-      classes = search rules;
     };
   },
   (let none : c.new-journal.result.items ≡ [] = search rules in rw none (none_at_first c.args.setup _ refl)),

@@ -8,6 +8,8 @@ use Rattle.jg_locals.proofs.slot_list.SlotList.mark_named.Goals as goal
 
 pub returns : goal.returns
 returns g c =
-    let marked = subst (λ (objects : List ℕ). Marks (λ o. list_any (λ x. x == o) objects) c.args.marks.now c.set_all.new.self) (c.deref.ensures.value ∙ c.self.invariant) c.set_all.ensures.set in
-    subst (λ (r : SlotsSeen). Marks (λ o. list_any (λ s. s.object == o) (filter is_live r.items)) c.args.marks.now c.set_all.new.self) c.self.view_is
-    (marked_live c.self.inside.slots.items c.args.marks.now c.set_all.new.self c.set_all.ensures.few marked)
+    let old = g.M.Marking.mark_of c.args.marks.now in
+    let new = g.M.Marking.mark_of c.set_all.new.self in
+    let marked = subst (λ (objects : List ℕ). Marks (λ o. list_any (λ x. x == o) objects) old new) (c.deref.ensures.value ∙ c.self.invariant) c.set_all.ensures.set in
+    subst (λ (r : SlotsSeen). Marks (λ o. list_any (λ s. s.object == o) (filter is_live r.items)) old new) c.self.view_is
+    (marked_live c.self.inside.slots.items old new c.set_all.ensures.none marked)

@@ -1,7 +1,7 @@
 use Rattle.std.proofs.Common.{◌≡◌, ◌<◌, ◌∙◌, ap, sym, subst, ℕ, rules}
 use Rattle.std.specs.Prelude.{List, ℤ, slice_index_or, pos}
 use Rattle.jg_buffers.proofs.Lookups.{content_law}
-use Rattle.jg_buffers.proofs.buffers.Buffers.read.Goals as goal
+use Rattle.jg_buffers.proofs.buffers.Buffers+A.read.Goals as goal
 use mir.Syntax.{w64}
 use mir.Val.{to_z, of_z}
 

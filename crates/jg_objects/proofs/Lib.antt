@@ -1,0 +1,3 @@
+pub mod Callers
+mod Steps
+mod Told

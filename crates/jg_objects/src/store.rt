@@ -1,0 +1,19 @@
+ghost use Rattle.std.specs.Prelude.{◌≡◌, ℕ, List};
+ghost use Rattle.jg_heap.specs.History.{Event, class_there};
+ghost use Rattle.jg_objects.specs.Standing.{Tells};
+
+use crate::objects::Objects;
+use jg_buffers::Unseen;
+use jg_rules::Store;
+use jg_words::ObjId;
+use std::alloc::Allocator;
+
+impl<A: Allocator> Store for Objects<A> {
+    type Items = Unseen;
+
+    ghost Tells = { λ rows k e. Tells rows k e };
+
+    fn class_there(&self, object: ObjId) -> u32 {
+        Objects::class_there(self, object)
+    }
+}

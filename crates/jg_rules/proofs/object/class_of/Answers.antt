@@ -1,9 +1,0 @@
-use Rattle.std.proofs.Common.{ap, sym}
-use Rattle.jg_heap.specs.Making.{class_in}
-use Rattle.jg_rules.proofs.Unmade.{making_at-past}
-use Rattle.jg_rules.proofs.object.class_of.Goals as goal
-
--- past the end the definition tells of a class object, too
-pub returns-else-object-len : goal.returns-else-object-len
-returns-else-object-len g c = λ p stands.
-    sym (ap class_in (making_at-past _ _ p c.args.object.0 c.len.result stands (c.len.ensures.history p.heap stands.heap) c.if-object-len.false))
