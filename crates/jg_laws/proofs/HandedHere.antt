@@ -431,7 +431,7 @@ live_is_not_gone s h t o r legal is = (named_here s (parts s h) t o r (all_here 
 
 -- ---- what went
 
-gone_steps : (s : StatedSetup) (o : ℕ) → Steps s (λ p. heap.gone_at (class_count s) p.heap o ≡ true)
+pub gone_steps : (s : StatedSetup) (o : ℕ) → Steps s (λ p. heap.gone_at (class_count s) p.heap o ≡ true)
 gone_steps s o = heap_steps s (λ h. heap.gone_at (class_count s) h o ≡ true) (λ e h stated old. gone_law (class_count s) e h o old)
 
 pub stays_gone : StaysGone
