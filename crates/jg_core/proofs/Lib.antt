@@ -1,0 +1,6 @@
+pub mod Few
+pub mod Each
+pub mod Fresh
+pub mod Owners
+pub mod Here
+pub mod Due

@@ -1,0 +1,5 @@
+pub mod Facts
+pub mod Counts
+pub mod Laws
+pub mod Tables
+pub mod Kernel

@@ -1,0 +1,17 @@
+//! A core in front of a virtual machine that answers by itself. It is asked whether a call may be made, and is told
+//! what the machine does. No rule refuses what it is told. Chapters are the JNI Specification's.
+#![tactic(auto)]
+
+mod fact;
+mod kernel;
+mod possible;
+mod promises;
+mod tables;
+mod take;
+
+pub use fact::{Checked, Fact};
+pub use kernel::{Core, Untold};
+pub use promises::{
+    gone_stays_gone, held_is_here, live_is_here, no_reference_revived, no_reference_twice,
+    one_owner, references_are_counted,
+};

@@ -1,0 +1,38 @@
+//! What holds whatever a machine told, each as the contract of a function that does nothing.
+
+ghost use Rattle.jg_core.specs.Laws.{GoneStaysGone, HeldIsHere, LiveIsHere, NoReferenceRevived, NoReferenceTwice, OneOwner, ReferencesCounted};
+
+/// The number of a reference that was handed out is below the number of its thread's next one.
+pub fn references_are_counted()
+    ensures { ReferencesCounted }
+{}
+
+/// A reference that is handed out was not handed out before.
+pub fn no_reference_twice()
+    ensures { NoReferenceTwice }
+{}
+
+/// A reference that named an object, and then named nothing, never names an object again.
+pub fn no_reference_revived()
+    ensures { NoReferenceRevived }
+{}
+
+/// An object's monitor has one owner at the most.
+pub fn one_owner()
+    ensures { OneOwner }
+{}
+
+/// An object that a live reference names is there.
+pub fn live_is_here()
+    ensures { LiveIsHere }
+{}
+
+/// An object that a live strong reference, a pending exception, a critical buffer or a monitor's owner holds is there.
+pub fn held_is_here()
+    ensures { HeldIsHere }
+{}
+
+/// An object that is gone stays gone.
+pub fn gone_stays_gone()
+    ensures { GoneStaysGone }
+{}
