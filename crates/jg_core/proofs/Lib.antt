@@ -4,3 +4,4 @@ pub mod Fresh
 pub mod Owners
 pub mod Here
 pub mod Due
+pub mod Going

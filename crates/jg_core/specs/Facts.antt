@@ -1,7 +1,7 @@
 -- What a virtual machine says is so: what each fact is to the tables, and where it can be. t is a thread, o an object. A
 -- list of facts has the newest first.
 use Rattle.std.specs.Prelude.{ℕ, pos, ◌≡◌, ◌+◌, ◌==◌, ◌&&◌, ◌||◌, not, nat_lt, if◌then◌else◌, length, replicate, Bool, true, false, List, [], ◌∷◌, ◌++◌, Option, Some, None}
-use Rattle.std.specs.Option.{is_some}
+use Rattle.std.specs.Option.{is_some, option_map}
 use Rattle.jg_words.specs.declared.object.ObjId.{ObjId}
 use Rattle.jg_words.specs.declared.reference.Ref.{Ref}
 use Rattle.jg_words.specs.declared.reference.Ref.TheVariants.{Null, To}
@@ -166,6 +166,17 @@ can_be s p (Link class native) = is_some (native_at s class native)
 can_be s p (Unlink class) = nat_lt class (class_count s)
 can_be s p (Warn home) = is_home s home
 can_be s p (Checked check) = is_so s p check
+
+-- the place in the list, from 0, of the first object that can't be gone once those before it are
+abbrev pub first_held : StatedSetup → Parts → List ObjId → Option ℕ
+first_held s p [] = None
+first_held s p (o ∷ objects) =
+    if can_be s p (Gone o) then option_map (λ n. n + 1) (first_held s (on (Gone o) p) objects) else Some 0
+
+-- the facts with these gone in front, the first of the list told first
+abbrev pub all_gone : List ObjId → List Fact → List Fact
+all_gone [] w = w
+all_gone (o ∷ objects) w = all_gone objects (Gone o ∷ w)
 
 -- each fact could be when it was told
 abbrev pub History : StatedSetup → List Fact → Type 0

@@ -1,5 +1,6 @@
 -- What contracts see of a core.
 use Rattle.std.specs.Prelude.{ℕ, ◌≡◌, ◌≤◌, ◌^◌, ◌↔◌, true, false, List, [], ◌∷◌, None}
+use Rattle.jg_words.specs.declared.object.ObjId.{ObjId}
 use Rattle.jg_policy.specs.Stated.{StatedSetup}
 use Rattle.jg_objects.specs.Rows.{Rows, mark_in}
 use Rattle.jg_objects.specs.Standing.{Tells}
@@ -7,7 +8,7 @@ use Rattle.jg_rules.specs.Parts.{Parts, RowsBeside, StandBeside}
 use Rattle.jg_core.specs.declared.fact.Fact.{Fact}
 use Rattle.jg_core.specs.declared.kernel.Untold.{Untold}
 use Rattle.jg_core.specs.declared.kernel.Untold.TheVariants.{Impossible, Full, NoMemory}
-use Rattle.jg_core.specs.Facts.{parts_of, can_be, makes, made_in, History}
+use Rattle.jg_core.specs.Facts.{all_gone, parts_of, can_be, makes, made_in, History}
 
 -- what its setup states, what its tables keep, and how many facts it was told that made something
 pub record CoreState : Type 0 where
@@ -33,6 +34,11 @@ pub record IsCore (c : CoreState) : Type 0 where
 pub record Took (old new : CoreState) (x : Fact) : Type 0 where
   pub setup : new.setup ≡ old.setup
   pub stands : (w : List Fact) → CoreStands old w → CoreStands new (x ∷ w)
+
+-- whatever it stood for, it stands for that with all of these told to be gone
+pub record TookAll (old new : CoreState) (objects : List ObjId) : Type 0 where
+  pub setup : new.setup ≡ old.setup
+  pub stands : (w : List Fact) → CoreStands old w → CoreStands new (all_gone objects w)
 
 -- whatever it stood for, it stands for
 pub record Stayed (old new : CoreState) : Type 0 where

@@ -1,4 +1,5 @@
 pub mod Facts
+pub mod Gone
 pub mod Counts
 pub mod Laws
 pub mod Tables

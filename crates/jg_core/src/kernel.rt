@@ -1,6 +1,6 @@
 //! The core.
 
-ghost use Rattle.std.specs.Prelude.{◌≡◌, List, [], ◌∷◌, IfOk, IfErr, OnOk, OnErr};
+ghost use Rattle.std.specs.Prelude.{◌≡◌, None, Some, List, [], ◌∷◌, IfOk, IfErr, OnOk, OnErr};
 ghost use Rattle.std.specs.Option.{option_map};
 ghost use Rattle.jg_threads.specs.History.{sessions, acts_of, Attach};
 ghost use Rattle.jg_words.specs.declared.reference.Kind.TheVariants.{Local};
@@ -8,11 +8,12 @@ ghost use Rattle.jg_words.specs.declared.reference.Ref.TheVariants.{To};
 ghost use Rattle.jg_rules.specs.Names.{next_ref, next_buffer, object_count};
 ghost use Rattle.jg_rules.specs.Rules.{verdict};
 ghost use Rattle.jg_core.specs.declared.fact.Fact.TheVariants.{Begin, Hand, Leave, Lend, Meet, Pop};
-ghost use Rattle.jg_core.specs.Facts.{parts_of};
-ghost use Rattle.jg_core.specs.Kernel.{CoreStands, Took, Stayed, Refuses};
+ghost use Rattle.jg_core.specs.Facts.{first_held, parts_of};
+ghost use Rattle.jg_core.specs.Kernel.{CoreStands, Took, TookAll, Stayed, Refuses};
 ghost use Rattle.jg_core.specs.Laws.{handed_out};
 
 use crate::fact::Fact;
+use crate::gone::{StillHeld, let_all_go};
 use crate::possible::{can_be, makes};
 use crate::tables::Tables;
 use crate::take::take;
@@ -80,6 +81,7 @@ impl<A: Allocator + Copy> Core<A> {
     {
         let class_count = setup.class_count();
         let tables = Tables {
+            alloc,
             threads: Threads::new(alloc, alloc),
             locals: Locals::new(alloc, alloc, alloc),
             globals: Globals::new(alloc, alloc),
@@ -93,6 +95,21 @@ impl<A: Allocator + Copy> Core<A> {
             made: 0,
             tables,
         }
+    }
+
+    /// The collector let these objects go, all or none: for each in turn it is what telling [`Fact::Gone`] is. It is
+    /// refused where one of them can't be gone once those before it are; of these the first is named. Takes no
+    /// memory, and time by the list and by what is live, once.
+    pub fn gone(&mut self, objects: &[ObjId]) -> Result<(), StillHeld>
+        ensures ok { OnOk result (TookAll self.old self.new objects.now) }
+        ensures all { OnOk result ((w : List Fact) → CoreStands self.old w
+            → first_held self.old.setup (parts_of w) objects.now ≡ None) }
+        ensures err { OnErr result (Stayed self.old self.new) }
+        ensures first { IfErr result (λ held. (w : List Fact) → CoreStands self.old w
+            → first_held self.old.setup (parts_of w) objects.now ≡ Some held.place) }
+    {
+        let_all_go(&mut self.tables, &self.setup, objects)?;
+        Ok(())
     }
 }
 

@@ -3,6 +3,7 @@
 #![tactic(auto)]
 
 mod fact;
+mod gone;
 mod kernel;
 mod possible;
 mod promises;
@@ -10,6 +11,7 @@ mod tables;
 mod take;
 
 pub use fact::{Checked, Fact};
+pub use gone::StillHeld;
 pub use kernel::{Core, Untold};
 pub use promises::{
     gone_stays_gone, held_is_here, live_is_here, no_reference_revived, no_reference_twice,

@@ -13,6 +13,7 @@ use std::alloc::Allocator;
 /// What is so by the facts that were told.
 #[derive(Drop)]
 pub(crate) struct Tables<A: Allocator> {
+    pub(crate) alloc: A,
     pub(crate) threads: Threads<A>,
     pub(crate) locals: Locals<A>,
     pub(crate) globals: Globals<A>,

@@ -1,6 +1,6 @@
 ghost use Rattle.std.specs.Prelude.{◌≡◌, ℕ, ◌<◌, ◌≤◌, ◌^◌, List, [], ◌∷◌, ◌==◌, if◌then◌else◌, false, None, IfOk, OnOk, OnErr};
 ghost use Rattle.std.specs.List.{list_any};
-ghost use Rattle.std.specs.Option.{option_map, unwrap_or};
+ghost use Rattle.std.specs.Option.{option_map};
 ghost use Rattle.jg_heap.specs.Making.{Opaque};
 ghost use Rattle.jg_heap.specs.History.{Event, Made, count_of, is_there, class_there};
 ghost use Rattle.jg_lists.specs.Marks.{Marks};
@@ -128,13 +128,13 @@ impl<A: Allocator> Objects<A> {
         put_marks(&mut self.there, objects, None);
     }
 
-    /// Whether the object's mark is set. An object without a mark has none set.
-    pub fn is_marked(&self, object: ObjId) -> bool
-        ensures { result ≡ unwrap_or (mark_in self.now object.0) false }
+    /// The object's mark, set or unset, if it has one.
+    pub fn mark(&self, object: ObjId) -> Option<bool>
+        ensures { result ≡ mark_in self.now object.0 }
     {
         match look(&self.there, object.0) {
-            Some(kept) => kept.mark.unwrap_or(false),
-            None => false,
+            Some(kept) => kept.mark,
+            None => None,
         }
     }
 

@@ -119,7 +119,7 @@ fn next_number(rt: HostRuntime) -> Result<(), Fail> {
 
 /// Which of the objects 1 to 5 are marked.
 fn marked(table: &Objects) -> [bool; 5] {
-    [1, 2, 3, 4, 5].map(|object| table.is_marked(ObjId(object)))
+    [1, 2, 3, 4, 5].map(|object| table.mark(ObjId(object)) == Some(true))
 }
 
 /// Marks some objects, of which the objects 2 and 3 have a mark, and object 4 has none: one after the other, and all at
