@@ -1,22 +1,27 @@
 //! The rules that speak of one operand each: which one breaks them, and in which way.
 
-ghost use Rattle.std.specs.Prelude.{◌≡◌, option_map, find};
+ghost use Rattle.std.specs.Prelude.{◌≡◌, option_map, find, position};
 ghost use Rattle.jg_rules.specs.Operands.{listed};
 ghost use Rattle.jg_rules.specs.Parts.{Parts};
-ghost use Rattle.jg_rules.specs.View.{ViewStands};
+ghost use Rattle.jg_rules.specs.View.{ViewStands, ViewTells};
 ghost use Rattle.jg_causes.specs.Breaches as breaches;
 
 use crate::breach::Breach;
 use jg_rules::{
-    Named, Operand, Operands, View, class_of, is_foreign_local, is_not_the_owner, is_wrong_object,
-    look_up, object_named, operands_of, the_object,
+    Named, Operand, Operands, Store, View, class_of, is_foreign_local, is_not_the_owner,
+    is_wrong_object, look_up, object_named, operands_of, the_object,
 };
 use jg_words::{Call, ObjId, Ref, Rule, Tid};
 use std::alloc::Allocator;
 
 /// Whether the operand breaks the rule.
-fn breaks<A: Allocator + Clone>(view: &View<'_, A>, tid: Tid, rule: Rule, operand: Operand) -> bool
-    ensures { (p : Parts) → ViewStands view.now p
+fn breaks<A: Allocator + Clone, S: Store>(
+    view: &View<'_, A, S>,
+    tid: Tid,
+    rule: Rule,
+    operand: Operand,
+) -> bool
+    ensures { (p : Parts) → ViewTells S.Tells view.now p
         → result ≡ breaches.breaks view.now.setup.now p tid.0 rule operand }
 {
     let reference = operand.reference;
@@ -34,34 +39,53 @@ fn breaks<A: Allocator + Clone>(view: &View<'_, A>, tid: Tid, rule: Rule, operan
     }
 }
 
-/// The first of the operands, from left to right, that breaks the rule.
-fn first_of<A: Allocator + Clone>(
-    view: &View<'_, A>,
+/// The first of the operands, from left to right, that breaks the rule, and its place among them, from 0.
+fn first_of<A: Allocator + Clone, S: Store>(
+    view: &View<'_, A, S>,
     tid: Tid,
     rule: Rule,
     operands: Operands,
-) -> Option<Operand>
-    ensures { (p : Parts) → ViewStands view.now p
-        → result ≡ find (breaches.breaks view.now.setup.now p tid.0 rule) (listed operands) }
+) -> Option<(usize, Operand)>
+    ensures place { (p : Parts) → ViewTells S.Tells view.now p → option_map (λ found. found.0) result
+        ≡ position (breaches.breaks view.now.setup.now p tid.0 rule) (listed operands) }
+    ensures operand { (p : Parts) → ViewTells S.Tells view.now p → option_map (λ found. found.1) result
+        ≡ find (breaches.breaks view.now.setup.now p tid.0 rule) (listed operands) }
 {
     match operands {
         Operands::Nil => None,
         Operands::One(first) => {
             if breaks(view, tid, rule, first) {
-                Some(first)
+                Some((0, first))
             } else {
                 None
             }
         }
         Operands::Two(first, second) => {
             if breaks(view, tid, rule, first) {
-                Some(first)
+                Some((0, first))
             } else if breaks(view, tid, rule, second) {
-                Some(second)
+                Some((1, second))
             } else {
                 None
             }
         }
+    }
+}
+
+/// The place among the call's references, from 0 and from left to right, of the first that breaks the rule, of those
+/// rules that speak of one operand each.
+pub fn place_meant<A: Allocator + Clone, S: Store>(
+    view: &View<'_, A, S>,
+    tid: Tid,
+    call: &Call,
+    rule: Rule,
+) -> Option<usize>
+    ensures { (p : Parts) → ViewTells S.Tells view.now p
+        → result ≡ breaches.place_meant view.now.setup.now p tid.0 call.now rule }
+{
+    match first_of(view, tid, rule, operands_of(call)) {
+        Some((place, _)) => Some(place),
+        None => None,
     }
 }
 
@@ -76,7 +100,10 @@ pub fn operand_meant<A: Allocator + Clone>(
     ensures { (p : Parts) → ViewStands view.now p
         → result ≡ breaches.operand_meant view.now.setup.now p tid.0 call.now rule }
 {
-    first_of(view, tid, rule, operands_of(call))
+    match first_of(view, tid, rule, operands_of(call)) {
+        Some((_, operand)) => Some(operand),
+        None => None,
+    }
 }
 
 /// In which way the operand, which breaks the rule, does so.

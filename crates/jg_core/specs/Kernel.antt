@@ -1,11 +1,17 @@
 -- What contracts see of a core.
-use Rattle.std.specs.Prelude.{ℕ, ◌≡◌, ◌≤◌, ◌^◌, ◌↔◌, true, false, List, [], ◌∷◌, None}
+use Rattle.std.specs.Prelude.{ℕ, ◌≡◌, ◌≤◌, ◌^◌, ◌↔◌, true, false, List, [], ◌∷◌, Option, None}
+use Rattle.std.specs.Option.{option_map}
+use Rattle.jg_words.specs.declared.call.Call.{Call}
 use Rattle.jg_words.specs.declared.object.ObjId.{ObjId}
+use Rattle.jg_words.specs.declared.thread.EnvId.{EnvId}
 use Rattle.jg_policy.specs.Stated.{StatedSetup}
 use Rattle.jg_objects.specs.Rows.{Rows, mark_in}
 use Rattle.jg_objects.specs.Standing.{Tells}
 use Rattle.jg_rules.specs.Parts.{Parts, RowsBeside, StandBeside}
 use Rattle.jg_core.specs.declared.fact.Fact.{Fact}
+use Rattle.jg_rules.specs.Rules.{verdict}
+use Rattle.jg_causes.specs.Breaches.{place_meant}
+use Rattle.jg_core.specs.declared.kernel.Broken.{Broken}
 use Rattle.jg_core.specs.declared.kernel.Untold.{Untold}
 use Rattle.jg_core.specs.declared.kernel.Untold.TheVariants.{Impossible, Full, NoMemory}
 use Rattle.jg_core.specs.Facts.{all_gone, parts_of, can_be, makes, made_in, History}
@@ -52,3 +58,7 @@ pub record Refuses (c : CoreState) (x : Fact) (why : Untold) : Type 0 where
   pub full : (w : List Fact) → CoreStands c w
       → (why ≡ Full) ↔ ((can_be c.setup (parts_of w) x ≡ true) × (makes x ≡ true) × (c.made ≡ 2 ^ 60))
   pub wants : why ≡ NoMemory → makes x ≡ true
+
+-- the first rule that the call breaks after these events, and the place of the first operand that breaks it
+abbrev pub broken : StatedSetup → Parts → ℕ → Option EnvId → Call → Option Broken
+broken s p t env call = option_map (λ rule. record { rule = rule; operand = place_meant s p t call rule }) (verdict s p t env call)

@@ -9,7 +9,7 @@ ghost use Rattle.jg_rules.specs.Names.{next_ref, next_buffer, object_count};
 ghost use Rattle.jg_rules.specs.Rules.{verdict};
 ghost use Rattle.jg_core.specs.declared.fact.Fact.TheVariants.{Begin, Hand, Leave, Lend, Meet, Pop};
 ghost use Rattle.jg_core.specs.Facts.{first_held, parts_of};
-ghost use Rattle.jg_core.specs.Kernel.{CoreStands, Took, TookAll, Stayed, Refuses};
+ghost use Rattle.jg_core.specs.Kernel.{broken, CoreStands, Took, TookAll, Stayed, Refuses};
 ghost use Rattle.jg_core.specs.Laws.{handed_out};
 
 use crate::fact::Fact;
@@ -18,6 +18,7 @@ use crate::possible::{can_be, makes};
 use crate::tables::Tables;
 use crate::take::take;
 use jg_buffers::{Buffers, Family};
+use jg_causes::place_meant;
 use jg_globals::Globals;
 use jg_locals::Locals;
 use jg_monitors::Monitors;
@@ -43,13 +44,22 @@ pub enum Untold {
     NoMemory,
 }
 
+/// The first rule that a call breaks.
+#[derive(Clone, Copy, Debug, PartialEq, Eq)]
+pub struct Broken {
+    pub rule: Rule,
+    /// The first reference among the call's operands, from the left, that breaks it: its place, from 0. `None` where
+    /// the rule speaks of no operand alone.
+    pub operand: Option<usize>,
+}
+
 /// What a virtual machine said, as far as judging calls needs it. It takes memory by what is live, and none by
 /// what was told. Contracts see the setup, the rows of the tables, and how many facts made something; its type
 /// keeps that it stands for some list of facts, each of which could be when it was told.
 pub struct Core<A: Allocator = Global> {
-    setup: Setup,
-    made: u64,
-    tables: Tables<A>,
+    pub(crate) setup: Setup,
+    pub(crate) made: u64,
+    pub(crate) tables: Tables<A>,
 }
 
 impl<A: Allocator> Drop for Core<A> {
@@ -121,6 +131,22 @@ impl<A: Allocator + Clone> Core<A> {
             → result ≡ verdict self.now.setup (parts_of w) tid.0 env call.now }
     {
         first_broken(&self.tables.view(&self.setup), tid, env, call)
+    }
+
+    /// As [`Core::judge`], with the operand that breaks the rule, the first from the left, where the rule speaks of one
+    /// operand.
+    pub fn judge_by(&self, tid: Tid, env: Option<EnvId>, call: &Call) -> Option<Broken>
+        ensures { (w : List Fact) → CoreStands self.now w
+            → result ≡ broken self.now.setup (parts_of w) tid.0 env call.now }
+    {
+        let view = self.tables.view(&self.setup);
+        match first_broken(&view, tid, env, call) {
+            None => None,
+            Some(rule) => Some(Broken {
+                rule,
+                operand: place_meant(&view, tid, call, rule),
+            }),
+        }
     }
 
     /// Takes a fact. It is refused where it can't be, else where it makes something and the core is full or memory

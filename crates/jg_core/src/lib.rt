@@ -12,7 +12,7 @@ mod take;
 
 pub use fact::{Checked, Fact};
 pub use gone::StillHeld;
-pub use kernel::{Core, Untold};
+pub use kernel::{Broken, Core, Untold};
 pub use promises::{
     gone_stays_gone, held_is_here, live_is_here, no_reference_revived, no_reference_twice,
     one_owner, references_are_counted,
