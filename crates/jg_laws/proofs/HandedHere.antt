@@ -214,7 +214,7 @@ written_here : (s : StatedSetup) (p : Parts) (b : Bool) (events : List heap.Even
 written_here s p true events = refl
 written_here s p false events = tt
 
-answer_here : (s : StatedSetup) (p : Parts) (t : Tid) (env : Option EnvId) (call : Call) → Unbroken s p t.0 env call → AllByRecursion (MakesStated s) p.heap → AllHere s p
+pub answer_here : (s : StatedSetup) (p : Parts) (t : Tid) (env : Option EnvId) (call : Call) → Unbroken s p t.0 env call → AllByRecursion (MakesStated s) p.heap → AllHere s p
     → AnswersHere (class_count s) (if_effective (is_effective (answer s p t call).reply.value) (call_heap s p t.0 call) ++ p.heap) (answer s p t call)
 answer_here s p t env (Vm AttachCurrentThread) kept stated all = tt
 answer_here s p t env (Vm DetachCurrentThread) kept stated all = tt
@@ -422,7 +422,7 @@ each_here s None p x none stated all y same =
     rw same (settle_here s (home_of s (native_class s p x.tid.0 x.call)) (done_if (is_effective a.reply.value) s x.tid.0 x.call p) x.tid.0 a.reply.value a.reply.warned a.object
     (answer_here s p x.tid x.env x.call kept stated all) (done_if_here (is_effective a.reply.value) s p x.tid.0 x.env x.call kept all))
 
-all_here : (s : StatedSetup) (h : List Entry) → Legal s h → AllHere s (parts s h)
+pub all_here : (s : StatedSetup) (h : List Entry) → Legal s h → AllHere s (parts s h)
 all_here s [] legal = record { locals = λ t n o is. absurd cc; pending = λ t o is. absurd cc; strong = λ m n o is. absurd cc; weak = λ m n o is. absurd cc; slots = λ x j o made gone within is. absurd cc; known = λ o. omega arith }
 all_here s (x ∷ h) legal = each_here s (verdict s (parts s h) x.tid.0 x.env x.call) (parts s h) x refl (all_stated s h legal.1) (all_here s h legal.1) x legal.0
 
