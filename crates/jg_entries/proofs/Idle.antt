@@ -23,7 +23,7 @@ use Rattle.jg_core.specs.Facts.{on, parts_of, handed_on, kept_on, lost_on, can_b
 use Rattle.jg_core.proofs.Each.{first, each_told, keeps_agree}
 use Rattle.jg_core.proofs.Owners.{owned_by}
 use Rattle.jg_entries.proofs.Acts.{own_acts, other_acts}
-use Rattle.jg_entries.proofs.Locals.{idle_live, idle_frames}
+use Rattle.jg_entries.proofs.Locals.{idle_live}
 
 -- the acts of a thread, by the tables of threads, locals and monitors: none since its session, if it has none
 abbrev pub DidNothing : List threads.Act → List locals.Act → List monitors.Act → Type 0
@@ -48,14 +48,7 @@ IsIdle p = Idle p.threads p.locals p.monitors
 off : {X : Type 0} (b : Bool) → b ≡ true → b ≡ false → X
 off b is other = absurd (let no : ⊥ = cc in no)
 
--- ---- what an open frame, a live local and a monitor tell
-
-by_frames : (p : Parts) (t : ℕ) (on_now : Bool) → is_attached p t ≡ on_now → Agreed (threads.acts_of t p.threads) (locals.acts_of t p.locals) → IsIdle p
-    → not (open_frames p t == 0) ≡ true → on_now ≡ true
-by_frames p t true is agreed idle some = refl
-by_frames p t false is agreed idle some =
-    let none : open_frames p t ≡ 0 = idle_frames (locals.acts_of t p.locals) (sym agreed.session ∙ is) (idle t is).1 in
-    absurd (let no : not (0 == 0) ≡ true = subst (λ (n : ℕ). not (n == 0) ≡ true) none some in let no_more : ⊥ = cc in no_more)
+-- ---- what a live local and a monitor tell
 
 being_if : (own : Bool) (found : Option ℕ) → found ≡ None → not (is_nothing (if own then named_by found else Nothing)) ≡ true → ⊥
 being_if true found none is = (let no : not (is_nothing (named_by None)) ≡ true = subst (λ (f : Option ℕ). not (is_nothing (named_by f)) ≡ true) none is in cc)
@@ -107,7 +100,7 @@ each_idle s p (Leave t kept) can agreed old =
     (acted p.threads p.locals p.monitors t.0 (threads.Calm ∷ threads.Leave ∷ []) (locals.Leave ∷ []) [] (λ none. off (is_attached p t.0) here none) old)
 each_idle s p (Push t room) can agreed old = acted p.threads p.locals p.monitors t.0 [] (locals.Push room ∷ []) [] (λ none. off (is_attached p t.0) can none) old
 each_idle s p (Pop t kept) can agreed old =
-    let here = by_frames p t.0 (is_attached p t.0) refl (agreed t.0) old (first (not (open_frames p t.0 == 0)) (is_kept_here s p kept) can) in
+    let here = first (is_attached p t.0) (not (open_frames p t.0 == 0) && is_kept_here s p kept) can in
     kept_idle (record p { locals = locals.by t.0 locals.Pop ∷ p.locals }) t.0 kept here
     (acted p.threads p.locals p.monitors t.0 [] (locals.Pop ∷ []) [] (λ none. off (is_attached p t.0) here none) old)
 each_idle s p (Ensure t room) can agreed old = acted p.threads p.locals p.monitors t.0 [] (locals.Ensure room ∷ []) [] (λ none. off (is_attached p t.0) can none) old

@@ -152,9 +152,6 @@ same_more a b Leave same = record { has = same.has; acts = ap (λ xs. Leave ∷ 
 pub end_idle : (a b : List Act) → has_session a ≡ false → session a ≡ [] → SameSession a b → SameSession a (End ∷ b)
 end_idle a b none nothing same = record { has = none; acts = nothing }
 
--- and no local is live, and no frame can be popped
+-- and no local is live
 pub idle_live : (a : List Act) (n : ℕ) → has_session a ≡ false → session a ≡ [] → live_local n a ≡ None
 idle_live a n none nothing = same_live a [] n (record { has = none; acts = nothing })
-
-pub idle_frames : (a : List Act) → has_session a ≡ false → session a ≡ [] → frames (depth a) a ≡ 0
-idle_frames a none nothing = same_frames a [] (record { has = none; acts = nothing })

@@ -189,18 +189,18 @@ module _ (s : StatedSetup) (p q : Parts) (known : Known s p q) (t : Tid) where
   frames_are : open_frames p t.0 ≡ open_frames q t.0
   frames_are = same_frames (locals.acts_of t.0 p.locals) (locals.acts_of t.0 q.locals) (known.same.locals t.0)
 
-  pop_can : (kept : Option ObjId) → (open_frames q t.0 == 0) ≡ false → is_kept_here s p kept ≡ true → can_be s p (Pop t kept) ≡ true
-  pop_can kept some here =
+  pop_can : (kept : Option ObjId) → is_attached q t.0 ≡ true → (open_frames q t.0 == 0) ≡ false → is_kept_here s p kept ≡ true → can_be s p (Pop t kept) ≡ true
+  pop_can kept is some here =
       let down : not (open_frames p t.0 == 0) ≡ true = rw frames_are (ap not some) in
-      both_true (not (open_frames p t.0 == 0)) (is_kept_here s p kept) down here
+      both_true (is_attached p t.0) (not (open_frames p t.0 == 0) && is_kept_here s p kept) (same_on true is) (both_true (not (open_frames p t.0 == 0)) (is_kept_here s p kept) down here)
 
-  pub pop_told : (open_frames q t.0 == 0) ≡ false → Told s p (record q { locals = locals.by t.0 locals.Pop ∷ q.locals }) (Pop t None ∷ [])
-  pop_told some = one s p _ (Pop t None) (pop_can None some refl) (local_on s p q known.same t.0 locals.Pop)
+  pub pop_told : is_attached q t.0 ≡ true → (open_frames q t.0 == 0) ≡ false → Told s p (record q { locals = locals.by t.0 locals.Pop ∷ q.locals }) (Pop t None ∷ [])
+  pop_told is some = one s p _ (Pop t None) (pop_can None is some refl) (local_on s p q known.same t.0 locals.Pop)
 
-  pub pop_kept : (o : ObjId) → (open_frames q t.0 == 0) ≡ false → is_here s q o.0 ≡ true
+  pub pop_kept : (o : ObjId) → is_attached q t.0 ≡ true → (open_frames q t.0 == 0) ≡ false → is_here s q o.0 ≡ true
       → Told s p (handed_by t.0 Local (next_ref q t.0) o.0 (record q { locals = locals.by t.0 locals.Pop ∷ q.locals })) (Pop t (Some o) ∷ [])
-  pop_kept o some here =
-      one s p _ (Pop t (Some o)) (pop_can (Some o) some (same_here s p q known.same o.0 ∙ here)) (handed_alike s _ _ t.0 Local (next_ref q t.0) o.0 refl (local_on s p q known.same t.0 locals.Pop))
+  pop_kept o is some here =
+      one s p _ (Pop t (Some o)) (pop_can (Some o) is some (same_here s p q known.same o.0 ∙ here)) (handed_alike s _ _ t.0 Local (next_ref q t.0) o.0 refl (local_on s p q known.same t.0 locals.Pop))
 
   pub push_told : (room : ℕ) → is_attached q t.0 ≡ true → Told s p (record q { locals = locals.by t.0 (locals.Push room) ∷ q.locals }) (Push t room ∷ [])
   push_told room is = one s p _ (Push t room) (same_on true is) (local_on s p q known.same t.0 (locals.Push room))

@@ -320,11 +320,11 @@ leaves s p q t r None (Some o) known on_now deep calm here pends =
     leave_kept s p q known t (record { 0 = o }) (next_ref q t.0) on_now deep calm (here o refl) (next_done s q t.0 (Vm (NativeLeave r)) t.0)
 leaves s p q t r (Some x) found known on_now deep raised here pends = leave_pending s p q known t x on_now deep raised (pends x refl)
 
-pops : (s : StatedSetup) (p q : Parts) (t : Tid) (r : Ref) (found : Option ℕ) → Known s p q → (open_frames q t.0 == 0) ≡ false → ((o : ℕ) → found ≡ Some o → is_here s q o ≡ true)
+pops : (s : StatedSetup) (p q : Parts) (t : Tid) (r : Ref) (found : Option ℕ) → Known s p q → is_attached q t.0 ≡ true → (open_frames q t.0 == 0) ≡ false → ((o : ℕ) → found ≡ Some o → is_here s q o ≡ true)
     → Told s p (settled None t.0 (rep (handed q t Local found).reply.value) (handed q t Local found).object (done_if (is_effective (handed q t Local found).reply.value) s t.0 (Frames (PopLocalFrame r)) q))
     (if_effective (is_effective (handed q t Local found).reply.value) (Pop t (handed q t Local found).object ∷ []))
-pops s p q t r None known some here = pop_told s p q known t some
-pops s p q t r (Some o) known some here = pop_kept s p q known t (record { 0 = o }) some (here o refl)
+pops s p q t r None known on_now some here = pop_told s p q known t on_now some
+pops s p q t r (Some o) known on_now some here = pop_kept s p q known t (record { 0 = o }) on_now some (here o refl)
 
 -- ---- each call
 
@@ -404,7 +404,7 @@ module _ (s : StatedSetup) (p q : Parts) (t : Tid) (env : Option EnvId) (known :
 
   frames_core : (call : FramesCall) → Unbroken s q t.0 env (Frames call) → Core s p q t (Frames call)
   frames_core (PushLocalFrame capacity) u = push_told s p q known t (natural capacity) (present (Frames (PushLocalFrame capacity)) refl u)
-  frames_core (PopLocalFrame r) u = pops s p q t r (object_named q t.0 r) known u.right_frame (λ o is. named_is s p q t.0 o r known is)
+  frames_core (PopLocalFrame r) u = pops s p q t r (object_named q t.0 r) known (present (Frames (PopLocalFrame r)) refl u) u.right_frame (λ o is. named_is s p q t.0 o r known is)
   frames_core (EnsureLocalCapacity capacity) u = ensure_told s p q known t (natural capacity) (present (Frames (EnsureLocalCapacity capacity)) refl u)
 
   exceptions_core : (call : ExceptionsCall) → Unbroken s q t.0 env (Exceptions call) → Core s p q t (Exceptions call)
