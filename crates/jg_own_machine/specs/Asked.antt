@@ -1,14 +1,16 @@
 -- What the machine's contracts say.
-use Rattle.std.specs.Prelude.{ℕ, ◌≡◌, ◌↔◌, List, ◌∷◌, Some, Result, Ok, Err, slice_get}
+use Rattle.std.specs.Prelude.{ℕ, ◌≡◌, ◌↔◌, true, List, ◌∷◌, Some, Result, Ok, Err, slice_get}
 use Rattle.std.specs.Option.{unwrap_or}
 use Rattle.jg_words.specs.declared.call.Call.{Call}
 use Rattle.jg_words.specs.declared.thread.EnvId.{EnvId}
+use Rattle.jg_words.specs.declared.object.ObjId.{ObjId}
 use Rattle.jg_words.specs.declared.reference.Kind.TheVariants.{Local}
 use Rattle.jg_core.specs.declared.fact.Fact.{Fact}
 use Rattle.jg_core.specs.declared.fact.Fact.TheVariants.{Hand, Meet}
+use Rattle.jg_core.specs.declared.fact.Checked.TheVariants.{Length}
 use Rattle.jg_core.specs.declared.kernel.Broken.{Broken}
 use Rattle.jg_core.specs.declared.kernel.Untold.{Untold}
-use Rattle.jg_core.specs.Facts.{parts_of}
+use Rattle.jg_core.specs.Facts.{is_so, parts_of}
 use Rattle.jg_core.specs.Kernel.{CoreState, CoreStands, broken}
 use Rattle.jg_own_machine.specs.declared.Array.{Array}
 use Rattle.jg_own_machine.specs.declared.TheConstants.{INTS, NOTHING, THREAD}
@@ -26,3 +28,8 @@ IsAsked core env call answer = (w : List Fact) (found : Broken) → CoreStands c
 abbrev pub IsTold : CoreState → CoreState → Array → Type 0
 IsTold old new array = (w : List Fact) → CoreStands old w
     → CoreStands new (Hand THREAD Local array.object ∷ Meet INTS array.length ∷ w)
+
+-- the object is there by all that the core was told, and so long
+abbrev pub IsKnown : CoreState → ObjId → ℕ → Type 0
+IsKnown core object length = (w : List Fact) → CoreStands core w
+    → is_so core.setup (parts_of w) (Length object length) ≡ true

@@ -1,6 +1,9 @@
 //! A virtual machine of the caller's own that answers by itself, with a core in front of it.
 #![tactic(auto)]
 
+#[cfg(test)]
+mod tests;
+
 ghost use Rattle.std.specs.Prelude.{◌≡◌, List, [], ◌∷◌, Some, IfOk, OnOk, OnErr};
 ghost use Rattle.jg_words.specs.declared.call.Call.TheVariants.{Arrays, Refs};
 ghost use Rattle.jg_words.specs.declared.call.arrays.ArraysCall.TheVariants.{GetArrayLength, NewArray};
@@ -9,7 +12,7 @@ ghost use Rattle.jg_words.specs.declared.object.Primitive.TheVariants.{Int};
 ghost use Rattle.jg_core.specs.declared.fact.Fact.TheVariants.{Begin, Lost};
 ghost use Rattle.jg_core.specs.Facts.{parts_of};
 ghost use Rattle.jg_core.specs.Kernel.{broken, CoreStands, Stayed, Took, TookAll};
-ghost use Rattle.jg_own_machine.specs.Asked.{array_at, IsAsked, IsTold};
+ghost use Rattle.jg_own_machine.specs.Asked.{array_at, IsAsked, IsKnown, IsTold};
 
 use jg_core::{Broken, Checked, Core, Fact, StillHeld, Untold};
 use jg_policy::Setup;
@@ -99,15 +102,17 @@ impl Machine {
         self.core.judge_by(THREAD, Some(self.env), &call)
     }
 
+    /// What is behind the handle.
     fn array_at(&self, handle: Handle) -> Array
         ensures { result ≡ array_at self.now.arrays.items handle }
     {
         self.arrays.get(handle).copied().unwrap_or(NOTHING)
     }
 
-    /// Makes an array (chapter 4, `NewIntArray`). What begins is told once it is so.
+    /// Makes an array (chapter 4, `NewIntArray`). The core is told of it before anybody has its handle.
     pub fn new_array(&mut self, length: i32) -> Result<Result<Handle, Broken>, Untold>
         ensures asked { IsAsked self.old.core self.old.env (Arrays (NewArray Int length)) result }
+        ensures still { IfOk result (λ answer. OnErr answer (self.new ≡ self.old)) }
         ensures told { IfOk result (λ answer. IfOk answer (λ handle. IsTold self.old.core self.new.core
             (array_at self.new.arrays.items handle))) }
     {
@@ -127,8 +132,9 @@ impl Machine {
     pub fn array_length(&mut self, handle: Handle) -> Result<Result<u32, Broken>, Untold>
         ensures asked { IsAsked self.old.core self.old.env
             (Arrays (GetArrayLength (array_at self.old.arrays.items handle).name)) result }
+        ensures still { IfOk result (λ answer. OnErr answer (self.new ≡ self.old)) }
         ensures answered { IfOk result (λ answer. IfOk answer (λ length.
-            length ≡ (array_at self.old.arrays.items handle).length)) }
+            IsKnown self.old.core (array_at self.old.arrays.items handle).object length)) }
     {
         let Array {
             length,
@@ -148,6 +154,7 @@ impl Machine {
     pub fn delete(&mut self, handle: Handle) -> Result<Result<(), Broken>, Untold>
         ensures asked { IsAsked self.old.core self.old.env
             (Refs (DeleteLocalRef (array_at self.old.arrays.items handle).name)) result }
+        ensures still { IfOk result (λ answer. OnErr answer (self.new ≡ self.old)) }
         ensures told { IfOk result (λ answer. OnOk answer
             (Took self.old.core self.new.core (Lost (array_at self.old.arrays.items handle).name))) }
         ensures kept { OnErr result (Stayed self.old.core self.new.core) }
