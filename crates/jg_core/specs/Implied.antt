@@ -113,6 +113,10 @@ linking None native = None
 linking (Some class) None = None
 linking (Some class) (Some native) = Some (Link class native)
 
+-- the class's native method of that name and type
+abbrev pub registering : StatedSetup → Option ℕ → List ℕ → List ℕ → Option Fact
+registering s class method signature = linking class (native_meant s class method signature)
+
 abbrev pub unlinking : Option ℕ → Option Fact
 unlinking None = None
 unlinking (Some class) = Some (Unlink class)
@@ -126,7 +130,7 @@ vm_implied s p t (NativeEnter class method signature) says = done_only (Some (En
 vm_implied s p t (NativeLeave r) says = option_map (λ kept. Some (Leave t kept)) (kept_by says)
 vm_implied s p t (LoadLibrary class library) says = doing t (Some None) says
 vm_implied s p t (RegisterNatives class method signature) says =
-    doing t (Some (linking (class_meant s p t.0 class) (native_meant s (class_meant s p t.0 class) method signature))) says
+    doing t (Some (registering s (class_meant s p t.0 class) method signature)) says
 vm_implied s p t (UnregisterNatives class) says = doing t (Some (unlinking (class_meant s p t.0 class))) says
 vm_implied s p t Collect says = None
 
@@ -250,7 +254,8 @@ told_on None w = w
 told_on (Some x) w = x ∷ w
 
 -- the call implies this after these facts, it was told, and that was handed out
-pub record Implies (s : StatedSetup) (new : CoreState) (w : List Fact) (t : Tid) (call : Call) (says : Says) (out : Given) : Type 0 where
+pub record Implies (s : StatedSetup) (new : CoreState) (w : List Fact) (t : Tid) (call : Call) (says : Says)
+    (out : Given) : Type 0 where
   pub fact : Option Fact
   pub is : implied s (parts_of w) t call says ≡ Some fact
   pub stands : CoreStands new (told_on fact w)
@@ -289,5 +294,6 @@ pub record RefusesCall (c : CoreState) (t : Tid) (call : Call) (says : Says) (wh
   pub impossible : (w : List Fact) → CoreStands c w
       → (why ≡ Impossible) ↔ (can_imply c.setup (parts_of w) (implied_in c w t call says) ≡ false)
   pub full : (w : List Fact) → CoreStands c w
-      → (why ≡ Full) ↔ ((can_imply c.setup (parts_of w) (implied_in c w t call says) ≡ true) × (implies_making (implied_in c w t call says) ≡ true) × (c.made ≡ 2 ^ 60))
+      → (why ≡ Full) ↔ ((can_imply c.setup (parts_of w) (implied_in c w t call says) ≡ true)
+      × (implies_making (implied_in c w t call says) ≡ true) × (c.made ≡ 2 ^ 60))
   pub wants : why ≡ NoMemory → (w : List Fact) → CoreStands c w → implies_making (implied_in c w t call says) ≡ true

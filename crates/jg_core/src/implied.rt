@@ -190,9 +190,8 @@ fn registering<A: Allocator + Clone>(
     method: &Name,
     signature: &Name,
 ) -> Option<Fact>
-    ensures { (p : Parts) → ViewTells Tells view.now p → result
-        ≡ spec.linking (names_of.class_meant view.now.setup.now p tid.0 class)
-        (names_of.native_meant view.now.setup.now (names_of.class_meant view.now.setup.now p tid.0 class) method.now signature.now) }
+    ensures { (p : Parts) → ViewTells Tells view.now p → result ≡ spec.registering view.now.setup.now
+        (names_of.class_meant view.now.setup.now p tid.0 class) method.now signature.now }
 {
     let class = class_meant(view, tid, class);
     linking(class, native_meant(view.setup, class, method, signature))
