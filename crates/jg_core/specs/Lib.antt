@@ -4,3 +4,4 @@ pub mod Counts
 pub mod Laws
 pub mod Tables
 pub mod Kernel
+pub mod Implied

@@ -2,11 +2,14 @@
 //! what the machine does. No rule refuses what it is told. Chapters are the JNI Specification's.
 #![tactic(auto)]
 
+mod did;
 mod fact;
 mod gone;
+mod implied;
 mod kernel;
 mod possible;
 mod promises;
+mod says;
 mod tables;
 mod take;
 
@@ -17,3 +20,4 @@ pub use promises::{
     gone_stays_gone, held_is_here, live_is_here, no_reference_revived, no_reference_twice,
     one_owner, references_are_counted,
 };
+pub use says::{Given, Says};
