@@ -1,0 +1,109 @@
+use super::{
+    FIRST, SECOND, T, breaks_at, closed_setup, first_other, hand, handed, impossible, meet, own,
+    raise, string_length, taken,
+};
+use jg_core::{Checked, Core, Fact, StillHeld, Untold};
+use jg_words::{Kind, ObjId, Ref, Rule};
+use std::test::Fail;
+
+/// The third and the fourth object that are met.
+const HELD: ObjId = ObjId(17);
+
+const LAST: ObjId = ObjId(18);
+
+/// The weak reference to the second object, and the global one to the third.
+const WEAK: Ref = Ref::To {
+    kind: Kind::Weak,
+    maker: T,
+    n: 1,
+};
+
+const GLOBAL: Ref = Ref::To {
+    kind: Kind::Global,
+    maker: T,
+    n: 2,
+};
+
+/// Meets four strings, of as many units as their place; a global reference holds the third, and a weak one names the
+/// second.
+fn meet_four(core: &mut Core) -> Result<(), Untold> {
+    for fact in [
+        Fact::Begin(T),
+        meet(1),
+        meet(2),
+        meet(3),
+        meet(4),
+        hand(T, Kind::Weak, SECOND),
+        hand(T, Kind::Global, HELD),
+    ] {
+        core.tell(fact)?;
+    }
+    Ok(())
+}
+
+fn checked_length(object: ObjId, length: u32) -> Fact {
+    Fact::Checked(Checked::Length { object, length })
+}
+
+/// Whether all four are there, and the weak reference isn't cleared.
+fn are_there(core: &mut Core) -> bool {
+    let steps = [
+        taken(checked_length(FIRST, 1), None),
+        taken(checked_length(SECOND, 2), None),
+        taken(checked_length(HELD, 3), None),
+        taken(checked_length(LAST, 4), None),
+    ];
+    first_other(core, &string_length(WEAK), &steps).is_none()
+}
+
+/// Lists that are refused, each with the place in it of the first object that can't be gone: one is held, one stands
+/// twice, one is a class object, and one wasn't met.
+const REFUSED: [([ObjId; 3], usize); 4] = [
+    ([FIRST, HELD, SECOND], 1),
+    ([FIRST, SECOND, FIRST], 2),
+    ([ObjId(2), HELD, FIRST], 0),
+    ([LAST, ObjId(19), HELD], 1),
+];
+
+/// The place of the first of these lists that comes out otherwise, or after which something is gone.
+fn first_gone(core: &mut Core) -> Option<usize> {
+    for i in 0..REFUSED.len() {
+        let (objects, place) = REFUSED[i];
+        let refused = core.gone(&objects) == Err(StillHeld { place });
+        if !refused || !are_there(core) {
+            return Some(i);
+        }
+    }
+    None
+}
+
+/// What is so once the three that aren't held are gone: the weak reference is cleared, and is in being.
+fn first_other_after(core: &mut Core) -> Option<usize> {
+    let cleared = breaks_at(Rule::NullReference, 0);
+    let steps = [
+        impossible(checked_length(SECOND, 2), cleared),
+        impossible(raise(T, FIRST), cleared),
+        impossible(hand(T, Kind::Local, SECOND), cleared),
+        impossible(own(T, LAST), cleared),
+        impossible(Fact::Gone(HELD), cleared),
+        taken(Fact::Lost(GLOBAL), cleared),
+        taken(Fact::Gone(HELD), cleared),
+        taken(meet(5), cleared),
+        taken(checked_length(ObjId(19), 5), cleared),
+        taken(Fact::Lost(WEAK), breaks_at(Rule::DeadReference, 0)),
+    ];
+    first_other(core, &string_length(WEAK), &steps)
+}
+
+/// A list of objects is gone as a whole, or none of it is.
+#[test]
+fn lists_that_are_gone(rt: HostRuntime) -> Result<(), Fail> {
+    let mut core = Core::new(rt.alloc(), closed_setup(rt.alloc())?);
+    assert_eq!(rt; meet_four(&mut core), Ok(()));
+    assert_eq!(rt; first_gone(&mut core), None);
+    assert_eq!(rt; core.gone(&[]), Ok(()));
+    assert!(rt; are_there(&mut core));
+    assert_eq!(rt; core.gone(&[LAST, FIRST, SECOND]), Ok(()));
+    assert_eq!(rt; first_other_after(&mut core), None);
+    Ok(())
+}
