@@ -1,0 +1,196 @@
+//! One call, made by a guard and judged by a core, which is then told what the journal's entry says.
+
+use jg_core::{Core, Fact, Given, Says, Untold};
+use jg_guard::Guard;
+use jg_rules::{View, buffer_named, class_of, home_named, length_of};
+use jg_words::{Call, Entry, EnvId, Kind, ObjId, Tid, Value, VmCall};
+use std::alloc::{AllocError, Global};
+use std::test::Fail;
+
+/// What the core has otherwise than the guard; nothing where all is alike.
+pub(super) type Difference = Option<&'static str>;
+
+/// What there was before a call, by the guard.
+#[derive(Drop)]
+struct Before {
+    /// How many objects had been made, class objects among them.
+    made: u64,
+    /// Those that were there.
+    there: Vec<ObjId>,
+    /// The exception that was pending in the thread.
+    pending: Option<ObjId>,
+}
+
+/// Whether the object was made and is gone.
+fn is_gone(view: &View<'_>, object: ObjId) -> bool {
+    object.0 < view.heap.len() && view.heap.is_gone(object)
+}
+
+fn before(view: &View<'_>, alloc: Global, tid: Tid) -> Result<Before, AllocError> {
+    let made = view.heap.len();
+    let mut there = Vec::new(alloc);
+    for n in 0..made {
+        if !is_gone(view, ObjId(n)) {
+            there.push(ObjId(n))?;
+        }
+    }
+    let pending = view.threads.pending(tid);
+    Ok(Before {
+        made,
+        there,
+        pending,
+    })
+}
+
+/// Meets the objects that were made since there were so many. The core gives them the guard's numbers.
+fn meet_all(core: &mut Core, view: &View<'_>, made: u64) -> Result<(), Untold> {
+    for n in made..view.heap.len() {
+        let object = ObjId(n);
+        let length = u32::try_from(length_of(view, object)).unwrap_or(u32::MAX);
+        if core.meet(class_of(view, object), length)? != object {
+            return Err(Untold::Impossible);
+        }
+    }
+    Ok(())
+}
+
+/// What a machine says that answered so; `None` where it hasn't answered yet, or the guard answers so nowhere. The
+/// object is the one that a reference was handed out for, or that was thrown.
+fn says_of(view: &View<'_>, value: &Value, object: Option<ObjId>) -> Option<Says> {
+    match value {
+        Value::Null => Some(Says::Null),
+        Value::Reference(_) => object.map(Says::Object),
+        Value::Throw(_) => object.map(Says::Threw),
+        Value::Buffer(buffer) => {
+            let info = buffer_named(view, *buffer)?;
+            u32::try_from(info.length).ok().map(Says::Items)
+        }
+        Value::Busy => None,
+        _ => Some(Says::Done),
+    }
+}
+
+/// Lets those objects go that are gone now.
+fn let_go(core: &mut Core, view: &View<'_>, there: &mut Vec<ObjId>) -> Result<Given, Untold> {
+    there.retain(|object| is_gone(view, *object));
+    match core.gone(there) {
+        Ok(()) => Ok(Given::Nothing),
+        Err(_) => Err(Untold::Impossible),
+    }
+}
+
+/// A native method was called, and was handed a local reference to its class.
+fn enter(core: &mut Core, entry: &Entry) -> Result<Given, Untold> {
+    let Some(class) = entry.object() else {
+        return Err(Untold::Impossible);
+    };
+    let _nothing = core.did(entry.tid(), entry.call(), Says::Done)?;
+    Ok(Given::Reference(core.hand(entry.tid(), Kind::Local, class)?))
+}
+
+/// A native method left, and what was pending is pending still.
+fn leave(
+    core: &mut Core,
+    entry: &Entry,
+    says: Says,
+    pending: Option<ObjId>,
+) -> Result<Given, Untold> {
+    let tid = entry.tid();
+    let given = core.did(tid, entry.call(), says)?;
+    if let Some(object) = pending {
+        core.tell(Fact::Raise { tid, object })?;
+    }
+    Ok(given)
+}
+
+/// Tells that the call was done, and answers the core's name for what was handed out.
+fn tell_done(
+    core: &mut Core,
+    view: &View<'_>,
+    entry: &Entry,
+    says: Says,
+    before: &mut Before,
+) -> Result<Given, Untold> {
+    match entry.call() {
+        Call::Vm(VmCall::Collect) => let_go(core, view, &mut before.there),
+        Call::Vm(VmCall::NativeEnter { .. }) => enter(core, entry),
+        Call::Vm(VmCall::NativeLeave { .. }) => leave(core, entry, says, before.pending),
+        _ => core.did(entry.tid(), entry.call(), says),
+    }
+}
+
+/// The module was warned that the entry warned of, if it did.
+fn warn(core: &mut Core, view: &View<'_>, entry: &Entry) -> Result<(), Untold> {
+    match home_named(view, entry.tid(), entry.call()) {
+        Some(home) if entry.warned() => core.tell(Fact::Warn(home)),
+        _ => Ok(()),
+    }
+}
+
+/// Tells all that the entry says, and answers the core's name for what was handed out. Nothing comes of a call that
+/// was denied, or that found a monitor busy.
+fn tell(
+    core: &mut Core,
+    view: &View<'_>,
+    entry: &Entry,
+    before: &mut Before,
+) -> Result<Given, Untold> {
+    let Some(value) = entry.value() else {
+        return Ok(Given::Nothing);
+    };
+    meet_all(core, view, before.made)?;
+    let Some(says) = says_of(view, value, entry.object()) else {
+        return Ok(Given::Nothing);
+    };
+    let given = tell_done(core, view, entry, says, before)?;
+    warn(core, view, entry)?;
+    Ok(given)
+}
+
+/// The guard's name for what was handed out.
+fn handed_out(entry: &Entry) -> Given {
+    match (entry.value(), entry.call()) {
+        (Some(Value::Reference(reference)), _) => Given::Reference(*reference),
+        (Some(Value::Buffer(buffer)), _) => Given::Buffer(*buffer),
+        (Some(Value::Environment(env)), Call::Vm(VmCall::AttachCurrentThread)) => {
+            Given::Environment(*env)
+        }
+        _ => Given::Nothing,
+    }
+}
+
+/// What the core has otherwise once it is told of the entry.
+fn difference_told(
+    core: &mut Core,
+    view: &View<'_>,
+    entry: &Entry,
+    before: &mut Before,
+) -> Difference {
+    match tell(core, view, entry, before) {
+        Ok(given) if given == handed_out(entry) => None,
+        Ok(_) => Some("what is handed out is named otherwise"),
+        Err(_) => Some("what the entry says can't be"),
+    }
+}
+
+/// Asks the core, has the guard take the call, and tells the core what came of it. What the core has otherwise.
+pub(super) fn difference_at(
+    guard: &mut Guard,
+    core: &mut Core,
+    alloc: Global,
+    (tid, env, call): (Tid, Option<EnvId>, Call),
+) -> Result<Difference, Fail> {
+    let asked = core.judge_by(tid, env, &call).map(|broken| broken.rule);
+    let mut before = before(&guard.view(), alloc, tid)?;
+    if guard.call(tid, env, call).is_err() {
+        return Err(Fail::from("the guard refuses a call"));
+    }
+    let last = guard.journal_len().saturating_sub(1);
+    let Some(entry) = guard.journal_entry(last) else {
+        return Err(Fail::from("the journal has no entry"));
+    };
+    if entry.rule() != asked {
+        return Ok(Some("the call is judged otherwise"));
+    }
+    Ok(difference_told(core, &guard.view(), entry, &mut before))
+}
