@@ -1,6 +1,6 @@
 //! One call, made by a guard and judged by a core, which is then told what the journal's entry says.
 
-use jg_core::{Core, Fact, Given, Says, Untold};
+use jg_core::{Checked, Core, Fact, Given, Says, Untold};
 use jg_guard::Guard;
 use jg_rules::{View, buffer_named, class_of, home_named, length_of};
 use jg_words::{Call, Entry, EnvId, Kind, ObjId, Tid, Value, VmCall};
@@ -42,12 +42,16 @@ fn before(view: &View<'_>, alloc: Global, tid: Tid) -> Result<Before, AllocError
     })
 }
 
+/// How long it is.
+fn length_in(view: &View<'_>, object: ObjId) -> u32 {
+    u32::try_from(length_of(view, object)).unwrap_or(u32::MAX)
+}
+
 /// Meets the objects that were made since there were so many. The core gives them the guard's numbers.
 fn meet_all(core: &mut Core, view: &View<'_>, made: u64) -> Result<(), Untold> {
     for n in made..view.heap.len() {
         let object = ObjId(n);
-        let length = u32::try_from(length_of(view, object)).unwrap_or(u32::MAX);
-        if core.meet(class_of(view, object), length)? != object {
+        if core.meet(class_of(view, object), length_in(view, object))? != object {
             return Err(Untold::Impossible);
         }
     }
@@ -159,17 +163,56 @@ fn handed_out(entry: &Entry) -> Given {
     }
 }
 
-/// What the core has otherwise once it is told of the entry.
+/// Whether the core has those objects as the guard has them: whether they are there, and their lengths.
+fn has_objects(core: &mut Core, view: &View<'_>) -> bool {
+    for n in u64::from(view.setup.class_count())..view.heap.len() {
+        let object = ObjId(n);
+        let length = length_in(view, object);
+        let check = Checked::Length { object, length };
+        if core.tell(Fact::Checked(check)).is_ok() == is_gone(view, object) {
+            return false;
+        }
+    }
+    true
+}
+
+/// Whether the core has the locals of these numbers as the guard has them.
+fn has_locals(core: &mut Core, view: &View<'_>, tid: Tid, numbers: u64) -> bool {
+    for n in 0..numbers {
+        let object = view.locals.get(tid, n);
+        let check = Checked::Local { tid, n, object };
+        if core.tell(Fact::Checked(check)).is_err() {
+            return false;
+        }
+    }
+    true
+}
+
+/// Whether the core has what the thread has as the guard does, its locals of these numbers and what is pending, if it
+/// is attached, and all objects.
+fn has_all(core: &mut Core, view: &View<'_>, tid: Tid, numbers: u64) -> bool {
+    let object = view.threads.pending(tid);
+    let check = Checked::Pending { tid, object };
+    if core.tell(Fact::Checked(check)).is_ok() {
+        has_locals(core, view, tid, numbers) && has_objects(core, view)
+    } else {
+        !view.threads.is_attached(tid) && has_objects(core, view)
+    }
+}
+
+/// What the core has otherwise once it is told of the entry. No local has so great a number.
 fn difference_told(
     core: &mut Core,
     view: &View<'_>,
     entry: &Entry,
     before: &mut Before,
+    numbers: u64,
 ) -> Difference {
     match tell(core, view, entry, before) {
-        Ok(given) if given == handed_out(entry) => None,
-        Ok(_) => Some("what is handed out is named otherwise"),
         Err(_) => Some("what the entry says can't be"),
+        Ok(given) if given != handed_out(entry) => Some("what is handed out is named otherwise"),
+        Ok(_) if has_all(core, view, entry.tid(), numbers) => None,
+        Ok(_) => Some("the thread or an object is known otherwise"),
     }
 }
 
@@ -185,12 +228,13 @@ pub(super) fn difference_at(
     if guard.call(tid, env, call).is_err() {
         return Err(Fail::from("the guard refuses a call"));
     }
-    let last = guard.journal_len().saturating_sub(1);
-    let Some(entry) = guard.journal_entry(last) else {
+    let count = guard.journal_len();
+    let Some(entry) = guard.journal_entry(count.saturating_sub(1)) else {
         return Err(Fail::from("the journal has no entry"));
     };
     if entry.rule() != asked {
         return Ok(Some("the call is judged otherwise"));
     }
-    Ok(difference_told(core, &guard.view(), entry, &mut before))
+    let numbers = (count as u64).saturating_add(1);
+    Ok(difference_told(core, &guard.view(), entry, &mut before, numbers))
 }
