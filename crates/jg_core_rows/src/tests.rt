@@ -8,12 +8,29 @@ use jg_guard::Guard;
 use jg_policy::Setup;
 use jg_rows::setups::{CLOSED, GRANTS, TWO_MODULES};
 use jg_text::read_begun;
-use rows::{ALL_TYPES, UNDER_NO_SETUP, UNDER_SETUPS, Under};
+use rows::{
+    ALL_TYPES, ALLOWED, BUFFER_ITEMS, BUFFERS, DENIED, GRANTED, GRANTED_OR_WARNED, OBJECTS,
+    OF_ALL_TYPES, REFERENCES, RELEASES, Row, THREADS, WARNED,
+};
 use std::alloc::{AllocError, Global};
+use std::process::Abort;
 use std::test::Fail;
-use telling::{Difference, difference_at};
+use telling::difference_at;
 
-/// The text of a row's setup.
+/// The setup that rows are under.
+#[derive(Clone, Copy)]
+enum Under {
+    /// The one that states no class.
+    Closed,
+    /// That of two modules, with this mode.
+    TwoModules(&'static str),
+    /// That of version 2, which grants the two modules different uses, with this mode.
+    Granted(&'static str),
+    /// One with a field of each primitive type.
+    AllTypes,
+}
+
+/// The text of a setup.
 fn text_of(alloc: Global, under: Under) -> Result<String, AllocError> {
     match under {
         Under::Closed => String::from_str(alloc, CLOSED),
@@ -58,16 +75,56 @@ fn difference_under(
     difference_in(&mut guard, &mut core, alloc, text)
 }
 
-/// Each call of each row.
-#[test]
-fn the_core_judges_as_the_guard(rt: HostRuntime) -> Result<(), Fail> {
-    for (name, text) in UNDER_NO_SETUP {
-        let difference = difference_under(rt.alloc(), Under::Closed, text)?;
-        assert_eq!(rt; difference, None, "in {name}");
-    }
-    for (name, under, text) in UNDER_SETUPS {
-        let difference = difference_under(rt.alloc(), under, text)?;
+/// The core is as the guard is after each call of the rows.
+fn are_alike(rt: &impl Abort, alloc: Global, under: Under, rows: &[Row]) -> Result<(), Fail> {
+    for (name, text) in rows {
+        let difference = difference_under(alloc, under, text)?;
         assert_eq!(rt; difference, None, "in {name}");
     }
     Ok(())
+}
+
+#[test]
+fn objects(rt: HostRuntime) -> Result<(), Fail> {
+    are_alike(&rt, rt.alloc(), Under::Closed, &OBJECTS)
+}
+
+#[test]
+fn references(rt: HostRuntime) -> Result<(), Fail> {
+    are_alike(&rt, rt.alloc(), Under::Closed, &REFERENCES)
+}
+
+#[test]
+fn threads(rt: HostRuntime) -> Result<(), Fail> {
+    are_alike(&rt, rt.alloc(), Under::Closed, &THREADS)
+}
+
+#[test]
+fn buffers(rt: HostRuntime) -> Result<(), Fail> {
+    are_alike(&rt, rt.alloc(), Under::Closed, &BUFFERS)
+}
+
+#[test]
+fn items_of_buffers(rt: HostRuntime) -> Result<(), Fail> {
+    are_alike(&rt, rt.alloc(), Under::Closed, &BUFFER_ITEMS)
+}
+
+#[test]
+fn releases(rt: HostRuntime) -> Result<(), Fail> {
+    are_alike(&rt, rt.alloc(), Under::Closed, &RELEASES)
+}
+
+#[test]
+fn denied_access(rt: HostRuntime) -> Result<(), Fail> {
+    are_alike(&rt, rt.alloc(), Under::TwoModules("deny"), &DENIED)
+}
+
+#[test]
+fn other_setups(rt: HostRuntime) -> Result<(), Fail> {
+    let alloc = rt.alloc();
+    are_alike(&rt, alloc, Under::TwoModules("warn"), &WARNED)?;
+    are_alike(&rt, alloc, Under::TwoModules("allow"), &ALLOWED)?;
+    are_alike(&rt, alloc, Under::Granted("deny"), &GRANTED)?;
+    are_alike(&rt, alloc, Under::Granted("warn"), &GRANTED_OR_WARNED)?;
+    are_alike(&rt, alloc, Under::AllTypes, &OF_ALL_TYPES)
 }

@@ -59,18 +59,8 @@ use jg_rows::strings::{
     FIRST_PATH, LENGTHS_OF_STRINGS, MODIFIED_UTF8, REGIONS_OF_STRINGS, UNITS_OF_STRINGS,
 };
 
-/// The setup that a row is under.
-#[derive(Clone, Copy)]
-pub(super) enum Under {
-    /// The one that states no class.
-    Closed,
-    /// That of two modules, with this mode.
-    TwoModules(&'static str),
-    /// That of version 2, which grants the two modules different uses, with this mode.
-    Granted(&'static str),
-    /// One with a field of each primitive type.
-    AllTypes,
-}
+/// A row's name and its journal.
+pub(super) type Row = (&'static str, &'static str);
 
 /// The text of the setup with a field of each primitive type.
 pub(super) const ALL_TYPES: &str = "version = 1
@@ -88,13 +78,97 @@ fields = [
 ]
 ";
 
-/// The rows under the setup that states no class.
-pub(super) const UNDER_NO_SETUP: [(&str, &str); 82] = [
+/// Objects, strings and arrays, under the setup that states no class.
+pub(super) const OBJECTS: [Row; 13] = [
+    ("classes_and_instances", CLASSES_AND_INSTANCES),
+    ("thrown_classes", THROWN_CLASSES),
+    ("wrong_types", WRONG_TYPES),
+    ("first_path", FIRST_PATH),
+    ("units_of_strings", UNITS_OF_STRINGS),
+    ("lengths_of_strings", LENGTHS_OF_STRINGS),
+    ("modified_utf8", MODIFIED_UTF8),
+    ("regions_of_strings", REGIONS_OF_STRINGS),
     ("object_arrays", OBJECT_ARRAYS),
     ("values_of_types", VALUES_OF_TYPES),
     ("regions_of_arrays", REGIONS_OF_ARRAYS),
     ("writes_of_regions", WRITES_OF_REGIONS),
     ("a_throw_changes_nothing_else", A_THROW_CHANGES_NOTHING_ELSE),
+];
+
+/// References and frames, under the same.
+pub(super) const REFERENCES: [Row; 19] = [
+    ("foreign_before_dead", FOREIGN_BEFORE_DEAD),
+    ("same_object", SAME_OBJECT),
+    ("kinds_of_references", KINDS_OF_REFERENCES),
+    ("deleted_twice", DELETED_TWICE),
+    ("never_made", NEVER_MADE),
+    ("local_against_global", LOCAL_AGAINST_GLOBAL),
+    ("global_outlives_its_thread", GLOBAL_OUTLIVES_ITS_THREAD),
+    (
+        "lets_go_with_an_exception_pending",
+        LETS_GO_WITH_AN_EXCEPTION_PENDING,
+    ),
+    ("result_out_of_frame", RESULT_OUT_OF_FRAME),
+    ("frame_capacities", FRAME_CAPACITIES),
+    ("pop_without_frame", POP_WITHOUT_FRAME),
+    ("pop_of_dead_result", POP_OF_DEAD_RESULT),
+    ("result_of_frame_below", RESULT_OF_FRAME_BELOW),
+    ("frames_within_frames", FRAMES_WITHIN_FRAMES),
+    ("room_of_frames", ROOM_OF_FRAMES),
+    ("room_of_sixteen", ROOM_OF_SIXTEEN),
+    ("room_asked_below", ROOM_ASKED_BELOW),
+    ("deleted_in_an_outer_frame", DELETED_IN_AN_OUTER_FRAME),
+    ("capacities_asked", CAPACITIES_ASKED),
+];
+
+/// Sessions, monitors, pending exceptions and collections, under the same.
+pub(super) const THREADS: [Row; 18] = [
+    ("attach_no_ops", ATTACH_NO_OPS),
+    ("other_environments", OTHER_ENVIRONMENTS),
+    ("getenv_with_environment", GETENV_WITH_ENVIRONMENT),
+    ("thread_zero", THREAD_ZERO),
+    ("nothing_outlives_a_session", NOTHING_OUTLIVES_A_SESSION),
+    ("first_two_rules", FIRST_TWO_RULES),
+    ("monitors", MONITORS),
+    ("busy_until_detached", BUSY_UNTIL_DETACHED),
+    ("pending", PENDING),
+    (
+        "passing_with_an_exception_pending",
+        PASSING_WITH_AN_EXCEPTION_PENDING,
+    ),
+    ("weak_cleared", WEAK_CLEARED),
+    ("weak_made_strong", WEAK_MADE_STRONG),
+    ("a_cycle_stays", A_CYCLE_STAYS),
+    ("held_by_references", HELD_BY_REFERENCES),
+    ("held_by_a_pending_exception", HELD_BY_A_PENDING_EXCEPTION),
+    ("held_by_a_monitor", HELD_BY_A_MONITOR),
+    ("held_by_a_slot", HELD_BY_A_SLOT),
+    ("thread_zero_collects", THREAD_ZERO_COLLECTS),
+];
+
+/// Buffers and critical regions, under the same.
+pub(super) const BUFFERS: [Row; 14] = [
+    ("what_may_be_lent", WHAT_MAY_BE_LENT),
+    ("numbers_of_buffers", NUMBERS_OF_BUFFERS),
+    ("a_copy_outlives_its_session", A_COPY_OUTLIVES_ITS_SESSION),
+    ("a_copy_outlives_its_object", A_COPY_OUTLIVES_ITS_OBJECT),
+    ("a_copy_is_apart", A_COPY_IS_APART),
+    (
+        "buffers_with_an_exception_pending",
+        BUFFERS_WITH_AN_EXCEPTION_PENDING,
+    ),
+    ("nested_critical", NESTED_CRITICAL),
+    ("pin_through_global", PIN_THROUGH_GLOBAL),
+    ("pin_through_weak", PIN_THROUGH_WEAK),
+    ("calls_in_a_region", CALLS_IN_A_REGION),
+    ("other_threads_go_on", OTHER_THREADS_GO_ON),
+    ("a_pin_is_its_makers", A_PIN_IS_ITS_MAKERS),
+    ("the_pinning_reference_stays", THE_PINNING_REFERENCE_STAYS),
+    ("held_by_a_pin", HELD_BY_A_PIN),
+];
+
+/// The items of buffers, under the same.
+pub(super) const BUFFER_ITEMS: [Row; 9] = [
     ("edges_of_copies", EDGES_OF_COPIES),
     ("edges_of_pins", EDGES_OF_PINS),
     (
@@ -110,58 +184,10 @@ pub(super) const UNDER_NO_SETUP: [(&str, &str); 82] = [
     ("strings_are_not_written", STRINGS_ARE_NOT_WRITTEN),
     ("units_and_bytes", UNITS_AND_BYTES),
     ("a_pin_is_the_object", A_PIN_IS_THE_OBJECT),
-    ("what_may_be_lent", WHAT_MAY_BE_LENT),
-    ("numbers_of_buffers", NUMBERS_OF_BUFFERS),
-    ("a_copy_outlives_its_session", A_COPY_OUTLIVES_ITS_SESSION),
-    ("a_copy_outlives_its_object", A_COPY_OUTLIVES_ITS_OBJECT),
-    ("a_copy_is_apart", A_COPY_IS_APART),
-    (
-        "buffers_with_an_exception_pending",
-        BUFFERS_WITH_AN_EXCEPTION_PENDING,
-    ),
-    ("weak_cleared", WEAK_CLEARED),
-    ("weak_made_strong", WEAK_MADE_STRONG),
-    ("a_cycle_stays", A_CYCLE_STAYS),
-    ("held_by_references", HELD_BY_REFERENCES),
-    ("held_by_a_pending_exception", HELD_BY_A_PENDING_EXCEPTION),
-    ("held_by_a_monitor", HELD_BY_A_MONITOR),
-    ("held_by_a_slot", HELD_BY_A_SLOT),
-    ("thread_zero_collects", THREAD_ZERO_COLLECTS),
-    ("nested_critical", NESTED_CRITICAL),
-    ("pin_through_global", PIN_THROUGH_GLOBAL),
-    ("pin_through_weak", PIN_THROUGH_WEAK),
-    ("calls_in_a_region", CALLS_IN_A_REGION),
-    ("other_threads_go_on", OTHER_THREADS_GO_ON),
-    ("a_pin_is_its_makers", A_PIN_IS_ITS_MAKERS),
-    ("the_pinning_reference_stays", THE_PINNING_REFERENCE_STAYS),
-    ("held_by_a_pin", HELD_BY_A_PIN),
-    ("pending", PENDING),
-    (
-        "passing_with_an_exception_pending",
-        PASSING_WITH_AN_EXCEPTION_PENDING,
-    ),
-    ("result_out_of_frame", RESULT_OUT_OF_FRAME),
-    ("frame_capacities", FRAME_CAPACITIES),
-    ("pop_without_frame", POP_WITHOUT_FRAME),
-    ("pop_of_dead_result", POP_OF_DEAD_RESULT),
-    ("result_of_frame_below", RESULT_OF_FRAME_BELOW),
-    ("frames_within_frames", FRAMES_WITHIN_FRAMES),
-    ("local_against_global", LOCAL_AGAINST_GLOBAL),
-    ("global_outlives_its_thread", GLOBAL_OUTLIVES_ITS_THREAD),
-    (
-        "lets_go_with_an_exception_pending",
-        LETS_GO_WITH_AN_EXCEPTION_PENDING,
-    ),
-    ("classes_and_instances", CLASSES_AND_INSTANCES),
-    ("thrown_classes", THROWN_CLASSES),
-    ("wrong_types", WRONG_TYPES),
-    ("monitors", MONITORS),
-    ("busy_until_detached", BUSY_UNTIL_DETACHED),
-    ("foreign_before_dead", FOREIGN_BEFORE_DEAD),
-    ("same_object", SAME_OBJECT),
-    ("kinds_of_references", KINDS_OF_REFERENCES),
-    ("deleted_twice", DELETED_TWICE),
-    ("never_made", NEVER_MADE),
+];
+
+/// Releases of buffers, under the same.
+pub(super) const RELEASES: [Row; 9] = [
     ("release_modes", RELEASE_MODES),
     ("modes_of_copies", MODES_OF_COPIES),
     ("modes_of_pins", MODES_OF_PINS),
@@ -177,86 +203,41 @@ pub(super) const UNDER_NO_SETUP: [(&str, &str); 82] = [
     ("releases_of_copied_strings", RELEASES_OF_COPIED_STRINGS),
     ("releases_of_a_pinned_array", RELEASES_OF_A_PINNED_ARRAY),
     ("releases_of_a_pinned_string", RELEASES_OF_A_PINNED_STRING),
-    ("room_of_frames", ROOM_OF_FRAMES),
-    ("room_of_sixteen", ROOM_OF_SIXTEEN),
-    ("room_asked_below", ROOM_ASKED_BELOW),
-    ("deleted_in_an_outer_frame", DELETED_IN_AN_OUTER_FRAME),
-    ("capacities_asked", CAPACITIES_ASKED),
-    ("attach_no_ops", ATTACH_NO_OPS),
-    ("other_environments", OTHER_ENVIRONMENTS),
-    ("getenv_with_environment", GETENV_WITH_ENVIRONMENT),
-    ("thread_zero", THREAD_ZERO),
-    ("nothing_outlives_a_session", NOTHING_OUTLIVES_A_SESSION),
-    ("first_two_rules", FIRST_TWO_RULES),
-    ("first_path", FIRST_PATH),
-    ("units_of_strings", UNITS_OF_STRINGS),
-    ("lengths_of_strings", LENGTHS_OF_STRINGS),
-    ("modified_utf8", MODIFIED_UTF8),
-    ("regions_of_strings", REGIONS_OF_STRINGS),
 ];
 
-/// The other rows.
-pub(super) const UNDER_SETUPS: [(&str, Under, &str); 18] = [
-    ("access_denied", Under::TwoModules("deny"), ACCESS_DENIED),
-    ("access_warned", Under::TwoModules("warn"), ACCESS_WARNED),
-    ("access_allowed", Under::TwoModules("allow"), ACCESS_ALLOWED),
-    (
-        "a_throw_warns_of_nothing",
-        Under::TwoModules("warn"),
-        A_THROW_WARNS_OF_NOTHING,
-    ),
-    (
-        "chain_and_leaks",
-        Under::TwoModules("deny"),
-        CHAIN_AND_LEAKS,
-    ),
-    ("grants_deny", Under::Granted("deny"), GRANTS_DENY),
-    ("grants_warn", Under::Granted("warn"), GRANTS_WARN),
-    (
-        "frame_of_other_activation",
-        Under::TwoModules("deny"),
-        FRAME_OF_OTHER_ACTIVATION,
-    ),
-    (
-        "leave_cuts_frames",
-        Under::TwoModules("deny"),
-        LEAVE_CUTS_FRAMES,
-    ),
-    ("fields", Under::TwoModules("deny"), FIELDS),
-    (
-        "frame_of_earlier_activation",
-        Under::TwoModules("deny"),
-        FRAME_OF_EARLIER_ACTIVATION,
-    ),
+/// Under the setup of two modules that denies native access.
+pub(super) const DENIED: [Row; 12] = [
+    ("access_denied", ACCESS_DENIED),
+    ("chain_and_leaks", CHAIN_AND_LEAKS),
+    ("frame_of_other_activation", FRAME_OF_OTHER_ACTIVATION),
+    ("leave_cuts_frames", LEAVE_CUTS_FRAMES),
+    ("fields", FIELDS),
+    ("frame_of_earlier_activation", FRAME_OF_EARLIER_ACTIVATION),
     (
         "leave_with_an_exception_pending",
-        Under::TwoModules("deny"),
         LEAVE_WITH_AN_EXCEPTION_PENDING,
     ),
-    (
-        "natives_of_a_class",
-        Under::TwoModules("deny"),
-        NATIVES_OF_A_CLASS,
-    ),
-    (
-        "fields_of_objects",
-        Under::TwoModules("deny"),
-        FIELDS_OF_OBJECTS,
-    ),
-    (
-        "fields_of_others",
-        Under::TwoModules("deny"),
-        FIELDS_OF_OTHERS,
-    ),
-    ("fields_of_each_type", Under::AllTypes, FIELDS_OF_EACH_TYPE),
-    (
-        "room_of_natives",
-        Under::TwoModules("deny"),
-        ROOM_OF_NATIVES,
-    ),
-    (
-        "the_seventeen_rules",
-        Under::TwoModules("deny"),
-        THE_SEVENTEEN_RULES,
-    ),
+    ("natives_of_a_class", NATIVES_OF_A_CLASS),
+    ("fields_of_objects", FIELDS_OF_OBJECTS),
+    ("fields_of_others", FIELDS_OF_OTHERS),
+    ("room_of_natives", ROOM_OF_NATIVES),
+    ("the_seventeen_rules", THE_SEVENTEEN_RULES),
 ];
+
+/// Under the one that warns.
+pub(super) const WARNED: [Row; 2] = [
+    ("access_warned", ACCESS_WARNED),
+    ("a_throw_warns_of_nothing", A_THROW_WARNS_OF_NOTHING),
+];
+
+/// Under the one that allows it.
+pub(super) const ALLOWED: [Row; 1] = [("access_allowed", ACCESS_ALLOWED)];
+
+/// Under the setup that grants the modules different uses, and denies the others.
+pub(super) const GRANTED: [Row; 1] = [("grants_deny", GRANTS_DENY)];
+
+/// Under the one that warns of the others.
+pub(super) const GRANTED_OR_WARNED: [Row; 1] = [("grants_warn", GRANTS_WARN)];
+
+/// Under the setup with a field of each primitive type.
+pub(super) const OF_ALL_TYPES: [Row; 1] = [("fields_of_each_type", FIELDS_OF_EACH_TYPE)];

@@ -26,7 +26,7 @@ fn is_gone(view: &View<'_>, object: ObjId) -> bool {
     object.0 < view.heap.len() && view.heap.is_gone(object)
 }
 
-fn before(view: &View<'_>, alloc: Global, tid: Tid) -> Result<Before, AllocError> {
+fn before_call(view: &View<'_>, alloc: Global, tid: Tid) -> Result<Before, AllocError> {
     let made = view.heap.len();
     let mut there = Vec::new(alloc);
     for n in 0..made {
@@ -188,15 +188,16 @@ fn has_locals(core: &mut Core, view: &View<'_>, tid: Tid, numbers: u64) -> bool 
     true
 }
 
-/// Whether the core has what the thread has as the guard does, its locals of these numbers and what is pending, if it
-/// is attached, and all objects.
-fn has_all(core: &mut Core, view: &View<'_>, tid: Tid, numbers: u64) -> bool {
+/// Whether the thread is attached in the core as in the guard, and then has the same pending and the same locals of
+/// these numbers.
+fn has_thread(core: &mut Core, view: &View<'_>, tid: Tid, numbers: u64) -> bool {
     let object = view.threads.pending(tid);
     let check = Checked::Pending { tid, object };
-    if core.tell(Fact::Checked(check)).is_ok() {
-        has_locals(core, view, tid, numbers) && has_objects(core, view)
-    } else {
-        !view.threads.is_attached(tid) && has_objects(core, view)
+    let is_known = core.tell(Fact::Checked(check)).is_ok();
+    match (is_known, view.threads.is_attached(tid)) {
+        (true, true) => has_locals(core, view, tid, numbers),
+        (false, false) => true,
+        _ => false,
     }
 }
 
@@ -211,12 +212,16 @@ fn difference_told(
     match tell(core, view, entry, before) {
         Err(_) => Some("what the entry says can't be"),
         Ok(given) if given != handed_out(entry) => Some("what is handed out is named otherwise"),
-        Ok(_) if has_all(core, view, entry.tid(), numbers) => None,
-        Ok(_) => Some("the thread or an object is known otherwise"),
+        Ok(_) if !has_thread(core, view, entry.tid(), numbers) => {
+            Some("the thread has something otherwise")
+        }
+        Ok(_) if !has_objects(core, view) => Some("an object is otherwise"),
+        Ok(_) => None,
     }
 }
 
-/// Asks the core, has the guard take the call, and tells the core what came of it. What the core has otherwise.
+/// What the core has otherwise where it is asked about the call, the guard takes it, and the core is told what came of
+/// it.
 pub(super) fn difference_at(
     guard: &mut Guard,
     core: &mut Core,
@@ -224,7 +229,7 @@ pub(super) fn difference_at(
     (tid, env, call): (Tid, Option<EnvId>, Call),
 ) -> Result<Difference, Fail> {
     let asked = core.judge_by(tid, env, &call).map(|broken| broken.rule);
-    let mut before = before(&guard.view(), alloc, tid)?;
+    let mut before = before_call(&guard.view(), alloc, tid)?;
     if guard.call(tid, env, call).is_err() {
         return Err(Fail::from("the guard refuses a call"));
     }
