@@ -1,17 +1,18 @@
 -- The open critical buffers and the rows of the pinned ones.
-use Rattle.std.proofs.Common.{◌≡◌, ℕ, Bool, true, false, List, [], ◌∷◌, ◌++◌, Option, Some, None, refl, ◌∙◌, ap, sym, subst, arith, inl, inr}
-use Rattle.std.specs.Prelude.{ℤ, ◌==◌, ◌||◌, if◌then◌else◌, filter, map, find}
+use Rattle.std.proofs.Common.{◌≡◌, ℕ, Bool, true, false, List, [], ◌∷◌, ◌++◌, Option, Some, None, refl, ◌∙◌, ap, sym, subst, arith, inl, inr, eqb-true}
+use Rattle.std.specs.Prelude.{ℤ, ◌==◌, ◌||◌, if◌then◌else◌, IfSome, filter, map, find}
 use Rattle.std.specs.List.{list_any, filter_map, cons_option}
 use Rattle.std.specs.Option.{option_map, option_to_list}
 use Rattle.std.specs.Map.{lookup}
 use Rattle.std.proofs.lemmas.Bool.Decides.{nat_tests}
 use Rattle.jg_buffers.specs.declared.copied.Copied.{Copied}
 use Rattle.jg_buffers.specs.declared.pinned.Pinned.{Pinned}
-use Rattle.jg_buffers.specs.History.{Buffer, Event, Opened, Wrote, Closed, ReleaseAll, is_same, is_critical, opened, critical_only, pin_of, pins, pins_object}
+use Rattle.jg_buffers.specs.History.{Buffer, Event, Opened, Wrote, Closed, ReleaseAll, is_same, is_critical, opened, critical_only, pin_of, pins, pins_object, IsPinOf}
 use Rattle.jg_lists.specs.ByMaker.{same_name}
 use Rattle.jg_buffers.specs.Rows.{is_buffer}
-use Rattle.jg_buffers.specs.Seen.{copy_seen, pin_seen}
+use Rattle.jg_buffers.specs.Seen.{copy_seen, pin_seen, key_name}
 use Rattle.jg_buffers.specs.Standing.{rows_of, Stands}
+use Rattle.jg_lists.proofs.Found.{found_in, is_found}
 use Rattle.jg_lists.proofs.Lists.{Member, any_member, any_of_filter, member_filter, both_ways, list_any-map}
 use Rattle.jg_buffers.proofs.Maps.{found_row}
 use Rattle.jg_buffers.proofs.Steps.{tells}
@@ -23,6 +24,13 @@ pub record OpenPin (P : Buffer → Bool) (e : List Event) : Type 0 where
   pub n : ℕ
   pub buffer : Buffer
   pub is_open : opened e maker n ≡ Some buffer
+  pub critical : is_critical buffer.family ≡ true
+  pub passes : P buffer ≡ true
+
+-- the buffer is an open critical one that passes
+pub record PinAt (P : Buffer → Bool) (e : List Event) (m n : ℕ) : Type 0 where
+  pub buffer : Buffer
+  pub is_open : opened e m n ≡ Some buffer
   pub critical : is_critical buffer.family ≡ true
   pub passes : P buffer ≡ true
 
@@ -115,28 +123,32 @@ in_whole x [] ys there = there
 in_whole x (y ∷ xs) ys there = inr (in_whole x xs ys there)
 
 of_row : (e : List Event) (m n : ℕ) (x : Buffer) (P : Buffer → Bool) (blind : IsBlind P) (found : Option Buffer) → opened e m n ≡ found → Member x (rows_of e m n found) → is_critical x.family ≡ true
-    → P x ≡ true → OpenPin P e
+    → P x ≡ true → PinAt P e m n
 of_row e m n x P blind None is there critical passes = absurd there
 of_row e m n x P blind (Some b) is (inr never) critical passes = absurd never
 of_row e m n x P blind (Some b) is (inl same) critical passes = record {
-  maker = m;
-  n = n;
   buffer = b;
   is_open = is;
   critical = ap (λ y. is_critical y.family) (sym same) ∙ critical;
   passes = sym (blind b _) ∙ (ap P (sym same) ∙ passes);
 }
 
+-- a row of a pinned buffer that passes
+row_pinned : {I : Type 0} (shows : I → List ℤ) (P : Buffer → Bool) (blind : IsBlind P) (es : List ((ℕ × ℕ) × Copied I)) (fs : List ((ℕ × ℕ) × Pinned)) (e : List Event)
+    → Stands (record { lent = map (copy_seen shows) es ++ map pin_seen fs }) e → (x : Buffer) → Member x (map pin_seen fs) → P x ≡ true → PinAt P e x.maker x.n
+row_pinned shows P blind es fs e stands x there passes =
+    let mine : is_buffer x.maker x.n x ≡ true = grind (arith, nat_tests) in
+    let kept = member_filter (is_buffer x.maker x.n) x (map (copy_seen shows) es ++ map pin_seen fs) (in_whole x (map (copy_seen shows) es) (map pin_seen fs) there) mine in
+    let Q : List Buffer → Type 0 = λ l. Member x l in
+    of_row e x.maker x.n x P blind (opened e x.maker x.n) refl (subst Q (stands x.maker x.n) kept) (critical_pin fs x there) passes
+
 row_pins : {I : Type 0} (shows : I → List ℤ) (P : Buffer → Bool) (blind : IsBlind P) (es : List ((ℕ × ℕ) × Copied I)) (fs : List ((ℕ × ℕ) × Pinned)) (e : List Event)
     → Stands (record { lent = map (copy_seen shows) es ++ map pin_seen fs }) e
     → list_any P (map pin_seen fs) ≡ true → list_any P (pins e) ≡ true
 row_pins shows P blind es fs e stands some =
     let found = any_member P (map pin_seen fs) some in
-    let x : Buffer = found.0 in
-    let mine : is_buffer x.maker x.n x ≡ true = grind (arith, nat_tests) in
-    let kept = member_filter (is_buffer x.maker x.n) x (map (copy_seen shows) es ++ map pin_seen fs) (in_whole x (map (copy_seen shows) es) (map pin_seen fs) found.1.0) mine in
-    let Q : List Buffer → Type 0 = λ l. Member x l in
-    pins_have P e (of_row e x.maker x.n x P blind (opened e x.maker x.n) refl (subst Q (stands x.maker x.n) kept) (critical_pin fs x found.1.0) found.1.1)
+    let pin = row_pinned shows P blind es fs e stands found.0 found.1.0 found.1.1 in
+    pins_have P e (record { maker = found.0.maker; n = found.0.n; buffer = pin.buffer; is_open = pin.is_open; critical = pin.critical; passes = pin.passes })
 
 pinned_row : {I : Type 0} (shows : I → List ℤ) (P : Buffer → Bool) (blind : IsBlind P) (es : List ((ℕ × ℕ) × Copied I)) (fs : List ((ℕ × ℕ) × Pinned)) (e : List Event)
     → Stands (record { lent = map (copy_seen shows) es ++ map pin_seen fs }) e
@@ -166,3 +178,18 @@ pub object_law : {I : Type 0} (shows : I → List ℤ) (o : ℕ) (es : List ((�
     → Stands (record { lent = map (copy_seen shows) es ++ map pin_seen fs }) e
     → list_any (λ f. f.1.object == o) fs ≡ pins_object e o
 object_law shows o es fs e stands = pin_law shows (λ b. b.object == o) (λ b items. refl) es fs e stands
+
+-- the buffer that is found is an open pinned one of the object
+pub named_law : {I : Type 0} (shows : I → List ℤ) (o : ℕ) (es : List ((ℕ × ℕ) × Copied I)) (fs : List ((ℕ × ℕ) × Pinned)) (e : List Event)
+    → Stands (record { lent = map (copy_seen shows) es ++ map pin_seen fs }) e
+    → IfSome (option_map (λ (f : (ℕ × ℕ) × Pinned). f.0) (find (λ f. f.1.object == o) fs)) (λ name. IsPinOf e o (key_name name))
+named_law shows o es fs e stands =
+    let P : Option (ℕ × ℕ) → Type 0 = λ found. IfSome found (λ name. IsPinOf e o (key_name name)) in
+    subst P (sym (found_in {R = ℕ × ℕ} pin_seen (λ b. b.object == o) (λ (b : Buffer). (b.maker, b.n)) fs)) (by (find (λ b. b.object == o) (map pin_seen fs)) (is_found (λ b. b.object == o) (map pin_seen fs)))
+  where
+    of_pin : (m n : ℕ) → PinAt (λ b. b.object == o) e m n → IsPinOf e o (key_name (m, n))
+    of_pin m n pin = record { buffer = pin.buffer; is_open = pin.is_open; critical = pin.critical; of_object = eqb-true pin.buffer.object o pin.passes }
+
+    by : (found : Option Buffer) → IfSome found (λ b. Member b (map pin_seen fs) × ((b.object == o) ≡ true)) → IfSome (option_map {U = ℕ × ℕ} (λ (b : Buffer). (b.maker, b.n)) found) (λ name. IsPinOf e o (key_name name))
+    by None all = tt
+    by (Some b) all = of_pin b.maker b.n (row_pinned shows (λ b. b.object == o) (λ b items. refl) es fs e stands b all.0 all.1)

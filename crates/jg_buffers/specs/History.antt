@@ -1,6 +1,7 @@
 -- Buffers, told by looking back. A list of events has the newest first.
-use Rattle.std.specs.Prelude.{ℕ, ℤ, pos, Bool, true, false, ◌==◌, ◌&&◌, if◌then◌else◌, List, [], ◌∷◌, map, length, slice_index_or, Option, Some, None}
+use Rattle.std.specs.Prelude.{◌≡◌, ℕ, ℤ, pos, Bool, true, false, ◌==◌, ◌&&◌, if◌then◌else◌, List, [], ◌∷◌, map, length, slice_index_or, Option, Some, None}
 use Rattle.std.specs.List.{list_any, filter_map, range_with_len}
+use Rattle.jg_words.specs.declared.buffer.BufId.{BufId}
 use Rattle.jg_words.specs.declared.reference.Ref.{Ref}
 use Rattle.jg_words.specs.declared.reference.Ref.TheVariants.{Null, To}
 use Rattle.jg_words.specs.declared.reference.Kind.{Kind}
@@ -122,6 +123,13 @@ pinned_by e r = list_any (λ b. same_ref b.via r) (pins e)
 -- a critical buffer of the object is open
 abbrev pub pins_object : List Event → ℕ → Bool
 pins_object e o = list_any (λ b. b.object == o) (pins e)
+
+-- the critical buffer is open, and of the object
+pub record IsPinOf (e : List Event) (o : ℕ) (buf : BufId) : Type 0 where
+  pub buffer : Buffer
+  pub is_open : opened e buf.maker.0 buf.n ≡ Some buffer
+  pub critical : is_critical buffer.family ≡ true
+  pub of_object : buffer.object ≡ o
 
 -- the reference is null
 abbrev pub is_null : Ref → Bool

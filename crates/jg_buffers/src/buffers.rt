@@ -1,5 +1,5 @@
-ghost use Rattle.std.specs.Prelude.{◌≡◌, ℕ, pos, true, false, ◌==◌, ◌<◌, ◌≤◌, ◌^◌, ◌++◌, if◌then◌else◌, List, [], ◌∷◌, map, length, replicate, vec_len, vec_capacity, OnOk, OnErr, IfOk, option_map, slice_index_or};
-ghost use Rattle.jg_buffers.specs.History.{Event, Opened, Wrote, Closed, ReleaseAll, is_critical, copy_with, pin_through, copied_only, opened, content, contents, in_critical, pinned_by, pins_object, info_of, is_null};
+ghost use Rattle.std.specs.Prelude.{◌≡◌, ℕ, pos, true, false, ◌==◌, ◌<◌, ◌≤◌, ◌^◌, ◌++◌, if◌then◌else◌, List, [], ◌∷◌, map, length, replicate, vec_len, vec_capacity, OnOk, OnErr, IfOk, IfSome, is_some, option_map, slice_index_or};
+ghost use Rattle.jg_buffers.specs.History.{Event, Opened, Wrote, Closed, ReleaseAll, is_critical, copy_with, pin_through, copied_only, opened, content, contents, in_critical, pinned_by, IsPinOf, pins_object, info_of, is_null};
 ghost use Rattle.jg_buffers.specs.Ordered.{pins_of, pins_through};
 ghost use Rattle.jg_buffers.specs.Rows.{AddsNumber, IsAbove, KeepsBuffers, KeepsNumbers, name_of, row_of, copy_length, items_in};
 ghost use Rattle.jg_buffers.specs.Standing.{Stands};
@@ -13,11 +13,11 @@ use crate::maker_counts::{lower_count, raise_count, widen_counts};
 use crate::pinned::{Pinned, ViaKey, family_of_pin, pin_kind, take_pin, via_key};
 use crate::tally::{Tally, count_of, lower, make_room, raise};
 use crate::visits::{
-    list_copies, list_pins, list_pins_of, list_pins_through, mark_objects, names_object, sort_names,
+    list_copies, list_pins, list_pins_of, list_pins_through, mark_objects, name_of, sort_names,
 };
 use indexmap::IndexMap;
 use jg_lists::by_maker::{ByMaker, add, find, remove};
-use jg_lists::{ByThread, Marking, Recent, number_at};
+use jg_lists::{Marking, Recent, number_at};
 use jg_words::{BufId, ObjId, Ref, Tid};
 use std::alloc::{AllocError, Allocator, Global};
 use std::marker::Model;
@@ -79,7 +79,7 @@ impl<A: Allocator + Copy, I: Items> Buffers<A, I> {
     {
         Buffers {
             copies: IndexMap::new(copies),
-            pins: ByThread::new(pins, pins),
+            pins: ByMaker::new(pins, pins, pins),
             makers: Vec::new(makers),
             vias: IndexMap::new(vias),
             pinned: 0,
@@ -336,7 +336,22 @@ impl<A: Allocator + Clone, I: Items> Buffers<A, I> {
     pub fn pins_object(&self, object: ObjId) -> bool
         ensures { (e : List Event) → Stands self.now e → result ≡ pins_object e object.0 }
     {
-        names_object(&self.pins, object.0)
+        self.pin_of(object).is_some()
+    }
+
+    /// An open pinned buffer of the object, if there is one; of several any. Takes time by how many pinned
+    /// buffers are open.
+    pub fn pin_of(&self, object: ObjId) -> Option<BufId>
+        ensures held { (e : List Event) → Stands self.now e → is_some result ≡ pins_object e object.0 }
+        ensures names { (e : List Event) → Stands self.now e → IfSome result (IsPinOf e object.0) }
+    {
+        match name_of(&self.pins, object.0) {
+            None => None,
+            Some((maker, n)) => Some(BufId {
+                maker: Tid(maker),
+                n,
+            }),
+        }
     }
 
     /// Sets the mark of each object of which a pinned buffer is open and leaves the other marks. An

@@ -1,6 +1,6 @@
 //! Passes over all open buffers of one kind. Each visits what is open, and no more.
 
-ghost use Rattle.std.specs.Prelude.{◌≡◌, ◌≤◌, ◌==◌, ◌++◌, IsPermutation, IsSortedByKey, OnOk, OnErr, filter, map, vec_len, vec_capacity};
+ghost use Rattle.std.specs.Prelude.{◌≡◌, ◌≤◌, ◌==◌, ◌++◌, IsPermutation, IsSortedByKey, OnOk, OnErr, filter, find, map, option_map, vec_len, vec_capacity};
 ghost use Rattle.std.specs.List.{list_any};
 ghost use Rattle.indexmap.specs.IndexMap.{keys};
 ghost use Rattle.jg_lists.specs.ByMaker.{named};
@@ -18,29 +18,31 @@ use jg_lists::{ByNumber, Marking, Numbered};
 use jg_words::{BufId, Kind, Ref, Tid};
 use std::alloc::{AllocError, Allocator};
 
-fn some_pins(numbers: &[Numbered<Pinned>], object: u64) -> bool
-    ensures { result ≡ list_any (λ seat. seat.value.object == object) numbers.now }
+fn number_of(numbers: &[Numbered<Pinned>], object: u64) -> Option<u64>
+    ensures { result ≡ option_map (λ seat. seat.number) (find (λ seat. seat.value.object == object) numbers.now) }
 {
-    numbers.iter().any(|seat| seat.value.object == object)
+    match numbers.iter().find(|seat| seat.value.object == object) {
+        None => None,
+        Some(seat) => Some(seat.number),
+    }
 }
 
-fn pins_in<A: Allocator>(numbers: &ByNumber<Pinned, A>, object: u64) -> bool
-    ensures { result ≡ list_any (λ e. e.1.object == object) numbers.now }
+fn number_in<A: Allocator>(numbers: &ByNumber<Pinned, A>, object: u64) -> Option<u64>
+    ensures { result ≡ option_map (λ e. e.0) (find (λ e. e.1.object == object) numbers.now) }
 {
-    some_pins(numbers.seats(), object)
+    number_of(numbers.seats(), object)
 }
 
-fn some_table_pins<A: Allocator>(tables: &[Numbered<ByNumber<Pinned, A>>], object: u64) -> bool
-    ensures { result ≡ list_any (λ table. list_any (λ e. e.1.object == object) table.value) tables.now }
+/// The name of the first pinned buffer that is of the object.
+pub fn name_of<A: Allocator>(pins: &ByMaker<Pinned, A>, object: u64) -> Option<(u16, u64)>
+    ensures { result ≡ option_map (λ e. e.0) (find (λ e. e.1.object == object) (named pins.now)) }
 {
-    tables.iter().any(|table| pins_in(&table.value, object))
-}
-
-/// Whether a pinned buffer is of the object.
-pub fn names_object<A: Allocator>(pins: &ByMaker<Pinned, A>, object: u64) -> bool
-    ensures { result ≡ list_any (λ e. e.1.object == object) (named pins.now) }
-{
-    some_table_pins(pins.seats(), object)
+    for table in pins.seats() {
+        if let Some(n) = number_in(&table.value, object) {
+            return Some((table.number as u16, n));
+        }
+    }
+    None
 }
 
 fn mark_numbers<M: Marking>(numbers: &[Numbered<Pinned>], marks: &mut M)

@@ -3,7 +3,6 @@
 
 use crate::traces::Trace;
 use jg_causes::Condition;
-use jg_lists::ByThread;
 use jg_lists::by_maker::{ByMaker, add, find};
 use jg_words::{
     BufId, BuffersCall, Call, Entry, FramesCall, Kind, Ref, RefsCall, Tid, Value, VmCall,
@@ -115,8 +114,8 @@ impl Suspects {
     /// Nothing is traced.
     pub(crate) fn new(alloc: Global) -> Suspects {
         Suspects {
-            references: ByThread::new(alloc, alloc),
-            buffers: ByThread::new(alloc, alloc),
+            references: ByMaker::new(alloc, alloc, alloc),
+            buffers: ByMaker::new(alloc, alloc, alloc),
             next: Vec::new(alloc),
             weak: Vec::new(alloc),
             stacks: Vec::new(alloc),

@@ -1,6 +1,6 @@
 -- What the look-ups answer where the rows stand.
 use Rattle.std.proofs.Common.{◌≡◌, ℕ, Bool, true, false, List, [], ◌∷◌, Option, Some, None, refl, ◌∙◌, ap, sym, subst, arith, inl, inr, eqb-true}
-use Rattle.std.specs.Prelude.{◌==◌, ◌||◌, if◌then◌else◌, filter, map}
+use Rattle.std.specs.Prelude.{◌==◌, ◌||◌, if◌then◌else◌, IfSome, filter, find, map}
 use Rattle.std.specs.List.{list_any}
 use Rattle.std.specs.Map.{lookup}
 use Rattle.std.specs.Option.{option_map}
@@ -12,6 +12,7 @@ use Rattle.jg_globals.specs.History.{Event, MakeStrong, MakeWeak, DeleteStrong, 
 use Rattle.jg_globals.specs.Rows.{Rows, Strong, is_strong, is_weak, IsAbove}
 use Rattle.jg_globals.specs.Seen.{strong_seen, weak_seen}
 use Rattle.jg_globals.specs.Standing.{Stands, strong_rows, weak_rows}
+use Rattle.jg_lists.proofs.Found.{found_in, is_found}
 use Rattle.jg_lists.proofs.Named.{first_named}
 use Rattle.jg_lists.proofs.Lists.{first, list_any-map, Member, any_member, member_filter, any_of_filter, both_ways}
 
@@ -100,16 +101,19 @@ any_of_strong m n o (Some p) is =
     let same : p ≡ o = cc in
     grind (arith, nat_tests)
 
+-- a row of the object is that of a reference in being, which names it
+row_named : (rows : Rows) (e : List Event) (o : ℕ) (row : Strong) → Stands rows e → Member row rows.strong → (row.object == o) ≡ true → strong e row.maker row.n ≡ Some o
+row_named rows e o row stands there is =
+    let mine : is_strong row.maker row.n row ≡ true = grind (arith, nat_tests) in
+    let P : List Strong → Type 0 = λ l. Member row l in
+    let kept = subst P (stands.strong row.maker row.n) (member_filter (is_strong row.maker row.n) row rows.strong there mine) in
+    strong_of_member row.maker row.n o row (strong e row.maker row.n) kept (eqb-true row.object o is)
+
 row_holds : (rows : Rows) (e : List Event) (o : ℕ) → Stands rows e → list_any (λ row. row.object == o) rows.strong ≡ true → holds_object e o ≡ true
 row_holds rows e o stands is =
     let found = any_member (λ row. row.object == o) rows.strong is in
     let row : Strong = found.0 in
-    let mine : is_strong row.maker row.n row ≡ true = grind (arith, nat_tests) in
-    let kept = member_filter (is_strong row.maker row.n) row rows.strong found.1.0 mine in
-    let P : List Strong → Type 0 = λ l. Member row l in
-    let there = subst P (stands.strong row.maker row.n) kept in
-    let named : row.object ≡ o = eqb-true row.object o found.1.1 in
-    let now = strong_of_member row.maker row.n o row (strong e row.maker row.n) there named in
+    let now = row_named rows e o row stands found.1.0 found.1.1 in
     was_made e e row.maker row.n o now now
 
 held_row : (rows : Rows) (e : List Event) (o : ℕ) → Stands rows e → holds_object e o ≡ true → list_any (λ row. row.object == o) rows.strong ≡ true
@@ -123,6 +127,18 @@ holds_law rows e es o seen stands =
     list_any-map strong_seen (λ entry. entry.1.0 == o) (λ row. row.object == o) (λ entry. refl) es
     ∙ (ap (list_any (λ row. row.object == o)) (sym seen)
     ∙ both_ways (list_any (λ row. row.object == o) rows.strong) (holds_object e o) (row_holds rows e o stands) (held_row rows e o stands))
+
+-- the reference that is found names the object
+pub named_law : (rows : Rows) (e : List Event) (es : List (Name × ObjId)) (o : ℕ) → rows.strong ≡ map strong_seen es → Stands rows e
+    → IfSome (option_map (λ (entry : Name × ObjId). entry.0) (find (λ entry. entry.1.0 == o) es)) (λ name. strong e name.0 name.1 ≡ Some o)
+named_law rows e es o seen stands =
+    let P : Option Name → Type 0 = λ found. IfSome found (λ name. strong e name.0 name.1 ≡ Some o) in
+    subst P (sym (found_in {R = Name} strong_seen (λ row. row.object == o) (λ (row : Strong). (row.maker, row.n)) es ∙ ap (λ l. option_map {U = Name} (λ (row : Strong). (row.maker, row.n)) (find (λ row. row.object == o) l)) (sym seen)))
+    (by (find (λ row. row.object == o) rows.strong) (is_found (λ row. row.object == o) rows.strong))
+  where
+    by : (found : Option Strong) → IfSome found (λ row. Member row rows.strong × ((row.object == o) ≡ true)) → IfSome (option_map {U = Name} (λ (row : Strong). (row.maker, row.n)) found) (λ name. strong e name.0 name.1 ≡ Some o)
+    by None all = tt
+    by (Some row) all = row_named rows e o row stands all.0 all.1
 
 -- a value is seen as its view
 pub reopened : (a b : Rows) (e : List Event) → a ≡ b → Stands b e → Stands a e

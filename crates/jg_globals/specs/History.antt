@@ -1,5 +1,5 @@
 -- Global and weak global references, told by looking back. A list of events has the newest first.
-use Rattle.std.specs.Prelude.{ℕ, Bool, false, ◌==◌, ◌&&◌, if◌then◌else◌, List, [], ◌∷◌, Option, Some, None}
+use Rattle.std.specs.Prelude.{◌≡◌, ℕ, Bool, false, ◌==◌, ◌&&◌, if◌then◌else◌, List, [], ◌∷◌, Option, Some, None}
 use Rattle.std.specs.List.{list_any}
 use Rattle.jg_words.specs.declared.reference.Ref.{Ref}
 use Rattle.jg_words.specs.declared.reference.Ref.TheVariants.{Null, To}
@@ -91,3 +91,10 @@ made_and_held e o ev = false
 -- a global reference of the object was made and not deleted; weak references hold nothing
 abbrev pub holds_object : List Event → ℕ → Bool
 holds_object e o = list_any (made_and_held e o) e
+
+-- the reference is a global one in being that names the object
+abbrev pub Holds : List Event → ℕ → Ref → Type 0
+Holds e o Null = ⊥
+Holds e o (To Local maker n) = ⊥
+Holds e o (To Global maker n) = strong e maker.0 n ≡ Some o
+Holds e o (To Weak maker n) = ⊥

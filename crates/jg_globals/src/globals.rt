@@ -1,6 +1,6 @@
-ghost use Rattle.std.specs.Prelude.{◌≡◌, ◌≤◌, ◌+◌, ◌^◌, ℕ, List, [], ◌∷◌, ◌++◌, length, map, vec_len, vec_capacity, OnOk, OnErr};
-ghost use Rattle.std.specs.Option.{option_map};
-ghost use Rattle.jg_globals.specs.History.{Event, MakeStrong, MakeWeak, Clear, strong_target, target_of, deletion, holds_object};
+ghost use Rattle.std.specs.Prelude.{◌≡◌, ◌≤◌, ◌+◌, ◌^◌, ℕ, List, [], ◌∷◌, ◌++◌, length, map, vec_len, vec_capacity, IfSome, OnOk, OnErr};
+ghost use Rattle.std.specs.Option.{is_some, option_map};
+ghost use Rattle.jg_globals.specs.History.{Event, MakeStrong, MakeWeak, Clear, strong_target, target_of, deletion, Holds, holds_object};
 ghost use Rattle.jg_globals.specs.Rows.{AddsNumber, IsAbove, KeepsNumbers, strong_ref, weak_ref};
 ghost use Rattle.jg_globals.specs.Standing.{Stands, IsListOf};
 ghost use Rattle.jg_lists.specs.ByMaker.{Name, named, Drops, IsThereOnce};
@@ -8,15 +8,16 @@ ghost use Rattle.jg_lists.specs.Marks.{Marks};
 
 use crate::sweep::clear_rows;
 use crate::target::Target;
-use crate::visits::{list_names, mark_objects, names_object};
+use crate::visits::{list_names, mark_objects, name_of};
+use jg_lists::Marking;
 use jg_lists::by_maker::{ByMaker, add, find, remove};
-use jg_lists::{ByThread, Marking};
 use jg_words::{Kind, ObjId, Ref, Tid};
 use std::alloc::{AllocError, Allocator, Global};
 use std::marker::Model;
 
-/// The global and weak global references in being. Takes memory for as many of each kind as each maker
-/// ever had at once, whatever their numbers are. Contracts see the rows.
+/// The global and weak global references in being. Takes memory for as many makers as ever had some at
+/// once, and for as many of each kind as one had at once, whatever their numbers are. Contracts see the
+/// rows.
 #[derive(Drop)]
 pub struct Globals<A: Allocator = Global> {
     strong: ByMaker<ObjId, A>,
@@ -48,8 +49,8 @@ impl<A: Allocator + Copy> Globals<A> {
         ensures numbers { (k i : ℕ) → IsAbove k i result }
     {
         Globals {
-            strong: ByThread::new(makers, makers),
-            weak: ByThread::new(makers, makers),
+            strong: ByMaker::new(makers, makers, makers),
+            weak: ByMaker::new(makers, makers, makers),
             count: 0,
             alloc,
         }
@@ -177,7 +178,23 @@ impl<A: Allocator> Globals<A> {
     pub fn holds_object(&self, object: ObjId) -> bool
         ensures { (e : List Event) → Stands self.now e → result ≡ holds_object e object.0 }
     {
-        names_object(&self.strong, object)
+        self.holder_of(object).is_some()
+    }
+
+    /// A global reference that names the object, if there is one; of several any. Takes time by how many
+    /// there are.
+    pub fn holder_of(&self, object: ObjId) -> Option<Ref>
+        ensures held { (e : List Event) → Stands self.now e → is_some result ≡ holds_object e object.0 }
+        ensures names { (e : List Event) → Stands self.now e → IfSome result (Holds e object.0) }
+    {
+        match name_of(&self.strong, object) {
+            None => None,
+            Some((maker, n)) => Some(Ref::To {
+                kind: Kind::Global,
+                maker: Tid(maker),
+                n,
+            }),
+        }
     }
 
     /// Sets the mark of each object that a global reference names and leaves the other marks. An

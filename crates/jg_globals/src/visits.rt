@@ -1,6 +1,6 @@
 //! Passes over all references of one kind. Each visits what is in being, and no more.
 
-ghost use Rattle.std.specs.Prelude.{◌≡◌, ◌≤◌, ◌==◌, ◌++◌, OnOk, OnErr, map, vec_len, vec_capacity};
+ghost use Rattle.std.specs.Prelude.{◌≡◌, ◌≤◌, ◌==◌, ◌++◌, OnOk, OnErr, find, map, option_map, vec_len, vec_capacity};
 ghost use Rattle.std.specs.List.{list_any};
 ghost use Rattle.jg_lists.specs.Marks.{Marks};
 ghost use Rattle.jg_lists.specs.ByMaker.{named};
@@ -11,29 +11,31 @@ use jg_lists::{ByNumber, Marking, Numbered};
 use jg_words::{Kind, ObjId, Ref, Tid};
 use std::alloc::{AllocError, Allocator};
 
-fn some_names(numbers: &[Numbered<ObjId>], object: ObjId) -> bool
-    ensures { result ≡ list_any (λ seat. seat.value.0 == object.0) numbers.now }
+fn number_of(numbers: &[Numbered<ObjId>], object: ObjId) -> Option<u64>
+    ensures { result ≡ option_map (λ seat. seat.number) (find (λ seat. seat.value.0 == object.0) numbers.now) }
 {
-    numbers.iter().any(|seat| seat.value.0 == object.0)
+    match numbers.iter().find(|seat| seat.value.0 == object.0) {
+        None => None,
+        Some(seat) => Some(seat.number),
+    }
 }
 
-fn names_in<A: Allocator>(numbers: &ByNumber<ObjId, A>, object: ObjId) -> bool
-    ensures { result ≡ list_any (λ e. e.1.0 == object.0) numbers.now }
+fn number_in<A: Allocator>(numbers: &ByNumber<ObjId, A>, object: ObjId) -> Option<u64>
+    ensures { result ≡ option_map (λ e. e.0) (find (λ e. e.1.0 == object.0) numbers.now) }
 {
-    some_names(numbers.seats(), object)
+    number_of(numbers.seats(), object)
 }
 
-fn some_table_names<A: Allocator>(tables: &[Numbered<ByNumber<ObjId, A>>], object: ObjId) -> bool
-    ensures { result ≡ list_any (λ table. list_any (λ e. e.1.0 == object.0) table.value) tables.now }
+/// The name of the first reference that names the object.
+pub fn name_of<A: Allocator>(rows: &ByMaker<ObjId, A>, object: ObjId) -> Option<(u16, u64)>
+    ensures { result ≡ option_map (λ e. e.0) (find (λ e. e.1.0 == object.0) (named rows.now)) }
 {
-    tables.iter().any(|table| names_in(&table.value, object))
-}
-
-/// Whether a reference names the object.
-pub fn names_object<A: Allocator>(rows: &ByMaker<ObjId, A>, object: ObjId) -> bool
-    ensures { result ≡ list_any (λ e. e.1.0 == object.0) (named rows.now) }
-{
-    some_table_names(rows.seats(), object)
+    for table in rows.seats() {
+        if let Some(n) = number_in(&table.value, object) {
+            return Some((table.number as u16, n));
+        }
+    }
+    None
 }
 
 fn mark_numbers<M: Marking>(numbers: &[Numbered<ObjId>], marks: &mut M)

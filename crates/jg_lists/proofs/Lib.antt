@@ -1,4 +1,6 @@
 pub mod Acts
+mod Closed
+pub mod Found
 pub mod Lists
 pub mod Marks
 pub mod Named

@@ -139,15 +139,30 @@ module _ {V : Type 0} where
       let same : count - 1 ≡ length (map number_of seats) - 1 = omega (arith, many, length-map seats number_of) in
       ap number_of own ∙ (sym (get_or-map number_of seats (count - 1) last 0 (omega (arith, many, some))) ∙ ap (λ k. get_or (map number_of seats) k 0) same)
 
+  -- the i-th seat is gone, and the last has its place
+  pub seats_without : (seats new : List (Numbered V)) (i : ℕ) (x : Numbered V) → i < length seats → new ≡ swap_remove seats i x → IsWithout (map number_of seats) (map number_of new) i
+  seats_without seats new i x inside left =
+      let numbers : map number_of new ≡ swap_remove (map number_of seats) i (number_of x) = ap (map number_of) left ∙ map-swap_remove number_of seats i x (omega (arith, inside)) in
+      subst (λ l. IsWithout (map number_of seats) l i) (sym numbers) (without (map number_of seats) i (number_of x) (simp length-map inside))
+
+  -- the pairs are that of the seat, and those that are left
+  pub pairs_less : (seats new : List (Numbered V)) (es : List (ℕ × V)) (n i : ℕ) (x : Numbered V) → i < length seats → x ≡ get_or seats i x → new ≡ swap_remove seats i x → map seen seats ≡ es → number_of x ≡ n
+      → IsPermutation es ((n, x.value) ∷ map seen new)
+  pairs_less seats new es n i x inside own left seen_is number =
+      let pairs : map seen new ≡ swap_remove es i (seen x) =
+      ap (map seen) left ∙ map-swap_remove seen seats i x (omega (arith, inside)) ∙ ap (λ l. swap_remove l i (seen x)) seen_is in
+      let mine : seen x ≡ get_or es i (seen x) = ap seen own ∙ sym (get_or-map seen seats i x (seen x) inside) ∙ ap (λ l. get_or l i (seen x)) seen_is in
+      let length_is : length es ≡ length seats = ap length (sym seen_is) ∙ length-map seats seen in
+      subst (λ l. IsPermutation es ((n, x.value) ∷ l)) (sym pairs) (subst (λ k. IsPermutation es ((k, x.value) ∷ swap_remove es i (seen x))) number
+      (IsPermutation-swap_remove es i (seen x) (omega (arith, length_is, inside)) mine))
+
   module _ (old slots : List ℕ) (seats new : List (Numbered V)) (n slot i : ℕ) (x : Numbered V) (placed : Placed old (map number_of seats)) (finds : Finds old (map number_of seats) n slot i) (leaves : Leaves slots (map number_of seats) i)
       (own : x ≡ get_or seats i x) (left : new ≡ swap_remove seats i x) where
     inside : i < length seats
     inside = within old seats n slot i finds
 
     pub without_seat : IsWithout (map number_of seats) (map number_of new) i
-    without_seat =
-        let numbers : map number_of new ≡ swap_remove (map number_of seats) i (number_of x) = ap (map number_of) left ∙ map-swap_remove number_of seats i x (omega (arith, inside)) in
-        subst (λ l. IsWithout (map number_of seats) l i) (sym numbers) (without (map number_of seats) i (number_of x) (simp length-map inside))
+    without_seat = seats_without seats new i x inside left
 
     pub placed_without : Placed slots (map number_of new)
     placed_without = placed_less old slots (map number_of seats) (map number_of new) i placed leaves without_seat
@@ -163,13 +178,5 @@ module _ {V : Type 0} where
     pub none_left : at n (map seen new) ≡ None
     none_left = not_there new n (subst (λ k. (j : ℕ) → j < length (map number_of new) → get_or (map number_of new) j 0 ≢ k) finds.own (left_differ old slots (map number_of seats) (map number_of new) i placed leaves without_seat finds.seated))
 
-    -- the pairs are that of the seat, and those that are left
     pub seen_less : (es : List (ℕ × V)) → map seen seats ≡ es → IsPermutation es ((n, x.value) ∷ map seen new)
-    seen_less es seen_is =
-        let pairs : map seen new ≡ swap_remove es i (seen x) =
-        ap (map seen) left ∙ map-swap_remove seen seats i x (omega (arith, inside)) ∙ ap (λ l. swap_remove l i (seen x)) seen_is in
-        let mine : seen x ≡ get_or es i (seen x) = ap seen own ∙ sym (get_or-map seen seats i x (seen x) inside) ∙ ap (λ l. get_or l i (seen x)) seen_is in
-        let length_is : length es ≡ length seats = ap length (sym seen_is) ∙ length-map seats seen in
-        let number : number_of x ≡ n = ap number_of own ∙ own_seat old seats n slot i x finds in
-        subst (λ l. IsPermutation es ((n, x.value) ∷ l)) (sym pairs) (subst (λ k. IsPermutation es ((k, x.value) ∷ swap_remove es i (seen x))) number
-        (IsPermutation-swap_remove es i (seen x) (omega (arith, length_is, inside)) mine))
+    seen_less es seen_is = pairs_less seats new es n i x inside own left seen_is (ap number_of own ∙ own_seat old seats n slot i x finds)

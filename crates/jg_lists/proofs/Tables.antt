@@ -70,7 +70,7 @@ head_entries q table tables true is once later =
 head_entries q table tables false is once later = rw (none_of_other q table.0 table.1 is) later
 
 -- the entries of a name are those in its maker's table
-filter-named : {V : Type 0} (q : Name) (tables : List (ℕ × List (ℕ × V))) → IsOnce tables
+pub filter-named : {V : Type 0} (q : Name) (tables : List (ℕ × List (ℕ × V))) → IsOnce tables
     → filter (λ e. same_name q e.0) (named tables) ≡ filter (λ e. same_name q e.0) (entries q.0 (table_at q.0 tables))
 filter-named q [] once = refl
 filter-named q (table ∷ tables) once =

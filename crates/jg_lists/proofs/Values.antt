@@ -1,6 +1,6 @@
 -- What look-ups of numbers find, once one number's value is written, added or taken out.
 use Rattle.std.proofs.Common.{◌≡◌, ◌<◌, ℕ, Bool, true, false, List, [], ◌∷◌, ◌++◌, Option, Some, None, refl, ◌∙◌, sym, ap, subst, arith, eqb-true}
-use Rattle.std.specs.Prelude.{All, ◌==◌, ◌||◌, if◌then◌else◌, IsPermutation, IsSome, map}
+use Rattle.std.specs.Prelude.{All, ◌==◌, ◌||◌, if◌then◌else◌, IsPermutation, IfSome, IsSome, map}
 use Rattle.std.specs.List.{IsDistinct, list_any}
 use Rattle.std.specs.Option.{is_some, option_map}
 use Rattle.std.specs.Map.{keys_of, values_of, set_value}
@@ -8,8 +8,8 @@ use Rattle.std.specs.BTreeMap.{is_at}
 use Rattle.std.specs.Cmp.{nat_cmp_total, eq_by_cmp_equiv}
 use Rattle.std.specs.Ordering.{nat_cmp, eq_by_cmp}
 use Rattle.std.proofs.lemmas.Bool.Decides.{nat_tests}
-use Rattle.std.proofs.lemmas.List.Elements.{All-map}
-use Rattle.std.proofs.lemmas.List.Sorted.{IsPermutation-map}
+use Rattle.std.proofs.lemmas.List.Elements.{All-map, All-from_recursion, recursion_from_All}
+use Rattle.std.proofs.lemmas.List.Sorted.{IsPermutation-map, All-permutation}
 use Rattle.indexmap.proofs.MapLemmas.{distinct_permutation, lookup_permutation}
 use Rattle.std.proofs.lemmas.Map.{keys-set_value, lookup-set_value}
 use Rattle.jg_lists.specs.declared.by_number.Numbered.{Numbered}
@@ -28,6 +28,12 @@ pub set_below : {V : Type 0} (bound : ℕ) (es news : List (ℕ × V)) (t : ℕ)
 set_below {V} bound es news t w is all =
     all_mapped (λ (e : ℕ × V). e.0) (λ n. n < bound) news
     (subst (All (λ n. n < bound)) (sym (ap keys_of is ∙ keys-set_value (is_at (nat_cmp t)) es w)) (All-map (λ n. n < bound) (λ (e : ℕ × V). e.0) es all))
+
+-- the same where a value was taken out, or none
+pub removed_below : {V : Type 0} (bound : ℕ) (es news : List (ℕ × V)) (n : ℕ) (gone : Option V) → All (λ e. e.0 < bound) es → IfSome gone (λ v. IsPermutation es ((n, v) ∷ news)) → (gone ≡ None → news ≡ es) → All (λ e. e.0 < bound) news
+removed_below bound es news n None all taken none = subst (All (λ e. e.0 < bound)) (sym (none refl)) all
+removed_below bound es news n (Some v) all taken none =
+    All-from_recursion (λ e. e.0 < bound) news (recursion_from_All (λ e. e.0 < bound) ((n, v) ∷ news) (All-permutation (λ e. e.0 < bound) es ((n, v) ∷ news) taken all)).1
 
 alike : (t x y : ℕ) → is_at (nat_cmp t) x ≡ true → is_at (nat_cmp t) y ≡ eq_by_cmp nat_cmp x y
 alike t x y own = grind (arith, nat_tests, own)
@@ -133,6 +139,10 @@ set_none (e ∷ es) t w none =
 pub absent : {V : Type 0} (value : Option V) → is_some value ≡ false → value ≡ None
 absent None is = refl
 absent (Some v) is = cc
+
+pub some_there : {V : Type 0} (value : Option V) → is_some value ≡ true → IsSome value
+some_there None is = cc
+some_there (Some v) is = refl
 
 pub none_some : {V : Type 0} {Q : Type 0} (value : Option V) → value ≡ None → IsSome value → Q
 none_some None none some = cc

@@ -9,6 +9,7 @@ use Rattle.jg_lists.specs.ByThread.{at, IsOnce}
 use Rattle.jg_lists.specs.contracts.by_number.ByNumber.{the_row}
 use Rattle.jg_lists.specs.contracts.by_place.ByPlace.{the_row as place_row}
 use Rattle.jg_lists.specs.contracts.by_thread.ByThread.{the_row as thread_row}
+use Rattle.jg_lists.specs.contracts.by_maker.ByMaker.{the_row as maker_row}
 
 -- the number, if it has a value, has w in its place, and each other one has what it had
 pub record WritesThrough {V : Type 0} (t : ℕ) (old : List (ℕ × V)) (w : V) (new : List (ℕ × V)) : Type 0 where
@@ -35,3 +36,7 @@ module _ (V A : RattleType) (alloc : Ghosts A.Denot) (s : MutBor (List (ℕ × V
   -- the same of a thread's value
   abbrev pub lends_get_by_thread : Option (MutBor V.Denot) → Fml
   lends_get_by_thread r = LendsSo (thread_row V A alloc) V s r (λ new w. WritesThrough t s.now w new) (λ new. new ≡ s.now)
+
+-- the same of a maker's table
+abbrev pub lends_get_by_maker : (V A : RattleType) (alloc : Ghosts A.Denot) (s : MutBor (List (ℕ × List (ℕ × V.Denot)))) (t : ℕ) → Option (MutBor (List (ℕ × V.Denot))) → Fml
+lends_get_by_maker V A alloc s t r = LendsSo (maker_row V A alloc) (the_row V A alloc) s r (λ new w. WritesThrough t s.now w new) (λ new. new ≡ s.now)

@@ -1,8 +1,9 @@
-ghost use Rattle.std.specs.Prelude.{◌≡◌, ℕ, ◌++◌, ◌∷◌, ◌==◌, if◌then◌else◌, [], IsSome, None, Some, OnOk, OnErr, map, option_copied};
+ghost use Rattle.std.specs.Prelude.{◌≡◌, ℕ, ◌<◌, ◌++◌, ◌∷◌, ◌==◌, if◌then◌else◌, [], IsPermutation, IfSome, IsSome, None, Some, OnOk, OnErr, length, map, option_copied};
 ghost use Rattle.std.specs.Option.{is_some, option_copied_mut};
 ghost use Rattle.std.specs.Borrow.{sem};
 ghost use Rattle.jg_lists.specs.ByThread.{at, IsOnce};
 ghost use Rattle.jg_lists.specs.ByNumber.{seen};
+ghost use Rattle.jg_lists.specs.ByPlace.{IsSeatOf, Swaps};
 
 use crate::blanks::{number_at, widen};
 use crate::by_number::Numbered;
@@ -106,6 +107,53 @@ impl<V, A: Allocator> ByPlace<V, A> {
         self.seats.push(Numbered { number, value })?;
         self.places[number as usize] = place;
         Ok(())
+    }
+
+    /// Takes the number's value out, if it has one. The seat that was the last goes to its place. Takes
+    /// no memory.
+    pub fn remove(&mut self, number: u64) -> Option<V>
+        ensures was { result ≡ at number self.old }
+        ensures removed { (q : ℕ) → at q self.new ≡ (if number == q then None else at q self.old) }
+        ensures taken { IfSome result (λ v. IsPermutation self.old ((number, v) ∷ self.new)) }
+        ensures none { result ≡ None → self.new ≡ self.old }
+        ensures once { IsOnce self.new }
+    {
+        let place = number_at(&self.places, number as usize, 0);
+        if place == 0 {
+            return None;
+        }
+        let last = self.seats[self.seats.len() - 1].number;
+        self.places[last as usize] = place;
+        self.places[number as usize] = 0;
+        let seat = self.seats.swap_remove(place as usize - 1);
+        Some(seat.value)
+    }
+
+    /// The place of the number's seat, from 0, if it has one.
+    pub fn place_of(&self, number: u64) -> Option<usize>
+        ensures found { IfSome result (λ i. IsSeatOf number i self.now) }
+        ensures none { result ≡ None → at number self.now ≡ None }
+    {
+        let place = number_at(&self.places, number as usize, 0);
+        if place == 0 {
+            return None;
+        }
+        Some(place as usize - 1)
+    }
+
+    /// Swaps the seats at the two places. Takes no memory.
+    pub fn swap(&mut self, i: usize, j: usize)
+        requires one { i < length self.old }
+        requires other { j < length self.old }
+        ensures moved { Swaps self.old self.new i j }
+        ensures found { (q : ℕ) → at q self.new ≡ at q self.old }
+        ensures same { length self.new ≡ length self.old }
+        ensures once { IsOnce self.new }
+    {
+        let first = self.seats[i].number;
+        let second = self.seats[j].number;
+        self.places.swap(first as usize, second as usize);
+        self.seats.swap(i, j);
     }
 
     /// The numbers that have a value, with it.

@@ -1,8 +1,9 @@
-ghost use Rattle.std.specs.Prelude.{◌≡◌, ℕ, ◌<◌, ◌^◌, ◌++◌, ◌∷◌, ◌==◌, if◌then◌else◌, [], All, None, Some, OnOk, OnErr, map, option_copied};
+ghost use Rattle.std.specs.Prelude.{◌≡◌, ℕ, ◌<◌, ◌^◌, ◌++◌, ◌∷◌, ◌==◌, if◌then◌else◌, [], All, IsPermutation, IfSome, None, Some, OnOk, OnErr, length, map, option_copied};
 ghost use Rattle.std.specs.Option.{is_some, option_copied_mut};
 ghost use Rattle.std.specs.Borrow.{sem};
 ghost use Rattle.jg_lists.specs.ByThread.{at, IsOnce};
 ghost use Rattle.jg_lists.specs.ByNumber.{seen};
+ghost use Rattle.jg_lists.specs.ByPlace.{IsSeatOf, Swaps};
 
 use crate::by_number::Numbered;
 use crate::by_place::ByPlace;
@@ -77,6 +78,37 @@ impl<V, A: Allocator> ByThread<V, A> {
         ensures once { IsOnce self.new }
     {
         self.numbers.add(u64::from(tid), value)
+    }
+
+    /// Takes the thread's value out, if it has one. Takes no memory.
+    pub fn remove(&mut self, tid: u16) -> Option<V>
+        ensures was { result ≡ at tid self.old }
+        ensures removed { (t : ℕ) → at t self.new ≡ (if tid == t then None else at t self.old) }
+        ensures taken { IfSome result (λ v. IsPermutation self.old ((tid, v) ∷ self.new)) }
+        ensures none { result ≡ None → self.new ≡ self.old }
+        ensures once { IsOnce self.new }
+    {
+        self.numbers.remove(u64::from(tid))
+    }
+
+    /// The place of the thread's seat, from 0, if it has one.
+    pub fn place_of(&self, tid: u16) -> Option<usize>
+        ensures found { IfSome result (λ i. IsSeatOf tid i self.now) }
+        ensures none { result ≡ None → at tid self.now ≡ None }
+    {
+        self.numbers.place_of(u64::from(tid))
+    }
+
+    /// Swaps the seats at the two places. Takes no memory.
+    pub fn swap(&mut self, i: usize, j: usize)
+        requires one { i < length self.old }
+        requires other { j < length self.old }
+        ensures moved { Swaps self.old self.new i j }
+        ensures found { (t : ℕ) → at t self.new ≡ at t self.old }
+        ensures same { length self.new ≡ length self.old }
+        ensures once { IsOnce self.new }
+    {
+        self.numbers.swap(i, j);
     }
 
     /// The threads that have a value, with it. Each number is that of a thread, so it fits in a `u16`.

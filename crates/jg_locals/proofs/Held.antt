@@ -11,7 +11,7 @@ use Rattle.jg_locals.specs.Laws.{HeldMeans}
 use Rattle.jg_lists.proofs.Lists.{Member, member_filter, any_member, any_of_filter}
 use Rattle.jg_locals.proofs.Lives.{live_was_made}
 
-live_of_member : (t n o : ℕ) (row : LocalRow) (found : Option Local) → Member row (rows_of_local t found) → row.object ≡ o → object_of found ≡ Some o
+pub live_of_member : (t n o : ℕ) (row : LocalRow) (found : Option Local) → Member row (rows_of_local t found) → row.object ≡ o → object_of found ≡ Some o
 live_of_member t n o row None m is = absurd m
 live_of_member t n o row (Some l) m is = elim m [ inl same ↦ ap (λ r. Some r.object) (sym same) ∙ ap Some is | inr other ↦ absurd other ]
 

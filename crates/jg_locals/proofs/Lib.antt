@@ -4,6 +4,7 @@ mod Chains
 mod Counts
 mod Dead
 mod EventLaws
+mod Found
 mod FrameSteps
 mod Gathered
 mod Holding

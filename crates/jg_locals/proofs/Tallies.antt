@@ -1,8 +1,11 @@
 -- How many locals are live in all, from one call to the next.
-use Rattle.std.proofs.Common.{◌≡◌, ℕ, ◌<◌, ◌≤◌, ◌+◌, ◌-◌, ◌*◌, ◌^◌, Bool, true, false, length, List, [], ◌∷◌, ◌++◌, Some, ◌∙◌, ap, sym, subst, arith}
-use Rattle.std.specs.Prelude.{if◌then◌else◌, map}
+use Rattle.std.proofs.Common.{◌≡◌, ℕ, ◌<◌, ◌≤◌, ◌+◌, ◌-◌, ◌*◌, ◌^◌, Bool, true, false, length, List, [], ◌∷◌, ◌++◌, Some, refl, ◌∙◌, ap, sym, subst, arith}
+use Rattle.std.specs.Prelude.{if◌then◌else◌, IsPermutation, map, sum_by}
 use Rattle.std.specs.Map.{lookup, set_value}
 use Rattle.std.proofs.lemmas.List.{length-append, length-map}
+use Rattle.std.proofs.lemmas.List.Elements.{All-from_recursion, recursion_from_All}
+use Rattle.std.proofs.lemmas.List.Sorted.{All-permutation, sum_by_popped}
+use Rattle.std.proofs.lemmas.List.Sums.{sum_by-cons}
 use Rattle.jg_lists.specs.ByNumber.{seen}
 use Rattle.jg_lists.specs.ByThread.{IsOnce}
 use Rattle.jg_lists.specs.declared.by_number.Numbered.{Numbered}
@@ -75,6 +78,26 @@ pub counts_added : (old new : List (ℕ × StackRows)) (u : ℕ) (w : StackRows)
 counts_added old new u w added locals frames = record {
   all = omega (arith, ap (λ r. length r.locals) (rows_added old new u w added locals frames));
   few = λ few. subst AreFew (sym added) (few_added old u w (omega (arith, ap length locals)) few);
+}
+
+-- ---- a stack taken away
+
+count_sum : (es : List (ℕ × StackRows)) → length (gather locals_of es) ≡ sum_by (λ e. length e.1.locals) es
+count_sum [] = refl
+count_sum (e ∷ es) =
+    let own = length-map e.1.locals (local_row e.0) in
+    let both = length-append (locals_of e.0 e.1) (gather locals_of es) in
+    let sums = sum_by-cons (λ (e : ℕ × StackRows). length e.1.locals) e es in
+    omega (arith, own, both, sums, count_sum es)
+
+-- its locals ended
+pub counts_dropped : (old new : List (ℕ × StackRows)) (u : ℕ) (v : StackRows) (ended : ℕ) → IsPermutation old ((u, v) ∷ new) → ended ≡ length v.locals → Counts 0 ended old new
+counts_dropped old new u v ended moved is = record {
+  all = omega (arith, is, count_sum old, count_sum new, sum_by_popped (λ (e : ℕ × StackRows). length e.1.locals) (u, v) old new moved);
+  few =
+      λ few.
+      (recursion_from_All (λ e. length e.1.locals < 2 ^ 63) ((u, v) ∷ new)
+      (All-permutation (λ e. length e.1.locals < 2 ^ 63) old ((u, v) ∷ new) moved (All-from_recursion (λ e. length e.1.locals < 2 ^ 63) old few))).1;
 }
 
 -- ---- the count of all

@@ -5,8 +5,11 @@
 -- one (Standing). For such a list alone a local made before the session is live until the session begins.
 use Rattle.jg_lists.specs.Acts as acts
 pub use Rattle.jg_lists.specs.Acts.{by, acts_of, how_many}
-use Rattle.std.specs.Prelude.{ℕ, ◌+◌, ◌-◌, ◌<◌, Bool, true, false, ◌==◌, ◌&&◌, not, nat_le, if◌then◌else◌, List, [], ◌∷◌, Option, Some, None}
+use Rattle.std.specs.Prelude.{◌≡◌, ℕ, ◌+◌, ◌-◌, ◌<◌, Bool, true, false, ◌==◌, ◌&&◌, not, nat_le, if◌then◌else◌, List, [], ◌∷◌, Option, Some, None}
 use Rattle.std.specs.List.{list_any}
+use Rattle.jg_words.specs.declared.reference.Ref.{Ref}
+use Rattle.jg_words.specs.declared.reference.Ref.TheVariants.{Null, To}
+use Rattle.jg_words.specs.declared.reference.Kind.TheVariants.{Local as LocalKind, Global, Weak}
 
 -- what a thread did: began or ended a session, was handed local n for an object, pushed a frame with room for so many
 -- locals, asked for room for so many more, entered or left a native method, deleted local n, popped a frame
@@ -154,6 +157,13 @@ makes_live o acts a = false
 -- some thread has a live local of the object
 abbrev pub holds_object : List Event → ℕ → Bool
 holds_object e o = list_any (λ ev. makes_live o (acts_of ev.tid e) ev.act) e
+
+-- the reference is a thread's live local that names the object
+abbrev pub Holds : List Event → ℕ → Ref → Type 0
+Holds e o Null = ⊥
+Holds e o (To LocalKind maker n) = live n (acts_of maker.0 e) ≡ Some o
+Holds e o (To Global maker n) = ⊥
+Holds e o (To Weak maker n) = ⊥
 
 -- the number is above each that was given to a local
 abbrev pub IsMadeBelow : ℕ → List Act → Type 0

@@ -116,12 +116,4 @@ impl<A: Allocator> Hints<A> {
         self.bases[group] = base;
         Some(base)
     }
-
-    /// All hints go, and their memory is given back.
-    pub fn clear(&mut self) {
-        self.offsets.clear();
-        self.offsets.shrink_to_fit();
-        self.bases.clear();
-        self.bases.shrink_to_fit();
-    }
 }

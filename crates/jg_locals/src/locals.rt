@@ -1,6 +1,6 @@
-ghost use Rattle.std.specs.Prelude.{◌≡◌, ℕ, ◌+◌, ◌<◌, ◌≤◌, ◌^◌, ◌↔◌, ◌++◌, List, [], ◌∷◌, OnOk, OnErr, IsOk, IsNone, IsSome, IsTrue, All, length, map, vec_len, vec_capacity};
+ghost use Rattle.std.specs.Prelude.{◌≡◌, ℕ, ◌+◌, ◌<◌, ◌≤◌, ◌^◌, ◌↔◌, ◌++◌, List, [], ◌∷◌, OnOk, OnErr, IfSome, IsOk, IsNone, IsSome, IsTrue, All, length, map, vec_len, vec_capacity};
 ghost use Rattle.std.specs.Option.{is_some, option_map};
-ghost use Rattle.jg_locals.specs.History.{Event, by, Start, Make, Push, Ensure, Enter, Delete, Pop, Leave, End, acts_of, has_session, depth, frames, live, holds_object};
+ghost use Rattle.jg_locals.specs.History.{Event, by, Start, Make, Push, Ensure, Enter, Delete, Pop, Leave, End, acts_of, has_session, depth, frames, live, Holds, holds_object};
 ghost use Rattle.jg_lists.specs.Marks.{Marks};
 ghost use Rattle.jg_locals.specs.Room.{greater, crowded};
 ghost use Rattle.jg_locals.specs.Standing.{Stands};
@@ -11,11 +11,11 @@ use crate::row::Frame;
 use crate::stack::Stack;
 use crate::stacks::{
     add_stack, crowded_at, delete_at, drop_at, held_at, is_above_at, leave_at, list_in, make_at,
-    mark_named_in, names_object_in, object_at, open_at, pop_at, reserve_at, reserve_frame_at,
-    set_room_at, top_at,
+    mark_named_in, name_of, object_at, open_at, pop_at, reserve_at, reserve_frame_at, set_room_at,
+    top_at,
 };
 use jg_lists::{ByThread, Marking};
-use jg_words::{ObjId, Ref, Tid};
+use jg_words::{Kind, ObjId, Ref, Tid};
 use std::alloc::{AllocError, Allocator, Global};
 use std::marker::Model;
 
@@ -312,7 +312,23 @@ impl<A: Allocator + Clone> Locals<A> {
     pub fn holds_object(&self, object: ObjId) -> bool
         ensures { (e : List Event) → Stands self.now.rows e → result ≡ holds_object e object.0 }
     {
-        names_object_in(&self.stacks, object.0)
+        self.holder_of(object).is_some()
+    }
+
+    /// A live local reference that names the object, if there is one; of several any. Takes time by how many
+    /// there are.
+    pub fn holder_of(&self, object: ObjId) -> Option<Ref>
+        ensures held { (e : List Event) → Stands self.now.rows e → is_some result ≡ holds_object e object.0 }
+        ensures names { (e : List Event) → Stands self.now.rows e → IfSome result (Holds e object.0) }
+    {
+        match name_of(&self.stacks, object.0) {
+            None => None,
+            Some((tid, n)) => Some(Ref::To {
+                kind: Kind::Local,
+                maker: Tid(tid),
+                n,
+            }),
+        }
     }
 
     /// Sets the mark of each object that a live local of some thread names and leaves the other

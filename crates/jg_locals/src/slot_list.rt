@@ -201,18 +201,6 @@ impl<A: Allocator> SlotList<A> {
         self.hints.note_all(&self.slots);
     }
 
-    /// All slots go, and their memory is given back.
-    pub fn clear(&mut self)
-        ensures items { self.new.items ≡ [] }
-        ensures room { self.new.room ≡ 0 }
-    {
-        self.slots.clear();
-        self.slots.shrink_to_fit();
-        self.objects.clear();
-        self.objects.shrink_to_fit();
-        self.hints.clear();
-    }
-
     /// Marks each object that a live slot names. Objects without a mark are passed over.
     pub fn mark_named<M: Marking>(&self, marks: &mut M)
         ensures { Marks (λ o. list_any (λ s. s.object == o) (filter is_live self.now.items)) (M.mark_of marks.old)

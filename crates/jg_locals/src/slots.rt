@@ -2,7 +2,7 @@
 
 ghost use Rattle.std.specs.Prelude.{◌≡◌, ◌≤◌, ◌<◌, ◌+◌, ◌-◌, ◌/◌, ◌&&◌, ◌==◌, ◌||◌, ◌++◌, ◌∷◌, ◌↔◌, [], IfSome, IsTrue, List, All, OnOk, OnErr, map, Some, None, MatchOption, true, false, not, if◌then◌else◌, filter, find, length, option_to_list, slice_index_or, vec_len, vec_capacity};
 ghost use Rattle.std.specs.Option.{is_some, option_map};
-ghost use Rattle.std.specs.List.{AllByRecursion, list_any};
+ghost use Rattle.std.specs.List.{AllByRecursion};
 ghost use Rattle.jg_locals.specs.Seen.{Chain, is_before, is_live, dead_in, last, passes, stays, is_below, IsBelowAll, Sound, slot_ref};
 ghost use Rattle.jg_locals.specs.declared.row.Frame.{Frame};
 
@@ -155,17 +155,23 @@ pub fn is_above_all(slots: &[Slot], n: u64) -> bool
     }
 }
 
-/// Whether some live local names the object.
-pub fn names_object(slots: &[Slot], object: u64) -> bool
-    ensures { result ≡ list_any (λ s. s.object == object) (filter is_live slots.now) }
+/// The number of the first live local that names the object.
+pub fn number_of(slots: &[Slot], object: u64) -> Option<u64>
+    ensures { result ≡ option_map (λ s. s.n) (find (λ s. s.object == object) (filter is_live slots.now)) }
 {
-    some_names(slots, object)
+    match slot_of(slots, object) {
+        None => None,
+        Some(slot) => Some(slot.n),
+    }
 }
 
-fn some_names(slots: &[Slot], object: u64) -> bool
-    ensures { result ≡ list_any (λ s. s.live && s.object == object) slots.now }
+fn slot_of(slots: &[Slot], object: u64) -> Option<Slot>
+    ensures { result ≡ find (λ s. s.live && s.object == object) slots.now }
 {
-    slots.iter().any(|slot| slot.live && slot.object == object)
+    slots
+        .iter()
+        .copied()
+        .find(|slot| slot.live && slot.object == object)
 }
 
 /// Appends a reference to the slot's local, if the slot is live.

@@ -7,7 +7,7 @@ ghost use Rattle.jg_locals.specs.Seen.{last, slot_made, slot_ref, room_set, held
 use crate::frames::{close_from, count_gone, count_more, newest, newest_frame, set_room};
 use crate::row::{Frame, Opened, Slot};
 use crate::slot_list::SlotList;
-use crate::slots::{close_up_if, cut, end_local, is_above_all, list_live, names_object, object_of};
+use crate::slots::{close_up_if, cut, end_local, is_above_all, list_live, number_of, object_of};
 use jg_lists::Marking;
 use jg_words::Ref;
 use std::alloc::{AllocError, Allocator};
@@ -181,21 +181,11 @@ impl<A: Allocator> Stack<A> {
         ended
     }
 
-    /// Ends all its locals and frames, gives their memory back, and answers how many locals those were.
-    pub fn clear(&mut self) -> usize
-        ensures locals { self.new.locals ≡ [] }
-        ensures frames { self.new.frames ≡ [] }
-        ensures room { self.new.room.locals ≡ 0 }
-        ensures starts { self.new.room.frames ≡ 0 }
-        ensures ended { length self.old.locals ≡ result }
+    /// How many locals are live.
+    pub fn len(&self) -> usize
+        ensures { result ≡ length self.now.locals }
     {
-        let ended = self.live;
-        self.slots.clear();
-        self.frames.clear();
-        self.frames.shrink_to_fit();
-        self.dead = 0;
-        self.live = 0;
-        ended
+        self.live
     }
 
     /// Sets the room of the frame.
@@ -244,10 +234,11 @@ impl<A: Allocator> Stack<A> {
         is_above_all(self.slots.as_slice(), n)
     }
 
-    pub fn holds_object(&self, object: u64) -> bool
-        ensures { result ≡ list_any (λ s. s.object == object) self.now.locals }
+    /// The number of the first live local that names the object.
+    pub fn number_of(&self, object: u64) -> Option<u64>
+        ensures { result ≡ option_map (λ s. s.n) (find (λ s. s.object == object) self.now.locals) }
     {
-        names_object(self.slots.as_slice(), object)
+        number_of(self.slots.as_slice(), object)
     }
 
     pub fn mark_held<M: Marking>(&self, marks: &mut M)

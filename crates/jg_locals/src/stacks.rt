@@ -248,7 +248,7 @@ pub fn leave_at<A: Allocator>(stacks: &mut ByThread<Stack<A>, A>, tid: u16, top:
     }
 }
 
-/// Ends all frames and locals of the thread, and answers how many locals those were.
+/// Ends all frames and locals of the thread, gives their memory back, and answers how many locals those were.
 pub fn drop_at<A: Allocator>(stacks: &mut ByThread<Stack<A>, A>, tid: u16) -> usize
     ensures changes { Changes tid stacks.old stacks.new [] [] }
     ensures room { (room_seen stacks.new tid).locals ≡ 0 }
@@ -256,23 +256,23 @@ pub fn drop_at<A: Allocator>(stacks: &mut ByThread<Stack<A>, A>, tid: u16) -> us
     ensures once { IsOnce stacks.old → IsOnce stacks.new }
     ensures counted { Counts 0 result stacks.old stacks.new }
 {
-    match stacks.get_mut(tid) {
+    match stacks.remove(tid) {
         None => 0,
-        Some(stack) => stack.clear(),
+        Some(stack) => stack.len(),
     }
 }
 
-fn some_names<A: Allocator>(seats: &[Numbered<Stack<A>>], object: u64) -> bool
-    ensures { result ≡ list_any (λ seat. list_any (λ s. s.object == object) seat.value.locals) seats.now }
+/// The thread and the number of the first live local that names the object.
+pub fn name_of<A: Allocator>(stacks: &ByThread<Stack<A>, A>, object: u64) -> Option<(u16, u64)>
+    ensures { result ≡ option_map (λ row. (row.tid, row.n))
+        (find (λ row. row.object == object) (rows_seen stacks.now).locals) }
 {
-    seats.iter().any(|seat| seat.value.holds_object(object))
-}
-
-/// Whether a live local of some thread names the object.
-pub fn names_object_in<A: Allocator>(stacks: &ByThread<Stack<A>, A>, object: u64) -> bool
-    ensures { result ≡ list_any (λ v. list_any (λ s. s.object == object) v.locals) (values_of stacks.now) }
-{
-    some_names(stacks.seats(), object)
+    for seat in stacks.seats() {
+        if let Some(n) = seat.value.number_of(object) {
+            return Some((seat.number as u16, n));
+        }
+    }
+    None
 }
 
 fn mark_seats<A: Allocator, M: Marking>(seats: &[Numbered<Stack<A>>], marks: &mut M)

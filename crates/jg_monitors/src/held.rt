@@ -13,7 +13,7 @@ use std::hash::{BuildHasherDefault, FoldHasher};
 /// The objects whose monitors a thread owns.
 pub type Objects<A> = HashSet<u64, BuildHasherDefault<FoldHasher>, A>;
 
-/// The same of each thread that ever owned one.
+/// The same of each thread that owned one in its session.
 pub type ByOwner<A> = ByThread<Objects<A>, A>;
 
 /// Makes a set for the thread, if it has none.
@@ -89,9 +89,7 @@ pub fn free_held<A: Allocator + Clone>(owned: &mut ByObject<A>, held: &mut ByOwn
     ensures once { IsOnce owned.old → IsOnce owned.new }
     ensures held { (q : ℕ × ℕ) → has held.new q ≡ (not (tid == q.0) && has held.old q) }
 {
-    if let Some(objects) = held.get_mut(tid) {
-        free_all(owned, objects);
-        objects.clear();
-        objects.shrink_to_fit();
+    if let Some(objects) = held.remove(tid) {
+        free_all(owned, &objects);
     }
 }

@@ -1,4 +1,5 @@
 pub mod Callers
+mod Calming
 mod Means
 mod Pending
 mod Steps

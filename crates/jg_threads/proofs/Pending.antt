@@ -1,14 +1,17 @@
 -- Which objects are pending, by the rows.
-use Rattle.std.proofs.Common.{◌≡◌, ℕ, Bool, true, false, List, [], ◌∷◌, Option, Some, None, refl, ◌∙◌, ap, sym, subst, arith, eqb-true}
-use Rattle.std.specs.Prelude.{◌==◌, IfSome}
+use Rattle.std.proofs.Common.{◌≡◌, ℕ, Bool, true, false, List, [], ◌∷◌, Option, Some, None, is_some, inl, inr, refl, ◌∙◌, ap, sym, subst, arith, eqb-true}
+use Rattle.std.specs.Prelude.{◌==◌, IfSome, find, option_map}
 use Rattle.std.specs.List.{list_any}
 use Rattle.std.specs.Cmp.{eq_by_cmp_equiv, nat_cmp_total}
-use Rattle.std.specs.Ordering.{nat_cmp}
+use Rattle.std.specs.Ordering.{nat_cmp, eq_by_cmp}
 use Rattle.std.specs.BTreeMap.{is_at}
-use Rattle.std.specs.Map.{lookup, values_of}
+use Rattle.std.specs.Map.{lookup, keys_of, values_of}
 use Rattle.std.proofs.lemmas.Bool.Decides.{nat_tests}
 use Rattle.std.proofs.lemmas.List.Folds.{list_any_none}
+use Rattle.std.proofs.lemmas.Map.Keys.{IsDistinct-head, IsDistinct-tail}
 use Rattle.std.proofs.lemmas.Map.Views.{All-values_from_lookup}
+use Rattle.jg_lists.proofs.Found.{number_where, is_found, any_found}
+use Rattle.jg_lists.proofs.Lists.{Member, at_member, list_any-map}
 use Rattle.jg_lists.proofs.Marks.{marks_stay}
 use Rattle.jg_lists.specs.ByThread.{IsOnce}
 use Rattle.jg_threads.specs.History.{Event, acts_of, pending, is_object, is_pending}
@@ -94,5 +97,44 @@ by_cases rows e o false once stands is =
 pub pending_law : (rows : List (ℕ × Row)) (e : List Event) (o : ℕ) → IsOnce rows → Stands rows e
     → list_any (λ row. is_object o row.pending) (values_of rows) ≡ is_pending e o
 pending_law rows e o once stands = by_cases rows e o (is_pending e o) once stands refl
+
+-- ---- in which thread
+
+key_member : (entry : ℕ × Row) (rows : List (ℕ × Row)) → Member entry rows → Member entry.0 (keys_of rows)
+key_member entry [] there = there
+key_member entry (row ∷ rows) (inl same) = inl (ap (λ (e : ℕ × Row). e.0) same)
+key_member entry (row ∷ rows) (inr later) = inr (key_member entry rows later)
+
+-- an entry's thread finds it
+pub entry_found : (entry : ℕ × Row) (rows : List (ℕ × Row)) → IsOnce rows → Member entry rows → lookup (is_at (nat_cmp entry.0)) rows ≡ Some entry.1
+entry_found entry [] once there = absurd there
+entry_found entry (row ∷ rows) once (inl same) =
+    let own : is_at (nat_cmp entry.0) row.0 ≡ true = ap (λ (e : ℕ × Row). is_at (nat_cmp entry.0) e.0) (sym same) ∙ itself entry.0 in
+    rw own (ap (λ (e : ℕ × Row). Some e.1) (sym same))
+  where
+    itself : (n : ℕ) → is_at (nat_cmp n) n ≡ true
+    itself n = grind (arith, nat_tests)
+entry_found entry (row ∷ rows) once (inr later) =
+    let apart : eq_by_cmp nat_cmp row.0 entry.0 ≡ false =
+    at_member (λ k. eq_by_cmp nat_cmp row.0 k ≡ false) entry.0 (keys_of rows) (IsDistinct-head (eq_by_cmp nat_cmp) row.0 (keys_of rows) once) (key_member entry rows later) in
+    let other : is_at (nat_cmp entry.0) row.0 ≡ false = grind (arith, nat_tests, apart) in
+    rw other (entry_found entry rows (IsDistinct-tail (eq_by_cmp nat_cmp) row.0 (keys_of rows) once) later)
+
+-- something is found where the object is pending
+pub held_law : (rows : List (ℕ × Row)) (e : List Event) (o : ℕ) → IsOnce rows → Stands rows e → is_some (number_where (λ row. is_object o row.pending) rows) ≡ is_pending e o
+held_law rows e o once stands =
+    any_found (λ (entry : ℕ × Row). entry.0) (λ entry. is_object o entry.1.pending) rows
+    ∙ list_any-map (λ (entry : ℕ × Row). entry.1) (λ entry. is_object o entry.1.pending) (λ row. is_object o row.pending) (λ entry. refl) rows
+    ∙ pending_law rows e o once stands
+
+-- and in the thread that is found it is
+pub named_law : (rows : List (ℕ × Row)) (e : List Event) (o : ℕ) → IsOnce rows → Stands rows e → IfSome (number_where (λ row. is_object o row.pending) rows) (λ t. pending (acts_of t e) ≡ Some o)
+named_law rows e o once stands = by (find (λ (entry : ℕ × Row). is_object o entry.1.pending) rows) (is_found (λ (entry : ℕ × Row). is_object o entry.1.pending) rows)
+  where
+    by : (found : Option (ℕ × Row)) → IfSome found (λ entry. Member entry rows × (is_object o entry.1.pending ≡ true)) → IfSome (option_map (λ (entry : ℕ × Row). entry.0) found) (λ t. pending (acts_of t e) ≡ Some o)
+    by None all = tt
+    by (Some entry) all =
+        let row : row_or_none (Some entry.1) ≡ row_after e entry.0 = ap row_or_none (sym (entry_found entry rows once all.0)) ∙ stands.threads entry.0 in
+        object_is o (pending (acts_of entry.0 e)) (sym (pending_in e o entry.0 (Some entry.1) row) ∙ all.1)
 
 pub ruleset none = (marks_stay)

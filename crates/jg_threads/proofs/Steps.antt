@@ -1,5 +1,5 @@
 -- How the rows stand after one more act.
-use Rattle.std.proofs.Common.{◌≡◌, ◌≢◌, ◌<◌, ◌≤◌, ◌+◌, ◌-◌, ℕ, Bool, true, false, List, [], ◌∷◌, Option, Some, None, refl, ◌∙◌, ap, sym, subst, arith}
+use Rattle.std.proofs.Common.{◌≡◌, ◌≢◌, ◌<◌, ◌≤◌, ◌+◌, ◌-◌, ℕ, Bool, true, false, List, [], ◌∷◌, Option, Some, None, refl, ◌∙◌, ap, sym, subst, arith, inl, inr, ◌⊎◌}
 use Rattle.std.specs.Prelude.{◌==◌, not, if◌then◌else◌, IsTrue}
 use Rattle.std.specs.Option.{option_map}
 use Rattle.std.specs.Map.{lookup}
@@ -252,3 +252,32 @@ not_off false is = refl
 pub not_on : (b : Bool) → not b ≡ false → b ≡ true
 not_on true is = refl
 not_on false is = sym is
+
+-- ---- a row is replaced
+
+replaced_at : (u t : ℕ) (old : List (ℕ × Row)) (change : Row → Row) (b : Bool) → (u == t) ≡ b
+    → (if b then option_map (λ _. change (row_of old u)) (lookup (is_at (nat_cmp t)) old) else lookup (is_at (nat_cmp t)) old)
+    ≡ (if b then option_map change (lookup (is_at (nat_cmp t)) old) else lookup (is_at (nat_cmp t)) old)
+replaced_at u t old change true same =
+    let mine : u ≡ t = grind (arith, nat_tests, same) in
+    ap (λ k. option_map (λ _. change (row_of old k)) (lookup (is_at (nat_cmp t)) old)) mine ∙ by (lookup (is_at (nat_cmp t)) old) refl
+  where
+    by : (found : Option Row) → lookup (is_at (nat_cmp t)) old ≡ found → option_map (λ _. change (row_of old t)) found ≡ option_map change found
+    by None is = refl
+    by (Some row) is = ap (λ r. Some (change (row_or_none r))) is
+replaced_at u t old change false differs = refl
+
+-- the thread's row is replaced by what a change makes of it
+pub written_by : (old new : List (ℕ × Row)) (u : ℕ) (change : Row → Row) (row : Row) → row ≡ change (row_of old u)
+    → ((t : ℕ) → lookup (is_at (nat_cmp t)) new ≡ (if u == t then option_map (λ _. row) (lookup (is_at (nat_cmp t)) old) else lookup (is_at (nat_cmp t)) old)) → Written old new u change
+written_by old new u change row is put t =
+    put t ∙ ap (λ r. if u == t then option_map (λ _. r) (lookup (is_at (nat_cmp t)) old) else lookup (is_at (nat_cmp t)) old) is ∙ replaced_at u t old change (u == t) refl
+
+-- what the thread's row is then: of one without a row only what leaves it without one is asked
+pub row_now : (old new : List (ℕ × Row)) (u : ℕ) (change : Row → Row) → Written old new u change → (IsTrue (row_of old u).attached ⊎ (change no_row ≡ no_row)) → row_of new u ≡ change (row_of old u)
+row_now old new u change written known = ap row_or_none (written_here old new u change written) ∙ by (lookup (is_at (nat_cmp u)) old) known
+  where
+    by : (found : Option Row) → (IsTrue (row_or_none found).attached ⊎ (change no_row ≡ no_row)) → row_or_none (option_map change found) ≡ change (row_or_none found)
+    by (Some row) known = refl
+    by None (inr none) = sym none
+    by None (inl on) = cc

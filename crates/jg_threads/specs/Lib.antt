@@ -1,3 +1,4 @@
+pub mod Calm
 pub mod History
 pub mod Rows
 pub mod Standing

@@ -1,14 +1,14 @@
-ghost use Rattle.std.specs.Prelude.{◌≡◌, ◌+◌, ◌-◌, ◌<◌, ◌^◌, ◌↔◌, List, [], ◌∷◌, false, true, if◌then◌else◌, None, Some, IfOk, OnOk, OnErr, IsTrue};
-ghost use Rattle.std.specs.Option.{option_map};
+ghost use Rattle.std.specs.Prelude.{◌≡◌, ◌+◌, ◌-◌, ◌<◌, ◌^◌, ◌↔◌, List, [], ◌∷◌, false, true, if◌then◌else◌, None, Some, IfOk, IfSome, OnOk, OnErr, IsTrue};
+ghost use Rattle.std.specs.Option.{is_some, option_map};
 ghost use Rattle.std.specs.List.{list_any};
 ghost use Rattle.jg_threads.specs.History.{Event, by, Attach, Detach, Enter, Leave, Raise, Calm, CountRef, CountBuffer, acts_of, attached, sessions, session, depth, pending, refs, buffers, is_object, is_pending};
 ghost use Rattle.jg_threads.specs.Rows.{row_of, no_row, CanCount};
 ghost use Rattle.jg_lists.specs.Marks.{Marks};
 ghost use Rattle.jg_threads.specs.Standing.{Stands};
 
-use crate::row::{NO_ROW, Row};
-use crate::rows::{is_pending_in, mark_pending_in, put_row, row_at};
-use jg_lists::{ByThread, Marking};
+use crate::row::Row;
+use crate::rows::RowTable;
+use jg_lists::Marking;
 use jg_words::{EnvId, ObjId, Tid};
 use std::alloc::{AllocError, Allocator, Global};
 use std::marker::Model;
@@ -16,7 +16,7 @@ use std::marker::Model;
 /// What is kept of each thread that was ever attached. Contracts see the rows, by thread.
 #[derive(Drop)]
 pub struct Threads<A: Allocator = Global> {
-    rows: ByThread<Row, A>,
+    rows: RowTable<A>,
 }
 
 impl<A: Allocator> Model for Threads<A> {
@@ -35,7 +35,7 @@ impl<A: Allocator + Clone> Threads<A> {
         ensures rows { result ≡ [] }
     {
         Threads {
-            rows: ByThread::new(places, rows),
+            rows: RowTable::new(places, rows),
         }
     }
 
@@ -60,7 +60,7 @@ impl<A: Allocator + Clone> Threads<A> {
         if !row.attached {
             row.attached = true;
             row.sessions += 1;
-            put_row(&mut self.rows, tid.0, row)?;
+            self.rows.put(tid.0, row)?;
         }
         Ok(EnvId {
             tid,
@@ -79,14 +79,16 @@ impl<A: Allocator + Clone> Threads<A> {
           pending = None;
         } }
     {
-        if let Some(row) = self.rows.get_mut(tid.0) {
-            *row = Row {
+        let row = self.row(tid);
+        self.rows.replace(
+            tid.0,
+            Row {
                 attached: false,
                 depth: 0,
                 pending: None,
-                ..*row
-            };
-        }
+                ..row
+            },
+        );
     }
 
     /// The environment of the thread's session, if it has one (chapter 5, `GetEnv`).
@@ -151,9 +153,9 @@ impl<A: Allocator + Clone> Threads<A> {
         ensures row { row_of self.new tid.0
             ≡ record (row_of self.old tid.0) { depth = (row_of self.old tid.0).depth + 1 } }
     {
-        if let Some(row) = self.rows.get_mut(tid.0) {
-            row.depth += 1;
-        }
+        let mut row = self.row(tid);
+        row.depth += 1;
+        self.rows.replace(tid.0, row);
     }
 
     /// Leaves the native method that the thread entered last. Asks that the thread is attached
@@ -165,9 +167,9 @@ impl<A: Allocator + Clone> Threads<A> {
         ensures row { row_of self.new tid.0
             ≡ record (row_of self.old tid.0) { depth = (row_of self.old tid.0).depth - 1 } }
     {
-        if let Some(row) = self.rows.get_mut(tid.0) {
-            row.depth -= 1;
-        }
+        let mut row = self.row(tid);
+        row.depth -= 1;
+        self.rows.replace(tid.0, row);
     }
 
     /// How many native methods the thread has entered in its session and not left.
@@ -198,9 +200,9 @@ impl<A: Allocator + Clone> Threads<A> {
         ensures stands { (e : List Event) → Stands self.old e → Stands self.new (by tid.0 (Raise object.0) ∷ e) }
         ensures row { row_of self.new tid.0 ≡ record (row_of self.old tid.0) { pending = Some object.0 } }
     {
-        if let Some(row) = self.rows.get_mut(tid.0) {
-            row.pending = Some(object.0);
-        }
+        let mut row = self.row(tid);
+        row.pending = Some(object.0);
+        self.rows.replace(tid.0, row);
     }
 
     /// No exception is pending in the thread any more (chapter 4, `ExceptionClear`). Takes no memory,
@@ -209,16 +211,29 @@ impl<A: Allocator + Clone> Threads<A> {
         ensures stands { (e : List Event) → Stands self.old e → Stands self.new (by tid.0 Calm ∷ e) }
         ensures row { row_of self.new tid.0 ≡ record (row_of self.old tid.0) { pending = None } }
     {
-        if let Some(row) = self.rows.get_mut(tid.0) {
-            row.pending = None;
-        }
+        let mut row = self.row(tid);
+        row.pending = None;
+        self.rows.replace(tid.0, row);
     }
 
     /// Whether the object is some thread's pending exception.
     pub fn is_pending(&self, object: ObjId) -> bool
         ensures { (e : List Event) → Stands self.now e → result ≡ is_pending e object.0 }
     {
-        is_pending_in(&self.rows, object.0)
+        self.pending_in(object).is_some()
+    }
+
+    /// A thread whose pending exception the object is, if there is one; of several any. Takes time by how
+    /// many threads have a pending exception.
+    pub fn pending_in(&self, object: ObjId) -> Option<Tid>
+        ensures held { (e : List Event) → Stands self.now e → is_some result ≡ is_pending e object.0 }
+        ensures names { (e : List Event) → Stands self.now e
+            → IfSome result (λ t. pending (acts_of t.0 e) ≡ Some object.0) }
+    {
+        match self.rows.thread_of(object.0) {
+            None => None,
+            Some(tid) => Some(Tid(tid)),
+        }
     }
 
     /// Sets the mark of each object that is pending in some thread and leaves the other marks. An
@@ -227,7 +242,7 @@ impl<A: Allocator + Clone> Threads<A> {
         ensures { (e : List Event) → Stands self.now e
             → Marks (is_pending e) (M.mark_of marks.old) (M.mark_of marks.new) }
     {
-        mark_pending_in(&self.rows, marks);
+        self.rows.mark_pending(marks);
     }
 
     /// The number of the next reference that the thread is handed out, from 1 over all its
@@ -249,9 +264,9 @@ impl<A: Allocator + Clone> Threads<A> {
         ensures row { row_of self.new tid.0
             ≡ record (row_of self.old tid.0) { refs = (row_of self.old tid.0).refs + 1 } }
     {
-        if let Some(row) = self.rows.get_mut(tid.0) {
-            row.refs += 1;
-        }
+        let mut row = self.row(tid);
+        row.refs += 1;
+        self.rows.replace(tid.0, row);
     }
 
     /// The number of the next buffer that the thread is handed out, from 1 over all its sessions.
@@ -273,14 +288,14 @@ impl<A: Allocator + Clone> Threads<A> {
         ensures row { row_of self.new tid.0
             ≡ record (row_of self.old tid.0) { buffers = (row_of self.old tid.0).buffers + 1 } }
     {
-        if let Some(row) = self.rows.get_mut(tid.0) {
-            row.buffers += 1;
-        }
+        let mut row = self.row(tid);
+        row.buffers += 1;
+        self.rows.replace(tid.0, row);
     }
 
     fn row(&self, tid: Tid) -> Row
         ensures { result ≡ row_of self.now tid.0 }
     {
-        row_at(&self.rows, tid.0)
+        self.rows.get(tid.0)
     }
 }

@@ -8,7 +8,7 @@ use Rattle.jg_lists.proofs.by_maker.add.Goals as goal
 
 pub put-requires-clause-absent : goal.put-requires-clause-absent
 put-requires-clause-absent g c =
-    sym (lookup-named c.args.name c.open.new.tables c.open.ensures.once) ∙ (ap (lookup (same_name c.args.name)) c.open.ensures.same ∙ c.requires)
+    sym (lookup-named c.args.name c.open.new.self c.open.ensures.once) ∙ (ap (lookup (same_name c.args.name)) c.open.ensures.same ∙ c.requires)
 
 -- what the other names have stays
 pub returns-clause-found : goal.returns-clause-found

@@ -1,10 +1,10 @@
 use Rattle.jg_threads.proofs.Steps.{attach_law, attach_again_law, not_off, not_on}
 use Rattle.jg_threads.proofs.threads.Threads.attach.Goals as goal
 
-pub returns-in_ok-put_row-clause-ok : goal.returns-in_ok-put_row-clause-ok
-returns-in_ok-put_row-clause-ok g c = λ e stands.
-    attach_law c.self.inside.rows c.put_row.new.rows c.args.self.now e c.args.tid.0 c.row-row.result c.self.view_is
-    c.put_row.ensures.was_once c.put_row.ensures.once stands c.row-row.ensures (not_off _ c.if-not-row.true) c.in_ok-put_row.ensures.put
+pub returns-in_ok-put-clause-ok : goal.returns-in_ok-put-clause-ok
+returns-in_ok-put-clause-ok g c = λ e stands.
+    attach_law c.self.inside.rows c.put.new.self c.args.self.now e c.args.tid.0 c.row-row.result c.self.view_is
+    c.put.ensures.was_once c.put.ensures.once stands c.row-row.ensures (not_off _ c.if-not-row.true) c.in_ok-put.ensures.put
 
 pub returns-else-not-row-clause-ok : goal.returns-else-not-row-clause-ok
 returns-else-not-row-clause-ok g c = λ e stands. attach_again_law c.args.self.now e c.args.tid.0 c.row-row.result stands c.row-row.ensures (not_on _ c.if-not-row.false)

@@ -9,4 +9,4 @@ pub returns : goal.returns
 returns g c = λ e stands.
     let P : List (ℕ × Row) → Type 0 = λ rows. Stands rows e in
     let was = subst P (sym c.self.view_is) stands in
-    marks_alike _ _ _ _ (λ o. pending_law _ e o c.mark_pending_in.ensures.once was) c.mark_pending_in.ensures.marks
+    marks_alike _ _ _ _ (λ o. pending_law _ e o c.mark_pending.ensures.once was) c.mark_pending.ensures.marks
