@@ -1,16 +1,24 @@
 -- What contracts see of a core.
-use Rattle.std.specs.Prelude.{ℕ, ◌≡◌, ◌≤◌, ◌^◌, ◌↔◌, true, false, List, [], ◌∷◌, Option, None}
+use Rattle.std.specs.Prelude.{ℕ, ◌≡◌, ◌≤◌, ◌^◌, ◌↔◌, true, false, List, [], ◌∷◌, Option, None, Some, nat_lt, ◌⊎◌}
 use Rattle.std.specs.Option.{option_map}
 use Rattle.jg_words.specs.declared.call.Call.{Call}
 use Rattle.jg_words.specs.declared.object.ObjId.{ObjId}
 use Rattle.jg_words.specs.declared.thread.EnvId.{EnvId}
-use Rattle.jg_policy.specs.Stated.{StatedSetup}
+use Rattle.jg_policy.specs.Stated.{StatedSetup, class_count}
+use Rattle.jg_locals.specs.History as locals
+use Rattle.jg_globals.specs.History as globals
+use Rattle.jg_buffers.specs.History as buffers
+use Rattle.jg_monitors.specs.History as monitors
 use Rattle.jg_objects.specs.Rows.{Rows, mark_in}
 use Rattle.jg_objects.specs.Standing.{Tells}
 use Rattle.jg_rules.specs.Parts.{Parts, RowsBeside, StandBeside}
 use Rattle.jg_core.specs.declared.fact.Fact.{Fact}
+use Rattle.jg_rules.specs.Holding.{is_root}
+use Rattle.jg_rules.specs.Names.{pending}
 use Rattle.jg_rules.specs.Rules.{verdict}
 use Rattle.jg_causes.specs.Breaches.{place_meant}
+use Rattle.jg_core.specs.declared.gone.Holder.{Holder}
+use Rattle.jg_core.specs.declared.gone.Holder.TheVariants as holder
 use Rattle.jg_core.specs.declared.kernel.Broken.{Broken}
 use Rattle.jg_core.specs.declared.kernel.Untold.{Untold}
 use Rattle.jg_core.specs.declared.kernel.Untold.TheVariants.{Impossible, Full, NoMemory}
@@ -58,6 +66,16 @@ pub record Refuses (c : CoreState) (x : Fact) (why : Untold) : Type 0 where
   pub full : (w : List Fact) → CoreStands c w
       → (why ≡ Full) ↔ ((can_be c.setup (parts_of w) x ≡ true) × (makes x ≡ true) × (c.made ≡ 2 ^ 60))
   pub wants : why ≡ NoMemory → makes x ≡ true
+
+-- what keeps the object from being gone: it is a class object, a live local or global reference names it, it is pending,
+-- a critical buffer of it is open, its monitor is owned; or none of these: then it isn't there
+abbrev pub Keeps : StatedSetup → Parts → ℕ → Holder → Type 0
+Keeps s p o holder.Nothing = (nat_lt o (class_count s) ≡ false) × (is_root p o ≡ false)
+Keeps s p o holder.Setup = nat_lt o (class_count s) ≡ true
+Keeps s p o (holder.Reference r) = locals.Holds p.locals o r ⊎ globals.Holds p.globals o r
+Keeps s p o (holder.Pending t) = pending p t.0 ≡ Some o
+Keeps s p o (holder.Buffer b) = buffers.IsPinOf p.buffers o b
+Keeps s p o (holder.Monitor t) = monitors.owner p.monitors o ≡ Some t.0
 
 -- the first rule that the call breaks after these events, and the place of the first operand that breaks it
 abbrev pub broken : StatedSetup → Parts → ℕ → Option EnvId → Call → Option Broken

@@ -3,11 +3,6 @@ use Rattle.std.specs.Prelude.{ℕ, ◌≡◌, ◌^◌, true}
 use Rattle.jg_policy.specs.Stated.{StatedSetup, class_count}
 use Rattle.jg_threads.specs.History as threads
 use Rattle.jg_locals.specs.History as locals
-use Rattle.jg_threads.specs.Standing as thread_standing
-use Rattle.jg_locals.specs.Standing as local_standing
-use Rattle.jg_globals.specs.Standing as global_standing
-use Rattle.jg_buffers.specs.Standing as buffer_standing
-use Rattle.jg_monitors.specs.Standing as monitor_standing
 use Rattle.jg_globals.specs.Laws as global_laws
 use Rattle.jg_buffers.specs.Laws as buffer_laws
 use Rattle.jg_objects.specs.Rows.{Rows}
@@ -61,11 +56,3 @@ pub record HasSession (s : StatedSetup) (rows : RowsBeside Rows) (t : ℕ) : Typ
   pub ordinary : IsOrdinary s events
   pub stand : Stand s rows events
   pub attached : is_attached events t ≡ true
-
--- the tables of what holds objects stand for these events
-pub record HoldersStand {A : Type 0} (tables : Tables A) (p : Parts) : Type 0 where
-  pub threads : thread_standing.Stands tables.threads p.threads
-  pub locals : local_standing.Stands tables.locals.rows p.locals
-  pub globals : global_standing.Stands tables.globals p.globals
-  pub buffers : buffer_standing.Stands tables.buffers p.buffers
-  pub monitors : monitor_standing.Stands tables.monitors p.monitors

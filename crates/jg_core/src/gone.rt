@@ -1,6 +1,6 @@
 //! What the collector let go.
 
-ghost use Rattle.std.specs.Prelude.{◌≡◌, ◌==◌, ◌&&◌, ◌++◌, if◌then◌else◌, true, false, ℕ, List, None, Some, IfErr, OnOk, OnErr, map};
+ghost use Rattle.std.specs.Prelude.{◌≡◌, ◌<◌, ◌==◌, ◌&&◌, ◌++◌, if◌then◌else◌, true, false, ℕ, List, None, Some, IfSome, IfErr, OnOk, OnErr, length, map, slice_index_or};
 ghost use Rattle.std.specs.List.{list_any};
 ghost use Rattle.jg_globals.specs.History.{Clear, Event};
 ghost use Rattle.jg_globals.specs.Standing.{Stands};
@@ -8,17 +8,20 @@ ghost use Rattle.jg_lists.specs.Marks.{Marks};
 ghost use Rattle.jg_objects.specs.History.{is_listed};
 ghost use Rattle.jg_objects.specs.Rows.{IsButMarks, mark_in};
 ghost use Rattle.jg_rules.specs.Holding.{is_root};
-ghost use Rattle.jg_rules.specs.Parts.{Parts};
+ghost use Rattle.jg_rules.specs.Parts.{HoldersStand, Parts};
+ghost use Rattle.jg_rules.specs.View.{rows_in};
 ghost use Rattle.jg_core.specs.Facts.{first_held};
+ghost use Rattle.jg_core.specs.Kernel.{Keeps};
 ghost use Rattle.jg_core.specs.Gone.{first_unfit, gone_on, is_set, is_unset};
-ghost use Rattle.jg_core.specs.Tables.{HoldersStand, Stand, rows_of};
+ghost use Rattle.jg_core.specs.Tables.{Stand, rows_of};
 
 use crate::tables::Tables;
 use jg_globals::Globals;
 use jg_lists::Marking;
 use jg_objects::{Before, Marker, Objects};
 use jg_policy::Setup;
-use jg_words::ObjId;
+use jg_rules::{View, mark_roots};
+use jg_words::{BufId, ObjId, Ref, Tid};
 use std::alloc::Allocator;
 use std::marker::Brand;
 use std::mem;
@@ -28,33 +31,52 @@ use std::mem;
 pub struct StillHeld {
     /// The place in the list, from 0, of the first object that can't be gone once those before it are.
     pub place: usize,
+    /// What keeps it.
+    pub by: Holder,
 }
 
-/// Sets the marks of what something holds. The tables are lent without their store, which is marked in.
-fn mark_roots<B: Before, A: Allocator + Clone>(tables: &Tables<A>, store: Objects<A>) -> Objects<A>
+/// What keeps an object from being gone.
+#[derive(Clone, Copy, Debug, PartialEq, Eq)]
+pub enum Holder {
+    /// Nothing does: it isn't there, or stands in the list before.
+    Nothing,
+    /// It is a class object of the setup.
+    Setup,
+    /// A live local or global reference names it.
+    Reference(Ref),
+    /// It is pending in the thread.
+    Pending(Tid),
+    /// A critical buffer of it is open.
+    Buffer(BufId),
+    /// The thread owns its monitor.
+    Monitor(Tid),
+}
+
+/// Sets the marks of what something holds. The store is lent apart from the view, to be marked in.
+fn mark_in_store<B: Before, A: Allocator + Clone>(
+    view: &View<'_, A, Objects<A>>,
+    store: Objects<A>,
+) -> Objects<A>
     requires { store ≡ B.before }
-    ensures marks { (p : Parts) → HoldersStand tables.now p → Marks (is_root p) (mark_in store) (mark_in result) }
+    ensures marks { (p : Parts) → HoldersStand (rows_in view.now) p
+        → Marks (is_root p) (mark_in store) (mark_in result) }
     ensures same { IsButMarks B.before result }
 {
     let mut marker: Marker<B, A> = Marker::new(store);
-    tables.locals.mark_held(&mut marker);
-    tables.globals.mark_held(&mut marker);
-    tables.threads.mark_held(&mut marker);
-    tables.buffers.mark_held(&mut marker);
-    tables.monitors.mark_held(&mut marker);
+    mark_roots(view, &mut marker);
     marker.into_objects()
 }
 
 /// Sets the marks of what something holds, in one pass over what is held.
-fn mark_held<A: Allocator + Copy>(tables: &mut Tables<A>)
-    ensures marks { (p : Parts) → HoldersStand tables.old p
+fn mark_held<A: Allocator + Copy>(tables: &mut Tables<A>, setup: &Setup)
+    ensures marks { (p : Parts) → HoldersStand (rows_of tables.old) p
         → Marks (is_root p) (mark_in tables.old.objects) (mark_in tables.new.objects) }
     ensures same { IsButMarks tables.old.objects tables.new.objects }
     ensures rows { rows_of tables.new ≡ record (rows_of tables.old) { heap = tables.new.objects } }
 {
     let none = Objects::new(tables.alloc, tables.alloc, 0);
     let store = mem::replace(&mut tables.objects, none);
-    tables.objects = mark_roots::<Brand, A>(tables, store);
+    tables.objects = mark_in_store::<Brand, A>(&tables.view(setup), store);
 }
 
 /// Sets the object's mark, if it has one that isn't set; whether it had.
@@ -74,6 +96,7 @@ fn pass<A: Allocator>(store: &mut Objects<A>, object: ObjId) -> bool
 /// The place of the first object that has no mark or a set one, where each before it is marked, if there is one.
 fn first_unfit<A: Allocator>(store: &mut Objects<A>, objects: &[ObjId]) -> Option<usize>
     ensures first { result ≡ first_unfit (mark_in store.old) objects.now }
+    ensures within { IfSome result (λ place. place < length objects.now) }
     ensures set { result ≡ None → (o : ℕ) → mark_in store.new o
         ≡ (if is_listed objects.now o then Some true else mark_in store.old o) }
     ensures others { (o : ℕ) → is_listed objects.now o ≡ false → mark_in store.new o ≡ mark_in store.old o }
@@ -100,6 +123,31 @@ fn clear_marked<A: Allocator>(store: &Objects<A>, globals: &mut Globals<A>)
     );
 }
 
+/// What keeps the object from being gone, if anything does; of several any.
+fn holder_of<A: Allocator + Clone>(tables: &Tables<A>, setup: &Setup, object: ObjId) -> Holder
+    ensures { (p : Parts) → HoldersStand (rows_of tables.now) p → Keeps setup.now p object.0 result }
+{
+    if object.0 < u64::from(setup.class_count()) {
+        return Holder::Setup;
+    }
+    if let Some(reference) = tables.locals.holder_of(object) {
+        return Holder::Reference(reference);
+    }
+    if let Some(reference) = tables.globals.holder_of(object) {
+        return Holder::Reference(reference);
+    }
+    if let Some(tid) = tables.threads.pending_in(object) {
+        return Holder::Pending(tid);
+    }
+    if let Some(buffer) = tables.buffers.pin_of(object) {
+        return Holder::Buffer(buffer);
+    }
+    match tables.monitors.owner(object) {
+        Some(tid) => Holder::Monitor(tid),
+        None => Holder::Nothing,
+    }
+}
+
 /// Lets the objects go, all or none. No object has a mark, before and after. Takes no memory, and time by the list and by what is held.
 pub(crate) fn let_all_go<A: Allocator + Copy>(
     tables: &mut Tables<A>,
@@ -116,10 +164,12 @@ pub(crate) fn let_all_go<A: Allocator + Copy>(
         → Stand setup.now (rows_of tables.new) p) }
     ensures place { IfErr result (λ held. (p : Parts) → Stand setup.now (rows_of tables.old) p
         → first_held setup.now p objects.now ≡ Some held.place) }
+    ensures by { IfErr result (λ held. (p : Parts) → Stand setup.now (rows_of tables.old) p
+        → Keeps setup.now p (slice_index_or objects.now held.place (record { 0 = 0 })).0 held.by) }
     ensures unmarked { (o : ℕ) → mark_in tables.new.objects o ≡ None }
 {
     tables.objects.give_marks(objects);
-    mark_held(tables);
+    mark_held(tables, setup);
     match first_unfit(&mut tables.objects, objects) {
         None => {
             clear_marked(&tables.objects, &mut tables.globals);
@@ -128,7 +178,8 @@ pub(crate) fn let_all_go<A: Allocator + Copy>(
         }
         Some(place) => {
             tables.objects.take_marks(objects);
-            Err(StillHeld { place })
+            let by = holder_of(tables, setup, objects[place]);
+            Err(StillHeld { place, by })
         }
     }
 }

@@ -1,6 +1,6 @@
 //! The core.
 
-ghost use Rattle.std.specs.Prelude.{◌≡◌, None, Some, List, [], ◌∷◌, IfOk, IfErr, OnOk, OnErr};
+ghost use Rattle.std.specs.Prelude.{◌≡◌, None, Some, List, [], ◌∷◌, IfOk, IfErr, OnOk, OnErr, slice_index_or};
 ghost use Rattle.std.specs.Option.{option_map};
 ghost use Rattle.jg_threads.specs.History.{sessions, acts_of, Attach};
 ghost use Rattle.jg_words.specs.declared.reference.Kind.TheVariants.{Local};
@@ -9,7 +9,7 @@ ghost use Rattle.jg_rules.specs.Names.{next_ref, next_buffer, object_count};
 ghost use Rattle.jg_rules.specs.Rules.{verdict};
 ghost use Rattle.jg_core.specs.declared.fact.Fact.TheVariants.{Begin, Hand, Leave, Lend, Meet, Pop};
 ghost use Rattle.jg_core.specs.Facts.{first_held, parts_of};
-ghost use Rattle.jg_core.specs.Kernel.{broken, CoreStands, Took, TookAll, Stayed, Refuses};
+ghost use Rattle.jg_core.specs.Kernel.{broken, CoreStands, Keeps, Took, TookAll, Stayed, Refuses};
 ghost use Rattle.jg_core.specs.Laws.{handed_out};
 
 use crate::fact::Fact;
@@ -108,7 +108,7 @@ impl<A: Allocator + Copy> Core<A> {
     }
 
     /// The collector let these objects go, all or none: for each in turn it is what telling [`Fact::Gone`] is. It is
-    /// refused where one of them can't be gone once those before it are; of these the first is named. Takes no
+    /// refused where one of them can't be gone once those before it are; of these the first is named, and what keeps it. Takes no
     /// memory, and time by the list and by what is live, once.
     pub fn gone(&mut self, objects: &[ObjId]) -> Result<(), StillHeld>
         ensures ok { OnOk result (TookAll self.old self.new objects.now) }
@@ -117,6 +117,8 @@ impl<A: Allocator + Copy> Core<A> {
         ensures err { OnErr result (Stayed self.old self.new) }
         ensures first { IfErr result (λ held. (w : List Fact) → CoreStands self.old w
             → first_held self.old.setup (parts_of w) objects.now ≡ Some held.place) }
+        ensures by { IfErr result (λ held. (w : List Fact) → CoreStands self.old w
+            → Keeps self.old.setup (parts_of w) (slice_index_or objects.now held.place (record { 0 = 0 })).0 held.by) }
     {
         let_all_go(&mut self.tables, &self.setup, objects)?;
         Ok(())

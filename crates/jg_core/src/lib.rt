@@ -14,7 +14,7 @@ mod tables;
 mod take;
 
 pub use fact::{Checked, Fact};
-pub use gone::StillHeld;
+pub use gone::{Holder, StillHeld};
 pub use kernel::{Broken, Core, Untold};
 pub use promises::{
     gone_stays_gone, held_is_here, live_is_here, no_reference_revived, no_reference_twice,

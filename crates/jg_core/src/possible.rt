@@ -5,7 +5,6 @@ ghost use Rattle.std.specs.Option.{option_map};
 ghost use Rattle.jg_buffers.specs.History as buffers_of;
 ghost use Rattle.jg_monitors.specs.History.{owner};
 ghost use Rattle.jg_objects.specs.Standing.{Tells};
-ghost use Rattle.jg_rules.specs.Holding as holding;
 ghost use Rattle.jg_rules.specs.Names as names_of;
 ghost use Rattle.jg_rules.specs.Parts.{Parts};
 ghost use Rattle.jg_rules.specs.View.{ViewTells};
@@ -15,7 +14,7 @@ ghost use Rattle.jg_core.specs.Facts as facts;
 use crate::fact::{Checked, Fact};
 use jg_buffers::Family;
 use jg_objects::Objects;
-use jg_rules::{Named, View, buffer_named, look_up};
+use jg_rules::{Named, View, buffer_named, is_root, look_up};
 use jg_words::{ObjId, Ref, Tid};
 use std::alloc::Allocator;
 
@@ -96,17 +95,6 @@ fn is_through(family: Family, via: Ref) -> bool
         Ref::Null => !is_critical(family),
         Ref::To { .. } => true,
     }
-}
-
-/// Whether something outside the store holds the object.
-fn is_root<A: Allocator + Clone>(view: &View<'_, A, Objects<A>>, object: ObjId) -> bool
-    ensures { (p : Parts) → ViewTells Tells view.now p → result ≡ holding.is_root p object.0 }
-{
-    view.locals.holds_object(object)
-        || view.globals.holds_object(object)
-        || view.threads.is_pending(object)
-        || view.buffers.pins_object(object)
-        || view.monitors.held(object)
 }
 
 /// Whether the two are one object, or none.

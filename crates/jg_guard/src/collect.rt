@@ -3,7 +3,6 @@
 
 ghost use Rattle.std.specs.Prelude.{◌≡◌, ◌==◌, ◌<◌, ◌^◌, ◌++◌, ℕ, false, List, length, map, pos, slice_get, Some, OnOk, OnErr};
 ghost use Rattle.std.specs.List.{list_any};
-ghost use Rattle.jg_lists.specs.Marks.{Marks};
 ghost use Rattle.jg_globals.specs.History as globals_of;
 ghost use Rattle.jg_globals.specs.Standing as globals_standing;
 ghost use Rattle.jg_heap.specs.History as heap_of;
@@ -11,7 +10,7 @@ ghost use Rattle.jg_heap.specs.Rows.{count_in};
 ghost use Rattle.jg_heap.specs.Standing as heap_standing;
 ghost use Rattle.jg_heap.specs.Standing.{AreListed, MarksHeld};
 ghost use Rattle.jg_rules.specs.Parts.{Parts, TablesStand};
-ghost use Rattle.jg_rules.specs.Holding.{is_root, roots, going};
+ghost use Rattle.jg_rules.specs.Holding.{roots, going};
 ghost use Rattle.jg_rules.specs.View.{ViewStands};
 ghost use Rattle.jg_guard.specs.Tables.{rows_of};
 ghost use Rattle.jg_words.specs.declared.call.Call.TheVariants.{Vm};
@@ -24,21 +23,10 @@ ghost use Rattle.jg_guard.specs.Settled.{collected_on};
 use crate::tables::Tables;
 use jg_globals::Globals;
 use jg_heap::Heap;
-use jg_lists::{Marking, ObjectMarks};
-use jg_rules::View;
+use jg_lists::ObjectMarks;
+use jg_rules::{View, mark_roots};
 use jg_words::{Call, ObjId, VmCall};
 use std::alloc::{AllocError, Allocator};
-
-/// Marks each object that something outside the store holds.
-fn mark_roots<A: Allocator + Clone, M: Marking>(view: &View<'_, A>, marks: &mut M)
-    ensures { (p : Parts) → ViewStands view.now p → Marks (is_root p) (M.mark_of marks.old) (M.mark_of marks.new) }
-{
-    view.locals.mark_held(marks);
-    view.globals.mark_held(marks);
-    view.threads.mark_held(marks);
-    view.buffers.mark_held(marks);
-    view.monitors.mark_held(marks);
-}
 
 /// Marks all that something holds, and lists the objects that nothing holds. No object is marked
 /// before; there is a mark for each.

@@ -68,3 +68,11 @@ TableRows = RowsBeside heap_rows.Rows
 
 abbrev pub TablesStand : StatedSetup → TableRows → Parts → Type 0
 TablesStand setup rows p = StandBeside HeapTells setup rows p
+
+-- the tables of what holds objects stand for these events, whatever the store is
+pub record HoldersStand {Store : Type 0} (rows : RowsBeside Store) (p : Parts) : Type 0 where
+  pub threads : thread_standing.Stands rows.threads p.threads
+  pub locals : local_standing.Stands rows.locals p.locals
+  pub globals : global_standing.Stands rows.globals p.globals
+  pub buffers : buffer_standing.Stands rows.buffers p.buffers
+  pub monitors : monitor_standing.Stands rows.monitors p.monitors

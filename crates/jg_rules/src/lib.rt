@@ -5,6 +5,7 @@
 mod access;
 mod answer;
 mod buffer;
+mod holding;
 mod judge;
 mod named;
 mod object;
@@ -17,6 +18,7 @@ pub use answer::Answer;
 pub use buffer::{
     buffer_named, is_anothers, is_of_array, is_of_family, is_of_object, is_place, item_type,
 };
+pub use holding::{is_root, mark_roots};
 pub use judge::{
     first_broken, fits, is_field_of_type, is_foreign_local, is_not_the_owner, is_of_machine,
     is_wrong_caller, is_wrong_object,

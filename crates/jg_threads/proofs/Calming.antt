@@ -20,7 +20,7 @@ use Rattle.jg_lists.proofs.Lists.{Member, list_any-map}
 use Rattle.jg_lists.proofs.Marks.{or_false}
 use Rattle.jg_lists.proofs.Values.{absent}
 use Rattle.jg_threads.specs.Calm.{IsCalm, AreCalm, AreOthersCalm, IsInFront}
-use Rattle.jg_threads.specs.Rows.{Row}
+use Rattle.jg_threads.specs.Rows.{Row, row_of, row_or_none}
 use Rattle.jg_threads.proofs.Pending.{entry_found}
 
 key_at : (rows : List (ℕ × Row)) (k : ℕ) (d : ℕ × Row) → k < length rows → get_or (keys_of rows) k 0 ≡ (get_or rows k d).0
@@ -119,3 +119,27 @@ module _ (p : Row → Bool) (quiet : (row : Row) → IsCalm row → p row ≡ fa
       either : (own later : Option (ℕ × Row)) → option_map (λ (e : ℕ × Row). e.0) later ≡ None → option_map (λ (e : ℕ × Row). e.0) (option_or own later) ≡ option_map (λ (e : ℕ × Row). e.0) own
       either None later none = none
       either (Some e) later none = refl
+
+-- a row was written where it was, and the same is pending by it
+module _ (rows new : List (ℕ × Row)) (u : ℕ) (row : Row) (keys : keys_of new ≡ keys_of rows)
+    (put : (t : ℕ) → at t new ≡ (if u == t then option_map (λ _. row) (at t rows) else at t rows)) (pending : row.pending ≡ (row_of rows u).pending) where
+  long : length new ≡ length rows
+  long = sym (length-map new (λ (e : ℕ × Row). e.0)) ∙ ap length keys ∙ length-map rows (λ (e : ℕ × Row). e.0)
+
+  written : (found : Option Row) → IfSome found IsCalm → row.pending ≡ (row_or_none found).pending → IfSome (option_map (λ _. row) found) IsCalm
+  written None calm is = tt
+  written (Some r) calm is = is ∙ calm
+
+  pub rest_is_calm : (raised : ℕ) → raised ≤ length rows → AreCalm raised rows → (raised ≤ length new) × AreCalm raised new
+  rest_is_calm raised few calm = (omega (arith, few, long), still)
+    where
+      still : AreCalm raised new
+      still t i seat past =
+          subst (λ found. IfSome found IsCalm) (sym (put t))
+          (by (u == t) refl (calm t i (record { inside = omega (arith, seat.inside, long); own = ap (λ ks. get_or ks i 0) (sym keys) ∙ seat.own }) past))
+        where
+          by : (b : Bool) → (u == t) ≡ b → IfSome (at t rows) IsCalm → IfSome (if b then option_map (λ _. row) (at t rows) else at t rows) IsCalm
+          by true is was =
+              let own : u ≡ t = grind (arith, nat_tests, is) in
+              written (at t rows) was (pending ∙ ap (λ k. (row_of rows k).pending) own)
+          by false is was = was

@@ -78,6 +78,17 @@ impl<A: Allocator> RowTable<A> {
         self.set(tid, row);
     }
 
+    /// Gives the thread another row by which the same is pending, if it has one. Takes no memory.
+    pub fn replace_rest(&mut self, tid: u16, row: Row)
+        requires { row.pending ≡ (row_of self.old tid).pending }
+        ensures put { (t : ℕ) → at t self.new
+            ≡ (if tid == t then option_map (λ _. row) (at t self.old) else at t self.old) }
+        ensures was_once { IsOnce self.old }
+        ensures once { IsOnce self.new }
+    {
+        write_row(&mut self.seats, tid, row);
+    }
+
     /// Gives the thread, which has a row, another one. Takes no memory.
     fn set(&mut self, tid: u16, row: Row)
         requires { IsSome (at tid self.old) }
@@ -183,8 +194,9 @@ fn lower<A: Allocator>(seats: &mut ByThread<Row, A>, raised: usize, tid: u16) ->
 }
 
 fn write_row<A: Allocator>(seats: &mut ByThread<Row, A>, tid: u16, row: Row)
-    requires { IsSome (at tid seats.old) }
-    ensures put { (t : ℕ) → at t seats.new ≡ (if tid == t then Some row else at t seats.old) }
+    ensures put { (t : ℕ) → at t seats.new
+        ≡ (if tid == t then option_map (λ _. row) (at t seats.old) else at t seats.old) }
+    ensures was_once { IsOnce seats.old }
     ensures keys { keys_of seats.new ≡ keys_of seats.old }
     ensures once { IsOnce seats.new }
 {

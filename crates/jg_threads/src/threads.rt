@@ -155,7 +155,7 @@ impl<A: Allocator + Clone> Threads<A> {
     {
         let mut row = self.row(tid);
         row.depth += 1;
-        self.rows.replace(tid.0, row);
+        self.rows.replace_rest(tid.0, row);
     }
 
     /// Leaves the native method that the thread entered last. Asks that the thread is attached
@@ -169,7 +169,7 @@ impl<A: Allocator + Clone> Threads<A> {
     {
         let mut row = self.row(tid);
         row.depth -= 1;
-        self.rows.replace(tid.0, row);
+        self.rows.replace_rest(tid.0, row);
     }
 
     /// How many native methods the thread has entered in its session and not left.
@@ -266,7 +266,7 @@ impl<A: Allocator + Clone> Threads<A> {
     {
         let mut row = self.row(tid);
         row.refs += 1;
-        self.rows.replace(tid.0, row);
+        self.rows.replace_rest(tid.0, row);
     }
 
     /// The number of the next buffer that the thread is handed out, from 1 over all its sessions.
@@ -290,7 +290,7 @@ impl<A: Allocator + Clone> Threads<A> {
     {
         let mut row = self.row(tid);
         row.buffers += 1;
-        self.rows.replace(tid.0, row);
+        self.rows.replace_rest(tid.0, row);
     }
 
     fn row(&self, tid: Tid) -> Row

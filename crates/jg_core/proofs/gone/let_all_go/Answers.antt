@@ -44,3 +44,7 @@ returns-in-Some-clause-unmarked g c =
     let marks = are_marked p c.args.tables.now.objects c.args.objects.now _ _ c.requires.unmarked c.give_marks.ensures.marks
     (c.mark_held.ensures.marks p (record { threads = stand.threads; locals = stand.locals; globals = stand.globals; buffers = stand.buffers; monitors = stand.monitors })) in
     unmarked_after p c.args.tables.now.objects c.args.objects.now _ _ _ marks c.in-Some.ensures.others c.take_marks.ensures.marks
+
+pub returns-in-Some-clause-by : goal.returns-in-Some-clause-by
+returns-in-Some-clause-by g c = λ p stand.
+    c.holder_of-by.ensures p (record { threads = stand.threads; locals = stand.locals; globals = stand.globals; buffers = stand.buffers; monitors = stand.monitors })
