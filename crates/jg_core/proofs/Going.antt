@@ -16,7 +16,7 @@ use Rattle.jg_globals.specs.Standing as global_standing
 use Rattle.jg_lists.specs.Marks.{Marks}
 use Rattle.jg_objects.specs.Rows.{Rows, mark_in, told_in}
 use Rattle.jg_objects.specs.Standing.{Tells}
-use Rattle.jg_rules.specs.Parts.{Parts, RowsBeside}
+use Rattle.jg_rules.specs.Parts.{HoldersStand, Parts, RowsBeside}
 use Rattle.jg_rules.specs.Names.{is_here}
 use Rattle.jg_rules.specs.Holding.{is_root}
 use Rattle.jg_core.specs.declared.fact.Fact.{Fact}
@@ -25,6 +25,12 @@ use Rattle.jg_core.specs.Facts.{all_gone, can_be, first_held, made_in, on, parts
 use Rattle.jg_core.specs.Kernel.{CoreState, CoreStands}
 use Rattle.jg_core.specs.Gone.{first_unfit, gone_on, is_set, is_unset, with_set}
 use Rattle.jg_core.specs.Tables.{Stand}
+
+-- the tables beside a store that was written stand for what they stood for
+pub holders_beside : (s : StatedSetup) (rows new : RowsBeside Rows) (store : Rows) (p : Parts) → Stand s rows p → new ≡ record rows { heap = store } → HoldersStand new p
+holders_beside s rows new store p stand same =
+    subst (λ r. HoldersStand r p) (sym same)
+    (record { threads = stand.threads; locals = stand.locals; globals = stand.globals; buffers = stand.buffers; monitors = stand.monitors })
 
 -- ---- marks
 

@@ -1,5 +1,5 @@
 use Rattle.jg_core.proofs.gone.mark_held.Given as goal
 
 -- what the store tells when the tables mark in it
-abbrev pub ghosts-mark_roots : goal.ghosts-mark_roots
-ghosts-mark_roots g a = record { before = a.store }
+abbrev pub ghosts-mark_in_store : goal.ghosts-mark_in_store
+ghosts-mark_in_store g a = record { before = a.store }
