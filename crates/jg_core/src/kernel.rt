@@ -108,8 +108,8 @@ impl<A: Allocator + Copy> Core<A> {
     }
 
     /// The collector let these objects go, all or none: for each in turn it is what telling [`Fact::Gone`] is. It is
-    /// refused where one of them can't be gone once those before it are; of these the first is named, and what keeps it. Takes no
-    /// memory, and time by the list and by what is live, once.
+    /// refused where one of them can't be gone once those before it are; of these the first is named, and what keeps
+    /// it. Takes no memory, and time by the list and by what is live, once.
     pub fn gone(&mut self, objects: &[ObjId]) -> Result<(), StillHeld>
         ensures ok { OnOk result (TookAll self.old self.new objects.now) }
         ensures all { OnOk result ((w : List Fact) → CoreStands self.old w
