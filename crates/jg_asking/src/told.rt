@@ -45,59 +45,29 @@ fn handed(core: &mut Core, kind: Kind) -> Option<()> {
     told(core, Fact::Lost(reference))
 }
 
+/// Tells a fact, and the one that undoes it.
+fn told_both(core: &mut Core, fact: Fact, undoing: Fact) -> Option<()> {
+    told(core, fact)?;
+    told(core, undoing)
+}
+
 fn tell_both(core: &mut Core, pair: Pair) -> Option<()> {
+    let (tid, object, kept) = (THREAD, TEXT, None);
     match pair {
         Pair::Local => handed(core, Kind::Local),
         Pair::Global => handed(core, Kind::Global),
         Pair::Buffer => {
-            let buffer = core.lend(THREAD, Family::Chars, TEXT, Ref::Null, 1).ok()?;
+            let buffer = core.lend(tid, Family::Chars, object, Ref::Null, 1).ok()?;
             told(core, Fact::Back(buffer))
         }
-        Pair::Monitor => {
-            let (tid, object) = (THREAD, TEXT);
-            told(core, Fact::Own { tid, object })?;
-            told(core, Fact::Free { tid, object })
-        }
+        Pair::Monitor => told_both(core, Fact::Own { tid, object }, Fact::Free { tid, object }),
         Pair::Object => {
             let object = core.meet(STRING, 1).ok()?;
             core.gone(&[object]).ok()
         }
-        Pair::Frame => {
-            told(
-                core,
-                Fact::Push {
-                    tid: THREAD,
-                    room: 16,
-                },
-            )?;
-            told(
-                core,
-                Fact::Pop {
-                    tid: THREAD,
-                    kept: None,
-                },
-            )
-        }
-        Pair::Native => {
-            told(core, Fact::Enter(THREAD))?;
-            told(
-                core,
-                Fact::Leave {
-                    tid: THREAD,
-                    kept: None,
-                },
-            )
-        }
-        Pair::Pending => {
-            told(
-                core,
-                Fact::Raise {
-                    tid: THREAD,
-                    object: TEXT,
-                },
-            )?;
-            told(core, Fact::Calm(THREAD))
-        }
+        Pair::Frame => told_both(core, Fact::Push { tid, room: 16 }, Fact::Pop { tid, kept }),
+        Pair::Native => told_both(core, Fact::Enter(tid), Fact::Leave { tid, kept }),
+        Pair::Pending => told_both(core, Fact::Raise { tid, object }, Fact::Calm(tid)),
     }
 }
 
