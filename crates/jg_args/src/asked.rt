@@ -1,3 +1,5 @@
+//! What a command line asks for, and why one is refused.
+
 use thiserror::Error;
 
 /// The greatest number that `--limit`, `--explain` and `--turns` take.

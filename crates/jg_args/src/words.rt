@@ -13,7 +13,8 @@ const DEFAULT_TURNS: u32 = 1000;
 pub const VERSION: &str = "0.2.0";
 
 const STATUSES: &str =
-    "Exit status: 0 done, 1 the journal differs, 2 faulty script, setup or arguments, 3 limit met or no memory, 4 reading or writing failed, 5 done, and a call was denied (with --strict).";
+    "Exit status: 0 done, 1 the journal differs, 2 faulty script, setup or arguments, 3 limit met or no memory, \
+     4 reading or writing failed, 5 done, and a call was denied (with --strict).";
 
 fn setup_arg<'a>(alloc: Global) -> Arg<'a> {
     Arg::new(alloc, "setup")

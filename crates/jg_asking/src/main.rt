@@ -13,8 +13,8 @@ use crate::told::{Pair, fill, let_go, pairs, sessions, strings};
 use std::env;
 use std::process::ExitCode;
 
-/// Does what is asked for, of the kind behind the hyphen. `None` where the words aren't these, a call was denied, a fact
-/// refused, or memory ran out.
+/// Does what is asked for, of the kind behind the hyphen. `None` where the words aren't these, a call was denied, a
+/// fact refused, or memory ran out.
 fn run(rt: &HostRuntime, what: &str, count: u64, live: u64) -> Option<()> {
     let alloc = rt.alloc();
     let (mode, kind) = what.split_once('-')?;

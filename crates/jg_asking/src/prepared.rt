@@ -12,7 +12,8 @@ use std::alloc::Global;
 
 /// The text of the setup.
 const SETUP: &str =
-    "version = 1\nillegal_native_access = \"allow\"\n[[class]]\nname = \"app/Point\"\nmodule = \"app\"\nfields = [{ name = \"x\", type = \"I\" }]\n";
+    "version = 1\nillegal_native_access = \"allow\"\n[[class]]\nname = \"app/Point\"\n\
+    module = \"app\"\nfields = [{ name = \"x\", type = \"I\" }]\n";
 
 /// How many calls the guard's journal has at the most.
 const LIMIT: u32 = 10_000_000;

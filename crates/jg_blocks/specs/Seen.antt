@@ -10,7 +10,9 @@ pub record Kept (T : Type 0) : Type 0 where
   pub spare : ℕ
 
 abbrev pub kept_code : {T : Type 0} → Coded T → Coded (Kept T)
-kept_code {T} code = code_by (List T × ℕ) (coded× (coded_list code) coded_ℕ) (λ k. (k.items, k.spare)) (λ p. record { items = p.0; spare = p.1 }) (λ _. refl)
+kept_code {T} code =
+    code_by (List T × ℕ) (coded× (coded_list code) coded_ℕ)
+    (λ k. (k.items, k.spare)) (λ p. record { items = p.0; spare = p.1 }) (λ _. refl)
 
 -- the items of the blocks, one block after the other
 abbrev pub items_of : {T : Type 0} → List (List T) → List T

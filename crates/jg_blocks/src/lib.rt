@@ -32,7 +32,10 @@ impl<T, A: Allocator> Model for Blocks<T, A> {
 
     ghost coded = { kept_code T.code };
 
-    ghost view = { λ b. record { items = items_of (map (λ v. v.items) b.blocks.items); spare = room_of b.blocks.items b.len } };
+    ghost view = { λ b. record {
+      items = items_of (map (λ v. v.items) b.blocks.items);
+      spare = room_of b.blocks.items b.len;
+    } };
 
     ghost invariant = { λ b. AreBlocks b.blocks.items b.len };
 }

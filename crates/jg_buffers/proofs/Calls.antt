@@ -155,7 +155,8 @@ pin_short t k w i within = rw pins_critical at within
 copy_long : {I : Type 0} (shows : I → List ℤ) (t k : ℕ) (w : Copied I) (i : ℕ) → i < copy_length (Some (copy_seen shows ((t, k), w))) → i < length (shows w.items)
 copy_long shows t k w i within = rw copies_free at within
 
-wrote_by : (e : List Event) (t k i : ℕ) (v : ℤ) (x : Buffer) (pin was : Option Buffer) → opened e t k ≡ was → option_to_list (Some x) ++ option_to_list pin ≡ rows_of e t k was → is_critical x.family ≡ false
+wrote_by : (e : List Event) (t k i : ℕ) (v : ℤ) (x : Buffer) (pin was : Option Buffer) → opened e t k ≡ was
+    → option_to_list (Some x) ++ option_to_list pin ≡ rows_of e t k was → is_critical x.family ≡ false
     → i < x.length
     → option_to_list (Some (record x { items = slice_set x.items i v })) ++ option_to_list pin ≡ rows_of (Wrote t k i v ∷ e) t k was
 wrote_by e t k i v x pin None is agrees free within = cc

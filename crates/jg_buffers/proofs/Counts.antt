@@ -59,7 +59,8 @@ lower_by a b new true alike is =
 lower_by a b new false alike is = is
 
 -- one more pinned buffer of a kind
-counted_more : (p : Name × Pinned → Bool) (pins news : List (Name × Pinned)) (q : Name) (w : Pinned) → Adds q w pins news → how_many p news ≡ (if p (q, w) then how_many p pins + 1 else how_many p pins)
+counted_more : (p : Name × Pinned → Bool) (pins news : List (Name × Pinned)) (q : Name) (w : Pinned)
+    → Adds q w pins news → how_many p news ≡ (if p (q, w) then how_many p pins + 1 else how_many p pins)
 counted_more p pins news q w adds =
     ap (how_many p) adds.now ∙ how_many-between p adds.front (q, w) adds.back ∙ ap (λ es. if p (q, w) then how_many p es + 1 else how_many p es) (sym adds.was)
 

@@ -5,6 +5,7 @@ use Rattle.std.specs.List.{range_with_len}
 use Rattle.std.specs.Option.{option_map}
 use Rattle.std.specs.Map.{lookup}
 use Rattle.std.proofs.lemmas.List.FromFn.{get_or-map-range_with_len}
+use Rattle.std.proofs.lemmas.Option.{same_Some}
 use Rattle.jg_buffers.specs.declared.copied.CopyKind.{CopyKind}
 use Rattle.jg_buffers.specs.declared.copied.CopyKind.TheVariants.{Elements as ElementsKind, Chars as CharsKind, UtfChars as UtfCharsKind}
 use Rattle.jg_buffers.specs.declared.copied.Copied.{Copied}
@@ -97,12 +98,9 @@ pub still_open : (found : Option Buffer) (c : Bool) (b : Buffer) → if◌then�
 still_open found true b now = cc
 still_open found false b now = now
 
-pub some_is : (a b : Buffer) → Some a ≡ Some b → a ≡ b
-some_is a b is = cc
-
 left_by : (x b : Buffer) (critical : Bool) → is_critical x.family ≡ critical → if◌then◌else◌ {A = Option Buffer} critical None (Some x) ≡ Some b → (Some x ≡ Some b) × (is_critical b.family ≡ false)
 left_by x b true is now = cc
-left_by x b false is now = (now, ap (λ y. is_critical y.family) (sym (some_is x b now)) ∙ is)
+left_by x b false is now = (now, ap (λ y. is_critical y.family) (sym (same_Some x b now)) ∙ is)
 
 -- what is open after the end of a session was open before it, and is a copy where the session was its thread's
 pub still_lent : (found : Option Buffer) (c : Bool) (b : Buffer) → (if c then copied_only found else found) ≡ Some b → (found ≡ Some b) × ((c && is_critical b.family) ≡ false)

@@ -3,6 +3,7 @@ use Rattle.std.proofs.Common.{◌≡◌, ℕ, ◌<◌, Bool, true, false, List, 
 use Rattle.std.specs.Prelude.{◌==◌, ◌&&◌, ◌||◌, ℤ, pos, if◌then◌else◌, slice_index_or}
 use Rattle.std.specs.List.{list_any}
 use Rattle.std.proofs.lemmas.Bool.Decides.{nat_tests}
+use Rattle.std.proofs.lemmas.Option.{same_Some}
 use Rattle.jg_words.specs.declared.reference.Ref.{Ref}
 use Rattle.jg_words.specs.declared.reference.Ref.TheVariants.{Null, To}
 use Rattle.jg_words.specs.declared.reference.Kind.TheVariants.{Local, Global, Weak}
@@ -11,7 +12,7 @@ use Rattle.jg_buffers.specs.Laws.{about, OpenSince, changes, CriticalBuffer, IsO
 use Rattle.jg_buffers.specs.Rows.{Rows, IsAbove}
 use Rattle.jg_buffers.specs.Standing.{Stands}
 use Rattle.jg_buffers.proofs.Counts.{same_ref_is}
-use Rattle.jg_buffers.proofs.Lookups.{some_is, still_open, still_lent}
+use Rattle.jg_buffers.proofs.Lookups.{still_open, still_lent}
 use Rattle.jg_buffers.proofs.Numbers.{above_law}
 use Rattle.jg_buffers.proofs.Pins.{OpenPin, pins_law, pins_have}
 use Rattle.jg_buffers.proofs.Steps.{row_law, row_now}
@@ -36,7 +37,7 @@ own_maker m n b own = grind (arith, nat_tests)
 opened_since : (e : List Event) (m n : ℕ) (at b : Buffer) (c : Bool) → is_same m n at.maker at.n ≡ c → (opened e m n ≡ Some b → OpenSince e m n b) → (if c then Some at else opened e m n) ≡ Some b
     → OpenSince (Opened at ∷ e) m n b
 opened_since e m n at b true is older now =
-    let same : at ≡ b = some_is at b now in
+    let same : at ≡ b = same_Some at b now in
     let P : Buffer → Type 0 = λ x. OpenSince (Opened at ∷ e) m n x in
     subst P same (record { later = []; before = e; made = refl; own = is; kept = refl })
 opened_since e m n at b false is older now =

@@ -16,7 +16,7 @@ numbered k i n (row ∷ rows) b above found =
     grind (arith, nat_tests, tail, here)
 
 -- a number in the rows is below each that is above all
-pub below_law : (rows : Rows) (k i n : ℕ) (b : Buffer) → IsAbove k i rows → row_of k n rows ≡ Some b → n < i
+below_law : (rows : Rows) (k i n : ℕ) (b : Buffer) → IsAbove k i rows → row_of k n rows ≡ Some b → n < i
 below_law rows k i n b above found = numbered k i n rows.lent b (recursion_from_All _ _ above) found
 
 found_by : (p : Buffer → Bool) (row : Buffer) (rows : List Buffer) (b : Bool) → (b ≡ true) ⊎ ((x : Buffer) × (find p rows ≡ Some x)) → (x : Buffer) × ((if b then Some row else find p rows) ≡ Some x)

@@ -32,7 +32,7 @@ Below b [] = Unit {0}
 Below b (c ∷ cs) = (is_before b c ≡ true) × Below b cs
 
 -- each name is before all later ones
-abbrev pub Rises : List BufId → Type 0
+abbrev Rises : List BufId → Type 0
 Rises [] = Unit {0}
 Rises (b ∷ bs) = Below b bs × Rises bs
 
@@ -64,7 +64,7 @@ rises_put b (c ∷ cs) up = by (is_before b c) refl (is_before c b) refl (rises_
     by false is true other rest = (below_put c b cs other up.0, rest)
     by false is false other rest = up
 
-pub rises_in_order : (bs : List Buffer) → Rises (in_order bs)
+rises_in_order : (bs : List Buffer) → Rises (in_order bs)
 rises_in_order [] = tt
 rises_in_order (b ∷ bs) = rises_put (name_of b) (in_order bs) (rises_in_order bs)
 
@@ -90,7 +90,7 @@ any_put m n b (c ∷ cs) = by (is_before b c) refl (is_before c b) refl (any_put
     by false is true other rest = ap (λ r. names m n c || r) rest ∙ or_swap (names m n c) (names m n b) (list_any (names m n) cs)
     by false is false other rest = or_twice (names m n b) (names m n c) (list_any (names m n) cs) (same_names m n b c is other)
 
-pub any_in_order : (m n : ℕ) (bs : List Buffer) → list_any (names m n) (in_order bs) ≡ list_any (λ b. is_same m n b.maker b.n) bs
+any_in_order : (m n : ℕ) (bs : List Buffer) → list_any (names m n) (in_order bs) ≡ list_any (λ b. is_same m n b.maker b.n) bs
 any_in_order m n [] = refl
 any_in_order m n (b ∷ bs) = any_put m n (name_of b) (in_order bs) ∙ ap (λ r. is_same m n b.maker b.n || r) (any_in_order m n bs)
 
@@ -152,7 +152,7 @@ tails m n x xs ys low low' same = by (names m n x) refl same
     by false is e = e
 
 -- two lists in order that have the same names are one
-pub rises_unique : (xs ys : List BufId) → Rises xs → Rises ys → ((m n : ℕ) → list_any (names m n) xs ≡ list_any (names m n) ys) → xs ≡ ys
+rises_unique : (xs ys : List BufId) → Rises xs → Rises ys → ((m n : ℕ) → list_any (names m n) xs ≡ list_any (names m n) ys) → xs ≡ ys
 rises_unique [] [] up up' same = refl
 rises_unique [] (y ∷ ys) up up' same = absurd (true≢false (sym (own_or y (list_any (names y.maker.0 y.n) ys)) ∙ sym (same y.maker.0 y.n)))
 rises_unique (x ∷ xs) [] up up' same = absurd (true≢false (sym (own_or x (list_any (names x.maker.0 x.n) xs)) ∙ same x.maker.0 x.n))
@@ -199,7 +199,7 @@ count_tail p x xs once = by (p x) once
     by true few = omega (arith, few)
     by false few = few
 
-pub rises_sorted : (xs : List BufId) → Ascends xs → ((m n : ℕ) → length (filter (names m n) xs) ≤ 1) → Rises xs
+rises_sorted : (xs : List BufId) → Ascends xs → ((m n : ℕ) → length (filter (names m n) xs) ≤ 1) → Rises xs
 rises_sorted [] up once = tt
 rises_sorted (x ∷ []) up once = (tt, tt)
 rises_sorted (x ∷ y ∷ r) up once =

@@ -5,6 +5,7 @@ use Rattle.std.specs.List.{list_any, filter_map, cons_option}
 use Rattle.std.specs.Option.{option_map, option_to_list}
 use Rattle.std.specs.Map.{lookup}
 use Rattle.std.proofs.lemmas.Bool.Decides.{nat_tests}
+use Rattle.std.proofs.lemmas.Option.{same_Some}
 use Rattle.jg_buffers.specs.declared.copied.Copied.{Copied}
 use Rattle.jg_buffers.specs.declared.pinned.Pinned.{Pinned}
 use Rattle.jg_buffers.specs.History.{Buffer, Event, Opened, Wrote, Closed, ReleaseAll, is_same, is_critical, opened, critical_only, pin_of, pins, pins_object, IsPinOf}
@@ -16,7 +17,7 @@ use Rattle.jg_lists.proofs.Found.{found_in, is_found}
 use Rattle.jg_lists.proofs.Lists.{Member, any_member, any_of_filter, member_filter, both_ways, list_any-map}
 use Rattle.jg_buffers.proofs.Maps.{found_row}
 use Rattle.jg_buffers.proofs.Steps.{tells}
-use Rattle.jg_buffers.proofs.Lookups.{IsBlind, copies_free, pins_critical, some_is, still_open, still_lent}
+use Rattle.jg_buffers.proofs.Lookups.{IsBlind, copies_free, pins_critical, still_open, still_lent}
 
 -- an open critical buffer that passes
 pub record OpenPin (P : Buffer → Bool) (e : List Event) : Type 0 where
@@ -28,11 +29,11 @@ pub record OpenPin (P : Buffer → Bool) (e : List Event) : Type 0 where
   pub passes : P buffer ≡ true
 
 -- the buffer is an open critical one that passes
-pub record PinAt (P : Buffer → Bool) (e : List Event) (m n : ℕ) : Type 0 where
-  pub buffer : Buffer
-  pub is_open : opened e m n ≡ Some buffer
-  pub critical : is_critical buffer.family ≡ true
-  pub passes : P buffer ≡ true
+record PinAt (P : Buffer → Bool) (e : List Event) (m n : ℕ) : Type 0 where
+  buffer : Buffer
+  is_open : opened e m n ≡ Some buffer
+  critical : is_critical buffer.family ≡ true
+  passes : P buffer ≡ true
 
 passing : (P : Buffer → Bool) (all : List Event) (m n : ℕ) (b : Buffer) (rest : Bool) (p : Bool) → P b ≡ p → opened all m n ≡ Some b → is_critical b.family ≡ true → (rest ≡ true → OpenPin P all)
     → (p || rest) ≡ true → OpenPin P all
@@ -101,7 +102,8 @@ head_or d (b ∷ bs) = Some b
 head_is : (a b : Buffer) (rest : List Buffer) → a ∷ rest ≡ b ∷ [] → a ≡ b
 head_is a b rest is = cc
 
-the_pin : (copy pin : Option Buffer) (b : Buffer) → option_to_list copy ++ option_to_list pin ≡ b ∷ [] → ((x : Buffer) → copy ≡ Some x → is_critical x.family ≡ false) → is_critical b.family ≡ true → pin ≡ Some b
+the_pin : (copy pin : Option Buffer) (b : Buffer) → option_to_list copy ++ option_to_list pin ≡ b ∷ []
+    → ((x : Buffer) → copy ≡ Some x → is_critical x.family ≡ false) → is_critical b.family ≡ true → pin ≡ Some b
 the_pin None None b is free critical = cc
 the_pin None (Some p) b is free critical = ap (λ l. head_or p l) is
 the_pin (Some q) pin b is free critical =
@@ -111,7 +113,7 @@ the_pin (Some q) pin b is free critical =
 
 pub free_copy : {I : Type 0} (shows : I → List ℤ) (q : ℕ × ℕ) (found : Option (Copied I)) (x : Buffer) → option_map (λ w. copy_seen shows (q, w)) found ≡ Some x → is_critical x.family ≡ false
 free_copy shows q None x is = cc
-free_copy shows q (Some w) x is = ap (λ b. is_critical b.family) (sym (some_is (copy_seen shows (q, w)) x is)) ∙ copies_free w.kind
+free_copy shows q (Some w) x is = ap (λ b. is_critical b.family) (sym (same_Some (copy_seen shows (q, w)) x is)) ∙ copies_free w.kind
 
 critical_pin : (fs : List ((ℕ × ℕ) × Pinned)) (x : Buffer) → Member x (map pin_seen fs) → is_critical x.family ≡ true
 critical_pin [] x there = absurd there
@@ -185,11 +187,13 @@ pub named_law : {I : Type 0} (shows : I → List ℤ) (o : ℕ) (es : List ((ℕ
     → IfSome (option_map (λ (f : (ℕ × ℕ) × Pinned). f.0) (find (λ f. f.1.object == o) fs)) (λ name. IsPinOf e o (key_name name))
 named_law shows o es fs e stands =
     let P : Option (ℕ × ℕ) → Type 0 = λ found. IfSome found (λ name. IsPinOf e o (key_name name)) in
-    subst P (sym (found_in {R = ℕ × ℕ} pin_seen (λ b. b.object == o) (λ (b : Buffer). (b.maker, b.n)) fs)) (by (find (λ b. b.object == o) (map pin_seen fs)) (is_found (λ b. b.object == o) (map pin_seen fs)))
+    subst P (sym (found_in {R = ℕ × ℕ} pin_seen (λ b. b.object == o) (λ (b : Buffer). (b.maker, b.n)) fs))
+    (by (find (λ b. b.object == o) (map pin_seen fs)) (is_found (λ b. b.object == o) (map pin_seen fs)))
   where
     of_pin : (m n : ℕ) → PinAt (λ b. b.object == o) e m n → IsPinOf e o (key_name (m, n))
     of_pin m n pin = record { buffer = pin.buffer; is_open = pin.is_open; critical = pin.critical; of_object = eqb-true pin.buffer.object o pin.passes }
 
-    by : (found : Option Buffer) → IfSome found (λ b. Member b (map pin_seen fs) × ((b.object == o) ≡ true)) → IfSome (option_map {U = ℕ × ℕ} (λ (b : Buffer). (b.maker, b.n)) found) (λ name. IsPinOf e o (key_name name))
+    by : (found : Option Buffer) → IfSome found (λ b. Member b (map pin_seen fs) × ((b.object == o) ≡ true))
+        → IfSome (option_map {U = ℕ × ℕ} (λ (b : Buffer). (b.maker, b.n)) found) (λ name. IsPinOf e o (key_name name))
     by None all = tt
     by (Some b) all = of_pin b.maker b.n (row_pinned shows (λ b. b.object == o) (λ b items. refl) es fs e stands b all.0 all.1)

@@ -3,6 +3,7 @@ use Rattle.std.proofs.Common.{◌≡◌, ℕ, Bool, true, false, List, [], ◌�
 use Rattle.std.specs.Prelude.{ℤ, ◌==◌, if◌then◌else◌, map, find}
 use Rattle.std.specs.Option.{option_map, option_to_list}
 use Rattle.std.specs.Map.{lookup}
+use Rattle.std.proofs.lemmas.Option.{same_Some}
 use Rattle.jg_lists.specs.ByMaker.{Name, same_name}
 use Rattle.jg_buffers.specs.declared.copied.Copied.{Copied}
 use Rattle.jg_buffers.specs.declared.pinned.Pinned.{Pinned}
@@ -11,7 +12,7 @@ use Rattle.jg_buffers.specs.Rows.{Rows, is_buffer, row_of, KeepsNumbers}
 use Rattle.jg_buffers.specs.Seen.{copy_seen, pin_seen}
 use Rattle.jg_buffers.specs.Standing.{rows_of, Stands}
 use Rattle.jg_buffers.proofs.Calls.{StayOnce, seen, still_exact}
-use Rattle.jg_buffers.proofs.Lookups.{row_is, some_is, copies_free, pins_critical, still_lent}
+use Rattle.jg_buffers.proofs.Lookups.{row_is, copies_free, pins_critical, still_lent}
 use Rattle.jg_buffers.proofs.Maps.{found_row}
 use Rattle.jg_buffers.proofs.Numbers.{keeps_numbers}
 use Rattle.jg_buffers.proofs.Pins.{free_copy}
@@ -52,7 +53,7 @@ left_here e m n t (Some q) pin (Some b) free critical was =
 
 critical_pin : (q : Name) (found : Option Pinned) (x : Buffer) → option_map (λ w. pin_seen (q, w)) found ≡ Some x → is_critical x.family ≡ true
 critical_pin q None x is = cc
-critical_pin q (Some w) x is = ap (λ b. is_critical b.family) (sym (some_is (pin_seen (q, w)) x is)) ∙ pins_critical w.kind
+critical_pin q (Some w) x is = ap (λ b. is_critical b.family) (sym (same_Some (pin_seen (q, w)) x is)) ∙ pins_critical w.kind
 
 -- at any key, by whether it is the thread's
 left_by : {I : Type 0} (shows : I → List ℤ) (e : List Event) (m n t : ℕ) (copy : Option (Copied I)) (pin : Option Pinned) (found : Option Buffer) (own : Bool)

@@ -97,9 +97,9 @@ find_first p [] = refl
 find_first p (x ∷ xs) = rw (find_first p xs) (elim (p x) as (λ b. (if b then Some x else first (filter p xs)) ≡ first (if b then x ∷ filter p xs else filter p xs)) [ true ↦ refl | false ↦ refl ])
 
 -- at most one, and then not both
-pub record Alone {X : Type 0} (xs ys : List X) : Type 0 where
-  pub left : xs ≡ option_to_list (first xs)
-  pub right : ys ≡ option_to_list (first ys)
+record Alone {X : Type 0} (xs ys : List X) : Type 0 where
+  left : xs ≡ option_to_list (first xs)
+  right : ys ≡ option_to_list (first ys)
 
 alone : {X : Type 0} (xs ys : List X) (found : Option X) → xs ++ ys ≡ option_to_list found → Alone xs ys
 alone [] [] found is = record { left = refl; right = refl }
@@ -163,7 +163,9 @@ tells_apart : (e older : List Event) (m n : ℕ) (copies pins news others : List
     → filter (is_buffer m n) news ≡ option_to_list (find (is_buffer m n) news) → filter (is_buffer m n) others ≡ option_to_list (find (is_buffer m n) others)
     → rows_of e m n (opened e m n) ≡ rows_of older m n (opened older m n) → Tells e m n news others
 tells_apart e older m n copies pins news others told copy pin left right same = record {
-  agrees = ap (λ c. option_to_list c ++ option_to_list (find (is_buffer m n) others)) copy ∙ (ap (λ p. option_to_list (find (is_buffer m n) copies) ++ option_to_list p) pin ∙ (told.agrees ∙ sym same));
+  agrees =
+      ap (λ c. option_to_list c ++ option_to_list (find (is_buffer m n) others)) copy
+      ∙ (ap (λ p. option_to_list (find (is_buffer m n) copies) ++ option_to_list p) pin ∙ (told.agrees ∙ sym same));
   copy = left;
   pin = right;
 }

@@ -22,6 +22,7 @@ pub record OpenSince (e : List Event) (maker n : ℕ) (b : Buffer) : Type 0 wher
   pub kept : list_any (about b) later ≡ false
 
 -- a buffer is open where it was opened and not closed since
+-- (proofs/Means.antt)
 abbrev pub OpenMeans : Type 0
 OpenMeans = (e : List Event) (maker n : ℕ) (b : Buffer) → (opened e maker n ≡ Some b) ↔ OpenSince e maker n b
 
@@ -33,11 +34,13 @@ changes maker n index (Closed k i) = false
 changes maker n index (ReleaseAll k) = false
 
 -- an item is what was written there last
+-- (proofs/Means.antt)
 abbrev pub WrittenMeans : Type 0
 WrittenMeans = (later before : List Event) (maker n index : ℕ) (v : ℤ) → list_any (changes maker n index) later ≡ false
     → content (later ++ Wrote maker n index v ∷ before) maker n index ≡ v
 
 -- an item that wasn't written since is the one at the making
+-- (proofs/Means.antt)
 abbrev pub UnwrittenMeans : Type 0
 UnwrittenMeans = (later before : List Event) (b : Buffer) (index : ℕ)
     → list_any (changes b.maker b.n index) later ≡ false
@@ -53,14 +56,17 @@ pub record CriticalBuffer (e : List Event) (Holds : Buffer → Type 0) : Type 0 
   pub holds : Holds buffer
 
 -- a thread is in a critical region where some critical buffer that it was lent is open
+-- (proofs/Means.antt)
 abbrev pub CriticalMeans : Type 0
 CriticalMeans = (e : List Event) (t : ℕ) → (in_critical e t ≡ true) ↔ CriticalBuffer e (λ b. b.maker ≡ t)
 
 -- a reference is pinned where some critical buffer that was opened through it is open
+-- (proofs/Means.antt)
 abbrev pub PinnedMeans : Type 0
 PinnedMeans = (e : List Event) (r : Ref) → (pinned_by e r ≡ true) ↔ CriticalBuffer e (λ b. b.via ≡ r)
 
 -- an object is pinned where some critical buffer of it is open
+-- (proofs/Means.antt)
 abbrev pub PinnedObjectMeans : Type 0
 PinnedObjectMeans = (e : List Event) (o : ℕ) → (pins_object e o ≡ true) ↔ CriticalBuffer e (λ b. b.object ≡ o)
 
@@ -88,12 +94,14 @@ opens maker n (Closed k i) = false
 opens maker n (ReleaseAll k) = false
 
 -- a buffer that was opened and isn't open never is again
+-- (proofs/Means.antt)
 abbrev pub ClosedStaysClosed : Type 0
 ClosedStaysClosed = (later e : List Event) (maker n : ℕ) → NumbersRise (later ++ e) → list_any (opens maker n) e ≡ true
     → opened e maker n ≡ None → opened (later ++ e) maker n ≡ None
 
 -- a number above all that the events gave the maker is above all of its numbers in the rows, as the opening of a buffer
 -- asks
+-- (proofs/Means.antt)
 abbrev pub NewNumberIsAbove : Type 0
 NewNumberIsAbove = (rows : Rows) (e : List Event) (maker n : ℕ) → Stands rows e → IsOpenedBelow maker n e
     → IsAbove maker n rows

@@ -1,3 +1,5 @@
+//! The table of open buffers, copies and pinned ones.
+
 ghost use Rattle.std.specs.Prelude.{◌≡◌, ℕ, pos, true, false, ◌==◌, ◌<◌, ◌≤◌, ◌^◌, ◌++◌, if◌then◌else◌, List, [], ◌∷◌, map, length, replicate, vec_len, vec_capacity, OnOk, OnErr, IfOk, IfSome, is_some, option_map, slice_index_or};
 ghost use Rattle.jg_buffers.specs.History.{Event, Opened, Wrote, Closed, ReleaseAll, is_critical, copy_with, pin_through, copied_only, opened, content, contents, in_critical, pinned_by, IsPinOf, pins_object, info_of, is_null};
 ghost use Rattle.jg_buffers.specs.Ordered.{pins_of, pins_through};

@@ -1,3 +1,5 @@
+//! Open copies: what is kept of each, and their items read and written.
+
 ghost use Rattle.std.specs.Prelude.{◌≡◌, ◌<◌, ℕ, pos, false, if◌then◌else◌, length, slice_index_or};
 ghost use Rattle.jg_buffers.specs.History.{is_critical};
 ghost use Rattle.jg_buffers.specs.Seen.{copy_family, copy_at, copy_item_set, listed};

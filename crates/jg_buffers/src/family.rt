@@ -1,3 +1,5 @@
+//! The functions that open a buffer, by the one that releases it.
+
 use jg_words::Primitive;
 
 /// The functions that open a buffer, and that alone may release it: `Get<Type>ArrayElements`,

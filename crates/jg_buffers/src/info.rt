@@ -1,3 +1,5 @@
+//! What an open buffer is, as the table tells it.
+
 use crate::family::Family;
 use jg_words::{ObjId, Ref, Tid};
 

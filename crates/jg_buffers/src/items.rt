@@ -1,3 +1,5 @@
+//! What the table keeps of the items of a copy: all of them, or how many there are.
+
 ghost use Rattle.std.specs.Prelude.{◌≡◌, ℤ, pos, List, length, replicate};
 ghost use Rattle.jg_buffers.specs.Seen.{listed};
 

@@ -1,3 +1,6 @@
+//! What the definitions on buffers mean, and what rows that stand tell, each as the contract of a function that does
+//! nothing.
+
 ghost use Rattle.jg_buffers.specs.Laws.{OpenMeans, WrittenMeans, UnwrittenMeans, CriticalMeans, PinnedMeans, PinnedObjectMeans, ClosedStaysClosed, NewNumberIsAbove};
 
 /// A buffer is open exactly where some event opened it and none closed it later.

@@ -1,3 +1,5 @@
+//! Open pinned buffers: what is kept of each, and the references through which they were opened, as keys.
+
 ghost use Rattle.std.specs.Prelude.{◌≡◌, ◌==◌, ℕ, ◌∷◌, true, false, None, IfSome, IsSome, IsPermutation};
 ghost use Rattle.std.specs.Map.{lookup};
 ghost use Rattle.jg_lists.specs.ByMaker.{Name, same_name, named, IsThereOnce};

@@ -1,3 +1,5 @@
+//! A count for each key of a map.
+
 ghost use Rattle.std.specs.Prelude.{◌≡◌, ◌+◌, ◌-◌, ◌<◌, ◌≤◌, OnOk, IsSome, None, if◌then◌else◌};
 ghost use Rattle.indexmap.specs.IndexMap.{get};
 ghost use Rattle.jg_buffers.specs.Seen.{count_at};

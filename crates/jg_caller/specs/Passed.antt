@@ -9,16 +9,11 @@ use Rattle.jg_words.specs.declared.entry.Outcome.TheVariants.{Passed, Denied}
 use Rattle.jg_words.specs.Entry.{Entry}
 use Rattle.jg_rules.specs.Rules.{verdict}
 use Rattle.jg_rules.specs.Effects.{parts}
-use Rattle.jg_rules.specs.Legal.{entry_at}
 use Rattle.jg_guard.specs.Guard.{State}
 
 -- the first rule that the call breaks, as the journal is now
 abbrev pub judged : State → Tid → Option EnvId → Call → Option Rule
 judged guard t env call = verdict guard.setup (parts guard.setup guard.journal) t.0 env call
-
--- the entry that the call has next
-abbrev pub next_entry : State → Tid → Option EnvId → Call → Entry
-next_entry guard t env call = entry_at guard.setup (parts guard.setup guard.journal) t env call
 
 abbrev pub IsPassed : Outcome → Type 0
 IsPassed (Passed reply) = Unit {0}

@@ -3,24 +3,13 @@
 ghost use Rattle.std.specs.Prelude.{◌≡◌, ◌<◌, ◌⊎◌, ◌↔◌, List, ◌∷◌, length, slice_get, None, Some, Err, IfOk, IfErr, OnOk, OnErr};
 ghost use Rattle.jg_words.specs.Entry.{Entry};
 ghost use Rattle.jg_words.specs.declared.rule.Rule.{Rule};
-ghost use Rattle.jg_guard.specs.Guard.{Takes, Unchanged};
-ghost use Rattle.jg_caller.specs.Passed.{judged, next_entry, passed_in};
+ghost use Rattle.jg_guard.specs.Guard.{Takes, Unchanged, next_entry};
+ghost use Rattle.jg_caller.specs.Passed.{judged, passed_in};
 
 use crate::machine::Machine;
 use jg_guard::{Guard, Refusal};
 use jg_words::{Call, Entry, EnvId, Outcome, Tid};
 use std::alloc::Allocator;
-
-/// The newest entry of the journal.
-fn newest<A: Allocator + Clone>(guard: &Guard<A>) -> &Entry
-    requires { 0 < length guard.now.journal }
-    ensures { slice_get guard.now.journal 0 ≡ Some result.now }
-{
-    match guard.journal_entry(guard.journal_len() - 1) {
-        Some(entry) => entry,
-        None => unreachable!(),
-    }
-}
 
 /// Asks the guard, and has the machine do the call where the guard let it through. `tid` is the
 /// thread that makes the call, `env` the environment that it hands in. A denied call is journaled
@@ -45,7 +34,7 @@ pub fn let_through<A: Allocator + Clone, M: Machine>(
 {
     match guard.call(tid, env, call) {
         Ok(Outcome::Passed(reply)) => {
-            machine.carry_out(newest(guard));
+            machine.carry_out(guard.newest());
             Ok(Outcome::Passed(reply))
         }
         Ok(Outcome::Denied(rule)) => Ok(Outcome::Denied(rule)),

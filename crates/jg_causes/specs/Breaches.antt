@@ -89,7 +89,7 @@ operand_meant s p t call rule = find (breaks s p t rule) (operands call)
 abbrev pub place_meant : StatedSetup → Parts → ℕ → Call → Rule → Option ℕ
 place_meant s p t call rule = position (breaks s p t rule) (operands call)
 
-abbrev pub owner_of : Parts → ℕ → Option Tid
+abbrev owner_of : Parts → ℕ → Option Tid
 owner_of p o = option_map (λ u. record { 0 = u }) (monitors.owner p.monitors o)
 
 abbrev pub owner_breach : StatedSetup → Parts → Ref → Option ℕ → Breach
@@ -262,7 +262,7 @@ arrays_argument_breach (NewObjectArray n class fill) = breach.OutOfRange Length 
 arrays_argument_breach (GetObjectArrayElement r index) = breach.Unbroken
 arrays_argument_breach (SetObjectArrayElement r index value) = breach.Unbroken
 
-abbrev pub mode_breach : ℤ → Breach
+abbrev mode_breach : ℤ → Breach
 mode_breach mode = breach.OutOfRange Mode mode (pos 0) (pos 2)
 
 abbrev pub of_index : BufId → ℤ → Option Info → Breach
@@ -306,7 +306,7 @@ argument_breach s p (Buffers call) = buffers_argument_breach s p call
 
 -- ---- rules 15 to 17
 
-abbrev pub vm_frame_breach : VmCall → Breach
+abbrev vm_frame_breach : VmCall → Breach
 vm_frame_breach DetachCurrentThread = breach.StillInNative
 vm_frame_breach (NativeLeave kept) = breach.NotInNative
 vm_frame_breach call = breach.Unbroken

@@ -66,8 +66,8 @@ condition_of t (NoNative class) = None
 condition_of t (NotLinked class native) = Some (condition.IsLinked class native)
 condition_of t Unbroken = None
 
--- all of them: a critical region, and a reference that is pinned, have one for each critical buffer that is open, by the
--- thread that was lent it and by number
+-- all of them: a critical region, and a reference that is pinned, have one for each critical buffer that is open, by
+-- the thread that was lent it and by number
 abbrev pub conditions : Parts → Tid → Breach → List Condition
 conditions p t InRegion = map condition.IsOpen (pins_of p.buffers t.0)
 conditions p t (PinnedReference r) = map condition.IsOpen (pins_through p.buffers r)

@@ -19,31 +19,37 @@ pub record HasTurned (test : List Entry → Bool) (h : List Entry) (place : ℕ)
   pub whole : h ≡ later ++ entry ∷ before
   pub placed : length before ≡ place
   pub turned : test (entry ∷ before) ≡ not (test before)
-  pub since : (newer older : List Entry) → later ≡ newer ++ older → test (older ++ entry ∷ before) ≡ test (entry ∷ before)
+  pub since : (newer older : List Entry) → later ≡ newer ++ older
+      → test (older ++ entry ∷ before) ≡ test (entry ∷ before)
   pub earlier : (turns test h).earlier ≡ (turns test before).latest
 
 -- the latest turn is the entry that turned it last; the earlier one is the latest of the entries before that
+-- (proofs/Turning.antt)
 abbrev pub LatestTurned : Type 0
 LatestTurned = (test : List Entry → Bool) (h : List Entry) (place : ℕ) → (turns test h).latest ≡ Some place
     → HasTurned test h place
 
 -- without a turn the answer has ever been the same
+-- (proofs/Turning.antt)
 abbrev pub NeverTurned : Type 0
 NeverTurned = (test : List Entry → Bool) (newer h : List Entry) → (turns test (newer ++ h)).latest ≡ None
     → test h ≡ test []
 
 -- what turned once is not what it was at the beginning
+-- (proofs/Turning.antt)
 abbrev pub TurnedOnce : Type 0
 TurnedOnce = (test : List Entry → Bool) (h : List Entry) (place : ℕ) → (turns test h).latest ≡ Some place
     → (turns test h).earlier ≡ None → test h ≡ not (test [])
 
 -- a reference comes to name something for a thread at the entry alone that hands it out
+-- (proofs/Making.antt)
 abbrev pub MadeByItsAnswer : Type 0
 MadeByItsAnswer = (s : StatedSetup) (later : List Entry) (x : Entry) (before : List Entry) (t : Tid) (r : Ref)
     → Legal s (later ++ x ∷ before) → holds (parts s before) (Names t r) ≡ false
     → holds (parts s (x ∷ before)) (Names t r) ≡ true → reference_of x.outcome ≡ Some r
 
 -- from the oldest part on: it named something, then nothing; then it never names anything again
+-- (proofs/Making.antt)
 abbrev pub EndsOnce : Type 0
 EndsOnce = (s : StatedSetup) (newest later first : List Entry) (t : Tid) (r : Ref)
     → Legal s (newest ++ (later ++ first)) → holds (parts s first) (Names t r) ≡ true

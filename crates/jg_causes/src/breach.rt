@@ -1,3 +1,5 @@
+//! The ways in which a call breaks a rule, with what was found.
+
 use jg_buffers::Family;
 use jg_policy::Operation;
 use jg_rules::ObjectType;

@@ -1,3 +1,5 @@
+//! The conditions whose turning explains a denial.
+
 use jg_words::{BufId, EnvId, ObjId, Ref, Tid};
 
 /// A yes-or-no question about a journal whose answer may change from one entry to the next.

@@ -1,3 +1,5 @@
+//! Whether a condition holds, by the tables as they are now.
+
 ghost use Rattle.std.specs.Prelude.{◌≡◌};
 ghost use Rattle.jg_rules.specs.Parts.{Parts};
 ghost use Rattle.jg_rules.specs.View.{ViewStands};

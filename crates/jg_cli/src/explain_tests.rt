@@ -1,3 +1,5 @@
+//! Tests of what `--explain` and `--summary` say of scripts, journals and plays.
+
 use crate::tests::writes_so;
 use jg_program::Status;
 use std::test::Fail;
@@ -25,7 +27,8 @@ T1 E1.1 GetStringLength L1.1 = deny 6 DeadReference
 
 const EXPLAINED: &str = "line 4: deny 6 DeadReference of L1.1: L1.1 names nothing for T1
   made at line 2 by T1 NewString; ended at line 3 by T1 DeleteLocalRef
-  rule: a reference that was never made or has ended may not be used (JNI Specification, chapter 2, Global and Local References)
+  rule: a reference that was never made or has ended may not be used \
+(JNI Specification, chapter 2, Global and Local References)
   help: use it before it ends, or keep the object by NewGlobalRef
 ";
 
@@ -60,7 +63,8 @@ T1 E1.1 DeleteLocalRef G1.1 = deny 6 DeadReference
         Status::Denied,
         "line 3: deny 6 DeadReference of G1.1: G1.1 names nothing for T1
   never made
-  rule: a reference that was never made or has ended may not be used (JNI Specification, chapter 2, Global and Local References)
+  rule: a reference that was never made or has ended may not be used \
+(JNI Specification, chapter 2, Global and Local References)
   help: use it before it ends, or keep the object by NewGlobalRef
 leak L1.1: made at line 2 by T1 NewString
 ",
@@ -82,7 +86,8 @@ field 3, column 9: GetStringLenght is no function; did you mean GetStringLength?
         "line 2: limit
 line 1: deny 2 Detached: no environment was handed in
   never attached
-  rule: a thread calls with the environment of its present session (JNI Specification, chapter 5, Attaching to the VM, Detaching from the VM)
+  rule: a thread calls with the environment of its present session \
+(JNI Specification, chapter 5, Attaching to the VM, Detaching from the VM)
   help: attach the thread, and keep no environment past its detachment
 ",
     ),
@@ -149,7 +154,8 @@ T1 E1.1 GetStringLength L1.1 = 1
 const EXPECTED: &str = "line 4: expected 'deny 6 DeadReference', found '1'
 line 4: deny 6 DeadReference of L1.1: L1.1 names nothing for T1
   made at line 2 by T1 NewString; ended at line 3 by T1 DeleteLocalRef
-  rule: a reference that was never made or has ended may not be used (JNI Specification, chapter 2, Global and Local References)
+  rule: a reference that was never made or has ended may not be used \
+(JNI Specification, chapter 2, Global and Local References)
   help: use it before it ends, or keep the object by NewGlobalRef
 ";
 
@@ -195,7 +201,8 @@ const OTHERS: [Row; 8] = [
         "T1 - AttachCurrentThred = E1.1\n",
         "differs at line 1\n",
         Status::Differs,
-        "line 1: UnknownFunction: field 3, column 6: AttachCurrentThred is no function; did you mean AttachCurrentThread?
+        "line 1: UnknownFunction: field 3, column 6: AttachCurrentThred is no function; \
+        did you mean AttachCurrentThread?
 ",
     ),
     (

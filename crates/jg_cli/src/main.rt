@@ -11,7 +11,7 @@ mod setup_tests;
 #[cfg(test)]
 mod tests;
 
-use jg_program::{Status, Stop, run, tell};
+use jg_program::{ProgramStop, Status, run, tell};
 use std::env;
 use std::io::{BufReader, BufWriter, ErrorKind};
 use std::process::ExitCode;
@@ -23,27 +23,27 @@ const BUFFER: usize = 65_536;
 
 /// Runs the program on its words and the standard streams, which are buffered. The threads of a play
 /// are made by `threads`.
-fn start<T: Threads + Wait + Sync>(rt: &HostRuntime, threads: &T) -> Result<Status, Stop> {
+fn start<T: Threads + Wait + Sync>(rt: &HostRuntime, threads: &T) -> Result<Status, ProgramStop> {
     let alloc = rt.alloc();
     let args = match env::args(rt) {
         Ok(args) => args,
-        Err(error) if error.kind() == ErrorKind::OutOfMemory => return Err(Stop::NO_MEMORY),
-        Err(_) => return Err(Stop::REFUSED),
+        Err(error) if error.kind() == ErrorKind::OutOfMemory => return Err(ProgramStop::NO_MEMORY),
+        Err(_) => return Err(ProgramStop::REFUSED),
     };
     let Ok(args) = args.skip(1).collect::<Vec<String>>(alloc) else {
-        return Err(Stop::NO_MEMORY);
+        return Err(ProgramStop::NO_MEMORY);
     };
     let mut words = Vec::new(alloc);
     for word in &args {
         let Ok(()) = words.push(word.as_str()) else {
-            return Err(Stop::NO_MEMORY);
+            return Err(ProgramStop::NO_MEMORY);
         };
     }
     let Ok(reader) = BufReader::with_capacity(alloc, BUFFER, rt.stdin()) else {
-        return Err(Stop::NO_MEMORY);
+        return Err(ProgramStop::NO_MEMORY);
     };
     let Ok(out) = BufWriter::with_capacity(alloc, BUFFER, rt.stdout()) else {
-        return Err(Stop::NO_MEMORY);
+        return Err(ProgramStop::NO_MEMORY);
     };
     Ok(run(threads, alloc, &words, rt, reader, out, &mut rt.stderr()))
 }

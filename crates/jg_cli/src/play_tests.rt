@@ -1,4 +1,6 @@
-use crate::tests::{Broken, Difference, Ending, Unflushed, ends_so, writes_so, written_by};
+//! Tests of `jg play`: its statuses and texts, the limit, and devices that fail.
+
+use crate::tests::{Broken, Difference, StatusAndText, Unflushed, ends_so, writes_so, written_by};
 use jg_program::{Files, Status};
 use std::alloc::{AllocError, Global};
 use std::io;
@@ -231,7 +233,7 @@ fn journal_of<T: Threads + Wait + Sync>(
     alloc: Global,
     text: &str,
     options: &[&str],
-    ending: Ending<'_>,
+    ending: StatusAndText<'_>,
 ) -> Result<String, Fail> {
     let mut words = Vec::new(alloc);
     words.push("play")?;

@@ -1,4 +1,6 @@
-use crate::tests::{Broken, Difference, Ending, Unflushed, ends_so, writes_so, written_by};
+//! Tests of `--setup` and of `jg migrate`: faulty setups, and files that can't be read or are too long.
+
+use crate::tests::{Broken, Difference, StatusAndText, Unflushed, ends_so, writes_so, written_by};
 use jg_program::{Files, Status};
 use std::alloc::{AllocError, Global};
 use std::cell::Cell;
@@ -105,7 +107,7 @@ fn answers<T: Threads + Wait + Sync, S: Files>(
     words: &[&str],
     files: &S,
     text: &str,
-    ending: Ending<'_>,
+    ending: StatusAndText<'_>,
 ) -> io::Result<Difference> {
     writes_so(rt, alloc, words, files, SCRIPT.as_bytes(), text, ending)
 }

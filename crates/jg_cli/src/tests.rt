@@ -1,6 +1,8 @@
+//! Tests of `run`: the status, the text and what is said, for each end; and what all tests of the program share.
+
 use jg_args::VERSION;
 use jg_policy::SetupFault;
-use jg_program::{Files, Status, Stop, run, tell};
+use jg_program::{Files, ProgramStop, Status, run, tell};
 use jg_script::{Faulty, HandsOn, RunFault};
 use std::alloc::Global;
 use std::io;
@@ -13,7 +15,7 @@ use std::thread::Threads;
 pub(crate) type Difference = Option<&'static str>;
 
 /// The status that the program ends with, and what it says.
-pub(crate) type Ending<'a> = (Status, &'a str);
+pub(crate) type StatusAndText<'a> = (Status, &'a str);
 
 /// What isn't so where the program, run with these words, files and devices, ends as wanted.
 pub(crate) fn ends_so<T, S, R, W>(
@@ -23,7 +25,7 @@ pub(crate) fn ends_so<T, S, R, W>(
     files: &S,
     reader: R,
     writer: W,
-    (status, said): Ending<'_>,
+    (status, said): StatusAndText<'_>,
 ) -> Difference
 where
     T: Threads + Wait + Sync,
@@ -49,7 +51,7 @@ pub(crate) fn written_by<T, S, R>(
     words: &[&str],
     files: &S,
     reader: R,
-    ending: Ending<'_>,
+    ending: StatusAndText<'_>,
 ) -> io::Result<(Difference, Vec<u8>)>
 where
     T: Threads + Wait + Sync,
@@ -70,7 +72,7 @@ pub(crate) fn writes_so<T, S, R>(
     files: &S,
     reader: R,
     text: &str,
-    ending: Ending<'_>,
+    ending: StatusAndText<'_>,
 ) -> io::Result<Difference>
 where
     T: Threads + Wait + Sync,
@@ -90,7 +92,7 @@ fn ends_unread<T: Threads + Wait + Sync + Files>(
     rt: &T,
     alloc: Global,
     words: &[&str],
-    ending: Ending<'_>,
+    ending: StatusAndText<'_>,
 ) -> io::Result<Difference> {
     let reader = BufReader::new(alloc, Broken)?;
     let (difference, _) = written_by(rt, alloc, words, rt, reader, ending)?;
@@ -283,43 +285,51 @@ fn journals_are_tested(rt: HostRuntime) -> Result<(), Fail> {
 }
 
 /// Ways to end before the work is done, each with its status and its text.
-const STOPS: [(Stop, Status, &str); 13] = [
-    (Stop::REFUSED, Status::Faulty, "arguments refused\n"),
-    (Stop::NO_MEMORY, Status::Exhausted, "arguments: no memory\n"),
+const STOPS: [(ProgramStop, Status, &str); 13] = [
+    (ProgramStop::REFUSED, Status::Faulty, "arguments refused\n"),
     (
-        Stop::Setup(SetupFault::NoMemory),
+        ProgramStop::NO_MEMORY,
+        Status::Exhausted,
+        "arguments: no memory\n",
+    ),
+    (
+        ProgramStop::Setup(SetupFault::NoMemory),
         Status::Exhausted,
         "setup: no memory\n",
     ),
     (
-        Stop::Setup(SetupFault::BadVersion),
+        ProgramStop::Setup(SetupFault::BadVersion),
         Status::Faulty,
         "setup: BadVersion\n",
     ),
-    (Stop::SetupRead, Status::Device, "setup: read failed\n"),
     (
-        Stop::Run(RunFault::Limit { line: 4 }),
+        ProgramStop::SetupRead,
+        Status::Device,
+        "setup: read failed\n",
+    ),
+    (
+        ProgramStop::Run(RunFault::Limit { line: 4 }),
         Status::Exhausted,
         "line 4: limit\n",
     ),
     (
-        Stop::Run(RunFault::NoMemory { line: 5 }),
+        ProgramStop::Run(RunFault::NoMemory { line: 5 }),
         Status::Exhausted,
         "line 5: no memory\n",
     ),
     (
-        Stop::Run(RunFault::Read { line: 6 }),
+        ProgramStop::Run(RunFault::Read { line: 6 }),
         Status::Device,
         "line 6: read failed\n",
     ),
     (
-        Stop::Run(RunFault::Write { line: 7 }),
+        ProgramStop::Run(RunFault::Write { line: 7 }),
         Status::Device,
         "line 7: write failed\n",
     ),
-    (Stop::Leaks, Status::Exhausted, "leaks: no memory\n"),
+    (ProgramStop::Leaks, Status::Exhausted, "leaks: no memory\n"),
     (
-        Stop::Mismatch {
+        ProgramStop::Mismatch {
             thread: 1,
             place: 3,
         },
@@ -327,12 +337,12 @@ const STOPS: [(Stop, Status, &str); 13] = [
         "differs at T1 place 3\n",
     ),
     (
-        Stop::Worker(jg_shell::Stop::Limit),
+        ProgramStop::Worker(jg_shell::Stop::Limit),
         Status::Exhausted,
         "limit\n",
     ),
     (
-        Stop::Worker(jg_shell::Stop::NoMemory),
+        ProgramStop::Worker(jg_shell::Stop::NoMemory),
         Status::Exhausted,
         "no memory\n",
     ),

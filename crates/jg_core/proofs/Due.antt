@@ -57,7 +57,8 @@ up_to k m n p less few = record {
 
 pub ordinary : (s : StatedSetup) (w : List Fact) → History s w → made_in w ≤ 2 ^ 60 → IsOrdinary s (parts_of w)
 ordinary s w could few = record {
-  agree = each_told (λ p. (t : ℕ) → Agreed (threads.acts_of t p.threads) (acts_of t p.locals)) s (keeps_agree s) (λ t. record { session = refl; enters = refl; leaves = refl; none_entered = λ is. refl; none_left = λ is. refl }) w could;
+  agree = each_told (λ p. (t : ℕ) → Agreed (threads.acts_of t p.threads) (acts_of t p.locals)) s (keeps_agree s)
+      (λ t. record { session = refl; enters = refl; leaves = refl; none_entered = λ is. refl; none_left = λ is. refl }) w could;
   below = each_told Below s (keeps_below s) (λ t. tt) w could;
   globals_below = each_told GlobalsBelow s (keeps_globals_below s) (λ t. tt) w could;
   buffers_below = each_told LentBelow s (keeps_lent_below s) (λ t. tt) w could;
@@ -65,7 +66,7 @@ ordinary s w could few = record {
 }
 
 -- a fact that makes nothing leaves them so
-pub ordinary_on : (s : StatedSetup) (p : Parts) (x : Fact) → can_be s p x ≡ true → makes x ≡ false → IsOrdinary s p → IsOrdinary s (on x p)
+ordinary_on : (s : StatedSetup) (p : Parts) (x : Fact) → can_be s p x ≡ true → makes x ≡ false → IsOrdinary s p → IsOrdinary s (on x p)
 ordinary_on s p x can none old = record {
   agree = each_fact (λ q. (t : ℕ) → Agreed (threads.acts_of t q.threads) (acts_of t q.locals)) s (keeps_agree s) p x can old.agree;
   below = each_fact Below s (keeps_below s) p x can old.below;
@@ -155,7 +156,8 @@ attached_left : (p : Parts) (t : Tid) → is_attached p t.0 ≡ true → is_atta
 attached_left p t is = rw (acts_more t.0 t.0 threads.Calm (threads.by t.0 threads.Leave ∷ p.threads) refl, acts_more t.0 t.0 threads.Leave p.threads refl) is
 
 -- a thread that left a native method still has its session
-pub session_left : (s : StatedSetup) (rows : RowsBeside object_rows.Rows) (p : Parts) (t : Tid) → can_be s p (Leave t None) ≡ true → IsOrdinary s p → Stand s rows (on (Leave t None) p) → HasSession s rows t.0
+pub session_left : (s : StatedSetup) (rows : RowsBeside object_rows.Rows) (p : Parts) (t : Tid) → can_be s p (Leave t None) ≡ true → IsOrdinary s p → Stand s rows (on (Leave t None) p)
+    → HasSession s rows t.0
 session_left s rows p t can o stand = record {
   events = on (Leave t None) p;
   ordinary = ordinary_on s p (Leave t None) can refl o;
@@ -163,7 +165,8 @@ session_left s rows p t can o stand = record {
   attached = attached_left p t (first (is_attached p t.0) _ can);
 }
 
-pub session_popped : (s : StatedSetup) (rows : RowsBeside object_rows.Rows) (p : Parts) (t : Tid) → can_be s p (Pop t None) ≡ true → IsOrdinary s p → Stand s rows (on (Pop t None) p) → HasSession s rows t.0
+pub session_popped : (s : StatedSetup) (rows : RowsBeside object_rows.Rows) (p : Parts) (t : Tid) → can_be s p (Pop t None) ≡ true → IsOrdinary s p → Stand s rows (on (Pop t None) p)
+    → HasSession s rows t.0
 session_popped s rows p t can o stand = record {
   events = on (Pop t None) p;
   ordinary = ordinary_on s p (Pop t None) can refl o;

@@ -67,7 +67,11 @@ module _ (P : Parts → Type 0) (s : StatedSetup) (keeps : Keeps s P) where
   losing p (To Weak maker n) old = keeps.steps.to_globals p (globals.DeleteWeak maker.0 n ∷ []) refl old
 
   lending : (p : Parts) (t : ℕ) (c : Bool) (o : ℕ) (family : Family) (via : Ref) (n : ℕ) → P p
-      → P (record p { threads = threads.by t threads.CountBuffer ∷ p.threads; buffers = buffers.Opened (if c then buffers.pin_through t (next_buffer p t) o family via n else buffers.copy_with t (next_buffer p t) o family (replicate n (pos 0))) ∷ p.buffers })
+      → P (record p {
+        threads = threads.by t threads.CountBuffer ∷ p.threads;
+        buffers = buffers.Opened
+            (if c then buffers.pin_through t (next_buffer p t) o family via n else buffers.copy_with t (next_buffer p t) o family (replicate n (pos 0))) ∷ p.buffers;
+      })
   lending p t true o family via n old = keeps.lends p t (buffers.pin_through t (next_buffer p t) o family via n) refl refl old
   lending p t false o family via n old = keeps.lends p t (buffers.copy_with t (next_buffer p t) o family (replicate n (pos 0))) refl refl old
 
@@ -88,7 +92,8 @@ module _ (P : Parts → Type 0) (s : StatedSetup) (keeps : Keeps s P) where
   each_fact p (Push t room) can old = keeps.steps.pushes p t.0 room old
   each_fact p (Pop t kept) can old =
       keeping (record p { locals = locals.by t.0 locals.Pop ∷ p.locals }) t.0 kept
-      (keeps.steps.pops p t.0 (not_true (open_frames p t.0 == 0) (first (not (open_frames p t.0 == 0)) (is_kept_here s p kept) (second (is_attached p t.0) (not (open_frames p t.0 == 0) && is_kept_here s p kept) can))) old)
+      (keeps.steps.pops p t.0 (not_true (open_frames p t.0 == 0) (first (not (open_frames p t.0 == 0)) (is_kept_here s p kept)
+      (second (is_attached p t.0) (not (open_frames p t.0 == 0) && is_kept_here s p kept) can))) old)
   each_fact p (Ensure t room) can old = keeps.steps.widens p t.0 room old
   each_fact p (Raise t o) can old = keeps.steps.raises p t.0 o.0 old
   each_fact p (Calm t) can old = keeps.steps.calms p t.0 old

@@ -39,7 +39,7 @@ set_same true m m' same = refl
 set_same false m m' same = same
 
 -- what is unfit is read of the marks, one by one
-pub unfit_same : (m m' : ℕ → Option Bool) (objects : List ObjId) → ((o : ℕ) → m o ≡ m' o) → first_unfit m objects ≡ first_unfit m' objects
+unfit_same : (m m' : ℕ → Option Bool) (objects : List ObjId) → ((o : ℕ) → m o ≡ m' o) → first_unfit m objects ≡ first_unfit m' objects
 unfit_same m m' [] same = refl
 unfit_same m m' (o ∷ objects) same =
     ap (λ b. if b then option_map (λ n. n + 1) (first_unfit (with_set m o.0) objects) else Some 0) (ap is_unset (same o.0))
@@ -167,7 +167,7 @@ held_if s p m o objects true can unset rest = rw (can, unset, rest refl) refl
 held_if s p m o objects false can unset rest = rw (can, unset) refl
 
 -- where each object of the list has a mark that isn't set exactly where it can go
-pub unfit_is_held : (s : StatedSetup) (p : Parts) (m : ℕ → Option Bool) (objects : List ObjId) → ((x : ObjId) → is_listed objects x.0 ≡ true → is_unset (m x.0) ≡ can_be s p (Gone x))
+unfit_is_held : (s : StatedSetup) (p : Parts) (m : ℕ → Option Bool) (objects : List ObjId) → ((x : ObjId) → is_listed objects x.0 ≡ true → is_unset (m x.0) ≡ can_be s p (Gone x))
     → first_unfit m objects ≡ first_held s p objects
 unfit_is_held s p m [] marks = refl
 unfit_is_held s p m (o ∷ objects) marks =
@@ -186,7 +186,7 @@ or_assoc true true c = refl
 or_assoc true false c = refl
 or_assoc false b c = refl
 
-pub listed_numbers : (objects : List ObjId) (before : List ℕ) (q : ℕ) → list_any (λ x. x == q) (numbers_of objects before) ≡ (is_listed objects q || list_any (λ x. x == q) before)
+listed_numbers : (objects : List ObjId) (before : List ℕ) (q : ℕ) → list_any (λ x. x == q) (numbers_of objects before) ≡ (is_listed objects q || list_any (λ x. x == q) before)
 listed_numbers [] before q = refl
 listed_numbers (o ∷ objects) before q = listed_numbers objects (o.0 ∷ before) q ∙ or_assoc (o.0 == q) (is_listed objects q) (list_any (λ x. x == q) before)
 
@@ -258,13 +258,13 @@ unmarked_after p rows objects m n last marks same taken o = taken o ∙ by (is_l
 -- ---- all of them gone
 
 -- the parts with all of them gone
-pub parts_gone : (objects : List ObjId) (p : Parts) (before : List ℕ) (g : List globals.Event)
+parts_gone : (objects : List ObjId) (p : Parts) (before : List ℕ) (g : List globals.Event)
     → gone_on objects (record p { globals = map (λ o. globals.Clear o) before ++ g })
     ≡ record p { globals = map (λ o. globals.Clear o) (numbers_of objects before) ++ g; heap = went objects p.heap }
 parts_gone [] p before g = refl
 parts_gone (o ∷ objects) p before g = parts_gone objects (record p { heap = heap.Went o.0 ∷ p.heap }) (o.0 ∷ before) g
 
-pub told_gone : (objects : List ObjId) (w : List Fact) → parts_of (all_gone objects w) ≡ gone_on objects (parts_of w)
+told_gone : (objects : List ObjId) (w : List Fact) → parts_of (all_gone objects w) ≡ gone_on objects (parts_of w)
 told_gone [] w = refl
 told_gone (o ∷ objects) w = told_gone objects (Gone o ∷ w)
 
@@ -295,14 +295,14 @@ no_first true rest is = (refl, more_held rest is)
 no_first false rest is = absurd cc
 
 -- where none is held, each could be told
-pub all_could : (s : StatedSetup) (objects : List ObjId) (w : List Fact) → History s w → first_held s (parts_of w) objects ≡ None → History s (all_gone objects w)
+all_could : (s : StatedSetup) (objects : List ObjId) (w : List Fact) → History s w → first_held s (parts_of w) objects ≡ None → History s (all_gone objects w)
 all_could s [] w could none = could
 all_could s (o ∷ objects) w could none =
     let both = no_first (can_be s (parts_of w) (Gone o)) (first_held s (on (Gone o) (parts_of w)) objects) none in
     all_could s objects (Gone o ∷ w) (both.0, could) both.1
 
 -- and none of them makes anything
-pub made_gone : (objects : List ObjId) (w : List Fact) → made_in (all_gone objects w) ≡ made_in w
+made_gone : (objects : List ObjId) (w : List Fact) → made_in (all_gone objects w) ≡ made_in w
 made_gone [] w = refl
 made_gone (o ∷ objects) w = made_gone objects (Gone o ∷ w)
 

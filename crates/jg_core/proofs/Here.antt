@@ -53,17 +53,18 @@ none_some is = absurd cc
 module _ (H : ℕ → Type 0) (e : List buffers.Event) (old : PinsMeet H e) where
   opened_by : (same : Bool) (b : buffers.Buffer) (m n : ℕ) (c : buffers.Buffer) → (buffers.is_critical b.family ≡ true → H b.object)
       → (if same then Some b else buffers.opened e m n) ≡ Some c → buffers.is_critical c.family ≡ true → H c.object
-  opened_by true b m n c own is critical = let one = one_buffer b c is in subst (λ (x : buffers.Buffer). H x.object) one (own (ap (λ (x : buffers.Buffer). buffers.is_critical x.family) one ∙ critical))
+  opened_by true b m n c own is critical = let one = one_buffer b c is in subst (λ (x : buffers.Buffer). H x.object) one
+      (own (ap (λ (x : buffers.Buffer). buffers.is_critical x.family) one ∙ critical))
   opened_by false b m n c own is critical = old m n c is critical
 
-  pub pin_opened : (b : buffers.Buffer) → (buffers.is_critical b.family ≡ true → H b.object) → PinsMeet H (buffers.Opened b ∷ e)
+  pin_opened : (b : buffers.Buffer) → (buffers.is_critical b.family ≡ true → H b.object) → PinsMeet H (buffers.Opened b ∷ e)
   pin_opened b own m n c is critical = opened_by (buffers.is_same m n b.maker b.n) b m n c own is critical
 
   closed_by : (same : Bool) (m n : ℕ) (c : buffers.Buffer) → (if same then None else buffers.opened e m n) ≡ Some c → buffers.is_critical c.family ≡ true → H c.object
   closed_by true m n c is critical = none_some is
   closed_by false m n c is critical = old m n c is critical
 
-  pub pin_closed : (k i : ℕ) → PinsMeet H (buffers.Closed k i ∷ e)
+  pin_closed : (k i : ℕ) → PinsMeet H (buffers.Closed k i ∷ e)
   pin_closed k i m n c is critical = closed_by (buffers.is_same m n k i) m n c is critical
 
   left_open : (pinned : Bool) (b c : buffers.Buffer) → (if pinned then None else Some b) ≡ Some c → b ≡ c
@@ -76,7 +77,7 @@ module _ (H : ℕ → Type 0) (e : List buffers.Event) (old : PinsMeet H e) wher
   released_by true (Some b) m n c there is critical = old m n c (there ∙ ap Some (left_open (buffers.is_critical b.family) b c is)) critical
   released_by false found m n c there is critical = old m n c (there ∙ is) critical
 
-  pub pins_released : (k : ℕ) → PinsMeet H (buffers.ReleaseAll k ∷ e)
+  pins_released : (k : ℕ) → PinsMeet H (buffers.ReleaseAll k ∷ e)
   pins_released k m n c is critical = released_by (k == m) (buffers.opened e m n) m n c refl is critical
 
 abbrev OwnedMeets : (ℕ → Type 0) → List monitors.Event → Type 0
@@ -254,8 +255,10 @@ module _ (k : ℕ) (p : Parts) (all : HeldHere k p) where
 
 handed_here : (k : ℕ) (p : Parts) (t : ℕ) (kind : Kind) (o : ℕ) → Here k p.heap o → HeldHere k p → HeldHere k (handed_on t kind o p)
 handed_here k p t Local o is all = local_made k (record p { threads = threads.by t threads.CountRef ∷ p.threads }) (quiet k p all t (threads.CountRef ∷ []) [] tt refl) t _ o is
-handed_here k p t Global o is all = of_globals k (record p { threads = threads.by t threads.CountRef ∷ p.threads }) (quiet k p all t (threads.CountRef ∷ []) [] tt refl) (globals.MakeStrong t _ o ∷ []) (is, tt)
-handed_here k p t Weak o is all = of_globals k (record p { threads = threads.by t threads.CountRef ∷ p.threads }) (quiet k p all t (threads.CountRef ∷ []) [] tt refl) (globals.MakeWeak t _ o ∷ []) (is, tt)
+handed_here k p t Global o is all = of_globals k (record p { threads = threads.by t threads.CountRef ∷ p.threads }) (quiet k p all t (threads.CountRef ∷ []) [] tt refl) (globals.MakeStrong t _ o ∷ [])
+    (is, tt)
+handed_here k p t Weak o is all = of_globals k (record p { threads = threads.by t threads.CountRef ∷ p.threads }) (quiet k p all t (threads.CountRef ∷ []) [] tt refl) (globals.MakeWeak t _ o ∷ [])
+    (is, tt)
 
 kept_here : (s : StatedSetup) (t : ℕ) (kept : Option ObjId) (p q : Parts) → is_kept_here s p kept ≡ true → q.heap ≡ p.heap → HeldHere (class_count s) q → HeldHere (class_count s) (kept_on t kept q)
 kept_here s t None p q is same all = all
@@ -352,7 +355,8 @@ each_here s p (End t) can all =
     let k : ℕ = class_count s in
     let q : Parts = record p { threads = threads.by t.0 threads.Detach ∷ p.threads; locals = locals.by t.0 locals.End ∷ p.locals } in
     let r : Parts = record q { monitors = monitors.by t.0 monitors.ReleaseAll ∷ p.monitors } in
-    of_buffers k r (of_monitors k q (quiet k p all t.0 (threads.Detach ∷ []) (locals.End ∷ []) tt refl) t.0 monitors.ReleaseAll tt) (buffers.ReleaseAll t.0 ∷ p.buffers) (pins_released (Here k p.heap) p.buffers all.pins t.0)
+    of_buffers k r (of_monitors k q (quiet k p all t.0 (threads.Detach ∷ []) (locals.End ∷ []) tt refl) t.0 monitors.ReleaseAll tt) (buffers.ReleaseAll t.0 ∷ p.buffers)
+    (pins_released (Here k p.heap) p.buffers all.pins t.0)
 each_here s p (Enter t) can all = quiet (class_count s) p all t.0 (threads.Calm ∷ threads.Enter ∷ []) (locals.Enter ∷ []) tt refl
 each_here s p (Leave t kept) can all =
     let is = second (not (depth p t.0 == 0)) (is_kept_here s p kept) (second (is_attached p t.0) (not (depth p t.0 == 0) && is_kept_here s p kept) can) in
@@ -360,7 +364,9 @@ each_here s p (Leave t kept) can all =
     (quiet (class_count s) p all t.0 (threads.Calm ∷ threads.Leave ∷ []) (locals.Leave ∷ []) tt refl)
 each_here s p (Push t room) can all = quiet (class_count s) p all t.0 [] (locals.Push room ∷ []) tt refl
 each_here s p (Pop t kept) can all =
-    kept_here s t.0 kept p (record p { locals = locals.by t.0 locals.Pop ∷ p.locals }) (second (not (open_frames p t.0 == 0)) (is_kept_here s p kept) (second (is_attached p t.0) (not (open_frames p t.0 == 0) && is_kept_here s p kept) can)) refl (quiet (class_count s) p all t.0 [] (locals.Pop ∷ []) tt refl)
+    kept_here s t.0 kept p (record p { locals = locals.by t.0 locals.Pop ∷ p.locals })
+    (second (not (open_frames p t.0 == 0)) (is_kept_here s p kept) (second (is_attached p t.0) (not (open_frames p t.0 == 0) && is_kept_here s p kept) can)) refl
+    (quiet (class_count s) p all t.0 [] (locals.Pop ∷ []) tt refl)
 each_here s p (Ensure t room) can all = quiet (class_count s) p all t.0 [] (locals.Ensure room ∷ []) tt refl
 each_here s p (Raise t o) can all = quiet (class_count s) p all t.0 (threads.Raise o.0 ∷ []) [] (here s p o.0 (second (is_attached p t.0) (is_here s p o.0) can), tt) refl
 each_here s p (Calm t) can all = quiet (class_count s) p all t.0 (threads.Calm ∷ []) [] tt refl
@@ -374,7 +380,8 @@ each_here s p (Lend t family o via n) can all =
     (lent_pin (buffers.is_critical family) k p t.0 (next_buffer p t.0) o.0 family via n refl is all)
 each_here s p (Back b) can all = of_buffers (class_count s) p all (buffers.Closed b.maker.0 b.n ∷ p.buffers) (pin_closed (Here (class_count s) p.heap) p.buffers all.pins b.maker.0 b.n)
 each_here s p (Own t o) can all =
-    of_monitors (class_count s) p all t.0 (monitors.Enter o.0) (here s p o.0 (first (is_here s p o.0) (is_free_for t.0 (monitors.owner p.monitors o.0)) (second (is_attached p t.0) (is_here s p o.0 && is_free_for t.0 (monitors.owner p.monitors o.0)) can)))
+    of_monitors (class_count s) p all t.0 (monitors.Enter o.0) (here s p o.0
+    (first (is_here s p o.0) (is_free_for t.0 (monitors.owner p.monitors o.0)) (second (is_attached p t.0) (is_here s p o.0 && is_free_for t.0 (monitors.owner p.monitors o.0)) can)))
 each_here s p (Free t o) can all = of_monitors (class_count s) p all t.0 (monitors.Exit o.0) tt
 each_here s p (Meet class n) can all = met_here (class_count s) p all class n (let few : nat_lt class (class_count s) ≡ true = can in grind (arith, nat_tests, few))
 each_here s p (Gone o) can all =
@@ -400,7 +407,7 @@ none_here k few = record {
 base_classes : (s : StatedSetup) → 1 < class_count s
 base_classes s = omega arith
 
-pub told_here : (s : StatedSetup) (w : List Fact) → History s w → HeldHere (class_count s) (parts_of w)
+told_here : (s : StatedSetup) (w : List Fact) → History s w → HeldHere (class_count s) (parts_of w)
 told_here s [] could = none_here (class_count s) (base_classes s)
 told_here s (x ∷ w) could = each_here s (parts_of w) x could.0 (told_here s w could.1)
 
@@ -420,7 +427,8 @@ pub held_is_here : HeldIsHere
 held_is_here s w o could root =
     let p : Parts = parts_of w in
     let all = told_here s w could in
-    is_here_of s p o (held_by (Here (class_count s) p.heap o) (locals.holds_object p.locals o) (globals.holds_object p.globals o) (threads.is_pending p.threads o) (buffers.pins_object p.buffers o) (monitors.held p.monitors o) root
+    is_here_of s p o (held_by (Here (class_count s) p.heap o) (locals.holds_object p.locals o) (globals.holds_object p.globals o) (threads.is_pending p.threads o) (buffers.pins_object p.buffers o)
+    (monitors.held p.monitors o) root
     (λ is. let found = (local_held_law p.locals o).0 is in all.locals found.0 found.1 o found.2)
     (λ is. let found = (holds_law p.globals o).0 is in all.strong found.0 found.1 o found.2)
     (λ is. let found = (is_pending_law p.threads o).0 is in all.pending found.0 o found.1)

@@ -25,7 +25,7 @@ owned_by None t is = absurd cc
 owned_by (Some u) t is = ap Some (eqb-true u t is)
 
 -- a monitor that is nobody else's isn't busy
-pub not_busy : (found : Option ℕ) (t : ℕ) → is_free_for t found ≡ true → entering t found ≡ Entered
+not_busy : (found : Option ℕ) (t : ℕ) → is_free_for t found ≡ true → entering t found ≡ Entered
 not_busy None t is = refl
 not_busy (Some u) t is = rw is refl
 

@@ -1,5 +1,5 @@
--- What a virtual machine says is so: what each fact is to the tables, and where it can be. t is a thread, o an object. A
--- list of facts has the newest first.
+-- What a virtual machine says is so: what each fact is to the tables, and where it can be. t is a thread, o an object.
+-- A list of facts has the newest first.
 use Rattle.std.specs.Prelude.{ℕ, pos, ◌≡◌, ◌+◌, ◌==◌, ◌&&◌, ◌||◌, not, nat_lt, if◌then◌else◌, length, replicate, Bool, true, false, List, [], ◌∷◌, ◌++◌, Option, Some, None}
 use Rattle.std.specs.Option.{is_some, option_map}
 use Rattle.jg_words.specs.declared.object.ObjId.{ObjId}
@@ -32,9 +32,18 @@ use Rattle.jg_core.specs.declared.fact.Checked.TheVariants as checked
 
 -- t is handed its next reference (chapter 2, "Global and Local References")
 abbrev pub handed_on : ℕ → Kind → ℕ → Parts → Parts
-handed_on t Local o p = record p { threads = threads.by t threads.CountRef ∷ p.threads; locals = locals.by t (locals.Make (next_ref p t) o) ∷ p.locals }
-handed_on t Global o p = record p { threads = threads.by t threads.CountRef ∷ p.threads; globals = globals.MakeStrong t (next_ref p t) o ∷ p.globals }
-handed_on t Weak o p = record p { threads = threads.by t threads.CountRef ∷ p.threads; globals = globals.MakeWeak t (next_ref p t) o ∷ p.globals }
+handed_on t Local o p = record p {
+  threads = threads.by t threads.CountRef ∷ p.threads;
+  locals = locals.by t (locals.Make (next_ref p t) o) ∷ p.locals;
+}
+handed_on t Global o p = record p {
+  threads = threads.by t threads.CountRef ∷ p.threads;
+  globals = globals.MakeStrong t (next_ref p t) o ∷ p.globals;
+}
+handed_on t Weak o p = record p {
+  threads = threads.by t threads.CountRef ∷ p.threads;
+  globals = globals.MakeWeak t (next_ref p t) o ∷ p.globals;
+}
 
 -- the same of a local for an object that was kept, if one was
 abbrev pub kept_on : ℕ → Option ObjId → Parts → Parts
@@ -56,7 +65,10 @@ lent t n family o via count =
 
 -- the parts with the fact's events in front
 abbrev pub on : Fact → Parts → Parts
-on (Begin t) p = record p { threads = threads.by t.0 threads.Attach ∷ p.threads; locals = locals.by t.0 locals.Start ∷ p.locals }
+on (Begin t) p = record p {
+  threads = threads.by t.0 threads.Attach ∷ p.threads;
+  locals = locals.by t.0 locals.Start ∷ p.locals;
+}
 on (End t) p = record p {
   threads = threads.by t.0 threads.Detach ∷ p.threads;
   locals = locals.by t.0 locals.End ∷ p.locals;
@@ -139,7 +151,8 @@ same_object (Some o) (Some q) = o.0 == q
 
 -- the tables say the same
 abbrev pub is_so : StatedSetup → Parts → Check → Bool
-is_so s p (checked.Local t n object) = is_attached p t.0 && same_object object (locals.live n (locals.acts_of t.0 p.locals))
+is_so s p (checked.Local t n object) =
+    is_attached p t.0 && same_object object (locals.live n (locals.acts_of t.0 p.locals))
 is_so s p (checked.Pending t object) = is_attached p t.0 && same_object object (pending p t.0)
 is_so s p (checked.Length o n) = is_here s p o.0 && (not (nat_lt o.0 (class_count s)) && length_of s p o.0 == n)
 

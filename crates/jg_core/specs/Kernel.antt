@@ -30,14 +30,15 @@ pub record CoreState : Type 0 where
   pub rows : RowsBeside Rows
   pub made : ℕ
 
--- it stands for a list of facts: each could be when it was told, so many of them made something, and its tables stand for
--- their events
+-- it stands for a list of facts: each could be when it was told, so many of them made something, and its tables stand
+-- for their events
 pub record CoreStands (c : CoreState) (w : List Fact) : Type 0 where
   pub history : History c.setup w
   pub counted : made_in w ≡ c.made
   pub tables : StandBeside Tells c.setup c.rows (parts_of w)
 
--- what every core keeps: it stands for some list of facts, of which not too many made something, and no object is marked
+-- what every core keeps: it stands for some list of facts, of which not too many made something, and no object is
+-- marked
 pub record IsCore (c : CoreState) : Type 0 where
   pub told : List Fact
   pub stands : CoreStands c told
@@ -67,8 +68,8 @@ pub record Refuses (c : CoreState) (x : Fact) (why : Untold) : Type 0 where
       → (why ≡ Full) ↔ ((can_be c.setup (parts_of w) x ≡ true) × (makes x ≡ true) × (c.made ≡ 2 ^ 60))
   pub wants : why ≡ NoMemory → makes x ≡ true
 
--- what keeps the object from being gone: it is a class object, a live local or global reference names it, it is pending,
--- a critical buffer of it is open, its monitor is owned; or none of these: then it isn't there
+-- what keeps the object from being gone: it is a class object, a live local or global reference names it, it is
+-- pending, a critical buffer of it is open, its monitor is owned; or none of these: then it isn't there
 abbrev pub Keeps : StatedSetup → Parts → ℕ → Holder → Type 0
 Keeps s p o holder.Nothing = (nat_lt o (class_count s) ≡ false) × (is_root p o ≡ false)
 Keeps s p o holder.Setup = nat_lt o (class_count s) ≡ true
@@ -79,4 +80,5 @@ Keeps s p o (holder.Monitor t) = monitors.owner p.monitors o ≡ Some t.0
 
 -- the first rule that the call breaks after these events, and the place of the first operand that breaks it
 abbrev pub broken : StatedSetup → Parts → ℕ → Option EnvId → Call → Option Broken
-broken s p t env call = option_map (λ rule. record { rule = rule; operand = place_meant s p t call rule }) (verdict s p t env call)
+broken s p t env call =
+    option_map (λ rule. record { rule = rule; operand = place_meant s p t call rule }) (verdict s p t env call)

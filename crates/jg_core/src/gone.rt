@@ -148,7 +148,8 @@ fn holder_of<A: Allocator + Clone>(tables: &Tables<A>, setup: &Setup, object: Ob
     }
 }
 
-/// Lets the objects go, all or none. No object has a mark, before and after. Takes no memory, and time by the list and by what is held.
+/// Lets the objects go, all or none. No object has a mark, before and after. Takes no memory, and time by the list and
+/// by what is held.
 pub(crate) fn let_all_go<A: Allocator + Copy>(
     tables: &mut Tables<A>,
     setup: &Setup,

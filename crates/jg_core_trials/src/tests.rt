@@ -1,3 +1,5 @@
+//! Facts, questions and runs of both that the tests share.
+
 mod collecting;
 mod facts;
 mod links;

@@ -73,7 +73,8 @@ own_maker (ReleaseAll k ∷ e) m n b is = released_if (k == m) m b (opened e m n
 on_and_off : (b : Bool) → b ≡ true → b ≡ false → ⊥
 on_and_off b on off = cc
 
-copies_only : (e : List Event) (m n : ℕ) (b : Buffer) (critical : Bool) → is_critical b.family ≡ critical → opened e m n ≡ Some b → in_critical e m ≡ false → (if critical then None else Some b) ≡ Some b
+copies_only : (e : List Event) (m n : ℕ) (b : Buffer) (critical : Bool) → is_critical b.family ≡ critical
+    → opened e m n ≡ Some b → in_critical e m ≡ false → (if critical then None else Some b) ≡ Some b
 copies_only e m n b true is there none =
     absurd (on_and_off (in_critical e m) ((critical_law e m).1 (record { maker = m; n = n; buffer = b; is_open = there; critical = is; holds = own_maker e m n b there })) none)
 copies_only e m n b false is there none = refl

@@ -32,7 +32,9 @@ kept later ev (Some o) quiet = rw (quiet o) refl
 pub strong_made : (k i o : ℕ) (e f : List Event) → SameGlobals e f → SameGlobals (MakeStrong k i o ∷ e) (MakeStrong k i o ∷ f)
 strong_made k i o e f same = record {
   strong = λ maker n. same_if (is_same maker n k i) (Some o) (strong e maker n) (strong f maker n) (same.strong maker n);
-  weak = λ maker n. kept (after_making maker n e) (MakeStrong k i o) (weak e maker n) (λ p. refl) ∙ (same.weak maker n ∙ sym (kept (after_making maker n f) (MakeStrong k i o) (weak f maker n) (λ p. refl)));
+  weak =
+      λ maker n. kept (after_making maker n e) (MakeStrong k i o) (weak e maker n) (λ p. refl)
+      ∙ (same.weak maker n ∙ sym (kept (after_making maker n f) (MakeStrong k i o) (weak f maker n) (λ p. refl)));
 }
 
 weak_if : (b : Bool) (k i o : ℕ) (la lb : List Event) (a c : Option ℕ) → unless_cleared la a ≡ unless_cleared lb c
@@ -49,7 +51,9 @@ weak_made k i o e f same = record {
 pub strong_deleted : (k i : ℕ) (e f : List Event) → SameGlobals e f → SameGlobals (DeleteStrong k i ∷ e) (DeleteStrong k i ∷ f)
 strong_deleted k i e f same = record {
   strong = λ maker n. same_if (is_same maker n k i) None (strong e maker n) (strong f maker n) (same.strong maker n);
-  weak = λ maker n. kept (after_making maker n e) (DeleteStrong k i) (weak e maker n) (λ p. refl) ∙ (same.weak maker n ∙ sym (kept (after_making maker n f) (DeleteStrong k i) (weak f maker n) (λ p. refl)));
+  weak =
+      λ maker n. kept (after_making maker n e) (DeleteStrong k i) (weak e maker n) (λ p. refl)
+      ∙ (same.weak maker n ∙ sym (kept (after_making maker n f) (DeleteStrong k i) (weak f maker n) (λ p. refl)));
 }
 
 deleted_if : (b : Bool) (k i : ℕ) (la lb : List Event) (a c : Option ℕ) → unless_cleared la a ≡ unless_cleared lb c
@@ -66,7 +70,7 @@ weak_deleted k i e f same = record {
 -- ---- a collection
 
 -- what a weak reference names after these objects were cleared
-abbrev pub cleared_by : List ℕ → Option Target → Option Target
+abbrev cleared_by : List ℕ → Option Target → Option Target
 cleared_by objects None = None
 cleared_by objects (Some Cleared) = Some Cleared
 cleared_by objects (Some (Object o)) = if list_any (λ p. p == o.0) objects then Some Cleared else Some (Object o)
@@ -102,7 +106,7 @@ cleared : (objects : List ℕ) (later : List Event) (found : Option ℕ) → unl
 cleared objects later None = refl
 cleared objects later (Some o) = rw (all_clears o objects later) (clear_if objects o (list_any (λ p. p == o) objects) (list_any (clears o) later) refl)
 
-pub weak_collected : (maker n : ℕ) (objects : List ℕ) (e : List Event) → weak_target (map (λ x. Clear x) objects ++ e) maker n ≡ cleared_by objects (weak_target e maker n)
+weak_collected : (maker n : ℕ) (objects : List ℕ) (e : List Event) → weak_target (map (λ x. Clear x) objects ++ e) maker n ≡ cleared_by objects (weak_target e maker n)
 weak_collected maker n objects e = rw (after_clears maker n objects e, weak_clears maker n objects e) (cleared objects (after_making maker n e) (weak e maker n))
 
 -- cleared one after the other, the first of the list first

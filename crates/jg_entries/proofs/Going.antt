@@ -118,5 +118,10 @@ collect_told s p q known =
     let a2 = heap_on s _ _ a1 (go_each (going s q) p.heap) (heap.Collected (roots s q) ∷ q.heap) (all_gone k (roots s q) p.heap q.heap known.same.heap) in
     record {
       can = all_can s goes n 0 n p whole (λ o from below is. not_held s p q known o below is);
-      alike = subst (λ (r : Parts). Alike s r (record q { globals = map (λ o. globals.Clear o) (going s q) ++ q.globals; heap = heap.Collected (roots s q) ∷ q.heap })) (sym (went_is (going s q) p)) a2;
+      alike =
+          subst (λ (r : Parts).
+          Alike s r (record q {
+            globals = map (λ o. globals.Clear o) (going s q) ++ q.globals;
+            heap = heap.Collected (roots s q) ∷ q.heap;
+          })) (sym (went_is (going s q) p)) a2;
     }

@@ -26,7 +26,7 @@ use Rattle.jg_entries.proofs.Acts.{own_acts, other_acts}
 use Rattle.jg_entries.proofs.Locals.{idle_live}
 
 -- the acts of a thread, by the tables of threads, locals and monitors: none since its session, if it has none
-abbrev pub DidNothing : List threads.Act → List locals.Act → List monitors.Act → Type 0
+abbrev DidNothing : List threads.Act → List locals.Act → List monitors.Act → Type 0
 DidNothing ta la ma = threads.attached ta ≡ false → (threads.since ta ≡ []) × (locals.session la ≡ []) × (monitors.since ma ≡ [])
 
 abbrev pub Idle : List threads.Event → List locals.Event → List monitors.Event → Type 0
@@ -86,7 +86,9 @@ lost_idle s p (To Local maker n) can agreed old =
 lost_idle s p (To Global maker n) can agreed old = old
 lost_idle s p (To Weak maker n) can agreed old = old
 
-left_attached : (p : Parts) (t : ℕ) (xs : List threads.Act) → threads.attached (xs ++ threads.acts_of t p.threads) ≡ true → threads.attached (threads.acts_of t (map (threads.by t) xs ++ p.threads)) ≡ true
+left_attached : (p : Parts) (t : ℕ) (xs : List threads.Act)
+    → threads.attached (xs ++ threads.acts_of t p.threads) ≡ true
+    → threads.attached (threads.acts_of t (map (threads.by t) xs ++ p.threads)) ≡ true
 left_attached p t xs is = rw (own_acts t xs p.threads) is
 
 each_idle : (s : StatedSetup) (p : Parts) (x : Fact) → can_be s p x ≡ true → ((t : ℕ) → Agreed (threads.acts_of t p.threads) (locals.acts_of t p.locals)) → IsIdle p → IsIdle (on x p)
@@ -104,7 +106,9 @@ each_idle s p (Pop t kept) can agreed old =
     kept_idle (record p { locals = locals.by t.0 locals.Pop ∷ p.locals }) t.0 kept here
     (acted p.threads p.locals p.monitors t.0 [] (locals.Pop ∷ []) [] (λ none. off (is_attached p t.0) here none) old)
 each_idle s p (Ensure t room) can agreed old = acted p.threads p.locals p.monitors t.0 [] (locals.Ensure room ∷ []) [] (λ none. off (is_attached p t.0) can none) old
-each_idle s p (Raise t o) can agreed old = acted p.threads p.locals p.monitors t.0 (threads.Raise o.0 ∷ []) [] [] (λ none. off (is_attached p t.0) (first (is_attached p t.0) (is_here s p o.0) can) none) old
+each_idle s p (Raise t o) can agreed old =
+    acted p.threads p.locals p.monitors t.0 (threads.Raise o.0 ∷ []) [] []
+    (λ none. off (is_attached p t.0) (first (is_attached p t.0) (is_here s p o.0) can) none) old
 each_idle s p (Calm t) can agreed old = acted p.threads p.locals p.monitors t.0 (threads.Calm ∷ []) [] [] (λ none. off (is_attached p t.0) can none) old
 each_idle s p (Hand t kind o) can agreed old = handed_idle p t.0 kind o.0 (first (is_attached p t.0) (is_here s p o.0) can) old
 each_idle s p (Lost r) can agreed old = lost_idle s p r can agreed old
@@ -112,7 +116,9 @@ each_idle s p (Lend t family o via n) can agreed old =
     acted p.threads p.locals p.monitors t.0 (threads.CountBuffer ∷ []) [] [] (λ none. off (is_attached p t.0) (first (is_attached p t.0) (is_here s p o.0 && is_through family via) can) none) old
 each_idle s p (Back b) can agreed old = old
 each_idle s p (Own t o) can agreed old =
-    acted p.threads p.locals p.monitors t.0 [] [] (monitors.Enter o.0 ∷ []) (λ none. off (is_attached p t.0) (first (is_attached p t.0) (is_here s p o.0 && is_free_for t.0 (monitors.owner p.monitors o.0)) can) none) old
+    acted p.threads p.locals p.monitors t.0 [] [] (monitors.Enter o.0 ∷ [])
+    (λ none. off (is_attached p t.0)
+    (first (is_attached p t.0) (is_here s p o.0 && is_free_for t.0 (monitors.owner p.monitors o.0)) can) none) old
 each_idle s p (Free t o) can agreed old =
     acted p.threads p.locals p.monitors t.0 [] [] (monitors.Exit o.0 ∷ []) (λ none. off (is_attached p t.0) (by_monitor p t.0 o.0 (is_attached p t.0) refl old can) none) old
 each_idle s p (Meet class n) can agreed old = old

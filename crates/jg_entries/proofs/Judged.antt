@@ -42,7 +42,8 @@ use Rattle.jg_rules.specs.declared.operand.Operand.{Operand}
 use Rattle.jg_rules.specs.Parts.{Parts}
 use Rattle.jg_rules.specs.Names.{names, named_by, named_by_target, object_in, object_named, native_meant}
 use Rattle.jg_rules.specs.Operands.{operands, is_of}
-use Rattle.jg_rules.specs.Buffers.{buffer_named, item_type, element_of, is_place, is_value_of_type}
+use Rattle.jg_words.specs.Classes.{element_of}
+use Rattle.jg_rules.specs.Buffers.{buffer_named, item_type, is_place, is_value_of_type}
 use Rattle.jg_rules.specs.Rules.{broken, rules_in_order, is_session, is_nothing, is_null, is_wrong, is_of_class, is_stated_as, field_of_another, is_outside_of, is_wrong_item, is_linked, is_by, is_not_owned, is_releasable}
 use Rattle.jg_entries.specs.Alike.{ReadAlike}
 use Rattle.jg_entries.specs.Laws.{AlikeIsJudgedAlike}

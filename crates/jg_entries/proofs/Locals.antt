@@ -4,7 +4,7 @@ use Rattle.std.specs.Prelude.{◌==◌, ◌&&◌, not}
 use Rattle.jg_locals.specs.History.{Act, Start, Make, Push, Ensure, Enter, Delete, Pop, Leave, End, session, has_session, depth, frames, done_at, is_push, is_pop, Making, making, seen_after, survives, ends, Local, local_if_live, live_local}
 
 -- the acts since the session began, with its beginning; all where it has none, and none of an earlier one
-abbrev pub current : List Act → List Act
+abbrev current : List Act → List Act
 current [] = []
 current (Start ∷ acts) = Start ∷ []
 current (End ∷ acts) = []
@@ -18,7 +18,7 @@ anew_more : (b : Bool) (a : Act) (acts : List Act) → a ∷ anew b acts ≡ ane
 anew_more true a acts = refl
 anew_more false a acts = refl
 
-pub current_is : (acts : List Act) → current acts ≡ anew (has_session acts) (session acts)
+current_is : (acts : List Act) → current acts ≡ anew (has_session acts) (session acts)
 current_is [] = refl
 current_is (Start ∷ acts) = refl
 current_is (End ∷ acts) = refl
@@ -95,7 +95,8 @@ further : (n : ℕ) (a : Act) (old new : Option Making) → ((pre : List Act) �
 further n a old new same pre = one_more n pre a old ∙ (same (pre ++ a ∷ []) ∙ sym (one_more n pre a new))
 
 made_if : (b : Bool) (n o : ℕ) (a : Act) (acts : List Act) (old new : Option Making) → ((pre : List Act) → seen n pre old ≡ seen n pre new) → (pre : List Act)
-    → seen n pre (if b then Some (record { later = []; object = o; before = current acts }) else seen_after a old) ≡ seen n pre (if b then Some (record { later = []; object = o; before = acts }) else seen_after a new)
+    → seen n pre (if b then Some (record { later = []; object = o; before = current acts }) else seen_after a old)
+    ≡ seen n pre (if b then Some (record { later = []; object = o; before = acts }) else seen_after a new)
 made_if true n o a acts old new same pre = rw (depth_current acts, frames_current (depth acts) acts) refl
 made_if false n o a acts old new same pre = further n a old new same pre
 
@@ -130,7 +131,7 @@ same_current a b same = current_is a ∙ ((rw (same.has, same.acts) refl) ∙ sy
 pub same_live : (a b : List Act) (n : ℕ) → SameSession a b → live_local n a ≡ live_local n b
 same_live a b n same = sym (live_current n a) ∙ (ap (live_local n) (same_current a b same) ∙ live_current n b)
 
-pub same_depth : (a b : List Act) → SameSession a b → depth a ≡ depth b
+same_depth : (a b : List Act) → SameSession a b → depth a ≡ depth b
 same_depth a b same = rw same.acts refl
 
 pub same_frames : (a b : List Act) → SameSession a b → frames (depth a) a ≡ frames (depth b) b

@@ -81,7 +81,8 @@ raise_told s p d t o xs told on_now here =
     (threads_on s r d told.alike t.0 (threads.Raise o.0 ∷ []) (threads.Raise o.0 ∷ []) (raise_both o.0 (threads.acts_of t.0 r.threads) (threads.acts_of t.0 d.threads)))
 
 -- an object is made
-pub meet_told : (s : StatedSetup) (p q : Parts) (m : Making) → Alike s p q → nat_lt (class_in m) (class_count s) ≡ true → Told s p (record q { heap = heap.Made m ∷ q.heap }) (Meet (class_in m) (length_in m) ∷ [])
+pub meet_told : (s : StatedSetup) (p q : Parts) (m : Making) → Alike s p q → nat_lt (class_in m) (class_count s) ≡ true
+    → Told s p (record q { heap = heap.Made m ∷ q.heap }) (Meet (class_in m) (length_in m) ∷ [])
 meet_told s p q m same stated =
     one s p (record q { heap = heap.Made m ∷ q.heap }) (Meet (class_in m) (length_in m)) stated
     (heap_on s p q same _ (heap.Made m ∷ q.heap) (made_both (class_count s) p.heap q.heap m same.heap))
@@ -101,12 +102,16 @@ lent_number true m n o family via count = refl
 lent_number false m n o family via count = refl
 
 copied_info : (pins : Bool) (m n i o : ℕ) (family : Family) (items : List ℤ) → pins ≡ false
-    → buffers.info_of (if pins then buffers.pin_through m n o family Null (length items) else buffers.copy_with m n o family (replicate (length items) (pos 0))) ≡ buffers.info_of (buffers.copy_with m i o family items)
+    → buffers.info_of (if pins then buffers.pin_through m n o family Null (length items)
+    else buffers.copy_with m n o family (replicate (length items) (pos 0)))
+    ≡ buffers.info_of (buffers.copy_with m i o family items)
 copied_info true m n i o family items is = absurd (let no : ⊥ = cc in no)
 copied_info false m n i o family items is = rw (length-replicate (length items) (pos 0)) refl
 
 pinned_info : (pins : Bool) (m n i o : ℕ) (family : Family) (via : Ref) (count : ℕ) → pins ≡ true
-    → buffers.info_of (if pins then buffers.pin_through m n o family via count else buffers.copy_with m n o family (replicate count (pos 0))) ≡ buffers.info_of (buffers.pin_through m i o family via count)
+    → buffers.info_of (if pins then buffers.pin_through m n o family via count
+    else buffers.copy_with m n o family (replicate count (pos 0)))
+    ≡ buffers.info_of (buffers.pin_through m i o family via count)
 pinned_info true m n i o family via count is = refl
 pinned_info false m n i o family via count is = absurd (let no : ⊥ = cc in no)
 
@@ -127,7 +132,12 @@ module _ (s : StatedSetup) (p q : Parts) (known : Known s p q) (t : Tid) where
       one s p _ (Begin t) (both_true (nat_lt 0 t.0) (not (is_attached p t.0)) above out) (local_on s _ _ now t.0 locals.Start)
 
   pub detach_told : (b : Bool) → is_attached q t.0 ≡ b → buffers.in_critical q.buffers t.0 ≡ false
-      → Told s p (record q { threads = threads.by t.0 threads.Detach ∷ q.threads; locals = locals.by t.0 locals.End ∷ q.locals; monitors = monitors.by t.0 monitors.ReleaseAll ∷ q.monitors }) (end_facts b t)
+      → Told s p (record q {
+        threads = threads.by t.0 threads.Detach ∷ q.threads;
+        locals = locals.by t.0 locals.End ∷ q.locals;
+        monitors = monitors.by t.0 monitors.ReleaseAll ∷ q.monitors;
+      })
+      (end_facts b t)
   detach_told true is free =
       let a1 = threads_on s p q known.same t.0 (threads.Detach ∷ []) (threads.Detach ∷ []) (detach_both (threads.acts_of t.0 p.threads) (threads.acts_of t.0 q.threads)) in
       let a2 = local_on s _ _ a1 t.0 locals.End in
@@ -176,7 +186,9 @@ module _ (s : StatedSetup) (p q : Parts) (known : Known s p q) (t : Tid) where
   pub leave_pending : (o : ℕ) → is_attached q t.0 ≡ true → (depth q t.0 == 0) ≡ false → pending q t.0 ≡ Some o → is_here s q o ≡ true
       → Told s p (record q { threads = threads.by t.0 threads.Leave ∷ q.threads; locals = locals.by t.0 locals.Leave ∷ q.locals }) (Raise t (record { 0 = o }) ∷ Leave t None ∷ [])
   leave_pending o is deep raised here =
-      let a1 = threads_on s p q known.same t.0 (threads.Raise o ∷ threads.Calm ∷ threads.Leave ∷ []) (threads.Leave ∷ []) (leave_raised o (threads.acts_of t.0 p.threads) (threads.acts_of t.0 q.threads) raised) in
+      let a1 =
+      threads_on s p q known.same t.0 (threads.Raise o ∷ threads.Calm ∷ threads.Leave ∷ []) (threads.Leave ∷ [])
+      (leave_raised o (threads.acts_of t.0 p.threads) (threads.acts_of t.0 q.threads) raised) in
       let later : is_attached (record p { threads = threads.by t.0 threads.Calm ∷ threads.by t.0 threads.Leave ∷ p.threads }) t.0 ≡ true =
       ap threads.attached (own_acts t.0 (threads.Calm ∷ threads.Leave ∷ []) p.threads) ∙ same_on true is in
       record {

@@ -27,7 +27,9 @@ use Rattle.jg_entries.proofs.Alike.{Alike}
 
 module _ (s : StatedSetup) (p q : Parts) (same : Alike s p q) where
   -- t did these acts on one side, and those on the other
-  pub threads_on : (t : ℕ) (xs ys : List threads.Act) → (SameThread (threads.acts_of t p.threads) (threads.acts_of t q.threads) → SameThread (xs ++ threads.acts_of t p.threads) (ys ++ threads.acts_of t q.threads))
+  pub threads_on : (t : ℕ) (xs ys : List threads.Act)
+      → (SameThread (threads.acts_of t p.threads) (threads.acts_of t q.threads)
+      → SameThread (xs ++ threads.acts_of t p.threads) (ys ++ threads.acts_of t q.threads))
       → Alike s (record p { threads = map (threads.by t) xs ++ p.threads }) (record q { threads = map (threads.by t) ys ++ q.threads })
   threads_on t xs ys more = record {
     threads = both SameThread t xs ys p.threads q.threads more same.threads;
@@ -39,7 +41,9 @@ module _ (s : StatedSetup) (p q : Parts) (same : Alike s p q) where
     links = same.links;
   }
 
-  pub locals_on : (t : ℕ) (xs ys : List locals.Act) → (SameSession (locals.acts_of t p.locals) (locals.acts_of t q.locals) → SameSession (xs ++ locals.acts_of t p.locals) (ys ++ locals.acts_of t q.locals))
+  pub locals_on : (t : ℕ) (xs ys : List locals.Act)
+      → (SameSession (locals.acts_of t p.locals) (locals.acts_of t q.locals)
+      → SameSession (xs ++ locals.acts_of t p.locals) (ys ++ locals.acts_of t q.locals))
       → Alike s (record p { locals = map (locals.by t) xs ++ p.locals }) (record q { locals = map (locals.by t) ys ++ q.locals })
   locals_on t xs ys more = record {
     threads = same.threads;
@@ -100,12 +104,16 @@ handed_by t Local n o q = record q { threads = threads.by t threads.CountRef ∷
 handed_by t Global n o q = record q { threads = threads.by t threads.CountRef ∷ q.threads; globals = globals.MakeStrong t n o ∷ q.globals }
 handed_by t Weak n o q = record q { threads = threads.by t threads.CountRef ∷ q.threads; globals = globals.MakeWeak t n o ∷ q.globals }
 
-counted : (s : StatedSetup) (p q : Parts) (t : ℕ) → Alike s p q → Alike s (record p { threads = threads.by t threads.CountRef ∷ p.threads }) (record q { threads = threads.by t threads.CountRef ∷ q.threads })
+counted : (s : StatedSetup) (p q : Parts) (t : ℕ) → Alike s p q
+    → Alike s (record p { threads = threads.by t threads.CountRef ∷ p.threads })
+    (record q { threads = threads.by t threads.CountRef ∷ q.threads })
 counted s p q t same = threads_on s p q same t (threads.CountRef ∷ []) (threads.CountRef ∷ []) (ref_both (threads.acts_of t p.threads) (threads.acts_of t q.threads))
 
 handed_next : (s : StatedSetup) (p q : Parts) (t : ℕ) (kind : Kind) (o : ℕ) → Alike s p q → Alike s (handed_on t kind o p) (handed_by t kind (next_ref p t) o q)
 handed_next s p q t Local o same =
-    local_on s (record p { threads = threads.by t threads.CountRef ∷ p.threads }) (record q { threads = threads.by t threads.CountRef ∷ q.threads }) (counted s p q t same) t (locals.Make (next_ref p t) o)
+    local_on s (record p { threads = threads.by t threads.CountRef ∷ p.threads })
+    (record q { threads = threads.by t threads.CountRef ∷ q.threads }) (counted s p q t same) t
+    (locals.Make (next_ref p t) o)
 handed_next s p q t Global o same =
     globals_on s (record p { threads = threads.by t threads.CountRef ∷ p.threads }) (record q { threads = threads.by t threads.CountRef ∷ q.threads }) (counted s p q t same)
     (globals.MakeStrong t (next_ref p t) o ∷ p.globals) (globals.MakeStrong t (next_ref p t) o ∷ q.globals) (strong_made t (next_ref p t) o p.globals q.globals same.globals)

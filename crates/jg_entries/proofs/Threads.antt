@@ -34,10 +34,28 @@ pub calm_both : (a b : List Act) → SameThread a b → SameThread (Calm ∷ a) 
 calm_both a b same = record { attached = same.attached; sessions = same.sessions; enters = same.enters; leaves = same.leaves; pending = refl; refs = same.refs; buffers = same.buffers }
 
 pub ref_both : (a b : List Act) → SameThread a b → SameThread (CountRef ∷ a) (CountRef ∷ b)
-ref_both a b same = record { attached = same.attached; sessions = same.sessions; enters = same.enters; leaves = same.leaves; pending = same.pending; refs = ap (λ n. n + 1) same.refs; buffers = same.buffers }
+ref_both a b same =
+    record {
+      attached = same.attached;
+      sessions = same.sessions;
+      enters = same.enters;
+      leaves = same.leaves;
+      pending = same.pending;
+      refs = ap (λ n. n + 1) same.refs;
+      buffers = same.buffers;
+    }
 
 pub buffer_both : (a b : List Act) → SameThread a b → SameThread (CountBuffer ∷ a) (CountBuffer ∷ b)
-buffer_both a b same = record { attached = same.attached; sessions = same.sessions; enters = same.enters; leaves = same.leaves; pending = same.pending; refs = same.refs; buffers = ap (λ n. n + 1) same.buffers }
+buffer_both a b same =
+    record {
+      attached = same.attached;
+      sessions = same.sessions;
+      enters = same.enters;
+      leaves = same.leaves;
+      pending = same.pending;
+      refs = same.refs;
+      buffers = ap (λ n. n + 1) same.buffers;
+    }
 
 -- the fact calms, and nothing is pending where a call enters
 pub enter_both : (a b : List Act) → threads.pending b ≡ None → SameThread a b → SameThread (Calm ∷ Enter ∷ a) (Enter ∷ b)

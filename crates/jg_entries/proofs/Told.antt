@@ -4,6 +4,7 @@ use Rattle.std.specs.Prelude.{◌==◌, ◌&&◌, ◌||◌, not, nat_lt, if◌th
 use Rattle.std.specs.Str.{bytes_eq}
 use Rattle.std.specs.Option.{unwrap_or, is_some, option_map, option_and_then}
 use Rattle.std.proofs.lemmas.Bool.Decides.{nat_tests}
+use Rattle.std.proofs.lemmas.Option.{same_Some}
 use Rattle.jg_words.specs.Call.{fun_of}
 use Rattle.jg_words.specs.Fun.{needs_env}
 use Rattle.jg_words.specs.declared.thread.Tid.{Tid}
@@ -52,7 +53,8 @@ use Rattle.jg_monitors.specs.History as monitors
 use Rattle.jg_monitors.specs.declared.entering.Entering.{Entering}
 use Rattle.jg_monitors.specs.declared.entering.Entering.TheVariants.{Entered as HasEntered, Busy as KeptOut}
 use Rattle.jg_heap.specs.History as heap
-use Rattle.jg_heap.specs.Making.{Making, Plain, Text, Filled, class_in, length_in, array_class}
+use Rattle.jg_heap.specs.Making.{Making, Plain, Text, Filled, class_in, length_in}
+use Rattle.jg_words.specs.Classes.{array_class}
 use Rattle.jg_heap.specs.Reading.{natural, decoded}
 use Rattle.jg_heap.specs.Spelling.{spelt}
 use Rattle.jg_heap.specs.declared.object.Slot.{Slot}
@@ -65,7 +67,8 @@ use Rattle.jg_rules.specs.Names.{names, next_ref, object_named, the_object, pend
 use Rattle.jg_rules.specs.Access.{native_class, home_of}
 use Rattle.jg_rules.specs.Buffers.{is_commit, writes_back, is_open_and, buffer_named}
 use Rattle.jg_rules.specs.Rules.{is_nothing, is_null, is_by, is_not, is_not_owned}
-use Rattle.jg_rules.specs.Effects.{settled, passed_on, done_by, done_if, call_heap, wrote_copy, wrote_pinned, wrote_back, copied_back, closed, linking, unlinking, is_effective, if_effective, class_thrown, first_value, pointer}
+use Rattle.jg_rules.specs.Effects.{settled, passed_on, done_by, done_if, call_heap, wrote_copy, wrote_pinned, wrote_back, copied_back, closed, linking, unlinking, is_effective, if_effective, first_value, pointer}
+use Rattle.jg_words.specs.Classes.{class_thrown}
 use Rattle.jg_rules.specs.Answers.{answer, unnoticed, plain, handed, thrown, present_env, unless_pending, registered, entered, class_found, field_found, field_value, or_outside, is_outside, region}
 use Rattle.jg_rules.specs.Unbroken.{Unbroken}
 use Rattle.jg_laws.proofs.Acts.{attached_caller, attached_done, next_done}
@@ -136,7 +139,9 @@ throws s p q t call kind xs same on_now =
     raise_told s p made t (record { 0 = object_count s q }) (Meet (class_thrown kind) 0 ∷ []) (meet_told s p q m same (thrown_known s kind)) on_now
     (here_is (class_count s) (heap.Made m ∷ q.heap) (object_count s q) (here_new (class_count s) q.heap m))
 
-env_brings : (s : StatedSetup) (p q : Parts) (t : Tid) (call : Call) (n : Option ℕ) (xs : List Fact) → Told s p (done_by s t.0 call q) xs → Brings s p q t call (plain (present_env t n)).reply.value (plain (present_env t n)).object xs
+env_brings : (s : StatedSetup) (p q : Parts) (t : Tid) (call : Call) (n : Option ℕ) (xs : List Fact)
+    → Told s p (done_by s t.0 call q) xs
+    → Brings s p q t call (plain (present_env t n)).reply.value (plain (present_env t n)).object xs
 env_brings s p q t call None xs told = told
 env_brings s p q t call (Some n) xs told = told
 
@@ -145,7 +150,9 @@ registered_brings : (s : StatedSetup) (p q : Parts) (t : Tid) (call : Call) (cla
 registered_brings s p q t call class None xs told same on_now = throws s p q t call NoSuchMethod xs same on_now
 registered_brings s p q t call class (Some native) xs told same on_now = told
 
-found_brings : (s : StatedSetup) (p q : Parts) (t : Tid) (call : Call) (class : Option ℕ) (xs : List Fact) → Told s p (done_by s t.0 call q) xs → Alike s p q → is_attached q t.0 ≡ true → is_attached (done_by s t.0 call q) t.0 ≡ true
+found_brings : (s : StatedSetup) (p q : Parts) (t : Tid) (call : Call) (class : Option ℕ) (xs : List Fact)
+    → Told s p (done_by s t.0 call q) xs → Alike s p q → is_attached q t.0 ≡ true
+    → is_attached (done_by s t.0 call q) t.0 ≡ true
     → AnswersHere (class_count s) (if_effective (is_effective (class_found s q t class).reply.value) (call_heap s q t.0 call) ++ q.heap) (class_found s q t class)
     → Brings s p q t call (class_found s q t class).reply.value (class_found s q t class).object xs
 found_brings s p q t call None xs told same on_now later here = throws s p q t call NoClassDefFound xs same on_now
@@ -238,7 +245,9 @@ region_met o j (v ∷ values) = met_more (heap.region_writes o (j + 1) values) (
 wrote_told : (s : StatedSetup) (p q : Parts) (o j : ℕ) (v : Slot) → Alike s p q → Told s p (record q { heap = heap.Wrote o j v ∷ q.heap }) []
 wrote_told s p q o j v same = none s p _ (heap_on s p q same p.heap (heap.Wrote o j v ∷ q.heap) (wrote_one (class_count s) p.heap q.heap o j v same.heap))
 
-region_told : (s : StatedSetup) (p q : Parts) (o j : ℕ) (values : List ℤ) → Alike s p q → Told s p (record q { heap = heap.region_writes o j values ++ q.heap }) (object_facts (heap.region_writes o j values))
+region_told : (s : StatedSetup) (p q : Parts) (o j : ℕ) (values : List ℤ) → Alike s p q
+    → Told s p (record q { heap = heap.region_writes o j values ++ q.heap })
+    (object_facts (heap.region_writes o j values))
 region_told s p q o j values same =
     subst (λ (xs : List Fact). Told s p (record q { heap = heap.region_writes o j values ++ q.heap }) xs) (sym (region_met o j values))
     (none s p _ (heap_on s p q same p.heap (heap.region_writes o j values ++ q.heap) (wrote_region (class_count s) p.heap q.heap o j values same.heap)))
@@ -258,7 +267,8 @@ closing_told s p q t b true f known now there = none s p _ (heap_on s p q known.
 closing_told s p q t b false f known now there =
     let written = heap_on s p q known.same p.heap f now in
     one s p _ (Back b) (ap is_some ((reading s p q known t).lent b) ∙ there)
-    (buffers_on s p (record q { heap = f }) written (buffers.Closed b.maker.0 b.n ∷ p.buffers) (buffers.Closed b.maker.0 b.n ∷ q.buffers) (closed_both p.buffers q.buffers b.maker.0 b.n known.same.buffers))
+    (buffers_on s p (record q { heap = f }) written (buffers.Closed b.maker.0 b.n ∷ p.buffers)
+    (buffers.Closed b.maker.0 b.n ∷ q.buffers) (closed_both p.buffers q.buffers b.maker.0 b.n known.same.buffers))
 
 write_if : (s : StatedSetup) (p q : Parts) (t : Tid) (b : BufId) (i : ℕ) (v : ℤ) (o : ℕ) (pins : Bool) → Alike s p q
     → Told s p (record q { buffers = (if pins then [] else buffers.Wrote b.maker.0 b.n i v ∷ []) ++ q.buffers; heap = (if pins then heap.Wrote o i (Number v) ∷ [] else []) ++ q.heap })
@@ -314,14 +324,18 @@ weak_lost s p q t (To Global maker n) known alive kind = absurd (let no : ⊥ = 
 leaves : (s : StatedSetup) (p q : Parts) (t : Tid) (r : Ref) (raised found : Option ℕ) → Known s p q → is_attached q t.0 ≡ true → (depth q t.0 == 0) ≡ false → pending q t.0 ≡ raised
     → ((o : ℕ) → found ≡ Some o → is_here s q o ≡ true) → ((o : ℕ) → raised ≡ Some o → is_here s q o ≡ true)
     → (let a : Answer = unless_pending raised (handed q t Local found) in
-    Told s p (settled None t.0 (rep a.reply.value) a.object (done_if (is_effective a.reply.value) s t.0 (Vm (NativeLeave r)) q)) (if_effective (is_effective a.reply.value) (pending_facts t raised ++ Leave t a.object ∷ [])))
+    Told s p (settled None t.0 (rep a.reply.value) a.object
+    (done_if (is_effective a.reply.value) s t.0 (Vm (NativeLeave r)) q))
+    (if_effective (is_effective a.reply.value) (pending_facts t raised ++ Leave t a.object ∷ [])))
 leaves s p q t r None None known on_now deep calm here pends = leave_told s p q known t on_now deep calm
 leaves s p q t r None (Some o) known on_now deep calm here pends =
     leave_kept s p q known t (record { 0 = o }) (next_ref q t.0) on_now deep calm (here o refl) (next_done s q t.0 (Vm (NativeLeave r)) t.0)
 leaves s p q t r (Some x) found known on_now deep raised here pends = leave_pending s p q known t x on_now deep raised (pends x refl)
 
-pops : (s : StatedSetup) (p q : Parts) (t : Tid) (r : Ref) (found : Option ℕ) → Known s p q → is_attached q t.0 ≡ true → (open_frames q t.0 == 0) ≡ false → ((o : ℕ) → found ≡ Some o → is_here s q o ≡ true)
-    → Told s p (settled None t.0 (rep (handed q t Local found).reply.value) (handed q t Local found).object (done_if (is_effective (handed q t Local found).reply.value) s t.0 (Frames (PopLocalFrame r)) q))
+pops : (s : StatedSetup) (p q : Parts) (t : Tid) (r : Ref) (found : Option ℕ) → Known s p q → is_attached q t.0 ≡ true
+    → (open_frames q t.0 == 0) ≡ false → ((o : ℕ) → found ≡ Some o → is_here s q o ≡ true)
+    → Told s p (settled None t.0 (rep (handed q t Local found).reply.value) (handed q t Local found).object
+    (done_if (is_effective (handed q t Local found).reply.value) s t.0 (Frames (PopLocalFrame r)) q))
     (if_effective (is_effective (handed q t Local found).reply.value) (Pop t (handed q t Local found).object ∷ []))
 pops s p q t r None known on_now some here = pop_told s p q known t on_now some
 pops s p q t r (Some o) known on_now some here = pop_kept s p q known t (record { 0 = o }) on_now some (here o refl)
@@ -331,27 +345,28 @@ pops s p q t r (Some o) known on_now some here = pop_kept s p q known t (record 
 named_is : (s : StatedSetup) (p q : Parts) (t o : ℕ) (r : Ref) → Known s p q → object_named q t r ≡ Some o → is_here s q o ≡ true
 named_is s p q t o r known is = here_is (class_count s) q.heap o (named_here s q t o r known.all is)
 
-must_here : (s : StatedSetup) (p q : Parts) (t : ℕ) (r : Ref) → Known s p q → (is_nothing (names q t r) || false) ≡ false → ((true && is_null (names q t r)) || false) ≡ false → is_here s q (the_object q t r) ≡ true
+must_here : (s : StatedSetup) (p q : Parts) (t : ℕ) (r : Ref) → Known s p q
+    → (is_nothing (names q t r) || false) ≡ false → ((true && is_null (names q t r)) || false) ≡ false
+    → is_here s q (the_object q t r) ≡ true
 must_here s p q t r known alive there = named_is s p q t (the_object q t r) r known (the_named (names q t r) false false alive there)
 
 owner_by : (t : ℕ) (found : Option ℕ) → not (is_by t found) ≡ false → is_owner t found ≡ true
 owner_by t None owned = absurd (let no : ⊥ = cc in no)
 owner_by t (Some u) owned = on_of (u == t) owned
 
-some_is : (a b : ℕ) → Some a ≡ Some b → a ≡ b
-some_is a b is = cc
-
 mine : (q : Parts) (t o : ℕ) (named : Option ℕ) → named ≡ Some o → is_not_owned q t named ≡ false → is_owner t (monitors.owner q.monitors o) ≡ true
 mine q t o None is owned = absurd (let no : ⊥ = cc in no)
 mine q t o (Some x) is owned =
-    let same : x ≡ o = some_is x o is in
+    let same : x ≡ o = same_Some x o is in
     subst (λ (y : ℕ). is_owner t (monitors.owner q.monitors y) ≡ true) same (owner_by t (monitors.owner q.monitors x) owned)
 
 -- its own facts and those of its answer, but for a warning
 abbrev Core : StatedSetup → Parts → Parts → Tid → Call → Type 0
 Core s p q t call =
     let a : Answer = unnoticed s q t call in
-    Told s p (settled None t.0 (rep a.reply.value) a.object (done_if (is_effective a.reply.value) s t.0 call q)) (answer_facts call t a.reply.value a.object ++ if_effective (is_effective a.reply.value) (own_facts s q t a.object call))
+    Told s p (settled None t.0 (rep a.reply.value) a.object (done_if (is_effective a.reply.value) s t.0 call q))
+    (answer_facts call t a.reply.value a.object ++ if_effective (is_effective a.reply.value)
+    (own_facts s q t a.object call))
 
 module _ (s : StatedSetup) (p q : Parts) (t : Tid) (env : Option EnvId) (known : Known s p q) where
   -- t has a session before the call, and after it
@@ -361,7 +376,10 @@ module _ (s : StatedSetup) (p q : Parts) (t : Tid) (env : Option EnvId) (known :
   still : (call : Call) → needs_env (fun_of call) ≡ true → Unbroken s q t.0 env call → is_attached (done_by s t.0 call q) t.0 ≡ true
   still call takes u = attached_done s q t.0 call takes (present call takes u)
 
-  answered_here : (call : Call) → Unbroken s q t.0 env call → AnswersHere (class_count s) (if_effective (is_effective (answer s q t call).reply.value) (call_heap s q t.0 call) ++ q.heap) (answer s q t call)
+  answered_here : (call : Call) → Unbroken s q t.0 env call
+      → AnswersHere (class_count s)
+      (if_effective (is_effective (answer s q t call).reply.value) (call_heap s q t.0 call) ++ q.heap)
+      (answer s q t call)
   answered_here call u = answer_here s q t env call u known.stated known.all
 
   -- one that hands out a reference to what was there
@@ -459,10 +477,15 @@ module _ (s : StatedSetup) (p q : Parts) (t : Tid) (env : Option EnvId) (known :
       let c : Call = Arrays (GetObjectArrayElement r index) in
       let a : Answer = handed q t Local (target_in (slot_of s q (the_object q t.0 r) (natural index))) in
       hands_call c Local (target_in (slot_of s q (the_object q t.0 r) (natural index))) [] refl u nothing
-      (subst (λ (b : Bool). AnswersHere (class_count s) (if_effective (is_effective (or_outside s q ArrayIndexOutOfBounds b a).reply.value) [] ++ q.heap) (or_outside s q ArrayIndexOutOfBounds b a)) is (answered_here c u))
+      (subst (λ (b : Bool).
+      AnswersHere (class_count s)
+      (if_effective (is_effective (or_outside s q ArrayIndexOutOfBounds b a).reply.value) [] ++ q.heap)
+      (or_outside s q ArrayIndexOutOfBounds b a)) is (answered_here c u))
 
   arrays_core : (call : ArraysCall) → Unbroken s q t.0 env (Arrays call) → Core s p q t (Arrays call)
-  arrays_core (NewArray element n) u = makes_call (Arrays (NewArray element n)) (Filled (array_class element) (natural n) (Number (pos 0))) refl refl u (λ told. told) (answered_here (Arrays (NewArray element n)) u)
+  arrays_core (NewArray element n) u =
+      makes_call (Arrays (NewArray element n)) (Filled (array_class element) (natural n) (Number (pos 0))) refl refl u
+      (λ told. told) (answered_here (Arrays (NewArray element n)) u)
   arrays_core (GetArrayLength r) u = nothing
   arrays_core (GetArrayRegion element r start n) u =
       let c : Call = Arrays (GetArrayRegion element r start n) in
@@ -471,7 +494,8 @@ module _ (s : StatedSetup) (p q : Parts) (t : Tid) (env : Option EnvId) (known :
   arrays_core (SetArrayRegion element r start values) u =
       let c : Call = Arrays (SetArrayRegion element r start values) in
       let o : ℕ = the_object q t.0 r in
-      outside_brings s p q t c ArrayIndexOutOfBounds (is_outside start (pos (length values)) (length_of s q o)) (plain Done) (object_facts (heap.region_writes o (natural start) values)) known.same (present c refl u)
+      outside_brings s p q t c ArrayIndexOutOfBounds (is_outside start (pos (length values)) (length_of s q o))
+      (plain Done) (object_facts (heap.region_writes o (natural start) values)) known.same (present c refl u)
       (λ inside. region_told s p q o (natural start) values known.same)
   arrays_core (NewObjectArray n class fill) u =
       makes_call (Arrays (NewObjectArray n class fill)) (Filled 3 (natural n) (pointer (object_named q t.0 fill))) refl refl u (λ told. told) (answered_here (Arrays (NewObjectArray n class fill)) u)
@@ -508,11 +532,13 @@ module _ (s : StatedSetup) (p q : Parts) (t : Tid) (env : Option EnvId) (known :
   buffers_core (ReleaseStringUTFChars r b) u = back_told s p q known t b (open_some _ (buffer_named q b) u.right_buffer)
   buffers_core (GetPrimitiveArrayCritical r) u =
       let o : ℕ = the_object q t.0 r in
-      pin_told s p q known t ArrayCritical o r (length_of s q o) refl (through q t.0 r u.not_null) (present (Buffers (GetPrimitiveArrayCritical r)) refl u) (must_here s p q t.0 r known u.alive u.not_null)
+      pin_told s p q known t ArrayCritical o r (length_of s q o) refl (through q t.0 r u.not_null)
+      (present (Buffers (GetPrimitiveArrayCritical r)) refl u) (must_here s p q t.0 r known u.alive u.not_null)
   buffers_core (ReleasePrimitiveArrayCritical r b mode) u = closing_told s p q t b (is_commit mode) q.heap known known.same.heap (open_some _ (buffer_named q b) u.right_buffer)
   buffers_core (GetStringCritical r) u =
       let o : ℕ = the_object q t.0 r in
-      pin_told s p q known t StringCritical o r (length (units_of s q o)) refl (through q t.0 r u.not_null) (present (Buffers (GetStringCritical r)) refl u) (must_here s p q t.0 r known u.alive u.not_null)
+      pin_told s p q known t StringCritical o r (length (units_of s q o)) refl (through q t.0 r u.not_null)
+      (present (Buffers (GetStringCritical r)) refl u) (must_here s p q t.0 r known u.alive u.not_null)
   buffers_core (ReleaseStringCritical r b) u = back_told s p q known t b (open_some _ (buffer_named q b) u.right_buffer)
   buffers_core (BufferRead b index) u = nothing
   buffers_core (BufferWrite b index value) u = write_told s p q t b (natural index) value (buffer_named q b) known.same

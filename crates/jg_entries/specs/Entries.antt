@@ -33,7 +33,8 @@ use Rattle.jg_rules.specs.Parts.{Parts}
 use Rattle.jg_rules.specs.Names.{the_object, pending}
 use Rattle.jg_rules.specs.Access.{native_class, home_of}
 use Rattle.jg_rules.specs.Holding.{going}
-use Rattle.jg_rules.specs.Effects.{parts, is_effective, if_effective, class_thrown, warning, vm_links, objects_heap, strings_heap, arrays_heap, buffers_buffers}
+use Rattle.jg_rules.specs.Effects.{parts, is_effective, if_effective, warning, vm_links, objects_heap, strings_heap, arrays_heap, buffers_buffers}
+use Rattle.jg_words.specs.Classes.{class_thrown}
 use Rattle.jg_core.specs.declared.fact.Fact.{Fact}
 use Rattle.jg_core.specs.declared.fact.Fact.TheVariants.{Begin, End, Enter, Leave, Push, Pop, Ensure, Raise, Calm, Hand, Lost, Lend, Back, Own, Free, Meet, Gone, Link, Unlink, Warn}
 use Rattle.jg_core.specs.Facts.{is_attached}
@@ -86,7 +87,7 @@ pending_facts t None = []
 pending_facts t (Some o) = Raise t (record { 0 = o }) ∷ []
 
 -- `kept` is the object that the frame below is handed a reference to, by NativeLeave and PopLocalFrame alone
-abbrev pub vm_facts : StatedSetup → Parts → Tid → Option ObjId → VmCall → List Fact
+abbrev vm_facts : StatedSetup → Parts → Tid → Option ObjId → VmCall → List Fact
 vm_facts s p t kept AttachCurrentThread = begin_facts (is_attached p t.0) t
 vm_facts s p t kept DetachCurrentThread = end_facts (is_attached p t.0) t
 vm_facts s p t kept GetEnv = []
@@ -103,7 +104,7 @@ abbrev pub lost_facts : Ref → List Fact
 lost_facts Null = []
 lost_facts (To kind maker n) = Lost (To kind maker n) ∷ []
 
-abbrev pub refs_facts : RefsCall → List Fact
+abbrev refs_facts : RefsCall → List Fact
 refs_facts (NewLocalRef r) = []
 refs_facts (NewGlobalRef r) = []
 refs_facts (NewWeakGlobalRef r) = []
@@ -113,20 +114,20 @@ refs_facts (DeleteWeakGlobalRef r) = lost_facts r
 refs_facts (IsSameObject r u) = []
 refs_facts (GetObjectRefType r) = []
 
-abbrev pub frames_facts : Tid → Option ObjId → FramesCall → List Fact
+abbrev frames_facts : Tid → Option ObjId → FramesCall → List Fact
 frames_facts t kept (PushLocalFrame capacity) = Push t (natural capacity) ∷ []
 frames_facts t kept (PopLocalFrame r) = Pop t kept ∷ []
 frames_facts t kept (EnsureLocalCapacity capacity) = Ensure t (natural capacity) ∷ []
 
 -- what a Throw makes pending comes with its answer
-abbrev pub exceptions_facts : Tid → ExceptionsCall → List Fact
+abbrev exceptions_facts : Tid → ExceptionsCall → List Fact
 exceptions_facts t (Throw r) = []
 exceptions_facts t ExceptionOccurred = []
 exceptions_facts t ExceptionDescribe = Calm t ∷ []
 exceptions_facts t ExceptionClear = Calm t ∷ []
 exceptions_facts t ExceptionCheck = []
 
-abbrev pub monitors_facts : Parts → Tid → MonitorsCall → List Fact
+abbrev monitors_facts : Parts → Tid → MonitorsCall → List Fact
 monitors_facts p t (MonitorEnter r) = Own t (record { 0 = the_object p t.0 r }) ∷ []
 monitors_facts p t (MonitorExit r) = Free t (record { 0 = the_object p t.0 r }) ∷ []
 

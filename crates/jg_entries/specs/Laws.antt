@@ -13,19 +13,23 @@ use Rattle.jg_entries.specs.Entries.{facts_of}
 use Rattle.jg_entries.specs.Alike.{ReadAlike}
 
 -- a legal history and the facts that its entries are read the same
+-- (proofs/Histories.antt)
 abbrev pub FactsReadAlike : Type 0
 FactsReadAlike = (s : StatedSetup) (h : List Entry) → Legal s h → ReadAlike s (parts_of (facts_of s h)) (parts s h)
 
 -- each of these facts could be when it was told
+-- (proofs/Histories.antt)
 abbrev pub FactsCouldBe : Type 0
 FactsCouldBe = (s : StatedSetup) (h : List Entry) → Legal s h → History s (facts_of s h)
 
 -- what reads the same is judged the same
+-- (proofs/Judged.antt)
 abbrev pub AlikeIsJudgedAlike : Type 0
 AlikeIsJudgedAlike = (s : StatedSetup) (p q : Parts) (t : ℕ) (env : Option EnvId) (call : Call) → ReadAlike s p q
     → verdict s p t env call ≡ verdict s q t env call
 
 -- after the facts, a call breaks the rule that it breaks after the history
+-- (proofs/Histories.antt)
 abbrev pub JudgedAlike : Type 0
 JudgedAlike = (s : StatedSetup) (h : List Entry) (t : ℕ) (env : Option EnvId) (call : Call) → Legal s h
     → verdict s (parts_of (facts_of s h)) t env call ≡ verdict s (parts s h) t env call

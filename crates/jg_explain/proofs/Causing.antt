@@ -16,7 +16,7 @@ use Rattle.jg_explain.specs.Explained.{AreWithin, Cause, IsFront, all_known, cau
 use Rattle.jg_explain.specs.Watched.{watched}
 
 -- with one entry more, of which a guard that has gone over those before it tells
-pub causes_more : (whole again : State) (n : ℕ) → n < length whole.journal → IsFront whole again n
+causes_more : (whole again : State) (n : ℕ) → n < length whole.journal → IsFront whole again n
     → causes whole.setup (oldest (n + 1) whole.journal) ≡ causes whole.setup (oldest n whole.journal) ++ causes_at again.setup again.journal (slice_get (reverse whole.journal) n)
 causes_more whole again n below front =
     let at = slice_get (reverse whole.journal) n in

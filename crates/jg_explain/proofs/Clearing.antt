@@ -20,7 +20,7 @@ or_true true = refl
 or_true false = refl
 
 -- the weak reference is not in being, or it is cleared
-abbrev pub NamesNone : ℕ → ℕ → List globals.Event → Type 0
+abbrev NamesNone : ℕ → ℕ → List globals.Event → Type 0
 NamesNone m n e = (globals.weak e m n ≡ None) ⊎ ((o : ℕ) × (globals.weak e m n ≡ Some o) × (list_any (globals.clears o) (globals.after_making m n e) ≡ true))
 
 if_kept : (b : Bool) (old : Option ℕ) → old ≡ None → (if b then None else old) ≡ None
@@ -72,7 +72,7 @@ no_some : (found : Option ℕ) (o : ℕ) → found ≡ None → found ≡ Some o
 no_some found o none some = cc
 
 -- the value is the weak reference of that maker and number
-abbrev pub HandsWeak : ℕ → ℕ → Value → Type 0
+abbrev HandsWeak : ℕ → ℕ → Value → Type 0
 HandsWeak m n v = (maker : Tid) × ((k : ℕ) × ((maker.0 ≡ m) × ((k ≡ n) × (v ≡ Reference (To Weak maker k)))))
 
 module _ (m n : ℕ) (g : List globals.Event) (none : NamesNone m n g) where

@@ -49,7 +49,8 @@ clash : (found : Option ℕ) (o : ℕ) → found ≡ None → found ≡ Some o �
 clash found o none some = cc
 
 weak_hands : (s : StatedSetup) (p : Parts) (u : Tid) (env : Option EnvId) (call : Call) (t : ℕ) (maker : Tid) (n : ℕ) (verdict : Option Rule) (y : Entry)
-    → y ≡ entry_by verdict (answer s p u call) u env call → object_named p t (To Weak maker n) ≡ None → (o : ℕ) → object_named (after s y.tid.0 y.call y.outcome y.object p) t (To Weak maker n) ≡ Some o → reference_of y.outcome ≡ Some (To Weak maker n)
+    → y ≡ entry_by verdict (answer s p u call) u env call → object_named p t (To Weak maker n) ≡ None → (o : ℕ)
+    → object_named (after s y.tid.0 y.call y.outcome y.object p) t (To Weak maker n) ≡ Some o → reference_of y.outcome ≡ Some (To Weak maker n)
 weak_hands s p u env call t maker n (Some rule) y is none o some =
     absurd (clash (object_named p t (To Weak maker n)) o none (sym (ap (λ (x : Entry). object_named (after s x.tid.0 x.call x.outcome x.object p) t (To Weak maker n)) is) ∙ some))
 weak_hands s p u env call t maker n None y is none o some =

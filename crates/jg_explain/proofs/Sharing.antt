@@ -75,7 +75,14 @@ one_told s h told denials i d rest own later start old new below are item rest_i
       | inl found ↦
           let c = found.0 in
           let denial : d ≡ denial_of c = item ∙ ap (λ l. get_or l i d) are ∙ get_or-map denial_of told i c d found.1 ∙ ap denial_of found.3 in
-          let known : Shared s h told i c found.1 found.3 d rest own later start old new = record { denial = denial; rest_is = rest_is; own_is = own_is; later_is = later_is; so_far = so_far; told_is = told_is } in
+          let known : Shared s h told i c found.1 found.3 d rest own later start old new = record {
+            denial = denial;
+            rest_is = rest_is;
+            own_is = own_is;
+            later_is = later_is;
+            so_far = so_far;
+            told_is = told_is;
+          } in
           (later_are s h told i c found.1 found.3 d rest own later start old new known, new_is s h told i c found.1 found.3 d rest own later start old new known)
       | inr past ↦ absurd (omega (arith, past.0, below, long))
     ]

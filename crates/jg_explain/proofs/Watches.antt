@@ -15,7 +15,8 @@ use Rattle.jg_explain.specs.Watched.{watched, asked_if, asked_at}
 use Rattle.jg_explain.proofs.Turning.{turns_more}
 
 -- a loop that writes f of each element over it: one element more
-pub written_more : {X : Type 0} (f : X → X) (xs ys : List X) (i : ℕ) (d y : X) → i < length xs → length ys ≡ length xs → ys ≡ map f (take i xs) ++ drop i xs → y ≡ f (get_or ys i d) → set ys i y ≡ map f (take (i + 1) xs) ++ drop (i + 1) xs
+pub written_more : {X : Type 0} (f : X → X) (xs ys : List X) (i : ℕ) (d y : X) → i < length xs → length ys ≡ length xs → ys ≡ map f (take i xs) ++ drop i xs → y ≡ f (get_or ys i d)
+    → set ys i y ≡ map f (take (i + 1) xs) ++ drop (i + 1) xs
 written_more f xs ys i d y below long so_far is =
     let inside : i < length ys = omega (arith, below, long) in
     ap (λ v. set ys i v) is
@@ -52,7 +53,8 @@ module _ (s : StatedSetup) (h : List Entry) (n : ℕ) (below : n < length h) whe
       ap (λ x. x ∷ map (asked_at s (as_it_was (n + 1) h) n) (map (watched s h n) ws)) (by_test w (nat_lt n w.place) refl)
       ∙ ap (λ xs. watched s h (n + 1) w ∷ xs) (all_watches ws)
 
-pub all_asked : (whole again : State) (n : ℕ) → n < length whole.journal → IsFront whole again (n + 1) → (ws : List Watch) → map (asked_at again.setup again.journal n) (map (watched whole.setup whole.journal n) ws) ≡ map (watched whole.setup whole.journal (n + 1)) ws
+pub all_asked : (whole again : State) (n : ℕ) → n < length whole.journal → IsFront whole again (n + 1) → (ws : List Watch)
+    → map (asked_at again.setup again.journal n) (map (watched whole.setup whole.journal n) ws) ≡ map (watched whole.setup whole.journal (n + 1)) ws
 all_asked whole again n below front ws =
     let told = map (watched whole.setup whole.journal n) ws in
     ap (λ s. map (asked_at s again.journal n) told) front.setup ∙ ap (λ h. map (asked_at whole.setup h n) told) front.journal

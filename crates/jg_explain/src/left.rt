@@ -149,7 +149,8 @@ fn push_line<A: Allocator + Clone>(
     thing: Left,
     watch: Watch,
 ) -> Result<(), AllocError>
-    ensures { OnOk result (string_bytes out.new ≡ string_bytes out.old ++ left.left_line guard.now.journal thing watch) }
+    ensures { OnOk result (string_bytes out.new
+        ≡ string_bytes out.old ++ left.left_line guard.now.journal thing watch) }
 {
     out.push_str("leak ")?;
     push_thing(out, thing)?;

@@ -73,7 +73,8 @@ fn push_over<A: Allocator + Clone>(
     place: usize,
 ) -> Result<(), AllocError>
     ensures { OnOk result (string_bytes out.new ≡ string_bytes out.old
-        ++ (texts.begun_before guard.now.journal condition earlier ++ texts.ended_at guard.now.journal condition place)) }
+        ++ (texts.begun_before guard.now.journal condition earlier
+        ++ texts.ended_at guard.now.journal condition place)) }
 {
     push_begun_before(out, guard, condition, earlier)?;
     push_told_at(out, guard, ended(condition), place)

@@ -1,4 +1,5 @@
--- Worked rows: a few calls in the order in which they are made, of which the last one is denied, and what is told of it.
+-- Worked rows: a few calls in the order in which they are made, of which the last one is denied, and what is told of
+-- it.
 use Rattle.std.specs.Prelude.{◌≡◌, ℕ, pos, negsuc, Bool, true, false, List, [], ◌∷◌, codes, map, Option, Some, None}
 use Rattle.jg_words.specs.declared.object.Primitive.TheVariants.{Int}
 use Rattle.jg_words.specs.declared.reference.Ref.TheVariants.{Null}
@@ -71,7 +72,8 @@ TellsUnder setup calls rule breach known =
 abbrev pub Tells : List Asked → Rule → Breach → List Watch → Type 0
 Tells = TellsUnder closed
 
--- just before the entry at that place the condition holds or not, it turned last at this entry, and before that at this one
+-- just before the entry at that place the condition holds or not, it turned last at this entry, and before that at this
+-- one
 abbrev pub known : ℕ → Condition → Bool → Option ℕ → Option ℕ → Watch
 known place c holds latest earlier =
     record { place = place; condition = c; holds = holds; turns = record { latest = latest; earlier = earlier } }

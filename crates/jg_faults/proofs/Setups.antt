@@ -7,7 +7,7 @@ use Rattle.jg_policy.specs.declared.fault.SetupFault.TheVariants.{NotToml}
 use Rattle.jg_faults.specs.Setups.{AddsAt, AddsLine, AddsSetupFault, column_behind, line_behind, position_text}
 
 -- words with a line feed, written at once
-pub line_added : {T E : Type 0} (r : Result T E) (old words : List ℕ) {line new : List ℕ} → line ≡ words ++ codes "\n"
+line_added : {T E : Type 0} (r : Result T E) (old words : List ℕ) {line new : List ℕ} → line ≡ words ++ codes "\n"
     → new ≡ (if is_ok r then old ++ line else old) → OnOk r (AddsLine old new)
 line_added (Ok _) old words ended written = (words, written ∙ ap (λ it. old ++ it) ended)
 line_added (Err _) old words ended written = tt

@@ -9,6 +9,7 @@ use Rattle.std.proofs.lemmas.Bool.Decides.{nat_tests}
 use Rattle.std.proofs.lemmas.List.{take_all, length-map}
 use Rattle.std.proofs.lemmas.Map.Keys.{IsDistinct-head, IsDistinct-tail}
 use Rattle.std.proofs.lemmas.Map.Steps.{set_value_same}
+use Rattle.std.proofs.lemmas.Option.{same_Some}
 use Rattle.jg_lists.specs.ByThread.{at, IsOnce}
 use Rattle.jg_words.specs.declared.object.ObjId.{ObjId}
 use Rattle.jg_globals.specs.declared.target.Target.{Target}
@@ -21,9 +22,6 @@ pub record ChangedSoFar {K V : Type 0} (change : V → V → Type 0) (olds now :
   pub done : EachChanged change (take i olds) (take i now)
   pub rest : drop i now ≡ drop i olds
   pub long : length now ≡ length olds
-
-one_value : {X : Type 0} {x y : X} → Some x ≡ Some y → x ≡ y
-one_value is = cc
 
 some_none : {X : Type 0} {x : X} → Some x ≡ None → ⊥
 some_none is = cc
@@ -38,8 +36,8 @@ one_more change (old ∷ olds) (e ∷ es) zero k v w so is changed =
     let same : e ∷ es ≡ old ∷ olds = so.rest in
     let head : e ≡ old = cc in
     let tail : es ≡ olds = cc in
-    let there : v ≡ old.1 = ap (λ p. p.1) (sym (one_value is)) ∙ ap (λ p. p.1) head in
-    record { done = ((ap (λ p. p.0) (sym (one_value is)) ∙ ap (λ p. p.0) head, subst (λ u. change u w) there changed), refl); rest = tail; long = so.long }
+    let there : v ≡ old.1 = ap (λ p. p.1) (sym (same_Some _ _ is)) ∙ ap (λ p. p.1) head in
+    record { done = ((ap (λ p. p.0) (sym (same_Some _ _ is)) ∙ ap (λ p. p.0) head, subst (λ u. change u w) there changed), refl); rest = tail; long = so.long }
 one_more change (old ∷ olds) (e ∷ es) (suc i) k v w so is changed =
     let more = one_more change olds es i k v w (record { done = so.done.1; rest = so.rest; long = omega (arith, so.long) }) is changed in
     record { done = (so.done.0, more.done); rest = more.rest; long = ap suc more.long }
@@ -56,7 +54,7 @@ other_head : {V : Type 0} (k head : ℕ) (v : V) (es : List (ℕ × V)) (i : ℕ
     → is_at (nat_cmp k) head ≡ false
 other_head k head v [] i once is apart = cc
 other_head k head v (e ∷ es) zero once is apart =
-    let same : e.0 ≡ k = ap (λ p. p.0) (one_value is) in
+    let same : e.0 ≡ k = ap (λ p. p.0) (same_Some _ _ is) in
     let differ = apart.0 in
     grind (arith, nat_tests, same, differ)
 other_head k head v (e ∷ es) (suc i) once is apart = other_head k head v es i (IsDistinct-tail (eq_by_cmp nat_cmp) e.0 (keys_of es) once) is apart.1
@@ -65,7 +63,7 @@ other_head k head v (e ∷ es) (suc i) once is apart = other_head k head v es i 
 set_by_key : {V : Type 0} (es : List (ℕ × V)) (i k : ℕ) (v w : V) → IsOnce es → slice_get es i ≡ Some (k, v) → set_value (is_at (nat_cmp k)) es w ≡ slice_set es i (k, w)
 set_by_key [] i k v w once is = cc
 set_by_key (e ∷ es) zero k v w once is =
-    let same : e.0 ≡ k = ap (λ p. p.0) (one_value is) in
+    let same : e.0 ≡ k = ap (λ p. p.0) (same_Some _ _ is) in
     let here : is_at (nat_cmp k) e.0 ≡ true = grind (arith, nat_tests, same) in
     rw here (ap (λ t. (t, w) ∷ es) same)
 set_by_key (e ∷ es) (suc i) k v w once is =
@@ -77,9 +75,9 @@ set_by_key (e ∷ es) (suc i) k v w once is =
 found_at : {V : Type 0} (es : List (ℕ × V)) (i k : ℕ) (v : V) → IsOnce es → slice_get es i ≡ Some (k, v) → at k es ≡ Some v
 found_at [] i k v once is = cc
 found_at (e ∷ es) zero k v once is =
-    let same : e.0 ≡ k = ap (λ p. p.0) (one_value is) in
+    let same : e.0 ≡ k = ap (λ p. p.0) (same_Some _ _ is) in
     let here : is_at (nat_cmp k) e.0 ≡ true = grind (arith, nat_tests, same) in
-    rw here (ap (λ p. Some p.1) (one_value is))
+    rw here (ap (λ p. Some p.1) (same_Some _ _ is))
 found_at (e ∷ es) (suc i) k v once is =
     let rest = IsDistinct-tail (eq_by_cmp nat_cmp) e.0 (keys_of es) once in
     let other = other_head k e.0 v es i rest is (IsDistinct-head (eq_by_cmp nat_cmp) e.0 (keys_of es) once) in
@@ -99,13 +97,15 @@ changed_more {V} change olds es news i k v w so once is changed set =
     (rw add-one (one_more change olds es i k v w so is changed))
 
 -- the same, where the value was found by its key
-pub changed_found : {V : Type 0} (change : V → V → Type 0) (olds es news : List (ℕ × V)) (i k : ℕ) (v found w : V) → ChangedSoFar change olds es i → IsOnce es → slice_get es i ≡ Some (k, v) → at k es ≡ Some found
+pub changed_found : {V : Type 0} (change : V → V → Type 0) (olds es news : List (ℕ × V)) (i k : ℕ) (v found w : V)
+    → ChangedSoFar change olds es i → IsOnce es → slice_get es i ≡ Some (k, v) → at k es ≡ Some found
     → change found w → news ≡ set_value (is_at (nat_cmp k)) es w → ChangedSoFar change olds news (i + 1)
 changed_found change olds es news i k v found w so once is there changed set =
-    changed_more change olds es news i k v w so once is (subst (λ u. change u w) (one_value (sym there ∙ found_at es i k v once is)) changed) set
+    changed_more change olds es news i k v w so once is (subst (λ u. change u w) (same_Some _ _ (sym there ∙ found_at es i k v once is)) changed) set
 
 -- one entry more is changed, into what it was
-pub changed_none : {V : Type 0} (change : V → V → Type 0) (olds es news : List (ℕ × V)) (i k : ℕ) (v : V) → ChangedSoFar change olds es i → IsOnce es → slice_get es i ≡ Some (k, v) → change v v → news ≡ es
+pub changed_none : {V : Type 0} (change : V → V → Type 0) (olds es news : List (ℕ × V)) (i k : ℕ) (v : V)
+    → ChangedSoFar change olds es i → IsOnce es → slice_get es i ≡ Some (k, v) → change v v → news ≡ es
     → ChangedSoFar change olds news (i + 1)
 changed_none change olds es news i k v so once is changed same =
     changed_more change olds es news i k v v so once is changed (same ∙ sym (set_value_same (is_at (nat_cmp k)) es v (found_at es i k v once is)))
@@ -117,7 +117,8 @@ all_changed {K} {V} change olds now i so reached =
     subst P (take_all i olds reached) (subst Q (take_all i now (omega (arith, reached, so.long))) so.done)
 
 -- the entry of the seat at a place that was within the first seats
-pub seat_at : {S V : Type 0} (seen : S → ℕ × V) (firsts seats : List S) (olds es : List (ℕ × V)) (i : ℕ) (d : S) → map seen firsts ≡ olds → map seen seats ≡ es → length es ≡ length olds → i < length firsts
+pub seat_at : {S V : Type 0} (seen : S → ℕ × V) (firsts seats : List S) (olds es : List (ℕ × V)) (i : ℕ) (d : S)
+    → map seen firsts ≡ olds → map seen seats ≡ es → length es ≡ length olds → i < length firsts
     → slice_get es i ≡ Some (seen (get_or seats i d))
 seat_at {S} {V} seen firsts seats olds es i d was is long within =
     let all : length firsts ≡ length seats = sym (length-map firsts seen) ∙ ap length was ∙ sym long ∙ ap length (sym is) ∙ length-map seats seen in

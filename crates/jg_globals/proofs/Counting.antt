@@ -5,7 +5,7 @@ use Rattle.jg_lists.specs.ByMaker.{Name, Adds}
 use Rattle.jg_globals.specs.Clearing.{EachChanged}
 
 -- one entry more
-pub length-added : {V : Type 0} (q : Name) (v : V) (es news : List (Name × V)) → Adds q v es news → length news ≡ length es + 1
+length-added : {V : Type 0} (q : Name) (v : V) (es news : List (Name × V)) → Adds q v es news → length news ≡ length es + 1
 length-added q v es news adds =
     let before = ap length adds.was ∙ length-append adds.front adds.back in
     let after = ap length adds.now ∙ length-append adds.front ((q, v) ∷ adds.back) in

@@ -4,6 +4,7 @@ use Rattle.std.specs.Prelude.{◌==◌, ◌||◌, if◌then◌else◌}
 use Rattle.std.specs.List.{list_any, AllByRecursion}
 use Rattle.std.proofs.lemmas.Bool.Decides.{nat_tests}
 use Rattle.std.proofs.lemmas.List.Elements.{All-from_recursion}
+use Rattle.std.proofs.lemmas.Option.{same_Some}
 use Rattle.jg_globals.specs.declared.target.Target.{Target}
 use Rattle.jg_globals.specs.declared.target.Target.TheVariants.{Object, Cleared}
 use Rattle.jg_globals.specs.History.{Event, MakeStrong, MakeWeak, DeleteStrong, DeleteWeak, Clear, is_same, strong, weak, clears, after_making, unless_cleared, weak_target}
@@ -119,15 +120,12 @@ not_live later p o (Some q) same seen live =
     let now : Some Cleared ≡ Some (Object (record { 0 = o })) = sym (ap (λ b. Some (if b then Cleared else Object (record { 0 = q }))) gone) ∙ live in
     cc
 
-some_is : (a b : ℕ) → Some a ≡ Some b → a ≡ b
-some_is a b is = cc
-
 pub never_again : (later e : List Event) (m n o : ℕ) → NumbersRise (later ++ e) → weak_target e m n ≡ Some Cleared → ¬ (weak_target (later ++ e) m n ≡ Some (Object (record { 0 = o })))
 never_again later e m n o rise cleared =
     let was = was_cleared (after_making m n e) (weak e m n) cleared in
     let made = was_weak e m n was.0 was.1.0 in
     not_live (after_making m n (later ++ e)) was.0 o (weak (later ++ e) m n)
-    (λ q now. some_is q was.0 (sym (weak_same later e m n q rise made now) ∙ was.1.0))
+    (λ q now. same_Some q was.0 (sym (weak_same later e m n q rise made now) ∙ was.1.0))
     (clear_seen later e m n was.0 rise made was.1.1)
 
 -- ---- numbers in the rows

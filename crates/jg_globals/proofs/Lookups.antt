@@ -133,10 +133,14 @@ pub named_law : (rows : Rows) (e : List Event) (es : List (Name × ObjId)) (o : 
     → IfSome (option_map (λ (entry : Name × ObjId). entry.0) (find (λ entry. entry.1.0 == o) es)) (λ name. strong e name.0 name.1 ≡ Some o)
 named_law rows e es o seen stands =
     let P : Option Name → Type 0 = λ found. IfSome found (λ name. strong e name.0 name.1 ≡ Some o) in
-    subst P (sym (found_in {R = Name} strong_seen (λ row. row.object == o) (λ (row : Strong). (row.maker, row.n)) es ∙ ap (λ l. option_map {U = Name} (λ (row : Strong). (row.maker, row.n)) (find (λ row. row.object == o) l)) (sym seen)))
+    subst P (sym (found_in {R = Name} strong_seen (λ row. row.object == o) (λ (row : Strong). (row.maker, row.n)) es
+    ∙ ap (λ l. option_map {U = Name} (λ (row : Strong). (row.maker, row.n)) (find (λ row. row.object == o) l))
+    (sym seen)))
     (by (find (λ row. row.object == o) rows.strong) (is_found (λ row. row.object == o) rows.strong))
   where
-    by : (found : Option Strong) → IfSome found (λ row. Member row rows.strong × ((row.object == o) ≡ true)) → IfSome (option_map {U = Name} (λ (row : Strong). (row.maker, row.n)) found) (λ name. strong e name.0 name.1 ≡ Some o)
+    by : (found : Option Strong) → IfSome found (λ row. Member row rows.strong × ((row.object == o) ≡ true))
+        → IfSome (option_map {U = Name} (λ (row : Strong). (row.maker, row.n)) found)
+        (λ name. strong e name.0 name.1 ≡ Some o)
     by None all = tt
     by (Some row) all = row_named rows e o row stands all.0 all.1
 

@@ -90,7 +90,8 @@ weak_target-make : (m n k i o : ℕ) (e : List Event) (b : Bool)
 weak_target-make m n k i o e true = refl
 weak_target-make m n k i o e false = quiet m n (after_making m n e) (MakeWeak k i o) (weak e m n) (λ p. refl)
 
-pub make_weak_law : (rows : Rows) (e : List Event) (k i o : ℕ) (es news : List (Name × Target)) → rows.weak ≡ map weak_seen es → Adds (k, i) (Object (record { 0 = o })) es news → IsAbove k i rows → Stands rows e
+pub make_weak_law : (rows : Rows) (e : List Event) (k i o : ℕ) (es news : List (Name × Target))
+    → rows.weak ≡ map weak_seen es → Adds (k, i) (Object (record { 0 = o })) es news → IsAbove k i rows → Stands rows e
     → Stands (record { strong = rows.strong; weak = map weak_seen news }) (MakeWeak k i o ∷ e)
 make_weak_law rows e k i o es news seen adds above stands =
     let same : rows.weak ≡ map weak_seen (adds.front ++ adds.back) = seen ∙ ap (map weak_seen) adds.was in
@@ -171,7 +172,7 @@ weak_absent k i es above =
     no_value (λ t. weak_seen ((k, i), t)) (lookup (same_name (k, i)) es) (sym (first_named weak_seen (is_weak k i) (k, i) (weak_tests k i) es) ∙ ap first none)
 
 -- what a reference names once each of the objects was cleared
-abbrev pub cleared_by : List ℕ → Option Target → Option Target
+abbrev cleared_by : List ℕ → Option Target → Option Target
 cleared_by objects None = None
 cleared_by objects (Some Cleared) = Some Cleared
 cleared_by objects (Some (Object o)) = Some (if list_any (λ p. p == o.0) objects then Cleared else Object o)
@@ -198,13 +199,13 @@ clear_more p objects None = refl
 clear_more p objects (Some Cleared) = refl
 clear_more p objects (Some (Object o)) = clear_object p objects o (list_any (λ q. q == o.0) objects)
 
-pub weak_target-clear : (m n : ℕ) (objects : List ℕ) (e : List Event) → weak_target (map (λ o. Clear o) objects ++ e) m n ≡ cleared_by objects (weak_target e m n)
+weak_target-clear : (m n : ℕ) (objects : List ℕ) (e : List Event) → weak_target (map (λ o. Clear o) objects ++ e) m n ≡ cleared_by objects (weak_target e m n)
 weak_target-clear m n [] e = none_cleared (weak_target e m n)
 weak_target-clear m n (o ∷ objects) e =
     let older = map (λ p. Clear p) objects ++ e in
     clear_one (after_making m n older) o (weak older m n) ∙ (ap (cleared_by (o ∷ [])) (weak_target-clear m n objects e) ∙ clear_more o objects (weak_target e m n))
 
-pub strong-clear : (m n : ℕ) (objects : List ℕ) (e : List Event) → strong (map (λ o. Clear o) objects ++ e) m n ≡ strong e m n
+strong-clear : (m n : ℕ) (objects : List ℕ) (e : List Event) → strong (map (λ o. Clear o) objects ++ e) m n ≡ strong e m n
 strong-clear m n [] e = refl
 strong-clear m n (o ∷ objects) e = strong-clear m n objects e
 

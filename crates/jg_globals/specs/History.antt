@@ -36,7 +36,7 @@ weak (DeleteWeak k i ∷ e) maker n = if is_same maker n k i then None else weak
 weak (ev ∷ e) maker n = weak e maker n
 
 -- the event makes that weak reference
-abbrev pub makes_weak : ℕ → ℕ → Event → Bool
+abbrev makes_weak : ℕ → ℕ → Event → Bool
 makes_weak maker n (MakeWeak k i o) = is_same maker n k i
 makes_weak maker n ev = false
 

@@ -35,20 +35,24 @@ pub record WeakSince (e : List Event) (maker n o : ℕ) (was_cleared : Bool) : T
   pub cleared : list_any (clears o) later ≡ was_cleared
 
 -- a global reference is live, for an object, where it was made for it and not deleted since
+-- (proofs/Means.antt)
 abbrev pub StrongMeans : Type 0
 StrongMeans = (e : List Event) (maker n o : ℕ) → (strong e maker n ≡ Some o) ↔ StrongSince e maker n o
 
 -- a weak reference is live, for an object, where it was made for it and since then neither deleted nor cleared
+-- (proofs/Means.antt)
 abbrev pub WeakMeans : Type 0
 WeakMeans = (e : List Event) (maker n o : ℕ)
     → (weak_target e maker n ≡ Some (Object (record { 0 = o }))) ↔ WeakSince e maker n o false
 
 -- a weak reference is cleared where it was made for an object that was cleared since, and not deleted since
+-- (proofs/Means.antt)
 abbrev pub ClearedMeans : Type 0
 ClearedMeans = (e : List Event) (maker n : ℕ)
     → (weak_target e maker n ≡ Some Cleared) ↔ ((o : ℕ) × WeakSince e maker n o true)
 
 -- an object is held by global references where some global reference that names it is in being
+-- (proofs/Callers.antt)
 abbrev pub HoldsMeans : Type 0
 HoldsMeans = (e : List Event) (o : ℕ)
     → IsTrue (holds_object e o) ↔ ((maker : ℕ) × (n : ℕ) × (strong e maker n ≡ Some o))
@@ -78,17 +82,20 @@ pub record StaysEnded (later e : List Event) (maker n : ℕ) : Type 0 where
   pub strong : strong e maker n ≡ None → strong (later ++ e) maker n ≡ None
   pub weak : weak_target e maker n ≡ None → weak_target (later ++ e) maker n ≡ None
 
+-- (proofs/Ended.antt)
 abbrev pub DeletedStaysDeleted : Type 0
 DeletedStaysDeleted = (later e : List Event) (maker n : ℕ) → NumbersRise (later ++ e)
     → list_any (makes maker n) e ≡ true → StaysEnded later e maker n
 
 -- a cleared weak reference never names an object again
+-- (proofs/Ended.antt)
 abbrev pub ClearedStaysCleared : Type 0
 ClearedStaysCleared = (later e : List Event) (maker n o : ℕ) → NumbersRise (later ++ e)
     → weak_target e maker n ≡ Some Cleared → ¬ (weak_target (later ++ e) maker n ≡ Some (Object (record { 0 = o })))
 
 -- a number above all that the events gave the maker is above all of its numbers in the rows, as the making of a
 -- reference asks
+-- (proofs/Callers.antt)
 abbrev pub NewNumberIsAbove : Type 0
 NewNumberIsAbove = (rows : Rows) (e : List Event) (maker n : ℕ) → Stands rows e → IsMadeBelow maker n e
     → IsAbove maker n rows

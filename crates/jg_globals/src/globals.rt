@@ -1,3 +1,5 @@
+//! The table of global and weak global references.
+
 ghost use Rattle.std.specs.Prelude.{◌≡◌, ◌≤◌, ◌+◌, ◌^◌, ℕ, List, [], ◌∷◌, ◌++◌, length, map, vec_len, vec_capacity, IfSome, OnOk, OnErr};
 ghost use Rattle.std.specs.Option.{is_some, option_map};
 ghost use Rattle.jg_globals.specs.History.{Event, MakeStrong, MakeWeak, Clear, strong_target, target_of, deletion, Holds, holds_object};

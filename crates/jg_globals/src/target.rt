@@ -1,3 +1,5 @@
+//! What a global or weak global reference names.
+
 use jg_words::ObjId;
 
 /// What a global or weak global reference in being names: its object, or nothing any more, where

@@ -13,7 +13,8 @@ use Rattle.jg_words.specs.declared.call.arrays.ArraysCall.TheVariants.{GetArrayR
 use Rattle.jg_policy.specs.Stated.{StatedSetup}
 use Rattle.jg_heap.specs.declared.object.Slot.{Slot}
 use Rattle.jg_heap.specs.declared.object.Slot.TheVariants.{Object as ToObject}
-use Rattle.jg_heap.specs.Making.{Filled, array_class, IsPrimitiveArray}
+use Rattle.jg_heap.specs.Making.{Filled, IsPrimitiveArray}
+use Rattle.jg_words.specs.Classes.{array_class}
 use Rattle.jg_heap.specs.Rows.{Rows}
 use Rattle.jg_heap.specs.History.{Event, Made, Wrote}
 use Rattle.jg_heap.specs.Standing.{Stands}
@@ -102,7 +103,7 @@ not_outside s p kind false a effective = refl
 
 -- ---- objects
 
-pub remade : (found : Option ObjId) → option_map (λ (n : ℕ). record { 0 = n }) (option_map (λ (o : ObjId). o.0) found) ≡ found
+remade : (found : Option ObjId) → option_map (λ (n : ℕ). record { 0 = n }) (option_map (λ (o : ObjId). o.0) found) ≡ found
 remade None = refl
 remade (Some o) = refl
 

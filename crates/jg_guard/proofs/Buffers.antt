@@ -12,7 +12,8 @@ use Rattle.jg_words.specs.declared.reference.Ref.TheVariants.{Null, To}
 use Rattle.jg_words.specs.declared.call.Call.TheVariants.{Buffers}
 use Rattle.jg_words.specs.declared.call.buffers.BuffersCall.TheVariants.{GetArrayElements, ReleaseArrayElements, BufferRead, BufferWrite}
 use Rattle.jg_policy.specs.Stated.{StatedSetup, class_count}
-use Rattle.jg_heap.specs.Making.{Making, array_class, class_in, IsPrimitiveArray}
+use Rattle.jg_heap.specs.Making.{Making, class_in, IsPrimitiveArray}
+use Rattle.jg_words.specs.Classes.{array_class}
 use Rattle.jg_heap.specs.Rows.{count_in, class_at, length_at}
 use Rattle.jg_heap.specs.Reading.{natural}
 use Rattle.jg_heap.specs.History.{making_at}
@@ -76,7 +77,7 @@ open_if : (p : Parts) (b : BufId) (info : Info) (found : Option Buffer) → open
 open_if p b info None is told = absurd cc
 open_if p b info (Some x) is told = record { buffer = x; is_open = is; told = one_info (info_of x) info told }
 
-pub open_as : (p : Parts) (b : BufId) (info : Info) → buffer_named p b ≡ Some info → OpenAs p b info
+open_as : (p : Parts) (b : BufId) (info : Info) → buffer_named p b ≡ Some info → OpenAs p b info
 open_as p b info is = open_if p b info (opened p.buffers b.maker.0 b.n) refl is
 
 place_if : (a c : Bool) (index : ℤ) (n : ℕ) → nat_lt (natural index) n ≡ c → (a && c) ≡ true → natural index < n
@@ -111,7 +112,7 @@ written_within s rows t b index value info due is =
     (right (is_place index info.length && is_value_of_type (item_type s due.events info info.family) value) told))
 
 -- only items of an array are written
-pub written_array : (s : StatedSetup) (rows : TableRows) (t : ℕ) (b : BufId) (index value : ℤ) (info : Info) (due : IsDue s rows t (Buffers (BufferWrite b index value)))
+written_array : (s : StatedSetup) (rows : TableRows) (t : ℕ) (b : BufId) (index value : ℤ) (info : Info) (due : IsDue s rows t (Buffers (BufferWrite b index value)))
     → buffer_named due.events b ≡ Some info → is_of_array info.family ≡ true
 written_array s rows t b index value info due is =
     let told : not (is_of_array info.family && not (is_anothers t info)) ≡ false =
@@ -123,7 +124,7 @@ length_if : (b : Bool) (n : ℕ) → b ≡ false → (if b then 0 else n) ≡ n
 length_if true n is = absurd cc
 length_if false n is = refl
 
-pub copy_is : (found : Option Buffer) (info : Info) → option_map info_of found ≡ Some info → is_critical info.family ≡ false → copy_length found ≡ info.length
+copy_is : (found : Option Buffer) (info : Info) → option_map info_of found ≡ Some info → is_critical info.family ≡ false → copy_length found ≡ info.length
 copy_is None info is copies = absurd cc
 copy_is (Some row) info is copies =
     let same : info_of row ≡ info = one_info (info_of row) info is in
@@ -170,7 +171,8 @@ family_is ArrayCritical element is = absurd (omega (arith, is, four element))
 family_is StringCritical element is = absurd (omega (arith, is, four element))
 
 -- it is of the operand's object
-pub released_object : (s : StatedSetup) (rows : TableRows) (t : ℕ) (element : Primitive) (r : Ref) (b : BufId) (mode : ℤ) (due : IsDue s rows t (Buffers (ReleaseArrayElements element r b mode))) (info : Info)
+pub released_object : (s : StatedSetup) (rows : TableRows) (t : ℕ) (element : Primitive) (r : Ref) (b : BufId) (mode : ℤ) (due : IsDue s rows t (Buffers (ReleaseArrayElements element r b mode)))
+    (info : Info)
     → buffer_named due.events b ≡ Some info → info.object.0 ≡ the_object due.events t r
 released_object s rows t element r b mode due info is =
     let it = released due.events t (Elements element) r b due.unbroken.alive due.unbroken.not_null due.unbroken.right_buffer in

@@ -167,7 +167,8 @@ threads_few s p t call o =
     omega (arith, few, o.few_threads)
 
 -- of a call that opens no buffer
-after_other : (s : StatedSetup) (p : Parts) (t : ℕ) (env : Option EnvId) (call : Call) → Unbroken s p t env call → opens_one (call_buffers s p t call) ≡ false → IsOrdinary p → After (done_by s t call p) t
+after_other : (s : StatedSetup) (p : Parts) (t : ℕ) (env : Option EnvId) (call : Call) → Unbroken s p t env call → opens_one (call_buffers s p t call) ≡ false → IsOrdinary p
+    → After (done_by s t call p) t
 after_other s p t env call kept none o = record {
   few = threads_few s p t call o;
   agree = each_done (λ q. (u : ℕ) → Agreed (threads.acts_of u q.threads) (acts_of u q.locals)) s (agree_steps s) p t env call kept none o.agree t;
@@ -186,7 +187,7 @@ after_done s p t env (Monitors call) kept o = after_other s p t env (Monitors ca
 after_done s p t env (Buffers call) kept o = record { few = threads_few s p t (Buffers call) o; agree = o.agree t; below = o.below t }
 
 -- an attached thread whose tables stand for a call's own events may be handed out its next local
-pub can_hand_out : {A : Type 0} (s : StatedSetup) (p : Parts) (tables : Tables A) (t : ℕ) (n : ℕ) (env : Option EnvId) (call : Call) → After (done_by s t call p) t
+can_hand_out : {A : Type 0} (s : StatedSetup) (p : Parts) (tables : Tables A) (t : ℕ) (n : ℕ) (env : Option EnvId) (call : Call) → After (done_by s t call p) t
     → TablesStand s (rows_of tables) (done_by s t call p) → needs_env (fun_of call) ≡ true → detached p t env call ≡ false → n ≡ next_ref p t → 0 < spare tables.locals t → CanHandOut tables t n
 can_hand_out s p tables t n env call after stand takes is next room =
     let q : Parts = done_by s t call p in
@@ -201,7 +202,7 @@ can_hand_out s p tables t n env call after stand takes is next room =
     }
 
 -- an attached thread may be handed out its next global reference
-pub can_make_global : {A : Type 0} (s : StatedSetup) (p : Parts) (tables : Tables A) (t maker : Tid) (n : ℕ) (env : Option EnvId) (call : Call) → IsOrdinary p
+can_make_global : {A : Type 0} (s : StatedSetup) (p : Parts) (tables : Tables A) (t maker : Tid) (n : ℕ) (env : Option EnvId) (call : Call) → IsOrdinary p
     → TablesStand s (rows_of tables) p → needs_env (fun_of call) ≡ true → detached p t.0 env call ≡ false → maker ≡ t → n ≡ next_ref p t.0 → CanMakeGlobal tables t.0 maker.0 n
 can_make_global s p tables t maker n env call o stand takes is own next =
     record {

@@ -56,12 +56,12 @@ tail_same : (x y : Entry) (h l : List Entry) → x ∷ h ≡ y ∷ l → h ≡ l
 tail_same x y h l is = cc
 
 -- two lists of the references that are left are as long as each other
-pub refs_once : (p : Parts) (m n : ℕ) → CountsRefs p m → CountsRefs p n → m ≡ n
+refs_once : (p : Parts) (m n : ℕ) → CountsRefs p m → CountsRefs p n → m ≡ n
 refs_once p m n (qs, lists, long) (rs, others, same) =
     sym long ∙ as_long same_ref ref_itself ref_equal qs rs (λ r. lists r ∙ sym (others r)) ∙ same
 
 module _ (Counts : Parts → ℕ → Type 0) (once : (p : Parts) (m n : ℕ) → Counts p m → Counts p n → m ≡ n) (s : StatedSetup) where
-  pub most_begun : (n : ℕ) → Counts (parts s []) n → IsMost Counts s [] n
+  most_begun : (n : ℕ) → Counts (parts s []) n → IsMost Counts s [] n
   most_begun n counted = record {
     later = [];
     before = [];
@@ -75,7 +75,7 @@ module _ (Counts : Parts → ℕ → Type 0) (once : (p : Parts) (m n : ℕ) →
       first [] (x ∷ older) m whole counts = absurd cc
       first (x ∷ newer) older m whole counts = absurd cc
 
-  pub most_more : (h : List Entry) (x : Entry) (n k : ℕ) → IsMost Counts s h n → Counts (parts s (x ∷ h)) k → IsMost Counts s (x ∷ h) (max n k)
+  most_more : (h : List Entry) (x : Entry) (n k : ℕ) → IsMost Counts s h n → Counts (parts s (x ∷ h)) k → IsMost Counts s (x ∷ h) (max n k)
   most_more h x n k old counted = by (nat_lt n k) refl
     where
       rest : (newer older : List Entry) (m : ℕ) → x ∷ h ≡ newer ++ older → Counts (parts s older) m → m ≤ max n k
@@ -101,7 +101,7 @@ module _ (Counts : Parts → ℕ → Type 0) (once : (p : Parts) (m n : ℕ) →
           }
 
   -- a denied entry changes nothing
-  pub most_same : (h : List Entry) (x : Entry) (n : ℕ) → parts s (x ∷ h) ≡ parts s h → IsMost Counts s h n → IsMost Counts s (x ∷ h) n
+  most_same : (h : List Entry) (x : Entry) (n : ℕ) → parts s (x ∷ h) ≡ parts s h → IsMost Counts s h n → IsMost Counts s (x ∷ h) n
   most_same h x n same old = record {
     later = x ∷ old.later;
     before = old.before;
@@ -124,11 +124,11 @@ buffer_equal b c is =
     let number : b.n ≡ c.n = grind (arith, nat_tests, is) in
     ap (λ (i : ℕ). record { maker = record { 0 = i }; n = b.n }) maker ∙ ap (λ (k : ℕ). record { maker = c.maker; n = k }) number
 
-pub buffers_once : (p : Parts) (m n : ℕ) → CountsBuffers p m → CountsBuffers p n → m ≡ n
+buffers_once : (p : Parts) (m n : ℕ) → CountsBuffers p m → CountsBuffers p n → m ≡ n
 buffers_once p m n (bs, lists, long) (cs, others, same) =
     sym long ∙ as_long (λ b c. is_same c.maker.0 c.n b.maker.0 b.n) buffer_itself buffer_equal bs cs (λ b. lists b.maker.0 b.n ∙ sym (others b.maker.0 b.n)) ∙ same
 
-pub objects_once : (s : StatedSetup) (p : Parts) (m n : ℕ) → CountsObjects s p m → CountsObjects s p n → m ≡ n
+objects_once : (s : StatedSetup) (p : Parts) (m n : ℕ) → CountsObjects s p m → CountsObjects s p n → m ≡ n
 objects_once s p m n first second = first ∙ sym second
 
 pub peaks_raised : (s : StatedSetup) (h : List Entry) (x : Entry) (peaks now : Peaks) → ArePeaks s h peaks → IsNow s (x ∷ h) now → ArePeaks s (x ∷ h) (raised peaks now)
@@ -167,7 +167,8 @@ none_at_first s none is = subst (ArePeaks s []) (sym is) (record {
     no_objects : 0 ≡ length (others_in_being (class_count s) [])
     no_objects = ap (λ n. length (filter (λ o. not (gone_at (class_count s) [] o)) (range_with_len (class_count s) n))) (nothing_more (class_count s))
 
-pub counted_refs : (s : StatedSetup) (rows : TableRows) (p : Parts) → TablesStand s rows p → (n : ℕ) → n ≡ length rows.locals.locals + (length rows.globals.strong + length rows.globals.weak) → CountsRefs p n
+pub counted_refs : (s : StatedSetup) (rows : TableRows) (p : Parts) → TablesStand s rows p → (n : ℕ) → n ≡ length rows.locals.locals + (length rows.globals.strong + length rows.globals.weak)
+    → CountsRefs p n
 counted_refs s rows p stands n is =
     let strong = map strong_ref rows.globals.strong in
     let weak = map weak_ref rows.globals.weak in

@@ -20,8 +20,8 @@ use Rattle.jg_rules.specs.declared.answer.Answer.{Answer}
 use Rattle.jg_rules.proofs.Kept.{unbroken}
 use Rattle.jg_guard.specs.Guard.{State, IsSound, Takes}
 use Rattle.jg_guard.proofs.Due.{counts, stand_at}
-use Rattle.jg_guard.specs.declared.collect.Held.{Held}
-use Rattle.jg_guard.specs.Held.{Finds}
+use Rattle.jg_guard.specs.declared.collect.Findings.{Findings}
+use Rattle.jg_guard.specs.Findings.{Finds}
 use Rattle.jg_guard.specs.Tables.{IsOrdinary, IsDue, IsAnswered}
 use Rattle.jg_words.specs.declared.value.Value.{Value}
 use Rattle.jg_words.specs.declared.object.ObjId.{ObjId}
@@ -43,7 +43,7 @@ ordinary state rows s =
       few_monitors = omega (arith, sizes.monitors, s.bounded, s.small);
     }
 
-pub entry_passed : (s : StatedSetup) (p : Parts) (t : Tid) (env : Option EnvId) (call : Call) → verdict s p t.0 env call ≡ None → entry_at s p t env call ≡ entry_by None (answer s p t call) t env call
+entry_passed : (s : StatedSetup) (p : Parts) (t : Tid) (env : Option EnvId) (call : Call) → verdict s p t.0 env call ≡ None → entry_at s p t env call ≡ entry_by None (answer s p t call) t env call
 entry_passed s p t env call none = rw none refl
 
 -- one entry more keeps a guard sound
@@ -102,8 +102,10 @@ takes_entry old rows x journal spare s is legal = record {
   legal = rw is (legal, s.legal);
 }
 
-pub denied_sound : (state : State) (journal : List Entry) (spare : ℕ) (rows : TableRows) (t : Tid) (env : Option EnvId) (call : Call) (rule : Rule) → IsSound state rows → length state.journal < state.limit
-    → verdict state.setup (parts state.setup state.journal) t.0 env call ≡ Some rule → journal ≡ denied_entry t env call rule ∷ state.journal → IsSound (record state { journal = journal; spare = spare }) rows
+pub denied_sound : (state : State) (journal : List Entry) (spare : ℕ) (rows : TableRows) (t : Tid) (env : Option EnvId) (call : Call) (rule : Rule) → IsSound state rows
+    → length state.journal < state.limit
+    → verdict state.setup (parts state.setup state.journal) t.0 env call ≡ Some rule → journal ≡ denied_entry t env call rule ∷ state.journal
+    → IsSound (record state { journal = journal; spare = spare }) rows
 denied_sound state journal spare rows t env call rule s room denied is =
     sound_after state journal spare (denied_entry t env call rule) rows rows s room is (entry_denied state.setup (parts state.setup state.journal) t env call rule denied) s.tables
 
@@ -115,13 +117,14 @@ same_answer a b value warned noticed object = ap (λ (v : Value). record { reply
 
 -- what is known of a call that passes, once it is answered: it breaks no rule, its answer is what the history says, but for a
 -- notice, and what a collection found is what the history says is held
-pub record IsPassed (A : Type 0) (state : State) (t : Tid) (env : Option EnvId) (call : Call) (given : Answer) (held : Held A) : Type 0 where
+pub record IsPassed (A : Type 0) (state : State) (t : Tid) (env : Option EnvId) (call : Call) (given : Answer) (held : Findings A) : Type 0 where
   pub none : verdict state.setup (parts state.setup state.journal) t.0 env call ≡ None
   pub answers : given ≡ unnoticed state.setup (parts state.setup state.journal) t call
   pub found : Finds state.setup (parts state.setup state.journal) call held
 
 -- what was found and answered under the view is so under the guard
-pub passed_by : (A : Type 0) (state now : State) (s : StatedSetup) (rows rows' : TableRows) (t : Tid) (env : Option EnvId) (call : Call) (given : Answer) (held : Held A) → IsSound state rows → state ≡ now
+pub passed_by : (A : Type 0) (state now : State) (s : StatedSetup) (rows rows' : TableRows) (t : Tid) (env : Option EnvId) (call : Call) (given : Answer) (held : Findings A) → IsSound state rows
+    → state ≡ now
     → s ≡ state.setup → rows' ≡ rows → verdict now.setup (parts now.setup now.journal) t.0 env call ≡ None
     → ((p : Parts) → TablesStand s rows' p → Finds s p call held)
     → ((p : Parts) → TablesStand s rows' p → Finds s p call held → given ≡ unnoticed s p t call)
@@ -136,7 +139,7 @@ passed_by A state now s rows rows' t env call given held sound seen same_setup s
     }
 
 -- so its effects are due
-pub answered_due : (A : Type 0) (state : State) (rows : TableRows) (t : Tid) (env : Option EnvId) (call : Call) (given again : Answer) (held : Held A) → IsSound state rows
+pub answered_due : (A : Type 0) (state : State) (rows : TableRows) (t : Tid) (env : Option EnvId) (call : Call) (given again : Answer) (held : Findings A) → IsSound state rows
     → IsPassed A state t env call given held → again.reply.value ≡ given.reply.value → again.reply.warned ≡ given.reply.warned → again.reply.noticed ≡ given.reply.noticed → again.object ≡ given.object
     → IsAnswered state.setup rows t call again held
 answered_due A state rows t env call given again held s passed value warned noticed object = record {
@@ -146,9 +149,9 @@ answered_due A state rows t env call given again held s passed value warned noti
 }
 
 -- its entry, with a notice or without as the tables say after it, is the history's next
-pub next_entry : (A : Type 0) (state : State) (t : Tid) (env : Option EnvId) (call : Call) (given : Answer) (held : Held A) (b : Bool) → IsPassed A state t env call given held
+pub entry_taken : (A : Type 0) (state : State) (t : Tid) (env : Option EnvId) (call : Call) (given : Answer) (held : Findings A) (b : Bool) → IsPassed A state t env call given held
     → b ≡ (makes_local given.reply.value && crowded (acts_of t.0 (passed_on state.setup t.0 call given.reply given.object (parts state.setup state.journal)).locals))
     → passed_entry t env call (with_notice b given) ≡ entry_at state.setup (parts state.setup state.journal) t env call
-next_entry A state t env call given held b passed told =
+entry_taken A state t env call given held b passed told =
     let p : Parts = parts state.setup state.journal in
     entry_given state.setup p t env call (with_notice b given) passed.none (noticed_given state.setup p t call given b passed.answers told)

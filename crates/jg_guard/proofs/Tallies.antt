@@ -10,7 +10,7 @@ use Rattle.jg_words.specs.Rule.{number_of}
 use Rattle.jg_policy.specs.LinkRows.{how_many}
 use Rattle.jg_guard.specs.Tally.{IsTally, outcome_number, tallied}
 
-pub number_below : (rule : Rule) → number_of rule < 18
+number_below : (rule : Rule) → number_of rule < 18
 number_below WrongThread = omega arith
 number_below Detached = omega arith
 number_below InCritical = omega arith

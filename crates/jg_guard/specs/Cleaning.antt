@@ -36,4 +36,5 @@ cleans_up call = false
 
 -- memory may be wanting for the call: there is no room for its entry, or it passes and gives nothing back
 abbrev pub MayWant : State → Tid → Option EnvId → Call → Type 0
-MayWant state t env call = 0 < state.spare → (verdict state.setup (parts state.setup state.journal) t.0 env call ≡ None) × (cleans_up call ≡ false)
+MayWant state t env call = 0 < state.spare
+    → (verdict state.setup (parts state.setup state.journal) t.0 env call ≡ None) × (cleans_up call ≡ false)

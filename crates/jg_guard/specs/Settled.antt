@@ -11,7 +11,8 @@ use Rattle.jg_heap.specs.History as heap
 use Rattle.jg_heap.specs.Making.{Plain}
 use Rattle.jg_rules.specs.Parts.{Parts}
 use Rattle.jg_buffers.specs.History as buffers
-use Rattle.jg_rules.specs.Effects.{class_thrown, warning, deletes_local, linking, unlinking}
+use Rattle.jg_rules.specs.Effects.{warning, deletes_local, linking, unlinking}
+use Rattle.jg_words.specs.Classes.{class_thrown}
 use Rattle.jg_rules.specs.Holding.{roots, going}
 use Rattle.jg_policy.specs.Stated.{StatedSetup}
 use Rattle.std.specs.Prelude.{map}

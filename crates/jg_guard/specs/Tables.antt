@@ -29,9 +29,9 @@ use Rattle.jg_rules.specs.Answers.{unnoticed}
 pub use Rattle.jg_rules.specs.Answers.{makes_local}
 use Rattle.jg_rules.specs.declared.answer.Answer.{Answer}
 use Rattle.jg_laws.specs.Laws.{AgreeInNatives, MakesStated, FitsObject}
-use Rattle.jg_guard.specs.declared.collect.Held.{Held}
+use Rattle.jg_guard.specs.declared.collect.Findings.{Findings}
 use Rattle.jg_guard.specs.declared.tables.Tables.{Tables}
-use Rattle.jg_guard.specs.Held.{Finds}
+use Rattle.jg_guard.specs.Findings.{Finds}
 
 -- what the tables keep
 abbrev pub rows_of : {A : Type 0} → Tables A → TableRows
@@ -77,10 +77,11 @@ pub record IsDue (setup : StatedSetup) (rows : TableRows) (t : ℕ) (call : Call
   pub counts : CanCount rows.threads t
 
 -- such a call, with its answer but for a notice, and what a collection found
-pub record IsAnswered {A : Type 0} (setup : StatedSetup) (rows : TableRows) (t : Tid) (call : Call) (given : Answer) (held : Held A) : Type 0 where
+pub record IsAnswered {A : Type 0} (setup : StatedSetup) (rows : TableRows) (t : Tid) (call : Call) (given : Answer)
+    (findings : Findings A) : Type 0 where
   pub due : IsDue setup rows t.0 call
   pub answered : given ≡ unnoticed setup due.events t call
-  pub found : Finds setup due.events call held
+  pub found : Finds setup due.events call findings
 
 -- such a call that does something of its own
 pub record IsEffective (setup : StatedSetup) (rows : TableRows) (t : Tid) (call : Call) : Type 0 where

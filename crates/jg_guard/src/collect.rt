@@ -17,7 +17,7 @@ ghost use Rattle.jg_words.specs.declared.call.Call.TheVariants.{Vm};
 ghost use Rattle.jg_words.specs.declared.call.vm.VmCall.TheVariants.{Collect};
 ghost use Rattle.jg_policy.specs.Stated.{StatedSetup, class_count};
 ghost use Rattle.jg_guard.specs.Cleaning.{cleans_up};
-ghost use Rattle.jg_guard.specs.Held.{Finds, IsReady};
+ghost use Rattle.jg_guard.specs.Findings.{Finds, IsReady};
 ghost use Rattle.jg_guard.specs.Settled.{collected_on};
 
 use crate::tables::Tables;
@@ -51,15 +51,15 @@ fn mark_held<A: Allocator + Clone>(
 /// in being that nothing holds. It is kept for the next collection, which then doesn't go over what
 /// is gone.
 #[derive(Drop)]
-pub(crate) struct Held<A: Allocator> {
+pub(crate) struct Findings<A: Allocator> {
     marks: ObjectMarks<A>,
     pub(crate) unheld: Vec<u64, A>,
 }
 
-impl<A: Allocator> Held<A> {
+impl<A: Allocator> Findings<A> {
     /// Nothing was found yet. Takes no memory.
-    pub(crate) fn new(marks: A, unheld: A) -> Held<A> {
-        Held {
+    pub(crate) fn new(marks: A, unheld: A) -> Findings<A> {
+        Findings {
             marks: ObjectMarks::new(marks),
             unheld: Vec::new(unheld),
         }
@@ -67,33 +67,36 @@ impl<A: Allocator> Held<A> {
 }
 
 /// Looks for all that something holds. It only reads the tables.
-fn find_held<A: Allocator + Clone>(view: &View<'_, A>, held: &mut Held<A>) -> Result<(), AllocError>
+fn find_held<A: Allocator + Clone>(
+    view: &View<'_, A>,
+    findings: &mut Findings<A>,
+) -> Result<(), AllocError>
     ensures marks { OnOk result ((p : Parts) → ViewStands view.now p
-        → MarksHeld view.now.heap.now.classes (roots view.now.setup.now p) p.heap held.new.marks) }
+        → MarksHeld view.now.heap.now.classes (roots view.now.setup.now p) p.heap findings.new.marks) }
     ensures unheld { OnOk result ((p : Parts) → ViewStands view.now p
-        → held.new.unheld.items ≡ going view.now.setup.now p) }
-    ensures listed { OnOk result (AreListed view.now.heap.now held.new.marks held.new.unheld.items) }
+        → findings.new.unheld.items ≡ going view.now.setup.now p) }
+    ensures listed { OnOk result (AreListed view.now.heap.now findings.new.marks findings.new.unheld.items) }
 {
-    held.marks.start(view.heap.len() as usize)?;
-    mark_held(view, &mut held.marks, &mut held.unheld)?;
+    findings.marks.start(view.heap.len() as usize)?;
+    mark_held(view, &mut findings.marks, &mut findings.unheld)?;
     Ok(())
 }
 
 /// Looks for what the call has to know of what is held: all, where it is a collection.
 pub(crate) fn find_held_for<A: Allocator + Clone>(
     view: &View<'_, A>,
-    held: &mut Held<A>,
+    findings: &mut Findings<A>,
     call: &Call,
 ) -> Result<(), AllocError>
     ensures found { OnOk result ((p : Parts) → ViewStands view.now p
-        → Finds view.now.setup.now p call.now held.new) }
-    ensures ready { OnOk result (IsReady view.now.heap.now call.now held.new) }
+        → Finds view.now.setup.now p call.now findings.new) }
+    ensures ready { OnOk result (IsReady view.now.heap.now call.now findings.new) }
     ensures wants { OnErr result (cleans_up call.now ≡ false) }
 {
     match call {
         Call::Vm(call) => match call {
             VmCall::Collect => {
-                find_held(view, held)?;
+                find_held(view, findings)?;
                 Ok(())
             }
             _ => Ok(()),
@@ -150,12 +153,12 @@ fn let_go<A: Allocator + Clone>(tables: &mut Tables<A>, marks: &ObjectMarks<A>, 
 }
 
 /// Lets go of what nothing holds, as it was found, all judged at once.
-pub(crate) fn collect<A: Allocator + Clone>(tables: &mut Tables<A>, held: &Held<A>)
-    requires { IsReady tables.old.heap (Vm Collect) held.now }
+pub(crate) fn collect<A: Allocator + Clone>(tables: &mut Tables<A>, findings: &Findings<A>)
+    requires { IsReady tables.old.heap (Vm Collect) findings.now }
     ensures stands { (setup : StatedSetup) (p : Parts) → TablesStand setup (rows_of tables.old) p
-        → Finds setup p (Vm Collect) held.now → TablesStand setup (rows_of tables.new) (collected_on setup p) }
+        → Finds setup p (Vm Collect) findings.now → TablesStand setup (rows_of tables.new) (collected_on setup p) }
     ensures locals { tables.new.locals ≡ tables.old.locals }
     ensures links { tables.new.links ≡ tables.old.links }
 {
-    let_go(tables, &held.marks, &held.unheld);
+    let_go(tables, &findings.marks, &findings.unheld);
 }

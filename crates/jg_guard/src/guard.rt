@@ -1,3 +1,5 @@
+//! The guard: it judges a call, does it or denies it, and journals it.
+
 ghost use Rattle.std.specs.Prelude.{◌≡◌, ◌+◌, ◌<◌, ◌≤◌, ◌⊎◌, ◌↔◌, [], ◌∷◌, false, length, reverse, IfOk, IfErr, OnOk, OnErr, None, Some, Err, slice_get};
 ghost use Rattle.std.specs.Option.{option_copied};
 ghost use Rattle.jg_rules.specs.Legal.{Legal};
@@ -13,7 +15,7 @@ ghost use Rattle.jg_guard.specs.Left.{ListsRefs, RefsAscend, ListsBuffers, Buffe
 ghost use Rattle.jg_monitors.specs.Rows.{Ascends};
 
 use crate::answer::answer_to;
-use crate::collect::{Held, find_held_for};
+use crate::collect::{Findings, find_held_for};
 use crate::leaks::{Leaks, list_buffers, list_refs};
 use crate::peaks::{Peaks, counted, raised};
 use crate::perform::perform;
@@ -55,7 +57,7 @@ pub struct Guard<A: Allocator = Global> {
     journal: Blocks<Entry, A>,
     tables: Tables<A>,
     /// What the last collection found, whose marks serve the next one.
-    held: Held<A>,
+    findings: Findings<A>,
     peaks: Peaks,
     tally: Tally,
 }
@@ -69,7 +71,7 @@ impl<A: Allocator> Drop for Guard<A> {
             limit: _,
             journal: _journal,
             tables: _tables,
-            held: _held,
+            findings: _findings,
             peaks: _,
             tally: _,
         } = self;
@@ -78,17 +80,17 @@ impl<A: Allocator> Drop for Guard<A> {
 
 impl<A: Allocator> Model for Guard<A> {
     ghost use Rattle.std.specs.Prelude.{reverse};
-    ghost use Rattle.jg_guard.specs.Guard.{State, IsSound};
+    ghost use Rattle.jg_guard.specs.Guard.{State, state_of, IsSound};
     ghost use Rattle.jg_guard.specs.Peaks.{ArePeaks};
     ghost use Rattle.jg_guard.specs.Tally.{IsTally};
     ghost use Rattle.jg_guard.specs.Tables.{rows_of};
 
     ghost Value = { State };
 
-    ghost view = { λ g. record { setup = g.setup; limit = g.limit; journal = reverse g.journal.items; spare = g.journal.spare } };
+    ghost view = { λ g. state_of g.setup g.limit g.journal };
 
-    ghost invariant = { λ g. IsSound (record { setup = g.setup; limit = g.limit; journal = reverse g.journal.items; spare = g.journal.spare })
-        (rows_of g.tables) × ArePeaks g.setup (reverse g.journal.items) g.peaks × IsTally (reverse g.journal.items) g.tally };
+    ghost invariant = { λ g. IsSound (state_of g.setup g.limit g.journal) (rows_of g.tables)
+        × ArePeaks g.setup (reverse g.journal.items) g.peaks × IsTally (reverse g.journal.items) g.tally };
 }
 
 impl<A: Allocator + Copy> Guard<A> {
@@ -123,7 +125,7 @@ impl<A: Allocator + Copy> Guard<A> {
             limit,
             journal,
             tables,
-            held: Held::new(alloc, alloc),
+            findings: Findings::new(alloc, alloc),
             peaks: Peaks {
                 references: 0,
                 objects: 0,
@@ -213,10 +215,10 @@ impl<A: Allocator + Clone> Guard<A> {
         ensures no_place { OnErr result (self.old.spare ≤ self.new.spare) }
     {
         let (view, tables) = (self.tables.view(&self.setup), &self.tables);
-        let Ok(()) = find_held_for(&view, &mut self.held, &call) else {
+        let Ok(()) = find_held_for(&view, &mut self.findings, &call) else {
             return Err(Refusal::NoMemory(call));
         };
-        let Ok(given) = answer_to(&view, &self.held, tables.lists, tid, &call) else {
+        let Ok(given) = answer_to(&view, &self.findings, tables.lists, tid, &call) else {
             return Err(Refusal::NoMemory(call));
         };
         let Ok(value) = given.reply.value.try_copy() else {
@@ -228,7 +230,7 @@ impl<A: Allocator + Clone> Guard<A> {
         let Ok(()) = perform(
             &mut self.tables,
             &self.setup,
-            &self.held,
+            &self.findings,
             tid,
             &call,
             &given,
@@ -321,6 +323,18 @@ impl<A: Allocator + Clone> Guard<A> {
         ensures without_denied { LegalWithoutDenied self.now index }
     {
         self.journal.get(index)
+    }
+
+    /// The newest entry of the journal.
+    #[inline(always)]
+    pub fn newest(&self) -> &Entry
+        requires { 0 < length self.now.journal }
+        ensures { slice_get self.now.journal 0 ≡ Some result.now }
+    {
+        match self.journal_entry(self.journal_len() - 1) {
+            Some(entry) => entry,
+            None => unreachable!(),
+        }
     }
 
     /// What the journal leaves behind: the references that live, the buffers that are open and the

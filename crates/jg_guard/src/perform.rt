@@ -7,11 +7,11 @@ ghost use Rattle.jg_rules.specs.Effects as effects;
 ghost use Rattle.jg_rules.specs.Access.{home_of, native_class};
 ghost use Rattle.jg_rules.specs.Effects.{passed_on, done_by, warning};
 ghost use Rattle.jg_guard.specs.Cleaning.{cleans_up};
-ghost use Rattle.jg_guard.specs.Held.{Finds, IsReady};
+ghost use Rattle.jg_guard.specs.Findings.{Finds, IsReady};
 ghost use Rattle.jg_guard.specs.Tables as tables_of;
 ghost use Rattle.jg_guard.specs.Tables.{rows_of, StillStand, IsAnswered, IsEffective, KeepsRoom};
 
-use crate::collect::Held;
+use crate::collect::Findings;
 use crate::groups::arrays::perform_arrays;
 use crate::groups::buffers::perform_buffers;
 use crate::groups::exceptions::perform_exceptions;
@@ -30,20 +30,20 @@ use jg_rules::{Answer, home_named};
 use jg_words::{Call, Tid};
 use std::alloc::{AllocError, Allocator};
 
-/// Does what a passed call does: its own events, and then those of its answer. `held` is what a
+/// Does what a passed call does: its own events, and then those of its answer. `findings` are what a
 /// collection found. An `Err` leaves all as it stood.
 pub(crate) fn perform<A: Allocator + Clone>(
     tables: &mut Tables<A>,
     setup: &Setup,
-    held: &Held<A>,
+    findings: &Findings<A>,
     tid: Tid,
     call: &Call,
     given: &Answer,
 ) -> Result<(), AllocError>
-    requires answered { IsAnswered setup.now (rows_of tables.old) tid call.now given.now held.now }
-    requires ready { IsReady tables.old.heap call.now held.now }
+    requires answered { IsAnswered setup.now (rows_of tables.old) tid call.now given.now findings.now }
+    requires ready { IsReady tables.old.heap call.now findings.now }
     ensures stands { OnOk result ((p : Parts) → TablesStand setup.now (rows_of tables.old) p
-        → given.now ≡ unnoticed setup.now p tid call.now → Finds setup.now p call.now held.now
+        → given.now ≡ unnoticed setup.now p tid call.now → Finds setup.now p call.now findings.now
         → TablesStand setup.now (rows_of tables.new)
         (passed_on setup.now tid.0 call.now given.now.reply given.now.object p)) }
     ensures err { OnErr result (StillStand setup.now (rows_of tables.old) (rows_of tables.new)) }
@@ -57,7 +57,7 @@ pub(crate) fn perform<A: Allocator + Clone>(
         settle_global(tables, tid, given)?;
         return Ok(());
     }
-    do_and_settle(tables, setup, held, tid, call, given)
+    do_and_settle(tables, setup, findings, tid, call, given)
 }
 
 /// The number of the module that a warning names, where the call comes with one.
@@ -81,17 +81,17 @@ fn home_warned<A: Allocator + Clone>(
 fn do_and_settle<A: Allocator + Clone>(
     tables: &mut Tables<A>,
     setup: &Setup,
-    held: &Held<A>,
+    findings: &Findings<A>,
     tid: Tid,
     call: &Call,
     given: &Answer,
 ) -> Result<(), AllocError>
-    requires answered { IsAnswered setup.now (rows_of tables.old) tid call.now given.now held.now }
+    requires answered { IsAnswered setup.now (rows_of tables.old) tid call.now given.now findings.now }
     requires effective { effects.is_effective given.now.reply.value ≡ true }
     requires not_global { tables_of.makes_global given.now.reply.value ≡ false }
-    requires ready { IsReady tables.old.heap call.now held.now }
+    requires ready { IsReady tables.old.heap call.now findings.now }
     ensures stands { OnOk result ((p : Parts) → TablesStand setup.now (rows_of tables.old) p
-        → given.now ≡ unnoticed setup.now p tid call.now → Finds setup.now p call.now held.now
+        → given.now ≡ unnoticed setup.now p tid call.now → Finds setup.now p call.now findings.now
         → TablesStand setup.now (rows_of tables.new)
         (passed_on setup.now tid.0 call.now given.now.reply given.now.object p)) }
     ensures err { OnErr result (StillStand setup.now (rows_of tables.old) (rows_of tables.new)) }
@@ -99,7 +99,7 @@ fn do_and_settle<A: Allocator + Clone>(
 {
     make_room(tables, tid, &given.reply)?;
     let home = home_warned(tables, setup, tid, call, given.reply.warned);
-    do_call(tables, setup, held, tid, call)?;
+    do_call(tables, setup, findings, tid, call)?;
     settle(tables, tid, given);
     warn_if(tables, given.reply.warned, home);
     Ok(())
@@ -108,14 +108,14 @@ fn do_and_settle<A: Allocator + Clone>(
 fn do_call<A: Allocator + Clone>(
     tables: &mut Tables<A>,
     setup: &Setup,
-    held: &Held<A>,
+    findings: &Findings<A>,
     tid: Tid,
     call: &Call,
 ) -> Result<(), AllocError>
     requires effective { IsEffective setup.now (rows_of tables.old) tid call.now }
-    requires ready { IsReady tables.old.heap call.now held.now }
+    requires ready { IsReady tables.old.heap call.now findings.now }
     ensures stands { OnOk result ((p : Parts) → TablesStand setup.now (rows_of tables.old) p
-        → Finds setup.now p call.now held.now
+        → Finds setup.now p call.now findings.now
         → TablesStand setup.now (rows_of tables.new) (done_by setup.now tid.0 call.now p)) }
     ensures room { OnOk result (KeepsRoom tables.old tables.new tid.0 call.now) }
     ensures err { OnErr result (rows_of tables.new ≡ rows_of tables.old) }
@@ -123,7 +123,7 @@ fn do_call<A: Allocator + Clone>(
 {
     match call {
         Call::Vm(call) => {
-            perform_vm(tables, setup, held, tid, call)?;
+            perform_vm(tables, setup, findings, tid, call)?;
             Ok(())
         }
         Call::Refs(call) => {

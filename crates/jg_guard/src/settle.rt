@@ -51,8 +51,10 @@ pub(crate) fn saying(value: Value, object: Option<ObjId>) -> Answer
 
 /// The same answer, with a warning or without.
 pub(crate) fn admitted(given: Answer, warned: bool) -> Answer
-    ensures { result
-        ≡ record { reply = record { value = given.reply.value; warned = warned; noticed = false }; object = given.object } }
+    ensures { result ≡ record {
+      reply = record { value = given.reply.value; warned = warned; noticed = false };
+      object = given.object;
+    } }
 {
     Answer {
         reply: Reply {
@@ -225,18 +227,6 @@ fn make_weak<A: Allocator + Clone>(
     Ok(())
 }
 
-fn class_number(thrown: Thrown) -> u32
-    ensures { result ≡ effects.class_thrown thrown }
-{
-    match thrown {
-        Thrown::ArrayIndexOutOfBounds => 10,
-        Thrown::StringIndexOutOfBounds => 11,
-        Thrown::NoClassDefFound => 12,
-        Thrown::NoSuchField => 13,
-        Thrown::NoSuchMethod => 14,
-    }
-}
-
 fn throw<A: Allocator + Clone>(
     tables: &mut Tables<A>,
     tid: Tid,
@@ -250,7 +240,7 @@ fn throw<A: Allocator + Clone>(
 {
     let fields = Vec::new(tables.alloc.clone()?);
     tables.heap.alloc(Shape::Plain {
-        class: class_number(thrown),
+        class: thrown.class(),
         fields,
     })?;
     tables.threads.set_pending(tid, object);

@@ -1,3 +1,5 @@
+//! The state of the machine, as the guard keeps it.
+
 use jg_buffers::Buffers;
 use jg_globals::Globals;
 use jg_heap::Heap;

@@ -29,7 +29,7 @@ range_joined a b (suc n) m is =
     ap (λ (os : List ℕ). a ∷ os) (range_joined (a + 1) b n m (omega (arith, is))) ∙ ap (range_with_len a) all
 
 -- a test at places counted from a
-pub any_shift : (q : ℕ → Bool) (a b c n : ℕ) → c ≡ a + b → list_any (λ i. q (a + i)) (range_with_len b n) ≡ list_any q (range_with_len c n)
+any_shift : (q : ℕ → Bool) (a b c n : ℕ) → c ≡ a + b → list_any (λ i. q (a + i)) (range_with_len b n) ≡ list_any q (range_with_len c n)
 any_shift q a b c zero is = refl
 any_shift q a b c (suc n) is =
     ap (λ o. q o || list_any (λ i. q (a + i)) (range_with_len (b + 1) n)) (sym is) ∙ ap (λ r. q c || r) (any_shift q a (b + 1) (c + 1) n (omega (arith, is)))
@@ -99,7 +99,9 @@ block_is b = refl
 blocks_within : (blocks : List ℕ) (n : ℕ) → AreWhole blocks n → All (λ o. o < n) (flat_map block_of blocks)
 blocks_within [] n whole = λ i d h. absurd (omega (arith, h))
 blocks_within (b ∷ blocks) n whole =
-    All-append (λ o. o < n) (block_of b) (flat_map block_of blocks) (subst (All (λ o. o < n)) (sym (block_is b)) (range_within b 32 n (whole 0 0 (omega arith)))) (blocks_within blocks n (λ i d h. whole (suc i) d (omega (arith, h))))
+    All-append (λ o. o < n) (block_of b) (flat_map block_of blocks)
+    (subst (All (λ o. o < n)) (sym (block_is b)) (range_within b 32 n (whole 0 0 (omega arith))))
+    (blocks_within blocks n (λ i d h. whole (suc i) d (omega (arith, h))))
 
 pub numbers_within : (blocks : List ℕ) (loose n : ℕ) → AreWhole blocks n → loose ≤ n → All (λ o. o < n) (numbers_in blocks loose n)
 numbers_within blocks loose n whole order =
@@ -117,7 +119,9 @@ numbers_more blocks loose n order =
 -- the first of the loose ones put into a block
 pub numbers_filled : (blocks : List ℕ) (loose n : ℕ) → loose + 32 ≤ n → numbers_in (blocks ++ loose ∷ []) (loose + 32) n ≡ numbers_in blocks loose n
 numbers_filled blocks loose n full =
-    ap (λ (os : List ℕ). os ++ range_with_len (loose + 32) (n - (loose + 32))) (flat_map-append block_of blocks (loose ∷ []) ∙ ap (λ (os : List ℕ). flat_map block_of blocks ++ os) (append-nil (block_of loose)))
+    ap (λ (os : List ℕ). os ++ range_with_len (loose + 32) (n - (loose + 32)))
+    (flat_map-append block_of blocks (loose ∷ [])
+    ∙ ap (λ (os : List ℕ). flat_map block_of blocks ++ os) (append-nil (block_of loose)))
     ∙ append_assoc (flat_map block_of blocks) (block_of loose) (range_with_len (loose + 32) (n - (loose + 32)))
     ∙ ap (λ (os : List ℕ). flat_map block_of blocks ++ os)
     (ap (λ (os : List ℕ). os ++ range_with_len (loose + 32) (n - (loose + 32))) (block_is loose)
@@ -135,7 +139,7 @@ filter_block_more p blocks i h =
     ∙ filter-append p (flat_map block_of (take i blocks)) (block_of (get_or blocks i 0)))
 
 -- blocks of which no number passes may go
-pub passing_blocks : (p : ℕ → Bool) (blocks : List ℕ) → filter p (flat_map block_of (filter (λ b. list_any p (block_of b)) blocks)) ≡ filter p (flat_map block_of blocks)
+passing_blocks : (p : ℕ → Bool) (blocks : List ℕ) → filter p (flat_map block_of (filter (λ b. list_any p (block_of b)) blocks)) ≡ filter p (flat_map block_of blocks)
 passing_blocks p [] = refl
 passing_blocks p (b ∷ blocks) =
     elim (cases_Bool (list_any p (block_of b))) [

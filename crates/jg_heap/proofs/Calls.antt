@@ -123,7 +123,9 @@ shapes_swept rows k new goes len ended =
 
 -- ---- the same, of what the objects hold and which are in being
 
-module _ {A : Type 0} (bodies : List (Body A)) (there : List Bool) (rows : Rows) (k o : ℕ) (b new : Body A) (same : length there ≡ length bodies) (view : map row_of (objects_of bodies there) ≡ rows.objects) (made : o < count_in rows)
+module _ {A : Type 0} (bodies : List (Body A)) (there : List Bool) (rows : Rows) (k o : ℕ) (b new : Body A)
+    (same : length there ≡ length bodies) (view : map row_of (objects_of bodies there) ≡ rows.objects)
+    (made : o < count_in rows)
     (is : b ≡ get_or bodies o b) (class : class_of_body new ≡ class_of_body b) (units : units_of_body new ≡ units_of_body b) where
   inside : o < length bodies
   inside = made_body bodies there rows.objects o same view made
@@ -141,20 +143,28 @@ module _ {A : Type 0} (bodies : List (Body A)) (there : List Bool) (rows : Rows)
   pub rows_written : (e : List Event) (j : ℕ) (v : Slot) → k ≡ rows.classes → Stands rows e → j < length (row_in rows.objects o).slots → slots_of_body new ≡ set (slots_of_body b) j v
       → map row_of (objects_of (set bodies o new) there) ≡ standing k (Wrote o j v ∷ e)
   rows_written e j v classes stands within slots =
-      ap (map row_of) set_is ∙ rows_wrote (objects_of bodies there) rows k e o j v (object_at there o b) (object_at there o new) view classes stands made within read (row_written (object_at there o b) new j v class units slots)
+      ap (map row_of) set_is
+      ∙ rows_wrote (objects_of bodies there) rows k e o j v (object_at there o b) (object_at there o new) view classes
+      stands made within read (row_written (object_at there o b) new j v class units slots)
 
   pub shapes_written : (j : ℕ) (v : Slot) → slots_of_body new ≡ set (slots_of_body b) j v → keeps_shapes (objects_of (set bodies o new) there)
   shapes_written j v slots =
-      subst keeps_shapes (sym set_is) (shapes_wrote (objects_of bodies there) rows k o j v (object_at there o b) (object_at there o new) view made read (row_written (object_at there o b) new j v class units slots))
+      subst keeps_shapes (sym set_is)
+      (shapes_wrote (objects_of bodies there) rows k o j v (object_at there o b) (object_at there o new) view made read
+      (row_written (object_at there o b) new j v class units slots))
 
   -- with slots written that follow one another
-  pub rows_overwritten : (e : List Event) (j : ℕ) (vs : List ℤ) → k ≡ rows.classes → Stands rows e → j + length vs ≤ length (row_in rows.objects o).slots → slots_of_body new ≡ overwritten (slots_of_body b) j (map Number vs)
+  pub rows_overwritten : (e : List Event) (j : ℕ) (vs : List ℤ) → k ≡ rows.classes → Stands rows e
+      → j + length vs ≤ length (row_in rows.objects o).slots
+      → slots_of_body new ≡ overwritten (slots_of_body b) j (map Number vs)
       → map row_of (objects_of (set bodies o new) there) ≡ standing k (region_writes o j vs ++ e)
   rows_overwritten e j vs classes stands within slots =
       ap (map row_of) set_is
-      ∙ rows_region (objects_of bodies there) rows k e o j vs (object_at there o b) (object_at there o new) view classes stands made within read (row_region (object_at there o b) new j (map Number vs) class units slots)
+      ∙ rows_region (objects_of bodies there) rows k e o j vs (object_at there o b) (object_at there o new) view classes
+      stands made within read (row_region (object_at there o b) new j (map Number vs) class units slots)
 
-  pub shapes_overwritten : (j : ℕ) (vs : List Slot) → j + length vs ≤ length (row_in rows.objects o).slots → slots_of_body new ≡ overwritten (slots_of_body b) j vs → keeps_shapes (objects_of (set bodies o new) there)
+  pub shapes_overwritten : (j : ℕ) (vs : List Slot) → j + length vs ≤ length (row_in rows.objects o).slots
+      → slots_of_body new ≡ overwritten (slots_of_body b) j vs → keeps_shapes (objects_of (set bodies o new) there)
   shapes_overwritten j vs within slots =
       subst keeps_shapes (sym set_is)
       (shapes_region (objects_of bodies there) rows k o j vs (object_at there o b) (object_at there o new) view made read within (row_region (object_at there o b) new j vs class units slots))

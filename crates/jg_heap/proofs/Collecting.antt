@@ -41,7 +41,7 @@ live_points k e o =
     (λ p h. ap (λ (r : Row). row_points_at o r) (row_in-standing k e p (omega arith)) ∙ points_row k e p o)
 
 -- with the class objects and what slots hold marked, the marks say what is held
-pub marks_held : (k : ℕ) (roots : List ℕ) (e : List Event) (old new : List Bool) → length new ≡ length old → MarksRoots k roots e old
+marks_held : (k : ℕ) (roots : List ℕ) (e : List Event) (old new : List Bool) → length new ≡ length old → MarksRoots k roots e old
     → ((o : ℕ) → o < length old → get_or new o false ≡ ((get_or old o false || ltb o k) || list_any (slot_of_row_holds (standing k e) o) (live_in (standing k e))))
     → MarksHeld k roots e new
 marks_held k roots e old new len was now o h there =
@@ -77,7 +77,7 @@ row_swept k roots e marks held o h =
     ∙ ap (swept_row (held_at k roots e o)) (row_in-standing k e o h)
     ∙ sym (row_collected k roots e o h)
 
-pub standing_swept : (k : ℕ) (roots : List ℕ) (e : List Event) (marks : List Bool) (new : List Row) → length new ≡ count_of k e → MarksHeld k roots e marks
+standing_swept : (k : ℕ) (roots : List ℕ) (e : List Event) (marks : List Bool) (new : List Row) → length new ≡ count_of k e → MarksHeld k roots e marks
     → ((o : ℕ) → row_in new o ≡ ended_row (list_any (λ p. not (get_or marks p false) && eqb p o) (live_in (standing k e))) (row_in (standing k e) o))
     → new ≡ standing k (Collected roots ∷ e)
 standing_swept k roots e marks new len held ended =
@@ -86,7 +86,8 @@ standing_swept k roots e marks new len held ended =
 
 -- ---- the same, from what the store keeps
 
-pub marks_of : {A : Type 0} (items before : List (Object A)) (there : List Bool) (blocks : List ℕ) (loose : ℕ) (pointed pointing : List ℕ) (rows : Rows) (k : ℕ) (e : List Event) (roots : List ℕ) (old mid new : List Bool)
+pub marks_of : {A : Type 0} (items before : List (Object A)) (there : List Bool) (blocks : List ℕ) (loose : ℕ)
+    (pointed pointing : List ℕ) (rows : Rows) (k : ℕ) (e : List Event) (roots : List ℕ) (old mid new : List Bool)
     → before ≡ items → pointed ≡ pointing → Keeps items there blocks loose pointing → record { classes = k; objects = map row_of items } ≡ rows → Stands rows e
     → length mid ≡ length old → length new ≡ length mid
     → ((o : ℕ) → o < length old → get_or mid o false ≡ (get_or old o false || ltb o k))
@@ -98,7 +99,9 @@ marks_of items before there blocks loose pointed pointing rows k e roots old mid
     (λ o h. slots o (omega (arith, h, n)) ∙ ap (λ b. b || list_any (slot_of_row_holds (map row_of before) o) pointed) (classes o h)
     ∙ ap (λ c. (get_or old o false || ltb o c) || list_any (slot_of_row_holds (map row_of before) o) pointed) (ap (λ (r : Rows). r.classes) view)
     ∙ ap (λ b. (get_or old o false || ltb o rows.classes) || b)
-    (ap (λ (xs : List (Object _)). list_any (slot_of_row_holds (map row_of xs) o) pointed) is ∙ ap (list_any (slot_of_row_holds (map row_of items) o)) same ∙ pointing_holds items there blocks loose pointing o keeps
+    (ap (λ (xs : List (Object _)). list_any (slot_of_row_holds (map row_of xs) o) pointed) is
+    ∙ ap (list_any (slot_of_row_holds (map row_of items) o)) same
+    ∙ pointing_holds items there blocks loose pointing o keeps
     ∙ ap (λ (rs : List Row). list_any (slot_of_row_holds rs o) (live_in rs)) base))
 
 -- those of the blocks that are in being and aren't marked are all that are in being and aren't marked

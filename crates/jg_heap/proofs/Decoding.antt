@@ -6,6 +6,7 @@ use Rattle.std.specs.List.{list_any}
 use Rattle.std.specs.Cmp.Rules.{signed_items}
 use Rattle.std.proofs.lemmas.Bool.{cases_Bool, cases_eq, false_from_ne_true, lt-ltb, ltb-true, and_parts, and_from, or_left, or_right, eq-eqb, ne_eqb, cond-true, cond-false, false≢true}
 use Rattle.std.proofs.lemmas.List.{length-map, take-append-drop, take_at, drop_at}
+use Rattle.std.proofs.lemmas.Option.{same_Some}
 use Rattle.jg_heap.specs.Spelling.{spelling, spelt, AreUnits, IsSpeltInItems, IsByteAt}
 use Rattle.jg_heap.specs.Laws.{DecodedMeans, SpellingIsUnique}
 use Rattle.jg_heap.specs.Reading.{candidates, stands_first, first_unit, before, decoded_by, decoded}
@@ -93,14 +94,11 @@ find_only p (x ∷ xs) u t only h =
     later (inl same) other = absurd (false≢true (sym other ∙ ap p same ∙ t))
     later (inr apart) other = sym (ap (λ b. b || list_any (λ v. eqb v u) xs) (ne_eqb x u apart)) ∙ h
 
-some_same : {A : Type 0} {a b : A} → Some a ≡ Some b → a ≡ b
-some_same e = cc
-
 find_true : (p : ℕ → Bool) (xs : List ℕ) (u : ℕ) → find p xs ≡ Some u → p u ≡ true
 find_true p [] u h = cc
 find_true p (x ∷ xs) u h =
     elim (cases_Bool (p x)) [
-      | inl here ↦ (let same : x ≡ u = some_same (sym (cond-true (p x) (Some x) (find p xs) here) ∙ h) in ap p (sym same) ∙ here)
+      | inl here ↦ (let same : x ≡ u = same_Some x u (sym (cond-true (p x) (Some x) (find p xs) here) ∙ h) in ap p (sym same) ∙ here)
       | inr other ↦ find_true p xs u (sym (cond-false (p x) (Some x) (find p xs) other) ∙ h)
     ]
 
@@ -164,7 +162,7 @@ spelling_is_unique units others a b h =
     let items : List ℤ = map pos (spelt units) in
     let one : decoded items ≡ Some units = (decoded_means items units).1 (a, refl) in
     let other : decoded items ≡ Some others = (decoded_means items others).1 (b, ap (map pos) h) in
-    some_same (sym one ∙ other)
+    same_Some units others (sym one ∙ other)
 
 -- ---- what the calls answer
 

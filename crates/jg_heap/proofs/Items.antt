@@ -20,7 +20,7 @@ pub references_hold : (o : ℕ) (items : List (Option ObjId)) → list_any (hold
 references_hold o items = list_any_map ToObject (holds o) items
 
 -- what may not point at objects holds none
-pub holds_none : {A : Type 0} (o : ℕ) (body : Body A) → body_may_point body ≡ false → list_any (holds o) (slots_of_body body) ≡ false
+holds_none : {A : Type 0} (o : ℕ) (body : Body A) → body_may_point body ≡ false → list_any (holds o) (slots_of_body body) ≡ false
 holds_none o Class h = refl
 holds_none o (Fields instance) h = absurd (false≢true (sym h))
 holds_none o (Units text) h = refl

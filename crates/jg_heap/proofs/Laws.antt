@@ -65,7 +65,9 @@ classes_stay k (Collected roots ∷ e) o h =
     let held : held_at k roots e o ≡ true = or_left _ _ (or_left _ _ (lt-ltb o k h)) in
     rw (classes_stay k e o h) (ap (λ b. ltb o (count_of k e) && not b) held ∙ and_right (ltb o (count_of k e)) false refl)
 classes_stay k (Went p ∷ e) o h =
-    rw (classes_stay k e o h) (ap (λ b. eqb o p && (ltb o (count_of k e) && not b)) (lt-ltb o k h) ∙ ap (λ b. eqb o p && b) (and_right (ltb o (count_of k e)) false refl) ∙ and_right (eqb o p) false refl)
+    rw (classes_stay k e o h)
+    (ap (λ b. eqb o p && (ltb o (count_of k e) && not b)) (lt-ltb o k h)
+    ∙ ap (λ b. eqb o p && b) (and_right (ltb o (count_of k e)) false refl) ∙ and_right (eqb o p) false refl)
 
 -- ---- held
 

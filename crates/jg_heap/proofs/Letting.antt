@@ -90,7 +90,8 @@ module _ (held : ℕ → Bool) where
   lets_start first old = let none : first - first ≡ 0 = omega arith in subst (λ n. LetsGo held (range_with_len first n) old old) (sym none) (lets_none old)
 
   -- the objects of one block more
-  pub lets_block : (blocks : List ℕ) (i : ℕ) (old mid new : List Bool) → i < length blocks → LetsGo held (flat_map block_of (take i blocks)) old mid → LetsGo held (block_of (get_or blocks i 0)) mid new
+  pub lets_block : (blocks : List ℕ) (i : ℕ) (old mid new : List Bool) → i < length blocks
+      → LetsGo held (flat_map block_of (take i blocks)) old mid → LetsGo held (block_of (get_or blocks i 0)) mid new
       → LetsGo held (flat_map block_of (take (i + 1) blocks)) old new
   lets_block blocks i old mid new within one two =
       subst (λ os. LetsGo held os old new)
@@ -217,7 +218,9 @@ module _ {A : Type 0} (bodies : List (Body A)) (there flags marks : List Bool) (
   len = length-objects_of bodies flags (count ∙ same) ∙ sym (length-objects_of bodies there same)
 
   -- what the store keeps
-  pub stored_let : (after : List ℕ) (points : List ℕ) → filter (λ o. get_or flags o false) (numbers_in after loose (length flags)) ≡ filter (λ o. get_or flags o false) (numbers_in blocks loose (length flags))
+  pub stored_let : (after : List ℕ) (points : List ℕ)
+      → filter (λ o. get_or flags o false) (numbers_in after loose (length flags))
+      ≡ filter (λ o. get_or flags o false) (numbers_in blocks loose (length flags))
       → AreWhole after (length flags) → points ≡ filter held pointing → Stored bodies flags after loose points
   stored_let after points closed whole point =
       let objects : List (Object A) = objects_of bodies there in
@@ -270,7 +273,8 @@ module _ {A : Type 0} (bodies : List (Body A)) (there flags marks : List Bool) (
     pub rows_let : map row_of (objects_of bodies flags) ≡ standing k (Collected roots ∷ e)
     rows_let =
         let items : List (Object A) = objects_of bodies there in
-        rows_swept items items (objects_of bodies flags) unheld store k e roots marked refl view (ap (λ rs. filter (λ o. not (get_or marked o false)) (live_in rs)) objects_are) stands len ended are_held
+        rows_swept items items (objects_of bodies flags) unheld store k e roots marked refl view
+        (ap (λ rs. filter (λ o. not (get_or marked o false)) (live_in rs)) objects_are) stands len ended are_held
 
     -- how many went
     pub went : (gone : ℕ) → gone + trues flags ≡ trues there → gone ≡ length (going store.classes roots e)

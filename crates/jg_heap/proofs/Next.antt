@@ -12,7 +12,7 @@ pub drop_at : {A : Type 0} (xs : List A) (i : ℕ) (x : A) → slice_get xs i �
 drop_at xs i x h =
     drop-cons xs i x (slice_get_within xs i x h) ∙ ap (λ y. y ∷ drop (suc i) xs) (get_or_from_slice_get xs i x x h) ∙ ap (λ n. x ∷ drop n xs) (sym (add-one i))
 
-pub at_drop : {A : Type 0} (xs : List A) (i : ℕ) (x : A) (tail : List A) → drop i xs ≡ x ∷ tail → (slice_get xs i ≡ Some x) × (drop (i + 1) xs ≡ tail)
+at_drop : {A : Type 0} (xs : List A) (i : ℕ) (x : A) (tail : List A) → drop i xs ≡ x ∷ tail → (slice_get xs i ≡ Some x) × (drop (i + 1) xs ≡ tail)
 at_drop xs i x tail h =
     let n : length (drop i xs) ≡ suc (length tail) = ap length h in
     let inside : i < length xs = omega (arith, length-drop i xs) in
@@ -51,7 +51,7 @@ three_stands items at u x y z p q r w =
     ∙ rw (spelling_three u w.high w.middle w.low w.is w.small w.small_middle w.above) refl
 
 -- what stands at a place, and how long it is
-pub stands : (items : List ℤ) (at u len : ℕ) (x y z : Option ℕ) → IsByteAt items at x → IsByteAt items (at + 1) y → IsByteAt items (at + 2) z → u < 2 ^ 16 → Starts u x y z → len ≡ length (spelling u)
+stands : (items : List ℤ) (at u len : ℕ) (x y z : Option ℕ) → IsByteAt items at x → IsByteAt items (at + 1) y → IsByteAt items (at + 2) z → u < 2 ^ 16 → Starts u x y z → len ≡ length (spelling u)
     → drop at items ≡ map pos (spelling u) ++ drop (at + len) items
 stands items at u len x y z p q r below s n =
     elim (forms u x y z below s) [
@@ -177,7 +177,7 @@ same_unit u v x y z a b s t =
 
 -- ---- what the look-up at a place says
 
-abbrev pub Found : Option ℕ → Option ℕ → Option ℕ → ℕ × ℕ → Type 0
+abbrev Found : Option ℕ → Option ℕ → Option ℕ → ℕ × ℕ → Type 0
 Found x y z unit = (unit.0 < 2 ^ 16) × Starts unit.0 x y z × (unit.1 ≡ length (spelling unit.0))
 
 pub next_found : (items : List ℤ) (at : ℕ) (x y z : Option ℕ) (r : Option (ℕ × ℕ)) → IsByteAt items at x → IsByteAt items (at + 1) y → IsByteAt items (at + 2) z → IfSome r (Found x y z)

@@ -56,7 +56,9 @@ module _ {A : Type 0} where
   written_at [] there i b same within = absurd (omega (arith, within))
   written_at (x ∷ bodies) [] i b same within = absurd (omega (arith, same))
   written_at (x ∷ bodies) (t ∷ there) zero b same within = refl
-  written_at (x ∷ bodies) (t ∷ there) (suc i) b same within = ap (λ (l : List (Object A)). record { body = x; gone = not t } ∷ l) (written_at bodies there i b (omega (arith, same)) (omega (arith, within)))
+  written_at (x ∷ bodies) (t ∷ there) (suc i) b same within =
+      ap (λ (l : List (Object A)). record { body = x; gone = not t } ∷ l)
+      (written_at bodies there i b (omega (arith, same)) (omega (arith, within)))
 
   pub made_of : (bodies : List (Body A)) (there : List Bool) (b : Body A) → length there ≡ length bodies
       → objects_of (bodies ++ b ∷ []) (there ++ true ∷ []) ≡ objects_of bodies there ++ record { body = b; gone = false } ∷ []
@@ -71,7 +73,9 @@ module _ {A : Type 0} where
   more_of bodies more there flags b same is flag =
       ap (λ (xs : List (Body A)). objects_of xs flags) is ∙ ap (objects_of (bodies ++ b ∷ [])) flag ∙ made_of bodies there b same
 
-  pub stored_made : (bodies more : List (Body A)) (there flags : List Bool) (blocks after : List ℕ) (loose rest : ℕ) (pointing points : List ℕ) (b : Body A) (n : ℕ) → Stored bodies there blocks loose pointing → more ≡ bodies ++ b ∷ []
+  pub stored_made : (bodies more : List (Body A)) (there flags : List Bool) (blocks after : List ℕ) (loose rest : ℕ)
+      (pointing points : List ℕ) (b : Body A) (n : ℕ) → Stored bodies there blocks loose pointing
+      → more ≡ bodies ++ b ∷ []
       → n ≡ length bodies → flags ≡ there ++ true ∷ [] → numbers_in after rest (n + 1) ≡ numbers_in blocks loose (n + 1) → (AreWhole blocks (n + 1) → AreWhole after (n + 1)) → rest ≤ n + 1
       → points ≡ pointing ++ cond (body_may_point b) (n ∷ []) [] → Stored more flags after rest points
   stored_made bodies more there flags blocks after loose rest pointing points b n stored is len flag same whole order point = record {
@@ -91,13 +95,19 @@ module _ {A : Type 0} where
   count_of_objects : (bodies : List (Body A)) (there : List Bool) (objects : List Row) → length there ≡ length bodies → map row_of (objects_of bodies there) ≡ objects → length objects ≡ length bodies
   count_of_objects bodies there objects same view = sym (ap (λ (rs : List Row). length rs) view) ∙ length-map (objects_of bodies there) row_of ∙ length-objects_of bodies there same
 
-  pub made_body : (bodies : List (Body A)) (there : List Bool) (objects : List Row) (o : ℕ) → length there ≡ length bodies → map row_of (objects_of bodies there) ≡ objects → o < length objects → o < length bodies
+  pub made_body : (bodies : List (Body A)) (there : List Bool) (objects : List Row) (o : ℕ)
+      → length there ≡ length bodies → map row_of (objects_of bodies there) ≡ objects → o < length objects
+      → o < length bodies
   made_body bodies there objects o same view made = omega (arith, made, count_of_objects bodies there objects same view)
 
   -- the row of what was read at an index
-  pub kept_body : (bodies : List (Body A)) (there : List Bool) (objects : List Row) (o : ℕ) (b : Body A) → length there ≡ length bodies → map row_of (objects_of bodies there) ≡ objects → o < length objects → b ≡ get_or bodies o b
+  pub kept_body : (bodies : List (Body A)) (there : List Bool) (objects : List Row) (o : ℕ) (b : Body A)
+      → length there ≡ length bodies → map row_of (objects_of bodies there) ≡ objects → o < length objects
+      → b ≡ get_or bodies o b
       → row_of (object_at there o b) ≡ row_in objects o
-  kept_body bodies there objects o b same view made is = kept (objects_of bodies there) objects o (object_at there o b) view made (read_at bodies there o b same (made_body bodies there objects o same view made) is)
+  kept_body bodies there objects o b same view made is =
+      kept (objects_of bodies there) objects o (object_at there o b) view made
+      (read_at bodies there o b same (made_body bodies there objects o same view made) is)
 
   -- the slots are those of what it holds
   pub slots_of_object : (bodies : List (Body A)) (there : List Bool) (o p : ℕ) → length there ≡ length bodies
@@ -113,29 +123,34 @@ module _ {A : Type 0} where
   any_slot_of_object bodies there o (p ∷ pointing) same = rw (slots_of_object bodies there o p same, any_slot_of_object bodies there o pointing same) refl
 
   -- with what was written at an index
-  pub stored_written : (bodies : List (Body A)) (there : List Bool) (blocks : List ℕ) (loose : ℕ) (pointing : List ℕ) (o : ℕ) (b new : Body A) → Stored bodies there blocks loose pointing → o < length bodies → b ≡ get_or bodies o b
+  pub stored_written : (bodies : List (Body A)) (there : List Bool) (blocks : List ℕ) (loose : ℕ) (pointing : List ℕ)
+      (o : ℕ) (b new : Body A) → Stored bodies there blocks loose pointing → o < length bodies → b ≡ get_or bodies o b
       → body_may_point new ≡ body_may_point b → Stored (set bodies o new) there blocks loose pointing
   stored_written bodies there blocks loose pointing o b new stored within is kind = record {
     same = stored.same ∙ sym (length-set bodies o new);
     keeps = subst (λ (xs : List (Object A)). Keeps xs there blocks loose pointing) (sym (written_at bodies there o new stored.same within))
-        (keeps_wrote (objects_of bodies there) there blocks loose pointing o (object_at there o b) (object_at there o new) stored.keeps (omega (arith, within, length-objects_of bodies there stored.same))
+        (keeps_wrote (objects_of bodies there) there blocks loose pointing o (object_at there o b)
+        (object_at there o new) stored.keeps (omega (arith, within, length-objects_of bodies there stored.same))
         (read_at bodies there o b stored.same within is) refl kind);
   }
 
   -- the objects that are let go
-  pub ended_of : (bodies : List (Body A)) (old new : List Bool) (goes : ℕ → Bool) → length old ≡ length bodies → length new ≡ length bodies → ((o : ℕ) → get_or new o false ≡ (get_or old o false && not (goes o)))
+  pub ended_of : (bodies : List (Body A)) (old new : List Bool) (goes : ℕ → Bool) → length old ≡ length bodies
+      → length new ≡ length bodies → ((o : ℕ) → get_or new o false ≡ (get_or old o false && not (goes o)))
       → ((o : ℕ) → length bodies ≤ o → goes o ≡ false) → (o : ℕ) → row_in (map row_of (objects_of bodies new)) o ≡ ended_row (goes o) (row_in (map row_of (objects_of bodies old)) o)
   ended_of [] old new goes before after ends past o = ended_none no_row ∙ ap (λ b. ended_row b no_row) (sym (past o (omega arith)))
   ended_of (x ∷ bodies) [] new goes before after ends past o = absurd (omega (arith, before))
   ended_of (x ∷ bodies) (t ∷ old) [] goes before after ends past o = absurd (omega (arith, after))
-  ended_of (x ∷ bodies) (t ∷ old) (u ∷ new) goes before after ends past zero = ap (λ b. row_of (record { body = x; gone = not b })) (ends 0) ∙ ap (λ g. row_of (record { body = x; gone = g })) (goes_or_gone t (goes 0))
+  ended_of (x ∷ bodies) (t ∷ old) (u ∷ new) goes before after ends past zero =
+      ap (λ b. row_of (record { body = x; gone = not b })) (ends 0)
+      ∙ ap (λ g. row_of (record { body = x; gone = g })) (goes_or_gone t (goes 0))
   ended_of (x ∷ bodies) (t ∷ old) (u ∷ new) goes before after ends past (suc o) =
       ended_of bodies old new (λ p. goes (suc p)) (omega (arith, before)) (omega (arith, after)) (λ p. ends (suc p)) (λ p h. past (suc p) (omega (arith, h))) o
 
 -- ---- the flags of those that are let go
 
 -- numbers of objects name none past the end
-pub none_past : (unheld : List ℕ) (n o : ℕ) → All (λ p. p < n) unheld → n ≤ o → list_any (λ p. eqb p o) unheld ≡ false
+none_past : (unheld : List ℕ) (n o : ℕ) → All (λ p. p < n) unheld → n ≤ o → list_any (λ p. eqb p o) unheld ≡ false
 none_past [] n o all past = refl
 none_past (p ∷ unheld) n o all past =
     let below : p < n = all 0 0 (omega arith) in
@@ -159,7 +174,8 @@ pub unset_at : (there : List Bool) (p o : ℕ) → p < length there → get_or (
 unset_at there p o within =
     elim (cases_eq p o) [
       | inl same ↦
-          ap (λ q. get_or (set there p false) q false) (sym same) ∙ get_or-set_same there p false false within ∙ none (get_or there o false) ∙ ap (λ b. get_or there o false && not b) (sym (eq-eqb p o same))
+          ap (λ q. get_or (set there p false) q false) (sym same) ∙ get_or-set_same there p false false within
+          ∙ none (get_or there o false) ∙ ap (λ b. get_or there o false && not b) (sym (eq-eqb p o same))
       | inr other ↦ get_or-set_other there p o false false (λ same. other (sym same)) ∙ stays (get_or there o false) ∙ ap (λ b. get_or there o false && not b) (sym (ne_eqb p o other))
     ]
 
@@ -168,7 +184,8 @@ pub none_goes : (there : List Bool) (o : ℕ) → get_or there o false ≡ (get_
 none_goes there o = stays (get_or there o false)
 
 -- one more is let go
-pub one_goes : (old mid : List Bool) (unheld : List ℕ) (i o : ℕ) → i < length unheld → get_or unheld i 0 < length mid → get_or mid o false ≡ (get_or old o false && not (list_any (λ p. eqb p o) (take i unheld)))
+pub one_goes : (old mid : List Bool) (unheld : List ℕ) (i o : ℕ) → i < length unheld → get_or unheld i 0 < length mid
+    → get_or mid o false ≡ (get_or old o false && not (list_any (λ p. eqb p o) (take i unheld)))
     → get_or (set mid (get_or unheld i 0) false) o false ≡ (get_or old o false && not (list_any (λ p. eqb p o) (take (i + 1) unheld)))
 one_goes old mid unheld i o within inside is =
     unset_at mid (get_or unheld i 0) o inside ∙ ap (λ b. b && not (eqb (get_or unheld i 0) o)) is

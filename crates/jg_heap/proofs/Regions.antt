@@ -19,13 +19,13 @@ pub overwritten_map : {X Y : Type 0} (f : X → Y) (xs : List X) (j : ℕ) (vs :
 overwritten_map f xs j vs = simp (map-append, take-map, drop-map, length-map)
 
 -- nothing is written
-pub overwritten_none : {X : Type 0} (xs : List X) (j : ℕ) → overwritten xs j [] ≡ xs
+overwritten_none : {X : Type 0} (xs : List X) (j : ℕ) → overwritten xs j [] ≡ xs
 overwritten_none xs j =
     let same : j + 0 ≡ j = omega arith in
     ap (λ l. l ++ drop (j + 0) xs) (append-nil (take j xs)) ∙ ap (λ n. take j xs ++ drop n xs) same ∙ take-append-drop j xs
 
 -- the first, and then those that follow
-pub overwritten_more : {X : Type 0} (xs : List X) (j : ℕ) (v : X) (vs : List X) → j < length xs
+overwritten_more : {X : Type 0} (xs : List X) (j : ℕ) (v : X) (vs : List X) → j < length xs
     → overwritten (set xs j v) (j + 1) vs ≡ overwritten xs j (v ∷ vs)
 overwritten_more xs j v vs within =
     let n : j + 1 + length vs ≡ j + length (v ∷ vs) = omega arith in

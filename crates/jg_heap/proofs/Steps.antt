@@ -62,7 +62,7 @@ slots_made_new k m e =
     ∙ sym (fill_by_all (value_at k (Made m ∷ e) (count_of k e)) (first_slots m) (slots_in m) (Number (pos 0)) (length-first_slots m) (λ j l. get_or-first_slots m j l ∙ sym (value_made_new k m e j)))
 
 -- what isn't made yet isn't gone
-pub gone_past : (k : ℕ) (e : List Event) (o : ℕ) → count_of k e ≤ o → gone_at k e o ≡ false
+gone_past : (k : ℕ) (e : List Event) (o : ℕ) → count_of k e ≤ o → gone_at k e o ≡ false
 gone_past k [] o h = refl
 gone_past k (Made m ∷ e) o h = gone_past k e o (omega arith)
 gone_past k (Wrote p j v ∷ e) o h = gone_past k e o h

@@ -32,7 +32,7 @@ ended_none row = ap (λ g. record row { gone = g }) (sym (or_false row.gone))
 
 -- ---- the numbers of those that aren't gone
 
-pub live_below : (rows : List Row) → All (λ p. p < length rows) (live_in rows)
+live_below : (rows : List Row) → All (λ p. p < length rows) (live_in rows)
 live_below rows = kept_below (λ o. not (row_in rows o).gone) (length rows)
 
 live_same : (f g : List Row) → length f ≡ length g → ((o : ℕ) → o < length g → (row_in f o).gone ≡ (row_in g o).gone) → live_in f ≡ live_in g
@@ -98,7 +98,7 @@ numbers_swept old new marked numbers len ended is =
     ∙ live_swept (map row_of old) (map row_of new) marked (length-map new row_of ∙ len ∙ sym (length-map old row_of)) ended
 
 -- with one object more
-pub live_more : (rows : List Row) (r : Row) → r.gone ≡ false → live_in rows ++ length rows ∷ [] ≡ live_in (rows ++ r ∷ [])
+live_more : (rows : List Row) (r : Row) → r.gone ≡ false → live_in rows ++ length rows ∷ [] ≡ live_in (rows ++ r ∷ [])
 live_more rows r is =
     let n = length rows in
     let all = rows ++ r ∷ [] in
@@ -130,7 +130,7 @@ live_wrote cur p x y inside is same =
 -- ---- which may point at others
 
 -- a test that passes one object as another in its place
-pub test_set : {A : Type 0} (test : Object A → Bool) (cur : List (Object A)) (p : ℕ) (d y : Object A) → p < length cur → test y ≡ test (get_or cur p d)
+test_set : {A : Type 0} (test : Object A → Bool) (cur : List (Object A)) (p : ℕ) (d y : Object A) → p < length cur → test y ≡ test (get_or cur p d)
     → map test (set cur p y) ≡ map test cur
 test_set test cur p d y inside same =
     map-set test cur p y ∙ ap (set (map test cur) p) (same ∙ sym (get_or-map test cur p d false inside)) ∙ set-get_or (map test cur) p false
@@ -164,7 +164,9 @@ pointing_more items x =
     (λ o h. ap (λ (bs : List Bool). keeps o && get_or bs o false) all ∙ ap (λ b. keeps o && b) (get_or_append_left (map may_point items) (may_point x ∷ []) false o (omega arith)))
     ∙ sym (filter_filter (may_point_at items) keeps (range_with_len 0 (length (map row_of items)))))
     ∙ ap (λ b. filter (may_point_at items) (live_in (map row_of items)) ++ cond b (length items ∷ []) [])
-    (ap (λ (bs : List Bool). get_or bs (length items) false) all ∙ ap (λ i. get_or (map may_point items ++ may_point x ∷ []) i false) (sym m) ∙ get_or-append_seam (map may_point items) (may_point x) [] false)
+    (ap (λ (bs : List Bool). get_or bs (length items) false) all
+    ∙ ap (λ i. get_or (map may_point items ++ may_point x ∷ []) i false) (sym m)
+    ∙ get_or-append_seam (map may_point items) (may_point x) [] false)
 
 -- those in being, with an object made behind the others
 there_more : {A : Type 0} (items : List (Object A)) (x : Object A) (numbers : List ℕ) → x.gone ≡ false → All (λ o. o < length items) numbers
@@ -222,7 +224,9 @@ pub keeps_swept : {A : Type 0} (old new : List (Object A)) (there flags : List B
     → AreWhole after (length flags) → points ≡ filter marked pointing → Keeps new flags after loose points
 keeps_swept old new there flags blocks after loose pointing points marked keeps len ended kind is closed whole point =
     let numbers : List ℕ = numbers_in blocks loose (length there) in
-    let count : length flags ≡ length there = ap (λ (bs : List Bool). length bs) is ∙ length-map new in_being ∙ len ∙ sym (length-map old in_being) ∙ ap (λ (bs : List Bool). length bs) (sym keeps.flags) in
+    let count : length flags ≡ length there =
+    ap (λ (bs : List Bool). length bs) is ∙ length-map new in_being ∙ len ∙ sym (length-map old in_being)
+    ∙ ap (λ (bs : List Bool). length bs) (sym keeps.flags) in
     record {
       flags = is;
       whole = whole;

@@ -11,7 +11,8 @@ use Rattle.jg_heap.specs.declared.object.Slot.{Slot}
 use Rattle.jg_heap.specs.declared.object.Slot.TheVariants.{Number}
 use Rattle.jg_words.specs.declared.object.Primitive.{Primitive}
 use Rattle.jg_words.specs.declared.object.Primitive.TheVariants.{Boolean, Byte, Char, Short, Int, Long}
-use Rattle.jg_heap.specs.Making.{Making, Plain, Text, Filled, Opaque, array_class, class_in, units_in, length_in, slots_in}
+use Rattle.jg_heap.specs.Making.{Making, Plain, Text, Filled, Opaque, class_in, units_in, length_in, slots_in}
+use Rattle.jg_words.specs.Classes.{array_class}
 use Rattle.jg_heap.specs.Rows.{Row, Rows, row_in, no_row, count_in, class_at, length_at, units_at}
 use Rattle.jg_heap.specs.Kept.{Object, row_of, class_of_body, units_of_body, slots_of_body}
 use Rattle.jg_heap.specs.History.{Event, count_of, making_at, value_at, gone_at}
@@ -25,11 +26,11 @@ pub row_in-standing : (k : ℕ) (e : List Event) (o : ℕ) → o < count_of k e 
 unfolding standing
 row_in-standing k e o h = get_or-map-range_with_len (row_at k e) 0 (count_of k e) o o no_row h (omega arith)
 
-pub class-row_at : (k : ℕ) (e : List Event) (o : ℕ) → (row_at k e o).class ≡ class_in (making_at k e o)
+class-row_at : (k : ℕ) (e : List Event) (o : ℕ) → (row_at k e o).class ≡ class_in (making_at k e o)
 unfolding row_at
 class-row_at k e o = refl
 
-pub units-row_at : (k : ℕ) (e : List Event) (o : ℕ) → (row_at k e o).units ≡ units_in (making_at k e o)
+units-row_at : (k : ℕ) (e : List Event) (o : ℕ) → (row_at k e o).units ≡ units_in (making_at k e o)
 unfolding row_at
 units-row_at k e o = refl
 

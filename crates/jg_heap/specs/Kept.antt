@@ -5,7 +5,7 @@ use Rattle.jg_heap.specs.declared.object.Slot.{Slot}
 use Rattle.jg_heap.specs.declared.object.Slot.TheVariants.{Number, Object as ToObject}
 use Rattle.jg_heap.specs.declared.body.Body.{Body}
 use Rattle.jg_heap.specs.declared.body.Body.TheVariants.{Class, Fields, Units, Numbers, References}
-use Rattle.jg_heap.specs.Making.{array_class}
+use Rattle.jg_words.specs.Classes.{array_class}
 use Rattle.jg_heap.specs.History.{holds}
 use Rattle.jg_heap.specs.Rows.{Row, row_in}
 
@@ -135,15 +135,19 @@ AreWhole blocks n = All (λ b. b + 32 ≤ n) blocks
 abbrev pub may_point_at : {A : Type 0} → List (Object A) → ℕ → Bool
 may_point_at objects o = slice_index_or (map may_point objects) o false
 
--- what the store keeps beside the objects: which aren't gone, where all of these stand, and which of these may point at others
-pub record Keeps {A : Type 0} (objects : List (Object A)) (there : List Bool) (blocks : List ℕ) (loose : ℕ) (pointers : List ℕ) : Type 0 where
+-- what the store keeps beside the objects: which aren't gone, where all of these stand, and which of these may point at
+-- others
+pub record Keeps {A : Type 0} (objects : List (Object A)) (there : List Bool) (blocks : List ℕ) (loose : ℕ)
+    (pointers : List ℕ) : Type 0 where
   pub flags : there ≡ map in_being objects
   pub whole : AreWhole blocks (length there)
   pub order : loose ≤ length there
-  pub live : filter (λ o. slice_index_or there o false) (numbers_in blocks loose (length there)) ≡ live_in (map row_of objects)
+  pub live : filter (λ o. slice_index_or there o false) (numbers_in blocks loose (length there))
+      ≡ live_in (map row_of objects)
   pub pointing : pointers ≡ filter (may_point_at objects) (live_in (map row_of objects))
 
 -- the same of the lists as they are kept: what each object holds, and whether it is in being
-pub record Stored {A : Type 0} (bodies : List (Body A)) (there : List Bool) (blocks : List ℕ) (loose : ℕ) (pointers : List ℕ) : Type 0 where
+pub record Stored {A : Type 0} (bodies : List (Body A)) (there : List Bool) (blocks : List ℕ) (loose : ℕ)
+    (pointers : List ℕ) : Type 0 where
   pub same : length there ≡ length bodies
   pub keeps : Keeps (objects_of bodies there) there blocks loose pointers

@@ -1,7 +1,6 @@
 -- As what an object is made.
 use Rattle.std.specs.Prelude.{ℕ, pos, ◌≤◌, ◌<◌, ◌^◌, ◌≡◌, List, [], length, slice_index_or}
-use Rattle.jg_words.specs.declared.object.Primitive.{Primitive}
-use Rattle.jg_words.specs.declared.object.Primitive.TheVariants.{Boolean, Byte, Char, Short, Int, Long}
+use Rattle.jg_words.specs.Classes.{array_class}
 use Rattle.jg_heap.specs.declared.object.Slot.{Slot}
 use Rattle.jg_heap.specs.declared.object.Slot.TheVariants.{Number, Object}
 use Rattle.jg_heap.specs.declared.object.Shape.{Shape}
@@ -49,15 +48,6 @@ slot_in (Plain class fields) j = slice_index_or fields j (Number (pos 0))
 slot_in (Text units) j = Number (pos 0)
 slot_in (Filled class n item) j = item
 slot_in (Opaque class n) j = Number (pos 0)
-
--- the number of the class of arrays of these: [Z, [B, [C, [S, [I and [J are 4 to 9
-abbrev pub array_class : Primitive → ℕ
-array_class Boolean = 4
-array_class Byte = 5
-array_class Char = 6
-array_class Short = 7
-array_class Int = 8
-array_class Long = 9
 
 -- what the shape makes
 abbrev pub making_of : {A : Type 0} → Shape A → Making

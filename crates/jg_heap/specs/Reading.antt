@@ -12,7 +12,7 @@ natural (pos n) = n
 natural (negsuc n) = 0
 
 -- the item at an index, 0 past the end
-abbrev pub item_at : List ℤ → ℕ → ℕ
+abbrev item_at : List ℤ → ℕ → ℕ
 item_at items i = natural (slice_index_or items i (pos 0))
 
 -- what one byte, two and three may spell

@@ -26,7 +26,7 @@ abbrev pub IsSpeltInItems : List ℕ → List ℤ → Type 0
 IsSpeltInItems units items = AreUnits units × (items ≡ map pos (spelt units))
 
 -- these bytes are the first, the second and the third
-abbrev pub AreFirst : List ℕ → Option ℕ → Option ℕ → Option ℕ → Type 0
+abbrev AreFirst : List ℕ → Option ℕ → Option ℕ → Option ℕ → Type 0
 AreFirst [] x y z = Unit {0}
 AreFirst (a ∷ []) x y z = x ≡ Some a
 AreFirst (a ∷ b ∷ []) x y z = (x ≡ Some a) × (y ≡ Some b)

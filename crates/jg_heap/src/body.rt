@@ -1,12 +1,14 @@
+//! What an object holds, by its shape: made, read and written.
+
 ghost use Rattle.std.specs.Prelude.{◌≡◌, ◌+◌, ◌<◌, ◌≤◌, ◌^◌, length, map, slice_get, slice_set, Some, IfOk, replicate, pos, false};
-ghost use Rattle.jg_heap.specs.Making.{making_of, array_class, CanMake, HasFields, IsArrayClass, IsPrimitiveArray, TakesItem};
+ghost use Rattle.jg_heap.specs.Making.{making_of, CanMake, HasFields, IsArrayClass, IsPrimitiveArray, TakesItem};
 ghost use Rattle.jg_heap.specs.Kept.{class_of_body, units_of_body, slots_of_body, body_may_point, row_of_body, overwritten};
 ghost use Rattle.jg_heap.specs.Rows.{row_of_making};
 ghost use Rattle.jg_heap.specs.declared.object.Slot.TheVariants.{Number};
 
 use crate::instance::{Instance, Text};
 use crate::object::{Shape, Slot};
-use jg_words::{ObjId, Primitive};
+use jg_words::{CLASS_CLASS, OBJECT_ARRAY_CLASS, ObjId, Primitive, STRING_CLASS};
 use std::alloc::{AllocError, Allocator};
 
 /// What an object holds.
@@ -21,20 +23,6 @@ pub(crate) enum Body<A: Allocator> {
         items: Vec<i64, A>,
     },
     References(Vec<Option<ObjId>, A>),
-}
-
-/// The number of the class of arrays of these.
-fn class_of_array(element: Primitive) -> u32
-    ensures { result ≡ array_class element }
-{
-    match element {
-        Primitive::Boolean => 4,
-        Primitive::Byte => 5,
-        Primitive::Char => 6,
-        Primitive::Short => 7,
-        Primitive::Int => 8,
-        Primitive::Long => 9,
-    }
 }
 
 /// So many zeros.
@@ -95,11 +83,11 @@ impl<A: Allocator> Body<A> {
         ensures { result ≡ class_of_body self.now }
     {
         match self {
-            Body::Class => 1,
+            Body::Class => CLASS_CLASS,
             Body::Fields(instance) => instance.class,
-            Body::Units(_) => 2,
-            Body::Numbers { element, .. } => class_of_array(*element),
-            Body::References(_) => 3,
+            Body::Units(_) => STRING_CLASS,
+            Body::Numbers { element, .. } => element.array_class(),
+            Body::References(_) => OBJECT_ARRAY_CLASS,
         }
     }
 

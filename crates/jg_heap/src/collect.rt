@@ -1,3 +1,5 @@
+//! The steps of a collection: objects are marked, those that go are listed, and they are let go.
+
 ghost use Rattle.std.specs.Prelude.{◌≡◌, ℕ, ◌+◌, ◌-◌, ◌++◌, ◌<◌, ◌≤◌, ◌&&◌, All, false, not, ◌==◌, OnOk, length, slice_get, slice_index_or, nat_lt, map, filter, vec_len, vec_capacity};
 ghost use Rattle.std.specs.List.{list_any, range_with_len};
 ghost use Rattle.jg_heap.specs.declared.object.Slot.TheVariants.{Object as ToObject};
@@ -131,7 +133,8 @@ fn list_block<A: Allocator>(
     unheld: &mut Vec<u64, A>,
 ) -> Result<(), AllocError>
     requires { first + 32 ≤ length there.now }
-    ensures { OnOk result (unheld.new.items ≡ unheld.old.items ++ filter (unheld_in there.now marks.now) (block_of first)) }
+    ensures { OnOk result (unheld.new.items
+        ≡ unheld.old.items ++ filter (unheld_in there.now marks.now) (block_of first)) }
 {
     if !marks.misses(first as u64, &there[first..first + BLOCK]) {
         return Ok(());
@@ -305,7 +308,8 @@ pub(crate) fn close_up_if<A: Allocator>(
     stale: usize,
 ) -> usize
     requires { AreWhole blocks.old.items (length there.now) }
-    ensures there { (loose : ℕ) → filter (λ o. slice_index_or there.now o false) (numbers_in blocks.new.items loose (length there.now))
+    ensures there { (loose : ℕ)
+        → filter (λ o. slice_index_or there.now o false) (numbers_in blocks.new.items loose (length there.now))
         ≡ filter (λ o. slice_index_or there.now o false) (numbers_in blocks.old.items loose (length there.now)) }
     ensures whole { AreWhole blocks.new.items (length there.now) }
     ensures looked_over { length blocks.old.items + 8 < stale → result ≡ 0 }

@@ -1,3 +1,5 @@
+//! The store of objects.
+
 ghost use Rattle.std.specs.Prelude.{◌≡◌, ℕ, ◌+◌, ◌<◌, ◌≤◌, ◌^◌, ◌++◌, List, [], ◌∷◌, length, map, IfOk, OnOk, OnErr, if◌then◌else◌, vec_len, vec_capacity};
 ghost use Rattle.std.specs.List.{range_with_len};
 ghost use Rattle.jg_heap.specs.declared.object.Slot.TheVariants.{Number};
@@ -53,7 +55,10 @@ impl<A: Allocator> Model for Heap<A> {
 
     ghost Value = { Rows };
 
-    ghost view = { λ h. record { classes = h.class_count; objects = map row_of (objects_of h.objects.items h.there.items) } };
+    ghost view = { λ h. record {
+      classes = h.class_count;
+      objects = map row_of (objects_of h.objects.items h.there.items);
+    } };
 
     ghost invariant = { λ h. Stored h.objects.items h.there.items h.blocks.items h.loose h.pointing.items
         × (length h.there.items ≤ length h.marks) × (h.in_being ≡ trues h.there.items) };

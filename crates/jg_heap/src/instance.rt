@@ -1,3 +1,5 @@
+//! What is kept of an object with fields, and of a string.
+
 ghost use Rattle.std.specs.Prelude.{◌≤◌, ◌<◌, ◌^◌, length};
 
 use crate::object::Slot;

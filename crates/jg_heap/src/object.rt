@@ -1,3 +1,5 @@
+//! What a slot holds, and as what an object is made.
+
 use jg_words::{ObjId, Primitive};
 use std::alloc::{Allocator, Global};
 

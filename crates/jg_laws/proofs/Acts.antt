@@ -39,7 +39,7 @@ pub buffers_same : (te : List Event) (u : ℕ) (a : Act) → is_count_buffer a �
 buffers_same te u a quiet t = count_same is_count_buffer te u a quiet t
 
 -- none of the acts hands out a reference
-abbrev pub are_quiet : List Act → Bool
+abbrev are_quiet : List Act → Bool
 are_quiet [] = true
 are_quiet (a ∷ acts) = not (is_count_ref a) && are_quiet acts
 
@@ -48,7 +48,7 @@ refs_if : (b : Bool) (te : List Event) (u : ℕ) (a : Act) (acts : List Act) →
 refs_if true te u a acts rest is quiet t = absurd cc
 refs_if false te u a acts rest is quiet t = refs_same (map (by u) acts ++ te) u a is t ∙ rest quiet t
 
-pub refs_quiet : (te : List Event) (u : ℕ) (acts : List Act) → are_quiet acts ≡ true → (t : ℕ) → refs (acts_of t (map (by u) acts ++ te)) ≡ refs (acts_of t te)
+refs_quiet : (te : List Event) (u : ℕ) (acts : List Act) → are_quiet acts ≡ true → (t : ℕ) → refs (acts_of t (map (by u) acts ++ te)) ≡ refs (acts_of t te)
 refs_quiet te u [] quiet t = refl
 refs_quiet te u (a ∷ acts) quiet t = refs_if (is_count_ref a) te u a acts (refs_quiet te u acts) refl quiet t
 
@@ -84,7 +84,7 @@ next_done_if true s p t call u = next_done s p t call u
 next_done_if false s p t call u = refl
 
 -- a thread's own acts come before what it did
-pub acts_own : (u : ℕ) (acts : List Act) (te : List Event) → acts_of u (map (by u) acts ++ te) ≡ acts ++ acts_of u te
+acts_own : (u : ℕ) (acts : List Act) (te : List Event) → acts_of u (map (by u) acts ++ te) ≡ acts ++ acts_of u te
 acts_own u [] te = refl
 acts_own u (a ∷ acts) te = did_more u a (map (by u) acts ++ te) ∙ ap (λ xs. a ∷ xs) (acts_own u acts te)
 

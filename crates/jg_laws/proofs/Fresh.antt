@@ -44,7 +44,7 @@ use Rattle.jg_laws.proofs.Kept.{AtLeast, at_least_steps, below, globals_below, n
 -- ---- a reference that is handed out is its maker's next
 
 -- the reference is t's next of its kind, and q counts it
-abbrev pub Raises : Parts → Tid → Parts → Ref → Type 0
+abbrev Raises : Parts → Tid → Parts → Ref → Type 0
 Raises p t q r = ((kind : Kind) × (r ≡ To kind t (next_ref p t.0))) × (next_ref p t.0 < next_ref q t.0)
 
 no_reference : {r : Ref} → None ≡ Some r → ⊥
@@ -228,7 +228,7 @@ kind_target Global e maker n = globals.strong_target (globals.strong e maker n)
 kind_target Weak e maker n = globals.weak_target e maker n
 
 -- an event that makes no reference of that name
-abbrev pub Passes : ℕ → ℕ → globals.Event → Type 0
+abbrev Passes : ℕ → ℕ → globals.Event → Type 0
 Passes maker n ev = global_laws.makes maker n ev ≡ false
 
 strong_if : (b : Bool) (maker n : ℕ) (old : Option ℕ) → target_object (globals.strong_target old) ≡ None → target_object (globals.strong_target (if b then None else old)) ≡ None

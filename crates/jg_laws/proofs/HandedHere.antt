@@ -42,7 +42,8 @@ use Rattle.jg_monitors.specs.declared.entering.Entering.{Entering}
 use Rattle.jg_monitors.specs.declared.entering.Entering.TheVariants.{Entered, Busy as KeptOut}
 use Rattle.jg_heap.specs.declared.object.Slot.{Slot}
 use Rattle.jg_heap.specs.declared.object.Slot.TheVariants.{Number, Object as Pointer}
-use Rattle.jg_heap.specs.Making.{Making, Plain, Text, Filled, Opaque, class_in, length_in, slots_in, array_class}
+use Rattle.jg_heap.specs.Making.{Making, Plain, Text, Filled, Opaque, class_in, length_in, slots_in}
+use Rattle.jg_words.specs.Classes.{array_class}
 use Rattle.jg_heap.specs.Reading.{natural, decoded}
 use Rattle.jg_heap.specs.History as heap
 use Rattle.jg_heap.proofs.Callers.{classes_law, gone_law}
@@ -53,7 +54,8 @@ use Rattle.jg_rules.specs.declared.operand.ObjectType.TheVariants.{ObjectArray}
 use Rattle.jg_rules.specs.Parts.{Parts}
 use Rattle.jg_rules.specs.Names.{names, object_in, object_named, the_object, is_here, class_of, length_of, units_of, items_of, slot_of, slot_place, target_in, pending, session, class_meant, native_meant, field_meant}
 use Rattle.jg_rules.specs.Access.{native_class, home_of}
-use Rattle.jg_rules.specs.Effects.{parts, after, call_heap, done_if, if_effective, is_effective, class_thrown, settled, first_value, pointer}
+use Rattle.jg_rules.specs.Effects.{parts, after, call_heap, done_if, if_effective, is_effective, settled, first_value, pointer}
+use Rattle.jg_words.specs.Classes.{class_thrown}
 use Rattle.jg_rules.specs.Rules.{verdict, is_stated_as, is_of_class}
 use Rattle.jg_policy.specs.declared.access.Operation.{Operation}
 use Rattle.jg_policy.specs.declared.access.Operation.TheVariants.{Link}
@@ -189,7 +191,8 @@ registered_here : (s : StatedSetup) (p : Parts) (class native : Option ℕ) → 
 registered_here s p class None = refl
 registered_here s p class (Some native) = tt
 
-admitted_here : (k : ℕ) (e : List heap.Event) (s : StatedSetup) (p : Parts) (operation : Operation) (class : Option ℕ) (a : Answer) → AnswersHere k e a → AnswersHere k e (admitted s p operation class a)
+admitted_here : (k : ℕ) (e : List heap.Event) (s : StatedSetup) (p : Parts) (operation : Operation) (class : Option ℕ)
+    (a : Answer) → AnswersHere k e a → AnswersHere k e (admitted s p operation class a)
 admitted_here k e s p operation class a here = here
 
 left_here : (k : ℕ) (e : List heap.Event) (exception : Option ℕ) (a : Answer) → AnswersHere k e a → AnswersHere k e (unless_pending exception a)
@@ -223,10 +226,13 @@ answer_here s p t env (Vm (NativeEnter class method signature)) kept stated all 
     reads (class_count s) p.heap (answer s p t (Vm (NativeEnter class method signature))) (admitted_here (class_count s) p.heap s p Link (class_named s class) (handed p t Local (class_named s class))
     (handed_here (class_count s) p.heap p t Local (class_named s class) (λ o is. class_here (class_count s) p.heap o (class_below s class o is))))
 answer_here s p t env (Vm (NativeLeave r)) kept stated all =
-    reads (class_count s) p.heap (answer s p t (Vm (NativeLeave r))) (left_here (class_count s) p.heap (pending p t.0) (handed p t Local (object_named p t.0 r)) (handed_here (class_count s) p.heap p t Local (object_named p t.0 r) (λ o is. named_here s p t.0 o r all is)))
+    reads (class_count s) p.heap (answer s p t (Vm (NativeLeave r)))
+    (left_here (class_count s) p.heap (pending p t.0) (handed p t Local (object_named p t.0 r))
+    (handed_here (class_count s) p.heap p t Local (object_named p t.0 r) (λ o is. named_here s p t.0 o r all is)))
 answer_here s p t env (Vm (LoadLibrary class library)) kept stated all = tt
 answer_here s p t env (Vm (RegisterNatives class method signature)) kept stated all =
-    reads (class_count s) p.heap (answer s p t (Vm (RegisterNatives class method signature))) (registered_here s p (class_meant s p t.0 class) (native_meant s (class_meant s p t.0 class) method signature))
+    reads (class_count s) p.heap (answer s p t (Vm (RegisterNatives class method signature)))
+    (registered_here s p (class_meant s p t.0 class) (native_meant s (class_meant s p t.0 class) method signature))
 answer_here s p t env (Vm (UnregisterNatives class)) kept stated all = tt
 answer_here s p t env (Vm Collect) kept stated all = tt
 answer_here s p t env (Refs (NewLocalRef r)) kept stated all =
@@ -256,7 +262,9 @@ answer_here s p t env (Objects (FindClass name)) kept stated all =
 answer_here s p t env (Objects (GetObjectClass r)) kept stated all =
     class_here (class_count s) p.heap (class_of s p (the_object p t.0 r)) (class_known (is_here s p (the_object p t.0 r)) s _ (all.known (the_object p t.0 r)))
 answer_here s p t env (Objects (IsInstanceOf r class)) kept stated all = tt
-answer_here s p t env (Objects (AllocObject class)) kept stated all = here_new (class_count s) p.heap (Plain (the_object p t.0 class) (map first_value (fields_in (class_at s (the_object p t.0 class)))))
+answer_here s p t env (Objects (AllocObject class)) kept stated all =
+    here_new (class_count s) p.heap
+    (Plain (the_object p t.0 class) (map first_value (fields_in (class_at s (the_object p t.0 class)))))
 answer_here s p t env (Objects (GetFieldID class field signature)) kept stated all =
     reads (class_count s) p.heap (answer s p t (Objects (GetFieldID class field signature))) (field_here s p (field_meant s (class_meant s p t.0 class) field signature))
 answer_here s p t env (Objects (GetField primitive r field)) kept stated all = tt
@@ -269,10 +277,16 @@ answer_here s p t env (Strings (NewString units)) kept stated all = here_new (cl
 answer_here s p t env (Strings (NewStringUTF bytes)) kept stated all = here_new (class_count s) p.heap (Text (unwrap_or (decoded bytes) []))
 answer_here s p t env (Strings (GetStringLength r)) kept stated all = tt
 answer_here s p t env (Strings (GetStringUTFLength r)) kept stated all = tt
-answer_here s p t env (Strings (GetStringRegion r start n)) kept stated all = reads (class_count s) p.heap (answer s p t (Strings (GetStringRegion r start n))) (outside_here s p StringIndexOutOfBounds (is_outside start n (length (units_of s p (the_object p t.0 r)))) (region (map pos (units_of s p (the_object p t.0 r))) start n) (λ is. tt))
+answer_here s p t env (Strings (GetStringRegion r start n)) kept stated all =
+    reads (class_count s) p.heap (answer s p t (Strings (GetStringRegion r start n)))
+    (outside_here s p StringIndexOutOfBounds (is_outside start n (length (units_of s p (the_object p t.0 r))))
+    (region (map pos (units_of s p (the_object p t.0 r))) start n) (λ is. tt))
 answer_here s p t env (Arrays (NewArray element n)) kept stated all = here_new (class_count s) p.heap (Filled (array_class element) (natural n) (Number (pos 0)))
 answer_here s p t env (Arrays (GetArrayLength r)) kept stated all = tt
-answer_here s p t env (Arrays (GetArrayRegion element r start n)) kept stated all = reads (class_count s) p.heap (answer s p t (Arrays (GetArrayRegion element r start n))) (outside_here s p ArrayIndexOutOfBounds (is_outside start n (length_of s p (the_object p t.0 r))) (region (items_of s p (the_object p t.0 r)) start n) (λ is. tt))
+answer_here s p t env (Arrays (GetArrayRegion element r start n)) kept stated all =
+    reads (class_count s) p.heap (answer s p t (Arrays (GetArrayRegion element r start n)))
+    (outside_here s p ArrayIndexOutOfBounds (is_outside start n (length_of s p (the_object p t.0 r)))
+    (region (items_of s p (the_object p t.0 r)) start n) (λ is. tt))
 answer_here s p t env (Arrays (SetArrayRegion element r start values)) kept stated all = written_here s p (is_outside start (pos (length values)) (length_of s p (the_object p t.0 r))) _
 answer_here s p t env (Arrays (NewObjectArray n class fill)) kept stated all = here_new (class_count s) p.heap (Filled 3 (natural n) (pointer (object_named p t.0 fill)))
 answer_here s p t env (Arrays (GetObjectArrayElement r index)) kept stated all =
@@ -280,7 +294,9 @@ answer_here s p t env (Arrays (GetObjectArrayElement r index)) kept stated all =
     (handed p t Local (target_in (slot_of s p (the_object p t.0 r) (natural index))))
     (λ within. handed_here (class_count s) p.heap p t Local (target_in (slot_of s p (the_object p t.0 r) (natural index))) (λ o is. element_here s p t.0 env r index o kept all within is)))
 answer_here s p t env (Arrays (SetObjectArrayElement r index value)) kept stated all = written_here s p (is_outside index (pos 1) (length_of s p (the_object p t.0 r))) _
-answer_here s p t env (Monitors (MonitorEnter r)) kept stated all = reads (class_count s) p.heap (answer s p t (Monitors (MonitorEnter r))) (enter_here (class_count s) p.heap (monitors.entering t.0 (monitors.owner p.monitors (the_object p t.0 r))))
+answer_here s p t env (Monitors (MonitorEnter r)) kept stated all =
+    reads (class_count s) p.heap (answer s p t (Monitors (MonitorEnter r)))
+    (enter_here (class_count s) p.heap (monitors.entering t.0 (monitors.owner p.monitors (the_object p t.0 r))))
 answer_here s p t env (Monitors (MonitorExit r)) kept stated all = tt
 answer_here s p t env (Buffers (GetArrayElements element r)) kept stated all = tt
 answer_here s p t env (Buffers (ReleaseArrayElements element r b mode)) kept stated all = tt
@@ -423,7 +439,15 @@ each_here s None p x none stated all y same =
     (answer_here s p x.tid x.env x.call kept stated all) (done_if_here (is_effective a.reply.value) s p x.tid.0 x.env x.call kept all))
 
 pub all_here : (s : StatedSetup) (h : List Entry) → Legal s h → AllHere s (parts s h)
-all_here s [] legal = record { locals = λ t n o is. absurd cc; pending = λ t o is. absurd cc; strong = λ m n o is. absurd cc; weak = λ m n o is. absurd cc; slots = λ x j o made gone within is. absurd cc; known = λ o. omega arith }
+all_here s [] legal =
+    record {
+      locals = λ t n o is. absurd cc;
+      pending = λ t o is. absurd cc;
+      strong = λ m n o is. absurd cc;
+      weak = λ m n o is. absurd cc;
+      slots = λ x j o made gone within is. absurd cc;
+      known = λ o. omega arith;
+    }
 all_here s (x ∷ h) legal = each_here s (verdict s (parts s h) x.tid.0 x.env x.call) (parts s h) x refl (all_stated s h legal.1) (all_here s h legal.1) x legal.0
 
 pub live_is_not_gone : LiveIsNotGone

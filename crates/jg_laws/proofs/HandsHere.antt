@@ -26,7 +26,8 @@ use Rattle.jg_globals.specs.History as globals
 use Rattle.jg_threads.specs.History as threads
 use Rattle.jg_heap.specs.declared.object.Slot.{Slot}
 use Rattle.jg_heap.specs.declared.object.Slot.TheVariants.{Number, Object as Pointer}
-use Rattle.jg_heap.specs.Making.{Making, Filled, class_in, array_class}
+use Rattle.jg_heap.specs.Making.{Making, Filled, class_in}
+use Rattle.jg_words.specs.Classes.{array_class}
 use Rattle.jg_heap.specs.Reading.{natural}
 use Rattle.jg_heap.specs.History as heap
 use Rattle.jg_rules.specs.declared.named.Named.{Named}
@@ -104,7 +105,8 @@ pinned_still : (k index : ℕ) (v : ℤ) (found : Option Info) (e : List heap.Ev
 pinned_still k index v None e slots = unmoved k e slots
 pinned_still k index v (Some info) e slots = pinned_if (buffers.is_critical info.family) k info.object.0 index v e slots
 
-heap_done : (s : StatedSetup) (p : Parts) (t : ℕ) (env : Option EnvId) (call : Call) → Unbroken s p t env call → is_machine call ≡ false → AllHere s p → Still (class_count s) p.heap (call_heap s p t call ++ p.heap)
+heap_done : (s : StatedSetup) (p : Parts) (t : ℕ) (env : Option EnvId) (call : Call) → Unbroken s p t env call
+    → is_machine call ≡ false → AllHere s p → Still (class_count s) p.heap (call_heap s p t call ++ p.heap)
 heap_done s p t env (Vm AttachCurrentThread) kept own all = unmoved (class_count s) p.heap all.slots
 heap_done s p t env (Vm DetachCurrentThread) kept own all = unmoved (class_count s) p.heap all.slots
 heap_done s p t env (Vm GetEnv) kept own all = unmoved (class_count s) p.heap all.slots
@@ -120,7 +122,11 @@ heap_done s p t env (Exceptions call) kept own all = unmoved (class_count s) p.h
 heap_done s p t env (Objects (FindClass name)) kept own all = unmoved (class_count s) p.heap all.slots
 heap_done s p t env (Objects (GetObjectClass r)) kept own all = unmoved (class_count s) p.heap all.slots
 heap_done s p t env (Objects (IsInstanceOf r class)) kept own all = unmoved (class_count s) p.heap all.slots
-heap_done s p t env (Objects (AllocObject class)) kept own all = made_still (class_count s) p.heap _ (plain_below s (the_object p t class) (first_is_of s p PlainClass (names p t class) false false false kept.alive kept.not_null kept.right_type)) all.slots (λ j o within is. absurd (fresh_no _ j o is))
+heap_done s p t env (Objects (AllocObject class)) kept own all =
+    made_still (class_count s) p.heap _
+    (plain_below s (the_object p t class)
+    (first_is_of s p PlainClass (names p t class) false false false kept.alive kept.not_null kept.right_type)) all.slots
+    (λ j o within is. absurd (fresh_no _ j o is))
 heap_done s p t env (Objects (GetFieldID class field signature)) kept own all = unmoved (class_count s) p.heap all.slots
 heap_done s p t env (Objects (GetField primitive r field)) kept own all = unmoved (class_count s) p.heap all.slots
 heap_done s p t env (Objects (GetObjectField r field)) kept own all = unmoved (class_count s) p.heap all.slots
@@ -137,13 +143,16 @@ heap_done s p t env (Arrays (GetArrayLength r)) kept own all = unmoved (class_co
 heap_done s p t env (Arrays (GetArrayRegion element r start n)) kept own all = unmoved (class_count s) p.heap all.slots
 heap_done s p t env (Arrays (SetArrayRegion element r start values)) kept own all = region_still (class_count s) (the_object p t r) values (natural start) p.heap all.slots
 heap_done s p t env (Arrays (NewObjectArray n class fill)) kept own all =
-    made_still (class_count s) p.heap (Filled 3 (natural n) (pointer (object_named p t fill))) (omega arith) all.slots (λ j o within is. named_here s p t o.0 fill all (pointer_is (object_named p t fill) o is))
+    made_still (class_count s) p.heap (Filled 3 (natural n) (pointer (object_named p t fill))) (omega arith) all.slots
+    (λ j o within is. named_here s p t o.0 fill all (pointer_is (object_named p t fill) o is))
 heap_done s p t env (Arrays (GetObjectArrayElement r index)) kept own all = unmoved (class_count s) p.heap all.slots
 heap_done s p t env (Arrays (SetObjectArrayElement r index value)) kept own all =
     wrote_still (class_count s) p.heap _ _ (pointer (object_named p t value)) all.slots (λ o is. named_here s p t o.0 value all (pointer_is (object_named p t value) o is))
 heap_done s p t env (Monitors call) kept own all = unmoved (class_count s) p.heap all.slots
 heap_done s p t env (Buffers (GetArrayElements element r)) kept own all = unmoved (class_count s) p.heap all.slots
-heap_done s p t env (Buffers (ReleaseArrayElements element r b mode)) kept own all = back_still (writes_back mode) (class_count s) (buffers.contents p.buffers b.maker.0 b.n) (buffer_named p b) p.heap all.slots
+heap_done s p t env (Buffers (ReleaseArrayElements element r b mode)) kept own all =
+    back_still (writes_back mode) (class_count s) (buffers.contents p.buffers b.maker.0 b.n) (buffer_named p b) p.heap
+    all.slots
 heap_done s p t env (Buffers (GetStringChars r)) kept own all = unmoved (class_count s) p.heap all.slots
 heap_done s p t env (Buffers (ReleaseStringChars r b)) kept own all = unmoved (class_count s) p.heap all.slots
 heap_done s p t env (Buffers (GetStringUTFChars r)) kept own all = unmoved (class_count s) p.heap all.slots
@@ -267,7 +276,10 @@ done_own s p t env call own kept all =
     let makes = call_makes H s p t call own in
     record {
       locals = locals_still H p.locals t (call_locals s p t call) (call_makes_none s p t call) (λ u n o is. still.here o (all.locals u n o is));
-      pending = pending_more H p.threads t (call_threads s p t call) (call_raises H s p t env call kept (λ o r is. still.here o (named_here s p t o r all is))) (λ u o is. still.here o (all.pending u o is));
+      pending =
+          pending_more H p.threads t (call_threads s p t call)
+          (call_raises H s p t env call kept (λ o r is. still.here o (named_here s p t o r all is)))
+          (λ u o is. still.here o (all.pending u o is));
       strong = strong_more H (call_globals s p t call) p.globals makes (λ m n o is. still.here o (all.strong m n o is));
       weak = weak_more H (call_globals s p t call) p.globals makes (λ m n o is. still.here o.0 (all.weak m n o is));
       slots = still.slots;

@@ -29,7 +29,8 @@ both_no : (b : Bool) → (b && false) ≡ false
 both_no true = refl
 both_no false = refl
 
-unmade_if : (k : ℕ) (e : List Event) (roots : List ℕ) (o : ℕ) → count_of k e ≤ o → gone_at k e o ≡ false → (gone_at k e o || (nat_lt o (count_of k e) && not (held_by (gone_at k e) k roots e o))) ≡ false
+unmade_if : (k : ℕ) (e : List Event) (roots : List ℕ) (o : ℕ) → count_of k e ≤ o → gone_at k e o ≡ false
+    → (gone_at k e o || (nat_lt o (count_of k e) && not (held_by (gone_at k e) k roots e o))) ≡ false
 unmade_if k e roots o past old =
     let none : nat_lt o (count_of k e) ≡ false = grind (arith, nat_tests) in
     rw (old, none) refl
@@ -40,7 +41,7 @@ unmade_went k e p o past old =
     rw (old, none) (both_no (o == p))
 
 -- what wasn't made isn't gone
-pub unmade : (k : ℕ) (e : List Event) (o : ℕ) → count_of k e ≤ o → gone_at k e o ≡ false
+unmade : (k : ℕ) (e : List Event) (o : ℕ) → count_of k e ≤ o → gone_at k e o ≡ false
 unmade k [] o past = refl
 unmade k (Made m ∷ e) o past = unmade k e o (omega (arith, past))
 unmade k (Wrote p j v ∷ e) o past = unmade k e o past
@@ -78,7 +79,8 @@ slots_made k e m old new x j o made gone within is =
 
 -- ---- a slot is written
 
-written : (b : Bool) (k : ℕ) (e : List Event) (v w : Slot) (o : ObjId) → (w ≡ Object (Some o) → Here k e o.0) → (v ≡ Object (Some o) → Here k e o.0) → (if b then v else w) ≡ Object (Some o) → Here k e o.0
+written : (b : Bool) (k : ℕ) (e : List Event) (v w : Slot) (o : ObjId) → (w ≡ Object (Some o) → Here k e o.0)
+    → (v ≡ Object (Some o) → Here k e o.0) → (if b then v else w) ≡ Object (Some o) → Here k e o.0
 written true k e v w o old new is = new is
 written false k e v w o old new is = old is
 
@@ -106,7 +108,8 @@ region_still k o [] j e old = record { here = λ x here. here; slots = old; know
 region_still k o (v ∷ values) j e old =
     let first : SlotsMeet k (Wrote o j (Number v) ∷ e) = slots_wrote k e o j (Number v) old (λ x is. absurd (number_no v x is)) in
     let rest = region_still k o values (j + 1) (Wrote o j (Number v) ∷ e) first in
-    subst (λ (after : List Event). Still k e (after)) (assoc (region_writes o (j + 1) values) (Wrote o j (Number v)) e) (record { here = λ x here. rest.here x here; slots = rest.slots; known = λ are. rest.known are })
+    subst (λ (after : List Event). Still k e (after)) (assoc (region_writes o (j + 1) values) (Wrote o j (Number v)) e)
+    (record { here = λ x here. rest.here x here; slots = rest.slots; known = λ are. rest.known are })
 
 -- ---- a collection
 
@@ -121,7 +124,7 @@ stays a true c kept held = rw (kept, held) refl
 stays a false c kept held = rw kept refl
 
 -- what is held stays
-pub here_held : (k : ℕ) (roots : List ℕ) (e : List Event) (o : ℕ) → Here k e o → held_at k roots e o ≡ true → Here k (Collected roots ∷ e) o
+here_held : (k : ℕ) (roots : List ℕ) (e : List Event) (o : ℕ) → Here k e o → held_at k roots e o ≡ true → Here k (Collected roots ∷ e) o
 here_held k roots e o here held = (here.0, stays (gone_at k e o) (nat_lt o (count_of k e)) (held_at k roots e o) here.1 held)
 
 rooted : (a b c : Bool) → b ≡ true → ((a || b) || c) ≡ true

@@ -140,7 +140,7 @@ agree s h t legal = agree_of _ _ (agreed s h legal t)
 abbrev pub Below : Parts → Type 0
 Below p = (t : ℕ) → IsMadeBelow (next_ref p t) (acts_of t p.locals)
 
-pub below_more : (n m : ℕ) (acts : List Act) → n ≤ m → IsMadeBelow n acts → IsMadeBelow m acts
+below_more : (n m : ℕ) (acts : List Act) → n ≤ m → IsMadeBelow n acts → IsMadeBelow m acts
 below_more n m [] le below = below
 below_more n m (Make k o ∷ acts) le below = (omega (arith, below.0, le), below_more n m acts le below.1)
 below_more n m (Start ∷ acts) le below = below_more n m acts le below

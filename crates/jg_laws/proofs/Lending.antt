@@ -3,6 +3,7 @@ use Rattle.std.proofs.Common.{ℕ, ◌≡◌, ◌≢◌, ◌+◌, ◌≤◌, ◌
 use Rattle.std.specs.Prelude.{◌==◌, if◌then◌else◌}
 use Rattle.std.specs.List.{AllByRecursion}
 use Rattle.std.proofs.lemmas.Bool.Decides.{nat_tests}
+use Rattle.std.proofs.lemmas.Option.{same_Some}
 use Rattle.jg_words.specs.Entry.{Entry}
 use Rattle.jg_policy.specs.Stated.{StatedSetup, class_count}
 use Rattle.jg_threads.specs.History as threads
@@ -42,7 +43,8 @@ none_below t n (Wrote k i j v ∷ new) e none below = none_below t n new e none 
 none_below t n (Closed k i ∷ new) e none below = none_below t n new e none below
 none_below t n (ReleaseAll k ∷ new) e none below = none_below t n new e none below
 
-quiet : (p : Parts) (u : ℕ) (a : threads.Act) → threads.is_count_buffer a ≡ false → LentBelow p → (t : ℕ) → IsOpenedBelow t (next_buffer (record p { threads = threads.by u a ∷ p.threads }) t) p.buffers
+quiet : (p : Parts) (u : ℕ) (a : threads.Act) → threads.is_count_buffer a ≡ false → LentBelow p → (t : ℕ)
+    → IsOpenedBelow t (next_buffer (record p { threads = threads.by u a ∷ p.threads }) t) p.buffers
 quiet p u a is old t = subst (λ (n : ℕ). IsOpenedBelow t n p.buffers) (sym (ap (λ n. n + 1) (buffers_same p.threads u a is t))) (old t)
 
 next_more : (p : Parts) (u : ℕ) → next_buffer (record p { threads = threads.by u threads.CountBuffer ∷ p.threads }) u ≡ next_buffer p u + 1
@@ -90,7 +92,7 @@ lent_below_next s h legal = each_legal LentBelow s (below_steps s) (λ t. tt) h 
 
 -- ---- objects
 
-abbrev pub OpenedFits : ℕ → List heap.Event → Event → Type 0
+abbrev OpenedFits : ℕ → List heap.Event → Event → Type 0
 OpenedFits k e (Opened b) = FitsObject k e b
 OpenedFits k e (Wrote m i j v) = Unit {0}
 OpenedFits k e (Closed m i) = Unit {0}
@@ -124,7 +126,7 @@ none_fits k e (Wrote m i j v ∷ new) bs none all = (tt, none_fits k e new bs no
 none_fits k e (Closed m i ∷ new) bs none all = (tt, none_fits k e new bs none all)
 none_fits k e (ReleaseAll m ∷ new) bs none all = (tt, none_fits k e new bs none all)
 
-abbrev pub AllFit : StatedSetup → Parts → Type 0
+abbrev AllFit : StatedSetup → Parts → Type 0
 AllFit s p = AllByRecursion (OpenedFits (class_count s) p.heap) p.buffers
 
 fit_steps : (s : StatedSetup) → Steps s (AllFit s)
@@ -151,21 +153,19 @@ fit_steps s = record {
   calms = λ p u old. old;
 }
 
-pub all_fit : (s : StatedSetup) (h : List Entry) → Legal s h → AllFit s (parts s h)
+all_fit : (s : StatedSetup) (h : List Entry) → Legal s h → AllFit s (parts s h)
 all_fit s h legal = each_legal (AllFit s) s (fit_steps s) tt h legal
 
-same_buffer : (a b : Buffer) → Some a ≡ Some b → a ≡ b
-same_buffer a b is = cc
-
-opened_if : (c : Bool) (k : ℕ) (e : List heap.Event) (b x : Buffer) (rest : Option Buffer) → FitsObject k e x → (rest ≡ Some b → FitsObject k e b) → (if c then Some x else rest) ≡ Some b → FitsObject k e b
-opened_if true k e b x rest fits later is = subst (FitsObject k e) (same_buffer x b is) fits
+opened_if : (c : Bool) (k : ℕ) (e : List heap.Event) (b x : Buffer) (rest : Option Buffer) → FitsObject k e x
+    → (rest ≡ Some b → FitsObject k e b) → (if c then Some x else rest) ≡ Some b → FitsObject k e b
+opened_if true k e b x rest fits later is = subst (FitsObject k e) (same_Some x b is) fits
 opened_if false k e b x rest fits later is = later is
 
 closed_if : (c : Bool) (k : ℕ) (e : List heap.Event) (b : Buffer) (rest : Option Buffer) → (rest ≡ Some b → FitsObject k e b) → (if c then None else rest) ≡ Some b → FitsObject k e b
 closed_if true k e b rest later is = absurd cc
 closed_if false k e b rest later is = later is
 
-pub opened_fits : (k : ℕ) (e : List heap.Event) (bs : List Event) (m n : ℕ) (b : Buffer) → AllByRecursion (OpenedFits k e) bs → opened bs m n ≡ Some b → FitsObject k e b
+opened_fits : (k : ℕ) (e : List heap.Event) (bs : List Event) (m n : ℕ) (b : Buffer) → AllByRecursion (OpenedFits k e) bs → opened bs m n ≡ Some b → FitsObject k e b
 opened_fits k e [] m n b all is = absurd cc
 opened_fits k e (Opened x ∷ bs) m n b all is = opened_if (is_same m n x.maker x.n) k e b x (opened bs m n) all.0 (λ rest. opened_fits k e bs m n b all.1 rest) is
 opened_fits k e (Wrote q i j v ∷ bs) m n b all is = opened_fits k e bs m n b all.1 is

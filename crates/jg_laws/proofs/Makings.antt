@@ -20,7 +20,8 @@ use Rattle.jg_buffers.specs.History as buffers
 use Rattle.jg_policy.specs.Stated.{StatedSetup, class_count}
 use Rattle.jg_policy.specs.Classes.{class_at, fields_in}
 use Rattle.jg_heap.specs.History.{Event, Made, Wrote, Collected, Went, count_of, making_at, region_writes}
-use Rattle.jg_heap.specs.Making.{Making, Plain, Text, Filled, Opaque, array_class, class_in, length_in}
+use Rattle.jg_heap.specs.Making.{Making, Plain, Text, Filled, Opaque, class_in, length_in}
+use Rattle.jg_words.specs.Classes.{array_class}
 use Rattle.jg_heap.specs.Reading.{natural}
 use Rattle.jg_rules.specs.Parts.{Parts}
 use Rattle.jg_rules.specs.Names.{class_of, length_of, the_object}

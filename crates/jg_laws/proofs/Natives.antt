@@ -29,7 +29,7 @@ use Rattle.jg_laws.proofs.Fresh.{Legal-before}
 abbrev pub AllStated : StatedSetup → Parts → Type 0
 AllStated s p = AllByRecursion (MakesStated s) p.heap
 
-pub stated_steps : (s : StatedSetup) → Steps s (AllStated s)
+stated_steps : (s : StatedSetup) → Steps s (AllStated s)
 stated_steps s = heap_steps s (AllByRecursion (MakesStated s)) (all_append (MakesStated s))
 
 pub all_stated : (s : StatedSetup) (h : List Entry) → Legal s h → AllStated s (parts s h)

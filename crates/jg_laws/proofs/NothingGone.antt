@@ -1,6 +1,7 @@
 -- What a live reference names, in every legal history, isn't gone.
 use Rattle.std.proofs.Common.{ℕ, ◌≡◌, ◌++◌, Bool, true, false, List, [], ◌∷◌, map, Option, Some, None, refl, subst}
 use Rattle.std.specs.Prelude.{◌==◌, ◌||◌, if◌then◌else◌}
+use Rattle.std.proofs.lemmas.Option.{same_Some}
 use Rattle.jg_words.specs.declared.object.ObjId.{ObjId}
 use Rattle.jg_words.specs.declared.reference.Ref.{Ref}
 use Rattle.jg_words.specs.declared.reference.Ref.TheVariants.{Null, To}
@@ -35,9 +36,6 @@ pub record AllHere (s : StatedSetup) (p : Parts) : Type 0 where
 
 -- ---- what a reference names
 
-some_is : (a b : ℕ) → Some a ≡ Some b → a ≡ b
-some_is a b is = cc
-
 local_in : (found : Option ℕ) (o : ℕ) → object_in (named_by found) ≡ Some o → found ≡ Some o
 local_in None o is = absurd cc
 local_in (Some x) o is = is
@@ -52,7 +50,7 @@ strong_named H (Some x) o old is = old is
 
 weak_named : (H : ℕ → Type 0) (found : Option Target) (o : ℕ) → ((x : ObjId) → found ≡ Some (ToObject x) → H x.0) → object_in (named_by_target found) ≡ Some o → H o
 weak_named H None o old is = absurd cc
-weak_named H (Some (ToObject x)) o old is = subst H (some_is x.0 o is) (old x refl)
+weak_named H (Some (ToObject x)) o old is = subst H (same_Some x.0 o is) (old x refl)
 weak_named H (Some Cleared) o old is = absurd cc
 
 pub named_here : (s : StatedSetup) (p : Parts) (t o : ℕ) (r : Ref) → AllHere s p → object_named p t r ≡ Some o → Here (class_count s) p.heap o
@@ -85,11 +83,20 @@ collected_here s p all =
     let k : ℕ = class_count s in
     let kept : (o : ℕ) → Here k p.heap o → is_root p o ≡ true → Here k (heap.Collected (roots s p) ∷ p.heap) o = λ o here is. here_rooted k (is_root p) p.heap o here is in
     record {
-      locals = λ t n o is. kept o (all.locals t n o is) (or_first (locals.holds_object p.locals o) (globals.holds_object p.globals o) (threads.is_pending p.threads o) (buffers.pins_object p.buffers o) (monitors.held p.monitors o) ((local_held_law p.locals o).1 (t, n, is)));
-      pending = λ t o is. kept o (all.pending t o is) (or_third (locals.holds_object p.locals o) (globals.holds_object p.globals o) (threads.is_pending p.threads o) (buffers.pins_object p.buffers o) (monitors.held p.monitors o) ((is_pending_law p.threads o).1 (t, is)));
+      locals =
+          λ t n o is. kept o (all.locals t n o is)
+          (or_first (locals.holds_object p.locals o) (globals.holds_object p.globals o) (threads.is_pending p.threads o)
+          (buffers.pins_object p.buffers o) (monitors.held p.monitors o) ((local_held_law p.locals o).1 (t, n, is)));
+      pending =
+          λ t o is. kept o (all.pending t o is)
+          (or_third (locals.holds_object p.locals o) (globals.holds_object p.globals o) (threads.is_pending p.threads o)
+          (buffers.pins_object p.buffers o) (monitors.held p.monitors o) ((is_pending_law p.threads o).1 (t, is)));
       strong = λ m n o is.
           let before = unclear (going s p) p.globals m n o is in
-          kept o (all.strong m n o before) (or_second (locals.holds_object p.locals o) (globals.holds_object p.globals o) (threads.is_pending p.threads o) (buffers.pins_object p.buffers o) (monitors.held p.monitors o) ((holds_law p.globals o).1 (m, n, before)));
+          kept o (all.strong m n o before)
+          (or_second (locals.holds_object p.locals o) (globals.holds_object p.globals o)
+          (threads.is_pending p.threads o) (buffers.pins_object p.buffers o) (monitors.held p.monitors o)
+          ((holds_law p.globals o).1 (m, n, before)));
       weak = λ m n o is.
           let both = spared (going s p) p.globals m n o is in
           here_kept k (roots s p) p.heap o.0 (all.weak m n o both.1) both.0;

@@ -94,7 +94,8 @@ done_allowed s p t env (Monitors (MonitorEnter r)) kept done old =
 done_allowed s p t env (Monitors (MonitorExit r)) kept done old =
     (old, mine p t.0 (names p t.0 r) false false kept.alive kept.not_null kept.owned)
 
-allowed_if : (b : Bool) (s : StatedSetup) (p : Parts) (t : Tid) (env : Option EnvId) (call : Call) → is_effective (answer s p t call).reply.value ≡ b → Unbroken s p t.0 env call → AllAllowed p.monitors
+allowed_if : (b : Bool) (s : StatedSetup) (p : Parts) (t : Tid) (env : Option EnvId) (call : Call)
+    → is_effective (answer s p t call).reply.value ≡ b → Unbroken s p t.0 env call → AllAllowed p.monitors
     → AllAllowed (map (by t.0) (if_effective b (call_monitors s p t.0 call)) ++ p.monitors)
 allowed_if true s p t env call is kept old = done_allowed s p t env call kept is old
 allowed_if false s p t env call is kept old = old

@@ -4,6 +4,7 @@ use Rattle.std.proofs.Common.{ℕ, ◌≡◌, ◌≢◌, ◌+◌, ◌<◌, ◌�
 use Rattle.std.specs.Prelude.{◌==◌, ◌&&◌, ◌||◌, not, if◌then◌else◌}
 use Rattle.std.specs.List.{list_any}
 use Rattle.std.proofs.lemmas.Bool.Decides.{nat_tests}
+use Rattle.std.proofs.lemmas.Option.{same_Some}
 use Rattle.jg_words.specs.declared.thread.Tid.{Tid}
 use Rattle.jg_words.specs.declared.thread.EnvId.{EnvId}
 use Rattle.jg_words.specs.declared.object.ObjId.{ObjId}
@@ -62,13 +63,10 @@ PinsLive p = (m n : ℕ) (b : Buffer) → opened p.buffers m n ≡ Some b → is
 
 -- ---- events of buffers
 
-one_buffer : (a b : Buffer) → Some a ≡ Some b → a ≡ b
-one_buffer a b is = cc
-
 lent_if : (c : Bool) (p : Parts) (x b : Buffer) (rest : Option Buffer) → (is_critical x.family ≡ true → object_named p x.maker x.via ≡ Some x.object)
     → (rest ≡ Some b → is_critical b.family ≡ true → object_named p b.maker b.via ≡ Some b.object) → (if c then Some x else rest) ≡ Some b
     → is_critical b.family ≡ true → object_named p b.maker b.via ≡ Some b.object
-lent_if true p x b rest new old is = subst (λ (y : Buffer). is_critical y.family ≡ true → object_named p y.maker y.via ≡ Some y.object) (one_buffer x b is) new
+lent_if true p x b rest new old is = subst (λ (y : Buffer). is_critical y.family ≡ true → object_named p y.maker y.via ≡ Some y.object) (same_Some x b is) new
 lent_if false p x b rest new old is = old is
 
 -- one buffer more, which is pinned through a reference that names its object, or is a copy
@@ -102,7 +100,9 @@ buffers_live s p t env (ReleasePrimitiveArrayCritical r buffer mode) kept old m 
 buffers_live s p t env (GetStringCritical r) kept old m n b is = lent_live p _ (λ pins. the_named (names p t.0 r) false false kept.alive kept.not_null) old m n b is
 buffers_live s p t env (ReleaseStringCritical r buffer) kept old m n b is = none_live p (Closed buffer.maker.0 buffer.n ∷ []) refl old m n b is
 buffers_live s p t env (BufferRead buffer index) kept old m n b is = old m n b is
-buffers_live s p t env (BufferWrite buffer index value) kept old m n b is = none_live p (wrote_copy buffer (natural index) value (buffer_named p buffer)) (writes_none buffer (natural index) value (buffer_named p buffer)) old m n b is
+buffers_live s p t env (BufferWrite buffer index value) kept old m n b is =
+    none_live p (wrote_copy buffer (natural index) value (buffer_named p buffer))
+    (writes_none buffer (natural index) value (buffer_named p buffer)) old m n b is
 
 -- ---- global references
 
@@ -146,11 +146,12 @@ event_still Weak (globals.DeleteWeak m n) e k i o apart is = rw apart (still_unc
 event_still Weak (globals.Clear x) e k i o apart is = still_uncleared (globals.Clear x) (globals.after_making k i e) (globals.weak e k i) o apart is
 
 -- no event of these touches it
-abbrev pub Leave : Kind → ℕ → ℕ → ℕ → List globals.Event → Type 0
+abbrev Leave : Kind → ℕ → ℕ → ℕ → List globals.Event → Type 0
 Leave kind k i o [] = Unit {0}
 Leave kind k i o (ev ∷ e) = (touches kind k i o ev ≡ false) × Leave kind k i o e
 
-events_still : (kind : Kind) (new e : List globals.Event) (k i o : ℕ) → Leave kind k i o new → target_object (kind_target kind e k i) ≡ Some o → target_object (kind_target kind (new ++ e) k i) ≡ Some o
+events_still : (kind : Kind) (new e : List globals.Event) (k i o : ℕ) → Leave kind k i o new
+    → target_object (kind_target kind e k i) ≡ Some o → target_object (kind_target kind (new ++ e) k i) ≡ Some o
 events_still kind [] e k i o leave is = is
 events_still kind (ev ∷ new) e k i o leave is = event_still kind ev (new ++ e) k i o leave.0 (events_still kind new e k i o leave.1 is)
 
@@ -173,7 +174,8 @@ same_ref kind maker m i n a b = ap (λ (x : ℕ). To kind (record { 0 = x }) n) 
 both_equal : (k i m n : ℕ) → is_same k i m n ≡ true → (m ≡ k) × (n ≡ i)
 both_equal k i m n is = grind (arith, nat_tests, is)
 
-other_if : (c : Bool) (e : List Event) (kind : Kind) (maker m : Tid) (i n : ℕ) → is_same maker.0 i m.0 n ≡ c → buffers.pinned_by e (To kind maker i) ≡ true → buffers.pinned_by e (To kind m n) ≡ false → c ≡ false
+other_if : (c : Bool) (e : List Event) (kind : Kind) (maker m : Tid) (i n : ℕ) → is_same maker.0 i m.0 n ≡ c
+    → buffers.pinned_by e (To kind maker i) ≡ true → buffers.pinned_by e (To kind m n) ≡ false → c ≡ false
 other_if false e kind maker m i n is pins free = refl
 other_if true e kind maker m i n is pins free =
     let both = both_equal maker.0 i m.0 n is in
@@ -183,7 +185,9 @@ other_if true e kind maker m i n is pins free =
 other : (e : List Event) (kind : Kind) (maker m : Tid) (i n : ℕ) → buffers.pinned_by e (To kind maker i) ≡ true → buffers.pinned_by e (To kind m n) ≡ false → is_same maker.0 i m.0 n ≡ false
 other e kind maker m i n pins free = other_if (is_same maker.0 i m.0 n) e kind maker m i n refl pins free
 
-deletion_leaves : (e : List Event) (kind : Kind) (maker : Tid) (i o : ℕ) (r : Ref) → buffers.pinned_by e (To kind maker i) ≡ true → buffers.pinned_by e r ≡ false → Leave kind maker.0 i o (globals.deletion r)
+deletion_leaves : (e : List Event) (kind : Kind) (maker : Tid) (i o : ℕ) (r : Ref)
+    → buffers.pinned_by e (To kind maker i) ≡ true → buffers.pinned_by e r ≡ false
+    → Leave kind maker.0 i o (globals.deletion r)
 deletion_leaves e kind maker i o Null pins free = tt
 deletion_leaves e kind maker i o (To Local m n) pins free = tt
 deletion_leaves e Local maker i o (To Global m n) pins free = (refl, tt)
@@ -212,7 +216,9 @@ held_no false b is = rw is refl
 not_going : (s : StatedSetup) (p : Parts) (o : ℕ) → o < heap.count_of (class_count s) p.heap → buffers.pins_object p.buffers o ≡ true → list_any (λ x. x == o) (going s p) ≡ false
 not_going s p o made pinned =
     let k : ℕ = class_count s in
-    let root : is_root p o ≡ true = or_fourth (locals.holds_object p.locals o) (globals.holds_object p.globals o) (threads.is_pending p.threads o) (buffers.pins_object p.buffers o) (monitors.held p.monitors o) pinned in
+    let root : is_root p o ≡ true =
+    or_fourth (locals.holds_object p.locals o) (globals.holds_object p.globals o) (threads.is_pending p.threads o)
+    (buffers.pins_object p.buffers o) (monitors.held p.monitors o) pinned in
     let held : heap.held_at k (roots s p) p.heap o ≡ true = or_second _ (list_any (λ r. r == o) (roots s p)) _ (roots_law (is_root p) (heap.count_of k p.heap) o made ∙ root) in
     roots_law (λ x. not (heap.gone_at k p.heap x) && not (heap.held_at k (roots s p) p.heap x)) (heap.count_of k p.heap) o made
     ∙ held_no (heap.gone_at k p.heap o) (heap.held_at k (roots s p) p.heap o) held
@@ -310,9 +316,14 @@ other_live s p t env call kept quiet outside below made old m n b is pins =
     let same : if_effective (is_effective a.reply.value) (call_buffers s p t.0 call) ++ p.buffers ≡ p.buffers =
     ap (λ (e : List Event). if_effective (is_effective a.reply.value) e ++ p.buffers) quiet ∙ none_if (is_effective a.reply.value) p.buffers in
     let before : opened p.buffers m n ≡ Some b = subst (λ (e : List Event). opened e m n ≡ Some b) same is in
-    let apart : b.maker ≢ t.0 = λ mine. clash (buffers.in_critical p.buffers t.0) ((critical_law p.buffers t.0).1 (record { maker = m; n = n; buffer = b; is_open = before; critical = pins; holds = mine })) outside in
+    let apart : b.maker ≢ t.0 =
+    λ mine. clash (buffers.in_critical p.buffers t.0)
+    ((critical_law p.buffers t.0).1
+    (record { maker = m; n = n; buffer = b; is_open = before; critical = pins; holds = mine })) outside in
     let by_ref : buffers.pinned_by p.buffers b.via ≡ true = (pinned_law p.buffers b.via).1 (record { maker = m; n = n; buffer = b; is_open = before; critical = pins; holds = refl }) in
-    let of_object : buffers.pins_object p.buffers b.object ≡ true = (pinned_object_law p.buffers b.object).1 (record { maker = m; n = n; buffer = b; is_open = before; critical = pins; holds = refl }) in
+    let of_object : buffers.pins_object p.buffers b.object ≡ true =
+    (pinned_object_law p.buffers b.object).1
+    (record { maker = m; n = n; buffer = b; is_open = before; critical = pins; holds = refl }) in
     named_still s p t env call b.maker b.object b.via kept below apart by_ref (not_going s p b.object (made m n b before).0 of_object) (old m n b before pins)
 
 passed_live : (s : StatedSetup) (p : Parts) (t : Tid) (env : Option EnvId) (call : Call) → Unbroken s p t.0 env call → GlobalsBelow p

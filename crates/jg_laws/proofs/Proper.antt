@@ -35,16 +35,16 @@ use Rattle.jg_policy.specs.Classes.{class_named}
 use Rattle.jg_heap.specs.Reading.{natural}
 use Rattle.jg_words.specs.declared.value.Thrown.TheVariants.{ArrayIndexOutOfBounds, StringIndexOutOfBounds}
 
-pub local_proper : (s : StatedSetup) (p : Parts) (t : Tid) (call : Call) (found : Option ℕ) → needs_env (fun_of call) ≡ true → ProperAnswer s p t call (handed p t Local found)
+local_proper : (s : StatedSetup) (p : Parts) (t : Tid) (call : Call) (found : Option ℕ) → needs_env (fun_of call) ≡ true → ProperAnswer s p t call (handed p t Local found)
 local_proper s p t call None env = tt
 local_proper s p t call (Some o) env = (env, refl, refl)
 
-pub global_proper : (s : StatedSetup) (p : Parts) (t : Tid) (call : Call) (found : Option ℕ) → needs_env (fun_of call) ≡ true → done_by s t.0 call p ≡ p
+global_proper : (s : StatedSetup) (p : Parts) (t : Tid) (call : Call) (found : Option ℕ) → needs_env (fun_of call) ≡ true → done_by s t.0 call p ≡ p
     → ProperAnswer s p t call (handed p t Global found)
 global_proper s p t call None env none = tt
 global_proper s p t call (Some o) env none = (env, refl, refl, none, refl)
 
-pub weak_proper : (s : StatedSetup) (p : Parts) (t : Tid) (call : Call) (found : Option ℕ) → needs_env (fun_of call) ≡ true → done_by s t.0 call p ≡ p
+weak_proper : (s : StatedSetup) (p : Parts) (t : Tid) (call : Call) (found : Option ℕ) → needs_env (fun_of call) ≡ true → done_by s t.0 call p ≡ p
     → ProperAnswer s p t call (handed p t Weak found)
 weak_proper s p t call None env none = tt
 weak_proper s p t call (Some o) env none = (env, refl, refl, none, refl)
@@ -66,7 +66,8 @@ outside_proper : (s : StatedSetup) (p : Parts) (t : Tid) (call : Call) (kind : T
 outside_proper s p t call kind true a env own = (env, refl, refl)
 outside_proper s p t call kind false a env own = own
 
-entered_proper : (s : StatedSetup) (p : Parts) (t : Tid) (call : Call) (operation : Operation) (class found : Option ℕ) → needs_env (fun_of call) ≡ true → ProperAnswer s p t call (admitted s p operation class (handed p t Local found))
+entered_proper : (s : StatedSetup) (p : Parts) (t : Tid) (call : Call) (operation : Operation) (class found : Option ℕ)
+    → needs_env (fun_of call) ≡ true → ProperAnswer s p t call (admitted s p operation class (handed p t Local found))
 entered_proper s p t call operation class None env = tt
 entered_proper s p t call operation class (Some o) env = (env, refl, refl)
 
@@ -83,7 +84,8 @@ field_proper : (s : StatedSetup) (p : Parts) (t : Tid) (call : Call) (found : Op
 field_proper s p t call None env = (env, refl, refl)
 field_proper s p t call (Some field) env = tt
 
-raised_proper : (s : StatedSetup) (p : Parts) (t : Tid) (call : Call) (found : Option ℕ) → needs_env (fun_of call) ≡ true → ProperAnswer s p t call (saying Done (option_map (λ o. record { 0 = o }) found))
+raised_proper : (s : StatedSetup) (p : Parts) (t : Tid) (call : Call) (found : Option ℕ)
+    → needs_env (fun_of call) ≡ true → ProperAnswer s p t call (saying Done (option_map (λ o. record { 0 = o }) found))
 raised_proper s p t call None env = tt
 raised_proper s p t call (Some o) env = env
 

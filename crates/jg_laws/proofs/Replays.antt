@@ -19,7 +19,7 @@ asked_by (Some rule) a t env call = refl
 asked_by None a t env call = refl
 
 -- an entry is of its call
-pub asked_at : (s : StatedSetup) (p : Parts) (t : Tid) (env : Option EnvId) (call : Call) → asked_in (entry_at s p t env call) ≡ record { tid = t; env = env; call = call }
+asked_at : (s : StatedSetup) (p : Parts) (t : Tid) (env : Option EnvId) (call : Call) → asked_in (entry_at s p t env call) ≡ record { tid = t; env = env; call = call }
 asked_at s p t env call = asked_by (verdict s p t.0 env call) (answer s p t call) t env call
 
 Legal-history_of : (s : StatedSetup) (calls : List Asked) → Legal s (history_of s calls)

@@ -212,7 +212,7 @@ done_at-le kind d (a ∷ acts) = grind (arith, nat_tests, done_at-le kind d acts
 pub frames-le : (d t : ℕ) (le : List locals.Event) → frames d (acts_of t le) ≤ length le
 frames-le d t le = omega (arith, done_at-le is_push d (acts_of t le), acts_of-le le t)
 
-pub count_of-le : (k : ℕ) (e : List heap.Event) → heap.count_of k e ≤ k + length e
+count_of-le : (k : ℕ) (e : List heap.Event) → heap.count_of k e ≤ k + length e
 count_of-le k [] = omega arith
 count_of-le k (heap.Made m ∷ e) = omega (arith, count_of-le k e)
 count_of-le k (heap.Wrote o j v ∷ e) = omega (arith, count_of-le k e)

@@ -53,7 +53,7 @@ use Rattle.jg_laws.proofs.Lent.{IsLent, elements_fit, chars_fit, utf_chars_fit, 
 use Rattle.jg_laws.proofs.Proper.{proper}
 
 -- the event makes no global reference
-abbrev pub makes_no_global : globals.Event → Bool
+abbrev makes_no_global : globals.Event → Bool
 makes_no_global (globals.MakeStrong maker n o) = false
 makes_no_global (globals.MakeWeak maker n o) = false
 makes_no_global (globals.DeleteStrong maker n) = true
@@ -122,7 +122,7 @@ heap_steps s P kept = record {
 -- ---- own events
 
 -- a call's own events to the tables other than threads and locals
-abbrev pub elsewhere : StatedSetup → ℕ → Call → Parts → Parts → Parts
+abbrev elsewhere : StatedSetup → ℕ → Call → Parts → Parts → Parts
 elsewhere s t call p q = record q {
   globals = call_globals s p t call ++ q.globals;
   buffers = call_buffers s p t call ++ q.buffers;
@@ -189,9 +189,13 @@ deleting P s steps p t (To Global maker n) old = old
 deleting P s steps p t (To Weak maker n) old = old
 
 -- of a call that opens no buffer
-pub each_done : (P : Parts → Type 0) (s : StatedSetup) → Steps s P → (p : Parts) (t : ℕ) (env : Option EnvId) (call : Call) → Unbroken s p t env call → opens_one (call_buffers s p t call) ≡ false → P p
+pub each_done : (P : Parts → Type 0) (s : StatedSetup) → Steps s P
+    → (p : Parts) (t : ℕ) (env : Option EnvId) (call : Call) → Unbroken s p t env call
+    → opens_one (call_buffers s p t call) ≡ false → P p
     → P (done_by s t call p)
-each_done P s steps p t env (Vm AttachCurrentThread) kept none old = others P s steps t (Vm AttachCurrentThread) p _ none (attaching P s steps p t (threads.attached (threads.acts_of t p.threads)) refl old)
+each_done P s steps p t env (Vm AttachCurrentThread) kept none old =
+    others P s steps t (Vm AttachCurrentThread) p _ none
+    (attaching P s steps p t (threads.attached (threads.acts_of t p.threads)) refl old)
 each_done P s steps p t env (Vm DetachCurrentThread) kept none old = others P s steps t (Vm DetachCurrentThread) p _ none (steps.ends p t old)
 each_done P s steps p t env (Vm GetEnv) kept none old = old
 each_done P s steps p t env (Vm (NativeEnter class method signature)) kept none old =
@@ -224,7 +228,9 @@ each_done P s steps p t env (Arrays call) kept none old = others P s steps t (Ar
 each_done P s steps p t env (Monitors call) kept none old = others P s steps t (Monitors call) p p none old
 each_done P s steps p t env (Buffers call) kept none old = others P s steps t (Buffers call) p p none old
 
-each_if : (P : Parts → Type 0) (s : StatedSetup) → Steps s P → (b : Bool) (p : Parts) (t : ℕ) (env : Option EnvId) (call : Call) → Unbroken s p t env call → opens_one (call_buffers s p t call) ≡ false → P p → P (done_if b s t call p)
+each_if : (P : Parts → Type 0) (s : StatedSetup) → Steps s P
+    → (b : Bool) (p : Parts) (t : ℕ) (env : Option EnvId) (call : Call) → Unbroken s p t env call
+    → opens_one (call_buffers s p t call) ≡ false → P p → P (done_if b s t call p)
 each_if P s steps true p t env call kept none old = each_done P s steps p t env call kept none old
 each_if P s steps false p t env call kept none old = old
 

@@ -15,7 +15,7 @@ parts_one s (Passed reply) x h k is e = ap (after s x.tid.0 x.call x.outcome x.o
 parts_one s (Denied rule) x h k is e = rw is e
 
 -- denied entries change nothing that later ones see
-pub parts-passed_only : (s : StatedSetup) (h : List Entry) → parts s (passed_only h) ≡ parts s h
+parts-passed_only : (s : StatedSetup) (h : List Entry) → parts s (passed_only h) ≡ parts s h
 parts-passed_only s [] = refl
 parts-passed_only s (x ∷ h) = parts_one s x.outcome x h (passed_only h) refl (parts-passed_only s h)
 

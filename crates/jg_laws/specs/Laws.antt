@@ -16,7 +16,8 @@ use Rattle.jg_threads.specs.History as threads
 use Rattle.jg_locals.specs.History as locals
 use Rattle.jg_heap.specs.History as heap
 use Rattle.jg_heap.specs.Making.{Making, Plain, Text, Filled, Opaque}
-use Rattle.jg_heap.specs.Making.{array_class, class_in, units_in, length_in, IsPrimitiveArray}
+use Rattle.jg_heap.specs.Making.{class_in, units_in, length_in, IsPrimitiveArray}
+use Rattle.jg_words.specs.Classes.{array_class}
 use Rattle.jg_heap.specs.Spelling.{spelt}
 use Rattle.jg_buffers.specs.History as buffers
 use Rattle.jg_buffers.specs.Laws.{CriticalBuffer}
@@ -33,24 +34,29 @@ use Rattle.jg_rules.specs.Legal.{Legal, Asked, history_of}
 use Rattle.jg_laws.specs.Histories.{passed_only, reference_of, WasHandedOut, IsHistoryOf}
 use Rattle.jg_laws.specs.Touching.{NamesObject, Touches}
 
+-- (proofs/Fresh.antt)
 abbrev pub ReferencesCounted : Type 0
 ReferencesCounted = (s : StatedSetup) (h : List Entry) (kind : Kind) (maker : Tid) (n : ℕ) → Legal s h
     → WasHandedOut (To kind maker n) h → n < next_ref (parts s h) maker.0
 
+-- (proofs/Fresh.antt)
 abbrev pub NoReferenceTwice : Type 0
 NoReferenceTwice = (s : StatedSetup) (later : List Entry) (x : Entry) (before : List Entry) (r : Ref)
     → Legal s (later ++ x ∷ before) → reference_of x.outcome ≡ Some r → ¬ WasHandedOut r before
 
 -- from the oldest part on: named an object, then none, then still none
+-- (proofs/Fresh.antt)
 abbrev pub NoReferenceRevived : Type 0
 NoReferenceRevived = (s : StatedSetup) (newest later first : List Entry) (t o : ℕ) (r : Ref)
     → Legal s (newest ++ (later ++ first))
     → object_named (parts s first) t r ≡ Some o → object_named (parts s (later ++ first)) t r ≡ None
     → object_named (parts s (newest ++ (later ++ first))) t r ≡ None
 
+-- (proofs/WithoutDenied.antt)
 abbrev pub DeniedEntriesDoNothing : Type 0
 DeniedEntriesDoNothing = (s : StatedSetup) (h : List Entry) → Legal s h → Legal s (passed_only h)
 
+-- (proofs/Replays.antt)
 abbrev pub OneHistoryForTheCalls : Type 0
 OneHistoryForTheCalls = (s : StatedSetup) (calls : List Asked) → IsHistoryOf s calls (history_of s calls)
 
@@ -71,6 +77,7 @@ pub record AgreeInNatives (of_threads : List threads.Act) (of_locals : List loca
   pub none_left : threads.attached of_threads ≡ false
       → threads.how_many threads.is_leave (threads.since of_threads) ≡ 0
 
+-- (proofs/Kept.antt)
 abbrev pub DepthsAgree : Type 0
 DepthsAgree = (s : StatedSetup) (h : List Entry) (t : ℕ) → Legal s h
     → Agree (threads.acts_of t (parts s h).threads) (locals.acts_of t (parts s h).locals)
@@ -90,11 +97,13 @@ MakesStated s (heap.Collected roots) = Unit {0}
 MakesStated s (heap.Went o) = Unit {0}
 
 -- an object of a class of the setup has the fields that the setup states for the class
+-- (proofs/Natives.antt)
 abbrev pub FieldsAreStated : Type 0
 FieldsAreStated = (s : StatedSetup) (h : List Entry) (o : ℕ) → Legal s h → 10 ≤ class_of s (parts s h) o
     → length_of s (parts s h) o ≡ length (fields_in (class_at s (class_of s (parts s h) o)))
 
 -- a native method that was entered was linked then, and its class was not refused native access
+-- (proofs/Natives.antt)
 abbrev pub EnteredWasLinked : Type 0
 EnteredWasLinked = (s : StatedSetup) (later : List Entry) (x : Entry) (before : List Entry)
     (class method signature : List ℕ) (reply : Reply) → Legal s (later ++ x ∷ before)
@@ -103,6 +112,7 @@ EnteredWasLinked = (s : StatedSetup) (later : List Entry) (x : Entry) (before : 
     × (refuses s Link (class_named s class) ≡ false)
 
 -- two owners of a monitor are one
+-- (proofs/Owners.antt)
 abbrev pub OneOwner : Type 0
 OneOwner = (s : StatedSetup) (h : List Entry) (t u o : ℕ) → Legal s h
     → 0 < monitors.count (parts s h).monitors t o → 0 < monitors.count (parts s h).monitors u o → t ≡ u
@@ -112,11 +122,13 @@ abbrev pub is_gone : StatedSetup → List Entry → ℕ → Bool
 is_gone s h o = heap.gone_at (class_count s) (parts s h).heap o
 
 -- what went stays gone
+-- (proofs/HandedHere.antt)
 abbrev pub StaysGone : Type 0
 StaysGone = (s : StatedSetup) (later before : List Entry) (o : ℕ) → Legal s (later ++ before)
     → is_gone s before o ≡ true → is_gone s (later ++ before) o ≡ true
 
 -- what a live reference names isn't gone
+-- (proofs/HandedHere.antt)
 abbrev pub LiveIsNotGone : Type 0
 LiveIsNotGone = (s : StatedSetup) (h : List Entry) (t o : ℕ) (r : Ref) → Legal s h
     → object_named (parts s h) t r ≡ Some o → is_gone s h o ≡ false
@@ -134,11 +146,13 @@ abbrev pub FitsObject : ℕ → List heap.Event → buffers.Buffer → Type 0
 FitsObject k e b = (b.object < heap.count_of k e) × FitsMaking b.family (heap.making_at k e b.object) b.length
 
 -- an open buffer has as many items as its object, which is of the family's type
+-- (proofs/Lending.antt)
 abbrev pub BuffersFit : Type 0
 BuffersFit = (s : StatedSetup) (h : List Entry) (maker n : ℕ) (b : buffers.Buffer) → Legal s h
     → buffers.opened (parts s h).buffers maker n ≡ Some b → FitsObject (class_count s) (parts s h).heap b
 
 -- the reference through which an open critical buffer was made names the buffer's object for its maker
+-- (proofs/Pinning.antt)
 abbrev pub PinsAreLive : Type 0
 PinsAreLive = (s : StatedSetup) (h : List Entry) (maker n : ℕ) (b : buffers.Buffer) → Legal s h
     → buffers.opened (parts s h).buffers maker n ≡ Some b → buffers.is_critical b.family ≡ true
@@ -153,11 +167,13 @@ abbrev pub Reaches : Parts → ℕ → Call → ℕ → Type 0
 Reaches p t call o = NamesObject p t call o ⊎ HasPin p t o
 
 -- what an entry touches, it reaches by a live reference
+-- (proofs/Touching.antt)
 abbrev pub TouchesLive : Type 0
 TouchesLive = (s : StatedSetup) (later : List Entry) (x : Entry) (before : List Entry) (o : ℕ)
     → Legal s (later ++ x ∷ before) → Touches s before x o → Reaches (parts s before) x.tid.0 x.call o
 
 -- what an entry touches isn't gone
+-- (proofs/Touching.antt)
 abbrev pub TouchesNothingGone : Type 0
 TouchesNothingGone = (s : StatedSetup) (later : List Entry) (x : Entry) (before : List Entry) (o : ℕ)
     → Legal s (later ++ x ∷ before) → Touches s before x o → is_gone s before o ≡ false

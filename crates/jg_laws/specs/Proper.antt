@@ -25,8 +25,8 @@ opens_one (buffers.Closed maker n ∷ e) = opens_one e
 opens_one (buffers.ReleaseAll maker ∷ e) = opens_one e
 
 -- a call that takes an environment hands out its thread's next local; one that does nothing else hands out the next
--- global or weak one; one that opens a buffer lends the thread's next; the exception that a call throws is the next object; where nothing is done of the call's own,
--- nothing is warned of
+-- global or weak one; one that opens a buffer lends the thread's next; the exception that a call throws is the next
+-- object; where nothing is done of the call's own, nothing is warned of
 abbrev pub IsProper : StatedSetup → Parts → Tid → Call → Value → Bool → Option ObjId → Type 0
 IsProper s p t call (Reference r) warned None = ⊥
 IsProper s p t call (Reference Null) warned (Some o) = ⊥

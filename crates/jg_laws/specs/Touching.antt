@@ -36,7 +36,7 @@ WritesSlotOf o (heap.Went p) = ⊥
 -- the call writes a slot of the object, which is a field or an item: itself, by a release that copies back, or through
 -- a critical buffer (JNI Specification, chapter 4, "Accessing Fields of Objects", "Array Operations"). A call that
 -- threw writes nothing
-abbrev pub WritesObject : StatedSetup → Parts → ℕ → Call → Value → ℕ → Type 0
+abbrev WritesObject : StatedSetup → Parts → ℕ → Call → Value → ℕ → Type 0
 WritesObject s p t call value o = Any (WritesSlotOf o) (if_effective (is_effective value) (call_heap s p t call))
 
 -- the buffer is a critical one of the object: its items are the object's (JNI Specification, chapter 4,
@@ -52,11 +52,11 @@ OpensPinOf o (buffers.Closed maker n) = ⊥
 OpensPinOf o (buffers.ReleaseAll maker) = ⊥
 
 -- the call opens a critical buffer of the object
-abbrev pub PinsObject : StatedSetup → Parts → ℕ → Call → Value → ℕ → Type 0
+abbrev PinsObject : StatedSetup → Parts → ℕ → Call → Value → ℕ → Type 0
 PinsObject s p t call value o = Any (OpensPinOf o) (if_effective (is_effective value) (call_buffers s p t call))
 
 -- the buffer that a call releases, reads or writes
-abbrev pub buffers_used : BuffersCall → Option BufId
+abbrev buffers_used : BuffersCall → Option BufId
 buffers_used (GetArrayElements element r) = None
 buffers_used (ReleaseArrayElements element r b mode) = Some b
 buffers_used (GetStringChars r) = None

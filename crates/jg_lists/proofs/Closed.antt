@@ -41,7 +41,8 @@ module _ {V : Type 0} where
       (IsPermutation-trans (of t ++ (of a ++ named l)) (of t ++ (own ++ rest)) (own ++ (of t ++ rest))
       (IsPermutation-append_right (of t) (of a ++ named l) (own ++ rest) (exchanged a l i d (omega (arith, inside)))) (turned (of t) own rest))
 
-  swapped_by : (l : List (ℕ × List (ℕ × V))) (i j : ℕ) (d : ℕ × List (ℕ × V)) → i < length l → j < length l → (i ≡ j) ⊎ (i ≢ j) → IsPermutation (named l) (named (slice_set (slice_set l i (get_or l j d)) j (get_or l i d)))
+  swapped_by : (l : List (ℕ × List (ℕ × V))) (i j : ℕ) (d : ℕ × List (ℕ × V)) → i < length l → j < length l → (i ≡ j) ⊎ (i ≢ j)
+      → IsPermutation (named l) (named (slice_set (slice_set l i (get_or l j d)) j (get_or l i d)))
   swapped_by l i j d i_in j_in (inl same) =
       let unchanged : slice_set (slice_set l i (get_or l j d)) j (get_or l i d) ≡ l =
       ap (λ k. slice_set (slice_set l i (get_or l k d)) k (get_or l i d)) (sym same) ∙ set-set l i (get_or l i d) (get_or l i d) ∙ set-get_or l i d in
@@ -68,7 +69,7 @@ module _ {V : Type 0} where
   swapped (d ∷ l) i j i_in j_in = swapped_by (d ∷ l) i j d i_in j_in (cases_eq i j)
 
   -- the tables in another order have the same entries in another order
-  pub named-IsPermutation : (old new : List (ℕ × List (ℕ × V))) → IsPermutation old new → IsPermutation (named old) (named new)
+  named-IsPermutation : (old new : List (ℕ × List (ℕ × V))) → IsPermutation old new → IsPermutation (named old) (named new)
   named-IsPermutation old new moves =
       IsPermutation-keeps old (λ l. IsPermutation (named old) (named l)) (IsPermutation-refl (named old))
       (λ l i j i_in j_in so_far. IsPermutation-trans (named old) (named l) (named (swap l i j)) so_far (swapped l i j i_in j_in)) new moves

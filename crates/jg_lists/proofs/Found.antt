@@ -53,13 +53,15 @@ name_where p tables = option_map (λ e. e.0) (find (λ e. p e.1) (named tables))
 
 module _ {V : Type 0} (p : V → Bool) where
   -- it is one table's, or else that of the others
-  name_first : (maker : ℕ) (es : List (ℕ × V)) (tables : List (ℕ × List (ℕ × V))) → name_where p ((maker, es) ∷ tables) ≡ option_or (option_map {U = Name} (λ n. (maker, n)) (number_where p es)) (name_where p tables)
+  name_first : (maker : ℕ) (es : List (ℕ × V)) (tables : List (ℕ × List (ℕ × V)))
+      → name_where p ((maker, es) ∷ tables) ≡ option_or (option_map {U = Name} (λ n. (maker, n)) (number_where p es)) (name_where p tables)
   name_first maker es tables =
       ap (option_map (λ (e : Name × V). e.0)) (find-append (λ (e : Name × V). p e.1) (entries maker es) (named tables))
       ∙ either (find (λ (e : Name × V). p e.1) (entries maker es)) (find (λ (e : Name × V). p e.1) (named tables))
       ∙ ap (λ own. option_or own (name_where p tables)) (sym (found_in (λ (e : ℕ × V). ((maker, e.0), e.1)) (λ e. p e.1) (λ e. e.0) es) ∙ inside (find (λ e. p e.1) es))
     where
-      either : (own later : Option (Name × V)) → option_map (λ (e : Name × V). e.0) (option_or own later) ≡ option_or (option_map (λ (e : Name × V). e.0) own) (option_map (λ (e : Name × V). e.0) later)
+      either : (own later : Option (Name × V))
+          → option_map (λ (e : Name × V). e.0) (option_or own later) ≡ option_or (option_map (λ (e : Name × V). e.0) own) (option_map (λ (e : Name × V). e.0) later)
       either None later = refl
       either (Some e) later = refl
 
@@ -69,7 +71,8 @@ module _ {V : Type 0} (p : V → Bool) where
 
   module _ (seats : List (Numbered (List (ℕ × V)))) (i : ℕ) (d : Numbered (List (ℕ × V))) (within : i < length seats)
       (rest : name_where p (map seen (drop i seats)) ≡ name_where p (map seen seats)) where
-    from_here : option_or (option_map {U = Name} (λ n. ((get_or seats i d).number, n)) (number_where p (get_or seats i d).value)) (name_where p (map seen (drop (i + 1) seats))) ≡ name_where p (map seen seats)
+    from_here : option_or (option_map {U = Name} (λ n. ((get_or seats i d).number, n)) (number_where p (get_or seats i d).value)) (name_where p (map seen (drop (i + 1) seats)))
+        ≡ name_where p (map seen seats)
     from_here =
         sym (name_first (get_or seats i d).number (get_or seats i d).value (map seen (drop (i + 1) seats)))
         ∙ sym (at_drop_more (λ l. name_where p (map seen l)) seats i d within) ∙ rest
@@ -83,5 +86,5 @@ module _ {V : Type 0} (p : V → Bool) where
     name_here n found = ap (λ own. option_or (option_map {U = Name} (λ k. ((get_or seats i d).number, k)) own) (name_where p (map seen (drop (i + 1) seats)))) found ∙ from_here
 
   -- no table is left
-  pub name_nowhere : (seats : List (Numbered (List (ℕ × V)))) (i : ℕ) → length seats ≤ i → name_where p (map seen (drop i seats)) ≡ name_where p (map seen seats) → None ≡ name_where p (map seen seats)
+  name_nowhere : (seats : List (Numbered (List (ℕ × V)))) (i : ℕ) → length seats ≤ i → name_where p (map seen (drop i seats)) ≡ name_where p (map seen seats) → None ≡ name_where p (map seen seats)
   name_nowhere seats i past rest = sym (at_drop_all (λ l. name_where p (map seen l)) seats i past) ∙ rest

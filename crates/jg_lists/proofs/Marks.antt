@@ -40,7 +40,7 @@ within_or_past marks i o (inr past) =
     rw (slice_get_past (slice_set marks i true) o new, slice_get_past marks o past) refl
 
 -- one mark is set
-pub marked : (marks : List Bool) (i : ℕ) → Marks (λ o. i == o) (slice_get marks) (slice_get (slice_set marks i true))
+marked : (marks : List Bool) (i : ℕ) → Marks (λ o. i == o) (slice_get marks) (slice_get (slice_set marks i true))
 marked marks i o = within_or_past marks i o (cases_lt o (length marks))
 
 marked_twice : (a b : Bool) (mark : Option Bool) → option_map (λ m. m || b) (option_map (λ m. m || a) mark) ≡ option_map (λ m. m || (a || b)) mark
@@ -61,7 +61,7 @@ pub length-but_last : (turns : List ℕ) → length (but_last turns) ≡ length 
 length-but_last turns = length-take-le (length turns - 1) turns (omega arith)
 
 -- a mark is set in this turn
-pub noted : (turns : List ℕ) (turn i : ℕ) → Marks (λ o. i == o) (slice_get (map (λ t. t == turn) turns)) (slice_get (map (λ t. t == turn) (slice_set turns i turn)))
+noted : (turns : List ℕ) (turn i : ℕ) → Marks (λ o. i == o) (slice_get (map (λ t. t == turn) turns)) (slice_get (map (λ t. t == turn) (slice_set turns i turn)))
 noted turns turn i =
     let now : (turn == turn) ≡ true = grind (arith, nat_tests) in
     rw (map-set (λ t. t == turn) turns i turn, now) (marked (map (λ t. t == turn) turns) i)
@@ -92,7 +92,7 @@ passed_by turns turn i o past (inr out) =
     without_mark (slice_get (map (λ t. t == turn) turns) o) (i == o) (slice_get_past (map (λ t. t == turn) turns) o none)
 
 -- an object without a mark is passed over
-pub passed_over : (turns : List ℕ) (turn i : ℕ) → length turns ≤ i → Marks (λ o. i == o) (slice_get (map (λ t. t == turn) turns)) (slice_get (map (λ t. t == turn) turns))
+passed_over : (turns : List ℕ) (turn i : ℕ) → length turns ≤ i → Marks (λ o. i == o) (slice_get (map (λ t. t == turn) turns)) (slice_get (map (λ t. t == turn) turns))
 passed_over turns turn i past o = passed_by turns turn i o past (cases_lt o (length turns))
 
 -- an object is noted at its place, or at the last if that is of no object
@@ -132,9 +132,11 @@ pub unset : (turns : List ℕ) (turn o : ℕ) → All (λ t. t < turn) turns →
 unset turns turn o past = unset_or_past turns turn o past (cases_lt o (length turns))
 
 -- the marks of objects in a row, as the turns of their places tell
-pub set_from : (turns : List ℕ) (turn first n i : ℕ) → i < n → first + n ≤ length turns - 1 → (get_or (take (first + n - first) (drop first turns)) i 0 == turn) ≡ get_or (marks_in turn turns) (first + i) false
+pub set_from : (turns : List ℕ) (turn first n i : ℕ) → i < n → first + n ≤ length turns - 1
+    → (get_or (take (first + n - first) (drop first turns)) i 0 == turn) ≡ get_or (marks_in turn turns) (first + i) false
 set_from turns turn first n i within marked =
-    ap (λ t. t == turn) (get_or-take (first + n - first) (drop first turns) i 0 (omega (arith, within)) ∙ get_or-drop first turns i 0 ∙ sym (get_or-take (length turns - 1) turns (first + i) 0 (omega (arith, within, marked))))
+    ap (λ t. t == turn) (get_or-take (first + n - first) (drop first turns) i 0 (omega (arith, within)) ∙ get_or-drop first turns i 0
+    ∙ sym (get_or-take (length turns - 1) turns (first + i) 0 (omega (arith, within, marked))))
     ∙ sym (get_or-map (λ t. t == turn) (but_last turns) (first + i) 0 false (omega (arith, within, marked, length-but_last turns)))
 
 -- marks that are set in two turns
@@ -175,5 +177,6 @@ none_before b (Some m) none = cc
 pub marks_length : (test : ℕ → Bool) (old new : List Bool) → Marks test (slice_get old) (slice_get new) → length new ≡ length old
 marks_length test old new are =
     let fewer : length new ≤ length old = past_of_none new false (length old) (are (length old) ∙ ap (option_map (λ m. m || test (length old))) (slice_get_past old (length old) (omega arith))) in
-    let more : length old ≤ length new = past_of_none old false (length new) (none_before (test (length new)) (slice_get old (length new)) (sym (are (length new)) ∙ slice_get_past new (length new) (omega arith))) in
+    let more : length old ≤ length new =
+    past_of_none old false (length new) (none_before (test (length new)) (slice_get old (length new)) (sym (are (length new)) ∙ slice_get_past new (length new) (omega arith))) in
     omega (arith, fewer, more)

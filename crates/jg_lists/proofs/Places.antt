@@ -37,7 +37,7 @@ numbers_apart places numbers placed i j d before within =
     let both : i + 1 ≡ j + 1 = sym first ∙ ap (λ n. get_or places n 0) alike ∙ last in
     omega (arith, both, before))
 
-pub numbers_once : (places numbers : List ℕ) → Placed places numbers → IsDistinct (eq_by_cmp nat_cmp) numbers
+numbers_once : (places numbers : List ℕ) → Placed places numbers → IsDistinct (eq_by_cmp nat_cmp) numbers
 numbers_once places numbers placed = IsDistinct-from_apart (eq_by_cmp nat_cmp) numbers (numbers_apart places numbers placed)
 
 pub placed_none : Placed [] []
@@ -86,7 +86,8 @@ placed_held old numbers n placed inside u i (inr differ) at =
     let was = placed.held u i (sym (get_or-set_other old n u (length numbers + 1) 0 differ) ∙ at) in
     (omega (arith, was.0, length-append numbers (n ∷ [])), get_or_append_left numbers (n ∷ []) 0 i was.0 ∙ was.1)
 
-pub placed_one : (old numbers new : List ℕ) (n count : ℕ) → Placed old numbers → get_or old n 0 ≡ 0 → n < length old → new ≡ numbers ++ n ∷ [] → count ≡ length numbers + 1 → Placed (slice_set old n count) new
+placed_one : (old numbers new : List ℕ) (n count : ℕ) → Placed old numbers → get_or old n 0 ≡ 0 → n < length old
+    → new ≡ numbers ++ n ∷ [] → count ≡ length numbers + 1 → Placed (slice_set old n count) new
 placed_one old numbers new n count placed none inside is many =
     subst (λ l. Placed (slice_set old n count) l) (sym is) (subst (λ c. Placed (slice_set old n c) (numbers ++ n ∷ [])) (sym many) (record {
       found = λ i own. placed_found old numbers n placed none inside i (cases_lt i (length numbers)) own;
@@ -143,7 +144,8 @@ module _ (old numbers left : List ℕ) (n i : ℕ) (placed : Placed old numbers)
       let behind : get_or numbers j 0 ≢ last = λ e. omega (arith, sym place ∙ ap (λ k. get_or old k 0) e ∙ last_at, inside) in
       ap (λ k. get_or less k 0) number ∙ by (kept (get_or numbers j 0) other (inr behind)) behind ∙ place
     where
-      by : ((get_or numbers j 0 ≡ last) × (get_or less (get_or numbers j 0) 0 ≡ i + 1)) ⊎ ((get_or numbers j 0 ≢ last) × (get_or less (get_or numbers j 0) 0 ≡ get_or old (get_or numbers j 0) 0)) → get_or numbers j 0 ≢ last
+      by : ((get_or numbers j 0 ≡ last) × (get_or less (get_or numbers j 0) 0 ≡ i + 1)) ⊎ ((get_or numbers j 0 ≢ last) × (get_or less (get_or numbers j 0) 0 ≡ get_or old (get_or numbers j 0) 0))
+          → get_or numbers j 0 ≢ last
           → get_or less (get_or numbers j 0) 0 ≡ get_or old (get_or numbers j 0) 0
       by (inl here) behind = absurd (behind here.0)
       by (inr there) behind = there.1
@@ -165,18 +167,18 @@ module _ (old numbers left : List ℕ) (n i : ℕ) (placed : Placed old numbers)
           let inside : j < length left = omega (arith, was.0, is.count, before) in
           (inside, is.others j differ inside ∙ was.1)
 
-  pub placed_less : Placed less left
+  placed_less : Placed less left
   placed_less = record {
     found = λ j inside. less_found j (cases_eq j i) inside;
     held = λ m j here. less_held m j (cases_eq m n) here;
   }
 
-  pub gone : get_or less n 0 ≡ 0
+  gone : get_or less n 0 ≡ 0
   gone = get_or-set_same moved_last n 0 0 n_inside
 
 -- ---- two seats swapped
 
-pub placed_swapped : (old new numbers moved : List ℕ) (i j : ℕ) → i < length numbers → j < length numbers → Placed old numbers → Swaps numbers moved i j → length moved ≡ length numbers
+placed_swapped : (old new numbers moved : List ℕ) (i j : ℕ) → i < length numbers → j < length numbers → Placed old numbers → Swaps numbers moved i j → length moved ≡ length numbers
     → SwappedAt old new (get_or numbers i 0) (get_or numbers j 0) → Placed new moved
 placed_swapped old new numbers moved i j i_in j_in placed seats same places = record {
   found = λ k inside. found_by k (cases_eq k i) (cases_eq k j) (omega (arith, inside, same));
@@ -195,7 +197,8 @@ placed_swapped old new numbers moved i j i_in j_in placed seats same places = re
         ap (λ n. get_or new n 0) (seats.others k 0 one other)
         ∙ places.2 (get_or numbers k 0) 0 (apart_from k i inside i_in one) (apart_from k j inside j_in other) ∙ placed.found k inside
 
-    held_by : (m k : ℕ) → (m ≡ get_or numbers i 0) ⊎ (m ≢ get_or numbers i 0) → (m ≡ get_or numbers j 0) ⊎ (m ≢ get_or numbers j 0) → get_or new m 0 ≡ k + 1 → (k < length moved) × (get_or moved k 0 ≡ m)
+    held_by : (m k : ℕ) → (m ≡ get_or numbers i 0) ⊎ (m ≢ get_or numbers i 0) → (m ≡ get_or numbers j 0) ⊎ (m ≢ get_or numbers j 0)
+        → get_or new m 0 ≡ k + 1 → (k < length moved) × (get_or moved k 0 ≡ m)
     held_by m k (inl one) other here =
         let is : k ≡ j = omega (arith, sym here ∙ ap (λ n. get_or new n 0) one ∙ places.0 0 ∙ placed.found j j_in) in
         (omega (arith, is, j_in, same), ap (λ l. get_or moved l 0) is ∙ seats.second 0 ∙ sym one)
@@ -234,12 +237,14 @@ module _ {V : Type 0} where
       let inside : place - 1 < length (map number_of seats) = (placed.held n (place - 1) at).0 in
       simp length-map at inside
 
-  pub own_seat : (places : List ℕ) (seats : List (Numbered V)) (n place : ℕ) (d : Numbered V) → Placed places (map number_of seats) → place ≡ get_or places n 0 → 1 ≤ place → number_of (get_or seats (place - 1) d) ≡ n
+  pub own_seat : (places : List ℕ) (seats : List (Numbered V)) (n place : ℕ) (d : Numbered V) → Placed places (map number_of seats)
+      → place ≡ get_or places n 0 → 1 ≤ place → number_of (get_or seats (place - 1) d) ≡ n
   own_seat places seats n place d placed is some =
       let at : get_or places n 0 ≡ (place - 1) + 1 = sym is ∙ omega (arith, some) in
       sym (get_or-map number_of seats (place - 1) d 0 (within places seats n place placed is some)) ∙ (placed.held n (place - 1) at).1
 
-  pub found : (places : List ℕ) (seats : List (Numbered V)) (es : List (ℕ × V)) (n place : ℕ) (d : Numbered V) → Placed places (map number_of seats) → map seen seats ≡ es → place ≡ get_or places n 0 → 1 ≤ place
+  pub found : (places : List ℕ) (seats : List (Numbered V)) (es : List (ℕ × V)) (n place : ℕ) (d : Numbered V)
+      → Placed places (map number_of seats) → map seen seats ≡ es → place ≡ get_or places n 0 → 1 ≤ place
       → at n es ≡ Some (get_or seats (place - 1) d).value
   found places seats es n place d placed seen_is is some =
       subst (λ l. at n l ≡ Some (get_or seats (place - 1) d).value) seen_is
@@ -250,10 +255,12 @@ module _ {V : Type 0} where
       subst (λ l. at n l ≡ None) seen_is (not_there seats n (none_at places (map number_of seats) n placed (sym none)))
 
   -- a number with a value has a place
-  pub has_place : (places : List ℕ) (seats : List (Numbered V)) (es : List (ℕ × V)) (n place : ℕ) → Placed places (map number_of seats) → map seen seats ≡ es → place ≡ get_or places n 0 → IsSome (at n es) → 1 ≤ place
+  pub has_place : (places : List ℕ) (seats : List (Numbered V)) (es : List (ℕ × V)) (n place : ℕ) → Placed places (map number_of seats)
+      → map seen seats ≡ es → place ≡ get_or places n 0 → IsSome (at n es) → 1 ≤ place
   has_place places seats es n place placed seen_is is some = by_place place (at n es) some (λ none. not_found places seats es n placed seen_is (none ∙ is))
 
-  pub written : (places : List ℕ) (seats : List (Numbered V)) (es : List (ℕ × V)) (n place : ℕ) (d x : Numbered V) (w : V) → Placed places (map number_of seats) → map seen seats ≡ es → place ≡ get_or places n 0 → 1 ≤ place
+  pub written : (places : List ℕ) (seats : List (Numbered V)) (es : List (ℕ × V)) (n place : ℕ) (d x : Numbered V) (w : V)
+      → Placed places (map number_of seats) → map seen seats ≡ es → place ≡ get_or places n 0 → 1 ≤ place
       → seen x ≡ (n, w) → map seen (slice_set seats (place - 1) x) ≡ set_value (is_at (nat_cmp n)) es w
   written places seats es n place d x w placed seen_is is some mine =
       set_in seats (place - 1) n d x w (numbers_once places (map number_of seats) placed) (within places seats n place placed is some) (own_seat places seats n place d placed is some) mine
@@ -265,7 +272,8 @@ module _ {V : Type 0} where
   placed_written places seats i d x placed inside own = subst (Placed places) (sym (same_numbers seats i d x inside own)) placed
 
   -- a seat more, of a number that had none
-  pub placed_more : (old : List ℕ) (seats new : List (Numbered V)) (es : List (ℕ × V)) (n count : ℕ) (x : Numbered V) → Placed old (map number_of seats) → map seen seats ≡ es → at n es ≡ None → n < length old
+  pub placed_more : (old : List ℕ) (seats new : List (Numbered V)) (es : List (ℕ × V)) (n count : ℕ) (x : Numbered V)
+      → Placed old (map number_of seats) → map seen seats ≡ es → at n es ≡ None → n < length old
       → number_of x ≡ n → new ≡ seats ++ x ∷ [] → count ≡ length new → Placed (slice_set old n count) (map number_of new)
   placed_more old seats new es n count x placed seen_is absent inside own is many =
       placed_one old (map number_of seats) (map number_of new) n count placed
@@ -281,7 +289,8 @@ module _ {V : Type 0} where
       subst (λ k. k < length places) (get_or-map number_of seats i x 0 inside ∙ sym (ap number_of own)) (beyond places (get_or (map number_of seats) i 0) i place)
 
   -- the entry at a number's place is the number's
-  pub seat_of : (places : List ℕ) (seats : List (Numbered V)) (es : List (ℕ × V)) (n place : ℕ) → Placed places (map number_of seats) → map seen seats ≡ es → place ≡ get_or places n 0 → 1 ≤ place → IsSeatOf n (place - 1) es
+  pub seat_of : (places : List ℕ) (seats : List (Numbered V)) (es : List (ℕ × V)) (n place : ℕ) → Placed places (map number_of seats)
+      → map seen seats ≡ es → place ≡ get_or places n 0 → 1 ≤ place → IsSeatOf n (place - 1) es
   seat_of places seats es n place placed seen_is is some =
       let at : get_or places n 0 ≡ (place - 1) + 1 = sym is ∙ omega (arith, some) in
       record {
@@ -291,7 +300,8 @@ module _ {V : Type 0} where
 
   -- ---- a seat less
 
-  module _ (places : List ℕ) (seats new : List (Numbered V)) (es : List (ℕ × V)) (n place : ℕ) (x : Numbered V) (placed : Placed places (map number_of seats)) (seen_is : map seen seats ≡ es) (is : place ≡ get_or places n 0)
+  module _ (places : List ℕ) (seats new : List (Numbered V)) (es : List (ℕ × V)) (n place : ℕ) (x : Numbered V)
+      (placed : Placed places (map number_of seats)) (seen_is : map seen seats ≡ es) (is : place ≡ get_or places n 0)
       (some : 1 ≤ place) (at_it : x ≡ get_or seats (place - 1) x) (left : new ≡ swap_remove seats (place - 1) x) where
     there : get_or places n 0 ≡ (place - 1) + 1
     there = sym is ∙ omega (arith, some)
@@ -299,13 +309,13 @@ module _ {V : Type 0} where
     inside_it : place - 1 < length seats
     inside_it = within places seats n place placed is some
 
-    pub without_it : IsWithout (map number_of seats) (map number_of new) (place - 1)
+    without_it : IsWithout (map number_of seats) (map number_of new) (place - 1)
     without_it = seats_without seats new (place - 1) x inside_it left
 
     abbrev left_places : List ℕ
     left_places = slice_set (slice_set places (get_or (map number_of seats) (length (map number_of new)) 0) ((place - 1) + 1)) n 0
 
-    pub placed_left : Placed left_places (map number_of new)
+    placed_left : Placed left_places (map number_of new)
     placed_left = placed_less places (map number_of seats) (map number_of new) n (place - 1) placed without_it there
 
     -- the same, as the code writes the places
@@ -329,7 +339,8 @@ module _ {V : Type 0} where
 
   -- ---- two seats swapped
 
-  pub numbers_swapped : {R : Type 0} (f : Numbered V → R) (seats new : List (Numbered V)) (i j : ℕ) (d : Numbered V) → i < length seats → j < length seats → length new ≡ length seats → SwappedAt seats new i j
+  numbers_swapped : {R : Type 0} (f : Numbered V → R) (seats new : List (Numbered V)) (i j : ℕ) (d : Numbered V)
+      → i < length seats → j < length seats → length new ≡ length seats → SwappedAt seats new i j
       → Swaps (map f seats) (map f new) i j
   numbers_swapped {R} f seats new i j d i_in j_in same swapped = record {
     first = λ r. in_new i r i_in ∙ ap f (swapped.0 d) ∙ sym (get_or-map f seats j d r j_in);
@@ -345,7 +356,8 @@ module _ {V : Type 0} where
       by k r one other (inr past) =
           get_or_past (map f new) k r (omega (arith, past, same, length-map new f)) ∙ sym (get_or_past (map f seats) k r (omega (arith, past, length-map seats f)))
 
-  module _ (places news : List ℕ) (seats new : List (Numbered V)) (es : List (ℕ × V)) (i j : ℕ) (x y : Numbered V) (placed : Placed places (map number_of seats)) (seen_is : map seen seats ≡ es) (i_in : i < length es) (j_in : j < length es)
+  module _ (places news : List ℕ) (seats new : List (Numbered V)) (es : List (ℕ × V)) (i j : ℕ) (x y : Numbered V)
+      (placed : Placed places (map number_of seats)) (seen_is : map seen seats ≡ es) (i_in : i < length es) (j_in : j < length es)
       (first : x ≡ get_or seats i x) (second : y ≡ get_or seats j y) (swapped : new ≡ swap seats i j) (each : SwappedAt seats new i j) where
     i_seat : i < length seats
     i_seat = within_view seats es i seen_is i_in
@@ -361,7 +373,8 @@ module _ {V : Type 0} where
 
     pub swapped_placed : SwappedAt places news (number_of x) (number_of y) → Placed news (map number_of new)
     swapped_placed moved =
-        placed_swapped places news (map number_of seats) (map number_of new) i j (simp length-map i_seat) (simp length-map j_seat) placed (numbers_swapped number_of seats new i j x i_seat j_seat same each)
+        placed_swapped places news (map number_of seats) (map number_of new) i j (simp length-map i_seat)
+        (simp length-map j_seat) placed (numbers_swapped number_of seats new i j x i_seat j_seat same each)
         (omega (arith, same, length-map new number_of, length-map seats number_of))
         (subst (λ k. SwappedAt places news k (get_or (map number_of seats) j 0)) (number_at i x i_seat first) (subst (λ k. SwappedAt places news (number_of x) k) (number_at j y j_seat second) moved))
 

@@ -48,7 +48,7 @@ looked_at count first u P start inside all = by (cases_lt u first)
         let is : spot count first k ≡ u = spot_front count first k (omega (arith, inside, after)) ∙ omega (arith, after) in
         subst P is (all k (omega (arith, inside)))
 
-pub has_room : (xs : List ℕ) (u : ℕ) → 1 ≤ get_or xs u 0 → u < length xs
+has_room : (xs : List ℕ) (u : ℕ) → 1 ≤ get_or xs u 0 → u < length xs
 has_room xs u some = by (cases_lt u (length xs))
   where
     by : (u < length xs) ⊎ (length xs ≤ u) → u < length xs
@@ -96,7 +96,7 @@ filled_all (x ∷ xs) all =
 -- ---- a slot is written
 
 -- a search that found the place finds it, where no slot was made free and each with the place has it still
-pub reaches_by : (old new : List ℕ) (first p : ℕ) → length new ≡ length old → ((u : ℕ) → 1 ≤ get_or old u 0 → 1 ≤ get_or new u 0) → ((u : ℕ) → get_or old u 0 ≡ p → get_or new u 0 ≡ p)
+reaches_by : (old new : List ℕ) (first p : ℕ) → length new ≡ length old → ((u : ℕ) → 1 ≤ get_or old u 0 → 1 ≤ get_or new u 0) → ((u : ℕ) → get_or old u 0 ≡ p → get_or new u 0 ≡ p)
     → Reaches old first p → Reaches new first p
 reaches_by old new first p many still same reach = record {
   steps = reach.steps;
@@ -118,7 +118,7 @@ set_still xs s v u some is = by (cases_eq u s)
 set_other : (xs : List ℕ) (s v u p : ℕ) → get_or xs s 0 ≢ p → get_or xs u 0 ≡ p → get_or (slice_set xs s v) u 0 ≡ p
 set_other xs s v u p differ is = get_or-set_other xs s u v 0 (λ same. differ (ap (λ k. get_or xs k 0) (sym same) ∙ is)) ∙ is
 
-pub written : (old : List ℕ) (s v first p : ℕ) → 1 ≤ v → get_or old s 0 ≢ p → Reaches old first p → Reaches (slice_set old s v) first p
+written : (old : List ℕ) (s v first p : ℕ) → 1 ≤ v → get_or old s 0 ≢ p → Reaches old first p → Reaches (slice_set old s v) first p
 written old s v first p some differ reach =
     reaches_by old (slice_set old s v) first p (length-set old s v) (λ u. set_still old s v u some) (λ u. set_other old s v u p differ) reach
 
@@ -139,7 +139,7 @@ module _ (old : List ℕ) (s first p : ℕ) (start : first < length old) (some :
   kept : (j : ℕ) → j < reach.steps → 1 ≤ get_or (slice_set old s 0) (spot (length old) first j) 0
   kept j b = omega (arith, get_or-set_other old s (spot (length old) first j) 0 0 (past j b (cases_lt (j + 1) reach.steps)), reach.before j b)
 
-  pub freed : get_or old s 0 ≢ p → Reaches (slice_set old s 0) first p
+  freed : get_or old s 0 ≢ p → Reaches (slice_set old s 0) first p
   freed differ = record {
     steps = reach.steps;
     within = omega (arith, length-set old s 0, reach.within);
@@ -148,12 +148,12 @@ module _ (old : List ℕ) (s first p : ℕ) (start : first < length old) (some :
   }
 
 -- what may stand in a slot that hasn't the place
-pub marked : (old : List ℕ) (s mark first p : ℕ) → first < length old → 1 ≤ p → MayStand old s mark → get_or old s 0 ≢ p → Reaches old first p → Reaches (slice_set old s mark) first p
+marked : (old : List ℕ) (s mark first p : ℕ) → first < length old → 1 ≤ p → MayStand old s mark → get_or old s 0 ≢ p → Reaches old first p → Reaches (slice_set old s mark) first p
 marked old s mark first p start some (inl taken) differ reach = written old s mark first p taken differ reach
 marked old s mark first p start some (inr free) differ reach = subst (λ m. Reaches (slice_set old s m) first p) (sym free.0) (freed old s first p start some free.1 reach differ)
 
 -- the search comes to the slot that was written
-pub comes_to : (old : List ℕ) (n slot place : ℕ) → 1 ≤ place → Comes old n slot → Reaches (slice_set old slot place) (home (length (slice_set old slot place)) n) place
+comes_to : (old : List ℕ) (n slot place : ℕ) → 1 ≤ place → Comes old n slot → Reaches (slice_set old slot place) (home (length (slice_set old slot place)) n) place
 comes_to old n slot place some comes =
     let new = slice_set old slot place in
     let many : length old ≡ length new = sym (length-set old slot place) in
@@ -165,8 +165,10 @@ comes_to old n slot place some comes =
     }
 
 -- a number more is found
-pub listed_more : (old new numbers : List ℕ) (seat : ℕ) → length new ≡ length old → ((first p : ℕ) → 1 ≤ p → Reaches old first p → Reaches new first p) → Reaches new (home (length new) (get_or numbers seat 0)) (seat + 1)
-    → ((i : ℕ) → i < seat → i < length numbers → Reaches old (home (length old) (get_or numbers i 0)) (i + 1)) → (i : ℕ) → i < seat + 1 → i < length numbers → Reaches new (home (length new) (get_or numbers i 0)) (i + 1)
+pub listed_more : (old new numbers : List ℕ) (seat : ℕ) → length new ≡ length old → ((first p : ℕ) → 1 ≤ p → Reaches old first p → Reaches new first p)
+    → Reaches new (home (length new) (get_or numbers seat 0)) (seat + 1)
+    → ((i : ℕ) → i < seat → i < length numbers → Reaches old (home (length old) (get_or numbers i 0)) (i + 1))
+    → (i : ℕ) → i < seat + 1 → i < length numbers → Reaches new (home (length new) (get_or numbers i 0)) (i + 1)
 listed_more old new numbers seat many others reach listed i before inside = by (cases_eq i seat)
   where
     by : (i ≡ seat) ⊎ (i ≢ seat) → Reaches new (home (length new) (get_or numbers i 0)) (i + 1)
@@ -182,7 +184,7 @@ pub record Passes (slots numbers : List ℕ) (n u : ℕ) : Type 0 where
   pub taken : 1 ≤ get_or slots u 0
   pub other : (i : ℕ) → i < length numbers → get_or slots u 0 ≡ i + 1 → get_or numbers i 0 ≢ n
 
-pub misses_free : (slots numbers : List ℕ) (n step : ℕ) → ((j : ℕ) → j < step → Passes slots numbers n (spot (length slots) (home (length slots) n) j))
+misses_free : (slots numbers : List ℕ) (n step : ℕ) → ((j : ℕ) → j < step → Passes slots numbers n (spot (length slots) (home (length slots) n) j))
     → get_or slots (spot (length slots) (home (length slots) n) step) 0 ≡ 0 → Misses slots numbers n
 misses_free slots numbers n step passed free i inside reach own = by (cases_lt reach.steps step)
   where
@@ -196,11 +198,11 @@ misses_free slots numbers n step passed free i inside reach own = by (cases_lt r
     by (inl before) = (passed reach.steps before).other i inside reach.here own
     by (inr past) = at_end (cases_eq step reach.steps) past
 
-pub misses_all : (slots numbers : List ℕ) (n : ℕ) → ((j : ℕ) → j < length slots → Passes slots numbers n (spot (length slots) (home (length slots) n) j)) → Misses slots numbers n
+misses_all : (slots numbers : List ℕ) (n : ℕ) → ((j : ℕ) → j < length slots → Passes slots numbers n (spot (length slots) (home (length slots) n) j)) → Misses slots numbers n
 misses_all slots numbers n passed i inside reach own = (passed reach.steps reach.within).other i inside reach.here own
 
 -- a table without slots has no place
-pub misses_empty : (slots numbers : List ℕ) (n : ℕ) → length slots ≡ 0 → Misses slots numbers n
+misses_empty : (slots numbers : List ℕ) (n : ℕ) → length slots ≡ 0 → Misses slots numbers n
 misses_empty slots numbers n none i inside reach own = absurd (omega (arith, none, reach.within))
 
 -- ---- a seat is left
@@ -209,12 +211,13 @@ module _ (old numbers : List ℕ) (slot seat mark : ℕ) (placed : Placed old nu
   abbrev without_place : List ℕ
   without_place = slice_set old slot mark
 
-  pub still_found : (j : ℕ) → j < length numbers → j ≢ seat → Reaches without_place (home (length without_place) (get_or numbers j 0)) (j + 1)
+  still_found : (j : ℕ) → j < length numbers → j ≢ seat → Reaches without_place (home (length without_place) (get_or numbers j 0)) (j + 1)
   still_found j inside other =
       subst (λ c. Reaches without_place (home c (get_or numbers j 0)) (j + 1)) (sym (length-set old slot mark))
-      (marked old slot mark (home (length old) (get_or numbers j 0)) (j + 1) (home_within (length old) (get_or numbers j 0) (omega (arith, found.comes.inside))) (omega arith) may (λ same. other (omega (arith, same, found.place))) (placed.found j inside))
+      (marked old slot mark (home (length old) (get_or numbers j 0)) (j + 1) (home_within (length old) (get_or numbers j 0) (omega (arith, found.comes.inside)))
+      (omega arith) may (λ same. other (omega (arith, same, found.place))) (placed.found j inside))
 
-  pub leaves_none : Misses without_place numbers (get_or numbers (length numbers - 1) 0) → Leaves without_place numbers seat
+  leaves_none : Misses without_place numbers (get_or numbers (length numbers - 1) 0) → Leaves without_place numbers seat
   leaves_none misses = record {
     others = λ j before other. still_found j (omega (arith, before)) other;
     moved = λ before.
@@ -223,7 +226,7 @@ module _ (old numbers : List ℕ) (slot seat mark : ℕ) (placed : Placed old nu
         absurd (misses (length numbers - 1) last reach refl);
   }
 
-  pub leaves_some : (other back : ℕ) → Finds without_place numbers (get_or numbers (length numbers - 1) 0) other back → Leaves (slice_set without_place other (seat + 1)) numbers seat
+  leaves_some : (other back : ℕ) → Finds without_place numbers (get_or numbers (length numbers - 1) 0) other back → Leaves (slice_set without_place other (seat + 1)) numbers seat
   leaves_some other back last =
       let whole : length numbers - 1 < length numbers = omega (arith, last.seated) in
       let own : back ≡ length numbers - 1 = placed.apart back (length numbers - 1) last.seated whole last.own in

@@ -51,7 +51,8 @@ module _ {V : Type 0} where
       sym (get_or-map number_of seats i d 0 (within_view seats es i is inside)) ∙ (ap (λ l. get_or l i 0) (sym (keys_seen seats es is)) ∙ own)
 
   -- the head is another number's, where the seat at a place behind it is the number's
-  other_head : (s : Numbered V) (seats : List (Numbered V)) (i n : ℕ) (d : Numbered V) → IsDistinct (eq_by_cmp nat_cmp) (number_of s ∷ map number_of seats) → i < length seats → number_of (get_or seats i d) ≡ n
+  other_head : (s : Numbered V) (seats : List (Numbered V)) (i n : ℕ) (d : Numbered V)
+      → IsDistinct (eq_by_cmp nat_cmp) (number_of s ∷ map number_of seats) → i < length seats → number_of (get_or seats i d) ≡ n
       → is_at (nat_cmp n) (number_of s) ≡ false
   other_head s seats i n d distinct inside own =
       let all = All-from_recursion (λ y. eq_by_cmp nat_cmp (number_of s) y ≡ false) (map number_of seats) (IsDistinct-head (eq_by_cmp nat_cmp) (number_of s) (map number_of seats) distinct) in
@@ -71,7 +72,8 @@ module _ {V : Type 0} where
       let other = other_head s seats i n d distinct behind own in
       rw other (seat_found seats i n d (IsDistinct-tail (eq_by_cmp nat_cmp) (number_of s) (map number_of seats) distinct) behind own)
 
-  pub found : (slots : List ℕ) (seats : List (Numbered V)) (es : List (ℕ × V)) (n i : ℕ) (d : Numbered V) → Placed slots (map number_of seats) → map seen seats ≡ es → i < length seats → number_of (get_or seats i d) ≡ n
+  pub found : (slots : List ℕ) (seats : List (Numbered V)) (es : List (ℕ × V)) (n i : ℕ) (d : Numbered V)
+      → Placed slots (map number_of seats) → map seen seats ≡ es → i < length seats → number_of (get_or seats i d) ≡ n
       → at n es ≡ Some (get_or seats i d).value
   found slots seats es n i d placed seen_is inside own =
       subst (λ l. at n l ≡ Some (get_or seats i d).value) seen_is (seat_found seats i n d (numbers_once slots (map number_of seats) placed) inside own)
@@ -88,12 +90,14 @@ module _ {V : Type 0} where
       apart (get_or (map number_of seats) i d) n (λ own. differ i inside (sym (get_or_default_zero (map number_of seats) i d inside) ∙ own)) in
       none_in seats n (recursion_from_All (λ k. is_at (nat_cmp n) k ≡ false) (map number_of seats) none)
 
-  pub not_found : (slots : List ℕ) (seats : List (Numbered V)) (es : List (ℕ × V)) (n : ℕ) → Placed slots (map number_of seats) → map seen seats ≡ es → Misses slots (map number_of seats) n → at n es ≡ None
+  pub not_found : (slots : List ℕ) (seats : List (Numbered V)) (es : List (ℕ × V)) (n : ℕ) → Placed slots (map number_of seats)
+      → map seen seats ≡ es → Misses slots (map number_of seats) n → at n es ≡ None
   not_found slots seats es n placed seen_is misses = subst (λ l. at n l ≡ None) seen_is (not_there seats n (misses_each slots (map number_of seats) n placed misses))
 
   -- ---- a value is written
 
-  pub set_in : (seats : List (Numbered V)) (i n : ℕ) (d x : Numbered V) (w : V) → IsDistinct (eq_by_cmp nat_cmp) (map number_of seats) → i < length seats → number_of (get_or seats i d) ≡ n → seen x ≡ (n, w)
+  pub set_in : (seats : List (Numbered V)) (i n : ℕ) (d x : Numbered V) (w : V) → IsDistinct (eq_by_cmp nat_cmp) (map number_of seats)
+      → i < length seats → number_of (get_or seats i d) ≡ n → seen x ≡ (n, w)
       → map seen (slice_set seats i x) ≡ set_value (is_at (nat_cmp n)) (map seen seats) w
   set_in [] i n d x w distinct inside own is = absurd (omega (arith, inside))
   set_in (s ∷ seats) zero n d x w distinct inside own is =
@@ -104,7 +108,8 @@ module _ {V : Type 0} where
       let other = other_head s seats i n d distinct behind own in
       rw other (ap (λ l. seen s ∷ l) (set_in seats i n d x w (IsDistinct-tail (eq_by_cmp nat_cmp) (number_of s) (map number_of seats) distinct) behind own is))
 
-  pub written : (slots : List ℕ) (seats : List (Numbered V)) (es : List (ℕ × V)) (n i : ℕ) (d x : Numbered V) (w : V) → Placed slots (map number_of seats) → map seen seats ≡ es → i < length seats → number_of (get_or seats i d) ≡ n
+  pub written : (slots : List ℕ) (seats : List (Numbered V)) (es : List (ℕ × V)) (n i : ℕ) (d x : Numbered V) (w : V)
+      → Placed slots (map number_of seats) → map seen seats ≡ es → i < length seats → number_of (get_or seats i d) ≡ n
       → seen x ≡ (n, w) → map seen (slice_set seats i x) ≡ set_value (is_at (nat_cmp n)) es w
   written slots seats es n i d x w placed seen_is inside own mine =
       set_in seats i n d x w (numbers_once slots (map number_of seats) placed) inside own mine
@@ -119,7 +124,8 @@ module _ {V : Type 0} where
   -- ---- a number more
 
   -- a seat more, of a number that had none
-  pub placed_more : (old new : List ℕ) (seats more : List (Numbered V)) (es : List (ℕ × V)) (n : ℕ) (x : Numbered V) → Placed old (map number_of seats) → map seen seats ≡ es → at n es ≡ None → number_of x ≡ n → more ≡ seats ++ x ∷ []
+  pub placed_more : (old new : List ℕ) (seats more : List (Numbered V)) (es : List (ℕ × V)) (n : ℕ) (x : Numbered V)
+      → Placed old (map number_of seats) → map seen seats ≡ es → at n es ≡ None → number_of x ≡ n → more ≡ seats ++ x ∷ []
       → length new ≡ length old → ((first p : ℕ) → 1 ≤ p → Reaches old first p → Reaches new first p) → Reaches new (home (length new) n) (length seats + 1) → Placed new (map number_of more)
   placed_more old new seats more es n x placed seen_is absent own is many others reach =
       let numbers : map number_of more ≡ map number_of seats ++ n ∷ [] = ap (map number_of) is ∙ map-append number_of seats (x ∷ []) ∙ ap (λ k. map number_of seats ++ k ∷ []) own in
@@ -134,7 +140,8 @@ module _ {V : Type 0} where
 
   -- ---- a number less
 
-  pub last_number : (seats : List (Numbered V)) (count : ℕ) (last : Numbered V) → count ≡ length seats → 1 ≤ count → last ≡ get_or seats (count - 1) last → number_of last ≡ get_or (map number_of seats) (length (map number_of seats) - 1) 0
+  pub last_number : (seats : List (Numbered V)) (count : ℕ) (last : Numbered V) → count ≡ length seats → 1 ≤ count
+      → last ≡ get_or seats (count - 1) last → number_of last ≡ get_or (map number_of seats) (length (map number_of seats) - 1) 0
   last_number seats count last many some own =
       let same : count - 1 ≡ length (map number_of seats) - 1 = omega (arith, many, length-map seats number_of) in
       ap number_of own ∙ (sym (get_or-map number_of seats (count - 1) last 0 (omega (arith, many, some))) ∙ ap (λ k. get_or (map number_of seats) k 0) same)
@@ -146,7 +153,8 @@ module _ {V : Type 0} where
       subst (λ l. IsWithout (map number_of seats) l i) (sym numbers) (without (map number_of seats) i (number_of x) (simp length-map inside))
 
   -- the pairs are that of the seat, and those that are left
-  pub pairs_less : (seats new : List (Numbered V)) (es : List (ℕ × V)) (n i : ℕ) (x : Numbered V) → i < length seats → x ≡ get_or seats i x → new ≡ swap_remove seats i x → map seen seats ≡ es → number_of x ≡ n
+  pub pairs_less : (seats new : List (Numbered V)) (es : List (ℕ × V)) (n i : ℕ) (x : Numbered V) → i < length seats
+      → x ≡ get_or seats i x → new ≡ swap_remove seats i x → map seen seats ≡ es → number_of x ≡ n
       → IsPermutation es ((n, x.value) ∷ map seen new)
   pairs_less seats new es n i x inside own left seen_is number =
       let pairs : map seen new ≡ swap_remove es i (seen x) =
@@ -156,15 +164,16 @@ module _ {V : Type 0} where
       subst (λ l. IsPermutation es ((n, x.value) ∷ l)) (sym pairs) (subst (λ k. IsPermutation es ((k, x.value) ∷ swap_remove es i (seen x))) number
       (IsPermutation-swap_remove es i (seen x) (omega (arith, length_is, inside)) mine))
 
-  module _ (old slots : List ℕ) (seats new : List (Numbered V)) (n slot i : ℕ) (x : Numbered V) (placed : Placed old (map number_of seats)) (finds : Finds old (map number_of seats) n slot i) (leaves : Leaves slots (map number_of seats) i)
+  module _ (old slots : List ℕ) (seats new : List (Numbered V)) (n slot i : ℕ) (x : Numbered V) (placed : Placed old (map number_of seats))
+      (finds : Finds old (map number_of seats) n slot i) (leaves : Leaves slots (map number_of seats) i)
       (own : x ≡ get_or seats i x) (left : new ≡ swap_remove seats i x) where
     inside : i < length seats
     inside = within old seats n slot i finds
 
-    pub without_seat : IsWithout (map number_of seats) (map number_of new) i
+    without_seat : IsWithout (map number_of seats) (map number_of new) i
     without_seat = seats_without seats new i x inside left
 
-    pub placed_without : Placed slots (map number_of new)
+    placed_without : Placed slots (map number_of new)
     placed_without = placed_less old slots (map number_of seats) (map number_of new) i placed leaves without_seat
 
     pub standing_without : (used : ℕ) → filled slots ≤ used → length seats ≤ used + 1 → used ≤ length slots → Standing slots (map number_of new) used
@@ -176,7 +185,9 @@ module _ {V : Type 0} where
     }
 
     pub none_left : at n (map seen new) ≡ None
-    none_left = not_there new n (subst (λ k. (j : ℕ) → j < length (map number_of new) → get_or (map number_of new) j 0 ≢ k) finds.own (left_differ old slots (map number_of seats) (map number_of new) i placed leaves without_seat finds.seated))
+    none_left =
+        not_there new n (subst (λ k. (j : ℕ) → j < length (map number_of new) → get_or (map number_of new) j 0 ≢ k) finds.own
+        (left_differ old slots (map number_of seats) (map number_of new) i placed leaves without_seat finds.seated))
 
     pub seen_less : (es : List (ℕ × V)) → map seen seats ≡ es → IsPermutation es ((n, x.value) ∷ map seen new)
     seen_less es seen_is = pairs_less seats new es n i x inside own left seen_is (ap number_of own ∙ own_seat old seats n slot i x finds)

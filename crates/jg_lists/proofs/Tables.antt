@@ -248,7 +248,8 @@ taken : {V : Type 0} (q : Name) (v : V) (tables : List (ℕ × List (ℕ × V)))
 taken q v [] was now is moved = cc
 taken q v (table ∷ tables) was now is moved = taken_here q v table tables was now (is_at (nat_cmp q.0) table.0) refl is moved (λ later. taken q v tables was now later moved)
 
-pub taken_through : {V : Type 0} (q : Name) (found : Option V) (tables news : List (ℕ × List (ℕ × V))) (was now : List (ℕ × V)) → at q.0 tables ≡ Some was → news ≡ set_value (is_at (nat_cmp q.0)) tables now
+pub taken_through : {V : Type 0} (q : Name) (found : Option V) (tables news : List (ℕ × List (ℕ × V))) (was now : List (ℕ × V))
+    → at q.0 tables ≡ Some was → news ≡ set_value (is_at (nat_cmp q.0)) tables now
     → IfSome found (λ v. IsPermutation was ((q.1, v) ∷ now)) → IfSome found (λ v. IsPermutation (named tables) ((q, v) ∷ named news))
 taken_through {V} q found tables news was now is set moved =
     IfSome_then found moved

@@ -30,7 +30,8 @@ set_below {V} bound es news t w is all =
     (subst (All (λ n. n < bound)) (sym (ap keys_of is ∙ keys-set_value (is_at (nat_cmp t)) es w)) (All-map (λ n. n < bound) (λ (e : ℕ × V). e.0) es all))
 
 -- the same where a value was taken out, or none
-pub removed_below : {V : Type 0} (bound : ℕ) (es news : List (ℕ × V)) (n : ℕ) (gone : Option V) → All (λ e. e.0 < bound) es → IfSome gone (λ v. IsPermutation es ((n, v) ∷ news)) → (gone ≡ None → news ≡ es) → All (λ e. e.0 < bound) news
+pub removed_below : {V : Type 0} (bound : ℕ) (es news : List (ℕ × V)) (n : ℕ) (gone : Option V) → All (λ e. e.0 < bound) es
+    → IfSome gone (λ v. IsPermutation es ((n, v) ∷ news)) → (gone ≡ None → news ≡ es) → All (λ e. e.0 < bound) news
 removed_below bound es news n None all taken none = subst (All (λ e. e.0 < bound)) (sym (none refl)) all
 removed_below bound es news n (Some v) all taken none =
     All-from_recursion (λ e. e.0 < bound) news (recursion_from_All (λ e. e.0 < bound) ((n, v) ∷ news) (All-permutation (λ e. e.0 < bound) es ((n, v) ∷ news) taken all)).1
@@ -57,7 +58,7 @@ changed_at es t q v w change true same is now =
     rw own (ap Some now)
 changed_at es t q v w change false same is now = refl
 
-pub written_at : {V : Type 0} (es : List (ℕ × V)) (t q : ℕ) (v w : V) (change : V → V) → at t es ≡ Some v → w ≡ change v
+written_at : {V : Type 0} (es : List (ℕ × V)) (t q : ℕ) (v w : V) (change : V → V) → at t es ≡ Some v → w ≡ change v
     → at q (set_value (is_at (nat_cmp t)) es w) ≡ (if t == q then option_map change (at q es) else at q es)
 written_at es t q v w change is now = set_at es t q v w is ∙ changed_at es t q v w change (t == q) refl is now
 
@@ -84,7 +85,8 @@ none_tail found x false none = none
 pub added_at : {V : Type 0} (es : List (ℕ × V)) (t q : ℕ) (v : V) → at t es ≡ None → at q (es ++ (t, v) ∷ []) ≡ (if t == q then Some v else at q es)
 added_at [] t q v none = ap (λ b. if b then Some v else None) (at_key q t)
 added_at (e ∷ es) t q v none =
-    rw (at_key q e.0) (added_by t q v e es (e.0 == q) (t == q) refl refl (none_head (at t es) e.1 (is_at (nat_cmp t) e.0) none) (added_at es t q v (none_tail (at t es) e.1 (is_at (nat_cmp t) e.0) none)))
+    rw (at_key q e.0) (added_by t q v e es (e.0 == q) (t == q) refl refl (none_head (at t es) e.1 (is_at (nat_cmp t) e.0) none)
+    (added_at es t q v (none_tail (at t es) e.1 (is_at (nat_cmp t) e.0) none)))
 
 removed_by : {V : Type 0} (n q : ℕ) (v : V) (es fs : List (ℕ × V)) (b : Bool) → (n == q) ≡ b → at n fs ≡ None → at q ((n, v) ∷ fs) ≡ at q es → at q fs ≡ (if b then None else at q es)
 removed_by n q v es fs true same none all = ap (λ k. at k fs) (sym (eqb-true n q same)) ∙ none
@@ -117,7 +119,7 @@ any_in p [] = refl
 any_in p (seat ∷ seats) = ap (λ b. p seat.value || b) (any_in p seats)
 
 -- whether some thread's value passes
-pub any_value : {V : Type 0} (p : V → Bool) (seats : List (Numbered V)) (es : List (ℕ × V)) → map seen seats ≡ es → list_any (λ seat. p seat.value) seats ≡ list_any p (values_of es)
+any_value : {V : Type 0} (p : V → Bool) (seats : List (Numbered V)) (es : List (ℕ × V)) → map seen seats ≡ es → list_any (λ seat. p seat.value) seats ≡ list_any p (values_of es)
 any_value p seats es is = any_in p seats ∙ ap (λ l. list_any p (values_of l)) is
 
 -- the marks of what some thread's value names
@@ -130,7 +132,7 @@ set_past e es new w true other same = cc
 set_past e es new w false other same = ap (λ l. e ∷ l) same
 
 -- nothing is written where the number has no value
-pub set_none : {V : Type 0} (es : List (ℕ × V)) (t : ℕ) (w : V) → at t es ≡ None → set_value (is_at (nat_cmp t)) es w ≡ es
+set_none : {V : Type 0} (es : List (ℕ × V)) (t : ℕ) (w : V) → at t es ≡ None → set_value (is_at (nat_cmp t)) es w ≡ es
 set_none [] t w none = refl
 set_none (e ∷ es) t w none =
     set_past e es (set_value (is_at (nat_cmp t)) es w) w (is_at (nat_cmp t) e.0) (none_head (at t es) e.1 (is_at (nat_cmp t) e.0) none)

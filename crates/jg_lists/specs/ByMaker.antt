@@ -36,7 +36,8 @@ pub record Adds {V : Type 0} (q : Name) (v : V) (old new : List (Name × V)) : T
 
 -- each name but that one is found as before
 abbrev pub Drops : {V : Type 0} → Name → List (Name × V) → List (Name × V) → Type 0
-Drops gone old new = (q : Name) → lookup (same_name q) new ≡ (if same_name gone q then None else lookup (same_name q) old)
+Drops gone old new = (q : Name)
+    → lookup (same_name q) new ≡ (if same_name gone q then None else lookup (same_name q) old)
 
 -- no two entries have the name
 abbrev pub IsThereOnce : {V : Type 0} → Name → List (Name × V) → Type 0

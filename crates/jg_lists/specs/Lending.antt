@@ -35,8 +35,11 @@ module _ (V A : RattleType) (alloc : Ghosts A.Denot) (s : MutBor (List (ℕ × V
 
   -- the same of a thread's value
   abbrev pub lends_get_by_thread : Option (MutBor V.Denot) → Fml
-  lends_get_by_thread r = LendsSo (thread_row V A alloc) V s r (λ new w. WritesThrough t s.now w new) (λ new. new ≡ s.now)
+  lends_get_by_thread r =
+      LendsSo (thread_row V A alloc) V s r (λ new w. WritesThrough t s.now w new) (λ new. new ≡ s.now)
 
 -- the same of a maker's table
-abbrev pub lends_get_by_maker : (V A : RattleType) (alloc : Ghosts A.Denot) (s : MutBor (List (ℕ × List (ℕ × V.Denot)))) (t : ℕ) → Option (MutBor (List (ℕ × V.Denot))) → Fml
-lends_get_by_maker V A alloc s t r = LendsSo (maker_row V A alloc) (the_row V A alloc) s r (λ new w. WritesThrough t s.now w new) (λ new. new ≡ s.now)
+abbrev pub lends_get_by_maker : (V A : RattleType) (alloc : Ghosts A.Denot)
+    (s : MutBor (List (ℕ × List (ℕ × V.Denot)))) (t : ℕ) → Option (MutBor (List (ℕ × V.Denot))) → Fml
+lends_get_by_maker V A alloc s t r =
+    LendsSo (maker_row V A alloc) (the_row V A alloc) s r (λ new w. WritesThrough t s.now w new) (λ new. new ≡ s.now)

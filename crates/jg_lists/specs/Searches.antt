@@ -6,7 +6,10 @@ use Rattle.std.specs.Int.Bits.{bit_and, bit_or}
 -- where the search for a number begins, of so many slots: sixteen numbers that follow one another have
 -- slots that do, and those of the next sixteen lie elsewhere
 unfoldable pub home : ℕ → ℕ → ℕ
-home count n = bit_and (bit_or ((n / 16 * 11400714819323198485) % 2 ^ 64 / 2 ^ ((leading_zeros w64 count % 64 + 5) % 64) * 16 % 2 ^ 64) (n % 16)) (count - 1)
+home count n =
+    bit_and (bit_or
+    ((n / 16 * 11400714819323198485) % 2 ^ 64 / 2 ^ ((leading_zeros w64 count % 64 + 5) % 64) * 16 % 2 ^ 64)
+    (n % 16)) (count - 1)
 
 -- the slot that a search looks at after so many others: the next one, and after the last the first
 unfoldable pub spot : ℕ → ℕ → ℕ → ℕ
@@ -31,7 +34,8 @@ filled (place ∷ slots) = if place == 0 then filled slots else filled slots + 1
 -- each number that has a seat is found at its place, counted from 1, and no two seats have one number
 pub record Placed (slots numbers : List ℕ) : Type 0 where
   pub found : (i : ℕ) → i < length numbers → Reaches slots (home (length slots) (slice_index_or numbers i 0)) (i + 1)
-  pub apart : (i j : ℕ) → i < length numbers → j < length numbers → slice_index_or numbers i 0 ≡ slice_index_or numbers j 0 → i ≡ j
+  pub apart : (i j : ℕ) → i < length numbers → j < length numbers
+      → slice_index_or numbers i 0 ≡ slice_index_or numbers j 0 → i ≡ j
 
 -- the same, with a bound on how many slots aren't free
 pub record Standing (slots numbers : List ℕ) (used : ℕ) : Type 0 where
@@ -61,7 +65,8 @@ MayStand slots slot mark = (1 ≤ mark) ⊎ ((mark ≡ 0) × (slice_index_or slo
 
 -- no seat whose place the search for the number comes to is the number's
 abbrev pub Misses : List ℕ → List ℕ → ℕ → Type 0
-Misses slots numbers n = (i : ℕ) → i < length numbers → Reaches slots (home (length slots) n) (i + 1) → slice_index_or numbers i 0 ≢ n
+Misses slots numbers n =
+    (i : ℕ) → i < length numbers → Reaches slots (home (length slots) n) (i + 1) → slice_index_or numbers i 0 ≢ n
 
 -- the search for the number comes to that slot, which is free
 pub record IsFree (slots : List ℕ) (n slot : ℕ) : Type 0 where
@@ -70,14 +75,19 @@ pub record IsFree (slots : List ℕ) (n slot : ℕ) : Type 0 where
 
 -- the number finds that place now, if it was found
 abbrev pub Moves : List ℕ → List ℕ → List ℕ → ℕ → ℕ → Type 0
-Moves old new numbers n place = (Misses old numbers n × (new ≡ old)) ⊎ ((slot : ℕ) × (seat : ℕ) × Finds old numbers n slot seat × (new ≡ slice_set old slot place))
+Moves old new numbers n place =
+    (Misses old numbers n × (new ≡ old))
+    ⊎ ((slot : ℕ) × (seat : ℕ) × Finds old numbers n slot seat × (new ≡ slice_set old slot place))
 
 -- the number of the last seat finds that seat's place now, if it wasn't the last itself
 abbrev pub MovesLast : List ℕ → List ℕ → List ℕ → ℕ → ℕ → Type 0
 MovesLast old new numbers seat place =
-    ((length numbers ≤ seat + 1) × (new ≡ old)) ⊎ Moves old new numbers (slice_index_or numbers (length numbers - 1) 0) place
+    ((length numbers ≤ seat + 1) × (new ≡ old))
+    ⊎ Moves old new numbers (slice_index_or numbers (length numbers - 1) 0) place
 
 -- the place of each seat but that one is found as before, and the number of the last finds that one
 pub record Leaves (new numbers : List ℕ) (seat : ℕ) : Type 0 where
-  pub others : (j : ℕ) → j + 1 < length numbers → j ≢ seat → Reaches new (home (length new) (slice_index_or numbers j 0)) (j + 1)
-  pub moved : seat + 1 < length numbers → Reaches new (home (length new) (slice_index_or numbers (length numbers - 1) 0)) (seat + 1)
+  pub others : (j : ℕ) → j + 1 < length numbers → j ≢ seat
+      → Reaches new (home (length new) (slice_index_or numbers j 0)) (j + 1)
+  pub moved : seat + 1 < length numbers
+      → Reaches new (home (length new) (slice_index_or numbers (length numbers - 1) 0)) (seat + 1)

@@ -1,3 +1,5 @@
+//! Values by number, for any numbers: found by a search that mostly ends at once.
+
 ghost use Rattle.std.specs.Prelude.{◌≡◌, ℕ, ◌<◌, ◌^◌, ◌++◌, ◌∷◌, ◌==◌, if◌then◌else◌, [], IsPermutation, IsSome, IfSome, None, Some, OnOk, OnErr, length, map, slice_index_or, option_copied};
 ghost use Rattle.std.specs.Option.{is_some, option_copied_mut};
 ghost use Rattle.std.specs.Borrow.{sem};

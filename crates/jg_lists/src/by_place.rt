@@ -1,3 +1,5 @@
+//! Values by number, for small numbers: found in one step, in a list with a place for each.
+
 ghost use Rattle.std.specs.Prelude.{◌≡◌, ℕ, ◌<◌, ◌++◌, ◌∷◌, ◌==◌, if◌then◌else◌, [], IsPermutation, IfSome, IsSome, None, Some, OnOk, OnErr, length, map, option_copied};
 ghost use Rattle.std.specs.Option.{is_some, option_copied_mut};
 ghost use Rattle.std.specs.Borrow.{sem};

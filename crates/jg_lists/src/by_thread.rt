@@ -1,3 +1,5 @@
+//! Values by thread, kept by place, since the numbers of threads are small.
+
 ghost use Rattle.std.specs.Prelude.{◌≡◌, ℕ, ◌<◌, ◌^◌, ◌++◌, ◌∷◌, ◌==◌, if◌then◌else◌, [], All, IsPermutation, IfSome, None, Some, OnOk, OnErr, length, map, option_copied};
 ghost use Rattle.std.specs.Option.{is_some, option_copied_mut};
 ghost use Rattle.std.specs.Borrow.{sem};

@@ -1,3 +1,5 @@
+//! The trait of whatever marks objects: tables are handed one, and mark in it what they name.
+
 ghost use Rattle.std.specs.Prelude.{◌≡◌, ◌==◌, ℕ, Bool, None, Option};
 ghost use Rattle.std.specs.List.{list_any};
 ghost use Rattle.jg_lists.specs.Marks.{Marks};

@@ -1,3 +1,5 @@
+//! The marks of objects, which are all unset at once.
+
 ghost use Rattle.std.specs.Prelude.{◌≡◌, ℕ, ◌+◌, ◌<◌, ◌≤◌, max, ◌==◌, ◌&&◌, [], All, false, not, Some, length, slice_get, slice_index_or, true, OnOk};
 ghost use Rattle.std.specs.List.{list_any, range_with_len};
 ghost use Rattle.jg_lists.specs.Marks.{Marks, but_last, marks_in};
@@ -171,7 +173,8 @@ impl<A: Allocator> ObjectMarks<A> {
     /// says so of each in turn. Answers yes also where one of these objects has no mark.
     pub fn misses(&self, first: u64, wanted: &[bool]) -> bool
         ensures within { first + length wanted.now ≤ length self.now
-            → result ≡ list_any (λ i. slice_index_or wanted.now i false && not (slice_index_or self.now (first + i) false))
+            → result
+            ≡ list_any (λ i. slice_index_or wanted.now i false && not (slice_index_or self.now (first + i) false))
             (range_with_len 0 (length wanted.now)) }
         ensures past { length self.now < first + length wanted.now → result ≡ true }
     {

@@ -147,7 +147,8 @@ fn list_anew<V, A: Allocator>(slots: &mut Vec<u32, A>, seats: &Vec<Numbered<V>, 
     requires fits { length seats.now.items < 2 ^ 32 }
     requires room { length seats.now.items < length slots.old.items }
     ensures found { (i : ℕ) → i < length (map number_of seats.now.items)
-        → Reaches slots.new.items (home (length slots.new.items) (slice_index_or (map number_of seats.now.items) i 0)) (i + 1) }
+        → Reaches slots.new.items
+        (home (length slots.new.items) (slice_index_or (map number_of seats.now.items) i 0)) (i + 1) }
     ensures counted { filled slots.new.items ≤ length seats.now.items }
     ensures many { length slots.new.items ≡ length slots.old.items }
 {
@@ -169,7 +170,8 @@ pub fn make_room<V, A: Allocator>(
     requires counted { filled slots.old.items ≤ used }
     requires live { length seats.now.items ≤ used }
     requires room { used ≤ length slots.old.items }
-    ensures placed { Placed slots.old.items (map number_of seats.now.items) → Placed slots.new.items (map number_of seats.now.items) }
+    ensures placed { Placed slots.old.items (map number_of seats.now.items)
+        → Placed slots.new.items (map number_of seats.now.items) }
     ensures counted { IfOk result (λ u. filled slots.new.items ≤ u) }
     ensures live { IfOk result (λ u. length seats.now.items ≤ u) }
     ensures room { IfOk result (λ u. u < length slots.new.items) }
@@ -241,7 +243,8 @@ pub fn leave_slot<V, A: Allocator>(
     found: Found,
 ) -> usize
     requires standing { Standing slots.old.items (map number_of seats.now.items) used }
-    requires found { Finds slots.old.items (map number_of seats.now.items) (slice_index_or (map number_of seats.now.items) found.seat 0) found.slot found.seat }
+    requires found { Finds slots.old.items (map number_of seats.now.items)
+        (slice_index_or (map number_of seats.now.items) found.seat 0) found.slot found.seat }
     ensures leaves { Leaves slots.new.items (map number_of seats.now.items) found.seat }
     ensures counted { filled slots.new.items ≤ result }
     ensures live { length seats.now.items ≤ result + 1 }

@@ -23,10 +23,10 @@ session_cases d acts true is h some = is
 session_cases d acts false is h some = absurd (omega (arith, no_pushes d acts h is))
 
 -- a frame is pushed in a session alone
-pub session_if_pushed : (d : ℕ) (acts : List Act) → AllAllowed acts → 0 < frames d acts → has_session acts ≡ true
+session_if_pushed : (d : ℕ) (acts : List Act) → AllAllowed acts → 0 < frames d acts → has_session acts ≡ true
 session_if_pushed d acts h some = session_cases d acts (has_session acts) refl h some
 
-pub made_before : (n k o : ℕ) (before later : List Act) → IsMadeBelow n (later ++ Make k o ∷ before) → k < n
+made_before : (n k o : ℕ) (before later : List Act) → IsMadeBelow n (later ++ Make k o ∷ before) → k < n
 made_before n k o before [] below = below.0
 made_before n k o before (Make j p ∷ later) below = made_before n k o before later below.1
 made_before n k o before (Start ∷ later) below = made_before n k o before later below

@@ -55,7 +55,7 @@ chain-front r [] ys chain = tt
 chain-front r (x ∷ xs) ys chain = (each-front (λ z. r x z ≡ true) xs ys chain.0, chain-front r xs ys chain.1)
 
 -- each stands in r to the last
-pub chain-end : {X : Type 0} (r : X → X → Bool) (xs : List X) (y : X) → Chain r (xs ++ y ∷ []) → AllByRecursion (λ x. r x y ≡ true) xs
+chain-end : {X : Type 0} (r : X → X → Bool) (xs : List X) (y : X) → Chain r (xs ++ y ∷ []) → AllByRecursion (λ x. r x y ≡ true) xs
 chain-end r [] y chain = tt
 chain-end r (x ∷ xs) y chain = (each-end (λ z. r x z ≡ true) xs y chain.0, chain-end r xs y chain.1)
 
@@ -75,7 +75,7 @@ ending_after x xs (inl is) = inr ([], x, ap (λ l. x ∷ l) is, ap (λ l. option
 ending_after x xs (inr found) = inr (x ∷ found.0, found.1, ap (λ l. x ∷ l) found.2, ap (λ o. option_or o (Some x)) found.3)
 
 -- a list is empty, or ends in its last
-pub ending : {X : Type 0} (xs : List X) → (xs ≡ []) ⊎ ((front : List X) × (y : X) × (xs ≡ front ++ y ∷ []) × (last xs ≡ Some y))
+ending : {X : Type 0} (xs : List X) → (xs ≡ []) ⊎ ((front : List X) × (y : X) × (xs ≡ front ++ y ∷ []) × (last xs ≡ Some y))
 ending [] = inl refl
 ending (x ∷ xs) = ending_after x xs (ending xs)
 

@@ -39,7 +39,12 @@ open_frames-pop t acts is some = rw is (rows_up_to-pop t (depth acts) acts some 
 pub push_law : (rows : Rows) (e : List Event) (u room : ℕ) (r : FrameRow) → Stands rows e → top u rows.frames ≡ Some r
     → Stands (record { locals = rows.locals; frames = rows.frames ++ record { tid = u; depth = r.depth; frame = r.frame + 1; room = room } ∷ [] }) (by u (Push room) ∷ e)
 push_law rows e u room r stands is =
-    by_top rows e u r (λ x. Stands (record { locals = rows.locals; frames = rows.frames ++ record { tid = u; depth = x.depth; frame = x.frame + 1; room = room } ∷ [] }) (by u (Push room) ∷ e)) stands is
+    by_top rows e u r (λ x.
+    Stands (record {
+      locals = rows.locals;
+      frames = rows.frames ++ record { tid = u; depth = x.depth; frame = x.frame + 1; room = room } ∷ [];
+    })
+    (by u (Push room) ∷ e)) stands is
     (λ open_session. rw add-one (push_stands rows e u room stands open_session))
 
 -- the local is not of that frame
@@ -174,7 +179,9 @@ make_law rows e u n o r stands is fresh =
     (λ open_session. make_stands rows e u n o stands open_session fresh)
 
 open_frames-ensure : (t c : ℕ) (acts : List Act) → has_session acts ≡ true
-    → map (raised t (depth acts) (frames (depth acts) acts) (greater (frame_room (depth acts) (frames (depth acts) acts) acts) (c + held_here acts))) (open_frames t acts) ≡ open_frames t (Ensure c ∷ acts)
+    → map (raised t (depth acts) (frames (depth acts) acts)
+    (greater (frame_room (depth acts) (frames (depth acts) acts) acts) (c + held_here acts))) (open_frames t acts)
+    ≡ open_frames t (Ensure c ∷ acts)
 open_frames-ensure t c acts is = rw is (rows_up_to-ensure t (depth acts) c acts)
 
 other_raised : (t d k room : ℕ) (row : FrameRow) → row.tid ≢ t → raised t d k room row ≡ row

@@ -9,7 +9,7 @@ use Rattle.jg_lists.specs.declared.by_number.Numbered.{Numbered}
 use Rattle.jg_lists.specs.ByNumber.{seen}
 use Rattle.jg_lists.proofs.Found.{found_in, is_found, any_found}
 use Rattle.jg_lists.proofs.Lists.{Member, member_filter}
-use Rattle.jg_locals.specs.declared.row.Slot.{Slot}
+use Rattle.jg_locals.specs.declared.row.LocalSlot.{LocalSlot}
 use Rattle.jg_locals.specs.History.{Event, acts_of, live_local, live, holds_object}
 use Rattle.jg_locals.specs.Rows.{LocalRow, Rows, is_local}
 use Rattle.jg_locals.specs.Seen.{StackRows, gather, locals_of, local_row, rows_seen, is_live}
@@ -17,7 +17,7 @@ use Rattle.jg_locals.specs.Standing.{Stands}
 use Rattle.jg_locals.proofs.Held.{live_of_member, holds_law}
 
 -- the first that is live and passes is the first of the live ones that passes
-pub find_live : (p : Slot → Bool) (slots : List Slot) → find (λ s. s.live && p s) slots ≡ find p (filter is_live slots)
+pub find_live : (p : LocalSlot → Bool) (slots : List LocalSlot) → find (λ s. s.live && p s) slots ≡ find p (filter is_live slots)
 find_live p [] = refl
 find_live p (s ∷ slots) = by s.live (find_live p slots)
   where
@@ -42,11 +42,13 @@ name_first o t v es =
     ∙ ap (λ own. option_or own (name_in o es)) (sym (found_in {R = ℕ × ℕ} (local_row t) (λ row. row.object == o) (λ row. (row.tid, row.n)) v.locals) ∙ inside (find (λ s. s.object == o) v.locals))
   where
     either : (own later : Option LocalRow)
-        → option_map {U = ℕ × ℕ} (λ (row : LocalRow). (row.tid, row.n)) (option_or own later) ≡ option_or (option_map {U = ℕ × ℕ} (λ (row : LocalRow). (row.tid, row.n)) own) (option_map {U = ℕ × ℕ} (λ (row : LocalRow). (row.tid, row.n)) later)
+        → option_map {U = ℕ × ℕ} (λ (row : LocalRow). (row.tid, row.n)) (option_or own later)
+        ≡ option_or (option_map {U = ℕ × ℕ} (λ (row : LocalRow). (row.tid, row.n)) own)
+        (option_map {U = ℕ × ℕ} (λ (row : LocalRow). (row.tid, row.n)) later)
     either None later = refl
     either (Some row) later = refl
 
-    inside : (found : Option Slot) → option_map {U = ℕ × ℕ} (λ (s : Slot). (t, s.n)) found ≡ option_map {U = ℕ × ℕ} (λ n. (t, n)) (option_map (λ (s : Slot). s.n) found)
+    inside : (found : Option LocalSlot) → option_map {U = ℕ × ℕ} (λ (s : LocalSlot). (t, s.n)) found ≡ option_map {U = ℕ × ℕ} (λ n. (t, n)) (option_map (λ (s : LocalSlot). s.n) found)
     inside None = refl
     inside (Some s) = refl
 

@@ -25,16 +25,16 @@ rows_up_to_same t (suc d) acts others same rooms =
     let here = ap (λ k. rows_at t (suc d) k acts) (same (suc d) (omega arith)) ∙ rows_at_same t (suc d) (frames (suc d) others) acts others (λ j h. rooms (suc d) j (omega arith) h) in
     cc
 
-pub frames_push : (d room : ℕ) (acts : List Act) → AllAllowed acts → d ≡ depth acts → frames d (Push room ∷ acts) ≡ suc (frames d acts)
+frames_push : (d room : ℕ) (acts : List Act) → AllAllowed acts → d ≡ depth acts → frames d (Push room ∷ acts) ≡ suc (frames d acts)
 frames_push d room acts h is = grind (arith, nat_tests, pops_at_most_pushes d acts h)
 
-pub frames_other_push : (d room : ℕ) (acts : List Act) → d ≢ depth acts → frames d (Push room ∷ acts) ≡ frames d acts
+frames_other_push : (d room : ℕ) (acts : List Act) → d ≢ depth acts → frames d (Push room ∷ acts) ≡ frames d acts
 frames_other_push d room acts differ = grind (arith, nat_tests)
 
-pub frames_pop : (d : ℕ) (acts : List Act) → 0 < frames d acts → d ≡ depth acts → suc (frames d (Pop ∷ acts)) ≡ frames d acts
+frames_pop : (d : ℕ) (acts : List Act) → 0 < frames d acts → d ≡ depth acts → suc (frames d (Pop ∷ acts)) ≡ frames d acts
 frames_pop d acts some is = grind (arith, nat_tests)
 
-pub frames_other_pop : (d : ℕ) (acts : List Act) → d ≢ depth acts → frames d (Pop ∷ acts) ≡ frames d acts
+frames_other_pop : (d : ℕ) (acts : List Act) → d ≢ depth acts → frames d (Pop ∷ acts) ≡ frames d acts
 frames_other_pop d acts differ = grind (arith, nat_tests)
 
 pub frames_enter : (d : ℕ) (acts : List Act) → d ≡ suc (depth acts) → frames d (Enter ∷ acts) ≡ 0
@@ -47,16 +47,20 @@ pub depth_enter : (acts : List Act) → AllAllowed acts → depth (Enter ∷ act
 depth_enter acts h = omega (arith, leaves_at_most_enters acts h)
 
 -- a filter that all rows of the lower depths pass
-pub kept_at : (p : FrameRow → Bool) (t d k : ℕ) (acts : List Act) → ((j room : ℕ) → j ≤ k → p (record { tid = t; depth = d; frame = j; room = room }) ≡ true) → filter p (rows_at t d k acts) ≡ rows_at t d k acts
+kept_at : (p : FrameRow → Bool) (t d k : ℕ) (acts : List Act)
+    → ((j room : ℕ) → j ≤ k → p (record { tid = t; depth = d; frame = j; room = room }) ≡ true)
+    → filter p (rows_at t d k acts) ≡ rows_at t d k acts
 kept_at p t d zero acts passes = rw (passes 0 _ (omega arith)) refl
 kept_at p t d (suc k) acts passes = rw (filter-append, kept_at p t d k acts (λ j room h. passes j room (omega arith)), passes (suc k) _ (omega arith)) refl
 
-pub kept_up_to : (p : FrameRow → Bool) (t d : ℕ) (acts : List Act) → ((i j room : ℕ) → i ≤ d → p (record { tid = t; depth = i; frame = j; room = room }) ≡ true) → filter p (rows_up_to t d acts) ≡ rows_up_to t d acts
+kept_up_to : (p : FrameRow → Bool) (t d : ℕ) (acts : List Act)
+    → ((i j room : ℕ) → i ≤ d → p (record { tid = t; depth = i; frame = j; room = room }) ≡ true)
+    → filter p (rows_up_to t d acts) ≡ rows_up_to t d acts
 kept_up_to p t zero acts passes = kept_at p t 0 (frames 0 acts) acts (λ j room _. passes 0 j room (omega arith))
 kept_up_to p t (suc d) acts passes =
     rw (filter-append, kept_up_to p t d acts (λ i j room h. passes i j room (omega arith)), kept_at p t (suc d) (frames (suc d) acts) acts (λ j room _. passes (suc d) j room (omega arith))) refl
 
-pub dropped_at : (p : FrameRow → Bool) (t d k : ℕ) (acts : List Act) → ((j room : ℕ) → p (record { tid = t; depth = d; frame = j; room = room }) ≡ false) → filter p (rows_at t d k acts) ≡ []
+dropped_at : (p : FrameRow → Bool) (t d k : ℕ) (acts : List Act) → ((j room : ℕ) → p (record { tid = t; depth = d; frame = j; room = room }) ≡ false) → filter p (rows_at t d k acts) ≡ []
 dropped_at p t d zero acts fails = rw (fails 0 _) refl
 dropped_at p t d (suc k) acts fails = rw (filter-append, dropped_at p t d k acts fails, fails (suc k) _) refl
 
@@ -120,7 +124,7 @@ rows_up_to-leave t d acts is =
     let here = dropped_at (is_not_depth t (suc d)) t (suc d) (frames (suc d) acts) acts (λ j room. grind (arith, nat_tests)) in
     rw (filter-append, below, same, here) (append-nil _)
 
-pub dropped_up_to : (p : FrameRow → Bool) (t d : ℕ) (acts : List Act) → ((i j room : ℕ) → p (record { tid = t; depth = i; frame = j; room = room }) ≡ false) → filter p (rows_up_to t d acts) ≡ []
+dropped_up_to : (p : FrameRow → Bool) (t d : ℕ) (acts : List Act) → ((i j room : ℕ) → p (record { tid = t; depth = i; frame = j; room = room }) ≡ false) → filter p (rows_up_to t d acts) ≡ []
 dropped_up_to p t zero acts fails = dropped_at p t 0 (frames 0 acts) acts (fails 0)
 dropped_up_to p t (suc d) acts fails = rw (filter-append, dropped_up_to p t d acts fails, dropped_at p t (suc d) (frames (suc d) acts) acts (fails (suc d))) refl
 

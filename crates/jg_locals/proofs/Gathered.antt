@@ -16,7 +16,7 @@ set_at f test e es v w true is same later =
     ap (λ l. l ++ gather f es) (same e.0 ∙ ap (f e.0) (sym one))
 set_at f test e es v w false is same later = ap (λ l. f e.0 e.1 ++ l) (later is)
 
-pub gather-set : {V X : Type 0} (f : ℕ → V → List X) (test : ℕ → Bool) (es : List (ℕ × V)) (v w : V) → lookup test es ≡ Some v → ((k : ℕ) → f k w ≡ f k v)
+gather-set : {V X : Type 0} (f : ℕ → V → List X) (test : ℕ → Bool) (es : List (ℕ × V)) (v w : V) → lookup test es ≡ Some v → ((k : ℕ) → f k w ≡ f k v)
     → gather f (set_value test es w) ≡ gather f es
 gather-set f test [] v w is same = refl
 gather-set f test (e ∷ es) v w is same = set_at f test e es v w (test e.0) is same (λ h. gather-set f test es v w h same)

@@ -83,7 +83,9 @@ counted p (m ∷ ns) rows apart all =
     let rest = filter (λ (row : LocalRow). not (row.n == m)) rows in
     let later = counted p ns rest apart.1 (each_left m ns rows all) in
     let same = total_alike (λ n. how_many p (filter (λ row. row.n == n) rest)) (λ n. how_many p (filter (λ row. row.n == n) rows)) ns
-    (each-map (λ n. (n == m) ≡ false) (λ n. how_many p (filter (λ row. row.n == n) rest) ≡ how_many p (filter (λ row. row.n == n) rows)) (λ n h. ap (how_many p) (other_number m n rows h)) ns apart.0) in
+    (each-map (λ n. (n == m) ≡ false)
+    (λ n. how_many p (filter (λ row. row.n == n) rest) ≡ how_many p (filter (λ row. row.n == n) rows))
+    (λ n h. ap (how_many p) (other_number m n rows h)) ns apart.0) in
     count-parts p (λ row. row.n == m) rows ∙ ap (λ k. how_many p (filter (λ row. row.n == m) rows) + k) (later ∙ same)
 
 -- ---- the numbers of locals

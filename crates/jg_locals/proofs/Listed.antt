@@ -18,7 +18,8 @@ one_more es t v =
     ∙ ap (λ l. map local_ref (gather locals_of es) ++ l) (map-map local_ref (local_row t) v.locals)
 
 -- with the references of one stack more appended
-pub listed_more : (seats : List (Numbered StackRows)) (i : ℕ) (d : Numbered StackRows) (old mid new : List Ref) → i < length seats → mid ≡ old ++ map local_ref (rows_seen (map seen (take i seats))).locals
+pub listed_more : (seats : List (Numbered StackRows)) (i : ℕ) (d : Numbered StackRows) (old mid new : List Ref)
+    → i < length seats → mid ≡ old ++ map local_ref (rows_seen (map seen (take i seats))).locals
     → new ≡ mid ++ map (slot_ref (get_or seats i d).number) (get_or seats i d).value.locals
     → new ≡ old ++ map local_ref (rows_seen (map seen (take (i + 1) seats))).locals
 listed_more seats i d old mid new within was now =
@@ -27,4 +28,6 @@ listed_more seats i d old mid new within was now =
     now
     ∙ ap (λ l. l ++ map (slot_ref (get_or seats i d).number) (get_or seats i d).value.locals) was
     ∙ append_assoc old (map local_ref (rows_seen (map seen (take i seats))).locals) (map (slot_ref (get_or seats i d).number) (get_or seats i d).value.locals)
-    ∙ ap (λ l. old ++ l) (sym (one_more (map seen (take i seats)) (get_or seats i d).number (get_or seats i d).value) ∙ ap (λ (es : List (ℕ × StackRows)). map local_ref (rows_seen es).locals) (sym more))
+    ∙ ap (λ l. old ++ l)
+    (sym (one_more (map seen (take i seats)) (get_or seats i d).number (get_or seats i d).value)
+    ∙ ap (λ (es : List (ℕ × StackRows)). map local_ref (rows_seen es).locals) (sym more))

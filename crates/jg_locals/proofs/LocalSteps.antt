@@ -20,7 +20,7 @@ abbrev pub row_made : ℕ → ℕ → ℕ → List Act → LocalRow
 row_made t n o before = record { tid = t; n = n; object = o; depth = depth before; frame = frames (depth before) before }
 
 -- one moment more is survived where the act keeps the row
-pub survives_more : (t n o : ℕ) (before later : List Act) (a : Act) → AllAllowed (a ∷ (later ++ Make n o ∷ before)) → survives n later ≡ true
+survives_more : (t n o : ℕ) (before later : List Act) (a : Act) → AllAllowed (a ∷ (later ++ Make n o ∷ before)) → survives n later ≡ true
     → survives n (a ∷ later) ≡ keeps a (depth (later ++ Make n o ∷ before)) (frames (depth (later ++ Make n o ∷ before)) (later ++ Make n o ∷ before)) (row_made t n o before)
 survives_more t n o before later Start h s = grind (arith, nat_tests)
 survives_more t n o before later End h s = grind (arith, nat_tests)

@@ -101,7 +101,10 @@ reopened a b e is stands =
     subst P (sym is) stands
 
 crowded_at : (rows : Rows) (e : List Event) (t : ℕ) (b : Bool) → Stands rows e → has_session (acts_of t e) ≡ b
-    → is_crowded rows.locals (if◌then◌else◌ {A = Option FrameRow} b (Some (row_of_frame t (depth (acts_of t e)) (frames (depth (acts_of t e)) (acts_of t e)) (acts_of t e))) None) ≡ crowded (acts_of t e)
+    → is_crowded rows.locals
+    (if◌then◌else◌ {A = Option FrameRow} b
+    (Some (row_of_frame t (depth (acts_of t e)) (frames (depth (acts_of t e)) (acts_of t e)) (acts_of t e))) None)
+    ≡ crowded (acts_of t e)
 crowded_at rows e t true stands is =
     ap (λ n. nat_lt (room_here (acts_of t e)) n) (held_told rows e (row_of_frame t (depth (acts_of t e)) (frames (depth (acts_of t e)) (acts_of t e)) (acts_of t e)) stands)
 crowded_at rows e t false stands is =

@@ -9,7 +9,7 @@ use Rattle.std.specs.List.Sorted.{IsNonDecreasingBy, IsPartitionPoint}
 use Rattle.std.proofs.lemmas.Bool.Decides.{nat_tests}
 use Rattle.std.proofs.lemmas.List.{append-nil}
 use Rattle.std.proofs.lemmas.List.Elements.{filter-append}
-use Rattle.jg_locals.specs.declared.row.Slot.{Slot}
+use Rattle.jg_locals.specs.declared.row.LocalSlot.{LocalSlot}
 use Rattle.jg_locals.specs.declared.row.Frame.{Frame}
 use Rattle.jg_locals.specs.declared.row.Opened.{Opened}
 use Rattle.jg_locals.specs.Seen.{last, Chain, is_in, is_under, is_from, frame_of, is_frame, is_opened_under, frame_cmp, at_frame, with_room, room_set, Kept}
@@ -53,7 +53,8 @@ opened_front now old gone is chain = let S : List Opened → Type 0 = λ l. Chai
 under_earlier : (f g h : Frame) → is_under f g ≡ true → is_under g h ≡ true → is_under f h ≡ true
 under_earlier f g h a b = grind (arith, nat_tests, a, b)
 
-frames_left_by : (g : Frame) (os : List Opened) (end : Option Opened) → Chain is_opened_under os → last os ≡ end → is_from g (option_map frame_of end) ≡ false → AllByRecursion (λ o. is_under o.frame g ≡ true) os
+frames_left_by : (g : Frame) (os : List Opened) (end : Option Opened) → Chain is_opened_under os → last os ≡ end
+    → is_from g (option_map frame_of end) ≡ false → AllByRecursion (λ o. is_under o.frame g ≡ true) os
 frames_left_by g os None chain is at = rw (last-nil os is) tt
 frames_left_by g os (Some h) chain is at =
     let here : is_under h.frame g ≡ true = grind (arith, nat_tests, at) in
@@ -85,7 +86,9 @@ greater_is d k f is = grind (arith, nat_tests)
 pub equal_is : (d k : ℕ) (f : Frame) → frame_cmp d k f ≡ Equal → is_frame d k f ≡ true
 equal_is d k f is = grind (arith, nat_tests)
 
-parted : (os : List Opened) (d k place i : ℕ) (w : Opened) → IsPartitionPoint (λ o. frame_cmp d k o.frame ≡ Less) (λ o. frame_cmp d k o.frame ≡ Greater) os place → i < length os → (i < place) ⊎ (place ≤ i)
+parted : (os : List Opened) (d k place i : ℕ) (w : Opened)
+    → IsPartitionPoint (λ o. frame_cmp d k o.frame ≡ Less) (λ o. frame_cmp d k o.frame ≡ Greater) os place
+    → i < length os → (i < place) ⊎ (place ≤ i)
     → is_frame d k (get_or os i w).frame ≡ false
 parted os d k place i w point within (inl low) = less_is d k (get_or os i w).frame (point.0 i w (omega arith) low)
 parted os d k place i w point within (inr high) = greater_is d k (get_or os i w).frame (point.1 i w high within)
@@ -98,7 +101,7 @@ no_place os d k place chain point = each-from (λ o. is_frame d k o.frame ≡ fa
 
 -- ---- changed at one frame
 
-pub none_changed : (g : Opened → Opened) (d k : ℕ) (os : List Opened) → AllByRecursion (λ o. is_frame d k o.frame ≡ false) os → os ≡ map (at_frame g d k) os
+none_changed : (g : Opened → Opened) (d k : ℕ) (os : List Opened) → AllByRecursion (λ o. is_frame d k o.frame ≡ false) os → os ≡ map (at_frame g d k) os
 none_changed g d k [] all = refl
 none_changed g d k (o ∷ os) all = rw all.0 (ap (λ l. o ∷ l) (none_changed g d k os all.1))
 
@@ -132,7 +135,7 @@ unchanged_there g d k l os is all =
     let Q : List Opened → Type 0 = λ m. AllByRecursion (λ o. is_frame d k o.frame ≡ false) m in
     none_changed g d k os (subst Q is all)
 
-pub each_there : (P : Opened → Type 0) (os : List Opened) (i : ℕ) (w : Opened) → AllByRecursion P os → i < length os → w ≡ get_or os i w → P w
+each_there : (P : Opened → Type 0) (os : List Opened) (i : ℕ) (w : Opened) → AllByRecursion P os → i < length os → w ≡ get_or os i w → P w
 each_there P os i w all within at = subst P (sym at) (each-at P os i w all within)
 
 -- ---- what a change leaves of the frames
@@ -167,7 +170,7 @@ same_place room d k f = at (is_frame d k f)
 under_set : (room d k : ℕ) (f g : Frame) → is_under (room_set room d k f) (room_set room d k g) ≡ is_under f g
 under_set room d k f g = rw ((same_place room d k f).0, (same_place room d k f).1, (same_place room d k g).0, (same_place room d k g).1) refl
 
-in_set : (room d k : ℕ) (s : Slot) (f : Frame) → is_in s (room_set room d k f) ≡ is_in s f
+in_set : (room d k : ℕ) (s : LocalSlot) (f : Frame) → is_in s (room_set room d k f) ≡ is_in s f
 in_set room d k s f = rw ((same_place room d k f).0, (same_place room d k f).1) refl
 
 each_set : (room d k : ℕ) (f : Frame) (fs : List Frame) → AllByRecursion (λ g. is_under f g ≡ true) fs → AllByRecursion (λ g. is_under (room_set room d k f) g ≡ true) (map (room_set room d k) fs)
@@ -178,12 +181,12 @@ chain_set : (room d k : ℕ) (fs : List Frame) → Chain is_under fs → Chain i
 chain_set room d k [] chain = tt
 chain_set room d k (f ∷ fs) chain = (each_set room d k f fs chain.0, chain_set room d k fs chain.1)
 
-any_set : (room d k : ℕ) (s : Slot) (fs : List Frame) → list_any (is_in s) (map (room_set room d k) fs) ≡ list_any (is_in s) fs
+any_set : (room d k : ℕ) (s : LocalSlot) (fs : List Frame) → list_any (is_in s) (map (room_set room d k) fs) ≡ list_any (is_in s) fs
 any_set room d k s [] = refl
 any_set room d k s (f ∷ fs) = rw (in_set room d k s f, any_set room d k s fs) refl
 
 -- a room changes nothing else
-pub kept_set : (room d k : ℕ) (slots : List Slot) (fs : List Frame) → Kept slots fs → Kept slots (map (room_set room d k) fs)
+pub kept_set : (room d k : ℕ) (slots : List LocalSlot) (fs : List Frame) → Kept slots fs → Kept slots (map (room_set room d k) fs)
 kept_set room d k slots fs kept = record {
   sound = record {
     rises = kept.sound.rises;

@@ -90,7 +90,8 @@ others_alike v u g (row ∷ rows) differ keeps_tid others =
         let fails : ((g row).tid == v) ≡ false = ap (λ t. t == v) same_tid ∙ is in
         rw (fails, is) later
 
-pub own_alike : (u : ℕ) (g : FrameRow → FrameRow) (rows : List FrameRow) → ((row : FrameRow) → (g row).tid ≡ row.tid) → filter (λ row. row.tid == u) (map g rows) ≡ map g (filter (λ row. row.tid == u) rows)
+pub own_alike : (u : ℕ) (g : FrameRow → FrameRow) (rows : List FrameRow) → ((row : FrameRow) → (g row).tid ≡ row.tid)
+    → filter (λ row. row.tid == u) (map g rows) ≡ map g (filter (λ row. row.tid == u) rows)
 own_alike u g [] keeps_tid = refl
 own_alike u g (row ∷ rows) keeps_tid = at u g row rows (keeps_tid row) (row.tid == u) refl (own_alike u g rows keeps_tid)
   where

@@ -66,7 +66,7 @@ counts_ended old new test v w ended written is own = counts_written old new test
 pub counts_same : (old new : List (ℕ × StackRows)) (test : ℕ → Bool) (v w : StackRows) → new ≡ set_value test old w → lookup test old ≡ Some v → w.locals ≡ v.locals → Counts 0 0 old new
 counts_same old new test v w written is same = counts_ended old new test v w 0 written is (omega (arith, ap length same))
 
-pub counts_none : (es : List (ℕ × StackRows)) → Counts 0 0 es es
+counts_none : (es : List (ℕ × StackRows)) → Counts 0 0 es es
 counts_none es = record { all = omega arith; few = λ few. few }
 
 few_added : (es : List (ℕ × StackRows)) (u : ℕ) (w : StackRows) → length w.locals < 2 ^ 63 → AreFew es → AreFew (es ++ (u, w) ∷ [])

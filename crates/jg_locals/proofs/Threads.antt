@@ -16,7 +16,7 @@ use Rattle.std.proofs.lemmas.List.Folds.{list_any-append}
 use Rattle.std.proofs.lemmas.Map.{lookup-none}
 use Rattle.std.proofs.lemmas.Map.Entries.{none_past_head}
 use Rattle.std.proofs.lemmas.Map.Keys.{IsDistinct-tail}
-use Rattle.jg_locals.specs.declared.row.Slot.{Slot}
+use Rattle.jg_locals.specs.declared.row.LocalSlot.{LocalSlot}
 use Rattle.jg_locals.specs.declared.row.Frame.{Frame}
 use Rattle.jg_locals.specs.History.{Event, by, acts_of, Start, Make, Push, Ensure, Enter, Delete, Pop, Leave, End}
 use Rattle.jg_lists.specs.Acts.{how_many}
@@ -110,7 +110,7 @@ own_part f tid own t (e ∷ es) once =
 locals_own : (k : ℕ) (v : StackRows) → AllByRecursion (λ row. row.tid ≡ k) (locals_of k v)
 locals_own k v = at k v.locals
   where
-    at : (k : ℕ) (slots : List Slot) → AllByRecursion (λ (row : LocalRow). row.tid ≡ k) (map (local_row k) slots)
+    at : (k : ℕ) (slots : List LocalSlot) → AllByRecursion (λ (row : LocalRow). row.tid ≡ k) (map (local_row k) slots)
     at k [] = tt
     at k (s ∷ slots) = (refl, at k slots)
 
@@ -129,19 +129,19 @@ frames_in_entry : (t : ℕ) (found : Option StackRows) → in_entry frames_of t 
 frames_in_entry t None = refl
 frames_in_entry t (Some v) = refl
 
-pub own_locals : (m : List (ℕ × StackRows)) (t : ℕ) → IsOnce m → filter (λ row. row.tid == t) (gather locals_of m) ≡ map (local_row t) (slots_in (stack_at t m))
+own_locals : (m : List (ℕ × StackRows)) (t : ℕ) → IsOnce m → filter (λ row. row.tid == t) (gather locals_of m) ≡ map (local_row t) (slots_in (stack_at t m))
 own_locals m t ordered = own_part locals_of (λ row. row.tid) locals_own t m ordered ∙ locals_in t (stack_at t m)
 
-pub own_frames : (m : List (ℕ × StackRows)) (t : ℕ) → IsOnce m → filter (λ row. row.tid == t) (gather frames_of m) ≡ map (frame_row t) (frames_in (stack_at t m))
+own_frames : (m : List (ℕ × StackRows)) (t : ℕ) → IsOnce m → filter (λ row. row.tid == t) (gather frames_of m) ≡ map (frame_row t) (frames_in (stack_at t m))
 own_frames m t ordered = own_part frames_of (λ row. row.tid) frames_own t m ordered ∙ frames_in_entry t (stack_at t m)
 
 -- the thread's newest frame is its stack's
-pub top_seen : (m : List (ℕ × StackRows)) (t : ℕ) → IsOnce m → top t (rows_seen m).frames ≡ option_map (frame_row t) (last (frames_in (stack_at t m)))
+top_seen : (m : List (ℕ × StackRows)) (t : ℕ) → IsOnce m → top t (rows_seen m).frames ≡ option_map (frame_row t) (last (frames_in (stack_at t m)))
 top_seen m t ordered = find-reverse (λ row. row.tid == t) (gather frames_of m) ∙ (ap last (own_frames m t ordered) ∙ last-map (frame_row t) (frames_in (stack_at t m)))
 
 -- ---- rows that are alike for each thread
 
-pub alike_stand : (a b : Rows) (e : List Event) → ((t : ℕ) → filter (λ row. row.tid == t) a.locals ≡ filter (λ row. row.tid == t) b.locals)
+alike_stand : (a b : Rows) (e : List Event) → ((t : ℕ) → filter (λ row. row.tid == t) a.locals ≡ filter (λ row. row.tid == t) b.locals)
     → ((t : ℕ) → filter (λ row. row.tid == t) a.frames ≡ filter (λ row. row.tid == t) b.frames)
     → Stands a e → Stands b e
 alike_stand a b e locals frames stands = record {
@@ -200,7 +200,7 @@ module _ {Y X : Type 0} (g : ℕ → Y → X) (tid : X → ℕ) (tied : (t : ℕ
 
 -- ---- changes of a map of stacks
 
-abbrev slots_at : List (ℕ × StackRows) → ℕ → List Slot
+abbrev slots_at : List (ℕ × StackRows) → ℕ → List LocalSlot
 slots_at m t = slots_in (stack_at t m)
 
 abbrev frames_at : List (ℕ × StackRows) → ℕ → List Frame
@@ -212,15 +212,15 @@ local_tid row = row.tid
 abbrev frame_tid : FrameRow → ℕ
 frame_tid row = row.tid
 
-thin_locals : (old new : List (ℕ × StackRows)) (u : ℕ) (p : LocalRow → Bool) (q : Slot → Bool) (fs : List Frame) → IsOnce old → IsOnce new
+thin_locals : (old new : List (ℕ × StackRows)) (u : ℕ) (p : LocalRow → Bool) (q : LocalSlot → Bool) (fs : List Frame) → IsOnce old → IsOnce new
     → Changes u old new (filter q (slots_at old u)) fs
-    → ((s : Slot) → p (local_row u s) ≡ q s) → ((t : ℕ) (s : Slot) → t ≢ u → p (local_row t s) ≡ true)
+    → ((s : LocalSlot) → p (local_row u s) ≡ q s) → ((t : ℕ) (s : LocalSlot) → t ≢ u → p (local_row t s) ≡ true)
     → (t : ℕ) → filter (λ row. row.tid == t) (filter p (gather locals_of old)) ≡ filter (λ row. row.tid == t) (gather locals_of new)
 thin_locals old new u p q fs a b c mine rest =
     thinned local_row local_tid (λ t s. refl) u p q (slots_at old) (slots_at new) (gather locals_of old) (gather locals_of new) (λ t. own_locals old t a) (λ t. own_locals new t b)
     c.locals (λ t d. ap slots_in (c.others t d)) mine rest
 
-thin_frames : (old new : List (ℕ × StackRows)) (u : ℕ) (p : FrameRow → Bool) (q : Frame → Bool) (ls : List Slot) → IsOnce old → IsOnce new
+thin_frames : (old new : List (ℕ × StackRows)) (u : ℕ) (p : FrameRow → Bool) (q : Frame → Bool) (ls : List LocalSlot) → IsOnce old → IsOnce new
     → Changes u old new ls (filter q (frames_at old u))
     → ((f : Frame) → p (frame_row u f) ≡ q f) → ((t : ℕ) (f : Frame) → t ≢ u → p (frame_row t f) ≡ true)
     → (t : ℕ) → filter (λ row. row.tid == t) (filter p (gather frames_of old)) ≡ filter (λ row. row.tid == t) (gather frames_of new)
@@ -228,13 +228,13 @@ thin_frames old new u p q ls a b c mine rest =
     thinned frame_row frame_tid (λ t s. refl) u p q (frames_at old) (frames_at new) (gather frames_of old) (gather frames_of new) (λ t. own_frames old t a) (λ t. own_frames new t b)
     c.frames (λ t d. ap frames_in (c.others t d)) mine rest
 
-grow_locals : (old new : List (ℕ × StackRows)) (u : ℕ) (s : Slot) (fs : List Frame) → IsOnce old → IsOnce new → Changes u old new (slots_at old u ++ s ∷ []) fs
+grow_locals : (old new : List (ℕ × StackRows)) (u : ℕ) (s : LocalSlot) (fs : List Frame) → IsOnce old → IsOnce new → Changes u old new (slots_at old u ++ s ∷ []) fs
     → (t : ℕ) → filter (λ row. row.tid == t) (gather locals_of old ++ local_row u s ∷ []) ≡ filter (λ row. row.tid == t) (gather locals_of new)
 grow_locals old new u s fs a b c =
     grown local_row local_tid (λ t s. refl) u s (slots_at old) (slots_at new) (gather locals_of old) (gather locals_of new) (λ t. own_locals old t a) (λ t. own_locals new t b) c.locals
     (λ t d. ap slots_in (c.others t d))
 
-grow_frames : (old new : List (ℕ × StackRows)) (u : ℕ) (f : Frame) (ls : List Slot) → IsOnce old → IsOnce new → Changes u old new ls (frames_at old u ++ f ∷ [])
+grow_frames : (old new : List (ℕ × StackRows)) (u : ℕ) (f : Frame) (ls : List LocalSlot) → IsOnce old → IsOnce new → Changes u old new ls (frames_at old u ++ f ∷ [])
     → (t : ℕ) → filter (λ row. row.tid == t) (gather frames_of old ++ frame_row u f ∷ []) ≡ filter (λ row. row.tid == t) (gather frames_of new)
 grow_frames old new u f ls a b c =
     grown frame_row frame_tid (λ t s. refl) u f (frames_at old) (frames_at new) (gather frames_of old) (gather frames_of new) (λ t. own_frames old t a) (λ t. own_frames new t b)
@@ -246,7 +246,7 @@ same_locals old new u fs a b c =
     unchanged local_row local_tid (λ t s. refl) u (slots_at old) (slots_at new) (gather locals_of old) (gather locals_of new) (λ t. own_locals old t a) (λ t. own_locals new t b)
     c.locals (λ t d. ap slots_in (c.others t d))
 
-same_frames : (old new : List (ℕ × StackRows)) (u : ℕ) (ls : List Slot) → IsOnce old → IsOnce new → Changes u old new ls (frames_at old u)
+same_frames : (old new : List (ℕ × StackRows)) (u : ℕ) (ls : List LocalSlot) → IsOnce old → IsOnce new → Changes u old new ls (frames_at old u)
     → (t : ℕ) → filter (λ row. row.tid == t) (gather frames_of old) ≡ filter (λ row. row.tid == t) (gather frames_of new)
 same_frames old new u ls a b c =
     unchanged frame_row frame_tid (λ t s. refl) u (frames_at old) (frames_at new) (gather frames_of old) (gather frames_of new) (λ t. own_frames old t a) (λ t. own_frames new t b)
@@ -318,7 +318,7 @@ count-map p g [] = refl
 count-map p g (x ∷ xs) = ap (λ n. if p (g x) then n + 1 else n) (count-map p g xs)
 
 -- the rows of the frame's locals are as many as its stack's
-pub held_seen : (m : List (ℕ × StackRows)) (t : ℕ) (f : Frame) → IsOnce m → how_many (is_of_frame (frame_row t f)) (gather locals_of m) ≡ held_in (Some f) (slots_at m t)
+held_seen : (m : List (ℕ × StackRows)) (t : ℕ) (f : Frame) → IsOnce m → how_many (is_of_frame (frame_row t f)) (gather locals_of m) ≡ held_in (Some f) (slots_at m t)
 held_seen m t f ordered =
     count-filter (λ row. row.depth == f.depth && row.frame == f.frame) (λ row. row.tid == t) (gather locals_of m)
     ∙ (ap (how_many (λ row. row.depth == f.depth && row.frame == f.frame)) (own_locals m t ordered) ∙ count-map (λ row. row.depth == f.depth && row.frame == f.frame) (local_row t) (slots_at m t))
@@ -344,7 +344,7 @@ raised_other t d k room row differ =
     let fails : (row.tid == t && (row.depth == d && row.frame == k)) ≡ false = grind (arith, nat_tests) in
     rw fails refl
 
-raise_frames : (old new : List (ℕ × StackRows)) (u d k room : ℕ) (ls : List Slot) → IsOnce old → IsOnce new → Changes u old new ls (map (room_set room d k) (frames_at old u))
+raise_frames : (old new : List (ℕ × StackRows)) (u d k room : ℕ) (ls : List LocalSlot) → IsOnce old → IsOnce new → Changes u old new ls (map (room_set room d k) (frames_at old u))
     → (t : ℕ) → filter (λ row. row.tid == t) (map (raised u d k room) (gather frames_of old)) ≡ filter (λ row. row.tid == t) (gather frames_of new)
 raise_frames old new u d k room ls a b c t =
     let olds = gather frames_of old in
@@ -387,7 +387,7 @@ end_step old new u e a b c stands =
 find_one : (t n : ℕ) (rows : List LocalRow) → find (is_local t n) rows ≡ find (λ row. row.n == n) (filter (λ row. row.tid == t) rows)
 find_one t n rows = find-both (λ row. row.n == n) (λ row. row.tid == t) rows
 
-object_same : (t : ℕ) (found : Option Slot) → option_map (λ row. row.object) (option_map (local_row t) found) ≡ option_map (λ s. s.object) found
+object_same : (t : ℕ) (found : Option LocalSlot) → option_map (λ row. row.object) (option_map (local_row t) found) ≡ option_map (λ s. s.object) found
 object_same t None = refl
 object_same t (Some s) = refl
 
@@ -423,15 +423,15 @@ above_slots m t n a all =
     let kept = each-filter (λ row. row.tid ≡ t → row.n < n) (λ row. row.tid == t) (gather locals_of m) (recursion_from_All _ _ all) in
     let P : List LocalRow → Type 0 = λ l. AllByRecursion (λ row. row.tid ≡ t → row.n < n) l in
     let there = each_unmap (λ row. row.tid ≡ t → row.n < n) (local_row t) (slots_at m t) (subst P (own_locals m t a) kept) in
-    All-from_recursion (λ s. s.n < n) (slots_at m t) (each-map (λ (s : Slot). t ≡ t → s.n < n) (λ s. s.n < n) (λ s h. h refl) (slots_at m t) there)
+    All-from_recursion (λ s. s.n < n) (slots_at m t) (each-map (λ (s : LocalSlot). t ≡ t → s.n < n) (λ s. s.n < n) (λ s h. h refl) (slots_at m t) there)
 
-pub above_rows : (m : List (ℕ × StackRows)) (t n : ℕ) → IsOnce m → All (λ s. s.n < n) (slots_at m t) → All (λ row. row.tid ≡ t → row.n < n) (gather locals_of m)
+above_rows : (m : List (ℕ × StackRows)) (t n : ℕ) → IsOnce m → All (λ s. s.n < n) (slots_at m t) → All (λ row. row.tid ≡ t → row.n < n) (gather locals_of m)
 above_rows m t n a all =
     let P : List LocalRow → Type 0 = λ l. AllByRecursion (λ row. row.n < n) l in
     let there = subst P (sym (own_locals m t a)) (each_tomap (λ row. row.n < n) (local_row t) (slots_at m t) (recursion_from_All _ _ all)) in
     All-from_recursion _ _ (each_of_one t (λ row. row.n < n) (gather locals_of m) there)
 
-any_row : (o t : ℕ) (slots : List Slot) → list_any (λ row. row.object == o) (map (local_row t) slots) ≡ list_any (λ s. s.object == o) slots
+any_row : (o t : ℕ) (slots : List LocalSlot) → list_any (λ row. row.object == o) (map (local_row t) slots) ≡ list_any (λ s. s.object == o) slots
 any_row o t [] = refl
 any_row o t (s ∷ slots) = ap (λ b. (s.object == o) || b) (any_row o t slots)
 
@@ -445,7 +445,7 @@ some_top t None is = is
 some_top t (Some f) is = refl
 
 -- the room that the table shows is the stack's
-pub room_is : (es : List (ℕ × StackRows)) (t : ℕ) → room_of (rooms_seen es) t ≡ room_seen es t
+room_is : (es : List (ℕ × StackRows)) (t : ℕ) → room_of (rooms_seen es) t ≡ room_seen es t
 room_is [] t = refl
 room_is (e ∷ es) t = at e es t (is_at (nat_cmp t) e.0) (room_is es t)
   where
@@ -467,7 +467,7 @@ pub ok_not_err : {T E : Type 0} (r : Result T E) (x : E) → IsOk r → r ≡ Er
 ok_not_err (Ok y) x ok is = cc
 ok_not_err (Err y) x ok is = cc
 
-pub top_in : (m : List (ℕ × StackRows)) (a : Table) (t : ℕ) → IsOnce m → table_seen m ≡ a → top t a.rows.frames ≡ option_map (frame_row t) (last (frames_at m t))
+top_in : (m : List (ℕ × StackRows)) (a : Table) (t : ℕ) → IsOnce m → table_seen m ≡ a → top t a.rows.frames ≡ option_map (frame_row t) (last (frames_at m t))
 top_in m a t ordered is = ap (λ (v : Table). top t v.rows.frames) (sym is) ∙ top_seen m t ordered
 
 pub pushed_seen : (m : List (ℕ × StackRows)) (a : Table) (t x : ℕ) (f : Option Frame) → IsOnce m → table_seen m ≡ a → f ≡ last (frames_at m t)
@@ -559,10 +559,10 @@ next_first m t f ordered none =
     let P : Option Frame → Type 0 = λ o. IsNext o f in
     subst P (sym (none_of_top t (last (frames_at m t)) (sym (top_seen m t ordered) ∙ none))) tt
 
-pub next_push : (top : Frame) (room : ℕ) → is_under top (record { depth = top.depth; frame = top.frame + 1; room = room }) ≡ true
+next_push : (top : Frame) (room : ℕ) → is_under top (record { depth = top.depth; frame = top.frame + 1; room = room }) ≡ true
 next_push top room = grind (arith, nat_tests)
 
-pub next_enter : (top : Frame) (room : ℕ) → is_under top (record { depth = top.depth + 1; frame = 0; room = room }) ≡ true
+next_enter : (top : Frame) (room : ℕ) → is_under top (record { depth = top.depth + 1; frame = 0; room = room }) ≡ true
 next_enter top room = grind (arith, nat_tests)
 
 -- ---- room

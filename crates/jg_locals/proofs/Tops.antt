@@ -12,7 +12,7 @@ use Rattle.jg_locals.specs.Rows.{Rows, top}
 use Rattle.jg_locals.specs.Laws.{top_of_acts}
 use Rattle.jg_locals.specs.Standing.{row_of_frame, rows_at, rows_up_to, open_frames, Stands}
 
-pub last-append : {X : Type 0} (xs ys : List X) (y : X) → last ys ≡ Some y → last (xs ++ ys) ≡ Some y
+last-append : {X : Type 0} (xs ys : List X) (y : X) → last ys ≡ Some y → last (xs ++ ys) ≡ Some y
 last-append [] ys y is = is
 last-append (x ∷ xs) ys y is = rw (last-append xs ys y is) refl
 

@@ -1,7 +1,7 @@
 -- How many local references a frame holds, and for how many it has room.
--- JNI Specification, chapter 4, "Local References": a native method may make 16 of them; PushLocalFrame opens a frame for
--- at least as many as it names; EnsureLocalCapacity asks the present frame for so many more. What lies beyond the room
--- is made too, and told of.
+-- JNI Specification, chapter 4, "Local References": a native method may make 16 of them; PushLocalFrame opens a frame
+-- for at least as many as it names; EnsureLocalCapacity asks the present frame for so many more. What lies beyond the
+-- room is made too, and told of.
 -- A frame is named by its depth d and by how many frames are pushed at that depth up to it, k.
 use Rattle.std.specs.Prelude.{ℕ, ◌+◌, Bool, true, false, ◌==◌, ◌&&◌, not, nat_lt, if◌then◌else◌, List, [], ◌∷◌, filter, Option, Some, None}
 use Rattle.jg_locals.specs.History.{Act, Start, Make, Push, Ensure, Enter, how_many, depth, frames, Local, live_local}

@@ -8,7 +8,7 @@ use Rattle.std.specs.declared.cmp.Ordering.{Ordering}
 use Rattle.jg_lists.specs.Acts.{how_many}
 use Rattle.jg_lists.specs.ByThread.{IsOnce}
 use Rattle.std.specs.BTreeMap.{is_at}
-use Rattle.jg_locals.specs.declared.row.Slot.{Slot}
+use Rattle.jg_locals.specs.declared.row.LocalSlot.{LocalSlot}
 use Rattle.jg_locals.specs.declared.row.Frame.{Frame}
 use Rattle.jg_locals.specs.declared.row.Opened.{Opened}
 use Rattle.jg_words.specs.declared.reference.Ref.{Ref}
@@ -25,42 +25,42 @@ Chain r (x ∷ xs) = AllByRecursion (λ y. r x y ≡ true) xs × Chain r xs
 
 -- ---- one thread
 
-abbrev pub is_live : Slot → Bool
+abbrev pub is_live : LocalSlot → Bool
 is_live s = s.live
 
 -- how many of the slots are dead
-abbrev pub dead_in : List Slot → ℕ
+abbrev pub dead_in : List LocalSlot → ℕ
 dead_in slots = length (filter (λ s. not s.live) slots)
 
 -- the slot, marked dead
-abbrev pub ended : Slot → Slot
+abbrev pub ended : LocalSlot → LocalSlot
 ended s = record s { live = false }
 
 -- the object of a live slot; for a dead one a number at which there is no mark
-abbrev pub named : Slot → ℕ
+abbrev pub named : LocalSlot → ℕ
 named s = if s.live then s.object else 18446744073709551615
 
 -- the local n stands at the place
-abbrev pub IsPlaceOf : ℕ → List Slot → ℕ → Type 0
-IsPlaceOf n slots i = (i < length slots) × ((s : Slot) → (slice_index_or slots i s).n ≡ n)
+abbrev pub IsPlaceOf : ℕ → List LocalSlot → ℕ → Type 0
+IsPlaceOf n slots i = (i < length slots) × ((s : LocalSlot) → (slice_index_or slots i s).n ≡ n)
 
 -- a thread's slots, and for how many more there is room
 pub record SlotsSeen : Type 0 where
-  pub items : List Slot
+  pub items : List LocalSlot
   pub room : ℕ
 
 -- the slot was made in the frame, in one below it, in that one or one below it
-abbrev pub is_in : Slot → Frame → Bool
+abbrev pub is_in : LocalSlot → Frame → Bool
 is_in s f = s.depth == f.depth && s.frame == f.frame
 
-abbrev pub is_below : Slot → Frame → Bool
+abbrev pub is_below : LocalSlot → Frame → Bool
 is_below s f = nat_lt s.depth f.depth || (s.depth == f.depth && nat_lt s.frame f.frame)
 
-abbrev pub is_up_to : Slot → Frame → Bool
+abbrev pub is_up_to : LocalSlot → Frame → Bool
 is_up_to s f = nat_lt s.depth f.depth || (s.depth == f.depth && nat_le s.frame f.frame)
 
 -- the slot has a lower number, and its frame is not above the other's
-abbrev pub is_before : Slot → Slot → Bool
+abbrev pub is_before : LocalSlot → LocalSlot → Bool
 is_before s t = nat_lt s.n t.n && (nat_lt s.depth t.depth || (s.depth == t.depth && nat_le s.frame t.frame))
 
 -- the frame was opened earlier
@@ -71,25 +71,25 @@ abbrev pub is_same_frame : Frame → Frame → Bool
 is_same_frame f g = f.depth == g.depth && f.frame == g.frame
 
 -- the slot is live, and where a frame is named, below it
-abbrev pub stays : Option Frame → Slot → Bool
+abbrev pub stays : Option Frame → LocalSlot → Bool
 stays None s = s.live
 stays (Some f) s = s.live && is_below s f
 
-abbrev pub IsBelowAll : Option Frame → List Slot → Type 0
+abbrev pub IsBelowAll : Option Frame → List LocalSlot → Type 0
 IsBelowAll None slots = Unit {0}
 IsBelowAll (Some f) slots = AllByRecursion (λ s. is_below s f ≡ true) slots
 
-abbrev pub passes : (Slot → Bool) → Option Slot → Bool
+abbrev pub passes : (LocalSlot → Bool) → Option LocalSlot → Bool
 passes p None = true
 passes p (Some s) = p s
 
 -- the slots ascend, by number and by frame, and each is of one of the frames
-pub record Sound (slots : List Slot) (frames : List Frame) : Type 0 where
+pub record Sound (slots : List LocalSlot) (frames : List Frame) : Type 0 where
   pub rises : Chain is_before slots
   pub inside : AllByRecursion (λ s. list_any (is_in s) frames ≡ true) slots
 
 -- and the frames ascend, and the newest slot is live
-pub record Kept (slots : List Slot) (frames : List Frame) : Type 0 where
+pub record Kept (slots : List LocalSlot) (frames : List Frame) : Type 0 where
   pub sound : Sound slots frames
   pub opened : Chain is_under frames
   pub ends : passes is_live (last slots) ≡ true
@@ -120,7 +120,7 @@ one_more o = record o { held = o.held + 1 }
 abbrev pub one_less : Opened → Opened
 one_less o = record o { held = o.held - 1 }
 
-abbrev pub counted_less : Option Slot → List Opened → List Opened
+abbrev pub counted_less : Option LocalSlot → List Opened → List Opened
 counted_less None os = os
 counted_less (Some s) os = map (at_frame one_less s.depth s.frame) os
 
@@ -132,16 +132,16 @@ abbrev pub room_set : ℕ → ℕ → ℕ → Frame → Frame
 room_set room d k f = if is_frame d k f then record f { room = room } else f
 
 -- each frame's count is that of the live slots made in it
-abbrev pub Counted : List Slot → List Opened → Type 0
+abbrev pub Counted : List LocalSlot → List Opened → Type 0
 Counted live opened = AllByRecursion (λ o. o.held ≡ how_many (λ s. is_in s o.frame) live) opened
 
 -- what a thread's stack keeps
-pub record Stacked (slots : List Slot) (opened : List Opened) : Type 0 where
+pub record Stacked (slots : List LocalSlot) (opened : List Opened) : Type 0 where
   pub kept : Kept slots (map frame_of opened)
   pub counted : Counted (filter is_live slots) opened
 
 -- how many of the locals were made in the frame
-abbrev pub held_in : Option Frame → List Slot → ℕ
+abbrev pub held_in : Option Frame → List LocalSlot → ℕ
 held_in None live = 0
 held_in (Some f) live = how_many (λ s. is_in s f) live
 
@@ -152,11 +152,11 @@ is_full (Some f) n = nat_lt f.room n
 
 -- the live locals and the open frames of one thread, oldest first, with its room
 pub record StackRows : Type 0 where
-  pub locals : List Slot
+  pub locals : List LocalSlot
   pub frames : List Frame
   pub room : Room
 
-abbrev pub slot_made : ℕ → ℕ → Frame → Slot
+abbrev pub slot_made : ℕ → ℕ → Frame → LocalSlot
 slot_made n o f = record { n = n; object = o; depth = f.depth; frame = f.frame; live = true }
 
 -- the frame may be opened above the newest
@@ -170,7 +170,7 @@ is_from g (Some f) = not (is_under f g)
 
 -- ---- all threads
 
-abbrev pub slots_in : Option StackRows → List Slot
+abbrev pub slots_in : Option StackRows → List LocalSlot
 slots_in None = []
 slots_in (Some v) = v.locals
 
@@ -185,10 +185,10 @@ room_in (Some v) = v.room
 abbrev pub stack_at : ℕ → List (ℕ × StackRows) → Option StackRows
 stack_at t es = lookup (is_at (nat_cmp t)) es
 
-abbrev pub local_row : ℕ → Slot → LocalRow
+abbrev pub local_row : ℕ → LocalSlot → LocalRow
 local_row t s = record { tid = t; n = s.n; object = s.object; depth = s.depth; frame = s.frame }
 
-abbrev pub slot_ref : ℕ → Slot → Ref
+abbrev pub slot_ref : ℕ → LocalSlot → Ref
 slot_ref t s = local_ref (local_row t s)
 
 abbrev pub frame_row : ℕ → Frame → FrameRow
@@ -215,7 +215,8 @@ abbrev pub room_seen : List (ℕ × StackRows) → ℕ → Room
 room_seen es t = room_in (stack_at t es)
 
 -- the thread's stack now has these locals and frames, and the other stacks are as they were
-pub record Changes (u : ℕ) (old new : List (ℕ × StackRows)) (slots : List Slot) (opened : List Frame) : Type 0 where
+pub record Changes (u : ℕ) (old new : List (ℕ × StackRows)) (slots : List LocalSlot) (opened : List Frame)
+    : Type 0 where
   pub locals : slots_in (stack_at u new) ≡ slots
   pub frames : frames_in (stack_at u new) ≡ opened
   pub others : (t : ℕ) → t ≢ u → stack_at t new ≡ stack_at t old

@@ -6,7 +6,7 @@ ghost use Rattle.std.specs.List.{AllByRecursion};
 ghost use Rattle.jg_locals.specs.Seen.{Chain, last, frame_of, is_frame, is_under, is_opened_under, is_from, frame_cmp, at_frame, one_more, one_less, counted_less, with_room};
 ghost use Rattle.jg_locals.specs.declared.row.Opened.{Opened};
 
-use crate::row::{Frame, Opened, Slot};
+use crate::row::{Frame, LocalSlot, Opened};
 use std::alloc::Allocator;
 use std::cmp::Ordering;
 
@@ -66,7 +66,8 @@ fn compare(frame: Frame, depth: u64, number: u64) -> Ordering
 fn place_of(frames: &[Opened], depth: u64, number: u64) -> Option<usize>
     requires { Chain is_opened_under frames.now }
     ensures { MatchOption result (AllByRecursion (λ o. is_frame depth number o.frame ≡ false) frames.now)
-        (λ i. (i < length frames.now) × ((o : Opened) → is_frame depth number (slice_index_or frames.now i o).frame ≡ true)) }
+        (λ i. (i < length frames.now)
+        × ((o : Opened) → is_frame depth number (slice_index_or frames.now i o).frame ≡ true)) }
 {
     match frames.binary_search_by(|opened| compare(opened.frame, depth, number)) {
         Ok(i) => Some(i),
@@ -107,7 +108,7 @@ fn count_less<A: Allocator>(frames: &mut Vec<Opened, A>, depth: u64, number: u64
 }
 
 /// Counts the local that is gone no more, if there is one.
-pub fn count_gone<A: Allocator>(frames: &mut Vec<Opened, A>, gone: Option<Slot>)
+pub fn count_gone<A: Allocator>(frames: &mut Vec<Opened, A>, gone: Option<LocalSlot>)
     requires { Chain is_opened_under frames.old.items }
     ensures counted { frames.new.items ≡ counted_less gone frames.old.items }
     ensures room { vec_capacity frames.old - vec_len frames.old ≤ vec_capacity frames.new - vec_len frames.new }

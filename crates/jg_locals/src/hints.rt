@@ -1,6 +1,6 @@
 //! Guesses of where a thread's locals stand.
 
-use crate::row::Slot;
+use crate::row::LocalSlot;
 use std::alloc::Allocator;
 
 /// The place from which on there are hints: a search among the slots below it is cheap.
@@ -62,7 +62,7 @@ impl<A: Allocator> Hints<A> {
     }
 
     /// Notes the places of all slots of the list anew, as far as the memory goes that is there.
-    pub fn note_all(&mut self, slots: &[Slot]) {
+    pub fn note_all(&mut self, slots: &[LocalSlot]) {
         self.offsets.clear();
         self.bases.clear();
         if let Some(slot) = slots.get(FIRST_PLACE) {

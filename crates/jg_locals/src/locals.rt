@@ -1,3 +1,5 @@
+//! The table of local references and frames, of all threads.
+
 ghost use Rattle.std.specs.Prelude.{◌≡◌, ℕ, ◌+◌, ◌<◌, ◌≤◌, ◌^◌, ◌↔◌, ◌++◌, List, [], ◌∷◌, OnOk, OnErr, IfSome, IsOk, IsNone, IsSome, IsTrue, All, length, map, vec_len, vec_capacity};
 ghost use Rattle.std.specs.Option.{is_some, option_map};
 ghost use Rattle.jg_locals.specs.History.{Event, by, Start, Make, Push, Ensure, Enter, Delete, Pop, Leave, End, acts_of, has_session, depth, frames, live, Holds, holds_object};
@@ -58,8 +60,9 @@ impl<A: Allocator + Clone> Locals<A> {
     }
 
     /// Begins the session of a thread that has none, with an empty base frame at depth 0 that has
-    /// room for 16 locals (chapter 5, `AttachCurrentThread`; chapter 4, "Local References"). Asks that it has none; the test is `has_session`. Fails only for want
-    /// of memory, and then leaves all rows unchanged; after `reserve_start` it can't fail.
+    /// room for 16 locals (chapter 5, `AttachCurrentThread`; chapter 4, "Local References"). Asks that
+    /// it has none; the test is `has_session`. Fails only for want of memory, and then leaves all rows
+    /// unchanged; after `reserve_start` it can't fail.
     pub fn start_thread(&mut self, tid: Tid) -> Result<(), AllocError>
         requires { IsNone (top tid.0 self.old.rows.frames) }
         ensures ok { OnOk result ((e : List Event) → Stands self.old.rows e
@@ -145,9 +148,9 @@ impl<A: Allocator + Clone> Locals<A> {
     }
 
     /// Enters a native method: a new activation, with an empty base frame that has room for 16
-    /// locals (chapter 2, "Global and Local References"; chapter 4, "Local References"). Asks that the thread has a session (`has_session`) and that its depth can
-    /// be counted (`depth` below the greatest `u64`). Fails only for want of memory, and then leaves
-    /// all rows unchanged.
+    /// locals (chapter 2, "Global and Local References"; chapter 4, "Local References"). Asks that the
+    /// thread has a session (`has_session`) and that its depth can be counted (`depth` below the
+    /// greatest `u64`). Fails only for want of memory, and then leaves all rows unchanged.
     pub fn enter(&mut self, tid: Tid) -> Result<(), AllocError>
         requires started { HasFrame tid.0 self.old.rows }
         requires fits { entered tid.0 self.old.rows < u64.MAX }

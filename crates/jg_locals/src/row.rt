@@ -1,8 +1,10 @@
+//! A local and a frame, as a thread's stack keeps them.
+
 /// A local as a thread's stack keeps it: its number and object, the depth and the number of open
 /// frames just after its making, and whether it is live. A dead one stays until the list is
 /// closed up or cut.
 #[derive(Clone, Copy, Debug, PartialEq, Eq)]
-pub struct Slot {
+pub struct LocalSlot {
     pub n: u64,
     pub object: u64,
     pub depth: u64,

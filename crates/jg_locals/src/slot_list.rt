@@ -1,10 +1,12 @@
+//! One thread's list of locals, with the objects that they name beside it.
+
 ghost use Rattle.std.specs.Prelude.{◌≡◌, ◌≤◌, ◌<◌, ◌+◌, ◌++◌, ◌∷◌, ◌&&◌, ◌==◌, [], IsOk, IsTrue, IfSome, MatchOption, false, OnOk, OnErr, filter, length, map, take, slice_index_or, slice_set, option_to_list, vec_capacity};
 ghost use Rattle.std.specs.List.{AllByRecursion, list_any};
 ghost use Rattle.jg_lists.specs.Marks.{Marks};
 ghost use Rattle.jg_locals.specs.Seen.{Chain, IsPlaceOf, is_before, is_live, named, ended};
 
 use crate::hints::Hints;
-use crate::row::Slot;
+use crate::row::LocalSlot;
 use jg_lists::Marking;
 use std::alloc::{AllocError, Allocator};
 use std::cell::Cell;
@@ -14,7 +16,7 @@ use std::marker::Model;
 /// these alone. Contracts see the slots, and for how many more there is room.
 #[derive(Drop)]
 pub struct SlotList<A: Allocator> {
-    slots: Vec<Slot, A>,
+    slots: Vec<LocalSlot, A>,
     /// The object of each slot; of a dead one the greatest number, at which there is no mark.
     objects: Vec<u64, A>,
     /// Where a local was found last, since a call's operand is asked for more than once. It is a guess,
@@ -39,14 +41,14 @@ impl<A: Allocator> Model for SlotList<A> {
 }
 
 /// The object that the slot names, if it is live.
-fn named(slot: Slot) -> u64
+fn named(slot: LocalSlot) -> u64
     ensures { result ≡ named slot }
 {
     if slot.live { slot.object } else { u64::MAX }
 }
 
 /// Whether the local `n` stands at the place.
-fn stands_at(slots: &[Slot], place: usize, n: u64) -> bool
+fn stands_at(slots: &[LocalSlot], place: usize, n: u64) -> bool
     ensures { IsTrue result → IsPlaceOf n slots.now place }
 {
     match slots.get(place) {
@@ -56,7 +58,7 @@ fn stands_at(slots: &[Slot], place: usize, n: u64) -> bool
 }
 
 /// Where the local `n` stands, if none is missing from the oldest up to it.
-fn place_in_row(slots: &[Slot], n: u64) -> Option<usize>
+fn place_in_row(slots: &[LocalSlot], n: u64) -> Option<usize>
     ensures { IfSome result (IsPlaceOf n slots.now) }
 {
     let place = n.checked_sub(slots.first()?.n)? as usize;
@@ -68,7 +70,7 @@ fn place_in_row(slots: &[Slot], n: u64) -> Option<usize>
 }
 
 /// Where the local `n` stands, if its hint is right.
-fn place_hinted<A: Allocator>(slots: &[Slot], hints: &Hints<A>, n: u64) -> Option<usize>
+fn place_hinted<A: Allocator>(slots: &[LocalSlot], hints: &Hints<A>, n: u64) -> Option<usize>
     ensures { IfSome result (IsPlaceOf n slots.now) }
 {
     let place = hints.get(n)?;
@@ -80,7 +82,7 @@ fn place_hinted<A: Allocator>(slots: &[Slot], hints: &Hints<A>, n: u64) -> Optio
 }
 
 /// Where the local `n` stands, live or dead.
-fn place_among<A: Allocator>(slots: &[Slot], hints: &Hints<A>, n: u64) -> Option<usize>
+fn place_among<A: Allocator>(slots: &[LocalSlot], hints: &Hints<A>, n: u64) -> Option<usize>
     requires { Chain is_before slots.now }
     ensures { MatchOption result (AllByRecursion (λ s. (s.n == n) ≡ false) slots.now) (IsPlaceOf n slots.now) }
 {
@@ -98,7 +100,7 @@ fn place_among<A: Allocator>(slots: &[Slot], hints: &Hints<A>, n: u64) -> Option
 }
 
 /// Lists the objects of the slots, for which there is room.
-fn name_all<A: Allocator>(objects: &mut Vec<u64, A>, slots: &[Slot])
+fn name_all<A: Allocator>(objects: &mut Vec<u64, A>, slots: &[LocalSlot])
     requires { length slots.now ≤ vec_capacity objects.old }
     ensures items { objects.new.items ≡ map named slots.now }
     ensures capacity { vec_capacity objects.old ≤ vec_capacity objects.new }
@@ -122,7 +124,7 @@ impl<A: Allocator> SlotList<A> {
         }
     }
 
-    pub fn as_slice(&self) -> &[Slot]
+    pub fn as_slice(&self) -> &[LocalSlot]
         ensures { result.now ≡ self.now.items }
     {
         self.slots.as_slice()
@@ -132,7 +134,7 @@ impl<A: Allocator> SlotList<A> {
     pub fn place_of(&self, n: u64) -> Option<usize>
         requires { Chain is_before self.now.items }
         ensures { MatchOption result (AllByRecursion (λ s. (s.n == n) ≡ false) self.now.items)
-            (λ i. (i < length self.now.items) × ((s : Slot) → (slice_index_or self.now.items i s).n ≡ n)) }
+            (λ i. (i < length self.now.items) × ((s : LocalSlot) → (slice_index_or self.now.items i s).n ≡ n)) }
     {
         let recent = self.recent.get();
         if stands_at(self.as_slice(), recent, n) {
@@ -155,7 +157,7 @@ impl<A: Allocator> SlotList<A> {
     }
 
     /// Adds a slot behind the others.
-    pub fn push(&mut self, slot: Slot) -> Result<(), AllocError>
+    pub fn push(&mut self, slot: LocalSlot) -> Result<(), AllocError>
         ensures ok { OnOk result (self.new.items ≡ self.old.items ++ slot ∷ []) }
         ensures err { OnErr result (self.new.items ≡ self.old.items) }
         ensures room { self.old.room ≤ self.new.room + 1 }
@@ -169,7 +171,7 @@ impl<A: Allocator> SlotList<A> {
     }
 
     /// Marks a slot dead. The answer is the slot as it was.
-    pub fn end(&mut self, place: usize) -> Slot
+    pub fn end(&mut self, place: usize) -> LocalSlot
         requires { place < length self.old.items }
         ensures was { result ≡ slice_index_or self.old.items place result }
         ensures items { self.new.items ≡ slice_set self.old.items place (ended result) }
@@ -182,7 +184,7 @@ impl<A: Allocator> SlotList<A> {
     }
 
     /// Takes the last slot off.
-    pub fn pop(&mut self) -> Option<Slot>
+    pub fn pop(&mut self) -> Option<LocalSlot>
         ensures items { self.old.items ≡ self.new.items ++ option_to_list result }
         ensures fewer { 0 < length self.old.items → length self.new.items < length self.old.items }
         ensures room { self.old.room ≤ self.new.room }

@@ -6,7 +6,7 @@ ghost use Rattle.std.specs.List.{AllByRecursion};
 ghost use Rattle.jg_locals.specs.Seen.{Chain, is_before, is_live, dead_in, last, passes, stays, is_below, IsBelowAll, Sound, slot_ref};
 ghost use Rattle.jg_locals.specs.declared.row.Frame.{Frame};
 
-use crate::row::{Frame, Slot};
+use crate::row::{Frame, LocalSlot};
 use crate::slot_list::SlotList;
 use jg_words::{Kind, Ref, Tid};
 use std::alloc::{AllocError, Allocator};
@@ -22,7 +22,7 @@ pub fn object_of<A: Allocator>(slots: &SlotList<A>, n: u64) -> Option<u64>
 }
 
 /// Marks the local `n` dead, and answers it if it was live.
-fn mark_dead<A: Allocator>(slots: &mut SlotList<A>, n: u64) -> Option<Slot>
+fn mark_dead<A: Allocator>(slots: &mut SlotList<A>, n: u64) -> Option<LocalSlot>
     requires { Chain is_before slots.old.items }
     ensures was { result ≡ find (λ s. s.n == n) (filter is_live slots.old.items) }
     ensures marked { filter is_live slots.new.items ≡ filter (λ s. not (s.n == n)) (filter is_live slots.old.items) }
@@ -39,27 +39,27 @@ fn mark_dead<A: Allocator>(slots: &mut SlotList<A>, n: u64) -> Option<Slot>
     }
 }
 
-fn live_slot(slot: Slot) -> Option<Slot>
+fn live_slot(slot: LocalSlot) -> Option<LocalSlot>
     ensures { result ≡ if slot.live then Some slot else None }
 {
     if slot.live { Some(slot) } else { None }
 }
 
 /// The newest slot, live or dead.
-pub fn newest_slot(slots: &[Slot]) -> Option<Slot>
+pub fn newest_slot(slots: &[LocalSlot]) -> Option<LocalSlot>
     ensures { result ≡ last slots.now }
 {
     slots.last().copied()
 }
 
-fn is_below(slot: Slot, frame: Frame) -> bool
+fn is_below(slot: LocalSlot, frame: Frame) -> bool
     ensures { result ≡ is_below slot frame }
 {
     slot.depth < frame.depth || slot.depth == frame.depth && slot.frame < frame.frame
 }
 
 /// Whether the newest slot, if any, is live and, where a frame is named, below it.
-fn ends_well(slots: &[Slot], from: Option<Frame>) -> bool
+fn ends_well(slots: &[LocalSlot], from: Option<Frame>) -> bool
     ensures ends { result ≡ passes (stays from) (last slots.now) }
     ensures some { result ≡ false → 0 < length slots.now }
 {
@@ -73,7 +73,7 @@ fn ends_well(slots: &[Slot], from: Option<Frame>) -> bool
 }
 
 /// How many live slots that is: one or none.
-fn live_count(slot: Option<Slot>) -> usize
+fn live_count(slot: Option<LocalSlot>) -> usize
     ensures { result ≡ length (filter is_live (option_to_list slot)) }
 {
     match slot {
@@ -104,7 +104,7 @@ pub fn cut<A: Allocator>(slots: &mut SlotList<A>, from: Option<Frame>) -> usize
 }
 
 /// Ends the local `n`, and answers it if it was live.
-pub fn end_local<A: Allocator>(slots: &mut SlotList<A>, n: u64) -> Option<Slot>
+pub fn end_local<A: Allocator>(slots: &mut SlotList<A>, n: u64) -> Option<LocalSlot>
     requires { Chain is_before slots.old.items }
     ensures was { result ≡ find (λ s. s.n == n) (filter is_live slots.old.items) }
     ensures live { filter is_live slots.new.items ≡ filter (λ s. not (s.n == n)) (filter is_live slots.old.items) }
@@ -144,7 +144,7 @@ pub fn close_up_if<A: Allocator>(slots: &mut SlotList<A>, dead: usize) -> usize
 }
 
 /// Whether `n` is above the number of each live local.
-pub fn is_above_all(slots: &[Slot], n: u64) -> bool
+pub fn is_above_all(slots: &[LocalSlot], n: u64) -> bool
     requires rises { Chain is_before slots.now }
     requires ends { passes is_live (last slots.now) ≡ true }
     ensures { IsTrue result ↔ All (λ s. s.n < n) (filter is_live slots.now) }
@@ -156,7 +156,7 @@ pub fn is_above_all(slots: &[Slot], n: u64) -> bool
 }
 
 /// The number of the first live local that names the object.
-pub fn number_of(slots: &[Slot], object: u64) -> Option<u64>
+pub fn number_of(slots: &[LocalSlot], object: u64) -> Option<u64>
     ensures { result ≡ option_map (λ s. s.n) (find (λ s. s.object == object) (filter is_live slots.now)) }
 {
     match slot_of(slots, object) {
@@ -165,7 +165,7 @@ pub fn number_of(slots: &[Slot], object: u64) -> Option<u64>
     }
 }
 
-fn slot_of(slots: &[Slot], object: u64) -> Option<Slot>
+fn slot_of(slots: &[LocalSlot], object: u64) -> Option<LocalSlot>
     ensures { result ≡ find (λ s. s.live && s.object == object) slots.now }
 {
     slots
@@ -176,7 +176,7 @@ fn slot_of(slots: &[Slot], object: u64) -> Option<Slot>
 
 /// Appends a reference to the slot's local, if the slot is live.
 fn list_if_live<B: Allocator>(
-    slot: &Slot,
+    slot: &LocalSlot,
     tid: u16,
     refs: &mut Vec<Ref, B>,
 ) -> Result<(), AllocError>
@@ -197,7 +197,7 @@ fn list_if_live<B: Allocator>(
 
 /// Appends a reference to each live local of the thread.
 pub fn list_live<B: Allocator>(
-    slots: &[Slot],
+    slots: &[LocalSlot],
     tid: u16,
     refs: &mut Vec<Ref, B>,
 ) -> Result<(), AllocError>

@@ -1,3 +1,5 @@
+//! One thread's locals and open frames.
+
 ghost use Rattle.std.specs.Prelude.{◌≡◌, ◌≤◌, ◌<◌, ◌+◌, ◌^◌, ◌&&◌, ◌==◌, ◌++◌, ◌∷◌, ◌↔◌, [], All, OnOk, OnErr, IsOk, IsSome, IsTrue, Some, false, not, filter, find, length, map, vec_len, vec_capacity};
 ghost use Rattle.std.specs.Option.{option_map};
 ghost use Rattle.std.specs.List.{list_any};
@@ -5,7 +7,7 @@ ghost use Rattle.jg_lists.specs.Marks.{Marks};
 ghost use Rattle.jg_locals.specs.Seen.{last, slot_made, slot_ref, room_set, held_in, is_full, IsNext};
 
 use crate::frames::{close_from, count_gone, count_more, newest, newest_frame, set_room};
-use crate::row::{Frame, Opened, Slot};
+use crate::row::{Frame, LocalSlot, Opened};
 use crate::slot_list::SlotList;
 use crate::slots::{close_up_if, cut, end_local, is_above_all, list_live, number_of, object_of};
 use jg_lists::Marking;
@@ -91,7 +93,7 @@ impl<A: Allocator> Stack<A> {
             × (length self.new.locals < 2 ^ 63)) }
     {
         let top = self.top().unwrap();
-        self.slots.push(Slot {
+        self.slots.push(LocalSlot {
             n,
             object,
             depth: top.depth,

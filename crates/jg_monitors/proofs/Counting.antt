@@ -3,6 +3,7 @@ use Rattle.std.proofs.Common.{◌≡◌, ◌≢◌, ℕ, ◌+◌, ◌-◌, ◌<�
 use Rattle.std.specs.Prelude.{◌==◌, ◌⊎◌, nat_lt, if◌then◌else◌, map}
 use Rattle.std.specs.List.{find}
 use Rattle.std.proofs.lemmas.Bool.Decides.{nat_tests}
+use Rattle.std.proofs.lemmas.Option.{same_Some}
 use Rattle.jg_monitors.specs.History.{Act, Enter, Exit, ReleaseAll, Event, by, acts_of, since, enters, exits, how_many, count, owner, is_some, held}
 use Rattle.jg_monitors.specs.Standing.{IsAllowed, AllAllowed}
 use Rattle.jg_lists.proofs.Lists.{Member}
@@ -142,12 +143,9 @@ find_some : {X : Type 0} (p : X → Bool) (x : X) (xs : List X) → p x ≡ true
 find_some p x [] passes there = absurd there
 find_some p x (y ∷ ys) passes there = found_in p x y ys (p y) refl (find_some p x ys passes) passes there
 
-some_is : {X : Type 0} (a b : X) → Some a ≡ Some b → a ≡ b
-some_is a b is = cc
-
 find_passes_by : {X : Type 0} (p : X → Bool) (y z : X) (ys : List X) (b : Bool) → p y ≡ b → (find p ys ≡ Some z → p z ≡ true) → (if b then Some y else find p ys) ≡ Some z → p z ≡ true
 find_passes_by p y z ys true is later found =
-    let same : y ≡ z = some_is y z found in
+    let same : y ≡ z = same_Some y z found in
     ap p (sym same) ∙ is
 find_passes_by p y z ys false is later found = later found
 

@@ -28,7 +28,8 @@ abbrev pub listed : List (ℕ × Owned) → List OwnedMonitor
 listed es = map owned_monitor (map seen es)
 
 -- with the monitors of all seats, those of all entries are listed
-pub listed_all : (seats : List (Numbered Owned)) (es : List (ℕ × Owned)) (i : ℕ) (found : List OwnedMonitor) → length seats ≤ i → found ≡ listed (map pair (take i seats)) → map pair seats ≡ es → found ≡ listed es
+pub listed_all : (seats : List (Numbered Owned)) (es : List (ℕ × Owned)) (i : ℕ) (found : List OwnedMonitor)
+    → length seats ≤ i → found ≡ listed (map pair (take i seats)) → map pair seats ≡ es → found ≡ listed es
 listed_all seats es i found past so_far is = so_far ∙ ap (λ l. listed (map pair l)) (take_all i seats past) ∙ ap listed is
 
 -- ---- in another order
@@ -102,4 +103,7 @@ module _ (es : List (ℕ × Owned)) (found ms : List OwnedMonitor) (distinct : I
       let rise = subst IsNonDecreasing (sym (keys_back ms)) (objects_rise ms sorted) in
       let keys = keys_of (map entry_of ms) in
       subst Ascends (monitors_back ms)
-      (ascends_law (map entry_of ms) (sorted_from_strictly_increasing keys (IsStrictlyIncreasing-from_distinct keys rise (subst (λ e. IsDistinct e keys) (λ i x y. unsigned_tied x y i) distinct_still))))
+      (ascends_law (map entry_of ms)
+      (sorted_from_strictly_increasing keys
+      (IsStrictlyIncreasing-from_distinct keys rise
+      (subst (λ e. IsDistinct e keys) (λ i x y. unsigned_tied x y i) distinct_still))))

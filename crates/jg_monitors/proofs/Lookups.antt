@@ -4,6 +4,7 @@ use Rattle.std.specs.Prelude.{◌==◌, ◌||◌, if◌then◌else◌, map, Resu
 use Rattle.std.specs.List.{list_any}
 use Rattle.std.specs.Option.{is_some as is_there}
 use Rattle.std.specs.Map.{keys_of}
+use Rattle.std.proofs.lemmas.Option.{same_Some}
 use Rattle.jg_monitors.specs.declared.entering.Entering.TheVariants.{Entered, Busy}
 use Rattle.jg_monitors.specs.declared.entering.Entering.{Entering}
 use Rattle.jg_monitors.specs.declared.owned.Owned.{Owned}
@@ -102,14 +103,11 @@ pub kept_law : (o : ℕ) (found : Option Owned) → count_kept found ≡ count_i
 kept_law o None = refl
 kept_law o (Some w) = refl
 
-some_is : (a b : ℕ) → Some a ≡ Some b → a ≡ b
-some_is a b is = cc
-
 -- ---- exiting
 
 pub owned_law : (t o : ℕ) (found : Option Owned) → owner_in (row_at o found) ≡ Some t → (w : Owned) × ((found ≡ Some w) × (w.tid ≡ t))
 owned_law t o None is = cc
-owned_law t o (Some w) is = (w, (refl, some_is w.tid t is))
+owned_law t o (Some w) is = (w, (refl, same_Some w.tid t is))
 
 -- ---- marks
 

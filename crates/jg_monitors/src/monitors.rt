@@ -1,3 +1,5 @@
+//! The table of owned monitors, by object and by owner.
+
 ghost use Rattle.std.specs.Prelude.{◌≡◌, ℕ, ◌+◌, ◌<◌, List, [], ◌∷◌, ◌==◌, filter, None, Some, IfOk, OnErr, map, option_map};
 ghost use Rattle.jg_monitors.specs.History.{Event, by, Enter, Exit, ReleaseAll, owner, owner_count, held, entering};
 ghost use Rattle.jg_monitors.specs.Rows.{Ascends, is_of, owned_monitor, row_of, owner_in, count_in};

@@ -1,3 +1,5 @@
+//! The owner and the count of each owned monitor, by object: one is entered, exited or freed.
+
 ghost use Rattle.std.specs.Prelude.{◌≡◌, ℕ, ◌==◌, ◌<◌, not, if◌then◌else◌, filter, None, IfOk, map};
 ghost use Rattle.std.specs.List.{list_any};
 ghost use Rattle.std.specs.Map.{keys_of};

@@ -1,3 +1,5 @@
+//! An owned monitor, as the table tells it.
+
 use jg_words::{ObjId, Tid};
 
 /// An owned monitor: its object, the thread that owns it, and how often that thread entered it and

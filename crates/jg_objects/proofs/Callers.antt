@@ -3,10 +3,10 @@ use Rattle.jg_objects.specs.Laws.{MarksKeep, ToldMeans, WentMeans}
 use Rattle.jg_objects.proofs.Steps.{marks_keep}
 use Rattle.jg_objects.proofs.Told.{told_means, went_means}
 
-pub told_law : ToldMeans
+told_law : ToldMeans
 told_law k e o class len = told_means k e o class len
 
-pub went_law : WentMeans
+went_law : WentMeans
 went_law k objects e = went_means k objects e
 
 pub marks_law : MarksKeep

@@ -15,6 +15,7 @@ pub record IsToldAs (k : ℕ) (e : List Event) (o class len : ℕ) : Type 0 wher
   pub of_length : length_in (making_at k e o) ≡ len
 
 -- an object's class and length are told where it is there and no class object
+-- (proofs/Told.antt)
 abbrev pub ToldMeans : Type 0
 ToldMeans = (k : ℕ) (e : List Event) (o class len : ℕ)
     → (told k e o ≡ Some (class, len)) ↔ IsToldAs k e o class len
@@ -25,9 +26,11 @@ pub record WentWith (k : ℕ) (objects : List ObjId) (e : List Event) : Type 0 w
   pub making : (o : ℕ) → making_at k (went objects e) o ≡ making_at k e o
   pub there : (o : ℕ) → is_there k (went objects e) o ≡ (is_there k e o && (nat_lt o k || not (is_listed objects o)))
 
+-- (proofs/Told.antt)
 abbrev pub WentMeans : Type 0
 WentMeans = (k : ℕ) (objects : List ObjId) (e : List Event) → WentWith k objects e
 
 -- rows that tell of the same stand for the same events
+-- (proofs/Steps.antt)
 abbrev pub MarksKeep : Type 0
 MarksKeep = (old new : Rows) (e : List Event) → IsButMarks old new → Stands old e → Stands new e

@@ -18,7 +18,7 @@ class_and_length kept = (kept.class, kept.length)
 abbrev pub told_in : Rows → ℕ → Option (ℕ × ℕ)
 told_in rows o = option_map class_and_length (at o rows.there)
 
-abbrev pub mark_kept : Option Kept → Option Bool
+abbrev mark_kept : Option Kept → Option Bool
 mark_kept None = None
 mark_kept (Some kept) = kept.mark
 

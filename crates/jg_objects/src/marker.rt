@@ -1,3 +1,5 @@
+//! A table of objects while others mark in it, which still tells the same of them.
+
 ghost use Rattle.std.specs.Prelude.{◌≡◌, []};
 ghost use Rattle.std.proofs.Props.{props};
 ghost use Rattle.jg_objects.specs.Rows.{Rows, IsButMarks, mark_in};

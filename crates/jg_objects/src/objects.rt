@@ -1,3 +1,5 @@
+//! The table of the objects that are there.
+
 ghost use Rattle.std.specs.Prelude.{◌≡◌, ℕ, ◌<◌, ◌≤◌, ◌^◌, List, [], ◌∷◌, ◌==◌, if◌then◌else◌, false, None, IfOk, OnOk, OnErr};
 ghost use Rattle.std.specs.List.{list_any};
 ghost use Rattle.std.specs.Option.{option_map};
@@ -10,7 +12,7 @@ ghost use Rattle.jg_objects.specs.Standing.{Stands};
 
 use crate::kept::{ByObject, Kept, forget, look, put_marks, set_mark, set_marks};
 use jg_lists::{ByNumber, Marking};
-use jg_words::ObjId;
+use jg_words::{CLASS_CLASS, ObjId};
 use std::alloc::{AllocError, Allocator, Global};
 use std::marker::Model;
 
@@ -95,7 +97,7 @@ impl<A: Allocator> Objects<A> {
     {
         match look(&self.there, object.0) {
             Some(kept) => kept.class,
-            None => 1,
+            None => CLASS_CLASS,
         }
     }
 

@@ -1,3 +1,5 @@
+//! A run of the machine: what it is told, and what it answers.
+
 use super::*;
 use jg_words::Rule;
 use std::test::Fail;

@@ -8,4 +8,12 @@ pub written_more : {A B C D : Type 0} (show : A → D) (read : C → B) (write :
     → map show done ≡ map write (map read (take i xs))
     → map show (done ++ a ∷ []) ≡ map write (map read (take (i + 1) xs))
 written_more show read write done a xs i x below is seen kept =
-    rw (take_more xs i x below, map-append show done (a ∷ []), map-append read (take i xs) (get_or xs i x ∷ []), map-append write (map read (take i xs)) (read (get_or xs i x) ∷ []), ← is, ← kept, seen) refl
+    rw (
+      take_more xs i x below,
+      map-append show done (a ∷ []),
+      map-append read (take i xs) (get_or xs i x ∷ []),
+      map-append write (map read (take i xs)) (read (get_or xs i x) ∷ []),
+      ← is,
+      ← kept,
+      seen,
+    ) refl

@@ -10,7 +10,7 @@ use Rattle.jg_policy.specs.Stated.{StatedMember, StatedGrant, StatedClass, State
 use Rattle.jg_policy.specs.Written.{member_tree, members_data, class_tree, word_if, operation_data, grant_tree, mode_word, setup_tree}
 
 module _ {A : Type 0} (f : Data → A) (write : A → Data) (back : (a : A) → f (write a) ≡ a) where
-  pub each_back : (xs : List A) → each_item f (items_of (map write xs)) ≡ xs
+  each_back : (xs : List A) → each_item f (items_of (map write xs)) ≡ xs
   each_back [] = refl
   each_back (x ∷ xs) = rw (back x, each_back xs) refl
 

@@ -20,7 +20,7 @@ module _ {A : Type 0} (p : A → Bool) where
   pub how_many-reordered : (xs ys : List A) → IsPermutation xs ys → how_many p ys ≡ how_many p xs
   how_many-reordered xs ys h = as_sum ys ∙ sum_by-IsPermutation (λ x. once_if (p x)) xs ys h ∙ sym (as_sum xs)
 
-  pub how_many_none : (xs : List A) → list_any p xs ≡ false → how_many p xs ≡ 0
+  how_many_none : (xs : List A) → list_any p xs ≡ false → how_many p xs ≡ 0
   how_many_none [] h = refl
   how_many_none (x ∷ xs) h = by (p x) h (how_many_none xs)
     where
@@ -78,7 +78,7 @@ module _ {A : Type 0} (same : A → A → Bool) (equal : (q k : A) → same q k 
       by false e = stands q
 
   -- the keys that a test keeps
-  pub how_many-filter : (ks : List A) (keeps : A → Bool) (holds : A → Bool) → ((q : A) → how_many (same q) ks ≡ once_if (holds q))
+  how_many-filter : (ks : List A) (keeps : A → Bool) (holds : A → Bool) → ((q : A) → how_many (same q) ks ≡ once_if (holds q))
       → (q : A) → how_many (same q) (filter keeps ks) ≡ once_if (keeps q && holds q)
   how_many-filter ks keeps holds stands q = by (keeps q) refl
     where

@@ -10,7 +10,7 @@ de_morgan : (a b : Bool) → (not a || not b) ≡ not (a && b)
 de_morgan true b = refl
 de_morgan false b = refl
 
-pub has_unknown_key-keys : (known : List (List ℕ)) (es : List Entry)
+has_unknown_key-keys : (known : List (List ℕ)) (es : List Entry)
     → has_unknown_key known (members_view es) ≡ not (list_all (λ k. is_among known (string_bytes k)) (keys_of es))
 has_unknown_key-keys known [] = refl
 has_unknown_key-keys known (e ∷ es) =

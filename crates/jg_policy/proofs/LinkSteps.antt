@@ -98,7 +98,8 @@ counted_once (k ∷ links) apart q = by (same_link q k) refl (counted_once links
     by false other later = later
 
 -- a class's number was raised
-pub up_to_raised : (old new : List (ℕ × ℕ)) (class most : ℕ) → ((c : ℕ) → greatest_of c new ≡ cond (class == c) (Some most) (greatest_of c old)) → ((n : ℕ) → IsUpTo n (greatest_of class old) → n ≤ most)
+pub up_to_raised : (old new : List (ℕ × ℕ)) (class most : ℕ) → ((c : ℕ) → greatest_of c new ≡ cond (class == c) (Some most) (greatest_of c old))
+    → ((n : ℕ) → IsUpTo n (greatest_of class old) → n ≤ most)
     → (c n : ℕ) → IsUpTo n (greatest_of c old) → IsUpTo n (greatest_of c new)
 up_to_raised old new class most put least c n below = subst (IsUpTo n) (sym (put c)) (by (class == c) refl)
   where
@@ -106,12 +107,14 @@ up_to_raised old new class most put least c n below = subst (IsUpTo n) (sym (put
     by true same = least n (subst (λ k. IsUpTo n (greatest_of k old)) (sym (equal_ℕ class c same)) below)
     by false other = below
 
-pub up_to_alike : (links new : List Link) (old now : List (ℕ × ℕ)) → ((q : Link) → list_any (same_link q) new ≡ list_any (same_link q) links) → ((c n : ℕ) → IsUpTo n (greatest_of c old) → IsUpTo n (greatest_of c now))
+pub up_to_alike : (links new : List Link) (old now : List (ℕ × ℕ)) → ((q : Link) → list_any (same_link q) new ≡ list_any (same_link q) links)
+    → ((c n : ℕ) → IsUpTo n (greatest_of c old) → IsUpTo n (greatest_of c now))
     → AreUpTo links old → AreUpTo new now
 up_to_alike links new old now same raised all q there = raised q.class q.native (all q (sym (same q) ∙ there))
 
 -- one more link
-pub up_to_linked : (links new : List Link) (old now : List (ℕ × ℕ)) (k : Link) → ((q : Link) → list_any (same_link q) new ≡ cond (same_link k q) true (list_any (same_link q) links)) → IsUpTo k.native (greatest_of k.class now)
+pub up_to_linked : (links new : List Link) (old now : List (ℕ × ℕ)) (k : Link)
+    → ((q : Link) → list_any (same_link q) new ≡ cond (same_link k q) true (list_any (same_link q) links)) → IsUpTo k.native (greatest_of k.class now)
     → ((c n : ℕ) → IsUpTo n (greatest_of c old) → IsUpTo n (greatest_of c now)) → AreUpTo links old → AreUpTo new now
 up_to_linked links new old now k put own raised all q there = by (same_link k q) refl (sym (put q) ∙ there)
   where
@@ -120,7 +123,7 @@ up_to_linked links new old now k put own raised all q there = by (same_link k q)
     by false other is = raised q.class q.native (all q is)
 
 -- no link of a class is left where none has a greater number
-abbrev pub Gone : ℕ → List Link → List Link → Type 0
+abbrev Gone : ℕ → List Link → List Link → Type 0
 Gone class links new = (q : Link) → list_any (same_link q) new ≡ (not (class == q.class) && list_any (same_link q) links)
 
 pub gone_all : (links new : List Link) (old : List (ℕ × ℕ)) (class most : ℕ) → greatest_of class old ≡ Some most
@@ -144,7 +147,8 @@ gone_none links old class is all q = by (class == q.class) refl (list_any (same_
     by true same false here = refl
     by false same there here = refl
 
-pub up_to_gone : (links new : List Link) (old now : List (ℕ × ℕ)) (class : ℕ) → ((c : ℕ) → greatest_of c now ≡ cond (class == c) None (greatest_of c old)) → Gone class links new → AreUpTo links old → AreUpTo new now
+up_to_gone : (links new : List Link) (old now : List (ℕ × ℕ)) (class : ℕ) → ((c : ℕ) → greatest_of c now ≡ cond (class == c) None (greatest_of c old))
+    → Gone class links new → AreUpTo links old → AreUpTo new now
 up_to_gone links new old now class put gone all q there = by (class == q.class) refl (sym (gone q) ∙ there)
   where
     by : (b : Bool) → (class == q.class) ≡ b → (not b && list_any (same_link q) links) ≡ true → IsUpTo q.native (greatest_of q.class now)

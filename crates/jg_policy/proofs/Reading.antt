@@ -11,7 +11,7 @@ use Rattle.jg_policy.specs.Kept.{class_view}
 use Rattle.jg_policy.proofs.Places.{position-append, position-map}
 
 -- the entries of a setup's map of classes
-abbrev pub Entries : Type 0
+abbrev Entries : Type 0
 Entries = List (String Global × Class)
 
 pub slice_get-map : {A B : Type 0} (f : A → B) (xs : List A) (i : ℕ) → slice_get (map f xs) i ≡ option_map f (slice_get xs i)

@@ -36,13 +36,13 @@ any_last p xs x h = rw (list_any-append p xs (x ∷ []), h) (or_true (list_any p
 
 module _ {A : Type 0} (same : A → A → Bool) where
   -- a last item repeats one before it
-  pub has_repeat-last : (xs : List A) (x : A) → has_repeat same (xs ++ x ∷ []) ≡ (has_repeat same xs || list_any (same x) xs)
+  has_repeat-last : (xs : List A) (x : A) → has_repeat same (xs ++ x ∷ []) ≡ (has_repeat same xs || list_any (same x) xs)
   has_repeat-last [] x = refl
   has_repeat-last (y ∷ ys) x =
       rw (list_any-append (λ z. same z y) ys (x ∷ []), has_repeat-last ys x)
       (regroup (list_any (λ z. same z y) ys) (same x y) (has_repeat same ys) (list_any (same x) ys))
 
-  pub has_repeat-grows : (xs ys : List A) → has_repeat same xs ≡ true → has_repeat same (xs ++ ys) ≡ true
+  has_repeat-grows : (xs ys : List A) → has_repeat same xs ≡ true → has_repeat same (xs ++ ys) ≡ true
   has_repeat-grows [] ys h = absurd (false≢true h)
   has_repeat-grows (x ∷ xs) ys h = either_grows _ _ _ _ (any_grows (λ y. same y x) xs ys) (has_repeat-grows xs ys) h
 
@@ -102,7 +102,7 @@ once_stated cs c base new own none =
 
 -- ---- as they are kept
 
-pub list_any-map : {A B : Type 0} (show : A → B) (p : B → Bool) (xs : List A) → list_any p (map show xs) ≡ list_any (λ x. p (show x)) xs
+list_any-map : {A B : Type 0} (show : A → B) (p : B → Bool) (xs : List A) → list_any p (map show xs) ≡ list_any (λ x. p (show x)) xs
 list_any-map show p [] = refl
 list_any-map show p (x ∷ xs) = ap (λ b. p (show x) || b) (list_any-map show p xs)
 

@@ -51,7 +51,13 @@ name_put k name held names is = rw (flipped name k.now, list_any-append (bytes_e
 pub pair_put : (k : Text × Text) (m : StatedMember) (held : Bool) (members : List StatedMember) → held ≡ list_any (same_member m) members
     → cond (is_eq (pair_order k (text m.name, text m.signature))) true held ≡ list_any (same_member m) (members ++ record { name = k.0.now; signature = k.1.now } ∷ [])
 pair_put k m held members is =
-    rw (both_equal (text_order k.0 (text m.name)) (text_order k.1 (text m.signature)), flipped m.name k.0.now, flipped m.signature k.1.now, list_any-append (same_member m) members (record { name = k.0.now; signature = k.1.now } ∷ []), is)
+    rw (
+      both_equal (text_order k.0 (text m.name)) (text_order k.1 (text m.signature)),
+      flipped m.name k.0.now,
+      flipped m.signature k.1.now,
+      list_any-append (same_member m) members (record { name = k.0.now; signature = k.1.now } ∷ []),
+      is,
+    )
     (more (bytes_eq m.name k.0.now && bytes_eq m.signature k.1.now) _)
 
 -- ---- what an array states, item by item

@@ -61,10 +61,10 @@ shifted n None (Some i) = ap (λ m. Some m) (let e : n + (1 + i) ≡ (1 + n) + i
 
 module _ (names : List (List ℕ)) where
   -- the number that a name was given, or else its place among those that are left, is its place among all
-  abbrev pub Numbers : (List ℕ → Option ℕ) → ℕ → List (List ℕ) → Type 0
+  abbrev Numbers : (List ℕ → Option ℕ) → ℕ → List (List ℕ) → Type 0
   Numbers given next left = (q : List ℕ) → or_later next (given q) (position (bytes_eq q) left) ≡ position (bytes_eq q) names
 
-  pub none_given : Numbers (λ q. None) 0 names
+  none_given : Numbers (λ q. None) 0 names
   none_given q = by (position (bytes_eq q) names)
     where
       by : (o : Option ℕ) → or_later 0 None o ≡ o
@@ -73,7 +73,7 @@ module _ (names : List (List ℕ)) where
 
   module _ (given : List ℕ → Option ℕ) (next : ℕ) (name : List ℕ) (left : List (List ℕ)) (numbers : Numbers given next (name ∷ left)) where
     -- the next of those that are left gets its number
-    pub next_number : Some (unwrap_or (given name) next) ≡ position (bytes_eq name) names
+    next_number : Some (unwrap_or (given name) next) ≡ position (bytes_eq name) names
     next_number = by (given name) (numbers name)
       where
         here : position (bytes_eq name) (name ∷ left) ≡ Some 0
@@ -83,7 +83,7 @@ module _ (names : List (List ℕ)) where
         by (Some n) h = h
         by None h = ap (λ m. Some m) (let e : next ≡ next + 0 = omega arith in e) ∙ ap (or_later next None) (sym here) ∙ h
 
-    pub next_numbers : (n : ℕ) (after : List ℕ → Option ℕ) → n ≡ unwrap_or (given name) next → ((q : List ℕ) → after q ≡ update bytes_eq given name (Some n) q)
+    next_numbers : (n : ℕ) (after : List ℕ → Option ℕ) → n ≡ unwrap_or (given name) next → ((q : List ℕ) → after q ≡ update bytes_eq given name (Some n) q)
         → Numbers after (1 + next) left
     next_numbers n after is set q = rw (set q) (by (bytes_eq name q) refl)
       where

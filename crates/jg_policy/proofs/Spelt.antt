@@ -99,8 +99,10 @@ grant_spelt = table_spelt grant_table_faults grant_stated_in is_grant_spelt gran
 grants_spelt : (ms : Members) → granting_faults ms ≡ [] → list_all is_grant_spelt (grants_stated ms) ≡ true
 grants_spelt ms = by (is_version_2 ms)
   where
-    by : (b : Bool) → (if b then optional (array_faults grant_faults) (get_member (codes "grant") ms) else optional (array_faults (text_faults ModuleName)) (get_member (codes "enable_native_access") ms)) ≡ []
-        → list_all is_grant_spelt (if b then each_item grant_stated (items_at (get_member (codes "grant") ms)) else each_item enabled_stated (items_at (get_member (codes "enable_native_access") ms))) ≡ true
+    by : (b : Bool) → (if b then optional (array_faults grant_faults) (get_member (codes "grant") ms)
+        else optional (array_faults (text_faults ModuleName)) (get_member (codes "enable_native_access") ms)) ≡ []
+        → list_all is_grant_spelt (if b then each_item grant_stated (items_at (get_member (codes "grant") ms))
+        else each_item enabled_stated (items_at (get_member (codes "enable_native_access") ms))) ≡ true
     by true h = array_spelt grant_faults grant_stated is_grant_spelt grant_spelt (get_member (codes "grant") ms) h
     by false h = array_spelt (text_faults ModuleName) enabled_stated is_grant_spelt (text_spelt ModuleName) (get_member (codes "enable_native_access") ms) h
 

@@ -46,9 +46,7 @@ pub stated_count : {A : Type 0} (f : Data → A) (vs : List Value) → length (e
 stated_count f [] = refl
 stated_count f (v ∷ vs) = ap suc (stated_count f vs)
 
-pub ruleset count_rules = (stated_count)
-
 -- a test of what the items state
-pub any_stated : {A : Type 0} (p : A → Bool) (f : Data → A) (vs : List Value) → list_any p (each_item f (items_view vs)) ≡ list_any (λ v. p (f (view v))) vs
+any_stated : {A : Type 0} (p : A → Bool) (f : Data → A) (vs : List Value) → list_any p (each_item f (items_view vs)) ≡ list_any (λ v. p (f (view v))) vs
 any_stated p f [] = refl
 any_stated p f (v ∷ vs) = ap (λ b. p (f (view v)) || b) (any_stated p f vs)

@@ -161,7 +161,7 @@ early_granting ms =
     (early_optional (array_faults grant_faults) (early_array grant_faults early_grant) (get_member (codes "grant") ms))
     (early_optional (array_faults (text_faults ModuleName)) (early_array (text_faults ModuleName) (early_text ModuleName)) (get_member (codes "enable_native_access") ms))
 
-pub early_shape : (ms : Members) → are_early (shape_faults ms) ≡ true
+early_shape : (ms : Members) → are_early (shape_faults ms) ≡ true
 early_shape ms =
     let unknown : are_early (fault_if (has_unknown_setup_key ms) UnknownKey) ≡ true = early_if (has_unknown_setup_key ms) UnknownKey refl in
     let version : are_early (required version_faults (get_member (codes "version") ms)) ≡ true = early_required version_faults early_version (get_member (codes "version") ms) in

@@ -38,7 +38,7 @@ abbrev pub module_access : StatedSetup → List ℕ → Operation → Access
 module_access setup name operation = if is_enabled setup name operation then Allowed else access_by setup.mode
 
 -- the class is in a module that is enabled for the operation
-abbrev pub is_enabled_for : StatedSetup → ℕ → Operation → Bool
+abbrev is_enabled_for : StatedSetup → ℕ → Operation → Bool
 is_enabled_for setup class operation =
     option_map_or (λ name. is_enabled setup name operation) (module_name_of setup class) false
 

@@ -18,7 +18,7 @@ abbrev pub class_at : StatedSetup → ℕ → Option StatedClass
 class_at setup class = if nat_lt class 15 then None else slice_get setup.classes (class - 15)
 
 -- the classes of the exceptions that calls throw are throwable, and those classes of the setup that say so
-abbrev pub says_throwable : Option StatedClass → Bool
+abbrev says_throwable : Option StatedClass → Bool
 says_throwable None = false
 says_throwable (Some c) = c.throwable
 

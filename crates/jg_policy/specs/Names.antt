@@ -15,7 +15,7 @@ is_segment_byte b =
 abbrev pub is_segment : List ℕ → Bool
 is_segment text = nat_lt 0 (length text) && list_all is_segment_byte text
 
-abbrev pub has_name_length : List ℕ → Bool
+abbrev has_name_length : List ℕ → Bool
 has_name_length text = nat_le (length text) 255
 
 -- segments with this byte between them

@@ -86,7 +86,8 @@ grant_of module_name words =
 
 abbrev pub grant_stated_in : Members → StatedGrant
 grant_stated_in ms =
-    grant_of (text_of (get_member (codes "module") ms)) (each_item text_item (items_at (get_member (codes "operations") ms)))
+    grant_of (text_of (get_member (codes "module") ms))
+    (each_item text_item (items_at (get_member (codes "operations") ms)))
 
 abbrev pub grant_stated : Data → StatedGrant
 grant_stated d = grant_stated_in (members_of d)

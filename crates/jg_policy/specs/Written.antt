@@ -25,7 +25,8 @@ abbrev pub word_if : Bool → List ℕ → List Data
 word_if granted word = if granted then string word ∷ [] else []
 
 abbrev pub operation_data : StatedGrant → List Data
-operation_data g = (word_if g.load (codes "load") ++ word_if g.register (codes "register")) ++ word_if g.link (codes "link")
+operation_data g =
+    (word_if g.load (codes "load") ++ word_if g.register (codes "register")) ++ word_if g.link (codes "link")
 
 abbrev pub grant_tree : StatedGrant → Members
 grant_tree g =

@@ -15,7 +15,7 @@ use crate::findings::shape_fault;
 use crate::grant::{Grant, grants_of};
 use crate::limits::{is_too_large, states_twice};
 use crate::mode::Mode;
-use crate::setup::settling::{Settled, settle};
+use crate::setup::settling::{Settled, settle_classes};
 use crate::tree::{items_at, text_at};
 use crate::written::setup_table;
 use indexmap::IndexMap;
@@ -112,7 +112,7 @@ impl Setup {
         let Ok(grants) = grants_of(alloc, table) else {
             return Err(SetupFault::NoMemory);
         };
-        let Ok(settled) = settle(alloc, mode, grants.as_slice(), &classes) else {
+        let Ok(settled) = settle_classes(alloc, mode, grants.as_slice(), &classes) else {
             return Err(SetupFault::NoMemory);
         };
         Ok(Setup {

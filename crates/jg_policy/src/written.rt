@@ -56,7 +56,8 @@ fn put_members(
     key: &str,
     members: &[Member],
 ) -> Result<(), AllocError>
-    ensures { OnOk result (table_view table.new ≡ put key.now (array (items_of (members_data (map member_view members.now)))) (table_view table.old)) }
+    ensures { OnOk result (table_view table.new
+        ≡ put key.now (array (items_of (members_data (map member_view members.now)))) (table_view table.old)) }
 {
     let values = members_array(alloc, members)?;
     put(alloc, table, key, Value::from(values))
@@ -120,7 +121,8 @@ fn grants_array(alloc: Global, grants: &[Grant]) -> Result<Vec<Value>, AllocErro
 }
 
 fn classes_array(alloc: Global, classes: &IndexMap<String, Class>) -> Result<Vec<Value>, AllocError>
-    ensures { IfOk result (λ v. map view v.items ≡ map (λ c. table_data (class_tree c)) (map class_view classes.now.entries)) }
+    ensures { IfOk result (λ v. map view v.items
+        ≡ map (λ c. table_data (class_tree c)) (map class_view classes.now.entries)) }
 {
     let mut values = Vec::new(alloc);
     for (name, class) in classes.iter() {

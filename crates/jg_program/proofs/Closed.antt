@@ -14,7 +14,7 @@ use Rattle.jg_policy.specs.Findings.{tree_faults, text_faults_of}
 use Rattle.jg_program.specs.StatedBy.{base_setup}
 
 -- the text
-abbrev pub closed_text : List ℕ
+abbrev closed_text : List ℕ
 closed_text = codes "version = 1\nillegal_native_access = \"deny\"\n"
 
 abbrev closed_tree : Members

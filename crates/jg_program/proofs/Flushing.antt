@@ -6,7 +6,7 @@ use Rattle.jg_words.specs.Entry.{Entry}
 use Rattle.jg_script.specs.declared.run_fault.RunFault.{RunFault}
 use Rattle.jg_script.specs.declared.run_fault.RunFault.TheVariants.{Script, Limit, NoMemory, Read, Write}
 use Rattle.jg_script.specs.Checked.{Checks, WriterFails}
-use Rattle.jg_program.specs.declared.stop.Stop.TheVariants.{Run}
+use Rattle.jg_program.specs.declared.stop.ProgramStop.TheVariants.{Run}
 use Rattle.jg_program.specs.Ended.{IsHandedOn}
 
 pub checks_kept : (input input' bytes mid bytes' : Option (List ℕ)) (limit : ℕ) (h : List Entry) (r : Result ℕ RunFault) → Checks input input' bytes mid limit h r → Keeps mid bytes'

@@ -8,8 +8,8 @@ use Rattle.jg_policy.specs.Faults.{IsFirstFault}
 use Rattle.jg_policy.specs.Findings.{text_faults_of}
 use Rattle.jg_policy.specs.declared.fault.SetupFault.{SetupFault}
 use Rattle.jg_policy.specs.declared.fault.SetupFault.TheVariants.{NotToml, TooMany, NoMemory}
-use Rattle.jg_program.specs.declared.stop.Stop.{Stop}
-use Rattle.jg_program.specs.declared.stop.Stop.TheVariants.{Setup, SetupRead}
+use Rattle.jg_program.specs.declared.stop.ProgramStop.{ProgramStop}
+use Rattle.jg_program.specs.declared.stop.ProgramStop.TheVariants.{Setup, SetupRead}
 use Rattle.jg_program.proofs.Closed.{memory_or_not}
 use Rattle.jg_program.specs.StatedBy.{Gives, IsFront, HasNoText, HasFault, IsRefused}
 
@@ -20,7 +20,7 @@ gives_known (Some bytes) = refl
 pub told_long : (known : Option (List ℕ)) (told : ℕ) → 16777216 < told → IsRefused known told (Setup TooMany)
 told_long known told long = (unwrap_or known [], gives_known known, inl (inr (inr (inl (refl, inl long)))))
 
-pub failed : (known : Option (List ℕ)) (told : ℕ) (stop : Stop) → (stop ≡ SetupRead) ⊎ (stop ≡ Setup NoMemory) → IsRefused known told stop
+pub failed : (known : Option (List ℕ)) (told : ℕ) (stop : ProgramStop) → (stop ≡ SetupRead) ⊎ (stop ≡ Setup NoMemory) → IsRefused known told stop
 failed known told stop (inl read) = (unwrap_or known [], gives_known known, inl (inl read))
 failed known told stop (inr memory) = (unwrap_or known [], gives_known known, inl (inr (inl memory)))
 

@@ -2,13 +2,13 @@
 use Rattle.std.proofs.Common.{◌≡◌, ap, inl, inr, ℕ, Bool, true, false, List, Option, Err}
 use Rattle.std.proofs.lemmas.Bool.{false≢true}
 use Rattle.std.proofs.KnownBytes.{Keeps-refl}
-use Rattle.jg_program.specs.declared.stop.Stop.{Stop}
-use Rattle.jg_program.specs.declared.stop.Stop.TheVariants.{Arguments, Setup, SetupRead, Run, Leaks, Summary, Explain, Mismatch, Worker}
+use Rattle.jg_program.specs.declared.stop.ProgramStop.{ProgramStop}
+use Rattle.jg_program.specs.declared.stop.ProgramStop.TheVariants.{Arguments, Setup, SetupRead, Run, Leaks, Summary, Explain, Mismatch, Worker}
 use Rattle.jg_program.specs.StatedBy.{IsRefused}
 use Rattle.jg_program.specs.Ended.{IsHandedOn}
 use Rattle.jg_program.specs.Migrated.{Migrates}
 
-is_of_setup : Stop → Bool
+is_of_setup : ProgramStop → Bool
 is_of_setup (Setup fault) = true
 is_of_setup SetupRead = true
 is_of_setup (Run fault) = false
@@ -19,7 +19,7 @@ is_of_setup Explain = false
 is_of_setup (Mismatch thread place) = false
 is_of_setup (Worker stop) = false
 
-refused_by_setup : (known : Option (List ℕ)) (told : ℕ) (stop : Stop) → IsRefused known told stop → is_of_setup stop ≡ true
+refused_by_setup : (known : Option (List ℕ)) (told : ℕ) (stop : ProgramStop) → IsRefused known told stop → is_of_setup stop ≡ true
 unfolding is_of_setup
 refused_by_setup known told stop (bytes, gives, inl (inl read)) = ap is_of_setup read
 refused_by_setup known told stop (bytes, gives, inl (inr (inl memory))) = ap is_of_setup memory
@@ -27,7 +27,7 @@ refused_by_setup known told stop (bytes, gives, inl (inr (inr (inl (long, by))))
 refused_by_setup known told stop (bytes, gives, inl (inr (inr (inr (no_text, low, short, not_utf8))))) = ap is_of_setup no_text
 refused_by_setup known told stop (bytes, gives, inr (fault, is, low, short, first)) = ap is_of_setup is
 
-pub migrates_refused : (known : Option (List ℕ)) (told : ℕ) (bytes : Option (List ℕ)) (stop : Stop) → IsRefused known told stop → Migrates known told bytes bytes (Err stop)
+pub migrates_refused : (known : Option (List ℕ)) (told : ℕ) (bytes : Option (List ℕ)) (stop : ProgramStop) → IsRefused known told stop → Migrates known told bytes bytes (Err stop)
 unfolding is_of_setup
 migrates_refused known told bytes (Setup fault) refused = (refused, Keeps-refl bytes)
 migrates_refused known told bytes SetupRead refused = Keeps-refl bytes
@@ -40,7 +40,8 @@ migrates_refused known told bytes (Mismatch thread place) refused = absurd (fals
 migrates_refused known told bytes (Worker stop) refused = absurd (false≢true (refused_by_setup known told (Worker stop) refused))
 
 -- nothing was written by then
-pub refused_on : (S : Type 0) (holds_nothing : Type 0) (failed : Bool) (known : Option (List ℕ)) (told : ℕ) (stop : Stop) → IsRefused known told stop → IsHandedOn {S = S} holds_nothing failed (Err stop)
+pub refused_on : (S : Type 0) (holds_nothing : Type 0) (failed : Bool) (known : Option (List ℕ)) (told : ℕ) (stop : ProgramStop) → IsRefused known told stop
+    → IsHandedOn {S = S} holds_nothing failed (Err stop)
 unfolding is_of_setup
 refused_on S holds_nothing failed known told (Setup fault) refused = tt
 refused_on S holds_nothing failed known told SetupRead refused = tt

@@ -6,32 +6,34 @@ use Rattle.jg_rules.specs.Legal.{Legal}
 use Rattle.jg_script.specs.declared.replay.Replayed.{Replayed}
 use Rattle.jg_script.specs.declared.run_fault.RunFault.TheVariants.{Script, Limit, NoMemory, Read, Write}
 use Rattle.jg_program.specs.declared.reporting.Reporting.{Reporting}
-use Rattle.jg_program.specs.declared.stop.Ending.{Ending}
+use Rattle.jg_program.specs.declared.stop.ProgramEnd.{ProgramEnd}
 use Rattle.jg_program.specs.declared.stop.Status.{Status}
-use Rattle.jg_program.specs.declared.stop.Stop.{Stop}
-use Rattle.jg_program.specs.declared.stop.Stop.TheVariants.{Arguments, Setup, SetupRead, Run, Leaks, Summary, Explain, Mismatch, Worker}
+use Rattle.jg_program.specs.declared.stop.ProgramStop.{ProgramStop}
+use Rattle.jg_program.specs.declared.stop.ProgramStop.TheVariants.{Arguments, Setup, SetupRead, Run, Leaks, Summary, Explain, Mismatch, Worker}
 use Rattle.jg_program.specs.About.{IsAboutJournal, IsAboutScript}
 use Rattle.jg_program.specs.Ended.{AnswersLines, EndsJournal, EndsScript, IsHandedOn, TestsLines, status_told}
 use Rattle.jg_program.specs.Reported.{IsToldIf, Reports, Tells, TellsNothing, is_explained}
 
 -- what is told comes first, where all else is told
-pub reported : (IsSuch : List ℕ → Type 0) (r : Reporting) (s : StatedSetup) (h : List Entry) (about : List ℕ) (result : Result Status Stop) (ending : Ending) → IsToldIf (is_explained r) IsSuch about
+pub reported : (IsSuch : List ℕ → Type 0) (r : Reporting) (s : StatedSetup) (h : List Entry) (about : List ℕ) (result : Result Status ProgramStop) (ending : ProgramEnd)
+    → IsToldIf (is_explained r) IsSuch about
     → Tells about r s h result ending ⊎ ((is_explained r ≡ true) × TellsNothing result ending) → Reports IsSuch r s h result ending
 reported IsSuch r s h about result ending told (inl tells) = inl (about, told, tells)
 reported IsSuch r s h about result ending told (inr lost) = inr lost
 
 -- telling writes nothing to the writer
-pub reported_on : (holds_nothing : Type 0) (failed : Bool) (IsSuch : List ℕ → Type 0) (r : Reporting) (s : StatedSetup) (h : List Entry) (result : Result Status Stop) (ending : Ending)
+pub reported_on : (holds_nothing : Type 0) (failed : Bool) (IsSuch : List ℕ → Type 0) (r : Reporting) (s : StatedSetup) (h : List Entry) (result : Result Status ProgramStop) (ending : ProgramEnd)
     → Reports IsSuch r s h result ending → IsHandedOn {S = Status} holds_nothing failed result → IsHandedOn {S = Status} holds_nothing failed ending.ended
-reported_on holds_nothing failed IsSuch r s h (Ok status) ending (inl (about, told, inl done)) on = subst (λ (e : Result Status Stop). IsHandedOn holds_nothing failed e) (sym done.0) on
-reported_on holds_nothing failed IsSuch r s h (Ok status) ending (inl (about, told, inr (inl left))) on = subst (λ (e : Result Status Stop). IsHandedOn holds_nothing failed e) (sym left.0) on
-reported_on holds_nothing failed IsSuch r s h (Ok status) ending (inl (about, told, inr (inr short))) on = subst (λ (e : Result Status Stop). IsHandedOn holds_nothing failed e) (sym short.0) on
-reported_on holds_nothing failed IsSuch r s h (Ok status) ending (inr lost) on = subst (λ (e : Result Status Stop). IsHandedOn holds_nothing failed e) (sym lost.1.0) on
-reported_on holds_nothing failed IsSuch r s h (Err stop) ending (inl (about, told, tells)) on = subst (λ (e : Result Status Stop). IsHandedOn holds_nothing failed e) (sym tells.0) on
-reported_on holds_nothing failed IsSuch r s h (Err stop) ending (inr lost) on = subst (λ (e : Result Status Stop). IsHandedOn holds_nothing failed e) (sym lost.1.0) on
+reported_on holds_nothing failed IsSuch r s h (Ok status) ending (inl (about, told, inl done)) on = subst (λ (e : Result Status ProgramStop). IsHandedOn holds_nothing failed e) (sym done.0) on
+reported_on holds_nothing failed IsSuch r s h (Ok status) ending (inl (about, told, inr (inl left))) on = subst (λ (e : Result Status ProgramStop). IsHandedOn holds_nothing failed e) (sym left.0) on
+reported_on holds_nothing failed IsSuch r s h (Ok status) ending (inl (about, told, inr (inr short))) on = subst (λ (e : Result Status ProgramStop). IsHandedOn holds_nothing failed e) (sym short.0) on
+reported_on holds_nothing failed IsSuch r s h (Ok status) ending (inr lost) on = subst (λ (e : Result Status ProgramStop). IsHandedOn holds_nothing failed e) (sym lost.1.0) on
+reported_on holds_nothing failed IsSuch r s h (Err stop) ending (inl (about, told, tells)) on = subst (λ (e : Result Status ProgramStop). IsHandedOn holds_nothing failed e) (sym tells.0) on
+reported_on holds_nothing failed IsSuch r s h (Err stop) ending (inr lost) on = subst (λ (e : Result Status ProgramStop). IsHandedOn holds_nothing failed e) (sym lost.1.0) on
 
 -- a script was answered by a guard of this setup and limit
-pub ends_script : (r : Reporting) (setup own : StatedSetup) (limit most : ℕ) (input input' bytes bytes' : Option (List ℕ)) (h : List Entry) (line : List ℕ) (result : Result Status Stop) (ending : Ending)
+pub ends_script : (r : Reporting) (setup own : StatedSetup) (limit most : ℕ) (input input' bytes bytes' : Option (List ℕ)) (h : List Entry) (line : List ℕ) (result : Result Status ProgramStop)
+    (ending : ProgramEnd)
     → own ≡ setup → most ≡ limit → Legal own h → AnswersLines input input' bytes bytes' most h line result → Reports (IsAboutScript line result) r own h result ending
     → EndsScript r setup input input' bytes bytes' limit ending
 ends_script r setup own limit most input input' bytes bytes' h line result ending same full legal answers reports =
@@ -47,7 +49,8 @@ ends_script r setup own limit most input input' bytes bytes' h line result endin
     )
 
 -- a journal was tested by such a guard
-pub ends_journal : (r : Reporting) (setup own new : StatedSetup) (limit most : ℕ) (input input' bytes bytes' : Option (List ℕ)) (h : List Entry) (line : List ℕ) (result : Result Replayed Stop) (ending : Ending)
+pub ends_journal : (r : Reporting) (setup own new : StatedSetup) (limit most : ℕ) (input input' bytes bytes' : Option (List ℕ)) (h : List Entry) (line : List ℕ) (result : Result Replayed ProgramStop)
+    (ending : ProgramEnd)
     → own ≡ setup → new ≡ setup → most ≡ limit → Legal new h → TestsLines input input' bytes bytes' own most h line result → Reports (IsAboutJournal result) r new h (status_told result) ending
     → EndsJournal r setup input input' bytes bytes' limit ending
 ends_journal r setup own new limit most input input' bytes bytes' h line result ending old same full legal tests reports =
@@ -63,7 +66,7 @@ ends_journal r setup own new limit most input input' bytes bytes' h line result 
     )
 
 -- what an error leaves unwritten doesn't depend on what there would have been
-pub on_err : (A B : Type 0) (holds_nothing : Type 0) (failed : Bool) (stop : Stop) → IsHandedOn {S = A} holds_nothing failed (Err stop) → IsHandedOn {S = B} holds_nothing failed (Err stop)
+pub on_err : (A B : Type 0) (holds_nothing : Type 0) (failed : Bool) (stop : ProgramStop) → IsHandedOn {S = A} holds_nothing failed (Err stop) → IsHandedOn {S = B} holds_nothing failed (Err stop)
 on_err A B holds_nothing failed (Run (Write line)) on = on
 on_err A B holds_nothing failed (Run (Script line fault)) on = on
 on_err A B holds_nothing failed (Run (Limit line)) on = on

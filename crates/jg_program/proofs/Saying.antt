@@ -10,8 +10,8 @@ use Rattle.jg_script.specs.declared.replay.Verdict.{Verdict}
 use Rattle.jg_script.specs.declared.replay.Verdict.TheVariants as verdict
 use Rattle.jg_program.specs.declared.stop.Status.{Status}
 use Rattle.jg_program.specs.declared.stop.Status.TheVariants.{Done}
-use Rattle.jg_program.specs.declared.stop.Stop.{Stop}
-use Rattle.jg_program.specs.declared.stop.Stop.TheVariants.{Run}
+use Rattle.jg_program.specs.declared.stop.ProgramStop.{ProgramStop}
+use Rattle.jg_program.specs.declared.stop.ProgramStop.TheVariants.{Run}
 use Rattle.jg_program.specs.StatedBy.{IsStated}
 use Rattle.jg_program.specs.Ended.{verdict_text}
 use Rattle.jg_program.specs.Migrated.{Migrates}
@@ -24,10 +24,10 @@ differs_written a b c d line v (Ok done) is first number last =
 differs_written a b c d line v (Err fault) is first number last = tt
 
 -- the text of the setup that a file states was said, or couldn't be
-pub migrates_said : (known : Option (List ℕ)) (told : ℕ) (bytes mid bytes' : Option (List ℕ)) (setup : StatedSetup) (text : List ℕ) (failed : Bool) (said : Result Status Stop)
+pub migrates_said : (known : Option (List ℕ)) (told : ℕ) (bytes mid bytes' : Option (List ℕ)) (setup : StatedSetup) (text : List ℕ) (failed : Bool) (said : Result Status ProgramStop)
     → IsStated known setup → States text setup → IfOk said (λ status. (status ≡ Done) × Appends bytes mid text) → IfErr said (λ stop. (stop ≡ Run (Write 1)) × (failed ≡ true))
     → Keeps mid bytes' → Migrates known told bytes bytes' said
 migrates_said known told bytes mid bytes' setup text failed (Ok status) stated states done none kept =
     (done.0, setup, stated, (text, states, Appends-kept _ _ _ _ done.1 kept))
 migrates_said known told bytes mid bytes' setup text failed (Err stop) stated states none not_said kept =
-    subst (λ (s : Stop). Migrates known told bytes bytes' (Err s)) (sym not_said.0) refl
+    subst (λ (s : ProgramStop). Migrates known told bytes bytes' (Err s)) (sym not_said.0) refl

@@ -9,7 +9,8 @@ use Rattle.jg_shell.proofs.Apart.{EachRan}
 use Rattle.jg_program.specs.Plays.{HaveRun, first_stop_of}
 
 -- the first stop among the workers from this one on
-pub first_stop-next : (workers : List Work) (i : ℕ) (w : Work) → i < length workers → w ≡ get_or workers i w → first_stop_of (drop i workers) ≡ option_or w.stopped (first_stop_of (drop (i + 1) workers))
+pub first_stop-next : (workers : List Work) (i : ℕ) (w : Work) → i < length workers → w ≡ get_or workers i w
+    → first_stop_of (drop i workers) ≡ option_or w.stopped (first_stop_of (drop (i + 1) workers))
 first_stop-next workers i w within is =
     at_drop_more first_stop_of workers i w within ∙ ap (λ (v : Work). option_or v.stopped (first_stop_of (drop (i + 1) workers))) (sym is)
 

@@ -16,19 +16,19 @@ use Rattle.jg_script.specs.Replayed.{ReplaysJournal, verdict_of}
 use Rattle.jg_program.specs.declared.program.Job.{Job}
 use Rattle.jg_program.specs.declared.program.Job.TheVariants.{Check, Verify}
 use Rattle.jg_program.specs.declared.reporting.Reporting.{Reporting}
-use Rattle.jg_program.specs.declared.stop.Ending.{Ending}
+use Rattle.jg_program.specs.declared.stop.ProgramEnd.{ProgramEnd}
 use Rattle.jg_program.specs.declared.stop.Status.{Status}
 use Rattle.jg_program.specs.declared.stop.Status.TheVariants.{Done, Differs}
-use Rattle.jg_program.specs.declared.stop.Stop.{Stop}
-use Rattle.jg_program.specs.declared.stop.Stop.TheVariants.{Arguments, Setup, SetupRead, Run, Leaks, Summary, Explain, Mismatch, Worker}
+use Rattle.jg_program.specs.declared.stop.ProgramStop.{ProgramStop}
+use Rattle.jg_program.specs.declared.stop.ProgramStop.TheVariants.{Arguments, Setup, SetupRead, Run, Leaks, Summary, Explain, Mismatch, Worker}
 use Rattle.jg_program.specs.About.{IsAboutJournal, IsAboutScript, IsAboutSetup}
 use Rattle.jg_program.specs.Reported.{EndsQuietly, EndsTelling, Reports, is_explained}
 use Rattle.jg_program.specs.StatedBy.{base_setup, IsStated, IsRefused}
 
--- how the lines of a script were answered, of which the guard has this journal then, and what that did to the bytes of the
--- reader and of the writer; this line is the faulty one, if there is one
+-- how the lines of a script were answered, of which the guard has this journal then, and what that did to the bytes of
+-- the reader and of the writer; this line is the faulty one, if there is one
 abbrev pub AnswersLines : Option (List ℕ) → Option (List ℕ) → Option (List ℕ) → Option (List ℕ) → ℕ → List Entry
-    → List ℕ → Result Status Stop → Type 0
+    → List ℕ → Result Status ProgramStop → Type 0
 -- all that the reader held are the calls of the journal, and its text was written
 AnswersLines input input' bytes bytes' limit h line (Ok status) =
     (status ≡ Done) × Checks input input' bytes bytes' limit h (Ok (length h))
@@ -40,9 +40,9 @@ AnswersLines input input' bytes bytes' limit h line (Err stop) = (fault : RunFau
 -- how the answering of a script under this setup ended: with a legal history, of which is told what is asked for; or no
 -- guard could be made, and nothing was read or written
 abbrev pub EndsScript : Reporting → StatedSetup → Option (List ℕ) → Option (List ℕ) → Option (List ℕ) → Option (List ℕ)
-    → ℕ → Ending → Type 0
+    → ℕ → ProgramEnd → Type 0
 EndsScript r setup input input' bytes bytes' limit ending =
-    ((h : List Entry) × Legal setup h × ((line : List ℕ) × (result : Result Status Stop)
+    ((h : List Entry) × Legal setup h × ((line : List ℕ) × (result : Result Status ProgramStop)
     × AnswersLines input input' bytes bytes' limit h line result
     × Reports (IsAboutScript line result) r setup h result ending))
     ⊎ (EndsQuietly (Setup NoRoom) ending × Keeps input input' × Keeps bytes bytes')
@@ -56,10 +56,10 @@ abbrev pub verdict_status : Verdict → Status
 verdict_status verdict.Legal = Done
 verdict_status (verdict.Differs line) = Differs
 
--- how the lines of a journal were tested under this setup, of which the guard has this journal then; of the lines this one
--- was read last
+-- how the lines of a journal were tested under this setup, of which the guard has this journal then; of the lines this
+-- one was read last
 abbrev pub TestsLines : Option (List ℕ) → Option (List ℕ) → Option (List ℕ) → Option (List ℕ) → StatedSetup → ℕ
-    → List Entry → List ℕ → Result Replayed Stop → Type 0
+    → List Entry → List ℕ → Result Replayed ProgramStop → Type 0
 -- the journal is so, and that was written
 TestsLines input input' bytes bytes' setup limit h line (Ok told) =
     ReplaysJournal input input' setup limit h line (Ok told) × Appends bytes bytes' (verdict_text (verdict_of told))
@@ -67,47 +67,47 @@ TestsLines input input' bytes bytes' setup limit h line (Ok told) =
 TestsLines input input' bytes bytes' setup limit h line (Err stop) = (fault : RunFault) × (stop ≡ Run fault)
     × ((ReplaysJournal input input' setup limit h line (Err fault) × Keeps bytes bytes') ⊎ (fault ≡ Write 1))
 
-abbrev pub status_told : Result Replayed Stop → Result Status Stop
+abbrev pub status_told : Result Replayed ProgramStop → Result Status ProgramStop
 status_told (Ok told) = Ok (verdict_status (verdict_of told))
 status_told (Err stop) = Err stop
 
--- how the test of a journal under this setup ended: with a legal history, of which is told what is asked for; or no guard
--- could be made, or what was written before couldn't be handed on then, and nothing was read or written
+-- how the test of a journal under this setup ended: with a legal history, of which is told what is asked for; or no
+-- guard could be made, or what was written before couldn't be handed on then, and nothing was read or written
 abbrev pub EndsJournal : Reporting → StatedSetup → Option (List ℕ) → Option (List ℕ) → Option (List ℕ) → Option (List ℕ)
-    → ℕ → Ending → Type 0
+    → ℕ → ProgramEnd → Type 0
 EndsJournal r setup input input' bytes bytes' limit ending =
-    ((h : List Entry) × Legal setup h × ((line : List ℕ) × (result : Result Replayed Stop)
+    ((h : List Entry) × Legal setup h × ((line : List ℕ) × (result : Result Replayed ProgramStop)
     × TestsLines input input' bytes bytes' setup limit h line result
     × Reports (IsAboutJournal result) r setup h (status_told result) ending))
-    ⊎ ((stop : Stop) × ((stop ≡ Run (NoMemory 1)) ⊎ (stop ≡ Run (Write 1))) × EndsQuietly stop ending
+    ⊎ ((stop : ProgramStop) × ((stop ≡ Run (NoMemory 1)) ⊎ (stop ≡ Run (Write 1))) × EndsQuietly stop ending
     × Keeps input input' × Keeps bytes bytes')
 
 -- whichever was asked for
 abbrev pub Ends : Job → Reporting → StatedSetup → Option (List ℕ) → Option (List ℕ) → Option (List ℕ)
-    → Option (List ℕ) → ℕ → Ending → Type 0
+    → Option (List ℕ) → ℕ → ProgramEnd → Type 0
 Ends Check r setup input input' bytes bytes' limit ending = EndsScript r setup input input' bytes bytes' limit ending
 Ends Verify r setup input input' bytes bytes' limit ending = EndsJournal r setup input input' bytes bytes' limit ending
 
 -- the same under the setup where none is given, or memory ran out before that was read
 abbrev pub EndsClosed : Job → Reporting → Option (List ℕ) → Option (List ℕ) → Option (List ℕ) → Option (List ℕ) → ℕ
-    → Ending → Type 0
+    → ProgramEnd → Type 0
 EndsClosed job r input input' bytes bytes' limit ending = Ends job r base_setup input input' bytes bytes' limit ending
     ⊎ (EndsQuietly (Setup NoRoom) ending × Keeps input input' × Keeps bytes bytes')
 
 -- how the program ends where the file of a setup is refused, of which the bytes may be known and a length was told
-abbrev pub EndsRefused : Bool → Option (List ℕ) → ℕ → Ending → Type 0
-EndsRefused explained known told ending = (stop : Stop) × IsRefused known told stop
+abbrev pub EndsRefused : Bool → Option (List ℕ) → ℕ → ProgramEnd → Type 0
+EndsRefused explained known told ending = (stop : ProgramStop) × IsRefused known told stop
     × EndsTelling explained (IsAboutSetup known stop) stop ending
 
 -- the same under the setup that a file states; or it was refused, and nothing was read or written
 abbrev pub EndsUnder : Job → Reporting → Option (List ℕ) → ℕ → Option (List ℕ) → Option (List ℕ) → Option (List ℕ)
-    → Option (List ℕ) → ℕ → Ending → Type 0
+    → Option (List ℕ) → ℕ → ProgramEnd → Type 0
 EndsUnder job r known told input input' bytes bytes' limit ending =
     ((setup : StatedSetup) × IsStated known setup × Ends job r setup input input' bytes bytes' limit ending)
     ⊎ (EndsRefused (is_explained r) known told ending × Keeps input input' × Keeps bytes bytes')
 
 -- the writer holds nothing back at the end, or it failed and that is told
-abbrev pub IsHandedOn : {S : Type 0} → Type 0 → Bool → Result S Stop → Type 0
+abbrev pub IsHandedOn : {S : Type 0} → Type 0 → Bool → Result S ProgramStop → Type 0
 IsHandedOn holds_nothing failed (Ok done) = holds_nothing
 IsHandedOn holds_nothing failed (Err (Run (Write line))) = failed ≡ true
 IsHandedOn holds_nothing failed (Err (Run (Script line fault))) = holds_nothing

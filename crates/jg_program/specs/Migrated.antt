@@ -6,15 +6,15 @@ use Rattle.jg_policy.specs.Findings.{States}
 use Rattle.jg_script.specs.declared.run_fault.RunFault.TheVariants.{Write}
 use Rattle.jg_program.specs.declared.stop.Status.{Status}
 use Rattle.jg_program.specs.declared.stop.Status.TheVariants.{Done}
-use Rattle.jg_program.specs.declared.stop.Stop.{Stop}
-use Rattle.jg_program.specs.declared.stop.Stop.TheVariants.{Arguments, Setup, SetupRead, Run, Leaks, Summary, Explain, Mismatch, Worker}
+use Rattle.jg_program.specs.declared.stop.ProgramStop.{ProgramStop}
+use Rattle.jg_program.specs.declared.stop.ProgramStop.TheVariants.{Arguments, Setup, SetupRead, Run, Leaks, Summary, Explain, Mismatch, Worker}
 use Rattle.jg_program.specs.StatedBy.{IsStated, IsRefused}
 
 -- a text that states this setup was written
 abbrev pub WritesSetup : StatedSetup → Option (List ℕ) → Option (List ℕ) → Type 0
 WritesSetup setup bytes bytes' = (text : List ℕ) × States text setup × Appends bytes bytes' text
 
-abbrev pub Migrates : Option (List ℕ) → ℕ → Option (List ℕ) → Option (List ℕ) → Result Status Stop → Type 0
+abbrev pub Migrates : Option (List ℕ) → ℕ → Option (List ℕ) → Option (List ℕ) → Result Status ProgramStop → Type 0
 -- the file states a setup, and a text that states it was written
 Migrates known told bytes bytes' (Ok status) =
     (status ≡ Done) × (setup : StatedSetup) × IsStated known setup × WritesSetup setup bytes bytes'

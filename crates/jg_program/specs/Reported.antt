@@ -13,14 +13,14 @@ use Rattle.jg_explain.specs.Left.{all_left_text}
 use Rattle.jg_explain.specs.Texts.{explanations_text}
 use Rattle.jg_script.specs.Leaks.{leaks_text}
 use Rattle.jg_program.specs.declared.reporting.Reporting.{Reporting}
-use Rattle.jg_program.specs.declared.stop.Ending.{Ending}
+use Rattle.jg_program.specs.declared.stop.ProgramEnd.{ProgramEnd}
 use Rattle.jg_program.specs.declared.stop.Said.{Said}
 use Rattle.jg_program.specs.declared.stop.Said.TheVariants.{Text, Short, NoMemory}
 use Rattle.jg_program.specs.declared.stop.Status.{Status}
 use Rattle.jg_program.specs.declared.stop.Status.TheVariants.{Done, Denied}
-use Rattle.jg_program.specs.declared.stop.Stop.{Stop}
+use Rattle.jg_program.specs.declared.stop.ProgramStop.{ProgramStop}
 use Rattle.jg_program.specs.Summary.{IsSummary}
-use Rattle.jg_program.specs.declared.stop.Stop.TheVariants.{Leaks, Summary, Explain}
+use Rattle.jg_program.specs.declared.stop.ProgramStop.TheVariants.{Leaks, Summary, Explain}
 
 abbrev pub said_text : Said → List ℕ
 said_text (Text text) = string_bytes text
@@ -62,47 +62,53 @@ SaysSummary false s h said = said ≡ []
 SaysSummary true s h said = IsSummary s h said
 
 -- the program ends so after a history, where this was said so far and only the summary is left to say
-abbrev pub EndsSummed : List ℕ → Reporting → StatedSetup → List Entry → Status → Ending → Type 0
+abbrev pub EndsSummed : List ℕ → Reporting → StatedSetup → List Entry → Status → ProgramEnd → Type 0
 EndsSummed so_far r s h status ending =
     ((ending.ended ≡ Ok (strict_status r.strict h status)) × ((summary : List ℕ) × SaysSummary r.summary s h summary
     × (said_text ending.said ≡ so_far ++ summary)))
     ⊎ ((ending.ended ≡ Err Summary) × (r.summary ≡ true) × (said_text ending.said ≡ so_far))
 
--- the program ends so after a history: first this is told, then the first denials are explained, then it is said what is
--- left behind, and last comes the summary
-abbrev pub Tells : List ℕ → Reporting → StatedSetup → List Entry → Result Status Stop → Ending → Type 0
+-- the program ends so after a history: first this is told, then the first denials are explained, then it is said what
+-- is left behind, and last comes the summary
+abbrev pub Tells : List ℕ → Reporting → StatedSetup → List Entry → Result Status ProgramStop → ProgramEnd → Type 0
 Tells about r s h (Ok status) ending =
-    ((ending.ended ≡ Ok (strict_status r.strict h status)) × ((left : List ℕ) × SaysLeaks r.leaks (is_explained r) s h left
+    ((ending.ended ≡ Ok (strict_status r.strict h status))
+    × ((left : List ℕ) × SaysLeaks r.leaks (is_explained r) s h left
     × ((summary : List ℕ) × SaysSummary r.summary s h summary
     × (said_text ending.said ≡ about ++ explanations_text s h r.explain ++ left ++ summary))))
     -- memory ran out for what is left behind
-    ⊎ ((ending.ended ≡ Err Leaks) × (r.leaks ≡ true) × (said_text ending.said ≡ about ++ explanations_text s h r.explain))
+    ⊎ ((ending.ended ≡ Err Leaks) × (r.leaks ≡ true)
+    × (said_text ending.said ≡ about ++ explanations_text s h r.explain))
     -- or for the summary
-    ⊎ ((ending.ended ≡ Err Summary) × (r.summary ≡ true) × ((left : List ℕ) × SaysLeaks r.leaks (is_explained r) s h left
+    ⊎ ((ending.ended ≡ Err Summary) × (r.summary ≡ true)
+    × ((left : List ℕ) × SaysLeaks r.leaks (is_explained r) s h left
     × (said_text ending.said ≡ about ++ explanations_text s h r.explain ++ left)))
 -- what stopped it is told all the same
-Tells about r s h (Err stop) ending = (ending.ended ≡ Err stop) × (((summary : List ℕ) × SaysSummary r.summary s h summary
+Tells about r s h (Err stop) ending = (ending.ended ≡ Err stop)
+    × (((summary : List ℕ) × SaysSummary r.summary s h summary
     × (said_text ending.said ≡ about ++ explanations_text s h r.explain ++ summary))
     ⊎ ((r.summary ≡ true) × (said_text ending.said
     ≡ about ++ explanations_text s h r.explain ++ codes "summary: no memory\n")))
 
 -- memory ran out for what is explained
-abbrev pub TellsNothing : Result Status Stop → Ending → Type 0
+abbrev pub TellsNothing : Result Status ProgramStop → ProgramEnd → Type 0
 TellsNothing (Ok status) ending = (ending.ended ≡ Err Explain) × (said_text ending.said ≡ [])
 TellsNothing (Err stop) ending = (ending.ended ≡ Err stop) × (ending.said ≡ NoMemory)
 
 -- How the program ends after a history, where its work was done or stopped so, and such a text is to be told of that.
-abbrev pub Reports : (List ℕ → Type 0) → Reporting → StatedSetup → List Entry → Result Status Stop → Ending → Type 0
+abbrev pub Reports : (List ℕ → Type 0) → Reporting → StatedSetup → List Entry → Result Status ProgramStop → ProgramEnd
+    → Type 0
 Reports IsSuch r s h result ending =
     ((about : List ℕ) × IsToldIf (is_explained r) IsSuch about × Tells about r s h result ending)
     ⊎ ((is_explained r ≡ true) × TellsNothing result ending)
 
--- the program ends by this: with explanations such a text is told of it, unless memory ran out for that, and else nothing
-abbrev pub EndsTelling : Bool → (List ℕ → Type 0) → Stop → Ending → Type 0
+-- the program ends by this: with explanations such a text is told of it, unless memory ran out for that, and else
+-- nothing
+abbrev pub EndsTelling : Bool → (List ℕ → Type 0) → ProgramStop → ProgramEnd → Type 0
 EndsTelling explained IsSuch stop ending =
     ((about : List ℕ) × IsToldIf explained IsSuch about × (ending.ended ≡ Err stop) × (said_text ending.said ≡ about))
     ⊎ ((explained ≡ true) × TellsNothing (Err stop) ending)
 
 -- the program ends by this, and there is nothing more to say
-abbrev pub EndsQuietly : Stop → Ending → Type 0
+abbrev pub EndsQuietly : ProgramStop → ProgramEnd → Type 0
 EndsQuietly stop ending = (ending.ended ≡ Err stop) × (said_text ending.said ≡ [])

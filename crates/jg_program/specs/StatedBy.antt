@@ -7,8 +7,8 @@ use Rattle.jg_policy.specs.declared.mode.Mode.TheVariants.{Deny}
 use Rattle.jg_policy.specs.Stated.{StatedSetup}
 use Rattle.jg_policy.specs.Faults.{IsFirstFault}
 use Rattle.jg_policy.specs.Findings.{text_faults_of, States}
-use Rattle.jg_program.specs.declared.stop.Stop.{Stop}
-use Rattle.jg_program.specs.declared.stop.Stop.TheVariants.{Setup, SetupRead}
+use Rattle.jg_program.specs.declared.stop.ProgramStop.{ProgramStop}
+use Rattle.jg_program.specs.declared.stop.ProgramStop.TheVariants.{Setup, SetupRead}
 
 -- the setup where none is given: the base classes alone, and native access for no other module
 abbrev pub base_setup : StatedSetup
@@ -29,7 +29,7 @@ IsStated known setup = (bytes : List ℕ) × Gives known bytes × (length bytes 
 
 -- The file can't be read to its end, memory runs out, it is too long by what was told or by its bytes, or they are no
 -- text.
-abbrev pub HasNoText : ℕ → List ℕ → Stop → Type 0
+abbrev pub HasNoText : ℕ → List ℕ → ProgramStop → Type 0
 HasNoText told bytes stop =
     (stop ≡ SetupRead)
     ⊎ (stop ≡ Setup NoMemory)
@@ -37,12 +37,12 @@ HasNoText told bytes stop =
     ⊎ ((stop ≡ Setup NotToml) × (told ≤ 16777216) × (length bytes ≤ 16777216) × ¬ IsUtf8 bytes)
 
 -- the first fault of the text that they are
-abbrev pub HasFault : ℕ → List ℕ → Stop → Type 0
+abbrev pub HasFault : ℕ → List ℕ → ProgramStop → Type 0
 HasFault told bytes stop =
     (fault : SetupFault) × (stop ≡ Setup fault) × (told ≤ 16777216) × (length bytes ≤ 16777216)
     × IsFirstFault (text_faults_of (parse_document bytes)) fault
 
 -- why the file of a reader, of which this length was told, has no text, or states no setup
-abbrev pub IsRefused : Option (List ℕ) → ℕ → Stop → Type 0
+abbrev pub IsRefused : Option (List ℕ) → ℕ → ProgramStop → Type 0
 IsRefused known told stop =
     (bytes : List ℕ) × Gives known bytes × (HasNoText told bytes stop ⊎ HasFault told bytes stop)

@@ -8,8 +8,8 @@ use Rattle.jg_script.specs.declared.run_fault.RunFault.{RunFault}
 use Rattle.jg_script.specs.declared.run_fault.RunFault.TheVariants.{Script, Limit, NoMemory, Read, Write}
 use Rattle.jg_program.specs.declared.stop.Status.{Status}
 use Rattle.jg_program.specs.declared.stop.Status.TheVariants.{Done, Differs, Faulty, Exhausted, Device}
-use Rattle.jg_program.specs.declared.stop.Stop.{Stop}
-use Rattle.jg_program.specs.declared.stop.Stop.TheVariants.{Arguments, Setup, SetupRead, Run, Leaks, Summary, Explain, Mismatch, Worker}
+use Rattle.jg_program.specs.declared.stop.ProgramStop.{ProgramStop}
+use Rattle.jg_program.specs.declared.stop.ProgramStop.TheVariants.{Arguments, Setup, SetupRead, Run, Leaks, Summary, Explain, Mismatch, Worker}
 
 abbrev pub status_of_words : ArgsFault → Status
 status_of_words Help = Done
@@ -28,7 +28,7 @@ status_of_run (NoMemory line) = Exhausted
 status_of_run (Read line) = Device
 status_of_run (Write line) = Device
 
-abbrev pub status_of : Stop → Status
+abbrev pub status_of : ProgramStop → Status
 status_of (Arguments fault) = status_of_words fault
 status_of (Setup fault) = status_of_setup fault
 status_of SetupRead = Device
@@ -39,6 +39,6 @@ status_of Explain = Exhausted
 status_of (Mismatch thread place) = Differs
 status_of (Worker stop) = Exhausted
 
-abbrev pub ended_status : Result Status Stop → Status
+abbrev pub ended_status : Result Status ProgramStop → Status
 ended_status (Ok status) = status
 ended_status (Err stop) = status_of stop

@@ -2,11 +2,11 @@
 //! differs, or the words after the program's name. It is told with explanations only.
 
 ghost use Rattle.std.specs.Prelude.{◌≡◌, ◌++◌, [], true, Err, List, ℕ, IfOk, OnErr, OnOk, string_bytes};
-ghost use Rattle.jg_program.specs.declared.stop.Stop.TheVariants.{Run};
+ghost use Rattle.jg_program.specs.declared.stop.ProgramStop.TheVariants.{Run};
 ghost use Rattle.jg_program.specs.About.{IsAbout, IsAboutScript, IsDifferenceText};
 ghost use Rattle.jg_program.specs.Reported.{EndsTelling, IsToldIf};
 
-use crate::stop::{Ending, Status, Stop, quietly, telling};
+use crate::stop::{ProgramEnd, ProgramStop, Status, quietly, telling};
 use jg_args::{ArgsFault, refused_word};
 use jg_faults::push_line_fault;
 use jg_guard::Guard;
@@ -107,14 +107,14 @@ fn push_difference(
 /// Adds where in the faulty line of a script the fault stands, where the work ended at one.
 fn push_about_script(
     line: &[u8],
-    ended: Result<Status, Stop>,
+    ended: Result<Status, ProgramStop>,
     out: &mut String,
 ) -> Result<(), AllocError>
     ensures { OnOk result ((text : List ℕ) × IsAboutScript line.now ended text
         × (string_bytes out.new ≡ string_bytes out.old ++ text)) }
 {
     match ended {
-        Err(Stop::Run(RunFault::Script { fault, .. })) => push_line_fault(out, line, fault),
+        Err(ProgramStop::Run(RunFault::Script { fault, .. })) => push_line_fault(out, line, fault),
         _ => Ok(()),
     }
 }
@@ -124,7 +124,7 @@ pub fn push_about(
     alloc: Global,
     guard: &Guard,
     about: About<'_>,
-    ended: Result<Status, Stop>,
+    ended: Result<Status, ProgramStop>,
     out: &mut String,
 ) -> Result<(), AllocError>
     ensures { OnOk result ((text : List ℕ) × IsAbout about.entry ended text
@@ -153,18 +153,18 @@ fn script_fault_text(
 {
     let mut text = String::new(alloc);
     if explained {
-        push_about_script(line, Err(Stop::Run(fault)), &mut text)?;
+        push_about_script(line, Err(ProgramStop::Run(fault)), &mut text)?;
     }
     Ok(text)
 }
 
 /// How the program ends where a file of scripts wasn't read to its end, for this fault; `line` is the line that is
 /// refused, if one is.
-pub fn end_unread(alloc: Global, explained: bool, line: &[u8], fault: RunFault) -> Ending
+pub fn end_unread(alloc: Global, explained: bool, line: &[u8], fault: RunFault) -> ProgramEnd
     ensures { EndsTelling explained (IsAboutScript line.now (Err (Run fault))) (Run fault) result }
 {
     telling(
-        Stop::Run(fault),
+        ProgramStop::Run(fault),
         script_fault_text(alloc, explained, line, fault),
     )
 }
@@ -189,8 +189,8 @@ fn push_word(out: &mut String, place: usize, word: &str) -> Result<(), AllocErro
 }
 
 /// How the program ends where the words after its name have this fault.
-pub fn end_refused(alloc: Global, words: &[&str], fault: ArgsFault) -> Ending {
-    let stop = Stop::Arguments(fault);
+pub fn end_refused(alloc: Global, words: &[&str], fault: ArgsFault) -> ProgramEnd {
+    let stop = ProgramStop::Arguments(fault);
     match fault {
         ArgsFault::Refused => telling(stop, refused_at(alloc, words)),
         _ => quietly(alloc, Err(stop)),

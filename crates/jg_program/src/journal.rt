@@ -5,14 +5,14 @@ ghost use Rattle.std.specs.Fmt.{decimal};
 ghost use Rattle.std.specs.Io.KnownBytes.{Appends, Keeps};
 ghost use Rattle.jg_rules.specs.Legal.{Legal};
 ghost use Rattle.jg_script.specs.declared.run_fault.RunFault.TheVariants.{NoMemory, Write};
-ghost use Rattle.jg_program.specs.declared.stop.Stop.{Stop as StopOf};
-ghost use Rattle.jg_program.specs.declared.stop.Stop.TheVariants.{Run};
+ghost use Rattle.jg_program.specs.declared.stop.ProgramStop.{ProgramStop as StopOf};
+ghost use Rattle.jg_program.specs.declared.stop.ProgramStop.TheVariants.{Run};
 ghost use Rattle.jg_program.specs.Ended.{EndsJournal, IsHandedOn, TestsLines, verdict_status, verdict_text};
 ghost use Rattle.jg_program.specs.Reported.{EndsQuietly};
 
 use crate::about::About;
 use crate::reporting::{Reporting, report};
-use crate::stop::{Ending, Status, Stop, quietly};
+use crate::stop::{ProgramEnd, ProgramStop, Status, quietly};
 use itoa::Buffer;
 use jg_guard::Guard;
 use jg_policy::Setup;
@@ -57,14 +57,14 @@ fn status_of(verdict: Verdict) -> Status
 }
 
 /// Says what a journal is.
-fn say<W: io::Write>(out: &mut Watched<W>, verdict: Verdict) -> Result<(), Stop>
+fn say<W: io::Write>(out: &mut Watched<W>, verdict: Verdict) -> Result<(), ProgramStop>
     ensures said { OnOk result (Appends (W.contents out.old.device) (W.contents out.new.device)
         (verdict_text verdict)) }
     ensures failed { IfErr result (λ stop. (stop ≡ Run (Write 1)) × (out.new.failed ≡ true)) }
 {
     match write_verdict(out, verdict) {
         Ok(()) => Ok(()),
-        Err(_) => Err(Stop::Run(RunFault::Write { line: 1 })),
+        Err(_) => Err(ProgramStop::Run(RunFault::Write { line: 1 })),
     }
 }
 
@@ -77,7 +77,7 @@ fn test_lines<R: BufRead, W: HandsOn>(
     reader: &mut Watched<R>,
     out: &mut Watched<W>,
     line: &mut Vec<u8>,
-) -> Result<Replayed, Stop>
+) -> Result<Replayed, ProgramStop>
     requires { guard.old.journal ≡ [] }
     ensures tests { TestsLines (R.remaining reader.old.device) (R.remaining reader.new.device)
         (W.contents out.old.device) (W.contents out.new.device) guard.old.setup guard.old.limit guard.new.journal
@@ -91,23 +91,23 @@ fn test_lines<R: BufRead, W: HandsOn>(
             Ok(()) => Ok(replayed),
             Err(stop) => Err(stop),
         },
-        Err(fault) => Err(Stop::Run(fault)),
+        Err(fault) => Err(ProgramStop::Run(fault)),
     };
     match out.flush() {
         Ok(()) => said,
-        Err(_) => Err(Stop::Run(RunFault::Write { line: 1 })),
+        Err(_) => Err(ProgramStop::Run(RunFault::Write { line: 1 })),
     }
 }
 
 /// Ends where memory ran out for the guard.
-fn end_without_guard<W: HandsOn>(alloc: Global, out: &mut Watched<W>) -> Ending
+fn end_without_guard<W: HandsOn>(alloc: Global, out: &mut Watched<W>) -> ProgramEnd
     ensures ends { (stop : StopOf) × ((stop ≡ Run (NoMemory 1)) ⊎ (stop ≡ Run (Write 1))) × EndsQuietly stop result }
     ensures kept { Keeps (W.contents out.old.device) (W.contents out.new.device) }
     ensures handed_on { IsHandedOn (W.holds_nothing out.new.device) out.new.failed result.ended }
 {
     match out.flush() {
-        Ok(()) => quietly(alloc, Err(Stop::Run(RunFault::NoMemory { line: 1 }))),
-        Err(_) => quietly(alloc, Err(Stop::Run(RunFault::Write { line: 1 }))),
+        Ok(()) => quietly(alloc, Err(ProgramStop::Run(RunFault::NoMemory { line: 1 }))),
+        Err(_) => quietly(alloc, Err(ProgramStop::Run(RunFault::Write { line: 1 }))),
     }
 }
 
@@ -119,7 +119,7 @@ pub fn test_journal<R: BufRead, W: HandsOn>(
     limit: u32,
     reader: &mut Watched<R>,
     out: &mut Watched<W>,
-) -> Ending
+) -> ProgramEnd
     ensures ends { EndsJournal reporting setup (R.remaining reader.old.device) (R.remaining reader.new.device)
         (W.contents out.old.device) (W.contents out.new.device) limit result }
     ensures handed_on { IsHandedOn (W.holds_nothing out.new.device) out.new.failed result.ended }

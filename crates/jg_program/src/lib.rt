@@ -15,4 +15,4 @@ mod summary;
 
 pub use files::Files;
 pub use program::run;
-pub use stop::{Status, Stop, tell};
+pub use stop::{ProgramStop, Status, tell};

@@ -4,9 +4,9 @@ ghost use Rattle.std.specs.Prelude.{◌≡◌, ◌≢◌, ◌≤◌, [], Result}
 ghost use Rattle.std.specs.IoError.{error_kind};
 ghost use Rattle.std.specs.declared.io.ErrorKind.TheVariants.{OutOfMemory};
 ghost use Rattle.jg_script.specs.declared.run_fault.RunFault.TheVariants.{NoMemory, Read};
-ghost use Rattle.jg_program.specs.declared.stop.Stop.TheVariants.{Run};
+ghost use Rattle.jg_program.specs.declared.stop.ProgramStop.TheVariants.{Run};
 ghost use Rattle.jg_program.specs.declared.stop.Status.{Status as StatusOf};
-ghost use Rattle.jg_program.specs.declared.stop.Stop.{Stop as StopOf};
+ghost use Rattle.jg_program.specs.declared.stop.ProgramStop.{ProgramStop as StopOf};
 ghost use Rattle.jg_program.specs.Ended.{IsHandedOn};
 ghost use Rattle.jg_shell.specs.declared.settle.FinishFault.TheVariants.{Differs};
 ghost use Rattle.jg_shell.specs.Work.{AreApart};
@@ -15,7 +15,7 @@ ghost use Rattle.jg_program.specs.Reported.{Reports};
 
 use crate::about::{About, end_unread};
 use crate::reporting::{Reporting, report};
-use crate::stop::{Ending, Status, Stop, quietly};
+use crate::stop::{ProgramEnd, ProgramStop, Status, quietly};
 use jg_guard::Guard;
 use jg_policy::{Setup, SetupFault};
 use jg_script::{HandsOn, RunFault, Scripts, Watched, read_script_lines, write_journal};
@@ -36,13 +36,13 @@ const BUFFER: usize = 65_536;
 const LOOKS: u32 = 10_000;
 
 /// What ends the program where a file of scripts can't be opened.
-pub fn script_stop_of(error: &io::Error) -> Stop
+pub fn script_stop_of(error: &io::Error) -> ProgramStop
     ensures memory { error_kind error.now ≡ OutOfMemory → result ≡ Run (NoMemory 1) }
     ensures unread { error_kind error.now ≢ OutOfMemory → result ≡ Run (Read 1) }
 {
     match error.kind() {
-        ErrorKind::OutOfMemory => Stop::Run(RunFault::NoMemory { line: 1 }),
-        _ => Stop::Run(RunFault::Read { line: 1 }),
+        ErrorKind::OutOfMemory => ProgramStop::Run(RunFault::NoMemory { line: 1 }),
+        _ => ProgramStop::Run(RunFault::Read { line: 1 }),
     }
 }
 
@@ -60,18 +60,22 @@ fn first_stop<L: Ledger>(workers: &[Worker<L>]) -> Option<jg_shell::Stop>
 
 /// Writes the guard's journal, and hands on what is still buffered; a failure of that counts as a
 /// failed write of the last line.
-fn hand_out<W: HandsOn>(alloc: Global, guard: &Guard, out: &mut Watched<W>) -> Result<(), Stop>
+fn hand_out<W: HandsOn>(
+    alloc: Global,
+    guard: &Guard,
+    out: &mut Watched<W>,
+) -> Result<(), ProgramStop>
     ensures written { HandsOut (W.contents out.old.device) (W.contents out.new.device) guard.now result }
     ensures handed_on { IsHandedOn (W.holds_nothing out.new.device) out.new.failed result }
 {
     let written = write_journal(alloc, guard, out);
     let Ok(()) = out.flush() else {
         let line = guard.journal_len().max(1) as u64;
-        return Err(Stop::Run(RunFault::Write { line }));
+        return Err(ProgramStop::Run(RunFault::Write { line }));
     };
     match written {
         Ok(()) => Ok(()),
-        Err(fault) => Err(Stop::Run(fault)),
+        Err(fault) => Err(ProgramStop::Run(fault)),
     }
 }
 
@@ -80,7 +84,7 @@ fn hand_out_told<L: Ledger, W: HandsOn>(
     alloc: Global,
     finished: &Finished<L>,
     out: &mut Watched<W>,
-) -> Result<Status, Stop>
+) -> Result<Status, ProgramStop>
     requires { AreReceipts finished.now.guard finished.now.workers.items }
     ensures settles { SettlesBy finished.now.guard finished.now.workers.items (W.contents out.old.device)
         (W.contents out.new.device) result }
@@ -90,7 +94,7 @@ fn hand_out_told<L: Ledger, W: HandsOn>(
         return Err(stop);
     }
     match first_stop(finished.workers.as_slice()) {
-        Some(stop) => Err(Stop::Worker(stop)),
+        Some(stop) => Err(ProgramStop::Worker(stop)),
         None => Ok(Status::Done),
     }
 }
@@ -101,7 +105,7 @@ fn end_told<L: Ledger, W: HandsOn>(
     reporting: Reporting,
     finished: Finished<L>,
     out: &mut Watched<W>,
-) -> Ending
+) -> ProgramEnd
     requires { AreReceipts finished.guard finished.workers.items }
     ensures settles { Settles reporting finished.workers.items (W.contents out.old.device)
         (W.contents out.new.device) result }
@@ -127,7 +131,7 @@ fn hand_out_different<L: Ledger, W: HandsOn>(
     place: usize,
     back: &Finished<L>,
     out: &mut Watched<W>,
-) -> Result<Status, Stop>
+) -> Result<Status, ProgramStop>
     ensures tells { TellsDifference tid place back.now.guard (W.contents out.old.device) (W.contents out.new.device)
         result }
     ensures handed_on { IsHandedOn (W.holds_nothing out.new.device) out.new.failed result }
@@ -135,7 +139,7 @@ fn hand_out_different<L: Ledger, W: HandsOn>(
     if let Err(stop) = hand_out(alloc, &back.guard, out) {
         return Err(stop);
     }
-    Err(Stop::Mismatch {
+    Err(ProgramStop::Mismatch {
         thread: tid.0,
         place: place as u64,
     })
@@ -149,9 +153,10 @@ fn end_different<L: Ledger, W: HandsOn>(
     place: usize,
     back: Finished<L>,
     out: &mut Watched<W>,
-) -> Ending
+) -> ProgramEnd
     ensures tells { (ended : Result StatusOf StopOf) × TellsDifference tid place back.guard (W.contents out.old.device)
-        (W.contents out.new.device) ended × Reports (λ about. about ≡ []) reporting back.guard.setup back.guard.journal ended result }
+        (W.contents out.new.device) ended
+        × Reports (λ about. about ≡ []) reporting back.guard.setup back.guard.journal ended result }
     ensures handed_on { IsHandedOn (W.holds_nothing out.new.device) out.new.failed result.ended }
 {
     let ended = hand_out_different(alloc, tid, place, &back, out);
@@ -159,13 +164,13 @@ fn end_different<L: Ledger, W: HandsOn>(
 }
 
 /// Takes the guard out of its lock once its workers have run, and writes its journal.
-fn settle<L: Ledger, W: HandsOn>(
+fn settle_play<L: Ledger, W: HandsOn>(
     alloc: Global,
     reporting: Reporting,
     shared: SharedGuard<L>,
     workers: Vec<Worker<L>>,
     out: &mut Watched<W>,
-) -> Ending
+) -> ProgramEnd
     requires { AreApart workers.items }
     ensures settles { Settles reporting workers.items (W.contents out.old.device) (W.contents out.new.device) result }
     ensures handed_on { IsHandedOn (W.holds_nothing out.new.device) out.new.failed result.ended }
@@ -191,7 +196,7 @@ fn play_scripts<L: Ledger + Send + Sync, T: Threads + Wait + Sync, W: HandsOn>(
     turns: u32,
     scripts: Scripts,
     out: &mut Watched<W>,
-) -> Ending
+) -> ProgramEnd
     requires name { blank.name ≡ L.name }
     requires parts { blank.parts ≡ L.parts }
     requires enough { 64 ≤ blank.parts }
@@ -201,15 +206,15 @@ fn play_scripts<L: Ledger + Send + Sync, T: Threads + Wait + Sync, W: HandsOn>(
 {
     let Ok((shared, mut workers)) = SharedGuard::<L>::new(alloc, setup, limit, scripts, blank)
     else {
-        return quietly(alloc, Err(Stop::Setup(SetupFault::NoMemory)));
+        return quietly(alloc, Err(ProgramStop::Setup(SetupFault::NoMemory)));
     };
     let gate = Meeting::new(workers.len(), LOOKS);
     play(rt, &shared, workers.as_mut_slice(), turns, &gate);
-    settle(alloc, reporting, shared, workers, out)
+    settle_play(alloc, reporting, shared, workers, out)
 }
 
-/// The scripts of a file. `line` is room for one of its lines, and holds the one that is refused at the end, if there is
-/// one.
+/// The scripts of a file. `line` is room for one of its lines, and holds the one that is refused at the end, if there
+/// is one.
 fn scripts_in<F: Read + Drop>(
     alloc: Global,
     file: F,
@@ -234,7 +239,7 @@ pub fn play_file<T: Threads + Wait + Sync, F: Read + Drop, W: HandsOn>(
     turns: u32,
     file: F,
     out: &mut Watched<W>,
-) -> Ending
+) -> ProgramEnd
     requires { 1 ≤ turns }
     ensures ends { EndsPlay reporting turns (F.remaining file) (W.contents out.old.device)
         (W.contents out.new.device) result }

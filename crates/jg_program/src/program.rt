@@ -12,7 +12,7 @@ use crate::migrating::migrate;
 use crate::playing::{play_file, script_stop_of};
 use crate::reporting::{Reporting, report};
 use crate::setup_file::{closed_setup, read_setup, stop_of};
-use crate::stop::{Ending, Status, Stop, quietly, tell_ending};
+use crate::stop::{ProgramEnd, ProgramStop, Status, quietly, tell_ending};
 use jg_args::{ArgsFault, Asked, Task, help_text, read_words};
 use jg_guard::Guard;
 use jg_policy::{Setup, SetupFault};
@@ -45,10 +45,11 @@ fn answer_lines<R: BufRead, W: HandsOn>(
     reader: &mut Watched<R>,
     out: &mut Watched<W>,
     line: &mut Vec<u8>,
-) -> Result<Status, Stop>
+) -> Result<Status, ProgramStop>
     requires { guard.old.journal ≡ [] }
     ensures answers { AnswersLines (R.remaining reader.old.device) (R.remaining reader.new.device)
-        (W.contents out.old.device) (W.contents out.new.device) guard.old.limit guard.new.journal line.new.items result }
+        (W.contents out.old.device) (W.contents out.new.device) guard.old.limit guard.new.journal line.new.items
+        result }
     ensures legal { Legal guard.new.setup guard.new.journal }
     ensures setup { guard.new.setup ≡ guard.old.setup }
     ensures handed_on { IsHandedOn (W.holds_nothing out.new.device) out.new.failed result }
@@ -56,15 +57,16 @@ fn answer_lines<R: BufRead, W: HandsOn>(
     let checked = check_lines(alloc, guard, reader, out, line);
     let Ok(()) = out.flush() else {
         let line = guard.journal_len().max(1) as u64;
-        return Err(Stop::Run(RunFault::Write { line }));
+        return Err(ProgramStop::Run(RunFault::Write { line }));
     };
     match checked {
         Ok(_) => Ok(Status::Done),
-        Err(fault) => Err(Stop::Run(fault)),
+        Err(fault) => Err(ProgramStop::Run(fault)),
     }
 }
 
-/// Answers the script that the reader holds, under this setup.
+/// Answers the script that the reader holds, under this setup. It owns the guard, and `answer_lines` borrows it, so
+/// that no way out of that one drops a guard.
 fn answer_script<R: BufRead, W: HandsOn>(
     alloc: Global,
     reporting: Reporting,
@@ -72,13 +74,13 @@ fn answer_script<R: BufRead, W: HandsOn>(
     limit: u32,
     reader: &mut Watched<R>,
     out: &mut Watched<W>,
-) -> Ending
+) -> ProgramEnd
     ensures ends { EndsScript reporting setup (R.remaining reader.old.device) (R.remaining reader.new.device)
         (W.contents out.old.device) (W.contents out.new.device) limit result }
     ensures handed_on { IsHandedOn (W.holds_nothing out.new.device) out.new.failed result.ended }
 {
     let Ok(mut guard) = Guard::new(alloc, alloc, setup, limit) else {
-        return quietly(alloc, Err(Stop::Setup(SetupFault::NoMemory)));
+        return quietly(alloc, Err(ProgramStop::Setup(SetupFault::NoMemory)));
     };
     let mut line = Vec::new(alloc);
     let ended = answer_lines(alloc, &mut guard, reader, out, &mut line);
@@ -89,7 +91,7 @@ fn answer_script<R: BufRead, W: HandsOn>(
     ending
 }
 
-/// Does what is asked for with the bytes of the reader, under this setup.
+/// Does what is asked for with the bytes of the reader, under this setup, which was given or is the closed one.
 fn work<R: BufRead, W: HandsOn>(
     alloc: Global,
     job: Job,
@@ -98,7 +100,7 @@ fn work<R: BufRead, W: HandsOn>(
     limit: u32,
     reader: &mut Watched<R>,
     out: &mut Watched<W>,
-) -> Ending
+) -> ProgramEnd
     ensures ends { Ends job reporting setup (R.remaining reader.old.device) (R.remaining reader.new.device)
         (W.contents out.old.device) (W.contents out.new.device) limit result }
     ensures handed_on { IsHandedOn (W.holds_nothing out.new.device) out.new.failed result.ended }
@@ -109,7 +111,7 @@ fn work<R: BufRead, W: HandsOn>(
     }
 }
 
-/// Does it under the setup where none is given.
+/// Does it under the closed setup, where none is given: its contract names that setup.
 fn work_closed<R: BufRead, W: HandsOn>(
     alloc: Global,
     job: Job,
@@ -117,19 +119,19 @@ fn work_closed<R: BufRead, W: HandsOn>(
     limit: u32,
     reader: &mut Watched<R>,
     out: &mut Watched<W>,
-) -> Ending
+) -> ProgramEnd
     ensures ends { EndsClosed job reporting (R.remaining reader.old.device) (R.remaining reader.new.device)
         (W.contents out.old.device) (W.contents out.new.device) limit result }
     ensures handed_on { IsHandedOn (W.holds_nothing out.new.device) out.new.failed result.ended }
 {
     match closed_setup(alloc) {
         Ok(setup) => work(alloc, job, reporting, setup, limit, reader, out),
-        Err(fault) => quietly(alloc, Err(Stop::Setup(fault))),
+        Err(fault) => quietly(alloc, Err(ProgramStop::Setup(fault))),
     }
 }
 
-/// Does it under the setup that a file states, of which the system told the length. The file is
-/// read and closed before the reader's first byte.
+/// Does it under the setup that a file states, of which the system told the length: its contract speaks of the bytes of
+/// the file. That is read and closed before the reader's first byte.
 fn work_under<F: Read + Drop, R: BufRead, W: HandsOn>(
     alloc: Global,
     job: Job,
@@ -139,7 +141,7 @@ fn work_under<F: Read + Drop, R: BufRead, W: HandsOn>(
     limit: u32,
     reader: &mut Watched<R>,
     out: &mut Watched<W>,
-) -> Ending
+) -> ProgramEnd
     ensures ends { EndsUnder job reporting (F.remaining file) told (R.remaining reader.old.device)
         (R.remaining reader.new.device) (W.contents out.old.device) (W.contents out.new.device) limit result }
     ensures handed_on { IsHandedOn (W.holds_nothing out.new.device) out.new.failed result.ended }
@@ -154,27 +156,27 @@ fn work_under<F: Read + Drop, R: BufRead, W: HandsOn>(
 }
 
 /// Writes the help or the version, whichever the words ask for.
-fn print_help<W: HandsOn>(alloc: Global, words: &[&str], out: &mut W) -> Result<Status, Stop>
+fn print_help<W: HandsOn>(alloc: Global, words: &[&str], out: &mut W) -> Result<Status, ProgramStop>
     ensures { IfOk result (λ status. (status ≡ Done) × W.holds_nothing out.new) }
 {
     let Ok(text) = help_text(alloc, words) else {
-        return Err(Stop::NO_MEMORY);
+        return Err(ProgramStop::NO_MEMORY);
     };
     let Ok(()) = out.write_all(text.as_bytes()) else {
-        return Err(Stop::Run(RunFault::Write { line: 1 }));
+        return Err(ProgramStop::Run(RunFault::Write { line: 1 }));
     };
     match out.hand_on() {
         Ok(()) => Ok(Status::Done),
-        Err(_) => Err(Stop::Run(RunFault::Write { line: 1 })),
+        Err(_) => Err(ProgramStop::Run(RunFault::Write { line: 1 })),
     }
 }
 
 /// The setup of the file that is asked for, or the one where none is; or how the program ends without it.
-fn setup_at<S: Files>(alloc: Global, asked: Asked<'_>, files: &S) -> Result<Setup, Ending> {
+fn setup_at<S: Files>(alloc: Global, asked: Asked<'_>, files: &S) -> Result<Setup, ProgramEnd> {
     let Some(path) = asked.setup else {
         return match closed_setup(alloc) {
             Ok(setup) => Ok(setup),
-            Err(fault) => Err(quietly(alloc, Err(Stop::Setup(fault)))),
+            Err(fault) => Err(quietly(alloc, Err(ProgramStop::Setup(fault)))),
         };
     };
     match files.open(path) {
@@ -183,7 +185,8 @@ fn setup_at<S: Files>(alloc: Global, asked: Asked<'_>, files: &S) -> Result<Setu
     }
 }
 
-/// Answers a script or tests a journal on standard input.
+/// Answers a script or tests a journal on standard input. No contract says what a path opens, so what is promised
+/// stands at the two functions that are called here.
 fn serve<S: Files, R: BufRead + Drop, W: HandsOn + Drop>(
     alloc: Global,
     job: Job,
@@ -191,7 +194,7 @@ fn serve<S: Files, R: BufRead + Drop, W: HandsOn + Drop>(
     files: &S,
     reader: R,
     out: W,
-) -> Ending {
+) -> ProgramEnd {
     let (mut reader, mut out) = (Watched::new(reader), Watched::new(out));
     let reporting = reporting_of(asked);
     let limit = asked.limit;
@@ -221,7 +224,7 @@ fn play_under<T: Threads + Wait + Sync, F: Read + Drop, W: HandsOn + Drop>(
     asked: Asked<'_>,
     file: F,
     out: W,
-) -> Ending
+) -> ProgramEnd
     requires { 1 ≤ asked.turns }
 {
     let mut out = Watched::new(out);
@@ -239,7 +242,7 @@ fn serve_play<T: Threads + Wait + Sync, S: Files, R: BufRead + Drop, W: HandsOn 
     files: &S,
     reader: R,
     out: W,
-) -> Ending
+) -> ProgramEnd
     requires { 1 ≤ asked.turns }
 {
     let setup = match setup_at(alloc, asked, files) {
@@ -261,7 +264,7 @@ fn serve_migration<S: Files, W: HandsOn + Drop>(
     path: &str,
     files: &S,
     out: W,
-) -> Ending {
+) -> ProgramEnd {
     match files.open(path) {
         Ok((mut file, told)) => {
             let mut out = Watched::new(out);
@@ -280,25 +283,6 @@ fn reporting_of(asked: Asked<'_>) -> Reporting {
     }
 }
 
-/// Does what is asked for.
-fn do_asked<T: Threads + Wait + Sync, S: Files, R: BufRead + Drop, W: HandsOn + Drop>(
-    rt: &T,
-    alloc: Global,
-    asked: Asked<'_>,
-    files: &S,
-    reader: R,
-    out: W,
-) -> Ending
-    requires { 1 ≤ asked.turns }
-{
-    match asked.task {
-        Task::Check => serve(alloc, Job::Check, asked, files, reader, out),
-        Task::Verify => serve(alloc, Job::Verify, asked, files, reader, out),
-        Task::Play(path) => serve_play(rt, alloc, path, asked, files, reader, out),
-        Task::Migrate(path) => serve_migration(alloc, path, files, out),
-    }
-}
-
 /// Runs the program on the words after its name, with the files that they may name. The threads of
 /// a play are made by `rt`.
 pub fn run<T: Threads + Wait + Sync, S: Files, R: BufRead + Drop, W: HandsOn + Drop, E: Write>(
@@ -311,7 +295,12 @@ pub fn run<T: Threads + Wait + Sync, S: Files, R: BufRead + Drop, W: HandsOn + D
     err: &mut E,
 ) -> Status {
     let ending = match read_words(alloc, words) {
-        Ok(asked) => do_asked(rt, alloc, asked, files, reader, out),
+        Ok(asked) => match asked.task {
+            Task::Check => serve(alloc, Job::Check, asked, files, reader, out),
+            Task::Verify => serve(alloc, Job::Verify, asked, files, reader, out),
+            Task::Play(path) => serve_play(rt, alloc, path, asked, files, reader, out),
+            Task::Migrate(path) => serve_migration(alloc, path, files, out),
+        },
         Err(ArgsFault::Help) => quietly(alloc, print_help(alloc, words, &mut out)),
         Err(fault) => end_refused(alloc, words, fault),
     };

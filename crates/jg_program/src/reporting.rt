@@ -6,7 +6,7 @@ ghost use Rattle.jg_program.specs.About.{IsAbout};
 ghost use Rattle.jg_program.specs.Reported.{EndsSummed, IsToldIf, Reports, SaysLeaks, SaysSummary, Tells, TellsNothing, any_denied, is_explained, said_text, strict_status};
 
 use crate::about::{About, push_about};
-use crate::stop::{Ending, Said, Status, Stop, quietly};
+use crate::stop::{ProgramEnd, ProgramStop, Said, Status, quietly};
 use crate::summary::push_summary;
 use jg_explain::{explain_first, explain_leaks};
 use jg_guard::{Guard, NoMemory};
@@ -102,23 +102,23 @@ fn push_leaks(
     }
 }
 
-fn ending_with(ended: Result<Status, Stop>, text: String) -> Ending
+fn ending_with(ended: Result<Status, ProgramStop>, text: String) -> ProgramEnd
     ensures ended { result.ended ≡ ended }
     ensures said { said_text result.said ≡ string_bytes text }
 {
-    Ending {
+    ProgramEnd {
         ended,
         said: Said::Text(text),
     }
 }
 
 /// Ends where memory ran out for what is explained.
-fn tell_nothing(alloc: Global, ended: Result<Status, Stop>) -> Ending
+fn tell_nothing(alloc: Global, ended: Result<Status, ProgramStop>) -> ProgramEnd
     ensures { TellsNothing ended result }
 {
     match ended {
-        Ok(_) => quietly(alloc, Err(Stop::Explain)),
-        Err(stop) => Ending {
+        Ok(_) => quietly(alloc, Err(ProgramStop::Explain)),
+        Err(stop) => ProgramEnd {
             ended: Err(stop),
             said: Said::NoMemory,
         },
@@ -152,13 +152,13 @@ fn report_left(
     guard: &Guard,
     said: String,
     status: Status,
-) -> Ending
+) -> ProgramEnd
     ensures { EndsSummed (string_bytes said) reporting guard.now.setup guard.now.journal status result }
 {
     let mut said = said;
     match push_summary_if(alloc, reporting.summary, guard, &mut said) {
         Ok(()) => ending_with(Ok(strict_status(reporting.strict, guard, status)), said),
-        Err(_) => ending_with(Err(Stop::Summary), said),
+        Err(_) => ending_with(Err(ProgramStop::Summary), said),
     }
 }
 
@@ -169,7 +169,7 @@ fn report_done(
     guard: &Guard,
     about: String,
     status: Status,
-) -> Ending
+) -> ProgramEnd
     ensures { Tells (string_bytes about) reporting guard.now.setup guard.now.journal (Ok status) result
         ⊎ ((is_explained reporting ≡ true) × TellsNothing (Ok status) result) }
 {
@@ -179,15 +179,15 @@ fn report_done(
     };
     match push_leaks(alloc, reporting, guard, &mut said) {
         Ok(()) => report_left(alloc, reporting, guard, said, status),
-        Err(_) => ending_with(Err(Stop::Leaks), said),
+        Err(_) => ending_with(Err(ProgramStop::Leaks), said),
     }
 }
 
-fn ending_short(stop: Stop, text: String) -> Ending
+fn ending_short(stop: ProgramStop, text: String) -> ProgramEnd
     ensures ended { result.ended ≡ Err stop }
     ensures said { said_text result.said ≡ string_bytes text ++ codes "summary: no memory\n" }
 {
-    Ending {
+    ProgramEnd {
         ended: Err(stop),
         said: Said::Short(text),
     }
@@ -199,8 +199,8 @@ fn report_stopped(
     reporting: Reporting,
     guard: &Guard,
     about: String,
-    stop: Stop,
-) -> Ending
+    stop: ProgramStop,
+) -> ProgramEnd
     ensures { Tells (string_bytes about) reporting guard.now.setup guard.now.journal (Err stop) result
         ⊎ ((is_explained reporting ≡ true) × TellsNothing (Err stop) result) }
 {
@@ -220,9 +220,10 @@ fn about_text(
     reporting: Reporting,
     guard: &Guard,
     about: About<'_>,
-    ended: Result<Status, Stop>,
+    ended: Result<Status, ProgramStop>,
 ) -> Result<String, AllocError>
-    ensures told { IfOk result (λ text. IsToldIf (is_explained reporting) (IsAbout about.entry ended) (string_bytes text)) }
+    ensures told { IfOk result (λ text. IsToldIf (is_explained reporting) (IsAbout about.entry ended)
+        (string_bytes text)) }
     ensures refused { OnErr result (is_explained reporting ≡ true) }
 {
     let mut text = String::new(alloc);
@@ -233,15 +234,15 @@ fn about_text(
 }
 
 /// How the program ends after the guard's journal, where its work was done or stopped so: what there is
-/// to tell about that comes first, then the explanations, then what is left behind, and last the summary. All of it is made
-/// before any of it is written.
+/// to tell about that comes first, then the explanations, then what is left behind, and last the summary. All of it is
+/// made before any of it is written.
 pub fn report(
     alloc: Global,
     reporting: Reporting,
     guard: &Guard,
     about: About<'_>,
-    ended: Result<Status, Stop>,
-) -> Ending
+    ended: Result<Status, ProgramStop>,
+) -> ProgramEnd
     ensures { Reports (IsAbout about.entry ended) reporting guard.now.setup guard.now.journal ended result }
 {
     match about_text(alloc, reporting, guard, about, ended) {

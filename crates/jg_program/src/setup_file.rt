@@ -5,12 +5,12 @@ ghost use Rattle.std.specs.IoError.{error_kind};
 ghost use Rattle.std.specs.declared.io.ErrorKind.TheVariants.{OutOfMemory};
 ghost use Rattle.jg_faults.specs.Setups.{TellsSetup};
 ghost use Rattle.jg_policy.specs.declared.fault.SetupFault.TheVariants.{NoMemory, TooMany};
-ghost use Rattle.jg_program.specs.declared.stop.Stop.TheVariants.{Setup as Faulty, SetupRead};
+ghost use Rattle.jg_program.specs.declared.stop.ProgramStop.TheVariants.{Setup as Faulty, SetupRead};
 ghost use Rattle.jg_program.specs.Ended.{EndsRefused};
 ghost use Rattle.jg_program.specs.Reported.{EndsTelling, IsToldIf};
 ghost use Rattle.jg_program.specs.StatedBy.{base_setup, Gives, IsFront, IsStated};
 
-use crate::stop::{Ending, Stop, quietly, telling};
+use crate::stop::{ProgramEnd, ProgramStop, quietly, telling};
 use jg_faults::push_setup_fault;
 use jg_policy::{Setup, SetupFault};
 use std::alloc::{AllocError, Global};
@@ -33,14 +33,14 @@ pub fn closed_setup(alloc: Global) -> Result<Setup, SetupFault>
 }
 
 /// What ends the program where a setup file can't be opened or read.
-pub fn stop_of(error: &io::Error) -> Stop
+pub fn stop_of(error: &io::Error) -> ProgramStop
     ensures either { (result ≡ SetupRead) ⊎ (result ≡ Faulty NoMemory) }
     ensures memory { error_kind error.now ≡ OutOfMemory → result ≡ Faulty NoMemory }
     ensures unread { error_kind error.now ≢ OutOfMemory → result ≡ SetupRead }
 {
     match error.kind() {
-        ErrorKind::OutOfMemory => Stop::Setup(SetupFault::NoMemory),
-        _ => Stop::SetupRead,
+        ErrorKind::OutOfMemory => ProgramStop::Setup(SetupFault::NoMemory),
+        _ => ProgramStop::SetupRead,
     }
 }
 
@@ -62,11 +62,11 @@ fn fault_text(
 }
 
 /// How the program ends where the bytes of a setup have this fault.
-fn end_faulty(alloc: Global, explained: bool, bytes: &[u8], fault: SetupFault) -> Ending
+fn end_faulty(alloc: Global, explained: bool, bytes: &[u8], fault: SetupFault) -> ProgramEnd
     ensures { EndsTelling explained (TellsSetup fault bytes.now) (Faulty fault) result }
 {
     telling(
-        Stop::Setup(fault),
+        ProgramStop::Setup(fault),
         fault_text(alloc, explained, bytes, fault),
     )
 }
@@ -85,11 +85,11 @@ fn length_text(alloc: Global, explained: bool) -> Result<String, AllocError>
 }
 
 /// How the program ends where a setup file is too long.
-fn end_too_long(alloc: Global, explained: bool) -> Ending
+fn end_too_long(alloc: Global, explained: bool) -> ProgramEnd
     ensures { EndsTelling explained (λ it. it ≡ codes "more than 16777216 bytes\n") (Faulty TooMany) result }
 {
     telling(
-        Stop::Setup(SetupFault::TooMany),
+        ProgramStop::Setup(SetupFault::TooMany),
         length_text(alloc, explained),
     )
 }
@@ -101,7 +101,7 @@ pub fn read_setup<F: Read>(
     explained: bool,
     file: &mut F,
     told: u64,
-) -> Result<Setup, Ending>
+) -> Result<Setup, ProgramEnd>
     ensures stated { IfOk result (IsStated (F.remaining file.old)) }
     ensures refused { IfErr result (EndsRefused explained (F.remaining file.old) told) }
     ensures unread { 16777216 < told → file.new ≡ file.old }
@@ -122,7 +122,7 @@ fn read_text<F: Read>(
     explained: bool,
     file: &mut F,
     told: u64,
-) -> Result<String, Ending>
+) -> Result<String, ProgramEnd>
     ensures bytes { IfOk result (λ text. Gives (F.remaining file.old) (string_bytes text)) }
     ensures told { OnOk result (told ≤ 16777216) }
     ensures short { IfOk result (λ text. length (string_bytes text) ≤ 16777216) }

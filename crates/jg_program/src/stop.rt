@@ -32,7 +32,7 @@ pub enum Status {
 
 /// Why the program ends before its work is done. Each prints as its line on standard error.
 #[derive(Clone, Copy, Debug, PartialEq, Eq, Error)]
-pub enum Stop {
+pub enum ProgramStop {
     #[error("{0}")]
     Arguments(ArgsFault),
     /// The setup is faulty, or memory ran out before the script was begun.
@@ -61,27 +61,27 @@ pub enum Stop {
     Worker(jg_shell::Stop),
 }
 
-impl Stop {
+impl ProgramStop {
     /// The words are no command line, or ask for what the program can't do.
-    pub const REFUSED: Stop = Stop::Arguments(ArgsFault::Refused);
+    pub const REFUSED: ProgramStop = ProgramStop::Arguments(ArgsFault::Refused);
 
     /// Memory ran out before the words were read, or for the text that they ask for.
-    pub const NO_MEMORY: Stop = Stop::Arguments(ArgsFault::NoMemory);
+    pub const NO_MEMORY: ProgramStop = ProgramStop::Arguments(ArgsFault::NoMemory);
 
     /// The status that it ends with.
     pub fn status(self) -> Status
         ensures { result ≡ status_of self }
     {
         match self {
-            Stop::Arguments(fault) => status_of_words(fault),
-            Stop::Setup(fault) => status_of_setup(fault),
-            Stop::SetupRead => Status::Device,
-            Stop::Run(fault) => status_of_run(fault),
-            Stop::Leaks => Status::Exhausted,
-            Stop::Summary => Status::Exhausted,
-            Stop::Explain => Status::Exhausted,
-            Stop::Mismatch { .. } => Status::Differs,
-            Stop::Worker(_) => Status::Exhausted,
+            ProgramStop::Arguments(fault) => status_of_words(fault),
+            ProgramStop::Setup(fault) => status_of_setup(fault),
+            ProgramStop::SetupRead => Status::Device,
+            ProgramStop::Run(fault) => status_of_run(fault),
+            ProgramStop::Leaks => Status::Exhausted,
+            ProgramStop::Summary => Status::Exhausted,
+            ProgramStop::Explain => Status::Exhausted,
+            ProgramStop::Mismatch { .. } => Status::Differs,
+            ProgramStop::Worker(_) => Status::Exhausted,
         }
     }
 }
@@ -135,24 +135,24 @@ pub enum Said {
 
 /// How the program ends: with this status, or for this reason; and what is said then.
 #[derive(Debug, Drop)]
-pub struct Ending {
-    pub ended: Result<Status, Stop>,
+pub struct ProgramEnd {
+    pub ended: Result<Status, ProgramStop>,
     pub said: Said,
 }
 
 /// The ending with nothing to say.
-pub fn quietly(alloc: Global, ended: Result<Status, Stop>) -> Ending
+pub fn quietly(alloc: Global, ended: Result<Status, ProgramStop>) -> ProgramEnd
     ensures ended { result.ended ≡ ended }
     ensures said { said_text result.said ≡ [] }
 {
-    Ending {
+    ProgramEnd {
         ended,
         said: Said::Text(String::new(alloc)),
     }
 }
 
 /// The ending by this, with what is told of it; or memory ran out for that.
-pub fn telling(stop: Stop, told: Result<String, AllocError>) -> Ending
+pub fn telling(stop: ProgramStop, told: Result<String, AllocError>) -> ProgramEnd
     ensures ended { result.ended ≡ Err stop }
     ensures said { IfOk told (λ text. said_text result.said ≡ string_bytes text) }
     ensures memory { OnErr told (result.said ≡ NoMemory) }
@@ -161,14 +161,14 @@ pub fn telling(stop: Stop, told: Result<String, AllocError>) -> Ending
         Ok(text) => Said::Text(text),
         Err(_) => Said::NoMemory,
     };
-    Ending {
+    ProgramEnd {
         ended: Err(stop),
         said,
     }
 }
 
 /// Says why the program ends. A failed write of that changes nothing.
-pub fn tell<E: Write>(stop: Stop, err: &mut E) -> Status
+pub fn tell<E: Write>(stop: ProgramStop, err: &mut E) -> Status
     ensures { result ≡ status_of stop }
 {
     let _ = writeln!(err, "{stop}");
@@ -176,7 +176,7 @@ pub fn tell<E: Write>(stop: Stop, err: &mut E) -> Status
 }
 
 /// Says on standard error how the program ends, and gives its status. A failed write changes nothing.
-pub fn tell_ending<E: Write>(ending: Ending, err: &mut E) -> Status
+pub fn tell_ending<E: Write>(ending: ProgramEnd, err: &mut E) -> Status
     ensures { result ≡ ended_status ending.ended }
 {
     let status = match ending.ended {
@@ -189,10 +189,10 @@ pub fn tell_ending<E: Write>(ending: Ending, err: &mut E) -> Status
         }
         Said::Short(text) => {
             let _ = err.write_all(text.as_bytes());
-            let _ = writeln!(err, "{}", Stop::Summary);
+            let _ = writeln!(err, "{}", ProgramStop::Summary);
         }
         Said::NoMemory => {
-            let _ = writeln!(err, "{}", Stop::Explain);
+            let _ = writeln!(err, "{}", ProgramStop::Explain);
         }
     }
     status

@@ -108,7 +108,8 @@ fn push_peaks(out: &mut String, peaks: Peaks) -> Result<(), AllocError>
 /// Adds how many calls the guard's journal has, how many of them passed and were denied, a line for each
 /// rule that denied some, and how much there was at most at once. Fails only for want of memory.
 pub fn push_summary(out: &mut String, guard: &Guard) -> Result<(), AllocError>
-    ensures { OnOk result (AddsSummary guard.now.setup guard.now.journal (string_bytes out.old) (string_bytes out.new)) }
+    ensures { OnOk result (AddsSummary guard.now.setup guard.now.journal (string_bytes out.old)
+        (string_bytes out.new)) }
 {
     push_calls(out, guard)?;
     push_rules(out, guard, &RULES)?;

@@ -89,11 +89,13 @@ gives value = record { outcome = Passed (record { value = value; warned = false;
 abbrev pub warns : Value → Became
 warns value = record { outcome = Passed (record { value = value; warned = true; noticed = false }); object = None }
 
--- passed with this reference and no warning or notice; it names the object of this number, where the first object that is made
--- comes after the class objects: with no class but the base classes it is number 15
+-- passed with this reference and no warning or notice; it names the object of this number, where the first object that
+-- is made comes after the class objects: with no class but the base classes it is number 15
 abbrev pub hands_out : Ref → ℕ → Became
-hands_out r n =
-    record { outcome = Passed (record { value = Reference r; warned = false; noticed = false }); object = Some (record { 0 = n }) }
+hands_out r n = record {
+  outcome = Passed (record { value = Reference r; warned = false; noticed = false });
+  object = Some (record { 0 = n });
+}
 
 -- the same, where the frame then holds more local references than it has room for
 abbrev pub notices : Ref → ℕ → Became
@@ -104,12 +106,17 @@ notices r n = record {
 
 -- passed; the object of this number is pending
 abbrev pub raises : ℕ → Became
-raises n = record { outcome = Passed (record { value = Done; warned = false; noticed = false }); object = Some (record { 0 = n }) }
+raises n = record {
+  outcome = Passed (record { value = Done; warned = false; noticed = false });
+  object = Some (record { 0 = n });
+}
 
 -- an exception of this class was thrown; it is the object of this number
 abbrev pub throws : Thrown → ℕ → Became
-throws kind n =
-    record { outcome = Passed (record { value = Threw kind; warned = false; noticed = false }); object = Some (record { 0 = n }) }
+throws kind n = record {
+  outcome = Passed (record { value = Threw kind; warned = false; noticed = false });
+  object = Some (record { 0 = n });
+}
 
 -- denied by this rule
 abbrev pub denies : Rule → Became

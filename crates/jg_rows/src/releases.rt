@@ -146,7 +146,8 @@ T1 E1.1 ReleaseStringCritical L1.6 B1.7 = ok
 /// A copied array is released by the function of its type alone.
 pub fn releases_of_booleans_bytes_and_chars()
     ensures outcomes { ComesOut closed rows.releases_of_booleans_bytes_and_chars }
-    ensures journal { HasText closed rows.releases_of_booleans_bytes_and_chars RELEASES_OF_BOOLEANS_BYTES_AND_CHARS.now }
+    ensures journal { HasText closed rows.releases_of_booleans_bytes_and_chars
+        RELEASES_OF_BOOLEANS_BYTES_AND_CHARS.now }
 {}
 
 /// The journal of `releases_of_booleans_bytes_and_chars`.

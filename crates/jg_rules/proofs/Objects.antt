@@ -33,7 +33,7 @@ told_if true rows e o is told = let made : o < count_of rows.classes e = grind (
 told_if false rows e o is told = rw (told.count, is) refl
 
 -- wherever the store stands, it tells of this class
-pub class_by_rows : (rows : Rows) (k : ℕ) (e : List Event) (o : ℕ) → HeapTells rows k e → class_there k e o ≡ class_told rows o
+class_by_rows : (rows : Rows) (k : ℕ) (e : List Event) (o : ℕ) → HeapTells rows k e → class_there k e o ≡ class_told rows o
 class_by_rows rows k e o tells =
     ap (λ n. class_there n e o) (sym tells.classes) ∙ told_if (nat_lt o (count_of rows.classes e)) rows e o refl (rows_law rows e tells.stands)
 

@@ -8,7 +8,7 @@ use Rattle.jg_heap.specs.History.{Event, Made, Wrote, Collected, Went, count_of,
 use Rattle.jg_rules.specs.Parts.{Parts, TableRows, TablesStand}
 
 -- it counts as a class object
-pub making_at-unmade : (k : ℕ) (e : List Event) (o : ℕ) → count_of k e ≤ o → making_at k e o ≡ Plain 1 []
+making_at-unmade : (k : ℕ) (e : List Event) (o : ℕ) → count_of k e ≤ o → making_at k e o ≡ Plain 1 []
 making_at-unmade k [] o past = refl
 making_at-unmade k (Made m ∷ e) o past =
     let other : (o == count_of k e) ≡ false = grind (arith, nat_tests) in

@@ -76,8 +76,10 @@ thrown s p kind = saying (Threw kind) (Some (record { 0 = object_count s p }))
 
 -- the same with a warning, where one is due for a use of native code by the class
 abbrev pub admitted : StatedSetup → Parts → Operation → Option ℕ → Answer → Answer
-admitted s p operation class a =
-    record { reply = record { value = a.reply.value; warned = warns s p operation class; noticed = false }; object = a.object }
+admitted s p operation class a = record {
+  reply = record { value = a.reply.value; warned = warns s p operation class; noticed = false };
+  object = a.object;
+}
 
 abbrev pub present_env : Tid → Option ℕ → Value
 present_env t None = NotAttached
@@ -243,8 +245,8 @@ monitors_answer p t (MonitorExit r) = plain Done
 abbrev pub lent : Parts → Tid → Answer
 lent p t = plain (Lent (record { maker = t; n = next_buffer p t.0 }))
 
--- (JNI Specification, chapter 4, "String Operations", "Array Operations"). That buffers are read and written by calls is
--- this guard's own
+-- (JNI Specification, chapter 4, "String Operations", "Array Operations"). That buffers are read and written by calls
+-- is this guard's own
 abbrev pub buffers_answer : StatedSetup → Parts → Tid → BuffersCall → Answer
 buffers_answer s p t (GetArrayElements element r) = lent p t
 buffers_answer s p t (ReleaseArrayElements element r b mode) = plain Done
@@ -276,7 +278,10 @@ makes_local (Reference (To Local maker n)) = true
 makes_local value = false
 
 abbrev pub with_notice : Bool → Answer → Answer
-with_notice b a = record { reply = record { value = a.reply.value; warned = a.reply.warned; noticed = b }; object = a.object }
+with_notice b a = record {
+  reply = record { value = a.reply.value; warned = a.reply.warned; noticed = b };
+  object = a.object;
+}
 
 -- the answer hands out a local reference, and just after it the thread's present frame holds more than it has room for
 -- (JNI Specification, chapter 4, "Local References")

@@ -1,12 +1,10 @@
 -- Buffers that native code was lent: which one a call means, whose it is, and what its items are.
 use Rattle.std.specs.Prelude.{ℕ, ℤ, pos, ◌==◌, ◌&&◌, Bool, true, false, not, nat_lt, int_le, List, [], ◌∷◌, slice_index_or, Option, Some, None}
-use Rattle.std.specs.List.{find}
 use Rattle.std.specs.Option.{option_map}
 use Rattle.jg_words.specs.declared.buffer.BufId.{BufId}
 use Rattle.jg_words.specs.declared.object.Primitive.{Primitive}
-use Rattle.jg_words.specs.declared.object.Primitive.TheVariants.{Boolean, Byte, Char, Short, Int, Long}
 use Rattle.jg_policy.specs.Stated.{StatedSetup}
-use Rattle.jg_heap.specs.Making.{array_class}
+use Rattle.jg_words.specs.Classes.{array_class, element_of}
 use Rattle.jg_heap.specs.Reading.{natural}
 use Rattle.jg_buffers.specs.History.{opened, content, info_of, is_critical}
 use Rattle.jg_buffers.specs.declared.family.Family.{Family}
@@ -68,13 +66,6 @@ writes_back mode = is_within (pos 0) (pos 1) mode
 -- the place of one of so many items, counted from 0
 abbrev pub is_place : ℤ → ℕ → Bool
 is_place index n = int_le (pos 0) index && nat_lt (natural index) n
-
-abbrev pub primitives : List Primitive
-primitives = Boolean ∷ Byte ∷ Char ∷ Short ∷ Int ∷ Long ∷ []
-
--- the type of the items of the arrays of a class, where they are numbers
-abbrev pub element_of : ℕ → Option Primitive
-element_of class = find (λ element. array_class element == class) primitives
 
 -- the type of a buffer's items, where they may be written
 abbrev pub item_type : StatedSetup → Parts → Info → Family → Option Primitive

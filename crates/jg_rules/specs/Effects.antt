@@ -8,7 +8,7 @@ use Rattle.jg_words.specs.declared.reference.Kind.TheVariants.{Local, Global, We
 use Rattle.jg_words.specs.declared.value.Value.{Value}
 use Rattle.jg_words.specs.declared.value.Value.TheVariants.{Ok as Done, Reference, Buffer as Lent, Busy, Throw as Threw}
 use Rattle.jg_words.specs.declared.value.Thrown.{Thrown}
-use Rattle.jg_words.specs.declared.value.Thrown.TheVariants.{ArrayIndexOutOfBounds, StringIndexOutOfBounds, NoClassDefFound, NoSuchField, NoSuchMethod}
+use Rattle.jg_words.specs.Classes.{array_class, class_thrown}
 use Rattle.jg_words.specs.declared.entry.Reply.{Reply}
 use Rattle.jg_words.specs.declared.entry.Outcome.{Outcome}
 use Rattle.jg_words.specs.declared.entry.Outcome.TheVariants.{Passed, Denied}
@@ -46,7 +46,7 @@ use Rattle.jg_globals.specs.History as globals
 use Rattle.jg_buffers.specs.History as buffers
 use Rattle.jg_monitors.specs.History as monitors
 use Rattle.jg_heap.specs.History as heap
-use Rattle.jg_heap.specs.Making.{Text, Plain, Filled, array_class}
+use Rattle.jg_heap.specs.Making.{Text, Plain, Filled}
 use Rattle.jg_heap.specs.Reading.{natural, decoded}
 use Rattle.jg_heap.specs.Spelling.{spelt}
 use Rattle.jg_heap.specs.declared.object.Slot.{Slot}
@@ -423,14 +423,6 @@ abbrev pub value_globals : Value → Option ObjId → List globals.Event
 value_globals (Reference (To Global maker n)) (Some o) = globals.MakeStrong maker.0 n o.0 ∷ []
 value_globals (Reference (To Weak maker n)) (Some o) = globals.MakeWeak maker.0 n o.0 ∷ []
 value_globals value o = []
-
--- the number of the exception's class
-abbrev pub class_thrown : Thrown → ℕ
-class_thrown ArrayIndexOutOfBounds = 10
-class_thrown StringIndexOutOfBounds = 11
-class_thrown NoClassDefFound = 12
-class_thrown NoSuchField = 13
-class_thrown NoSuchMethod = 14
 
 abbrev pub value_heap : Value → List heap.Event
 value_heap (Threw kind) = heap.Made (Plain (class_thrown kind) []) ∷ []

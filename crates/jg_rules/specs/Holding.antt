@@ -12,8 +12,8 @@ use Rattle.jg_rules.specs.Parts.{Parts}
 use Rattle.jg_rules.specs.Names.{object_count}
 
 -- something outside the store holds the object: a live local of some thread, a global reference (JNI Specification,
--- chapter 2, "Global and Local References"), a pending exception, an open critical buffer, or its monitor's owner. A weak
--- global reference holds nothing (chapter 4, "Weak Global References")
+-- chapter 2, "Global and Local References"), a pending exception, an open critical buffer, or its monitor's owner. A
+-- weak global reference holds nothing (chapter 4, "Weak Global References")
 abbrev pub is_root : Parts → ℕ → Bool
 is_root p o = (((locals.holds_object p.locals o || globals.holds_object p.globals o) || threads.is_pending p.threads o)
     || buffers.pins_object p.buffers o)

@@ -23,7 +23,7 @@ use Rattle.jg_words.specs.declared.call.buffers.BuffersCall.{BuffersCall}
 use Rattle.jg_words.specs.declared.call.buffers.BuffersCall.TheVariants.{GetArrayElements, ReleaseArrayElements, GetStringChars, ReleaseStringChars, GetStringUTFChars, ReleaseStringUTFChars, GetPrimitiveArrayCritical, ReleasePrimitiveArrayCritical, GetStringCritical, ReleaseStringCritical, BufferRead, BufferWrite}
 use Rattle.jg_policy.specs.Stated.{StatedSetup, class_count}
 use Rattle.jg_policy.specs.Classes.{is_throwable}
-use Rattle.jg_heap.specs.Making.{array_class}
+use Rattle.jg_words.specs.Classes.{array_class}
 use Rattle.jg_rules.specs.declared.operand.ObjectType.{ObjectType}
 use Rattle.jg_rules.specs.declared.operand.ObjectType.TheVariants.{AnyObject, ClassObject, PlainClass, ThrowableObject, StringObject, AnyArray, PrimitiveArray, ArrayOf, ObjectArray}
 use Rattle.jg_rules.specs.declared.operand.Operand.{Operand}

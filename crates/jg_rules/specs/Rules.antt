@@ -89,8 +89,8 @@ wrong_caller t true = not (t == 0)
 wrong_caller t false = t == 0
 
 -- 1: a call of thread 0 that is none of the virtual machine's own, or one of those from another thread; or an
--- environment of another thread (JNI Specification, chapter 2, "JNI Interface Functions and Pointers": a JNIEnv is valid
--- in its own thread alone)
+-- environment of another thread (JNI Specification, chapter 2, "JNI Interface Functions and Pointers": a JNIEnv is
+-- valid in its own thread alone)
 abbrev pub wrong_thread : ℕ → Option EnvId → Call → Bool
 wrong_thread t env call = wrong_caller t (is_machine call) || of_another t env
 
@@ -261,9 +261,9 @@ buffers_bad_buffer p t (ReleaseStringCritical r b) = not (is_releasable p t Stri
 buffers_bad_buffer p t (BufferRead b index) = not (is_readable p t b)
 buffers_bad_buffer p t (BufferWrite b index value) = not (is_writable p t b)
 
--- 11: a buffer that isn't open, or isn't the call's: released by another function than its own, with another object, or,
--- being critical, used by another thread; or a string's buffer that is written (JNI Specification, chapter 4, "String
--- Operations", "Array Operations")
+-- 11: a buffer that isn't open, or isn't the call's: released by another function than its own, with another object,
+-- or, being critical, used by another thread; or a string's buffer that is written (JNI Specification, chapter 4,
+-- "String Operations", "Array Operations")
 abbrev pub bad_buffer : Parts → ℕ → Call → Bool
 bad_buffer p t (Vm call) = false
 bad_buffer p t (Refs call) = false

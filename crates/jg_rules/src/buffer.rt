@@ -12,7 +12,7 @@ use crate::object::class_of;
 use crate::store::Store;
 use crate::view::View;
 use jg_buffers::{Family, Info};
-use jg_words::{BufId, ObjId, Primitive, Tid};
+use jg_words::{BufId, ObjId, Primitive, Tid, element_of};
 use std::alloc::Allocator;
 
 /// The open buffer of that name, if there is one.
@@ -27,7 +27,7 @@ pub fn buffer_named<A: Allocator + Clone, S: Store>(
 }
 
 /// Two families are one where their numbers are equal.
-fn family_number(family: Family) -> u8
+fn family_number(family: Family) -> u32
     ensures { result ≡ buffers_of.family_number family }
 {
     match family {
@@ -35,12 +35,7 @@ fn family_number(family: Family) -> u8
         Family::UtfChars => 1,
         Family::ArrayCritical => 2,
         Family::StringCritical => 3,
-        Family::Elements(Primitive::Boolean) => 4,
-        Family::Elements(Primitive::Byte) => 5,
-        Family::Elements(Primitive::Char) => 6,
-        Family::Elements(Primitive::Short) => 7,
-        Family::Elements(Primitive::Int) => 8,
-        Family::Elements(Primitive::Long) => 9,
+        Family::Elements(element) => element.array_class(),
     }
 }
 
@@ -90,21 +85,6 @@ pub fn is_of_array(family: Family) -> bool
         Family::UtfChars => false,
         Family::ArrayCritical => true,
         Family::StringCritical => false,
-    }
-}
-
-/// The type of the items of the arrays of a class, where they are numbers.
-fn element_of(class: u32) -> Option<Primitive>
-    ensures { result ≡ buffers_of.element_of class }
-{
-    match class {
-        4 => Some(Primitive::Boolean),
-        5 => Some(Primitive::Byte),
-        6 => Some(Primitive::Char),
-        7 => Some(Primitive::Short),
-        8 => Some(Primitive::Int),
-        9 => Some(Primitive::Long),
-        _ => None,
     }
 }
 

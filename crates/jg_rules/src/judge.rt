@@ -1,6 +1,6 @@
 //! Rules 1 to 9, which are judged for all calls alike, and rules 10 to 17 by the call's group.
 
-ghost use Rattle.std.specs.Prelude.{◌≡◌};
+ghost use Rattle.std.specs.Prelude.{◌≡◌, if◌then◌else◌, None, Some};
 ghost use Rattle.jg_rules.specs.Parts.{Parts};
 ghost use Rattle.jg_rules.specs.Rules.{verdict, own_verdict, is_machine, wrong_caller, wrong_thread, detached, in_critical, while_pending};
 ghost use Rattle.jg_rules.specs.View.{ViewTells};
@@ -11,8 +11,8 @@ mod frames;
 mod monitors;
 mod numbers;
 mod objects;
-mod pinned;
 mod references;
+mod refs;
 mod strings;
 mod vm;
 
@@ -27,9 +27,9 @@ use monitors::judge_monitors;
 pub use numbers::fits;
 pub use objects::is_field_of_type;
 use objects::judge_objects;
-use pinned::judge_refs;
 use references::judge_references;
 pub use references::{is_foreign_local, is_wrong_object};
+use refs::judge_refs;
 use std::alloc::Allocator;
 use strings::judge_strings;
 use vm::judge_vm;
@@ -72,7 +72,7 @@ fn judge_group<A: Allocator + Clone, S: Store>(
 {
     match call {
         Call::Vm(call) => judge_vm(view, tid, call),
-        Call::Refs(call) => judge_refs(view, tid, call),
+        Call::Refs(call) => judge_refs(view, call),
         Call::Frames(call) => judge_frames(view, tid, call),
         Call::Exceptions(_) => None,
         Call::Objects(call) => judge_objects(view, tid, call),
@@ -81,6 +81,13 @@ fn judge_group<A: Allocator + Clone, S: Store>(
         Call::Monitors(call) => judge_monitors(view, tid, call),
         Call::Buffers(call) => judge_buffers(view, tid, call),
     }
+}
+
+/// The rule, where it is broken.
+fn broken_if(is_broken: bool, rule: Rule) -> Option<Rule>
+    ensures { result ≡ (if is_broken then Some rule else None) }
+{
+    if is_broken { Some(rule) } else { None }
 }
 
 /// Whether the virtual machine itself makes the call.

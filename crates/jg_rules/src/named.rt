@@ -1,3 +1,5 @@
+//! What operands name: objects, classes, fields and native methods.
+
 ghost use Rattle.std.specs.Prelude.{◌≡◌, ◌<◌, IfSome};
 ghost use Rattle.std.specs.Option.{option_map};
 ghost use Rattle.jg_policy.specs.Stated.{class_count};

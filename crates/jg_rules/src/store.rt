@@ -6,7 +6,7 @@ ghost use Rattle.jg_rules.specs.Parts.{HeapTells};
 
 use jg_buffers::Items;
 use jg_heap::Heap;
-use jg_words::ObjId;
+use jg_words::{CLASS_CLASS, ObjId};
 use std::alloc::Allocator;
 
 /// A store of objects. Judging reads their classes, and nothing else of what they are.
@@ -31,7 +31,7 @@ impl<A: Allocator> Store for Heap<A> {
         if object.0 < self.len() && !self.is_gone(object) {
             self.class_of(object)
         } else {
-            1
+            CLASS_CLASS
         }
     }
 }

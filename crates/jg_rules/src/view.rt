@@ -1,3 +1,5 @@
+//! The setup and the tables, as the judge reads them.
+
 use crate::store::Store;
 use jg_buffers::Buffers;
 use jg_globals::Globals;

@@ -1,3 +1,5 @@
+//! Tests of plays in which a gate holds threads back, by what is played.
+
 mod alone;
 mod busy;
 mod limits;

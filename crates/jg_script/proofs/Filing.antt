@@ -69,7 +69,8 @@ file_more file n old new text x f counted within spelt adds = record {
 module _ (input mid input' : Option (List ℕ)) (n : ℕ) (old : List Lines) (h : HasRead input mid n old) where
   read_more : (text : List ℕ) (x : CallLine) → Spells text x.tid x.env x.call → LinesTaken mid input' (text ∷ []) → LinesTaken input input' (map text_of (h.file ++ x ∷ []))
   read_more text x spelt line =
-      subst (λ (ls : List (List ℕ)). LinesTaken input input' ls) (ap (λ (t : List ℕ). map text_of h.file ++ t ∷ []) spelt.text ∙ sym (map-append text_of h.file (x ∷ []))) (lines_more input mid input' _ _ h.read line)
+      subst (λ (ls : List (List ℕ)). LinesTaken input input' ls) (ap (λ (t : List ℕ). map text_of h.file ++ t ∷ []) spelt.text ∙ sym (map-append text_of h.file (x ∷ [])))
+      (lines_more input mid input' _ _ h.read line)
 
   pub goes_on : (new : List Lines) (text : List ℕ) → TakesLine text n old new (Ok tt) → LinesTaken mid input' (text ∷ []) → Consumes mid input' (text ++ 10 ∷ []) → HasRead input input' (n + 1) new
   goes_on new text (within, (x, spelt, adds)) line bytes =
@@ -96,9 +97,14 @@ module _ (input mid input' : Option (List ℕ)) (n : ℕ) (old : List Lines) (h 
       let counted = h.counted in
       inr (many, all, omega arith, new_thread)
 
-  pub refused : (new : List Lines) (text : List ℕ) (fault : RunFault) → TakesLine text n old new (Err fault) → LinesTaken mid input' (text ∷ []) → TakesFront mid input' → ReadsScripts input input' (Err fault)
-  refused new text (Script l f) takes line front =
-      (h.file, (old, h.is_file, followed input input' _ text (IsRefused h.file old f) (lines_more input mid input' _ _ h.read line) (is_refused new text l f takes)), takes.0 ∙ h.counted, one_more input mid input' _ h.taken front)
+  pub refused : (new : List Lines) (text : List ℕ) (fault : RunFault) → TakesLine text n old new (Err fault) → LinesTaken mid input' (text ∷ []) → TakesFront mid input'
+      → ReadsScripts input input' (Err fault)
+  refused new text (Script l f) takes line front = (
+    h.file,
+    (old, h.is_file, followed input input' _ text (IsRefused h.file old f) (lines_more input mid input' _ _ h.read line) (is_refused new text l f takes)),
+    takes.0 ∙ h.counted,
+    one_more input mid input' _ h.taken front,
+  )
   refused new text (Limit l) (is, past, well) line front =
       let counted = h.counted in
       let few = h.is_file.few_lines in
@@ -116,7 +122,12 @@ module _ (input mid input' : Option (List ℕ)) (n : ℕ) (old : List Lines) (h 
   holds_refused new text (Write l) takes line = tt
 
   pub too_long : BeginsTooLong mid → TakesFront mid input' → ReadsScripts input input' (Err (Script n LineTooLong))
-  too_long long front = (h.file, (old, h.is_file, followed_by_more input _ _ (IsRefused h.file old LineTooLong) (λ next first. inl first) (followed_by_long input mid _ h.read long)), h.counted, one_more input mid input' _ h.taken front)
+  too_long long front = (
+    h.file,
+    (old, h.is_file, followed_by_more input _ _ (IsRefused h.file old LineTooLong) (λ next first. inl first) (followed_by_long input mid _ h.read long)),
+    h.counted,
+    one_more input mid input' _ h.taken front,
+  )
 
   pub no_memory : TakesFront mid input' → ReadsScripts input input' (Err (NoMemory n))
   no_memory front = (h.file, (old, h.is_file), begun input mid _ h.read, h.counted, one_more input mid input' _ h.taken front)

@@ -18,8 +18,8 @@ use Rattle.jg_text.proofs.Plain.{line_plain}
 use Rattle.jg_text.proofs.Cuts.{same_cut}
 use Rattle.jg_script.specs.Checked.{IsScript}
 use Rattle.jg_script.specs.Devices.{IsOneLine}
-use Rattle.jg_guard.specs.Guard.{State}
-use Rattle.jg_script.specs.Entries.{Took, next_entry, FailsCall, IsNoEntry, ReplaysLine}
+use Rattle.jg_guard.specs.Guard.{State, next_entry}
+use Rattle.jg_script.specs.Entries.{Took, FailsCall, IsNoEntry, ReplaysLine}
 use Rattle.jg_script.specs.TextLines.{IsCut}
 use Rattle.jg_script.specs.declared.replay.Difference.TheVariants.{OtherOutcome}
 use Rattle.jg_script.specs.declared.run_fault.RunFault.{RunFault}
@@ -81,7 +81,7 @@ seen_equals =
     All-cons P 32 (61 ∷ 32 ∷ []) (omega arith) (All-cons P 61 (32 ∷ []) (omega arith) (All-cons P 32 [] (omega arith) (All-nil P)))
 
 -- the text begins with the call with which the reader's bytes begin
-pub begun_in : (text tail : List ℕ) (t : Tid) (e : Option EnvId) (c : Call) → IsCut text tail → BeginsWith (text ++ tail) t e c → BeginsWith text t e c
+begun_in : (text tail : List ℕ) (t : Tid) (e : Option EnvId) (c : Call) → IsCut text tail → BeginsWith (text ++ tail) t e c → BeginsWith text t e c
 begun_in text tail t e c cut h =
     let begins = h.begins in
     let call = spelling t e c in
@@ -114,14 +114,14 @@ call_goes_on text tail t e c h =
     )
 
 -- one text begins with one call
-pub same_begun : (text : List ℕ) (t u : Tid) (e f : Option EnvId) (c d : Call) → BeginsWith text t e c → BeginsWith text u f d → (t ≡ u) × (e ≡ f) × (c ≡ d)
+same_begun : (text : List ℕ) (t u : Tid) (e f : Option EnvId) (c d : Call) → BeginsWith text t e c → BeginsWith text u f d → (t ≡ u) × (e ≡ f) × (c ≡ d)
 same_begun text t u e f c d h k =
     let hb = h.begins in
     let kb = k.begins in
     begins_once t u e f c d (61 ∷ 32 ∷ hb.0) (61 ∷ 32 ∷ kb.0) h.tid h.env h.call k.tid k.env k.call (sym hb.1 ∙ kb.1)
 
 -- an entry's text begins with its call
-pub entry_begins : (x : Entry) (text more : List ℕ) → IsScript (x ∷ []) → text ≡ entry_text x ++ more → BeginsWith text x.tid x.env x.call
+entry_begins : (x : Entry) (text more : List ℕ) → IsScript (x ∷ []) → text ≡ entry_text x ++ more → BeginsWith text x.tid x.env x.call
 unfolding entry_text
 entry_begins x text more fits e =
     let call = spelling x.tid x.env x.call in
@@ -164,7 +164,7 @@ same_line line text tail more clean short one (inr (inr long)) e =
     let within = cut_within line text tail (10 ∷ more) clean (omega (arith, short)) (inr (inr long)) e in
     absurd (too_far line text within.0 tail more (recursion_from_All _ text one) within.1 (omega (arith, short, long)) e)
 
-pub entry_is_line : (x : Entry) (text tail more : List ℕ) → IsScript (x ∷ []) → FitsOutcome x.outcome → IsOneLine text → IsCut text tail → text ++ tail ≡ entry_text x ++ more
+entry_is_line : (x : Entry) (text tail more : List ℕ) → IsScript (x ∷ []) → FitsOutcome x.outcome → IsOneLine text → IsCut text tail → text ++ tail ≡ entry_text x ++ more
     → entry_text x ≡ text ++ 10 ∷ []
 entry_is_line x text tail more fits outcome one cut e =
     let plain = line_plain x fits.0.0 fits.0.1 fits.0.2 outcome in
@@ -173,14 +173,14 @@ entry_is_line x text tail more fits outcome one cut e =
     let same = same_line line text tail more (clean_of line is.printable) is.short one cut (e ∙ ap (λ (bs : List ℕ). bs ++ more) plain.1 ∙ append_assoc line (10 ∷ []) more) in
     plain.1 ∙ ap (λ (bs : List ℕ). bs ++ 10 ∷ []) (sym same)
 
-pub line_within : (x : Entry) (text : List ℕ) → IsScript (x ∷ []) → FitsOutcome x.outcome → entry_text x ≡ text ++ 10 ∷ [] → length text ≤ 65536
+line_within : (x : Entry) (text : List ℕ) → IsScript (x ∷ []) → FitsOutcome x.outcome → entry_text x ≡ text ++ 10 ∷ [] → length text ≤ 65536
 line_within x text fits outcome e =
     let plain = line_plain x fits.0.0 fits.0.1 fits.0.2 outcome in
     let short = (plain.2).short in
     omega (arith, short, ap length (sym e ∙ plain.1), length-append text (10 ∷ []), length-append plain.0 (10 ∷ []))
 
 -- a legal history goes on with the one entry of the call with which the text begins
-pub same_entry : (guard : State) (x : Entry) (text tail more : List ℕ) (t : Tid) (env : Option EnvId) (call : Call) → Legal guard.setup (x ∷ guard.journal) → IsScript (x ∷ []) → IsCut text tail
+same_entry : (guard : State) (x : Entry) (text tail more : List ℕ) (t : Tid) (env : Option EnvId) (call : Call) → Legal guard.setup (x ∷ guard.journal) → IsScript (x ∷ []) → IsCut text tail
     → text ++ tail ≡ entry_text x ++ more → BeginsWith text t env call → x ≡ next_entry guard t env call
 same_entry guard x text tail more t env call legal fits cut e begun =
     let same = same_begun text x.tid t x.env env x.call call (begun_in text tail x.tid x.env x.call cut (entry_begins x (text ++ tail) more fits e)) begun in

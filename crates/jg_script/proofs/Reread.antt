@@ -215,10 +215,6 @@ module _ (input mid input' : Option (List ℕ)) (setup : StatedSetup) (limit lin
         limit_kept = same_limit ∙ h.limit_kept;
       }
 
--- the guard's journal is legal
-pub still_legal : (input mid : Option (List ℕ)) (setup : StatedSetup) (limit line : ℕ) (guard : State) → HasReplayed input mid setup limit line guard → Legal guard.setup guard.journal
-still_legal input mid setup limit line guard h = subst (λ (s : StatedSetup). Legal s guard.journal) (sym h.setup_kept) (h.history).legal
-
 -- how the text differs is left out
 pub verdict_found : (input input' : Option (List ℕ)) (setup : StatedSetup) (limit : ℕ) (after : List Entry) (text : List ℕ) (result : Result Replayed RunFault)
     → ReplaysJournal input input' setup limit after text result → Verifies input input' setup limit (verdict_in result)

@@ -52,7 +52,8 @@ none_read input h none = ([], inl none, refl, one_more input input input [] (Con
 
 pub long_answered : (input mid input' bytes bytes' : Option (List ℕ)) (limit line : ℕ) (guard : State) → HasChecked input mid bytes bytes' limit line guard → length guard.journal ≤ limit
     → BeginsTooLong mid → Checks input input' bytes bytes' limit guard.journal (Err (Script line LineTooLong))
-long_answered input mid input' bytes bytes' limit line guard h within long = (followed_by_long input mid (call_lines guard.journal) h.read long, (λ other. absurd (other refl)), h.written, h.counted, within)
+long_answered input mid input' bytes bytes' limit line guard h within long =
+    (followed_by_long input mid (call_lines guard.journal) h.read long, (λ other. absurd (other refl)), h.written, h.counted, within)
 
 module _ (input mid input' bytes part bytes' : Option (List ℕ)) (limit line : ℕ) (old new : State) (text : List ℕ) where
   -- one more line is taken, and answered
@@ -112,13 +113,6 @@ module _ (input mid input' bytes part bytes' : Option (List ℕ)) (limit line : 
   answered_faulty text' (Write l) taken answers kept = tt
 
 -- what was read
-pub reads_front : (input mid input' : Option (List ℕ)) (g : List Entry) → Consumes input mid (script_text g) → TakesFront mid input' → ReadsOneMore input input' (script_text g)
-reads_front input mid input' g e front = one_more input mid input' (script_text g) e front
-
-pub no_memory_reads : (input mid input' bytes bytes' : Option (List ℕ)) (limit line : ℕ) (guard : State) → HasChecked input mid bytes bytes' limit line guard
-    → Consumes input mid (script_text guard.journal) → TakesFront mid input' → Reads input input' guard.journal (Err (NoMemory line))
-no_memory_reads input mid input' bytes bytes' limit line guard h e front = (guard.journal, inl refl, h.counted, one_more input mid input' (script_text guard.journal) e front)
-
 pub line_reads : (input mid input' : Option (List ℕ)) (old new : State) (text : List ℕ) (e : Entry) → Consumes input mid (script_text old.journal) → Consumes mid input' (text ++ 10 ∷ [])
     → Journals old new text e → Consumes input input' (script_text new.journal)
 line_reads input mid input' old new text e before taken j =

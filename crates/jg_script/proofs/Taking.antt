@@ -17,10 +17,10 @@ use Rattle.jg_text.specs.Spelling.{Spells}
 use Rattle.jg_text.specs.Begun.{BeginsWith}
 use Rattle.jg_text.specs.Journal.{call_line, answer_text, entry_text, FitsOutcome}
 use Rattle.jg_text.proofs.Writing.{completed}
-use Rattle.jg_guard.specs.Guard.{State}
+use Rattle.jg_guard.specs.Guard.{State, next_entry}
 use Rattle.jg_script.specs.Answered.{Answers, Journals, KeepsFaulty}
 use Rattle.jg_script.specs.Checked.{IsScript}
-use Rattle.jg_script.specs.Entries.{Took, next_entry, FailsCall}
+use Rattle.jg_script.specs.Entries.{Took, FailsCall}
 use Rattle.jg_script.specs.declared.run_fault.RunFault.{RunFault}
 use Rattle.jg_script.specs.declared.run_fault.RunFault.TheVariants.{Script, Limit, NoMemory, Read, Write}
 

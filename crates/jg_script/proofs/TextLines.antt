@@ -41,7 +41,7 @@ last_taken (Some text) None line e done clean some = absurd e
 last_taken (Some text) (Some rest) line e done clean some =
     ap lines_of (e ∙ ap (λ r. line ++ r) done ∙ append-nil line) ∙ only_line line clean some ∙ ap (λ r. line ∷ lines_of r) (sym done)
 
-pub none_taken : (old new : Option (List ℕ)) (line : List ℕ) → Consumes old new line → line ≡ [] → LinesTaken old new []
+none_taken : (old new : Option (List ℕ)) (line : List ℕ) → Consumes old new line → line ≡ [] → LinesTaken old new []
 none_taken None new line e none = tt
 none_taken (Some text) None line e none = absurd e
 none_taken (Some text) (Some rest) line e none = ap lines_of (e ∙ ap (λ l. l ++ rest) none)

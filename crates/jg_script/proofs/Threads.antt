@@ -90,7 +90,8 @@ Ascend-insert xs t i s up gap is j k d lt within =
     let at_below : (n : ℕ) → n < i → thread_at new n d ≡ thread_at xs n d = λ n below. ap (λ (x : Lines). x.tid.0) (get_or-insert_below xs i s d n below gap.within) in
     let at_here : (n : ℕ) → n ≡ i → thread_at new n d ≡ t = λ n here. rw here (ap (λ (x : Lines). x.tid.0) (get_or-insert_at xs i s d gap.within) ∙ is) in
     let at_above : (n : ℕ) → i < n → thread_at new n d ≡ thread_at xs (n - 1) d =
-    λ n above. subst (λ (q : ℕ). thread_at new q d ≡ thread_at xs (n - 1) d) {x = n - 1 + 1} (omega arith) (ap (λ (x : Lines). x.tid.0) (get_or-insert_above xs i s d (n - 1) (omega arith) gap.within)) in
+    λ n above. subst (λ (q : ℕ). thread_at new q d ≡ thread_at xs (n - 1) d) {x = n - 1 + 1} (omega arith)
+    (ap (λ (x : Lines). x.tid.0) (get_or-insert_above xs i s d (n - 1) (omega arith) gap.within)) in
     grind (arith, at_below j, at_here j, at_above j, at_below k, at_here k, at_above k, up j k d, up j (k - 1) d, up (j - 1) (k - 1) d, gap.below j d, gap.above (k - 1) d)
 
 All-insert : {X : Type 0} (P : X → Type 0) (xs : List X) (i : ℕ) (x : X) → P x → All P xs → All P (insert xs i x)
@@ -105,7 +106,8 @@ by_thread : (t u : ℕ) (script : ℕ → List Line) (new : List Line) (line : L
 by_thread t u script new line more = grind (arith, nat_tests, more)
 
 -- a line more in the script at a place
-pub added : (xs : List Lines) (t i : ℕ) (line : Line) (v s : Lines) → Ascend xs → length xs ≤ 64 → IsAt xs t i → v ≡ get_or xs i v → s.tid ≡ v.tid → s.calls.items ≡ v.calls.items ++ line ∷ [] → Adds t line xs (set xs i s)
+pub added : (xs : List Lines) (t i : ℕ) (line : Line) (v s : Lines) → Ascend xs → length xs ≤ 64 → IsAt xs t i → v ≡ get_or xs i v → s.tid ≡ v.tid → s.calls.items ≡ v.calls.items ++ line ∷ []
+    → Adds t line xs (set xs i s)
 added xs t i line v s up few at here same more =
     let none = none_before xs up t i at in
     let is : s.tid.0 ≡ t = ap (λ (u : Tid). u.0) (same ∙ ap (λ (w : Lines). w.tid) here) ∙ at.thread v in
@@ -122,7 +124,8 @@ pub begun : (xs new : List Lines) (t i : ℕ) (line : Line) (s : Lines) → new 
 begun xs new t i line s here up few gap is one =
     let none = in_no_gap xs t i gap in
     subst (λ (ys : List Lines). Adds t line xs ys) (sym here) (record {
-      scripts = λ u. script_of-insert xs t i s (λ j d lt. none j d (omega (arith, gap.within))) is u ∙ by_thread t u (λ v. script_of v xs) s.calls.items line (one ∙ ap (λ (ls : List Line). ls ++ line ∷ []) (sym (script_of-absent xs t none)));
+      scripts = λ u. script_of-insert xs t i s (λ j d lt. none j d (omega (arith, gap.within))) is u ∙ by_thread t u (λ v. script_of v xs) s.calls.items line
+          (one ∙ ap (λ (ls : List Line). ls ++ line ∷ []) (sym (script_of-absent xs t none)));
       some = λ each. All-insert (λ (script : Lines). 0 < vec_len script.calls) xs i s (omega (arith, ap length one)) each;
       ascend = Ascend-insert xs t i s up gap is;
       few = omega (arith, length-insert xs i s gap.within);

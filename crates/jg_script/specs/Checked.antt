@@ -37,17 +37,18 @@ Checks input input' bytes bytes' limit h (Ok n) =
 -- the first faulty line, after which nothing was read, and its first fault; the text of the lines
 -- before was written
 Checks input input' bytes bytes' limit h (Err (Script line fault)) =
-    AreFollowedBy input (call_lines h) (λ next. IsFirstFault next fault) × (fault ≢ LineTooLong → TakesOneMore input input' (call_lines h))
-    × WritesAll bytes bytes' h × (line ≡ length h + 1) × (length h ≤ limit)
+    AreFollowedBy input (call_lines h) (λ next. IsFirstFault next fault)
+    × (fault ≢ LineTooLong → TakesOneMore input input' (call_lines h)) × WritesAll bytes bytes' h
+    × (line ≡ length h + 1) × (length h ≤ limit)
 -- the line after the last that the limit allows, which is well formed; nothing was read after it,
 -- and the text of the lines before was written
 Checks input input' bytes bytes' limit h (Err (Limit line)) =
-    AreFollowedBy input (call_lines h) IsWellFormed × TakesOneMore input input' (call_lines h) × WritesAll bytes bytes' h × (line ≡ limit + 1)
-    × (length h ≡ limit)
+    AreFollowedBy input (call_lines h) IsWellFormed × TakesOneMore input input' (call_lines h)
+    × WritesAll bytes bytes' h × (line ≡ limit + 1) × (length h ≡ limit)
 -- the text of the lines before was written, and the guard may have taken this line's call
 Checks input input' bytes bytes' limit h (Err (NoMemory line)) =
-    BeginsWith input (call_lines h) × ((g : List Entry) × ((h ≡ g) ⊎ ((e : Entry) × (h ≡ e ∷ g))) × WritesAll bytes bytes' g
-    × (line ≡ length g + 1))
+    BeginsWith input (call_lines h) × ((g : List Entry) × ((h ≡ g) ⊎ ((e : Entry) × (h ≡ e ∷ g)))
+    × WritesAll bytes bytes' g × (line ≡ length g + 1))
 -- the text of the lines before was written
 Checks input input' bytes bytes' limit h (Err (Read line)) =
     BeginsWith input (call_lines h) × WritesAll bytes bytes' h × (line ≡ length h + 1)

@@ -7,8 +7,8 @@ use Rattle.jg_script.specs.declared.piece.Piece.{Piece}
 use Rattle.jg_script.specs.declared.piece.Piece.TheVariants as piece
 use Rattle.jg_script.specs.declared.line.Taken.{Taken}
 use Rattle.jg_script.specs.declared.line.Taken.TheVariants.{Line, LastLine, Nothing, TooLong}
-use Rattle.jg_script.specs.declared.line.Ending.{Ending}
-use Rattle.jg_script.specs.declared.line.Ending.TheVariants.{Feed, End, Long}
+use Rattle.jg_script.specs.declared.line.LineEnd.{LineEnd}
+use Rattle.jg_script.specs.declared.line.LineEnd.TheVariants.{Feed, End, Long}
 use Rattle.jg_script.specs.TextLines.{LinesTaken, BeginsTooLong, IsFrontOfLine}
 
 -- no line feed is among the bytes
@@ -28,7 +28,7 @@ TakesPiece old new before after room piece.Nothing = (after ≡ before) × Keeps
 
 -- what was taken from the reader: a line and its line feed; a last line, after which nothing
 -- comes; or more than a line may have
-abbrev pub TakesLine : Option (List ℕ) → Option (List ℕ) → List ℕ → Ending → Type 0
+abbrev pub TakesLine : Option (List ℕ) → Option (List ℕ) → List ℕ → LineEnd → Type 0
 TakesLine old new line Feed = Consumes old new (line ++ 10 ∷ []) × (length line ≤ 65536)
 TakesLine old new line End = Consumes old new line × IsAtEnd new × (length line ≤ 65536)
 TakesLine old new line Long = Consumes old new line × (length line ≡ 65537)

@@ -5,8 +5,6 @@ use Rattle.jg_words.specs.declared.thread.Tid.{Tid}
 use Rattle.jg_words.specs.declared.thread.EnvId.{EnvId}
 use Rattle.jg_words.specs.declared.call.Call.{Call}
 use Rattle.jg_words.specs.Entry.{Entry}
-use Rattle.jg_rules.specs.Effects.{parts}
-use Rattle.jg_rules.specs.Legal.{entry_at}
 use Rattle.jg_guard.specs.Guard.{State}
 use Rattle.jg_text.specs.Begun.{BeginsCall, BeginsWith}
 use Rattle.jg_text.specs.Journal.{entry_text}
@@ -20,10 +18,6 @@ use Rattle.jg_script.specs.declared.replay.Replayed.{Replayed}
 use Rattle.jg_script.specs.declared.replay.Replayed.TheVariants.{Legal, Differs}
 use Rattle.jg_script.specs.declared.run_fault.RunFault.{RunFault}
 use Rattle.jg_script.specs.declared.run_fault.RunFault.TheVariants.{Script, Limit, NoMemory, Read, Write}
-
--- the entry of a call that the guard takes next
-abbrev pub next_entry : State → Tid → Option EnvId → Call → Entry
-next_entry guard t env call = entry_at guard.setup (parts guard.setup guard.journal) t env call
 
 -- the guard took it
 pub record Took (old new : State) (e : Entry) : Type 0 where

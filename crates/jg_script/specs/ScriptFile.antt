@@ -40,7 +40,8 @@ AreSpelt file = AllByRecursion (λ x. FitsTid x.tid × FitsEnv x.env × FitsCall
 -- the thread's lines among them, in their order
 abbrev pub lines_by : ℕ → List CallLine → List Line
 lines_by t [] = []
-lines_by t (x ∷ later) = if x.tid.0 == t then record { env = x.env; call = x.call } ∷ lines_by t later else lines_by t later
+lines_by t (x ∷ later) =
+    if x.tid.0 == t then record { env = x.env; call = x.call } ∷ lines_by t later else lines_by t later
 
 -- the script of the thread, which is empty where it has none
 abbrev pub script_of : ℕ → List Lines → List Line
@@ -65,8 +66,8 @@ pub record IsFile (file : List CallLine) (scripts : List Lines) : Type 0 where
   pub few_lines : length file ≤ 1000000
   pub few_threads : length scripts ≤ 64
 
--- the line that comes next is refused: it has this fault before all others; or it is a call of a 65th thread, and not past
--- the last line that a file may have
+-- the line that comes next is refused: it has this fault before all others; or it is a call of a 65th thread, and not
+-- past the last line that a file may have
 abbrev pub IsRefused : List CallLine → List Lines → ScriptFault → List ℕ → Type 0
 IsRefused file scripts fault next = IsFirstFault next fault
     ⊎ ((fault ≡ TooManyThreads) × (length scripts ≡ 64) × (length file < 1000000)
@@ -75,19 +76,20 @@ IsRefused file scripts fault next = IsFirstFault next fault
 -- what reading a file of scripts that ended with this result did
 abbrev pub ReadsScripts : Option (List ℕ) → Option (List ℕ) → Result (List Lines) RunFault → Type 0
 -- all was read, and these are its threads' scripts
-ReadsScripts input input' (Ok scripts) = (file : List CallLine) × IsFile file scripts × HoldsLines input (map text_of file)
-    × IsAtEnd input'
+ReadsScripts input input' (Ok scripts) = (file : List CallLine) × IsFile file scripts
+    × HoldsLines input (map text_of file) × IsAtEnd input'
 -- the first line that is refused, and why
-ReadsScripts input input' (Err (Script line fault)) = (file : List CallLine) × ((scripts : List Lines) × IsFile file scripts
-    × AreFollowedBy input (map text_of file) (IsRefused file scripts fault)) × (line ≡ length file + 1)
-    × ReadsOneMore input input' (file_text file)
+ReadsScripts input input' (Err (Script line fault)) = (file : List CallLine) × ((scripts : List Lines)
+    × IsFile file scripts × AreFollowedBy input (map text_of file) (IsRefused file scripts fault))
+    × (line ≡ length file + 1) × ReadsOneMore input input' (file_text file)
 -- the line after the last that a file may have, which is well formed
 ReadsScripts input input' (Err (Limit line)) = (file : List CallLine) × ((scripts : List Lines) × IsFile file scripts)
     × AreFollowedBy input (map text_of file) IsWellFormed × (length file ≡ 1000000) × (line ≡ 1000001)
     × ReadsOneMore input input' (file_text file)
 -- the lines before this one are such, and no more than it was read
-ReadsScripts input input' (Err (NoMemory line)) = (file : List CallLine) × ((scripts : List Lines) × IsFile file scripts)
-    × BeginsWith input (map text_of file) × (line ≡ length file + 1) × ReadsOneMore input input' (file_text file)
+ReadsScripts input input' (Err (NoMemory line)) = (file : List CallLine) × ((scripts : List Lines)
+    × IsFile file scripts) × BeginsWith input (map text_of file) × (line ≡ length file + 1)
+    × ReadsOneMore input input' (file_text file)
 ReadsScripts input input' (Err (Read line)) = (file : List CallLine) × ((scripts : List Lines) × IsFile file scripts)
     × BeginsWith input (map text_of file) × (line ≡ length file + 1) × ReadsOneMore input input' (file_text file)
 ReadsScripts input input' (Err (Write line)) = ⊥
@@ -95,9 +97,9 @@ ReadsScripts input input' (Err (Write line)) = ⊥
 -- where reading ended at a line that is refused and isn't too long, the room for a line `text` holds just that line
 abbrev pub HoldsRefused : Option (List ℕ) → List ℕ → Result (List Lines) RunFault → Type 0
 HoldsRefused input text (Ok scripts) = Unit {0}
-HoldsRefused input text (Err (Script line fault)) = fault ≢ LineTooLong → (file : List CallLine) × ((scripts : List Lines)
-    × IsFile file scripts × AreFollowedBy input (map text_of file) (λ next. next ≡ text) × IsRefused file scripts fault text)
-    × (line ≡ length file + 1)
+HoldsRefused input text (Err (Script line fault)) = fault ≢ LineTooLong → (file : List CallLine)
+    × ((scripts : List Lines) × IsFile file scripts × AreFollowedBy input (map text_of file) (λ next. next ≡ text)
+    × IsRefused file scripts fault text) × (line ≡ length file + 1)
 HoldsRefused input text (Err (Limit line)) = Unit {0}
 HoldsRefused input text (Err (NoMemory line)) = Unit {0}
 HoldsRefused input text (Err (Read line)) = Unit {0}

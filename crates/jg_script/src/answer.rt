@@ -5,7 +5,8 @@ ghost use Rattle.std.specs.Str.{IsUtf8};
 ghost use Rattle.jg_rules.specs.Legal.{Legal};
 ghost use Rattle.jg_text.specs.Journal.{call_line, entry_text};
 ghost use Rattle.jg_script.specs.Answered.{Answers, KeepsFaulty};
-ghost use Rattle.jg_script.specs.Entries.{Took, next_entry, FailsCall};
+ghost use Rattle.jg_guard.specs.Guard.{next_entry};
+ghost use Rattle.jg_script.specs.Entries.{Took, FailsCall};
 ghost use Rattle.jg_script.specs.Checked.{WriterFails};
 
 use crate::line::write_text;
@@ -17,18 +18,6 @@ use jg_words::{Call, Entry, EnvId, Tid};
 use std::alloc::{AllocError, Allocator, Global};
 use std::io::Write;
 use std::mem;
-
-/// The newest entry of the journal.
-#[inline(always)]
-pub fn newest<A: Allocator + Clone>(guard: &Guard<A>) -> &Entry
-    requires { 0 < length guard.now.journal }
-    ensures { slice_get guard.now.journal 0 ≡ Some result.now }
-{
-    match guard.journal_entry(guard.journal_len() - 1) {
-        Some(entry) => entry,
-        None => unreachable!(),
-    }
-}
 
 /// The guard takes the call of line number `line`.
 #[inline(always)]
@@ -68,7 +57,7 @@ fn complete<A: Allocator + Clone>(
     let bytes = mem::replace(text, Vec::new(alloc));
     // SAFETY: it is text, as the caller says and `rt` checks.
     let mut line = unsafe { String::from_utf8_unchecked(bytes) };
-    let pushed = push_answer(&mut line, newest(guard));
+    let pushed = push_answer(&mut line, guard.newest());
     *text = line.into_bytes();
     pushed
 }

@@ -23,7 +23,12 @@ impl Model for Faulty {
 
     ghost Value = { Passing };
 
-    ghost view = { λ f. record { bytes = f.bytes.items; unread = drop f.read f.bytes.items; passes = f.passes; most = f.most } };
+    ghost view = { λ f. record {
+      bytes = f.bytes.items;
+      unread = drop f.read f.bytes.items;
+      passes = f.passes;
+      most = f.most;
+    } };
 
     ghost invariant = { λ f. (f.read ≤ length f.bytes.items) × (0 < f.most) };
 }

@@ -41,7 +41,8 @@ pub fn write_journal<A: Allocator + Clone, W: Write>(
     guard: &Guard<A>,
     writer: &mut Watched<W>,
 ) -> Result<(), RunFault>
-    ensures writes { WritesJournal (W.contents writer.old.device) (W.contents writer.new.device) guard.now.journal result }
+    ensures writes { WritesJournal (W.contents writer.old.device) (W.contents writer.new.device) guard.now.journal
+        result }
     ensures device { WriterFails writer.old.failed writer.new.failed result }
 {
     let mut out = String::new(alloc);

@@ -11,7 +11,7 @@ use std::io::{BufRead, Write};
 
 /// How a line ended: at a line feed, at the end of all, or not within 65,536 bytes.
 #[derive(Clone, Copy, Debug, PartialEq, Eq)]
-enum Ending {
+enum LineEnd {
     Feed,
     End,
     Long,
@@ -19,7 +19,7 @@ enum Ending {
 
 /// Takes the next line into the buffer.
 #[inline(always)]
-fn read_line<R: BufRead>(reader: &mut Watched<R>, line: &mut Vec<u8>) -> Result<Ending, LineFault>
+fn read_line<R: BufRead>(reader: &mut Watched<R>, line: &mut Vec<u8>) -> Result<LineEnd, LineFault>
     ensures taken { IfOk result (TakesLine (R.remaining reader.old.device) (R.remaining reader.new.device)
         line.new.items) }
     ensures front { TakesFront (R.remaining reader.old.device) (R.remaining reader.new.device) }
@@ -31,12 +31,12 @@ fn read_line<R: BufRead>(reader: &mut Watched<R>, line: &mut Vec<u8>) -> Result<
     while line.len() <= MAX_LINE {
         match reader.take_piece(MAX_LINE + 1 - line.len(), line) {
             Err(fault) => return Err(fault),
-            Ok(Piece::Feed { .. }) => return Ok(Ending::Feed),
+            Ok(Piece::Feed { .. }) => return Ok(LineEnd::Feed),
             Ok(Piece::More) => {}
             Ok(Piece::Nothing) => match reader.read_byte() {
                 Err(_) => return Err(LineFault::Read),
-                Ok(None) => return Ok(Ending::End),
-                Ok(Some(b'\n')) => return Ok(Ending::Feed),
+                Ok(None) => return Ok(LineEnd::End),
+                Ok(Some(b'\n')) => return Ok(LineEnd::Feed),
                 Ok(Some(byte)) => {
                     if line.push(byte).is_err() {
                         return Err(LineFault::NoMemory);
@@ -45,7 +45,7 @@ fn read_line<R: BufRead>(reader: &mut Watched<R>, line: &mut Vec<u8>) -> Result<
             },
         }
     }
-    Ok(Ending::Long)
+    Ok(LineEnd::Long)
 }
 
 /// What was taken: a line with its line feed, a last line without one, nothing since the reader is
@@ -73,15 +73,15 @@ pub fn next_line<R: BufRead>(
     ensures fault { IfErr result (FailsLine reader.old.failed reader.new.failed) }
 {
     match read_line(reader, line) {
-        Ok(Ending::Feed) => Ok(Taken::Line),
-        Ok(Ending::End) => {
+        Ok(LineEnd::Feed) => Ok(Taken::Line),
+        Ok(LineEnd::End) => {
             if line.is_empty() {
                 Ok(Taken::Nothing)
             } else {
                 Ok(Taken::LastLine)
             }
         }
-        Ok(Ending::Long) => Ok(Taken::TooLong),
+        Ok(LineEnd::Long) => Ok(Taken::TooLong),
         Err(fault) => Err(fault),
     }
 }

@@ -6,7 +6,7 @@ ghost use Rattle.jg_script.specs.Checked.{ReaderFails};
 ghost use Rattle.jg_script.specs.Entries.{ReplaysLine, IsPast};
 ghost use Rattle.jg_script.specs.Replayed.{verdict_of, ReplaysJournal, Verifies};
 
-use crate::answer::{newest, take_call};
+use crate::answer::take_call;
 use crate::line::{Taken, next_line};
 use crate::piece::LineFault;
 use crate::run_fault::RunFault;
@@ -94,7 +94,7 @@ fn replay_line<A: Allocator + Clone>(
         return Err(fault);
     }
     out.clear();
-    let Ok(()) = push_entry(out, newest(guard)) else {
+    let Ok(()) = push_entry(out, guard.newest()) else {
         return Err(RunFault::NoMemory { line });
     };
     if is_line_of(out.as_bytes(), text) {

@@ -1,3 +1,5 @@
+//! Why a script or a journal isn't read to its end, and the line of each such fault on standard error.
+
 use jg_text::ScriptFault;
 use thiserror::Error;
 

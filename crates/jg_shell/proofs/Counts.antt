@@ -35,7 +35,14 @@ longer false p l = omega arith
 sum_by-entry : (x : Entry) (h : List Entry) (ws : List Work) → sum_by (own_count (x ∷ h)) ws ≡ sum_by (is_of x.tid) ws + sum_by (own_count h) ws
 sum_by-entry x h [] = refl
 sum_by-entry x h (w ∷ ws) =
-    omega (arith, sum_by-cons (own_count (x ∷ h)) w ws, sum_by-cons (is_of x.tid) w ws, sum_by-cons (own_count h) w ws, sum_by-entry x h ws, longer (x.tid.0 == w.tid.0) (length h, told_of x) (entries_of w.tid h))
+    omega (
+      arith,
+      sum_by-cons (own_count (x ∷ h)) w ws,
+      sum_by-cons (is_of x.tid) w ws,
+      sum_by-cons (own_count h) w ws,
+      sum_by-entry x h ws,
+      longer (x.tid.0 == w.tid.0) (length h, told_of x) (entries_of w.tid h),
+    )
 
 differs : (a b : Tid) → a ≢ b → (a.0 == b.0) ≡ false
 differs a b other =

@@ -26,7 +26,8 @@ busy_last turns line g n a enter busy lt le =
     elim (a.ends enter) [ inl free ↦ cc (free, busy) | inr all ↦ omega (arith, all) ]
 
 -- of two groups of one line that begin one list, none is longer
-no_longer : (turns : ℕ) (line : Line) (g g' rest rest' : List Receipt) → g ++ rest ≡ g' ++ rest' → IsGroup turns line g → IsGroup turns line g' → (b : Bool) → is_monitor_enter line.call ≡ b → length g < length g' → ⊥
+no_longer : (turns : ℕ) (line : Line) (g g' rest rest' : List Receipt) → g ++ rest ≡ g' ++ rest' → IsGroup turns line g → IsGroup turns line g' → (b : Bool) → is_monitor_enter line.call ≡ b
+    → length g < length g' → ⊥
 no_longer turns line g g' rest rest' e a c false is lt =
     let one = ap (λ (rs : List Receipt). length rs) (c.once is) in
     let s = size turns line g a in
@@ -61,10 +62,12 @@ part_only turns line part g rest q e a true is =
     let s = size turns line g a in
     let len : length part ≡ length g + length rest = omega (arith, ap (λ (rs : List Receipt). length rs) e, length-append g rest) in
     let busy : is_busy a.last.outcome ≡ true =
-    subst (λ (r : Receipt). is_busy r.outcome ≡ true) (ap (λ (rs : List Receipt). get_or rs (length a.retries) a.last) e ∙ last_is turns line g rest a) (q.busy (length a.retries) a.last (omega (arith, s, len))) in
+    subst (λ (r : Receipt). is_busy r.outcome ≡ true) (ap (λ (rs : List Receipt). get_or rs (length a.retries) a.last) e ∙ last_is turns line g rest a)
+    (q.busy (length a.retries) a.last (omega (arith, s, len))) in
     busy_last turns line g turns a is busy (omega (arith, len, q.within)) (omega arith)
 
-never : (turns : ℕ) (done : List Line) (line : Line) (later : List Line) (whole part : List Receipt) → Played turns done whole → IsPart turns line part → Played turns (done ++ line ∷ later) (whole ++ part) → ⊥
+never : (turns : ℕ) (done : List Line) (line : Line) (later : List Line) (whole part : List Receipt) → Played turns done whole → IsPart turns line part
+    → Played turns (done ++ line ∷ later) (whole ++ part) → ⊥
 never turns [] line later whole part p q r =
     part_only turns line part r.0 r.1 q (sym (ap (λ (rs : List Receipt). rs ++ part) p) ∙ r.2) r.3 (is_monitor_enter line.call) refl
 never turns (l ∷ ls) line later whole part p q r =

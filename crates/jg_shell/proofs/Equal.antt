@@ -148,9 +148,11 @@ arrays_same (NewArray a b) (NewArray p q) = grind (arith, primitive_same a p)
 arrays_same (NewArray a b) y = grind arith
 arrays_same (GetArrayLength a) (GetArrayLength p) = grind (arith, ref_same a p)
 arrays_same (GetArrayLength a) y = grind arith
-arrays_same (GetArrayRegion a b c d) (GetArrayRegion p q r s) = four _ _ _ _ (primitive_same a p) (ref_same b q) (Decides-int_eq c r) (Decides-int_eq d s) (λ e f g h. cc) (λ e. cc) (λ e. cc) (λ e. cc) (λ e. cc)
+arrays_same (GetArrayRegion a b c d) (GetArrayRegion p q r s) =
+    four _ _ _ _ (primitive_same a p) (ref_same b q) (Decides-int_eq c r) (Decides-int_eq d s) (λ e f g h. cc) (λ e. cc) (λ e. cc) (λ e. cc) (λ e. cc)
 arrays_same (GetArrayRegion a b c d) y = grind arith
-arrays_same (SetArrayRegion a b c d) (SetArrayRegion p q r s) = four _ _ _ _ (primitive_same a p) (ref_same b q) (Decides-int_eq c r) (items_same d s) (λ e f g h. cc) (λ e. cc) (λ e. cc) (λ e. cc) (λ e. cc)
+arrays_same (SetArrayRegion a b c d) (SetArrayRegion p q r s) =
+    four _ _ _ _ (primitive_same a p) (ref_same b q) (Decides-int_eq c r) (items_same d s) (λ e f g h. cc) (λ e. cc) (λ e. cc) (λ e. cc) (λ e. cc)
 arrays_same (SetArrayRegion a b c d) y = grind arith
 arrays_same (NewObjectArray a b c) (NewObjectArray p q r) = three _ _ _ (Decides-int_eq a p) (ref_same b q) (ref_same c r) (λ e f g. cc) (λ e. cc) (λ e. cc) (λ e. cc)
 arrays_same (NewObjectArray a b c) y = grind arith
@@ -165,7 +167,8 @@ monitors_same x y = grind arith
 buffers_same : (x y : BuffersCall) → Decides (buffers.eq x y) (x ≡ y)
 buffers_same (GetArrayElements a b) (GetArrayElements p q) = grind (arith, primitive_same a p, ref_same b q)
 buffers_same (GetArrayElements a b) y = grind arith
-buffers_same (ReleaseArrayElements a b c d) (ReleaseArrayElements p q r s) = four _ _ _ _ (primitive_same a p) (ref_same b q) (buffer_same c r) (Decides-int_eq d s) (λ e f g h. cc) (λ e. cc) (λ e. cc) (λ e. cc) (λ e. cc)
+buffers_same (ReleaseArrayElements a b c d) (ReleaseArrayElements p q r s) =
+    four _ _ _ _ (primitive_same a p) (ref_same b q) (buffer_same c r) (Decides-int_eq d s) (λ e f g h. cc) (λ e. cc) (λ e. cc) (λ e. cc) (λ e. cc)
 buffers_same (ReleaseArrayElements a b c d) y = grind arith
 buffers_same (GetStringChars a) (GetStringChars p) = grind (arith, ref_same a p)
 buffers_same (GetStringChars a) y = grind arith

@@ -62,9 +62,11 @@ told_taken old new t env call r takes place of =
     let x = entry_at old.setup (parts old.setup old.journal) t env call in
     ap (λ (h : List Entry). told_at h r.place) takes.journal
     ∙ (ap (λ n. told_at (x ∷ old.journal) n) place
-    ∙ (told_newest x old.journal ∙ ap Some (told_of_entry (verdict old.setup (parts old.setup old.journal) t.0 env call) (answer old.setup (parts old.setup old.journal) t call) t env call r of takes.answered)))
+    ∙ (told_newest x old.journal ∙ ap Some (told_of_entry (verdict old.setup (parts old.setup old.journal) t.0 env call) (answer old.setup (parts old.setup old.journal) t call) t env call r of
+    takes.answered)))
 
-pub told_where_taken : (old new : State) (t : Tid) (env : Option EnvId) (call : Call) (result : Result Receipt Refusal) → IfOk result (λ r. Takes old new t env call r.outcome) → IfOk result (λ r. r.place ≡ length old.journal) → IfOk result (IsReceiptOf t env call)
+pub told_where_taken : (old new : State) (t : Tid) (env : Option EnvId) (call : Call) (result : Result Receipt Refusal) → IfOk result (λ r. Takes old new t env call r.outcome)
+    → IfOk result (λ r. r.place ≡ length old.journal) → IfOk result (IsReceiptOf t env call)
     → IfOk result (λ r. told_at new.journal r.place ≡ Some (told_by r))
 told_where_taken old new t env call (Ok r) takes place of = told_taken old new t env call r takes place of
 told_where_taken old new t env call (Err refusal) takes place of = tt

@@ -24,7 +24,8 @@ pub record IsChecked (h : List Entry) (rs : List Receipt) (index low : ℕ) : Ty
   pub stand : Stand h 0 (take index rs)
   pub low_is : low ≡ next_place 0 (take index rs)
 
-pub IsChecked-more : (h : List Entry) (rs : List Receipt) (index low : ℕ) (r : Receipt) → index < length rs → r ≡ get_or rs index r → IsChecked h rs index low → IsRight h low r → IsChecked h rs (index + 1) (r.place + 1)
+pub IsChecked-more : (h : List Entry) (rs : List Receipt) (index low : ℕ) (r : Receipt) → index < length rs → r ≡ get_or rs index r → IsChecked h rs index low → IsRight h low r
+    → IsChecked h rs (index + 1) (r.place + 1)
 IsChecked-more h rs index low r within is so_far right =
     let next : take (index + 1) rs ≡ take index rs ++ r ∷ [] = take_more rs index r within ∙ ap (λ (q : Receipt). take index rs ++ q ∷ []) (sym is) in
     let right' : IsRight h (next_place 0 (take index rs)) r = subst (λ (n : ℕ). IsRight h n r) so_far.low_is right in
@@ -33,7 +34,8 @@ IsChecked-more h rs index low r within is so_far right =
       low_is = rw next (sym (next_place-last 0 (take index rs) r));
     }
 
-pub IsChecked-wrong : (h : List Entry) (rs : List Receipt) (index low : ℕ) (r : Receipt) → index < length rs → r ≡ get_or rs index r → IsChecked h rs index low → (IsRight h low r → ⊥) → IsFirstWrong h rs r.place
+pub IsChecked-wrong : (h : List Entry) (rs : List Receipt) (index low : ℕ) (r : Receipt) → index < length rs → r ≡ get_or rs index r → IsChecked h rs index low → (IsRight h low r → ⊥)
+    → IsFirstWrong h rs r.place
 IsChecked-wrong h rs index low r within is so_far wrong = record {
   good = take index rs;
   wrong = r;
@@ -44,7 +46,8 @@ IsChecked-wrong h rs index low r within is so_far wrong = record {
   place_is = refl;
 }
 
-pub IsWrongReceipt-at : (h : List Entry) (workers : List Work) (i : ℕ) (w : Work) (tid : Tid) (place : ℕ) → i < length workers → w ≡ get_or workers i w → All (IsRightWorker h) (take i workers) → tid ≡ w.tid → IsFirstWrong h w.receipts place → IsWrongReceipt h workers tid place
+pub IsWrongReceipt-at : (h : List Entry) (workers : List Work) (i : ℕ) (w : Work) (tid : Tid) (place : ℕ) → i < length workers → w ≡ get_or workers i w → All (IsRightWorker h) (take i workers)
+    → tid ≡ w.tid → IsFirstWrong h w.receipts place → IsWrongReceipt h workers tid place
 IsWrongReceipt-at h workers i w tid place within is right tid_is wrong = record {
   before = take i workers;
   worker = w;

@@ -43,7 +43,8 @@ Down-within t h n (r ∷ rs) d = (told_within h r.place (told_by r) d.2, d.1, d.
 -- a worker's receipts that are right, the newest first
 right_down : (h : List Entry) (w : Work) → IsRightWorker h w → Down w.tid h (length h) (reverse w.receipts)
 right_down h w right =
-    let down : Down w.tid h (next_place 0 w.receipts) (reverse w.receipts) = subst (λ (qs : List Receipt). Down w.tid h (next_place 0 w.receipts) qs) (append-nil (reverse w.receipts)) (down_onto w.tid h 0 w.receipts [] right.own right.stand tt) in
+    let down : Down w.tid h (next_place 0 w.receipts) (reverse w.receipts) = subst (λ (qs : List Receipt). Down w.tid h (next_place 0 w.receipts) qs) (append-nil (reverse w.receipts))
+    (down_onto w.tid h 0 w.receipts [] right.own right.stand tt) in
     Down-within w.tid h (next_place 0 w.receipts) (reverse w.receipts) down
 
 no_place : (t : Tid) (h : List Entry) (high i : ℕ) (rs : List Receipt) → high ≤ i → Down t h high rs → has_place i rs ≡ false

@@ -29,7 +29,8 @@ pub record IsGroup (turns : ℕ) (line : Line) (group : List Receipt) : Type 0 w
 abbrev pub Played : ℕ → List Line → List Receipt → Type 0
 Played turns [] receipts = receipts ≡ []
 Played turns (line ∷ lines) receipts =
-    (group : List Receipt) × (rest : List Receipt) × (receipts ≡ group ++ rest) × IsGroup turns line group × Played turns lines rest
+    (group : List Receipt) × (rest : List Receipt) × (receipts ≡ group ++ rest) × IsGroup turns line group
+    × Played turns lines rest
 
 -- the receipts of a line at which a worker stopped: each told it to try again, and turns were left
 pub record IsPart (turns : ℕ) (line : Line) (part : List Receipt) : Type 0 where
@@ -57,8 +58,8 @@ pub record IsStopped (turns : ℕ) (lines : List Line) (receipts : List Receipt)
   pub begins : Played turns lines (receipts ++ more)
   pub unfinished : Played turns lines receipts → ⊥
 
--- what a run does to a worker: receipts are added, of all its lines or, where it stopped, of the lines before that and of
--- the turns of one
+-- what a run does to a worker: receipts are added, of all its lines or, where it stopped, of the lines before that and
+-- of the turns of one
 pub record Ran (turns : ℕ) (old new : Work) : Type 0 where
   pub tid_is : new.tid ≡ old.tid
   pub lines_are : new.lines ≡ old.lines

@@ -45,7 +45,8 @@ impl<L: Ledger> Model for Account<L> {
 
     ghost view = { λ a. record { tid = a.tid; receipts = a.receipts.items } };
 
-    ghost invariant = { λ a. (a.share.amount ≡ length a.receipts.items) × (0 < a.share.parts) × All (λ r. r.tid ≡ a.tid) a.receipts.items };
+    ghost invariant = { λ a. (a.share.amount ≡ length a.receipts.items) × (0 < a.share.parts)
+        × All (λ r. r.tid ≡ a.tid) a.receipts.items };
 }
 
 impl<L: Ledger> Account<L> {

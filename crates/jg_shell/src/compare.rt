@@ -18,7 +18,8 @@ pub(crate) fn first_difference<L: Ledger>(
     workers: &[Worker<L>],
 ) -> Option<(Tid, usize)>
     ensures { MatchOption result (IsAllTold guard.now.journal workers.now)
-        (λ found. IsWrongReceipt guard.now.journal workers.now found.0 found.1 ⊎ IsUntoldEntry guard.now.journal workers.now found.0 found.1) }
+        (λ found. IsWrongReceipt guard.now.journal workers.now found.0 found.1
+        ⊎ IsUntoldEntry guard.now.journal workers.now found.0 found.1) }
 {
     match first_wrong_receipt(guard, workers) {
         Some(found) => Some(found),
@@ -40,7 +41,8 @@ fn first_wrong_receipt<L: Ledger>(guard: &Guard, workers: &[Worker<L>]) -> Optio
 
 // The place of the first receipt that isn't the entry at its place or isn't after the one before.
 fn first_wrong(guard: &Guard, receipts: &[Receipt]) -> Option<usize>
-    ensures { MatchOption result (Stand guard.now.journal 0 receipts.now) (IsFirstWrong guard.now.journal receipts.now) }
+    ensures { MatchOption result (Stand guard.now.journal 0 receipts.now)
+        (IsFirstWrong guard.now.journal receipts.now) }
 {
     let len = guard.journal_len();
     let mut low = 0;

@@ -1,3 +1,5 @@
+//! Tests of workers in threads of their own: how they meet, busy monitors, many threads, and receipts.
+
 ghost use Rattle.std.specs.Prelude.{◌≡◌, ◌≤◌};
 
 mod refused;

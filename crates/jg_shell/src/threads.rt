@@ -22,7 +22,8 @@ pub fn play<L: Ledger + Send + Sync, R: Threads + Wait + Sync, G: Gate>(
     gate: &G,
 )
     requires { 1 ≤ turns }
-    ensures { (i : ℕ) (d : Work) → i < length workers.old → Ran turns (slice_index_or workers.old i d) (slice_index_or workers.new i d) }
+    ensures { (i : ℕ) (d : Work) → i < length workers.old
+        → Ran turns (slice_index_or workers.old i d) (slice_index_or workers.new i d) }
 {
     let threads = workers.len().max(1);
     thread::for_each_mut(

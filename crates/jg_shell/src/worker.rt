@@ -30,7 +30,12 @@ impl<L: Ledger> Model for Worker<L> {
 
     ghost Value = { Work };
 
-    ghost view = { λ w. record { tid = w.account.tid; lines = w.lines.items; receipts = w.account.receipts; stopped = w.stopped } };
+    ghost view = { λ w. record {
+      tid = w.account.tid;
+      lines = w.lines.items;
+      receipts = w.account.receipts;
+      stopped = w.stopped;
+    } };
 }
 
 impl<L: Ledger> Worker<L> {

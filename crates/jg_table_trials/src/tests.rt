@@ -1,3 +1,5 @@
+//! Tests by table; and what takes up a heap, so that growths are refused.
+
 mod blocks;
 mod buffers;
 mod globals;

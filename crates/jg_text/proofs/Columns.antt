@@ -12,7 +12,7 @@ use Rattle.jg_text.specs.declared.place.Place.{Place}
 use Rattle.jg_text.specs.declared.takes.OperandKind.{OperandKind}
 use Rattle.jg_text.specs.Operands.{operand_kinds}
 use Rattle.jg_text.specs.Places.{kind_meant, before_field, byte_place, IsBeforeOdd}
-use Rattle.jg_text.proofs.Named.{names_injective}
+use Rattle.jg_words.proofs.ByName.{names_injective}
 use Rattle.jg_text.proofs.Fronts.{spaces}
 
 -- each field with a space behind it

@@ -10,7 +10,7 @@ use Rattle.jg_text.specs.declared.fault.ScriptFault.TheVariants.{NoThread, NoEnv
 use Rattle.jg_text.specs.Words.{tid_text, env_text, FitsTid, FitsEnv, SpellOperands}
 use Rattle.jg_text.specs.Operands.{operand_kinds}
 use Rattle.jg_text.specs.Faults.{fields, HasFault, rank, IsFirstFault}
-use Rattle.jg_text.proofs.Named.{names_injective}
+use Rattle.jg_words.proofs.ByName.{names_injective}
 
 -- the line's first fields are these, and it isn't too long and is printable
 pub record HasHead (line : List ℕ) (t : Tid) (e : Option EnvId) (f : Fun) (rest : List (List ℕ)) : Type 0 where

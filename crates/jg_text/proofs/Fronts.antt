@@ -15,7 +15,7 @@ use Rattle.jg_text.specs.Begun.{BeginsCall}
 use Rattle.jg_text.specs.Faults.{fields}
 use Rattle.jg_words.specs.declared.fun.Fun.{Fun}
 use Rattle.jg_text.proofs.Laws.{fields_longer, fields_spelling, same_count}
-use Rattle.jg_text.proofs.Named.{names_injective}
+use Rattle.jg_words.proofs.ByName.{names_injective}
 
 abbrev pub spaces : List ℕ → ℕ
 spaces text = count_by (λ b. b == 32) text
@@ -32,7 +32,7 @@ pub equals : (more : List ℕ) → codes " = " ++ more ≡ 32 ∷ 61 ∷ 32 ∷ 
 equals more = refl
 
 -- a text is cut at a space in one way, where as many spaces stand before it
-pub same_cut : (xs us ys vs : List ℕ) → xs ++ 32 ∷ ys ≡ us ++ 32 ∷ vs → spaces xs ≡ spaces us → (xs ≡ us) × (ys ≡ vs)
+same_cut : (xs us ys vs : List ℕ) → xs ++ 32 ∷ ys ≡ us ++ 32 ∷ vs → spaces xs ≡ spaces us → (xs ≡ us) × (ys ≡ vs)
 same_cut [] [] ys vs e n = (refl, cc)
 same_cut [] (u ∷ us) ys vs e n =
     let head : u ≡ 32 = cc in
@@ -53,11 +53,11 @@ same_cut (x ∷ xs) (u ∷ us) ys vs e n =
     (cc (head, more.0), more.1)
 
 -- the third field is the name of the call's function
-pub named_third : (t : Tid) (e : Option EnvId) (c : Call) (more : List ℕ) → FitsTid t → FitsEnv e → FitsCall c → slice_get (fields (spelling t e c ++ 32 ∷ more)) 2 ≡ Some (name_of (fun_of c))
+named_third : (t : Tid) (e : Option EnvId) (c : Call) (more : List ℕ) → FitsTid t → FitsEnv e → FitsCall c → slice_get (fields (spelling t e c ++ 32 ∷ more)) 2 ≡ Some (name_of (fun_of c))
 named_third t e c more ht he hc = ap (λ fs. slice_get fs 2) (fields_longer t e c more ht he hc)
 
 -- so many spaces stand in a call
-pub spaces_of_call : (t : Tid) (e : Option EnvId) (c : Call) → FitsTid t → FitsEnv e → FitsCall c → spaces (spelling t e c) + 1 ≡ length (operand_kinds (fun_of c)) + 3
+spaces_of_call : (t : Tid) (e : Option EnvId) (c : Call) → FitsTid t → FitsEnv e → FitsCall c → spaces (spelling t e c) + 1 ≡ length (operand_kinds (fun_of c)) + 3
 spaces_of_call t e c ht he hc =
     let fields_are = ap length (fields_spelling t e c ht he hc) in
     omega (arith, length-slice_split (λ b. b == 32) (spelling t e c), fields_are, same_count c)

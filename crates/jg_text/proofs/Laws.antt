@@ -35,7 +35,7 @@ use Rattle.jg_text.specs.Pieces.{after_spaces}
 use Rattle.jg_text.proofs.Numbers.{own, mag_fits, mag_fits_small}
 use Rattle.jg_text.proofs.Cuts.{IsClean, split_first, dotted_same}
 use Rattle.jg_text.proofs.Lists.{Fit, pieces, commas_split, same_inner}
-use Rattle.jg_text.proofs.Named.{names_injective, both_true, below, each_passes}
+use Rattle.jg_words.proofs.ByName.{names_injective, both_true, below, each_passes}
 use Rattle.jg_text.proofs.Calls.{same_call, same_kinds, few_operands, longest, room}
 use Rattle.jg_text.proofs.Faulty.{HasHead, no_fault}
 use Rattle.jg_text.proofs.Writing.{join_operands}
@@ -77,7 +77,7 @@ seen_joined (x ∷ y ∷ ys) f =
     (seen_cons 44 (join_with_byte 44 (map signed_decimal (y ∷ ys))) (omega arith) (seen_joined (y ∷ ys) (λ k d within. f (suc k) d (omega arith))))
 
 -- fields that have no space are what the line splits into
-pub fields_join : (part : List ℕ) (parts : List (List ℕ)) → AllByRecursion (IsClean 32) (part ∷ parts) → fields (join_with_byte 32 (part ∷ parts)) ≡ part ∷ parts
+fields_join : (part : List ℕ) (parts : List (List ℕ)) → AllByRecursion (IsClean 32) (part ∷ parts) → fields (join_with_byte 32 (part ∷ parts)) ≡ part ∷ parts
 fields_join part [] h = slice_split_none (λ b. b == 32) part h.0
 fields_join part (next ∷ parts) h = split_first 32 part (join_with_byte 32 (next ∷ parts)) h.0 ∙ ap (λ ps. part ∷ ps) (fields_join next parts h.1)
 
@@ -97,7 +97,7 @@ null_other Local rest e = absurd (omega (arith, ap (λ xs. get_or xs 0 0) e))
 null_other Global rest e = absurd (omega (arith, ap (λ xs. get_or xs 0 0) e))
 null_other Weak rest e = absurd (omega (arith, ap (λ xs. get_or xs 0 0) e))
 
-pub refs_same : (r q : Ref) → FitsRef r → FitsRef q → ref_text r ≡ ref_text q → r ≡ q
+refs_same : (r q : Ref) → FitsRef r → FitsRef q → ref_text r ≡ ref_text q → r ≡ q
 refs_same Null Null h k e = refl
 refs_same Null (To kind maker n) h k e = absurd (null_other kind (dotted_text maker.0 n) e)
 refs_same (To kind maker n) Null h k e = absurd (null_other kind (dotted_text maker.0 n) (sym e))
@@ -150,7 +150,7 @@ joined_same [] (y ∷ ys) f g e = absurd (no_join y ys g e)
 joined_same (x ∷ xs) [] f g e = absurd (no_join x xs f (sym e))
 joined_same (x ∷ xs) (y ∷ ys) f g e = numbers_same (x ∷ xs) (y ∷ ys) f g (sym (commas_split x xs f) ∙ ap pieces e ∙ commas_split y ys g)
 
-pub word_same : (a b : Word) → kind_of a ≡ kind_of b → FitsWord a → FitsWord b → text_of a ≡ text_of b → a ≡ b
+word_same : (a b : Word) → kind_of a ≡ kind_of b → FitsWord a → FitsWord b → text_of a ≡ text_of b → a ≡ b
 word_same (of_ref r) (of_ref q) e h k t = ap of_ref (refs_same r q h k t)
 word_same (of_number i) (of_number j) e h k t = ap of_number (signed_decimal_injective i j (mag_fits_small i h) (mag_fits_small j k) t)
 word_same (of_long_number i) (of_long_number j) e h k t = ap of_long_number (signed_decimal_injective i j (mag_fits i h) (mag_fits j k) t)
@@ -212,7 +212,7 @@ pub seen_env : (e : Option EnvId) → FitsEnv e → IsVisible (env_text e)
 seen_env None h = seen_cons 45 [] (omega arith) (All-nil (λ b. IsInRange 33 126 b))
 seen_env (Some e) h = seen_cons 69 (dotted_text e.tid.0 e.session) (omega arith) (seen_dotted e.tid.0 e.session (omega (arith, h.0)) h.1)
 
-pub seen_name : (f : Fun) → IsVisible (name_of f)
+seen_name : (f : Fun) → IsVisible (name_of f)
 seen_name f = All-from_recursion (λ b. IsInRange 33 126 b) (name_of f)
     (seen_by_test (name_of f) (each_passes (λ g. pointwise nat_eq (name_of g) (name_of f)) (λ g. list_all is_seen (name_of g)) all f (named-name_of f) refl))
 
@@ -220,7 +220,7 @@ clean_all : (parts : List (List ℕ)) → AllByRecursion IsVisible parts → All
 clean_all [] h = tt
 clean_all (part ∷ parts) h = (clean_of part h.0, clean_all parts h.1)
 
-pub seen_fields : (t : Tid) (e : Option EnvId) (c : Call) → FitsTid t → FitsEnv e → FitsCall c → AllByRecursion IsVisible (line_fields t e c)
+seen_fields : (t : Tid) (e : Option EnvId) (c : Call) → FitsTid t → FitsEnv e → FitsCall c → AllByRecursion IsVisible (line_fields t e c)
 seen_fields t e c ht he hc = (seen_tid t ht, (seen_env e he, (seen_name (fun_of c), seen_words (operands c) hc)))
 
 -- a line that is spelt splits into its fields
@@ -342,7 +342,7 @@ words_spelt : (us : List Word) → AllByRecursion FitsWord us → SpellOperands 
 words_spelt [] h = tt
 words_spelt (u ∷ us) h = (word_spelt u h.0, words_spelt us h.1)
 
-pub spelt_head : (t : Tid) (e : Option EnvId) (c : Call) → FitsTid t → FitsEnv e → FitsCall c → HasHead (spelling t e c) t e (fun_of c) (operand_texts c)
+spelt_head : (t : Tid) (e : Option EnvId) (c : Call) → FitsTid t → FitsEnv e → FitsCall c → HasHead (spelling t e c) t e (fun_of c) (operand_texts c)
 spelt_head t e c ht he hc = record {
   short = (let short = short_call t e c ht he hc in omega (arith, short));
   printable = printable_line t e c ht he hc;

@@ -24,7 +24,7 @@ spelt_by_parse bs r h plain n e =
     sym (decimal-digits_value own bs both.0.0 both.0.1 plain.no_zero both.0.2) ∙ ap decimal (sym both.1)
 
 -- each byte of a decimal is a digit
-pub decimal_digit_at : (n : ℕ) → n < 2 ^ 64 → (i : ℕ) → i < length (decimal n) → IsInRange 48 57 (get_or (decimal n) i 0)
+decimal_digit_at : (n : ℕ) → n < 2 ^ 64 → (i : ℕ) → i < length (decimal n) → IsInRange 48 57 (get_or (decimal n) i 0)
 decimal_digit_at n small i within =
     digit_at (decimal n) i (digits_decimal own n small) within
 
@@ -33,13 +33,13 @@ no_zero zero small e = ap length (decimal_digit 0 (omega arith))
 no_zero (suc n) small e = absurd (omega (arith, first_decimal (suc n) (omega arith) small))
 
 -- a decimal has no plus and no leading zero, and is text
-pub decimal_plain : (n : ℕ) → n < 2 ^ 64 → IsPlain (decimal n)
+decimal_plain : (n : ℕ) → n < 2 ^ 64 → IsPlain (decimal n)
 decimal_plain n small = record {
   no_plus = λ e. let digit = decimal_digit_at n small 0 (decimal_nonempty n small) in absurd (omega (arith, digit));
   no_zero = no_zero n small;
 }
 
-pub decimal_utf8 : (n : ℕ) → n < 2 ^ 64 → IsUtf8 (decimal n)
+decimal_utf8 : (n : ℕ) → n < 2 ^ 64 → IsUtf8 (decimal n)
 decimal_utf8 n small = IsUtf8-from_ascii (decimal n) (IsAscii-decimal n small)
 
 pub plain_along : (bs : List ℕ) (n : ℕ) → n < 2 ^ 64 → bs ≡ decimal n → IsPlain bs

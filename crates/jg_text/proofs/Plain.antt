@@ -30,7 +30,7 @@ use Rattle.jg_text.specs.Operands.{FitsCall}
 use Rattle.jg_text.specs.Spelling.{Spells}
 use Rattle.jg_text.specs.Journal.{value_text, notice_text, warning_text, outcome_text, thrown_name, entry_text, call_line, FitsValue, FitsOutcome}
 use Rattle.jg_text.proofs.Laws.{dotted_short, signed_short, joined_short, short_call, printable_line, seen_word, seen_number, seen_signed, seen_dotted, wide}
-use Rattle.jg_text.proofs.Named.{both_true, below}
+use Rattle.jg_words.proofs.ByName.{both_true, below}
 
 pub always : {T E P : Type 0} (r : Result T E) → P → OnOk r P
 always (Ok x) p = p

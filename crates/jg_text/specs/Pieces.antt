@@ -1,7 +1,6 @@
 -- What the readers and writers of a line's parts say to one another. No public contract stands on
 -- these.
-use Rattle.std.specs.Prelude.{◌≡◌, ◌≢◌, ℕ, ℤ, List, [], ◌∷◌, ◌++◌, ◌+◌, ◌*◌, ◌%◌, ◌≤◌, ◌==◌, nat_lt, if◌then◌else◌, length, map, slice_index, slice_index_or, Contains, Option, Some, None, All, FitsSigned}
-use Rattle.std.specs.Borrow.{Bor}
+use Rattle.std.specs.Prelude.{◌≡◌, ◌≢◌, ℕ, ℤ, List, [], ◌∷◌, ◌++◌, ◌+◌, ◌≤◌, ◌==◌, length, map, slice_index, Option, Some, None, All, FitsSigned}
 use Rattle.std.specs.List.{flat_map, slice_split}
 use Rattle.std.specs.Fmt.{signed_decimal}
 use Rattle.std.specs.Int.{w64}
@@ -9,7 +8,6 @@ use Rattle.jg_words.specs.declared.thread.Tid.{Tid}
 use Rattle.jg_words.specs.declared.thread.EnvId.{EnvId}
 use Rattle.jg_words.specs.declared.fun.Fun.{Fun}
 use Rattle.jg_words.specs.declared.call.Call.{Call}
-use Rattle.jg_words.specs.Fun.{name_of}
 use Rattle.jg_words.specs.Call.{fun_of}
 use Rattle.jg_text.specs.declared.fault.ScriptFault.{ScriptFault}
 use Rattle.jg_text.specs.declared.fault.ScriptFault.TheVariants.{BadOperand, NoMemory}
@@ -69,7 +67,8 @@ pub record IsFirstNumber (text : List ℕ) (z : ℤ) (rest : Option (List ℕ)) 
 
 -- no number does
 abbrev pub StartsNoNumber : List ℕ → Type 0
-StartsNoNumber text = (z : ℤ) → FitsSigned w64 z → (later : List (List ℕ)) → slice_split (λ b. b == 44) text ≢ signed_decimal z ∷ later
+StartsNoNumber text = (z : ℤ) → FitsSigned w64 z → (later : List (List ℕ))
+    → slice_split (λ b. b == 44) text ≢ signed_decimal z ∷ later
 
 -- numbers, each after a comma
 abbrev pub after_commas : List ℤ → List ℕ
@@ -84,14 +83,6 @@ IsBadNumber pieces f = f ≢ NoMemory → (f ≡ BadOperand)
 pub record IsPlain (text : List ℕ) : Type 0 where
   pub no_plus : slice_index text 0 ≢ 43
   pub no_zero : slice_index text 0 ≡ 48 → length text ≡ 1
-
--- a number that few names have in common
-abbrev pub name_key : List ℕ → ℕ
-name_key text = if nat_lt (length text) 4 then 0 else (length text + slice_index text 0 * 8 + slice_index text 3 * 3) % 64
-
--- a table in which each function stands in the row of its name's key
-pub record IsByKey (rows : List (Bor (List Fun))) : Type 0 where
-  pub stands : (f : Fun) (d : Bor (List Fun)) → Contains (slice_index_or rows (name_key (name_of f)) d).now f
 
 -- the texts are the operands of this call of the function
 pub record SpellCall (f : Fun) (texts : List (List ℕ)) (c : Call) : Type 0 where

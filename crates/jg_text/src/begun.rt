@@ -16,8 +16,8 @@ ghost use Rattle.jg_text.specs.Begun.{BeginsWith, BeginsCall};
 use crate::fault::ScriptFault;
 use crate::groups;
 use crate::operand::cut;
-use crate::read::{read_call, read_fun};
-use jg_words::{Call, EnvId, Tid};
+use crate::read::read_call;
+use jg_words::{Call, EnvId, Fun, Tid};
 use std::alloc::{AllocError, Global};
 
 /// The place of the space that ends so many fields.
@@ -48,7 +48,7 @@ fn fields_of_call(text: &[u8]) -> Option<usize>
     let (_, rest) = cut(text);
     let (_, rest) = cut(rest?);
     let (name, _) = cut(rest?);
-    let fun = read_fun(name)?;
+    let fun = Fun::of_bytes(name)?;
     Some(groups::arity(fun) + 3)
 }
 

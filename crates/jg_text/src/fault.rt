@@ -1,3 +1,5 @@
+//! Why a line isn't a call, or can't be read.
+
 use thiserror::Error;
 
 /// Why a line isn't a call. Each prints as its name.

@@ -17,7 +17,7 @@ use jg_words::{BufId, FieldId, Items, Name, Ref};
 use std::alloc::{AllocError, Global};
 
 /// A value that stands as an operand in a line, with one spelling.
-pub trait Operand: Sized + Drop {
+pub trait OperandText: Sized + Drop {
     ghost use Rattle.std.specs.Prelude.{ℕ, List};
     ghost use Rattle.jg_text.specs.Kinds.{OperandKind};
 
@@ -39,7 +39,7 @@ pub trait Operand: Sized + Drop {
         ensures { OnOk result (string_bytes out.new ≡ string_bytes out.old ++ spelt self.now) };
 }
 
-impl Operand for Ref {
+impl OperandText for Ref {
     ghost use Rattle.jg_text.specs.Kinds.{Reference};
     ghost use Rattle.jg_text.specs.Words.{ref_text, FitsRef};
 
@@ -58,7 +58,7 @@ impl Operand for Ref {
     }
 }
 
-impl Operand for i32 {
+impl OperandText for i32 {
     ghost use Rattle.std.specs.Prelude.{FitsSigned};
     ghost use Rattle.std.specs.Int.{w32};
     ghost use Rattle.std.specs.Fmt.{signed_decimal};
@@ -79,7 +79,7 @@ impl Operand for i32 {
     }
 }
 
-impl Operand for i64 {
+impl OperandText for i64 {
     ghost use Rattle.std.specs.Prelude.{FitsSigned};
     ghost use Rattle.std.specs.Int.{w64};
     ghost use Rattle.std.specs.Fmt.{signed_decimal};
@@ -100,7 +100,7 @@ impl Operand for i64 {
     }
 }
 
-impl Operand for Items {
+impl OperandText for Items {
     ghost use Rattle.jg_text.specs.Kinds.{Numbers};
     ghost use Rattle.jg_text.specs.Words.{items_text, FitsItems};
 
@@ -119,7 +119,7 @@ impl Operand for Items {
     }
 }
 
-impl Operand for Name {
+impl OperandText for Name {
     ghost use Rattle.jg_words.specs.Name.{IsName};
     ghost use Rattle.jg_text.specs.Kinds.{Name as name_kind};
     ghost use Rattle.jg_text.specs.Words.{name_text};
@@ -139,7 +139,7 @@ impl Operand for Name {
     }
 }
 
-impl Operand for FieldId {
+impl OperandText for FieldId {
     ghost use Rattle.jg_text.specs.Kinds.{Field};
     ghost use Rattle.jg_text.specs.Words.{field_text, FitsField};
 
@@ -158,7 +158,7 @@ impl Operand for FieldId {
     }
 }
 
-impl Operand for BufId {
+impl OperandText for BufId {
     ghost use Rattle.jg_text.specs.Kinds.{Buffer};
     ghost use Rattle.jg_text.specs.Words.{buf_text, FitsBuf};
 
@@ -211,7 +211,7 @@ pub fn read_none(rest: Option<&[u8]>) -> Result<(), ScriptFault>
 }
 
 /// The operand that the one field left spells.
-pub fn read_one<A: Operand>(alloc: Global, rest: Option<&[u8]>) -> Result<A, ScriptFault>
+pub fn read_one<A: OperandText>(alloc: Global, rest: Option<&[u8]>) -> Result<A, ScriptFault>
     ensures ok { IfOk result (λ a. (A.spelt a ∷ [] ≡ rest_fields (option_copied rest.entry)) × A.fits a) }
     ensures err { IfErr result (IsOperandFault (A.kind ∷ []) (rest_fields (option_copied rest.entry))) }
 {
@@ -223,7 +223,7 @@ pub fn read_one<A: Operand>(alloc: Global, rest: Option<&[u8]>) -> Result<A, Scr
 }
 
 /// The operands that the two fields left spell.
-pub fn read_two<A: Operand, B: Operand>(
+pub fn read_two<A: OperandText, B: OperandText>(
     alloc: Global,
     rest: Option<&[u8]>,
 ) -> Result<(A, B), ScriptFault>
@@ -240,7 +240,7 @@ pub fn read_two<A: Operand, B: Operand>(
 }
 
 /// The operands that the three fields left spell.
-pub fn read_three<A: Operand, B: Operand, C: Operand>(
+pub fn read_three<A: OperandText, B: OperandText, C: OperandText>(
     alloc: Global,
     rest: Option<&[u8]>,
 ) -> Result<(A, B, C), ScriptFault>
@@ -258,7 +258,7 @@ pub fn read_three<A: Operand, B: Operand, C: Operand>(
 }
 
 /// Writes the operand after a space.
-pub fn write_one<A: Operand>(out: &mut String, a: &A) -> Result<(), AllocError>
+pub fn write_one<A: OperandText>(out: &mut String, a: &A) -> Result<(), AllocError>
     ensures { OnOk result (string_bytes out.new ≡ string_bytes out.old ++ after_spaces (A.spelt a.now ∷ [])) }
 {
     out.push(' ')?;
@@ -266,7 +266,11 @@ pub fn write_one<A: Operand>(out: &mut String, a: &A) -> Result<(), AllocError>
 }
 
 /// Writes the operands, each after a space.
-pub fn write_two<A: Operand, B: Operand>(out: &mut String, a: &A, b: &B) -> Result<(), AllocError>
+pub fn write_two<A: OperandText, B: OperandText>(
+    out: &mut String,
+    a: &A,
+    b: &B,
+) -> Result<(), AllocError>
     ensures { OnOk result (string_bytes out.new ≡ string_bytes out.old
         ++ after_spaces (A.spelt a.now ∷ B.spelt b.now ∷ [])) }
 {
@@ -275,7 +279,7 @@ pub fn write_two<A: Operand, B: Operand>(out: &mut String, a: &A, b: &B) -> Resu
 }
 
 /// Writes the operands, each after a space.
-pub fn write_three<A: Operand, B: Operand, C: Operand>(
+pub fn write_three<A: OperandText, B: OperandText, C: OperandText>(
     out: &mut String,
     a: &A,
     b: &B,

@@ -20,7 +20,6 @@ use crate::fault::ScriptFault;
 use crate::list::{first_number, inside};
 use crate::number::{count_of, signed_number, small_signed_number};
 use crate::operand::{cut, next_field};
-use crate::read::read_fun;
 use crate::takes::{OperandKind, operands_of};
 use crate::word::{read_buf, read_field, read_ref};
 use jg_words::{Fun, MAX_ITEMS, MAX_NAME};
@@ -100,7 +99,7 @@ fn named_function(line: &[u8]) -> Option<(Fun, Option<&[u8]>)>
     let (_, rest) = cut(line);
     let (_, rest) = cut(rest?);
     let (name, rest) = cut(rest?);
-    let fun = read_fun(name)?;
+    let fun = Fun::of_bytes(name)?;
     Some((fun, rest))
 }
 

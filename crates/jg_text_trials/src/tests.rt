@@ -1,3 +1,5 @@
+//! Tests by what is read: words, lines, setups and command lines.
+
 mod arguments;
 mod line_faults;
 mod lines;

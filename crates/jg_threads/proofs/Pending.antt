@@ -131,7 +131,8 @@ held_law rows e o once stands =
 pub named_law : (rows : List (ℕ × Row)) (e : List Event) (o : ℕ) → IsOnce rows → Stands rows e → IfSome (number_where (λ row. is_object o row.pending) rows) (λ t. pending (acts_of t e) ≡ Some o)
 named_law rows e o once stands = by (find (λ (entry : ℕ × Row). is_object o entry.1.pending) rows) (is_found (λ (entry : ℕ × Row). is_object o entry.1.pending) rows)
   where
-    by : (found : Option (ℕ × Row)) → IfSome found (λ entry. Member entry rows × (is_object o entry.1.pending ≡ true)) → IfSome (option_map (λ (entry : ℕ × Row). entry.0) found) (λ t. pending (acts_of t e) ≡ Some o)
+    by : (found : Option (ℕ × Row)) → IfSome found (λ entry. Member entry rows × (is_object o entry.1.pending ≡ true))
+        → IfSome (option_map (λ (entry : ℕ × Row). entry.0) found) (λ t. pending (acts_of t e) ≡ Some o)
     by None all = tt
     by (Some entry) all =
         let row : row_or_none (Some entry.1) ≡ row_after e entry.0 = ap row_or_none (sym (entry_found entry rows once all.0)) ∙ stands.threads entry.0 in

@@ -60,7 +60,7 @@ never_attached (CountBuffer ∷ acts) h never =
     cc
 
 -- an attached thread was once attached
-pub once_attached : (acts : List Act) → attached acts ≡ true → was_attached acts ≡ true
+once_attached : (acts : List Act) → attached acts ≡ true → was_attached acts ≡ true
 once_attached [] on = on
 once_attached (Attach ∷ acts) on = refl
 once_attached (Detach ∷ acts) on = cc
@@ -74,7 +74,7 @@ once_attached (CountBuffer ∷ acts) on = once_attached acts on
 -- ---- what a look-up finds
 
 -- the row of a thread that did these acts, where it has one
-abbrev pub row_if : Bool → List Act → Option Row
+abbrev row_if : Bool → List Act → Option Row
 row_if b acts = if b then Some (row_by acts) else None
 
 found_is : (acts : List Act) (b : Bool) (found : Option Row) → row_or_none found ≡ row_by acts → one_if found ≡ (if b then 1 else 0) → found ≡ row_if b acts
@@ -165,17 +165,23 @@ on_by rows e u stands on = sym (ap (λ (r : Row). r.attached) (stands.threads u)
 
 pub raise_law : (old new rows : List (ℕ × Row)) (e : List Event) (u o : ℕ) → old ≡ rows → IsOnce old → IsOnce new
     → Stands rows e → IsTrue (row_of rows u).attached → Written old new u (λ (r : Row). record r { pending = Some o }) → Stands new (by u (Raise o) ∷ e)
-raise_law old new rows e u o seen was_once once stands on = written_law old new rows e u (Raise o) (λ (r : Row). record r { pending = Some o }) seen was_once once stands (on_by rows e u stands on) refl
+raise_law old new rows e u o seen was_once once stands on =
+    written_law old new rows e u (Raise o) (λ (r : Row). record r { pending = Some o }) seen was_once once stands
+    (on_by rows e u stands on) refl
     refl
 
 pub count_ref_law : (old new rows : List (ℕ × Row)) (e : List Event) (u : ℕ) → old ≡ rows → IsOnce old → IsOnce new
     → Stands rows e → IsTrue (row_of rows u).attached → Written old new u (λ (r : Row). record r { refs = r.refs + 1 }) → Stands new (by u CountRef ∷ e)
-count_ref_law old new rows e u seen was_once once stands on = written_law old new rows e u CountRef (λ (r : Row). record r { refs = r.refs + 1 }) seen was_once once stands (on_by rows e u stands on) refl
+count_ref_law old new rows e u seen was_once once stands on =
+    written_law old new rows e u CountRef (λ (r : Row). record r { refs = r.refs + 1 }) seen was_once once stands
+    (on_by rows e u stands on) refl
     refl
 
 pub count_buffer_law : (old new rows : List (ℕ × Row)) (e : List Event) (u : ℕ) → old ≡ rows → IsOnce old → IsOnce new
     → Stands rows e → IsTrue (row_of rows u).attached → Written old new u (λ (r : Row). record r { buffers = r.buffers + 1 }) → Stands new (by u CountBuffer ∷ e)
-count_buffer_law old new rows e u seen was_once once stands on = written_law old new rows e u CountBuffer (λ (r : Row). record r { buffers = r.buffers + 1 }) seen was_once once stands (on_by rows e u stands on) refl
+count_buffer_law old new rows e u seen was_once once stands on =
+    written_law old new rows e u CountBuffer (λ (r : Row). record r { buffers = r.buffers + 1 }) seen was_once once
+    stands (on_by rows e u stands on) refl
     refl
 
 deeper : (acts : List Act) → AllAllowed acts → depth acts + 1 ≡ depth (Enter ∷ acts)
@@ -191,7 +197,9 @@ less_deep acts = omega arith
 
 pub leave_law : (old new rows : List (ℕ × Row)) (e : List Event) (u : ℕ) → old ≡ rows → IsOnce old → IsOnce new
     → Stands rows e → 0 < (row_of rows u).depth → Written old new u (λ (r : Row). record r { depth = r.depth - 1 }) → Stands new (by u Leave ∷ e)
-leave_law old new rows e u seen was_once once stands inside = written_law old new rows e u Leave (λ (r : Row). record r { depth = r.depth - 1 }) seen was_once once stands (subst (λ (n : ℕ). 0 < n) (ap (λ (r : Row). r.depth) (stands.threads u)) inside) refl
+leave_law old new rows e u seen was_once once stands inside =
+    written_law old new rows e u Leave (λ (r : Row). record r { depth = r.depth - 1 }) seen was_once once stands
+    (subst (λ (n : ℕ). 0 < n) (ap (λ (r : Row). r.depth) (stands.threads u)) inside) refl
     (ap (λ (d : ℕ). record (row_by (acts_of u e)) { depth = d }) (less_deep (acts_of u e)))
 
 -- ---- attaching

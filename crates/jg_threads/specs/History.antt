@@ -73,7 +73,7 @@ abbrev pub depth : List Act → ℕ
 depth acts = how_many is_enter (since acts) - how_many is_leave (since acts)
 
 -- the exception raised last, if nothing calmed it since
-abbrev pub last_raised : List Act → Option ℕ
+abbrev last_raised : List Act → Option ℕ
 last_raised [] = None
 last_raised (Raise o ∷ acts) = Some o
 last_raised (Calm ∷ acts) = None

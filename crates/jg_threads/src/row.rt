@@ -1,3 +1,5 @@
+//! What is kept of one thread.
+
 ghost use Rattle.std.specs.Prelude.{◌≡◌};
 ghost use Rattle.jg_threads.specs.History.{is_object};
 ghost use Rattle.jg_lists.specs.Marks.{Marks};

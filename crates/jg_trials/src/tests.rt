@@ -1,3 +1,5 @@
+//! Setups, devices and guards that the tests share.
+
 mod buffers;
 mod caller;
 mod cleaning;

@@ -1,4 +1,6 @@
+pub mod ByName
 pub mod Call
+pub mod Classes
 pub mod Entry
 pub mod Fun
 pub mod Name

@@ -1,3 +1,5 @@
+//! What names a buffer that native code was lent.
+
 use crate::thread::Tid;
 
 /// A buffer that native code was lent. `n` counts the buffers that `maker` was lent over all its

@@ -1,3 +1,5 @@
+//! Entries of the journal: a call, where it came from, and what became of it.
+
 ghost use Rattle.std.specs.Prelude.{◌≡◌, None};
 ghost use Rattle.std.specs.Option.{option_copied};
 ghost use Rattle.jg_words.specs.Entry.{env_where, object_where, outcome_by, rule_in, value_in, is_warned, is_noticed};
@@ -68,7 +70,8 @@ impl Entry {
         reply: Reply,
         object: Option<ObjId>,
     ) -> Entry
-        ensures { result ≡ record { tid = tid; env = env; call = call; outcome = Outcome.Passed reply; object = object } }
+        ensures { result
+            ≡ record { tid = tid; env = env; call = call; outcome = Outcome.Passed reply; object = object } }
     {
         let (has_env, env_tid, env_session) = env_parts(env);
         let (has_object, object) = object_parts(object);
@@ -200,7 +203,8 @@ fn object_parts(object: Option<ObjId>) -> (bool, u64)
 
 /// How a call that was done ended.
 fn ending_of(warned: bool, noticed: bool) -> Ending
-    ensures { (v : Value) → outcome_by result v ≡ Outcome.Passed (record { value = v; warned = warned; noticed = noticed }) }
+    ensures { (v : Value) → outcome_by result v
+        ≡ Outcome.Passed (record { value = v; warned = warned; noticed = noticed }) }
 {
     match (warned, noticed) {
         (false, false) => Ending::Plain,

@@ -213,7 +213,7 @@ impl Fun {
     pub fn of_name(name: &str) -> Option<Fun>
         ensures { result ≡ named name.now }
     {
-        Fun::ALL.iter().copied().find(|fun| fun.name() == name)
+        Fun::of_bytes(name.as_bytes())
     }
 }
 

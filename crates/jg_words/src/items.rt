@@ -1,3 +1,5 @@
+//! Lists of numbers, as operands and as answers.
+
 ghost use Rattle.std.specs.Prelude.{◌≡◌, ◌≤◌, ◌↔◌, ◌<◌, IsOk, IfOk, IfErr, length, vec_len, IsTrue};
 
 use std::alloc::AllocError;

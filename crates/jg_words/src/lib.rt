@@ -3,7 +3,9 @@
 #![tactic(auto)]
 
 mod buffer;
+mod by_name;
 mod call;
+mod class;
 mod ending;
 mod entry;
 mod fun;
@@ -26,6 +28,7 @@ pub use call::objects::ObjectsCall;
 pub use call::refs::RefsCall;
 pub use call::strings::StringsCall;
 pub use call::vm::VmCall;
+pub use class::{CLASS_CLASS, OBJECT_ARRAY_CLASS, STRING_CLASS, element_of};
 pub use entry::{Entry, Outcome, Reply};
 pub use fun::arrays::ArraysFun;
 pub use fun::buffers::BuffersFun;

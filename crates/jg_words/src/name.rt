@@ -1,3 +1,5 @@
+//! Names, as operands: of classes, fields, methods, types and libraries.
+
 ghost use Rattle.std.specs.Prelude.{◌≡◌, ◌↔◌, Err, IfOk, IsTrue};
 ghost use Rattle.jg_words.specs.Name.{IsName};
 

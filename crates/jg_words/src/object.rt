@@ -1,3 +1,5 @@
+//! What names an object or a field, and the primitive types.
+
 /// An object by its number in the order of making, class objects first, from 0.
 #[derive(Clone, Copy, Debug, PartialEq, Eq)]
 pub struct ObjId(pub u64);

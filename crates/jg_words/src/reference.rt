@@ -1,3 +1,5 @@
+//! What names a reference, and the three kinds.
+
 use crate::thread::Tid;
 
 /// The kind of a reference (JNI Specification, chapter 2, "Global and Local References", and

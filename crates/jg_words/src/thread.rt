@@ -1,3 +1,5 @@
+//! What names a thread, and its environments.
+
 /// A thread's number: 1 to 65,535, and 0 for the virtual machine itself.
 #[derive(Clone, Copy, Debug, PartialEq, Eq, PartialOrd, Ord, Hash)]
 pub struct Tid(pub u16);

@@ -1,3 +1,5 @@
+//! What calls answer, and which exceptions they throw.
+
 ghost use Rattle.std.specs.Prelude.{◌≡◌, true, IfOk, OnErr};
 ghost use Rattle.jg_words.specs.Value.{is_list};
 

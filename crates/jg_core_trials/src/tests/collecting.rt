@@ -1,3 +1,5 @@
+//! Tests of `Core::gone`: lists of objects that may go, and lists that are refused.
+
 use super::{
     FIRST, SECOND, T, breaks_at, closed_setup, first_other, free, hand, handed, impossible, lend,
     local, meet, own, raise, string_length, taken,

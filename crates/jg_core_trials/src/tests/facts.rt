@@ -1,3 +1,5 @@
+//! Facts that can't be: each is refused as impossible, and changes nothing.
+
 use super::{
     FIRST, OTHER, SECOND, STRING, T, closed_setup, first_other, free, hand, impossible, lend,
     local, own, raise, starts, string_length,

@@ -1,3 +1,5 @@
+//! Tests of native methods that are linked and unlinked, and of warnings.
+
 use super::{Step, T, breaks, first_other, impossible, taken};
 use jg_core::{Core, Fact};
 use jg_policy::Setup;

@@ -1,3 +1,5 @@
+//! Tests of the memory of a core: it follows what is live, and a refused fact changes nothing.
+
 use super::{
     FIRST, STRING, T, closed_setup, hand, judged, lend, local, meet, starts, string_length,
 };

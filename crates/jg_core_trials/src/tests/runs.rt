@@ -1,3 +1,5 @@
+//! Runs of facts and of questions between them, each judged as the facts before it say.
+
 use super::{
     FIRST, OTHER, T, breaks, breaks_at, closed_setup, first_other, free, impossible, judged, lend,
     local, own, raise, starts, string_length, taken,

@@ -1,3 +1,5 @@
+//! Scripts that break each rule in several ways, with their explanations.
+
 /// Scripts under the setup of the tests, and what is told of each, without what the rules say.
 pub(super) const ROWS: [(&str, &str, &str); 17] = [
     (
@@ -200,7 +202,8 @@ line 7: deny 9 WrongType of L1.1: L1.1 names an object of java/lang/String, and 
   made at line 2 by T1 NewString
 line 8: deny 9 WrongType of L1.2: L1.2 names an object of [I, and an array of references is wanted
   made at line 3 by T1 NewIntArray
-line 9: deny 9 WrongType of L1.1: L1.1 names an object of java/lang/String, and a class whose instances AllocObject makes is wanted
+line 9: deny 9 WrongType of L1.1: L1.1 names an object of java/lang/String, \
+and a class whose instances AllocObject makes is wanted
   made at line 2 by T1 NewString
 line 10: deny 9 WrongType of L1.2: L1.2 names an object of [I, and a class is wanted
   made at line 3 by T1 NewIntArray
@@ -376,9 +379,12 @@ T1 E1.1 FindClass lib/Tool
 T1 E1.1 RegisterNatives L1.1 go ()V
 T1 E1.1 NativeEnter lib/Tool go ()V
 ",
-        "line 2: deny 16 NoNativeAccess: module lib of lib/Tool is not granted to load a library, and illegal native access is denied
-line 4: deny 16 NoNativeAccess: module lib of lib/Tool is not granted to register a native method, and illegal native access is denied
-line 5: deny 16 NoNativeAccess: module lib of lib/Tool is not granted to call a native method, and illegal native access is denied
+        "line 2: deny 16 NoNativeAccess: module lib of lib/Tool is not granted to load a library, \
+        and illegal native access is denied
+line 4: deny 16 NoNativeAccess: module lib of lib/Tool is not granted to register a native method, \
+and illegal native access is denied
+line 5: deny 16 NoNativeAccess: module lib of lib/Tool is not granted to call a native method, \
+and illegal native access is denied
 ",
     ),
     (

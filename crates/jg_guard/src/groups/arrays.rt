@@ -1,3 +1,5 @@
+//! What the calls on arrays answer, make and write.
+
 ghost use Rattle.std.specs.Prelude.{◌≡◌, IfOk, OnOk, OnErr};
 ghost use Rattle.jg_words.specs.declared.call.Call.TheVariants.{Arrays};
 ghost use Rattle.jg_rules.specs.Parts.{Parts, TablesStand};

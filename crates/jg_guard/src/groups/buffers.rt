@@ -1,3 +1,5 @@
+//! What the calls on buffers answer and do: copies, pins, items, and what is written back.
+
 ghost use Rattle.std.specs.Prelude.{◌≡◌, false, map, pos, slice_index_or, IfOk, OnOk, OnErr};
 ghost use Rattle.jg_words.specs.declared.call.Call.TheVariants.{Buffers};
 ghost use Rattle.jg_words.specs.declared.call.buffers.BuffersCall.TheVariants.{GetArrayElements, ReleaseArrayElements, GetStringChars, GetStringUTFChars, GetPrimitiveArrayCritical, GetStringCritical, BufferRead, BufferWrite};

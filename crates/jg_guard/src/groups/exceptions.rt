@@ -1,3 +1,5 @@
+//! What the calls on exceptions answer, and what they clear.
+
 ghost use Rattle.std.specs.Prelude.{◌≡◌};
 ghost use Rattle.jg_words.specs.declared.call.Call.TheVariants.{Exceptions};
 ghost use Rattle.jg_rules.specs.Parts.{Parts, TablesStand};

@@ -1,3 +1,5 @@
+//! What the calls on frames answer and do.
+
 ghost use Rattle.std.specs.Prelude.{◌≡◌, false, OnOk, OnErr};
 ghost use Rattle.jg_words.specs.declared.call.Call.TheVariants.{Frames};
 ghost use Rattle.jg_rules.specs.Parts.{Parts, TablesStand};

@@ -1,3 +1,5 @@
+//! What the calls on objects answer, make and write: classes, instances and fields.
+
 ghost use Rattle.std.specs.Prelude.{◌≡◌, Some, true, map, IfOk, OnOk, OnErr};
 ghost use Rattle.jg_words.specs.declared.call.Call.TheVariants.{Objects};
 ghost use Rattle.jg_words.specs.declared.call.objects.ObjectsCall.TheVariants.{GetField, GetObjectField, SetField, SetObjectField};

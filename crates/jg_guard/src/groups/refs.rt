@@ -1,3 +1,5 @@
+//! What the calls on references answer, and what they end.
+
 ghost use Rattle.std.specs.Prelude.{◌≡◌, ◌≤◌};
 ghost use Rattle.jg_words.specs.declared.call.Call.TheVariants.{Refs};
 ghost use Rattle.jg_policy.specs.Stated.{StatedSetup};

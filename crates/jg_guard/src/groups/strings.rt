@@ -1,3 +1,5 @@
+//! What the calls on strings answer and make.
+
 ghost use Rattle.std.specs.Prelude.{◌≡◌, map, length, true, IfOk, OnOk, OnErr};
 ghost use Rattle.jg_words.specs.declared.call.Call.TheVariants.{Strings};
 ghost use Rattle.jg_rules.specs.Parts.{Parts, TablesStand};

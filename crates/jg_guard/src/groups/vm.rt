@@ -1,7 +1,9 @@
+//! What the calls on the virtual machine answer and do: sessions, native methods, links and collections.
+
 ghost use Rattle.std.specs.Prelude.{◌≡◌, ◌<◌, ◌≤◌, false, length, IfSome, OnOk, OnErr};
 ghost use Rattle.std.specs.Option.{option_map};
 ghost use Rattle.jg_words.specs.declared.call.Call.TheVariants.{Vm};
-ghost use Rattle.jg_words.specs.declared.call.vm.VmCall.TheVariants.{RegisterNatives, UnregisterNatives, Collect};
+ghost use Rattle.jg_words.specs.declared.call.vm.VmCall.TheVariants.{AttachCurrentThread, RegisterNatives, UnregisterNatives, Collect};
 ghost use Rattle.jg_words.specs.declared.reference.Kind.TheVariants.{Local};
 ghost use Rattle.jg_words.specs.declared.value.Value.TheVariants.{Ok as Done};
 ghost use Rattle.jg_threads.specs.Rows.{CanCount};
@@ -16,12 +18,12 @@ ghost use Rattle.jg_rules.specs.Answers as answers;
 ghost use Rattle.jg_rules.specs.Holding.{going};
 ghost use Rattle.jg_rules.specs.Answers.{vm_answer, amount, handed, unless_pending, registered};
 ghost use Rattle.jg_guard.specs.Cleaning.{cleans_up};
-ghost use Rattle.jg_guard.specs.Held.{Finds, IsReady};
+ghost use Rattle.jg_guard.specs.Findings.{Finds, IsReady};
 ghost use Rattle.jg_guard.specs.Tables.{rows_of, IsDue, IsEffective, KeepsRoom};
 ghost use Rattle.jg_rules.specs.Effects.{done_by};
 ghost use Rattle.jg_guard.specs.Settled.{linked_on, unlinked_on};
 
-use crate::collect::{Held, collect};
+use crate::collect::{Findings, collect};
 use crate::settle::{admitted, handing_out, plain, throwing};
 use crate::tables::Tables;
 use jg_policy::{Operation, Setup};
@@ -41,8 +43,9 @@ fn class_object(class: Option<u32>) -> Option<ObjId>
 
 fn answer_enter<A: Allocator + Clone>(view: &View<'_, A>, tid: Tid, class: &Name) -> Answer
     requires { CanCount view.now.threads.now tid.0 }
-    ensures { (p : Parts) → ViewStands view.now p → result ≡ answers.admitted view.now.setup.now p
-        Link (class_named view.now.setup.now class.now) (handed p tid Local (class_named view.now.setup.now class.now)) }
+    ensures { (p : Parts) → ViewStands view.now p
+        → result ≡ answers.admitted view.now.setup.now p Link (class_named view.now.setup.now class.now)
+        (handed p tid Local (class_named view.now.setup.now class.now)) }
 {
     let class = view.setup.class_named(class);
     let given = handing_out(view, tid, Kind::Local, class_object(class));
@@ -99,22 +102,22 @@ fn answer_env<A: Allocator + Clone>(view: &View<'_, A>, tid: Tid) -> Answer
     }
 }
 
-fn answer_collect<A: Allocator>(held: &Held<A>) -> Answer
-    ensures { (setup : StatedSetup) (p : Parts) → Finds setup p (Vm Collect) held.now
+fn answer_collect<A: Allocator>(findings: &Findings<A>) -> Answer
+    ensures { (setup : StatedSetup) (p : Parts) → Finds setup p (Vm Collect) findings.now
         → result ≡ amount (length (going setup p)) }
 {
-    plain(Value::Number(held.unheld.len() as i64))
+    plain(Value::Number(findings.unheld.len() as i64))
 }
 
-/// What a call of the group answers, where it breaks no rule. `held` is what a collection found.
+/// What a call of the group answers, where it breaks no rule. `findings` are what a collection found.
 pub(crate) fn answer_vm<A: Allocator + Clone>(
     view: &View<'_, A>,
-    held: &Held<A>,
+    findings: &Findings<A>,
     tid: Tid,
     call: &VmCall,
 ) -> Answer
     requires { IsDue view.now.setup.now (rows_in view.now) tid.0 (Vm call.now) }
-    ensures { (p : Parts) → ViewStands view.now p → Finds view.now.setup.now p (Vm call.now) held.now
+    ensures { (p : Parts) → ViewStands view.now p → Finds view.now.setup.now p (Vm call.now) findings.now
         → result ≡ vm_answer view.now.setup.now p tid call.now }
 {
     match call {
@@ -135,7 +138,7 @@ pub(crate) fn answer_vm<A: Allocator + Clone>(
             answer_register(view, class, method, signature)
         }
         VmCall::UnregisterNatives { .. } => plain(Value::Ok),
-        VmCall::Collect => answer_collect(held),
+        VmCall::Collect => answer_collect(findings),
     }
 }
 
@@ -206,18 +209,43 @@ fn unregister<A: Allocator + Clone>(tables: &mut Tables<A>, setup: &Setup, tid: 
     unlink(tables, class);
 }
 
+/// Begins the thread's session, where it has none.
+fn attach<A: Allocator + Clone>(
+    tables: &mut Tables<A>,
+    setup: &Setup,
+    tid: Tid,
+) -> Result<(), AllocError>
+    requires { IsEffective setup.now (rows_of tables.old) tid (Vm AttachCurrentThread) }
+    ensures stands { OnOk result ((p : Parts) → TablesStand setup.now (rows_of tables.old) p
+        → TablesStand setup.now (rows_of tables.new) (done_by setup.now tid.0 (Vm AttachCurrentThread) p)) }
+    ensures room { OnOk result (KeepsRoom tables.old tables.new tid.0 (Vm AttachCurrentThread)) }
+    ensures err { OnErr result (rows_of tables.new ≡ rows_of tables.old) }
+{
+    if tables.threads.is_attached(tid) {
+        tables.threads.attach(tid)?;
+    } else {
+        tables.locals.reserve_start(tid)?;
+        tables.threads.attach(tid)?;
+        match tables.locals.start_thread(tid) {
+            Ok(()) => {}
+            Err(_) => unreachable!(),
+        }
+    }
+    Ok(())
+}
+
 /// Does what a passed call of the group does. An `Err` leaves all rows as they were.
 pub(crate) fn perform_vm<A: Allocator + Clone>(
     tables: &mut Tables<A>,
     setup: &Setup,
-    held: &Held<A>,
+    findings: &Findings<A>,
     tid: Tid,
     call: &VmCall,
 ) -> Result<(), AllocError>
     requires effective { IsEffective setup.now (rows_of tables.old) tid (Vm call.now) }
-    requires ready { IsReady tables.old.heap (Vm call.now) held.now }
+    requires ready { IsReady tables.old.heap (Vm call.now) findings.now }
     ensures stands { OnOk result ((p : Parts) → TablesStand setup.now (rows_of tables.old) p
-        → Finds setup.now p (Vm call.now) held.now
+        → Finds setup.now p (Vm call.now) findings.now
         → TablesStand setup.now (rows_of tables.new) (done_by setup.now tid.0 (Vm call.now) p)) }
     ensures room { OnOk result (KeepsRoom tables.old tables.new tid.0 (Vm call.now)) }
     ensures err { OnErr result (rows_of tables.new ≡ rows_of tables.old) }
@@ -225,16 +253,7 @@ pub(crate) fn perform_vm<A: Allocator + Clone>(
 {
     match call {
         VmCall::AttachCurrentThread => {
-            if tables.threads.is_attached(tid) {
-                tables.threads.attach(tid)?;
-            } else {
-                tables.locals.reserve_start(tid)?;
-                tables.threads.attach(tid)?;
-                match tables.locals.start_thread(tid) {
-                    Ok(()) => {}
-                    Err(_) => unreachable!(),
-                }
-            }
+            attach(tables, setup, tid)?;
             Ok(())
         }
         VmCall::DetachCurrentThread => {
@@ -268,7 +287,7 @@ pub(crate) fn perform_vm<A: Allocator + Clone>(
             Ok(())
         }
         VmCall::Collect => {
-            collect(tables, held);
+            collect(tables, findings);
             Ok(())
         }
     }

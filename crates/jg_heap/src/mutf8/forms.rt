@@ -1,3 +1,5 @@
+//! The forms of one, two and three bytes that spell a unit in modified UTF-8.
+
 ghost use Rattle.std.specs.Prelude.{◌≡◌, ℕ, ◌+◌, ◌<◌, ◌≢◌, ◌^◌, length, IfSome, IfNone, MatchOption, Some};
 ghost use Rattle.jg_heap.specs.Forms.{One, Two, Three};
 ghost use Rattle.jg_heap.specs.Spelling.{spelling, Starts};

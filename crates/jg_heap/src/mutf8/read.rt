@@ -1,3 +1,5 @@
+//! The units that bytes in modified UTF-8 spell.
+
 ghost use Rattle.std.specs.Prelude.{◌≡◌, ℕ, ◌+◌, ◌<◌, ◌≤◌, ◌↔◌, ◌++◌, ◌^◌, List, ℤ, pos, length, drop, map, IfOk, IfSome, IfNone, IsTrue, is_some};
 ghost use Rattle.jg_heap.specs.Spelling.{spelling, IsSpelt, IsSpeltInItems, IsByte, IsByteAt};
 ghost use Rattle.std.specs.Option.{option_map};

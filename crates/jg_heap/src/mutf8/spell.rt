@@ -1,3 +1,5 @@
+//! The bytes in modified UTF-8 of the units of a string, and how many there are.
+
 ghost use Rattle.std.specs.Prelude.{◌≡◌, ◌+◌, ◌*◌, ◌<◌, ◌≤◌, ◌++◌, length, IfOk, OnOk};
 ghost use Rattle.jg_heap.specs.Spelling.{spelling, spelt};
 

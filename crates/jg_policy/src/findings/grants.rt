@@ -64,7 +64,8 @@ fn operations_fault(values: &[Value]) -> Option<SetupFault>
 }
 
 fn required_operations(table: &Table) -> Option<SetupFault>
-    ensures { result ≡ first_of (required (array_faults operation_faults) (get_member (codes "operations") (table_view table.now))) }
+    ensures { result
+        ≡ first_of (required (array_faults operation_faults) (get_member (codes "operations") (table_view table.now))) }
 {
     match value_at(table, "operations") {
         None => Some(SetupFault::Missing),
@@ -106,7 +107,8 @@ fn grants_fault(values: &[Value]) -> Option<SetupFault>
 
 /// The first fault of the grants, which may be missing.
 pub(crate) fn optional_grants(table: &Table) -> Option<SetupFault>
-    ensures { result ≡ first_of (optional (array_faults grant_faults) (get_member (codes "grant") (table_view table.now))) }
+    ensures { result
+        ≡ first_of (optional (array_faults grant_faults) (get_member (codes "grant") (table_view table.now))) }
 {
     match value_at(table, "grant")?.as_array() {
         None => Some(SetupFault::BadType),

@@ -42,7 +42,7 @@ impl Settled {
 const JAVA_BASE: &str = "java.base";
 
 /// Settles each class of a text, in their order.
-pub(crate) fn settle(
+pub(crate) fn settle_classes(
     alloc: Global,
     mode: Mode,
     grants: &[Grant],

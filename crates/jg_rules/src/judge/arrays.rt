@@ -1,9 +1,12 @@
+//! The calls on arrays: lengths and items that fit (rule 12).
+
 ghost use Rattle.std.specs.Prelude.{◌≡◌, ℕ};
 ghost use Rattle.jg_words.specs.declared.call.Call.TheVariants.{Arrays};
 ghost use Rattle.jg_policy.specs.Stated.{StatedSetup};
 ghost use Rattle.jg_rules.specs.Parts.{Parts};
 ghost use Rattle.jg_rules.specs.Rules.{is_size as is_array_length, own_verdict};
 
+use super::broken_if;
 use super::numbers::{all_fit, is_too_long};
 use jg_words::{ArraysCall, Rule};
 
@@ -33,9 +36,5 @@ pub(crate) fn judge_arrays(call: &ArraysCall) -> Option<Rule>
         ArraysCall::GetObjectArrayElement { .. } => false,
         ArraysCall::SetObjectArrayElement { .. } => false,
     };
-    if is_wrong {
-        Some(Rule::BadArgument)
-    } else {
-        None
-    }
+    broken_if(is_wrong, Rule::BadArgument)
 }

@@ -1,3 +1,5 @@
+//! The calls on buffers: the call's own, open buffer (rule 11), and numbers that fit (rule 12).
+
 ghost use Rattle.std.specs.Prelude.{◌≡◌};
 ghost use Rattle.jg_words.specs.declared.call.Call.TheVariants.{Buffers};
 ghost use Rattle.jg_rules.specs.Buffers as buffers_of;
@@ -6,6 +8,7 @@ ghost use Rattle.jg_rules.specs.Rules as rules_of;
 ghost use Rattle.jg_rules.specs.Rules.{buffers_bad_buffer, buffers_bad_argument, own_verdict};
 ghost use Rattle.jg_rules.specs.View.{ViewTells};
 
+use super::broken_if;
 use super::numbers::fits;
 use crate::buffer::{
     buffer_named, is_anothers, is_of_array, is_of_family, is_of_object, is_place, item_type,
@@ -24,7 +27,8 @@ fn is_releasable<A: Allocator + Clone, S: Store>(
     object: Ref,
     buffer: BufId,
 ) -> bool
-    ensures { (p : Parts) → ViewTells S.Tells view.now p → result ≡ rules_of.is_releasable p tid.0 family object buffer }
+    ensures { (p : Parts) → ViewTells S.Tells view.now p
+        → result ≡ rules_of.is_releasable p tid.0 family object buffer }
 {
     match buffer_named(view, buffer) {
         None => false,
@@ -184,9 +188,7 @@ pub(crate) fn judge_buffers<A: Allocator + Clone, S: Store>(
 {
     if is_bad_buffer(view, tid, call) {
         Some(Rule::BadBuffer)
-    } else if is_bad_argument(view, call) {
-        Some(Rule::BadArgument)
     } else {
-        None
+        broken_if(is_bad_argument(view, call), Rule::BadArgument)
     }
 }

@@ -1,9 +1,12 @@
+//! The calls on frames: a capacity in bounds (rule 12), and a pushed frame to pop (rule 15).
+
 ghost use Rattle.std.specs.Prelude.{◌≡◌};
 ghost use Rattle.jg_words.specs.declared.call.Call.TheVariants.{Frames};
 ghost use Rattle.jg_rules.specs.Parts.{Parts};
 ghost use Rattle.jg_rules.specs.Rules.{own_verdict};
 ghost use Rattle.jg_rules.specs.View.{ViewTells};
 
+use super::broken_if;
 use crate::store::Store;
 use crate::view::View;
 use jg_words::{FramesCall, Rule, Tid};
@@ -22,18 +25,8 @@ pub(crate) fn judge_frames<A: Allocator + Clone, S: Store>(
 {
     match call {
         FramesCall::PushLocalFrame { capacity } | FramesCall::EnsureLocalCapacity { capacity } => {
-            if *capacity < 0 || *capacity > MAX_CAPACITY {
-                Some(Rule::BadArgument)
-            } else {
-                None
-            }
+            broken_if(*capacity < 0 || *capacity > MAX_CAPACITY, Rule::BadArgument)
         }
-        FramesCall::PopLocalFrame { .. } => {
-            if view.locals.can_pop(tid) {
-                None
-            } else {
-                Some(Rule::BadFrame)
-            }
-        }
+        FramesCall::PopLocalFrame { .. } => broken_if(!view.locals.can_pop(tid), Rule::BadFrame),
     }
 }

@@ -1,9 +1,12 @@
+//! The calls on monitors: who exits one owns it (rule 14).
+
 ghost use Rattle.std.specs.Prelude.{◌≡◌, option_map};
 ghost use Rattle.jg_words.specs.declared.call.Call.TheVariants.{Monitors};
 ghost use Rattle.jg_rules.specs.Parts.{Parts};
 ghost use Rattle.jg_rules.specs.Rules.{is_not_owned, own_verdict};
 ghost use Rattle.jg_rules.specs.View.{ViewTells};
 
+use super::broken_if;
 use crate::named::object_named;
 use crate::store::Store;
 use crate::view::View;
@@ -16,7 +19,8 @@ pub fn is_not_the_owner<A: Allocator + Clone, S: Store>(
     tid: Tid,
     object: Option<ObjId>,
 ) -> bool
-    ensures { (p : Parts) → ViewTells S.Tells view.now p → result ≡ is_not_owned p tid.0 (option_map (λ o. o.0) object) }
+    ensures { (p : Parts) → ViewTells S.Tells view.now p
+        → result ≡ is_not_owned p tid.0 (option_map (λ o. o.0) object) }
 {
     match object {
         None => false,
@@ -39,11 +43,8 @@ pub(crate) fn judge_monitors<A: Allocator + Clone, S: Store>(
     match call {
         MonitorsCall::MonitorEnter { .. } => None,
         MonitorsCall::MonitorExit { of } => {
-            if is_not_the_owner(view, tid, object_named(view, tid, *of)) {
-                Some(Rule::NotOwner)
-            } else {
-                None
-            }
+            let object = object_named(view, tid, *of);
+            broken_if(is_not_the_owner(view, tid, object), Rule::NotOwner)
         }
     }
 }

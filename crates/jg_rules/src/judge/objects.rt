@@ -1,3 +1,5 @@
+//! The calls on objects: a field of the object's class and the call's type (rule 10), and a value of it (rule 12).
+
 ghost use Rattle.std.specs.Prelude.{◌≡◌};
 ghost use Rattle.std.specs.Option.{option_map};
 ghost use Rattle.jg_words.specs.declared.call.Call.TheVariants.{Objects};
@@ -54,7 +56,8 @@ fn is_of_class<A: Allocator + Clone, S: Store>(
     class: u32,
     named: Named,
 ) -> bool
-    ensures { (p : Parts) → ViewTells S.Tells view.now p → result ≡ rules_of.is_of_class view.now.setup.now p class named }
+    ensures { (p : Parts) → ViewTells S.Tells view.now p
+        → result ≡ rules_of.is_of_class view.now.setup.now p class named }
 {
     match named {
         Named::Nothing => true,

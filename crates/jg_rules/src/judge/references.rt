@@ -2,7 +2,6 @@
 //! to right, before the next.
 
 ghost use Rattle.std.specs.Prelude.{◌≡◌, ◌∷◌, [], ◌&&◌, nat_le};
-ghost use Rattle.jg_heap.specs.Making as making;
 ghost use Rattle.jg_rules.specs.Parts.{Parts};
 ghost use Rattle.jg_rules.specs.Operands.{is_of, is_plain, listed, operands};
 ghost use Rattle.jg_rules.specs.Rules.{is_foreign, is_not, is_wrong, operands_verdict, refs_wrong_kind, wrong_kind};
@@ -13,14 +12,10 @@ use crate::object::class_of;
 use crate::operand::{ObjectType, Operand, Operands, operands_of};
 use crate::store::Store;
 use crate::view::View;
-use jg_words::{Call, Kind, ObjId, Primitive, Ref, RefsCall, Rule, Tid};
+use jg_words::{
+    CLASS_CLASS, Call, Kind, OBJECT_ARRAY_CLASS, ObjId, Ref, RefsCall, Rule, STRING_CLASS, Tid,
+};
 use std::alloc::Allocator;
-
-const CLASS_CLASS: u32 = 1;
-
-const STRING_CLASS: u32 = 2;
-
-const OBJECT_ARRAY_CLASS: u32 = 3;
 
 /// Whether it is a local reference that another thread was handed.
 pub fn is_foreign_local(tid: Tid, reference: Ref) -> bool
@@ -55,20 +50,6 @@ fn is_primitive_array_class(class: u32) -> bool
     4 <= class && class <= 9
 }
 
-/// The number of the class of arrays of these items.
-fn array_class(element: Primitive) -> u32
-    ensures { result ≡ making.array_class element }
-{
-    match element {
-        Primitive::Boolean => 4,
-        Primitive::Byte => 5,
-        Primitive::Char => 6,
-        Primitive::Short => 7,
-        Primitive::Int => 8,
-        Primitive::Long => 9,
-    }
-}
-
 fn is_object_of<A: Allocator + Clone, S: Store>(
     view: &View<'_, A, S>,
     object_type: ObjectType,
@@ -84,7 +65,7 @@ fn is_object_of<A: Allocator + Clone, S: Store>(
         ObjectType::StringObject => class_of(view, object) == STRING_CLASS,
         ObjectType::AnyArray => is_array_class(class_of(view, object)),
         ObjectType::PrimitiveArray => is_primitive_array_class(class_of(view, object)),
-        ObjectType::ArrayOf(element) => class_of(view, object) == array_class(element),
+        ObjectType::ArrayOf(element) => class_of(view, object) == element.array_class(),
         ObjectType::ObjectArray => class_of(view, object) == OBJECT_ARRAY_CLASS,
     }
 }

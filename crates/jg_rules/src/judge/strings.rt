@@ -1,9 +1,12 @@
+//! The calls on strings: units, bytes and lengths that fit (rule 12).
+
 ghost use Rattle.std.specs.Prelude.{◌≡◌, ℕ};
 ghost use Rattle.jg_words.specs.declared.call.Call.TheVariants.{Strings};
 ghost use Rattle.jg_policy.specs.Stated.{StatedSetup};
 ghost use Rattle.jg_rules.specs.Parts.{Parts};
 ghost use Rattle.jg_rules.specs.Rules.{own_verdict};
 
+use super::broken_if;
 use super::numbers::{all_fit, is_too_long};
 use jg_heap::is_mutf8;
 use jg_words::{Primitive, Rule, StringsCall};
@@ -19,9 +22,5 @@ pub(crate) fn judge_strings(call: &StringsCall) -> Option<Rule>
         StringsCall::GetStringUTFLength { .. } => false,
         StringsCall::GetStringRegion { length, .. } => is_too_long(*length),
     };
-    if is_wrong {
-        Some(Rule::BadArgument)
-    } else {
-        None
-    }
+    broken_if(is_wrong, Rule::BadArgument)
 }

@@ -1,10 +1,13 @@
-ghost use Rattle.std.specs.Prelude.{◌≡◌, ◌<◌, Some};
+//! The calls on the virtual machine: frames, names and native access (rules 12, 15 to 17).
+
+ghost use Rattle.std.specs.Prelude.{◌≡◌, ◌<◌, ℕ, Some};
 ghost use Rattle.jg_words.specs.declared.call.Call.TheVariants.{Vm};
 ghost use Rattle.jg_words.specs.declared.call.vm.VmCall.TheVariants.{NativeEnter};
 ghost use Rattle.jg_rules.specs.Parts.{Parts};
 ghost use Rattle.jg_rules.specs.Rules.{own_verdict};
 ghost use Rattle.jg_rules.specs.View.{ViewTells};
 
+use super::broken_if;
 use crate::access::is_refused_to;
 use crate::named::{class_meant, native_meant};
 use crate::store::Store;
@@ -15,15 +18,13 @@ use std::alloc::Allocator;
 
 fn judge_enter<A: Allocator + Clone, S: Store>(
     view: &View<'_, A, S>,
-    tid: Tid,
     class: &Name,
     method: &Name,
     signature: &Name,
 ) -> Option<Rule>
-    ensures { (p : Parts) → ViewTells S.Tells view.now p → result
-        ≡ own_verdict view.now.setup.now p tid.0 (Vm (NativeEnter class.now method.now signature.now)) }
+    ensures { (p : Parts) (t : ℕ) → ViewTells S.Tells view.now p → result
+        ≡ own_verdict view.now.setup.now p t (Vm (NativeEnter class.now method.now signature.now)) }
 {
-    let _tid = tid;
     let found = view.setup.class_named(class);
     let Some(class) = found else {
         return Some(Rule::BadArgument);
@@ -33,13 +34,7 @@ fn judge_enter<A: Allocator + Clone, S: Store>(
     }
     match native_meant(view.setup, Some(class), method, signature) {
         None => Some(Rule::NotLinked),
-        Some(native) => {
-            if view.links.linked(class, native) {
-                None
-            } else {
-                Some(Rule::NotLinked)
-            }
-        }
+        Some(native) => broken_if(!view.links.linked(class, native), Rule::NotLinked),
     }
 }
 
@@ -49,46 +44,36 @@ pub(crate) fn judge_vm<A: Allocator + Clone, S: Store>(
     tid: Tid,
     call: &VmCall,
 ) -> Option<Rule>
-    ensures { (p : Parts) → ViewTells S.Tells view.now p → result ≡ own_verdict view.now.setup.now p tid.0 (Vm call.now) }
+    ensures { (p : Parts) → ViewTells S.Tells view.now p
+        → result ≡ own_verdict view.now.setup.now p tid.0 (Vm call.now) }
 {
     match call {
         VmCall::AttachCurrentThread => None,
-        VmCall::DetachCurrentThread => {
-            if view.threads.depth(tid) > 0 {
-                Some(Rule::BadFrame)
-            } else {
-                None
-            }
-        }
+        VmCall::DetachCurrentThread => broken_if(view.threads.depth(tid) > 0, Rule::BadFrame),
         VmCall::GetEnv => None,
         VmCall::NativeEnter {
             class,
             method,
             signature,
-        } => judge_enter(view, tid, class, method, signature),
-        VmCall::NativeLeave { .. } => {
-            if view.threads.depth(tid) == 0 {
-                Some(Rule::BadFrame)
-            } else {
-                None
-            }
-        }
+        } => judge_enter(view, class, method, signature),
+        VmCall::NativeLeave { .. } => broken_if(view.threads.depth(tid) == 0, Rule::BadFrame),
         VmCall::LoadLibrary { class, .. } => {
             let found = view.setup.class_named(class);
             if found.is_none() {
                 Some(Rule::BadArgument)
-            } else if is_refused_to(view, Operation::Load, found) {
-                Some(Rule::NoNativeAccess)
             } else {
-                None
+                broken_if(
+                    is_refused_to(view, Operation::Load, found),
+                    Rule::NoNativeAccess,
+                )
             }
         }
         VmCall::RegisterNatives { class, .. } => {
-            if is_refused_to(view, Operation::Register, class_meant(view, tid, *class)) {
-                Some(Rule::NoNativeAccess)
-            } else {
-                None
-            }
+            let class = class_meant(view, tid, *class);
+            broken_if(
+                is_refused_to(view, Operation::Register, class),
+                Rule::NoNativeAccess,
+            )
         }
         VmCall::UnregisterNatives { .. } => None,
         VmCall::Collect => None,

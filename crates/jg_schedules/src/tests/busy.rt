@@ -1,3 +1,5 @@
+//! A monitor that another thread owns: each of the turns is answered as busy.
+
 use super::plays::{Plan, Played, run};
 use super::schedule::{Event, Hold};
 use jg_rows::setups::CLOSED;

@@ -1,3 +1,5 @@
+//! A limit that several threads meet, in several orders of their calls.
+
 use super::plays::{Plan, Played, run};
 use super::schedule::{Event, Hold};
 use jg_rows::setups::CLOSED;

@@ -1,3 +1,5 @@
+//! The worked row `pin_through_global`, with the deletions of its reference at each place among the other calls.
+
 use super::orders::one_by_one;
 use super::plays::{Plan, Played, run};
 use super::schedule::{Event, Hold};

@@ -1,3 +1,5 @@
+//! Tests of the blocks of the journal: items by their places, and blocks that are refused.
+
 use jg_blocks::Blocks;
 use linked_list_allocator::LocalHeap;
 use std::alloc::{AllocError, Allocator};

@@ -1,3 +1,5 @@
+//! Tests of the table of buffers: pins, copies, what is listed and counted, and refused growths.
+
 ghost use Rattle.std.specs.Prelude.{◌≡◌, ℕ, false};
 ghost use Rattle.jg_buffers.specs.History.{is_null};
 ghost use Rattle.jg_buffers.specs.Rows.{IsAbove};

@@ -1,3 +1,5 @@
+//! Tests of the table of global and weak references: what they name and hold, deletions, and refused growths.
+
 ghost use Rattle.std.specs.Prelude.{ℕ};
 ghost use Rattle.jg_globals.specs.Rows.{IsAbove};
 

@@ -1,3 +1,5 @@
+//! Tests of the store of objects, by what it does.
+
 mod bounds;
 mod collections;
 mod large;

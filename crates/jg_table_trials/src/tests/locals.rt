@@ -1,3 +1,5 @@
+//! Tests of the table of local references: frames, native methods, deletions, many threads, and refused growths.
+
 use jg_lists::ObjectMarks;
 use jg_locals::Locals;
 use jg_words::{Kind, ObjId, Ref, Tid};

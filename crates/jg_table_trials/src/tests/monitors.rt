@@ -1,3 +1,5 @@
+//! Tests of the table of monitors: who owns which and how often, and refused growths.
+
 use super::ballast;
 use jg_lists::{Marking, ObjectMarks};
 use jg_monitors::{Entering, Monitors, OwnedMonitor};

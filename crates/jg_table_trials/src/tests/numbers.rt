@@ -1,3 +1,5 @@
+//! Tests of values by number, whose memory follows what is there at once.
+
 use jg_lists::ByNumber;
 use linked_list_allocator::LocalHeap;
 use std::alloc::Allocator;

@@ -1,3 +1,5 @@
+//! Tests of the core's store of objects: what is met and gone, marks, and the memory that it takes.
+
 ghost use Rattle.std.specs.Prelude.{◌≡◌};
 
 use super::ballast;

@@ -1,3 +1,5 @@
+//! Tests of the table of threads: sessions, next numbers, exceptions, and refused attachments.
+
 use jg_lists::ObjectMarks;
 use jg_threads::Threads;
 use jg_words::{EnvId, ObjId, Tid};

@@ -1,3 +1,5 @@
+//! Tests of where a faulty line is said to be wrong, with one row for each fault.
+
 use jg_faults::push_line_fault;
 use jg_text::{ScriptFault, read_call};
 use std::alloc::Global;
@@ -73,7 +75,8 @@ const TOLD: [(&[u8], ScriptFault, &str); 47] = [
     (
         b"T1 E1.1 ReleasePrimitiveArrayCriticalsx",
         ScriptFault::UnknownFunction,
-        "field 3, column 9: ReleasePrimitiveArrayCriticalsx is no function; did you mean ReleasePrimitiveArrayCritical?\n",
+        "field 3, column 9: ReleasePrimitiveArrayCriticalsx is no function; \
+        did you mean ReleasePrimitiveArrayCritical?\n",
     ),
     (
         b"T1 E1.1 NewLocaRe null",
@@ -94,7 +97,8 @@ const TOLD: [(&[u8], ScriptFault, &str); 47] = [
     (
         b"T1 - AAAAAAAAAAAAAAAAAAAAAAAAAAAAAAAAAAAAAAAAAAAAAAAAAAAAAAAAAAAAB",
         ScriptFault::UnknownFunction,
-        "field 3, column 6: AAAAAAAAAAAAAAAAAAAAAAAAAAAAAAAAAAAAAAAAAAAAAAAAAAAAAAAAAAAA.. is no function; a function of the JNI is wanted\n",
+        "field 3, column 6: AAAAAAAAAAAAAAAAAAAAAAAAAAAAAAAAAAAAAAAAAAAAAAAAAAAAAAAAAAAA.. is no function; \
+        a function of the JNI is wanted\n",
     ),
     (
         b"T1 E1.1 GetStringLength",

@@ -1,3 +1,5 @@
+//! Tests of `read_call`: the first fault of a line, lines of full length, and calls that are read.
+
 use jg_text::{MAX_LINE, ScriptFault, read_call, write_entry};
 use jg_words::{
     ArraysCall, BufId, BuffersCall, Call, Entry, EnvId, ExceptionsCall, FieldId, FramesCall, Items,

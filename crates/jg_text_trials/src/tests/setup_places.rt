@@ -1,3 +1,5 @@
+//! Tests of where a faulty setup is said to be wrong, with rows for each fault.
+
 use jg_faults::push_setup_fault;
 use jg_policy::{Setup, SetupFault};
 use std::alloc::{AllocError, Global};

@@ -1,3 +1,5 @@
+//! Tests of `Setup::read`: the first fault, the limits, names and numbers, links and warnings.
+
 use jg_policy::{Access, Links, Operation, Setup, SetupFault};
 use jg_words::{FieldId, Name};
 use linked_list_allocator::LocalHeap;

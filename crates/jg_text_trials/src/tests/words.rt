@@ -1,3 +1,5 @@
+//! Tests of lists, names, functions and copies of calls.
+
 use jg_words::{Call, Fun, Items, MAX_ITEMS, MAX_NAME, Name, NameFault, StringsCall};
 use std::alloc::Global;
 use std::test::Fail;

@@ -1,3 +1,5 @@
+//! Tests of `jg_caller`: what reaches a machine of the caller's own, and which denials are listed.
+
 ghost use Rattle.std.specs.Prelude.{◌≡◌, false, map, reverse};
 ghost use Rattle.jg_words.specs.Call.{fun_of};
 

@@ -1,3 +1,5 @@
+//! Tests without memory left: what a call gives back, and a denial, are never refused for want of it.
+
 use super::growths::{SETUP, goes_through, spelt};
 use super::guarded;
 use jg_guard::Guard;

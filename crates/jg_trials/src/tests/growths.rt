@@ -1,3 +1,5 @@
+//! Calls over a heap that has too little left: each growth is refused in turn, and later the call is answered.
+
 use super::cleaning::exhaust;
 use super::guarded;
 use jg_guard::{Guard, Leaks, Refusal};

@@ -1,3 +1,5 @@
+//! Tests of a new guard: `judge`, `call`, the limit and the journal.
+
 use super::{CLOSED, guarded, setup};
 use jg_guard::{Guard, Refusal};
 use jg_words::{Call, EnvId, FramesCall, Outcome, Rule, Tid, Value, VmCall};

@@ -1,3 +1,5 @@
+//! Tests of `verify`: journals that are read back, slow and failing readers, and memory that is refused.
+
 use super::{CLOSED, FIRST_PATH, FIRST_PATH_ANSWERED, faulty, first_block, repeated, setup};
 use jg_script::{RunFault, Verdict, Watched, verify};
 use linked_list_allocator::LocalHeap;

@@ -1,3 +1,5 @@
+//! Tests of `Guard::leaks`: all that is left behind is listed, or the list is refused for want of memory.
+
 use super::growths::{Growth, Kept, OPENING, SETUP, leave, open};
 use super::guarded;
 use jg_guard::{Guard, Leaks};

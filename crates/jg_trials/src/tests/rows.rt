@@ -1,3 +1,5 @@
+//! The calls of the worked rows, each refused for want of memory before it is answered.
+
 use super::growths::{Growth, ROOM, is_refused, refusals};
 use jg_rows::setups::{CLOSED, TWO_MODULES};
 use jg_rows::{

@@ -1,3 +1,5 @@
+//! Tests of `check`: answers and faults, slow and failing devices, and memory that is refused.
+
 use super::{
     CLOSED, FIRST_PATH, FIRST_PATH_ANSWERED, check_anew, check_with, faulty, first_block, guarded,
     repeated, setup,
@@ -33,10 +35,10 @@ fn run<R: BufRead + Drop>(alloc: Global, script: R, limit: u32, room: u32) -> Re
 }
 
 /// How a script is to end, and the text that is to be written.
-type Ending<'a> = (Result<u64, RunFault>, &'a str);
+type ResultAndText<'a> = (Result<u64, RunFault>, &'a str);
 
 /// What isn't so where a script ends as wanted, with devices that don't fail; nothing where all is.
-fn difference(done: &Done, (ended, text): Ending<'_>) -> Option<&'static str> {
+fn difference(done: &Done, (ended, text): ResultAndText<'_>) -> Option<&'static str> {
     if done.result != ended {
         Some("it ends otherwise")
     } else if done.written.as_slice() != text.as_bytes() {
@@ -54,7 +56,7 @@ fn ends_so<R: BufRead + Drop>(
     script: R,
     limit: u32,
     room: u32,
-    ending: Ending<'_>,
+    ending: ResultAndText<'_>,
 ) -> Result<Option<&'static str>, Fail> {
     let done = run(alloc, script, limit, room)?;
     Ok(difference(&done, ending))
@@ -66,7 +68,7 @@ fn read_so(
     text: &str,
     (most, capacity): (usize, usize),
     (limit, room): (u32, u32),
-    ending: Ending<'_>,
+    ending: ResultAndText<'_>,
 ) -> Result<Option<&'static str>, Fail> {
     let device = faulty(alloc, text, u32::MAX, most)?;
     let reader = BufReader::with_capacity(alloc, capacity, device)?;

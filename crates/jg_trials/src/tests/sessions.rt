@@ -1,3 +1,5 @@
+//! A sender that waits for each answer before it sends the next line.
+
 use super::{FIRST_PATH, check_anew};
 use jg_script::{RunFault, Watched};
 use std::alloc::Global;

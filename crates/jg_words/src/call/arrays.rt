@@ -1,3 +1,5 @@
+//! Calls on arrays, with their operands.
+
 ghost use Rattle.std.specs.Prelude.{◌≡◌, IfOk};
 ghost use Rattle.jg_words.specs.Call.{arrays_fun};
 

@@ -1,3 +1,5 @@
+//! Calls that lend buffers, take them back, and read and write their memory, with their operands.
+
 ghost use Rattle.std.specs.Prelude.{◌≡◌};
 ghost use Rattle.jg_words.specs.Call.{buffers_fun};
 

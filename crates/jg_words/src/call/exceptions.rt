@@ -1,3 +1,5 @@
+//! Calls on the pending exception, with their operands.
+
 ghost use Rattle.std.specs.Prelude.{◌≡◌};
 ghost use Rattle.jg_words.specs.Call.{exceptions_fun};
 

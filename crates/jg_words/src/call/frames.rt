@@ -1,3 +1,5 @@
+//! Calls on frames of local references, with their operands.
+
 ghost use Rattle.std.specs.Prelude.{◌≡◌};
 ghost use Rattle.jg_words.specs.Call.{frames_fun};
 

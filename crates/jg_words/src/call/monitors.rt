@@ -1,3 +1,5 @@
+//! Calls that enter and exit monitors, with their operands.
+
 ghost use Rattle.std.specs.Prelude.{◌≡◌};
 ghost use Rattle.jg_words.specs.Call.{monitors_fun};
 

@@ -1,3 +1,5 @@
+//! Calls on classes, objects and fields, with their operands.
+
 ghost use Rattle.std.specs.Prelude.{◌≡◌, IfOk};
 ghost use Rattle.jg_words.specs.Call.{objects_fun};
 

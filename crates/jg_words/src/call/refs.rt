@@ -1,3 +1,5 @@
+//! Calls that make, delete and compare references, with their operands.
+
 ghost use Rattle.std.specs.Prelude.{◌≡◌};
 ghost use Rattle.jg_words.specs.Call.{refs_fun};
 

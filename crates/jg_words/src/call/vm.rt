@@ -1,3 +1,5 @@
+//! Calls on attachment, native methods and libraries, and the collector's, with their operands.
+
 ghost use Rattle.std.specs.Prelude.{◌≡◌, IfOk};
 ghost use Rattle.jg_words.specs.Call.{vm_fun};
 

@@ -1,3 +1,5 @@
+//! The functions on arrays, and their names.
+
 ghost use Rattle.std.specs.Prelude.{◌≡◌};
 ghost use Rattle.jg_words.specs.Fun.{arrays_name};
 

@@ -1,3 +1,5 @@
+//! The functions on buffers: their names, and when each may be called.
+
 ghost use Rattle.std.specs.Prelude.{◌≡◌};
 ghost use Rattle.jg_words.specs.Fun.{buffers_name, buffers_needs_env};
 ghost use Rattle.jg_words.specs.Passing.{buffers_passes_critical, buffers_passes_pending};

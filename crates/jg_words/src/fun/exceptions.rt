@@ -1,3 +1,5 @@
+//! The functions on exceptions: their names, and which may be called with an exception pending.
+
 ghost use Rattle.std.specs.Prelude.{◌≡◌};
 ghost use Rattle.jg_words.specs.Fun.{exceptions_name};
 ghost use Rattle.jg_words.specs.Passing.{exceptions_passes_pending};

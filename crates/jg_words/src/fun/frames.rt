@@ -1,3 +1,5 @@
+//! The functions on frames: their names, and which may be called with an exception pending.
+
 ghost use Rattle.std.specs.Prelude.{◌≡◌};
 ghost use Rattle.jg_words.specs.Fun.{frames_name};
 ghost use Rattle.jg_words.specs.Passing.{frames_passes_pending};

@@ -1,3 +1,5 @@
+//! The functions on monitors: their names, and which may be called with an exception pending.
+
 ghost use Rattle.std.specs.Prelude.{◌≡◌};
 ghost use Rattle.jg_words.specs.Fun.{monitors_name};
 ghost use Rattle.jg_words.specs.Passing.{monitors_passes_pending};

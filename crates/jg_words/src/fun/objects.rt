@@ -1,3 +1,5 @@
+//! The functions on classes, objects and fields, and their names.
+
 ghost use Rattle.std.specs.Prelude.{◌≡◌};
 ghost use Rattle.jg_words.specs.Fun.{objects_name};
 

@@ -1,3 +1,5 @@
+//! The functions on references: their names, and which may be called with an exception pending.
+
 ghost use Rattle.std.specs.Prelude.{◌≡◌};
 ghost use Rattle.jg_words.specs.Fun.{refs_name};
 ghost use Rattle.jg_words.specs.Passing.{refs_passes_pending};

@@ -1,3 +1,5 @@
+//! The functions on strings, and their names.
+
 ghost use Rattle.std.specs.Prelude.{◌≡◌};
 ghost use Rattle.jg_words.specs.Fun.{strings_name};
 

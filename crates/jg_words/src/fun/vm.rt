@@ -1,3 +1,5 @@
+//! The functions on attachment, native methods, libraries and the collector: their names, and when each may be called.
+
 ghost use Rattle.std.specs.Prelude.{◌≡◌};
 ghost use Rattle.jg_words.specs.Fun.{vm_name, vm_needs_env};
 ghost use Rattle.jg_words.specs.Passing.{vm_passes_pending};

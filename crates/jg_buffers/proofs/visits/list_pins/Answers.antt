@@ -11,7 +11,9 @@ use Rattle.jg_buffers.proofs.visits.list_pins.Goals as goal
 
 pub loop-table-preserved : goal.loop-table-preserved
 loop-table-preserved g c =
-    listed_more key_name c.seats-table-items.result.now c.loop-table.table-index c.table-item.result c.args.buffers.now.items c.loop-table.buffers.items c.list_in.new.buffers.items c.loop-table-test.true c.loop-table.invariant
+    listed_more key_name c.seats-table-items.result.now c.loop-table.table-index c.table-item.result
+    c.args.buffers.now.items c.loop-table.buffers.items c.list_in.new.buffers.items c.loop-table-test.true
+    c.loop-table.invariant
     (subst (λ (table : Numbered (List (ℕ × Pinned))). c.list_in.new.buffers.items ≡ c.loop-table.buffers.items ++ map (λ e. key_name (table.number, e.0)) table.value) c.table-item.is
     c.in_ok-list_in.ensures.ok)
 

@@ -12,9 +12,13 @@ use Rattle.jg_buffers.proofs.visits.list_pins_through.Goals as goal
 
 pub loop-table-preserved : goal.loop-table-preserved
 loop-table-preserved g c =
-    passing_more key_name (λ (e : Name × Pinned). same_ref e.1.via c.args.via) c.seats-table-items.result.now c.loop-table.table-index c.table-item.result c.args.buffers.now.items c.loop-table.buffers.items c.list_in_through.new.buffers.items
+    passing_more key_name (λ (e : Name × Pinned). same_ref e.1.via c.args.via) c.seats-table-items.result.now
+    c.loop-table.table-index c.table-item.result c.args.buffers.now.items c.loop-table.buffers.items
+    c.list_in_through.new.buffers.items
     c.loop-table-test.true c.loop-table.invariant
-    (subst (λ (table : Numbered (List (ℕ × Pinned))). c.list_in_through.new.buffers.items ≡ c.loop-table.buffers.items ++ map (λ e. key_name (table.number, e.0)) (filter (λ e. same_ref e.1.via c.args.via) table.value)) c.table-item.is
+    (subst (λ (table : Numbered (List (ℕ × Pinned))). c.list_in_through.new.buffers.items
+    ≡ c.loop-table.buffers.items ++ map (λ e. key_name (table.number, e.0))
+    (filter (λ e. same_ref e.1.via c.args.via) table.value)) c.table-item.is
     c.in_ok-list_in_through.ensures)
 
 pub returns : goal.returns

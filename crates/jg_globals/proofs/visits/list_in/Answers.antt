@@ -6,4 +6,6 @@ use Rattle.jg_globals.proofs.visits.list_in.Goals as goal
 
 pub returns-clause-ok : goal.returns-clause-ok
 returns-clause-ok g c = on_ok_weaker c.list_numbers.result
-    (λ listed. listed ∙ ap (λ l. c.args.refs.now.items ++ l) (seat_names (λ n. ref_named c.args.kind (c.args.maker, n)) c.seats.result.now c.args.numbers.now c.seats.ensures.seats)) c.list_numbers.ensures.ok
+    (λ listed. listed ∙ ap (λ l. c.args.refs.now.items ++ l)
+    (seat_names (λ n. ref_named c.args.kind (c.args.maker, n)) c.seats.result.now c.args.numbers.now
+    c.seats.ensures.seats)) c.list_numbers.ensures.ok

@@ -10,7 +10,8 @@ use Rattle.jg_globals.proofs.visits.list_names.Goals as goal
 
 pub loop-table-preserved : goal.loop-table-preserved
 loop-table-preserved g c =
-    listed_more (ref_named c.args.kind) c.seats-table-items.result.now c.loop-table.table-index c.table-item.result c.args.refs.now.items c.loop-table.refs.items c.list_in.new.refs.items c.loop-table-test.true c.loop-table.invariant
+    listed_more (ref_named c.args.kind) c.seats-table-items.result.now c.loop-table.table-index c.table-item.result
+    c.args.refs.now.items c.loop-table.refs.items c.list_in.new.refs.items c.loop-table-test.true c.loop-table.invariant
     (subst (λ (table : Numbered (List (ℕ × g.row.V.Denot))). c.list_in.new.refs.items ≡ c.loop-table.refs.items ++ map (λ e. ref_named c.args.kind (table.number, e.0)) table.value) c.table-item.is
     c.in_ok-list_in.ensures.ok)
 

@@ -3,12 +3,12 @@ use Rattle.jg_words.specs.declared.call.Call.TheVariants.{Vm}
 use Rattle.jg_words.specs.declared.call.vm.VmCall.TheVariants.{Collect}
 use Rattle.jg_heap.specs.Standing.{MarksHeld}
 use Rattle.jg_rules.specs.Holding.{roots}
-use Rattle.jg_guard.specs.Held.{Finds}
+use Rattle.jg_guard.specs.Findings.{Finds}
 use Rattle.jg_guard.proofs.collect.find_held_for.Goals as goal
 
 pub returns-in_ok-find_held-in-Collect-clause-found : goal.returns-in_ok-find_held-in-Collect-clause-found
 returns-in_ok-find_held-in-Collect-clause-found g c = λ p stands.
-    let held = c.find_held.new.held in
+    let held = c.find_held.new.findings in
     let found : Finds c.args.view.now.setup.now p (Vm Collect) held =
     record {
       marks = subst (λ (k : ℕ). MarksHeld k (roots c.args.view.now.setup.now p) p.heap held.marks) stands.heap.classes (c.in_ok-find_held-in-Collect.ensures.marks p stands);

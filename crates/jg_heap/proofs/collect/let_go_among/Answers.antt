@@ -19,13 +19,17 @@ loop-object-preserved g c =
           let both = both_are (get_or cur object false) (held object) (sym c.is_let_go.ensures ∙ w.if-is_let_go.true) in
           let less = trues_less cur object both.0 in
           rw (w.there-is, w.count-is) (
-            lets_row held c.args.first object c.args.there.now _ (omega arith) (lets_go held (range_with_len c.args.first (object - c.args.first)) c.args.there.now cur object within c.loop-object.invariant.0 both.1),
+            lets_row held c.args.first object c.args.there.now _ (omega arith)
+                (lets_go held (range_with_len c.args.first (object - c.args.first)) c.args.there.now cur object within
+                c.loop-object.invariant.0 both.1),
             omega (arith, less, c.loop-object.invariant.1),
             omega (arith, c.loop-object.invariant.2),
           )
       | else-is_let_go w ↦
           rw (w.there-is, w.count-is) (
-            lets_row held c.args.first object c.args.there.now cur (omega arith) (lets_stay held (range_with_len c.args.first (object - c.args.first)) c.args.there.now cur object c.loop-object.invariant.0 (sym c.is_let_go.ensures ∙ w.if-is_let_go.false)),
+            lets_row held c.args.first object c.args.there.now cur (omega arith)
+                (lets_stay held (range_with_len c.args.first (object - c.args.first)) c.args.there.now cur object
+                c.loop-object.invariant.0 (sym c.is_let_go.ensures ∙ w.if-is_let_go.false)),
             c.loop-object.invariant.1,
             omega (arith, c.loop-object.invariant.2),
           )

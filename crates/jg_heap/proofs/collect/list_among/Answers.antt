@@ -19,10 +19,15 @@ loop-object-preserved g c =
     let n = c.loop-object.object - c.args.first in
     let last : c.args.first + n ≡ c.loop-object.object = omega (arith, c.loop-object.auto.object) in
     let count : c.loop-object.object + 1 - c.args.first ≡ n + 1 = omega (arith, c.loop-object.auto.object) in
-    let more : filter p (range_with_len c.args.first (c.loop-object.object + 1 - c.args.first)) ≡ filter p (range_with_len c.args.first n) ++ cond (p c.loop-object.object) (c.loop-object.object ∷ []) [] =
+    let more : filter p (range_with_len c.args.first (c.loop-object.object + 1 - c.args.first))
+    ≡ filter p (range_with_len c.args.first n) ++ cond (p c.loop-object.object) (c.loop-object.object ∷ []) [] =
     ap (λ k. filter p (range_with_len c.args.first k)) count ∙ filter_range_more p c.args.first n ∙ ap (λ o. filter p (range_with_len c.args.first n) ++ cond (p o) (o ∷ []) []) last in
-    let all : c.args.unheld.now.items ++ filter p (range_with_len c.args.first (c.loop-object.object + 1 - c.args.first)) ≡ c.loop-object.unheld.items ++ cond c.is_unheld.result (c.loop-object.object ∷ []) [] =
-    ap (λ (os : List ℕ). c.args.unheld.now.items ++ os) more ∙ sym (append_assoc c.args.unheld.now.items (filter p (range_with_len c.args.first n)) (cond (p c.loop-object.object) (c.loop-object.object ∷ []) []))
+    let all : c.args.unheld.now.items ++ filter p
+    (range_with_len c.args.first (c.loop-object.object + 1 - c.args.first))
+    ≡ c.loop-object.unheld.items ++ cond c.is_unheld.result (c.loop-object.object ∷ []) [] =
+    ap (λ (os : List ℕ). c.args.unheld.now.items ++ os) more
+    ∙ sym (append_assoc c.args.unheld.now.items (filter p (range_with_len c.args.first n))
+    (cond (p c.loop-object.object) (c.loop-object.object ∷ []) []))
     ∙ ap (λ (os : List ℕ). os ++ cond (p c.loop-object.object) (c.loop-object.object ∷ []) []) (sym c.loop-object.invariant)
     ∙ ap (λ b. c.loop-object.unheld.items ++ cond b (c.loop-object.object ∷ []) []) (sym c.is_unheld.ensures) in
     elim c.if-is_unheld.branch [

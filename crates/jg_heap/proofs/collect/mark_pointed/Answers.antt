@@ -17,7 +17,9 @@ loop-object-preserved g c =
     let i = c.loop-object.object-index in
     let p = get_or c.args.pointing.now i 0 in
     let inside : p < length c.args.objects.now = c.requires i 0 c.loop-object-test.true in
-    let row : row_of_body c.index-objects-object.result ≡ row_in rows p = ap row_of_body c.index-objects-object.is ∙ sym (get_or-map row_of_body c.args.objects.now p c.index-objects-object.result no_row inside) in
+    let row : row_of_body c.index-objects-object.result ≡ row_in rows p =
+    ap row_of_body c.index-objects-object.is
+    ∙ sym (get_or-map row_of_body c.args.objects.now p c.index-objects-object.result no_row inside) in
     marks_item (λ q o. slot_of_row_holds rows o q) c.args.pointing.now i 0 _ _ _ c.loop-object-test.true c.loop-object.invariant
     (marks_alike _ (λ o. slot_of_row_holds rows o p) _ _ (λ o. ap (λ (r : Row). list_any (holds o) r.slots) row) c.mark_slots.ensures)
 

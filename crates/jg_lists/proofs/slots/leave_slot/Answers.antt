@@ -7,7 +7,8 @@ use Rattle.jg_lists.specs.Searches.{filled, Standing, Finds, MayStand, MovesLast
 use Rattle.jg_lists.proofs.Searched.{filled_over, filled_less, leaves}
 use Rattle.jg_lists.proofs.slots.leave_slot.Goals as goal
 
-left : {V : Type 0} (slots new : List ℕ) (seats : List (Numbered V)) (used slot seat mark place : ℕ) → Standing slots (map number_of seats) used → Finds slots (map number_of seats) (get_or (map number_of seats) seat 0) slot seat
+left : {V : Type 0} (slots new : List ℕ) (seats : List (Numbered V)) (used slot seat mark place : ℕ) → Standing slots (map number_of seats) used
+    → Finds slots (map number_of seats) (get_or (map number_of seats) seat 0) slot seat
     → MayStand slots slot mark → place ≡ get_or slots slot place → MovesLast (slice_set slots slot mark) new (map number_of seats) seat place → Leaves new (map number_of seats) seat
 left slots new seats used slot seat mark place standing found may read moves =
     let numbers = map number_of seats in

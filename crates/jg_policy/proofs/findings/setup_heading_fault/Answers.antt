@@ -14,5 +14,6 @@ returns c =
     let unknown : c.unknown_fault-unknown.result ≡ first_of (fault_if (has_unknown_setup_key ms) UnknownKey) =
     c.unknown_fault-unknown.ensures ∙ ap (λ b. first_of (fault_if b UnknownKey)) (ap not c.has_setup_keys.ensures ∙ not_not (has_unknown_setup_key ms)) in
     joined (fault_if (has_unknown_setup_key ms) UnknownKey) (required version_faults (get_member (codes "version") ms) ++ required mode_faults (get_member (codes "illegal_native_access") ms)) unknown
-    (joined (required version_faults (get_member (codes "version") ms)) (required mode_faults (get_member (codes "illegal_native_access") ms)) c.required_version-version.ensures c.required_mode-mode.ensures c.earlier.ensures)
+    (joined (required version_faults (get_member (codes "version") ms))
+    (required mode_faults (get_member (codes "illegal_native_access") ms)) c.required_version-version.ensures c.required_mode-mode.ensures c.earlier.ensures)
     c.earlier-2.ensures

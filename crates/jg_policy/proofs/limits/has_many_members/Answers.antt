@@ -10,5 +10,11 @@ returns-then-fields-gt-MAX_MEMBERS c =
 
 pub returns-else-fields-gt-MAX_MEMBERS : goal.returns-else-fields-gt-MAX_MEMBERS
 returns-else-fields-gt-MAX_MEMBERS c =
-    rw (← c.items_in-fields.ensures, ← c.items_in-natives.ensures, stated_count member_stated c.items_in-fields.result.now, stated_count member_stated c.items_in-natives.result.now, within 100 _ c.if-fields-gt-MAX_MEMBERS.false)
+    rw (
+      ← c.items_in-fields.ensures,
+      ← c.items_in-natives.ensures,
+      stated_count member_stated c.items_in-fields.result.now,
+      stated_count member_stated c.items_in-natives.result.now,
+      within 100 _ c.if-fields-gt-MAX_MEMBERS.false,
+    )
     refl

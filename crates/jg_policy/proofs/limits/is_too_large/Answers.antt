@@ -10,5 +10,12 @@ returns-then-classes-gt-MAX_CLASSES c =
 
 pub returns : goal.returns
 returns c =
-    rw (c.any_has_many_members.ensures, ← c.items_at-classes.ensures, stated_count class_stated c.items_at-classes.result.now, within 1000 _ c.if-classes-gt-MAX_CLASSES.false, ← c.grant_count.ensures, within 1000 _ c.if-grant_count-gt-MAX_GRANTS.false)
+    rw (
+      c.any_has_many_members.ensures,
+      ← c.items_at-classes.ensures,
+      stated_count class_stated c.items_at-classes.result.now,
+      within 1000 _ c.if-classes-gt-MAX_CLASSES.false,
+      ← c.grant_count.ensures,
+      within 1000 _ c.if-grant_count-gt-MAX_GRANTS.false,
+    )
     refl

@@ -11,4 +11,5 @@ loop-grant-preserved c =
     let below : c.loop-grant.grant-index < length c.args.grants.now = omega arith in
     let written : view c.from.result ≡ table (grant_tree (grant_view c.grant-item.result)) = c.from.ensures ∙ rw c.in_ok-grant_table.ensures in
     rw c.in_ok-push.ensures.items
-    (written_more view grant_view (λ m. table (grant_tree m)) c.loop-grant.values.items c.from.result c.args.grants.now c.loop-grant.grant-index c.grant-item.result below c.grant-item.is written c.loop-grant.invariant)
+    (written_more view grant_view (λ m. table (grant_tree m)) c.loop-grant.values.items c.from.result c.args.grants.now
+    c.loop-grant.grant-index c.grant-item.result below c.grant-item.is written c.loop-grant.invariant)

@@ -11,4 +11,5 @@ loop-member-preserved c =
     let below : c.loop-member.member-index < length c.args.members.now = omega arith in
     let written : view c.from.result ≡ table (member_tree (member_view c.member-item.result)) = c.from.ensures ∙ rw c.in_ok-member_table.ensures in
     rw c.in_ok-push.ensures.items
-    (written_more view member_view (λ m. table (member_tree m)) c.loop-member.values.items c.from.result c.args.members.now c.loop-member.member-index c.member-item.result below c.member-item.is written c.loop-member.invariant)
+    (written_more view member_view (λ m. table (member_tree m)) c.loop-member.values.items c.from.result c.args.members.now
+    c.loop-member.member-index c.member-item.result below c.member-item.is written c.loop-member.invariant)

@@ -19,20 +19,21 @@ returns-in-Ok-tested-clause-ends g c =
     let guard = c.test_lines-tested.new.guard in
     let status = c.status_of-status.ensures ∙ ap verdict_status c.verdict.ensures in
     let reports = subst (λ (s : Status). Reports (IsAboutJournal (Ok told)) c.args.reporting guard.setup guard.journal (Ok s) c.report.result) status c.report.ensures in
-    ends_journal c.args.reporting c.args.setup c.in-Ok.guard.setup guard.setup c.args.limit c.in-Ok.guard.limit _ _ _ _ guard.journal c.test_lines-tested.new.line.items (Ok told) c.report.result c.in-Ok.ensures.setup
-    (c.test_lines-tested.ensures.setup ∙ c.in-Ok.ensures.setup) c.in-Ok.ensures.limit c.test_lines-tested.ensures.legal c.in-Ok-tested.ensures.tests reports
+    ends_journal c.args.reporting c.args.setup c.in-Ok.guard.setup guard.setup c.args.limit c.in-Ok.guard.limit _ _ _ _ guard.journal c.test_lines-tested.new.line.items (Ok told) c.report.result
+    c.in-Ok.ensures.setup (c.test_lines-tested.ensures.setup ∙ c.in-Ok.ensures.setup) c.in-Ok.ensures.limit c.test_lines-tested.ensures.legal c.in-Ok-tested.ensures.tests reports
 
 pub returns-clause-ends : goal.returns-clause-ends
 returns-clause-ends g c =
     let guard = c.test_lines-tested.new.guard in
-    ends_journal c.args.reporting c.args.setup c.in-Ok.guard.setup guard.setup c.args.limit c.in-Ok.guard.limit _ _ _ _ guard.journal c.test_lines-tested.new.line.items (Err c.in-Err.stop) c.report-in-Err.result c.in-Ok.ensures.setup
+    ends_journal c.args.reporting c.args.setup c.in-Ok.guard.setup guard.setup c.args.limit c.in-Ok.guard.limit _ _ _ _ guard.journal c.test_lines-tested.new.line.items (Err c.in-Err.stop)
+    c.report-in-Err.result c.in-Ok.ensures.setup
     (c.test_lines-tested.ensures.setup ∙ c.in-Ok.ensures.setup) c.in-Ok.ensures.limit c.test_lines-tested.ensures.legal c.in-Err.ensures.tests c.report-in-Err.ensures
 
 pub returns-in-Ok-tested-clause-handed_on : goal.returns-in-Ok-tested-clause-handed_on
 returns-in-Ok-tested-clause-handed_on g c =
     let guard = c.test_lines-tested.new.guard in
-    reported_on _ c.test_lines-tested.new.out.failed (IsAboutJournal (Ok c.in-Ok-tested.replayed)) c.args.reporting guard.setup guard.journal (Ok c.status_of-status.result) c.report.result c.report.ensures
-    c.in-Ok-tested.ensures.handed_on
+    reported_on _ c.test_lines-tested.new.out.failed (IsAboutJournal (Ok c.in-Ok-tested.replayed)) c.args.reporting guard.setup guard.journal (Ok c.status_of-status.result) c.report.result
+    c.report.ensures c.in-Ok-tested.ensures.handed_on
 
 pub returns-clause-handed_on : goal.returns-clause-handed_on
 returns-clause-handed_on g c =

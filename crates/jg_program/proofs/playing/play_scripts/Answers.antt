@@ -5,8 +5,8 @@ use Rattle.jg_shell.proofs.Apart.{kept, EachRan, still_apart}
 use Rattle.jg_program.proofs.Workers.{have_run}
 use Rattle.jg_program.proofs.playing.play_scripts.Goals as goal
 
-pub settle-requires : goal.settle-requires
-settle-requires g c =
+pub settle_play-requires : goal.settle_play-requires
+settle_play-requires g c =
     let old = c.in-Ok.workers.items in
     let new = c.play.new.workers in
     let lent = c.as_mut_slice.ensures.value in
@@ -23,6 +23,7 @@ returns-clause-plays g c =
     let ran = subst (λ (ws : List Work). EachRan c.args.turns ws new) lent c.play.ensures in
     inl (
       _,
-      subst (λ (ws : List Work). HaveRun c.args.turns c.args.scripts ws) (sym (kept c.in-Ok.workers.len old new (omega (arith, c.in-Ok.workers.ok)) same)) (have_run c.args.turns c.args.scripts old new c.in-Ok.ensures.workers ran),
-      c.settle.ensures.settles,
+      subst (λ (ws : List Work). HaveRun c.args.turns c.args.scripts ws) (sym (kept c.in-Ok.workers.len old new (omega (arith, c.in-Ok.workers.ok)) same))
+          (have_run c.args.turns c.args.scripts old new c.in-Ok.ensures.workers ran),
+      c.settle_play.ensures.settles,
     )

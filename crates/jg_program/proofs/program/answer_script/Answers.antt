@@ -15,5 +15,5 @@ returns-clause-ends g c =
 pub returns-clause-handed_on : goal.returns-clause-handed_on
 returns-clause-handed_on g c =
     let guard = c.answer_lines-ended.new.guard in
-    reported_on _ c.answer_lines-ended.new.out.failed (IsAboutScript c.deref.result.now c.answer_lines-ended.result) c.args.reporting guard.setup guard.journal c.answer_lines-ended.result c.report-ending.result
-    c.report-ending.ensures c.answer_lines-ended.ensures.handed_on
+    reported_on _ c.answer_lines-ended.new.out.failed (IsAboutScript c.deref.result.now c.answer_lines-ended.result) c.args.reporting guard.setup guard.journal c.answer_lines-ended.result
+    c.report-ending.result c.report-ending.ensures c.answer_lines-ended.ensures.handed_on

@@ -1,6 +1,6 @@
 use Rattle.std.proofs.Common.{◌≡◌, ◌⊎◌, true, Result, string_bytes, subst, sym}
 use Rattle.jg_program.specs.declared.stop.Status.{Status}
-use Rattle.jg_program.specs.declared.stop.Stop.{Stop}
+use Rattle.jg_program.specs.declared.stop.ProgramStop.{ProgramStop}
 use Rattle.jg_program.specs.About.{IsAbout}
 use Rattle.jg_program.specs.Reported.{Tells, TellsNothing, is_explained}
 use Rattle.jg_program.proofs.Reports.{reported}
@@ -14,4 +14,4 @@ returns-in-Err-ended c =
     let about = string_bytes c.in-Ok.text in
     let ending = c.report_stopped.result in
     reported (IsAbout c.args.about c.args.ended) r s h about c.args.ended ending c.in-Ok.ensures.told
-    (subst (λ (e : Result Status Stop). Tells about r s h e ending ⊎ ((is_explained r ≡ true) × TellsNothing e ending)) (sym c.in-Err-ended.is) c.report_stopped.ensures)
+    (subst (λ (e : Result Status ProgramStop). Tells about r s h e ending ⊎ ((is_explained r ≡ true) × TellsNothing e ending)) (sym c.in-Err-ended.is) c.report_stopped.ensures)

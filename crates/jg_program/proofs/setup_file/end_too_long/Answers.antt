@@ -1,6 +1,6 @@
 use Rattle.std.proofs.Common.{◌≡◌, codes, string_bytes}
 use Rattle.jg_policy.specs.declared.fault.SetupFault.TheVariants.{TooMany}
-use Rattle.jg_program.specs.declared.stop.Stop.TheVariants.{Setup}
+use Rattle.jg_program.specs.declared.stop.ProgramStop.TheVariants.{Setup}
 use Rattle.jg_program.proofs.Refusals.{ends_telling}
 use Rattle.jg_program.proofs.setup_file.end_too_long.Goals as goal
 

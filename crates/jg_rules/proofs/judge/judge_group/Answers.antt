@@ -8,3 +8,6 @@ returns-in-Arrays g c = λ p stands. rw c.in-Arrays.is (c.judge_arrays.ensures c
 
 pub returns-in-Vm : goal.returns-in-Vm
 returns-in-Vm g c = λ p stands. rw c.in-Vm.is (c.judge_vm.ensures p stands)
+
+pub returns-in-Refs : goal.returns-in-Refs
+returns-in-Refs g c = λ p stands. rw c.in-Refs.is (c.judge_refs.ensures p c.args.tid.0 stands)

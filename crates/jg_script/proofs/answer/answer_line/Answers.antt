@@ -1,13 +1,13 @@
 use Rattle.std.proofs.Common.{◌∙◌}
-use Rattle.jg_script.specs.Entries.{next_entry}
+use Rattle.jg_guard.specs.Guard.{next_entry}
 use Rattle.jg_script.proofs.Taking.{not_taken, taken_kept, not_made, line_made, written, not_written}
 use Rattle.jg_script.proofs.answer.answer_line.Goals as goal
 
 pub returns-in-Err-take_call-clause-answers : goal.returns-in-Err-take_call-clause-answers
 returns-in-Err-take_call-clause-answers g c =
     let spelt = rw c.deref.ensures.value at c.in-Ok.ensures.spelt in
-    not_taken (g.W.Write.contents c.args.writer.now.device) c.args.guard.now c.take_call.new.guard c.args.text.now.items c.in-Ok.spelt.0 c.in-Ok.spelt.1 c.in-Ok.spelt.2 c.args.line c.in-Err-take_call.fault
-    c.in-Err-take_call.ensures.err spelt
+    not_taken (g.W.Write.contents c.args.writer.now.device) c.args.guard.now c.take_call.new.guard c.args.text.now.items c.in-Ok.spelt.0 c.in-Ok.spelt.1 c.in-Ok.spelt.2 c.args.line
+    c.in-Err-take_call.fault c.in-Err-take_call.ensures.err spelt
 
 pub returns-in_default-complete-clause-answers : goal.returns-in_default-complete-clause-answers
 returns-in_default-complete-clause-answers g c =

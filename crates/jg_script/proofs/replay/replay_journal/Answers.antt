@@ -45,7 +45,8 @@ returns-in-Err-clause-replays g c =
 
 pub returns-in-Err-clause-reader : goal.returns-in-Err-clause-reader
 returns-in-Err-clause-reader g c =
-    failed_sound _ _ c.loop-line.guard c.replay_line.new.guard c.deref-in-loop-line.result.now c.loop-line.line c.in-Err.fault (c.in-Ok.ensures.sound ∙ c.loop-line.invariant.sound) c.in-Err.ensures.replays
+    failed_sound _ _ c.loop-line.guard c.replay_line.new.guard c.deref-in-loop-line.result.now c.loop-line.line c.in-Err.fault (c.in-Ok.ensures.sound ∙ c.loop-line.invariant.sound)
+    c.in-Err.ensures.replays
 
 pub loop-line-preserved : goal.loop-line-preserved
 loop-line-preserved g c =

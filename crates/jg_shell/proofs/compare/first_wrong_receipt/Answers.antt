@@ -9,8 +9,8 @@ use Rattle.jg_shell.proofs.compare.first_wrong_receipt.Goals as goal
 
 pub returns-in-Some : goal.returns-in-Some
 returns-in-Some g c =
-    IsWrongReceipt-at c.args.guard.now.journal c.args.workers.now c.loop-worker.worker-index c.worker-item.result c.tid.result c.in-Some.place c.loop-worker-test.true c.worker-item.is c.loop-worker.invariant c.tid.ensures
-    (subst (λ (rs : List Receipt). IsFirstWrong c.args.guard.now.journal rs c.in-Some.place) c.receipts.ensures.receipts c.in-Some.ensures)
+    IsWrongReceipt-at c.args.guard.now.journal c.args.workers.now c.loop-worker.worker-index c.worker-item.result c.tid.result c.in-Some.place c.loop-worker-test.true c.worker-item.is
+    c.loop-worker.invariant c.tid.ensures (subst (λ (rs : List Receipt). IsFirstWrong c.args.guard.now.journal rs c.in-Some.place) c.receipts.ensures.receipts c.in-Some.ensures)
 
 pub loop-worker-preserved : goal.loop-worker-preserved
 loop-worker-preserved g c =

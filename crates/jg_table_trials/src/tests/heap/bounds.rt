@@ -1,3 +1,5 @@
+//! Tests that lengths and counts of objects fit the numbers of a journal.
+
 ghost use Rattle.std.specs.Prelude.{◌<◌};
 ghost use Rattle.jg_heap.specs.Making.{IsPrimitiveArray};
 ghost use Rattle.jg_heap.specs.Rows.{count_in, class_at};

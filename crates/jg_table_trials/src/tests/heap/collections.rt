@@ -1,3 +1,5 @@
+//! Tests of collections: what goes without a root, and what arrays and fields hold.
+
 use jg_heap::{Heap, Roots, Shape, Slot};
 use jg_lists::{Marking, ObjectMarks};
 use jg_words::ObjId;

@@ -1,3 +1,5 @@
+//! Tests of arrays and objects of the greatest size.
+
 use jg_heap::{Heap, Shape, Slot, from_mutf8, from_mutf8_items, is_mutf8, mutf8_len, to_mutf8};
 use jg_lists::ObjectMarks;
 use jg_words::{ObjId, Primitive};

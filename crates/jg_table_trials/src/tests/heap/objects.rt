@@ -1,3 +1,5 @@
+//! Tests of class objects, objects with fields, strings and arrays.
+
 use jg_heap::{Heap, Shape, Slot};
 use jg_words::{ObjId, Primitive};
 use std::alloc::{AllocError, Global};

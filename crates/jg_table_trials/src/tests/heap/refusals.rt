@@ -1,3 +1,5 @@
+//! Tests of makings that are refused for want of memory, and change nothing.
+
 use jg_heap::{Heap, Shape, from_mutf8, from_mutf8_items, to_mutf8};
 use jg_words::Primitive;
 use linked_list_allocator::LocalHeap;

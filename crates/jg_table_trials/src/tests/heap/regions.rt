@@ -1,3 +1,5 @@
+//! Tests of regions that are written into arrays.
+
 use jg_heap::{Heap, Shape};
 use jg_words::{ObjId, Primitive};
 use std::process::Abort;

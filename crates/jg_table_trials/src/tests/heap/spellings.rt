@@ -1,3 +1,5 @@
+//! Tests of modified UTF-8: the spelling of each unit, and bytes that spell nothing.
+
 use jg_heap::{from_mutf8, from_mutf8_items, is_mutf8, mutf8_len, to_mutf8};
 use std::test::Fail;
 

@@ -28,6 +28,7 @@ loop-left-preserved c =
       within = omega arith;
       place = omega arith;
       room = omega arith;
-      written = written_before _ _ _ (drop (c.loop-left.left - 1) items) (drop c.loop-left.left items) x split c.put_before-start.ensures.written (simp to_z-of_z at c.write_signed-item.ensures.written) inv.written;
+      written = written_before _ _ _ (drop (c.loop-left.left - 1) items) (drop c.loop-left.left items) x split c.put_before-start.ensures.written
+          (simp to_z-of_z at c.write_signed-item.ensures.written) inv.written;
       fits = fit_before _ _ x split fits inv.fits;
     }

@@ -25,5 +25,6 @@ loop-i-preserved c =
 
 pub returns : goal.returns
 returns c =
-    let whole = subst (λ (bs : List ℕ). (c.loop-i.others ≡ 0) ↔ All (λ b. IsInRange 32 126 b) bs) (take_all c.loop-i.i c.args.line.now (omega (arith, c.loop-i-test.false))) c.loop-i.invariant.so_far in
+    let whole = subst (λ (bs : List ℕ). (c.loop-i.others ≡ 0) ↔ All (λ b. IsInRange 32 126 b) bs)
+    (take_all c.loop-i.i c.args.line.now (omega (arith, c.loop-i-test.false))) c.loop-i.invariant.so_far in
     (λ t. whole.0 (grind (arith, nat_tests, t)), λ all. let none = whole.1 all in grind (arith, nat_tests, none))

@@ -1,3 +1,5 @@
+//! Tests of version 2 of the setup: its grants, the access that they give, and migration to it.
+
 // Both versions of a setup text, and setups that are written as a text of version 2.
 use crate::tests::setups::{
     CLASSES, DENY, Row, fault, field, name, native, other_fault, push_many, sized,

@@ -16,4 +16,5 @@ returns-clause-others g c =
 pub returns-clause-front : goal.returns-clause-front
 returns-clause-front g c =
     let behind : c.args.raised ≤ c.in-Some.place = grind (arith, nat_tests, c.if-place-raised.false) in
-    front_raised c.args.seats.now c.swap.new.self c.args.tid c.in-Some.place c.args.raised c.requires.calm c.in-Some.ensures.found c.swap.ensures.found c.swap.ensures.same c.swap.ensures.once behind c.swap.ensures.moved
+    front_raised c.args.seats.now c.swap.new.self c.args.tid c.in-Some.place c.args.raised c.requires.calm
+    c.in-Some.ensures.found c.swap.ensures.found c.swap.ensures.same c.swap.ensures.once behind c.swap.ensures.moved

@@ -1,18 +1,7 @@
-use Rattle.std.proofs.Common.{refl, sym, ◌∙◌}
+use Rattle.std.proofs.Common.{refl}
 use Rattle.jg_laws.proofs.Acts.{attached_caller}
-use Rattle.jg_guard.proofs.Due.{counts, can_start, can_enter, can_leave, can_leave_native, has_frame, is_on}
+use Rattle.jg_guard.proofs.Due.{counts, can_enter, can_leave, can_leave_native, has_frame, is_on}
 use Rattle.jg_guard.proofs.groups.vm.perform_vm.Goals as goal
-
-pub attach-requires : goal.attach-requires
-attach-requires g c = (counts c.requires.effective.due.events c.args.tables.now.threads c.args.tid.0 c.requires.effective.due.ordinary c.requires.effective.due.stand.threads).sessions
-
-pub attach-requires-else-is_attached : goal.attach-requires-else-is_attached
-attach-requires-else-is_attached g c = (counts c.requires.effective.due.events c.args.tables.now.threads c.args.tid.0 c.requires.effective.due.ordinary c.requires.effective.due.stand.threads).sessions
-
-pub start_thread-requires : goal.start_thread-requires
-start_thread-requires g c =
-    rw c.in_ok-reserve_start-in-AttachCurrentThread.ensures.rows (can_start c.requires.effective.due.events c.args.tables.now.locals.rows c.args.tid.0 c.requires.effective.due.ordinary c.requires.effective.due.stand.locals
-    (sym (c.is_attached.ensures.history c.requires.effective.due.events.threads c.requires.effective.due.stand.threads) ∙ c.if-is_attached.false))
 
 pub enter-requires-clause-started : goal.enter-requires-clause-started
 enter-requires-clause-started g c =
@@ -32,7 +21,8 @@ enter_native-requires-clause-room g c = (counts c.requires.effective.due.events 
 
 pub leave-requires : goal.leave-requires
 leave-requires g c =
-    can_leave c.requires.effective.due.events c.args.tables.now.locals.rows c.args.tid.0 c.requires.effective.due.ordinary c.requires.effective.due.stand.locals (rw c.in-NativeLeave.is at c.requires.effective.due.unbroken.right_frame)
+    can_leave c.requires.effective.due.events c.args.tables.now.locals.rows c.args.tid.0 c.requires.effective.due.ordinary c.requires.effective.due.stand.locals
+    (rw c.in-NativeLeave.is at c.requires.effective.due.unbroken.right_frame)
 
 pub leave_native-requires-clause-seen : goal.leave_native-requires-clause-seen
 leave_native-requires-clause-seen g c =
@@ -41,4 +31,5 @@ leave_native-requires-clause-seen g c =
 
 pub leave_native-requires-clause-inside : goal.leave_native-requires-clause-inside
 leave_native-requires-clause-inside g c =
-    can_leave_native c.requires.effective.due.events c.args.tables.now.threads c.args.tid.0 c.requires.effective.due.stand.threads (rw c.in-NativeLeave.is at c.requires.effective.due.unbroken.right_frame)
+    can_leave_native c.requires.effective.due.events c.args.tables.now.threads c.args.tid.0 c.requires.effective.due.stand.threads
+    (rw c.in-NativeLeave.is at c.requires.effective.due.unbroken.right_frame)

@@ -6,21 +6,21 @@ use Rattle.jg_rules.specs.Answers.{with_notice}
 use Rattle.jg_rules.specs.Effects.{parts, passed_on}
 use Rattle.jg_rules.specs.Parts.{Parts, TableRows}
 use Rattle.jg_rules.specs.Rules.{verdict}
-use Rattle.jg_guard.specs.Guard.{State, Takes}
+use Rattle.jg_guard.specs.Guard.{state_of, State, Takes}
 use Rattle.jg_guard.specs.Tables.{rows_of}
-use Rattle.jg_guard.specs.Held.{IsReady}
+use Rattle.jg_guard.specs.Findings.{IsReady}
 use Rattle.jg_guard.specs.Peaks.{ArePeaks, IsNow}
 use Rattle.jg_guard.specs.Tally.{IsTally}
 use Rattle.jg_guard.proofs.Tallies.{fits, one_more}
 use Rattle.jg_guard.proofs.Most.{peaks_raised}
-use Rattle.jg_guard.proofs.Passing.{due_of, passed_by, passed_entry, next_entry, takes_entry, sound_after, answered_due}
+use Rattle.jg_guard.proofs.Passing.{due_of, passed_by, passed_entry, entry_taken, takes_entry, sound_after, answered_due}
 use Rattle.jg_guard.proofs.Cleaning.{listed}
 use Rattle.jg_guard.proofs.Due.{due_at}
 use Rattle.jg_guard.proofs.guard.Guard.pass.Goals as goal
 
 pub answer_to-requires : goal.answer_to-requires
 answer_to-requires g c =
-    let state : State = record { setup = c.self.inside.setup; limit = c.self.inside.limit; journal = reverse c.self.inside.journal.items; spare = c.self.inside.journal.spare } in
+    let state : State = state_of c.self.inside.setup c.self.inside.limit c.self.inside.journal in
     let none : verdict state.setup (parts state.setup state.journal) c.args.tid.0 c.args.env c.args.call ≡ None =
     subst (λ (s : State). verdict s.setup (parts s.setup s.journal) c.args.tid.0 c.args.env c.args.call ≡ None) (sym c.self.view_is) c.requires.passed in
     due_at state.setup _ (rows_of c.self.inside.tables) _ c.args.tid.0 c.args.call c.view-view.ensures.setup c.view-view.ensures.rows
@@ -28,22 +28,24 @@ answer_to-requires g c =
 
 pub perform-requires-clause-ready : goal.perform-requires-clause-ready
 perform-requires-clause-ready g c =
-    subst (λ (rows : TableRows). IsReady rows.heap c.args.call c.find_held_for.new.held) c.view-view.ensures.rows c.in-Ok.ensures.ready
+    subst (λ (rows : TableRows). IsReady rows.heap c.args.call c.find_held_for.new.findings) c.view-view.ensures.rows c.in-Ok.ensures.ready
 
 pub perform-requires-clause-answered : goal.perform-requires-clause-answered
 perform-requires-clause-answered g c =
-    let state : State = record { setup = c.self.inside.setup; limit = c.self.inside.limit; journal = reverse c.self.inside.journal.items; spare = c.self.inside.journal.spare } in
+    let state : State = state_of c.self.inside.setup c.self.inside.limit c.self.inside.journal in
     let given : Answer = c.in-Ok-answer_to.given in
-    let passed = passed_by g.row.A.Denot state c.args.self.now c.view-view.result.setup.now (rows_of c.self.inside.tables) _ c.args.tid c.args.env c.args.call given c.find_held_for.new.held c.self.invariant.0 c.self.view_is
+    let passed = passed_by g.row.A.Denot state c.args.self.now c.view-view.result.setup.now
+    (rows_of c.self.inside.tables) _ c.args.tid c.args.env c.args.call given c.find_held_for.new.findings c.self.invariant.0 c.self.view_is
     c.view-view.ensures.setup c.view-view.ensures.rows c.requires.passed c.in-Ok.ensures.found c.in-Ok-answer_to.ensures.given in
-    answered_due g.row.A.Denot state (rows_of c.self.inside.tables) c.args.tid c.args.env c.args.call given _ c.find_held_for.new.held c.self.invariant.0 passed refl refl refl refl
+    answered_due g.row.A.Denot state (rows_of c.self.inside.tables) c.args.tid c.args.env c.args.call given _ c.find_held_for.new.findings c.self.invariant.0 passed refl refl refl refl
 
 -- what gives something back answers no list, so its answer is copied without memory
 pub returns-in_default-try_copy-clause-wants : goal.returns-in_default-try_copy-clause-wants
 returns-in_default-try_copy-clause-wants g c = λ room.
-    let state : State = record { setup = c.self.inside.setup; limit = c.self.inside.limit; journal = reverse c.self.inside.journal.items; spare = c.self.inside.journal.spare } in
+    let state : State = state_of c.self.inside.setup c.self.inside.limit c.self.inside.journal in
     let given : Answer = c.in-Ok-answer_to.given in
-    let passed = passed_by g.row.A.Denot state c.args.self.now c.view-view.result.setup.now (rows_of c.self.inside.tables) _ c.args.tid c.args.env c.args.call given c.find_held_for.new.held c.self.invariant.0 c.self.view_is
+    let passed = passed_by g.row.A.Denot state c.args.self.now c.view-view.result.setup.now
+    (rows_of c.self.inside.tables) _ c.args.tid c.args.env c.args.call given c.find_held_for.new.findings c.self.invariant.0 c.self.view_is
     c.view-view.ensures.setup c.view-view.ensures.rows c.requires.passed c.in-Ok.ensures.found c.in-Ok-answer_to.ensures.given in
     listed state.setup (parts state.setup state.journal) c.args.tid c.args.call (ap (λ (a : Answer). is_list a.reply.value) (sym passed.answers) ∙ c.in_default-try_copy.ensures.wants)
 
@@ -62,16 +64,17 @@ invariant_of-self-in_default-perform g c =
 
 pub invariant_of-self-2 : goal.invariant_of-self-2
 invariant_of-self-2 g c =
-    let state : State = record { setup = c.self.inside.setup; limit = c.self.inside.limit; journal = reverse c.self.inside.journal.items; spare = c.self.inside.journal.spare } in
+    let state : State = state_of c.self.inside.setup c.self.inside.limit c.self.inside.journal in
     let room : length state.journal < state.limit = subst (λ (s : State). length s.journal < s.limit) (sym c.self.view_is) c.requires.room in
     let given : Answer = c.in-Ok-answer_to.given in
-    let passed = passed_by g.row.A.Denot state c.args.self.now c.view-view.result.setup.now (rows_of c.self.inside.tables) _ c.args.tid c.args.env c.args.call given c.find_held_for.new.held c.self.invariant.0 c.self.view_is
+    let passed = passed_by g.row.A.Denot state c.args.self.now c.view-view.result.setup.now
+    (rows_of c.self.inside.tables) _ c.args.tid c.args.env c.args.call given c.find_held_for.new.findings c.self.invariant.0 c.self.view_is
     c.view-view.ensures.setup c.view-view.ensures.rows c.requires.passed c.in-Ok.ensures.found c.in-Ok-answer_to.ensures.given in
     let p : Parts = parts state.setup state.journal in
     let stands = c.in-Ok-perform.ensures.stands p c.self.invariant.0.tables passed.answers passed.found in
     let told = c.is_noticed-noticed.ensures state.setup (passed_on state.setup c.args.tid.0 c.args.call given.reply given.object p) stands in
     let x : Entry = passed_entry c.args.tid c.args.env c.args.call (with_notice c.is_noticed-noticed.result given) in
-    let next = next_entry g.row.A.Denot state c.args.tid c.args.env c.args.call given c.find_held_for.new.held c.is_noticed-noticed.result passed told in
+    let next = entry_taken g.row.A.Denot state c.args.tid c.args.env c.args.call given c.find_held_for.new.findings c.is_noticed-noticed.result passed told in
     let journal : reverse c.push_reserved.new.journal.items ≡ x ∷ state.journal = search rules in
     let sound = sound_after state _ _ x (rows_of c.self.inside.tables) (rows_of c.perform.new.tables) c.self.invariant.0 room journal next stands in
     let now = subst (λ (j : List Entry). IsNow state.setup j c.counted.result) journal (c.counted.ensures state.setup _ sound.tables) in
@@ -84,22 +87,23 @@ invariant_of-self-2 g c =
 
 pub count-requires-clause-fits : goal.count-requires-clause-fits
 count-requires-clause-fits g c =
-    let state : State = record { setup = c.self.inside.setup; limit = c.self.inside.limit; journal = reverse c.self.inside.journal.items; spare = c.self.inside.journal.spare } in
+    let state : State = state_of c.self.inside.setup c.self.inside.limit c.self.inside.journal in
     let room : length state.journal < state.limit = subst (λ (s : State). length s.journal < s.limit) (sym c.self.view_is) c.requires.room in
     fits state.journal c.self.inside.tally state.limit 0 c.self.invariant.2 room c.self.invariant.0.small
 
 pub returns-clause-ok : goal.returns-clause-ok
 returns-clause-ok g c =
-    let state : State = record { setup = c.self.inside.setup; limit = c.self.inside.limit; journal = reverse c.self.inside.journal.items; spare = c.self.inside.journal.spare } in
+    let state : State = state_of c.self.inside.setup c.self.inside.limit c.self.inside.journal in
     let given : Answer = c.in-Ok-answer_to.given in
-    let passed = passed_by g.row.A.Denot state c.args.self.now c.view-view.result.setup.now (rows_of c.self.inside.tables) _ c.args.tid c.args.env c.args.call given c.find_held_for.new.held c.self.invariant.0 c.self.view_is
+    let passed = passed_by g.row.A.Denot state c.args.self.now c.view-view.result.setup.now
+    (rows_of c.self.inside.tables) _ c.args.tid c.args.env c.args.call given c.find_held_for.new.findings c.self.invariant.0 c.self.view_is
     c.view-view.ensures.setup c.view-view.ensures.rows c.requires.passed c.in-Ok.ensures.found c.in-Ok-answer_to.ensures.given in
     let p : Parts = parts state.setup state.journal in
     let stands = c.in-Ok-perform.ensures.stands p c.self.invariant.0.tables passed.answers passed.found in
     let told = c.is_noticed-noticed.ensures state.setup (passed_on state.setup c.args.tid.0 c.args.call given.reply given.object p) stands in
     let x : Entry = passed_entry c.args.tid c.args.env c.args.call (with_notice c.is_noticed-noticed.result given) in
-    let next = next_entry g.row.A.Denot state c.args.tid c.args.env c.args.call given c.find_held_for.new.held c.is_noticed-noticed.result passed told in
+    let next = entry_taken g.row.A.Denot state c.args.tid c.args.env c.args.call given c.find_held_for.new.findings c.is_noticed-noticed.result passed told in
     let journal : reverse c.push_reserved.new.journal.items ≡ x ∷ state.journal = search rules in
-    rw c.in-Ok-try_copy.ensures.copy (subst (λ (s : State). Takes s (record { setup = c.self.inside.setup; limit = c.self.inside.limit; journal = reverse c.push_reserved.new.journal.items; spare = c.push_reserved.new.journal.spare }) x.tid x.env x.call x.outcome)
+    rw c.in-Ok-try_copy.ensures.copy (subst (λ (s : State). Takes s (state_of c.self.inside.setup c.self.inside.limit c.push_reserved.new.journal) x.tid x.env x.call x.outcome)
     c.self.view_is
     (takes_entry state (rows_of c.self.inside.tables) x (reverse c.push_reserved.new.journal.items) c.push_reserved.new.journal.spare c.self.invariant.0 journal next))

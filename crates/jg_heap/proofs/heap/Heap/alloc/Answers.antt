@@ -34,13 +34,21 @@ pub invariant_of-self-2 : goal.invariant_of-self-2
 invariant_of-self-2 g c =
     let n = c.len-number.result in
     let n-is : n ≡ length c.self.inside.there.items = c.len-number.ensures ∙ c.self.inside.objects.ok.0 ∙ sym c.self.invariant.0.same in (
-      stored_made c.self.inside.objects.items _ c.self.inside.there.items _ _ _ _ _ _ _ c.in_ok-body.body n c.self.invariant.0 c.in_ok-push.ensures.items (c.len-number.ensures ∙ c.self.inside.objects.ok.0)
+      stored_made c.self.inside.objects.items _ c.self.inside.there.items _ _ _ _ _ _ _ c.in_ok-body.body n
+          c.self.invariant.0 c.in_ok-push.ensures.items (c.len-number.ensures ∙ c.self.inside.objects.ok.0)
           (c.push_reserved.ensures.items ∙ ap (λ (bs : List Bool). bs ++ true ∷ []) c.in_ok-reserve.ensures.items)
           (c.fill_block-self-inside.ensures.same ∙ ap (λ (bs : List ℕ). numbers_in bs c.self.inside.loose (n + 1)) c.in_ok-reserve-2.ensures.items)
           (λ whole. c.fill_block-self-inside.ensures.whole (subst (λ (bs : List ℕ). AreWhole bs (n + 1)) (sym c.in_ok-reserve-2.ensures.items) whole)) c.fill_block-self-inside.ensures.loose
           (c.add_if.ensures ∙ ap (λ (os : List ℕ). os ++ cond c.may_point-may_point.result (c.len-number.result ∷ []) []) c.in_ok-reserve-3.ensures.items
           ∙ ap (λ b. c.self.inside.pointing.items ++ cond b (c.len-number.result ∷ []) []) c.may_point-may_point.ensures),
-      omega (arith, ap length (c.push_reserved.ensures.items ∙ ap (λ (bs : List Bool). bs ++ true ∷ []) c.in_ok-reserve.ensures.items), length-append c.self.inside.there.items (true ∷ []), c.in_ok-widen.ensures.ok, n-is),
+      omega (
+        arith,
+        ap length
+            (c.push_reserved.ensures.items ∙ ap (λ (bs : List Bool). bs ++ true ∷ []) c.in_ok-reserve.ensures.items),
+        length-append c.self.inside.there.items (true ∷ []),
+        c.in_ok-widen.ensures.ok,
+        n-is,
+      ),
       being_more c.self.inside.there.items _ c.self.inside.in_being c.self.invariant.2 (c.push_reserved.ensures.items ∙ ap (λ (bs : List Bool). bs ++ true ∷ []) c.in_ok-reserve.ensures.items),
     )
 

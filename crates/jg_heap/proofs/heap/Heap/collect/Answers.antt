@@ -16,8 +16,15 @@ use Rattle.jg_heap.proofs.heap.Heap.collect.Goals as goal
 pub mark_pointed-requires : goal.mark_pointed-requires
 mark_pointed-requires g c =
     let objects = objects_of c.self.inside.objects.items c.self.inside.there.items in
-    let all = pointing_within objects objects c.self.inside.there.items c.self.inside.blocks.items c.self.inside.loose c.deref-2.result.now c.self.inside.pointing.items refl c.deref-2.ensures.value c.self.invariant.0.keeps in
-    λ i d h. omega (arith, all i d h, length-objects_of c.self.inside.objects.items c.self.inside.there.items c.self.invariant.0.same, ap (λ (bs : List (Body g.row.A.Denot)). length bs) c.deref.ensures.value)
+    let all =
+    pointing_within objects objects c.self.inside.there.items c.self.inside.blocks.items c.self.inside.loose
+    c.deref-2.result.now c.self.inside.pointing.items refl c.deref-2.ensures.value c.self.invariant.0.keeps in
+    λ i d h. omega (
+      arith,
+      all i d h,
+      length-objects_of c.self.inside.objects.items c.self.inside.there.items c.self.invariant.0.same,
+      ap (λ (bs : List (Body g.row.A.Denot)). length bs) c.deref.ensures.value,
+    )
 
 pub let_unheld_go-went-requires-clause-whole : goal.let_unheld_go-went-requires-clause-whole
 let_unheld_go-went-requires-clause-whole g c =
@@ -43,7 +50,8 @@ invariant_of-self g c =
     let pointing = c.self.inside.pointing.items in
     let count : length flags ≡ length there = c.let_unheld_go-went.auto.there ∙ ap (λ (bs : List Bool). length bs) c.deref_mut.ensures.value in
     let flagged : flags ≡ _ = sym (with_items_is c.self.inside.there flags (count ∙ sym c.self.inside.there.ok.0)) in
-    let lets : LetsGo (marked_or_root marks root) (numbers_in blocks loose (length there)) there flags = rw (c.deref-3.ensures.value, c.deref_mut.ensures.value) at c.let_unheld_go-went.ensures.there in
+    let lets : LetsGo (marked_or_root marks root) (numbers_in blocks loose (length there)) there flags =
+    rw (c.deref-3.ensures.value, c.deref_mut.ensures.value) at c.let_unheld_go-went.ensures.there in
     let after = c.close_up_if-self-inside.new.blocks.items in
     let points = c.retain_held.new.numbers.items in
     let seen : c.deref-4.result.now ≡ flags = c.deref-4.ensures.value ∙ sym flagged in
@@ -73,7 +81,8 @@ returns-clause-stands g c e stands =
     let pointing = c.self.inside.pointing.items in
     let count : length flags ≡ length there = c.let_unheld_go-went.auto.there ∙ ap (λ (bs : List Bool). length bs) c.deref_mut.ensures.value in
     let flagged : flags ≡ _ = sym (with_items_is c.self.inside.there flags (count ∙ sym c.self.inside.there.ok.0)) in
-    let lets : LetsGo (marked_or_root marks root) (numbers_in blocks loose (length there)) there flags = rw (c.deref-3.ensures.value, c.deref_mut.ensures.value) at c.let_unheld_go-went.ensures.there in
+    let lets : LetsGo (marked_or_root marks root) (numbers_in blocks loose (length there)) there flags =
+    rw (c.deref-3.ensures.value, c.deref_mut.ensures.value) at c.let_unheld_go-went.ensures.there in
     let many : length c.mark_classes.new.marks ≡ length c.self.inside.marks = marks_length _ _ _ c.mark_classes.ensures ∙ c.unset_all.ensures.many in
     let marks_are : (o : ℕ) → o < length there → get_or marks o false ≡ (ltb o c.self.inside.class_count || list_any (slot_of_row_holds (map row_of (objects_of bodies there)) o) pointing) =
     λ o h. mark_is _ _ _ c.mark_pointed.ensures o (omega (arith, h, many, c.self.invariant.1))
@@ -97,7 +106,8 @@ returns-clause-count g c e stands =
     let pointing = c.self.inside.pointing.items in
     let count : length flags ≡ length there = c.let_unheld_go-went.auto.there ∙ ap (λ (bs : List Bool). length bs) c.deref_mut.ensures.value in
     let flagged : flags ≡ _ = sym (with_items_is c.self.inside.there flags (count ∙ sym c.self.inside.there.ok.0)) in
-    let lets : LetsGo (marked_or_root marks root) (numbers_in blocks loose (length there)) there flags = rw (c.deref-3.ensures.value, c.deref_mut.ensures.value) at c.let_unheld_go-went.ensures.there in
+    let lets : LetsGo (marked_or_root marks root) (numbers_in blocks loose (length there)) there flags =
+    rw (c.deref-3.ensures.value, c.deref_mut.ensures.value) at c.let_unheld_go-went.ensures.there in
     let many : length c.mark_classes.new.marks ≡ length c.self.inside.marks = marks_length _ _ _ c.mark_classes.ensures ∙ c.unset_all.ensures.many in
     let marks_are : (o : ℕ) → o < length there → get_or marks o false ≡ (ltb o c.self.inside.class_count || list_any (slot_of_row_holds (map row_of (objects_of bodies there)) o) pointing) =
     λ o h. mark_is _ _ _ c.mark_pointed.ensures o (omega (arith, h, many, c.self.invariant.1))
@@ -121,7 +131,8 @@ returns-clause-shapes g c =
     let pointing = c.self.inside.pointing.items in
     let count : length flags ≡ length there = c.let_unheld_go-went.auto.there ∙ ap (λ (bs : List Bool). length bs) c.deref_mut.ensures.value in
     let flagged : flags ≡ _ = sym (with_items_is c.self.inside.there flags (count ∙ sym c.self.inside.there.ok.0)) in
-    let lets : LetsGo (marked_or_root marks root) (numbers_in blocks loose (length there)) there flags = rw (c.deref-3.ensures.value, c.deref_mut.ensures.value) at c.let_unheld_go-went.ensures.there in
+    let lets : LetsGo (marked_or_root marks root) (numbers_in blocks loose (length there)) there flags =
+    rw (c.deref-3.ensures.value, c.deref_mut.ensures.value) at c.let_unheld_go-went.ensures.there in
     let going = unheld bodies there flags marks root blocks loose pointing c.self.invariant.0 count lets in
     let all : ℕ → Bool = λ o. list_any (λ p. eqb p o) going in
     let view = ap (λ (r : Rows). r.objects) c.self.view_is in

@@ -12,15 +12,25 @@ use Rattle.jg_heap.proofs.heap.Heap.find_unheld.Goals as goal
 pub mark_pointed-requires : goal.mark_pointed-requires
 mark_pointed-requires g c =
     let objects = objects_of c.self.inside.objects.items c.self.inside.there.items in
-    let all = pointing_within objects objects c.self.inside.there.items c.self.inside.blocks.items c.self.inside.loose c.deref-2.result.now c.self.inside.pointing.items refl c.deref-2.ensures.value c.self.invariant.0.keeps in
-    λ i d h. omega (arith, all i d h, length-objects_of c.self.inside.objects.items c.self.inside.there.items c.self.invariant.0.same, ap (λ (bs : List (Body g.row.A.Denot)). length bs) c.deref.ensures.value)
+    let all =
+    pointing_within objects objects c.self.inside.there.items c.self.inside.blocks.items c.self.inside.loose
+    c.deref-2.result.now c.self.inside.pointing.items refl c.deref-2.ensures.value c.self.invariant.0.keeps in
+    λ i d h. omega (
+      arith,
+      all i d h,
+      length-objects_of c.self.inside.objects.items c.self.inside.there.items c.self.invariant.0.same,
+      ap (λ (bs : List (Body g.row.A.Denot)). length bs) c.deref.ensures.value,
+    )
 
 pub returns-clause-marks : goal.returns-clause-marks
 returns-clause-marks g c e roots stands was =
     let objects = objects_of c.self.inside.objects.items c.self.inside.there.items in
-    marks_of objects objects c.self.inside.there.items c.self.inside.blocks.items c.self.inside.loose c.deref-2.result.now c.self.inside.pointing.items c.args.self.now c.self.inside.class_count e roots c.args.marks.now
+    marks_of objects objects c.self.inside.there.items c.self.inside.blocks.items c.self.inside.loose
+    c.deref-2.result.now c.self.inside.pointing.items c.args.self.now c.self.inside.class_count e roots c.args.marks.now
     c.mark_classes.new.marks c.mark_pointed.new.marks
-    refl c.deref-2.ensures.value c.self.invariant.0.keeps c.self.view_is stands (marks_length _ _ _ c.mark_classes.ensures) (marks_length _ _ _ c.mark_pointed.ensures) (mark_is _ _ _ c.mark_classes.ensures)
+    refl c.deref-2.ensures.value c.self.invariant.0.keeps c.self.view_is stands
+    (marks_length _ _ _ c.mark_classes.ensures) (marks_length _ _ _ c.mark_pointed.ensures)
+    (mark_is _ _ _ c.mark_classes.ensures)
     (λ o h. mark_is _ _ _ c.mark_pointed.ensures o h
     ∙ ap (λ (bs : List (Body g.row.A.Denot)). get_or c.mark_classes.new.marks o false || list_any (slot_of_row_holds (map row_of_body bs) o) c.deref-2.result.now) c.deref.ensures.value
     ∙ ap (λ b. get_or c.mark_classes.new.marks o false || b) (any_slot_of_object c.self.inside.objects.items c.self.inside.there.items o c.deref-2.result.now c.self.invariant.0.same))
@@ -37,7 +47,9 @@ list_unheld-requires g c =
 pub returns-clause-listed : goal.returns-clause-listed
 returns-clause-listed g c =
     c.in_ok-list_unheld.ensures
-    ∙ listed (objects_of c.self.inside.objects.items c.self.inside.there.items) c.self.inside.there.items c.deref-3.result.now c.self.inside.blocks.items c.deref-4.result.now c.self.inside.loose c.self.inside.pointing.items c.args.self.now c.self.inside.class_count c.mark_pointed.new.marks
+    ∙ listed (objects_of c.self.inside.objects.items c.self.inside.there.items) c.self.inside.there.items
+    c.deref-3.result.now c.self.inside.blocks.items c.deref-4.result.now c.self.inside.loose
+    c.self.inside.pointing.items c.args.self.now c.self.inside.class_count c.mark_pointed.new.marks
     c.deref-3.ensures.value c.deref-4.ensures.value c.self.invariant.0.keeps c.self.view_is
 
 pub returns-clause-unheld : goal.returns-clause-unheld

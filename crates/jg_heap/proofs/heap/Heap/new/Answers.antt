@@ -21,7 +21,9 @@ returns-clause-rows g c =
 pub loop-class-preserved : goal.loop-class-preserved
 loop-class-preserved g c =
     let n : length (replicate c.loop-class.class (row_of_making (Plain 1 []))) ≡ c.loop-class.class = length-replicate c.loop-class.class (row_of_making (Plain 1 [])) in
-    let m : length (map row_of (objects_of c.loop-class.objects.items c.loop-class.there.items)) ≡ length (replicate c.loop-class.class (row_of_making (Plain 1 []))) = ap (λ (rs : List Row). length rs) c.loop-class.invariant.rows in
+    let m : length (map row_of (objects_of c.loop-class.objects.items c.loop-class.there.items))
+    ≡ length (replicate c.loop-class.class (row_of_making (Plain 1 []))) =
+    ap (λ (rs : List Row). length rs) c.loop-class.invariant.rows in
     let i : length (map row_of (objects_of c.loop-class.objects.items c.loop-class.there.items)) ≡ length c.loop-class.objects.items =
     length-map (objects_of c.loop-class.objects.items c.loop-class.there.items) row_of ∙ length-objects_of c.loop-class.objects.items c.loop-class.there.items c.loop-class.invariant.keeps.same in
     record {

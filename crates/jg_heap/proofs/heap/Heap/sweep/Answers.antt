@@ -12,7 +12,11 @@ use Rattle.jg_heap.proofs.heap.Heap.sweep.Goals as goal
 
 pub let_all_go-requires : goal.let_all_go-requires
 let_all_go-requires g c =
-    let all = all_of c.self.inside.objects.items c.self.inside.there.items c.args.marks.now c.args.unheld.now c.self.invariant.0.same (c.requires ∙ ap (λ (r : Rows). filter (λ o. not (get_or c.args.marks.now o false)) (live_in r.objects)) (sym c.self.view_is)) in
+    let all =
+    all_of c.self.inside.objects.items c.self.inside.there.items c.args.marks.now c.args.unheld.now
+    c.self.invariant.0.same
+    (c.requires ∙ ap (λ (r : Rows). filter (λ o. not (get_or c.args.marks.now o false)) (live_in r.objects))
+    (sym c.self.view_is)) in
     λ i d h. omega (arith, all i d h, ap (λ (bs : List Bool). length bs) c.deref_mut.ensures.value)
 
 pub invariant_of-self : goal.invariant_of-self
@@ -33,7 +37,8 @@ invariant_of-self g c =
     let seen : c.deref.result.now ≡ flags = c.deref.ensures.value ∙ sym flagged in (
       subst (λ (bs : List Bool). Stored bodies bs blocks loose points) flagged
           (stored_swept bodies there marks unheld c.self.invariant.0.same listed flags count goes c.self.inside.blocks.items blocks loose c.self.inside.pointing.items points c.self.invariant.0
-          (subst (λ (bs : List Bool). filter (λ o. get_or bs o false) (numbers_in blocks loose (length bs)) ≡ filter (λ o. get_or bs o false) (numbers_in c.self.inside.blocks.items loose (length bs))) seen
+          (subst (λ (bs : List Bool). filter (λ o. get_or bs o false) (numbers_in blocks loose (length bs))
+          ≡ filter (λ o. get_or bs o false) (numbers_in c.self.inside.blocks.items loose (length bs))) seen
           (c.close_up_if-self-inside.ensures.there loose))
           (subst (λ (bs : List Bool). AreWhole blocks (length bs)) seen c.close_up_if-self-inside.ensures.whole) c.retain_marked.ensures),
       subst (λ (bs : List Bool). length bs ≤ length c.self.inside.marks) flagged (omega (arith, count, c.self.invariant.1)),
@@ -65,7 +70,9 @@ returns-clause-stands g c e roots stands held =
     let objects = objects_of bodies there in
     ap (λ (bs : List Bool). map row_of (objects_of bodies bs)) (sym flagged)
     ∙ rows_swept objects objects (objects_of bodies flags) unheld c.args.self.now c.self.inside.class_count e roots marks refl c.self.view_is c.requires stands
-    (length-objects_of bodies flags (count ∙ c.self.invariant.0.same) ∙ sym (length-objects_of bodies there c.self.invariant.0.same)) (swept_of bodies there marks unheld c.self.invariant.0.same listed flags count goes) held
+    (length-objects_of bodies flags (count ∙ c.self.invariant.0.same)
+    ∙ sym (length-objects_of bodies there c.self.invariant.0.same))
+    (swept_of bodies there marks unheld c.self.invariant.0.same listed flags count goes) held
 
 pub returns-clause-shapes : goal.returns-clause-shapes
 returns-clause-shapes g c =

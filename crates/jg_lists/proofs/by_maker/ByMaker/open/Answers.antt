@@ -7,7 +7,9 @@ use Rattle.jg_lists.proofs.Tables.{opened}
 use Rattle.jg_lists.proofs.by_maker.ByMaker.open.Goals as goal
 
 pub returns-then-contains-clause-table : goal.returns-then-contains-clause-table
-returns-then-contains-clause-table g c = some_there (at c.args.maker c.args.self.now) (ap (λ (es : List (ℕ × List (ℕ × g.row.V.Denot))). is_some (at c.args.maker es)) (sym c.self.view_is) ∙ (sym c.contains.ensures.value ∙ c.if-contains.true))
+returns-then-contains-clause-table g c =
+    some_there (at c.args.maker c.args.self.now)
+    (ap (λ (es : List (ℕ × List (ℕ × g.row.V.Denot))). is_some (at c.args.maker es)) (sym c.self.view_is) ∙ (sym c.contains.ensures.value ∙ c.if-contains.true))
 
 pub returns-then-contains-clause-once : goal.returns-then-contains-clause-once
 returns-then-contains-clause-once g c = subst (λ (es : List (ℕ × List (ℕ × g.row.V.Denot))). IsOnce es) c.self.view_is c.contains.ensures.once

@@ -17,7 +17,8 @@ returns-in_err-self-inside-clause-once g c = once c.make_room.new.slots.items c.
 pub returns-in_err-push-clause-once : goal.returns-in_err-push-clause-once
 returns-in_err-push-clause-once g c =
     once c.make_room.new.slots.items c.push.new.self.items _
-    (subst (λ (seats : List (Numbered g.row.V.Denot)). Placed c.make_room.new.slots.items (map number_of seats)) (sym c.in_err-push.ensures.items) (c.make_room.ensures.placed c.self.invariant.placed)) refl
+    (subst (λ (seats : List (Numbered g.row.V.Denot)). Placed c.make_room.new.slots.items (map number_of seats))
+    (sym c.in_err-push.ensures.items) (c.make_room.ensures.placed c.self.invariant.placed)) refl
 
 pub invariant_of-self-2 : goal.invariant_of-self-2
 invariant_of-self-2 g c =

@@ -18,7 +18,8 @@ returns-in_default-clause-once g c = once c.self.inside.slots.items c.self.insid
 
 pub invariant_of-self : goal.invariant_of-self
 invariant_of-self g c =
-    standing_without c.self.inside.slots.items c.leave_slot-used.new.slots.items c.self.inside.seats.items c.swap_remove-seat.new.self.items c.args.number c.in-Some.found.slot c.in-Some.found.seat c.swap_remove-seat.result
+    standing_without c.self.inside.slots.items c.leave_slot-used.new.slots.items c.self.inside.seats.items c.swap_remove-seat.new.self.items
+    c.args.number c.in-Some.found.slot c.in-Some.found.seat c.swap_remove-seat.result
     c.self.invariant.placed c.in-Some.ensures.found c.leave_slot-used.ensures.leaves c.swap_remove-seat.ensures.value c.swap_remove-seat.ensures.items
     c.leave_slot-used.result c.leave_slot-used.ensures.counted c.leave_slot-used.ensures.live c.leave_slot-used.ensures.room
 
@@ -33,13 +34,15 @@ returns-clause-was g c =
 
 pub returns-clause-taken : goal.returns-clause-taken
 returns-clause-taken g c =
-    seen_less c.self.inside.slots.items c.leave_slot-used.new.slots.items c.self.inside.seats.items c.swap_remove-seat.new.self.items c.args.number c.in-Some.found.slot c.in-Some.found.seat c.swap_remove-seat.result
+    seen_less c.self.inside.slots.items c.leave_slot-used.new.slots.items c.self.inside.seats.items c.swap_remove-seat.new.self.items
+    c.args.number c.in-Some.found.slot c.in-Some.found.seat c.swap_remove-seat.result
     c.self.invariant.placed c.in-Some.ensures.found c.leave_slot-used.ensures.leaves c.swap_remove-seat.ensures.value c.swap_remove-seat.ensures.items
     c.args.self.now c.self.view_is
 
 pub returns-clause-removed : goal.returns-clause-removed
 returns-clause-removed g c = λ q.
-    let none = none_left c.self.inside.slots.items c.leave_slot-used.new.slots.items c.self.inside.seats.items c.swap_remove-seat.new.self.items c.args.number c.in-Some.found.slot c.in-Some.found.seat c.swap_remove-seat.result
+    let none = none_left c.self.inside.slots.items c.leave_slot-used.new.slots.items c.self.inside.seats.items
+    c.swap_remove-seat.new.self.items c.args.number c.in-Some.found.slot c.in-Some.found.seat c.swap_remove-seat.result
     c.self.invariant.placed c.in-Some.ensures.found c.leave_slot-used.ensures.leaves c.swap_remove-seat.ensures.value c.swap_remove-seat.ensures.items in
     removed_at c.args.self.now (map seen c.swap_remove-seat.new.self.items) c.args.number q c.swap_remove-seat.result.value
     (once c.self.inside.slots.items c.self.inside.seats.items c.args.self.now c.self.invariant.placed c.self.view_is) (returns-clause-taken g c) none

@@ -15,11 +15,13 @@ returns-in-Some-clause-once g c = set_once c.args.self.now c.args.number c.args.
 -- the number has a value, so it is found
 pub returns-in_default-clause-entries : goal.returns-in_default-clause-entries
 returns-in_default-clause-entries g c =
-    none_some _ (not_found c.self.inside.slots.items c.self.inside.seats.items c.args.self.now c.args.number c.self.invariant.placed c.self.view_is (c.find_slot.ensures.none c.in_default.is)) c.requires
+    none_some _ (not_found c.self.inside.slots.items c.self.inside.seats.items c.args.self.now c.args.number c.self.invariant.placed c.self.view_is
+    (c.find_slot.ensures.none c.in_default.is)) c.requires
 
 pub returns-in_default-clause-set : goal.returns-in_default-clause-set
 returns-in_default-clause-set g c =
-    none_some _ (not_found c.self.inside.slots.items c.self.inside.seats.items c.args.self.now c.args.number c.self.invariant.placed c.self.view_is (c.find_slot.ensures.none c.in_default.is)) c.requires
+    none_some _ (not_found c.self.inside.slots.items c.self.inside.seats.items c.args.self.now c.args.number c.self.invariant.placed c.self.view_is
+    (c.find_slot.ensures.none c.in_default.is)) c.requires
 
 pub returns-in_default-clause-once : goal.returns-in_default-clause-once
 returns-in_default-clause-once g c = once c.self.inside.slots.items c.self.inside.seats.items c.args.self.now c.self.invariant.placed c.self.view_is

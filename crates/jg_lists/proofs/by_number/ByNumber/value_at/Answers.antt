@@ -8,7 +8,8 @@ pub invariant_of-self-lent : goal.invariant_of-self-lent
 invariant_of-self-lent g c w =
     let seats = c.self.inside.seats.items in
     subst (λ numbers. Standing c.self.inside.slots.items numbers c.self.inside.used)
-    (sym (same_numbers seats c.args.seat c.index_mut.result.now (record { number = c.index_mut.result.now.number; value = w }) (within_view seats c.args.self.now c.args.seat c.self.view_is c.requires.seated)
+    (sym (same_numbers seats c.args.seat c.index_mut.result.now (record { number = c.index_mut.result.now.number; value = w })
+    (within_view seats c.args.self.now c.args.seat c.self.view_is c.requires.seated)
     (ap (λ (s : Numbered g.row.V.Denot). s.number) (sym c.index_mut.ensures.value))))
     c.self.invariant
 
@@ -22,7 +23,8 @@ returns g c =
     let value = found slots seats c.args.self.now c.args.number c.args.seat c.index_mut.result.now c.self.invariant.placed c.self.view_is inside own in (
       (
         refl,
-        λ w. written slots seats c.args.self.now c.args.number c.args.seat c.index_mut.result.now (record { number = c.index_mut.result.now.number; value = w }) w c.self.invariant.placed c.self.view_is inside own
+        λ w. written slots seats c.args.self.now c.args.number c.args.seat c.index_mut.result.now
+            (record { number = c.index_mut.result.now.number; value = w }) w c.self.invariant.placed c.self.view_is inside own
             (ap (λ k. (k, w)) mine),
       ),
       record {

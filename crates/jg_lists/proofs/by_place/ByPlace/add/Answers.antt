@@ -32,7 +32,8 @@ returns-in_err-push-clause-once g c = once c.widen.new.items.items c.push.new.se
 pub invariant_of-self-2 : goal.invariant_of-self-2
 invariant_of-self-2 g c =
     let was = placed_same c.self.inside.places.items c.widen.new.items.items (map number_of c.self.inside.seats.items) c.self.invariant c.widen.ensures.same in
-    placed_more c.widen.new.items.items c.self.inside.seats.items c.push.new.self.items c.args.self.now c.args.number c.in-Ok.place (record { number = c.args.number; value = c.args.value }) was c.self.view_is c.requires
+    placed_more c.widen.new.items.items c.self.inside.seats.items c.push.new.self.items c.args.self.now c.args.number c.in-Ok.place
+    (record { number = c.args.number; value = c.args.value }) was c.self.view_is c.requires
     c.in_ok-widen.ensures.ok refl c.in_ok-push.ensures.items
     (let more = ap length c.in_ok-push.ensures.items ∙ length-append c.self.inside.seats.items _ in omega (arith, more, c.in-Ok.ensures, c.len.ensures, c.self.inside.seats.ok))
 

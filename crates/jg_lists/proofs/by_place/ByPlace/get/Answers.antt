@@ -21,7 +21,8 @@ pub returns-clause-value : goal.returns-clause-value
 returns-clause-value g c =
     let some : 1 ≤ c.number_at-place.result = grind (arith, nat_tests, c.if-place-eq0.false) in
     ap (λ (s : Numbered g.row.V.Denot). Some s.value) c.index.ensures
-    ∙ sym (found c.self.inside.places.items c.self.inside.seats.items c.args.self.now c.args.number c.number_at-place.result c.index.result.now c.self.invariant c.self.view_is c.number_at-place.ensures some)
+    ∙ sym (found c.self.inside.places.items c.self.inside.seats.items c.args.self.now c.args.number c.number_at-place.result
+    c.index.result.now c.self.invariant c.self.view_is c.number_at-place.ensures some)
 
 pub returns-clause-once : goal.returns-clause-once
 returns-clause-once g c = once c.self.inside.places.items c.self.inside.seats.items c.args.self.now c.self.invariant c.self.view_is

@@ -14,7 +14,9 @@ count_gone-requires g c = opens_ascending c.self.inside.slots.items c.self.insid
 pub invariant_of-self : goal.invariant_of-self
 invariant_of-self g c =
     let frames = map frame_of c.self.inside.frames.items in (
-      delete_stacked c.self.inside.slots.items c.end_local-gone.new.slots.items c.close_up_if-dead.new.slots.items c.self.inside.frames.items _ c.end_local-gone.result c.args.n c.self.invariant.0 c.count_gone.ensures.counted c.end_local-gone.ensures.was
+      delete_stacked c.self.inside.slots.items c.end_local-gone.new.slots.items c.close_up_if-dead.new.slots.items
+          c.self.inside.frames.items _ c.end_local-gone.result c.args.n c.self.invariant.0 c.count_gone.ensures.counted
+          c.end_local-gone.ensures.was
           c.end_local-gone.ensures.live c.close_up_if-dead.ensures.live (c.close_up_if-dead.ensures.sound frames (c.end_local-gone.ensures.sound frames c.self.invariant.0.kept.sound))
           (c.close_up_if-dead.ensures.ends c.end_local-gone.ensures.ends),
       c.close_up_if-dead.ensures.dead (let fits : length c.self.inside.slots.items < 2 ^ 63 = search rules in

@@ -22,7 +22,9 @@ pub invariant_of-self-2 : goal.invariant_of-self-2
 invariant_of-self-2 g c =
     let is : last (map frame_of c.self.inside.frames.items) ≡ Some c.unwrap-top.result = ap (λ (r : StackRows). last r.frames) c.self.view_is ∙ cc in
     let above : All (λ s. s.n < c.args.n) (filter is_live c.self.inside.slots.items) = subst (λ (r : StackRows). All (λ s. s.n < c.args.n) r.locals) (sym c.self.view_is) c.requires.above in (
-      rw c.in_ok-push.ensures.ok (make_stacked c.self.inside.slots.items c.self.inside.frames.items _ c.unwrap-top.result c.args.n c.args.object c.self.invariant.0 is above c.count_more.ensures.counted),
+      rw c.in_ok-push.ensures.ok
+          (make_stacked c.self.inside.slots.items c.self.inside.frames.items _ c.unwrap-top.result c.args.n c.args.object
+          c.self.invariant.0 is above c.count_more.ensures.counted),
       omega (arith, ap dead_in c.in_ok-push.ensures.ok ∙ dead-pushed c.self.inside.slots.items _ refl, c.self.invariant.1),
       omega (arith, ap (λ slots. length (filter is_live slots)) c.in_ok-push.ensures.ok ∙ live-append c.self.inside.slots.items (_ ∷ []), c.self.invariant.2),
     )

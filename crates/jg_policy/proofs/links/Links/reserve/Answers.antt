@@ -14,7 +14,8 @@ returns-clause-stands g c e stands =
 pub returns-in_err-try_reserve-2-clause-stands : goal.returns-in_err-try_reserve-2-clause-stands
 returns-in_err-try_reserve-2-clause-stands g c e stands =
     let before : Stands (rows_of c.self.inside.linked.keys c.self.inside.warned.keys) e = subst (λ (t : Table). Stands t.rows e) (sym c.self.view_is) stands in
-    after_reserve c.self.inside.linked.keys c.self.inside.warned.keys e before c.try_reserve.new.self.keys c.self.inside.warned.keys c.try_reserve.ensures.keys.0 (IsPermutation-refl c.self.inside.warned.keys)
+    after_reserve c.self.inside.linked.keys c.self.inside.warned.keys e before c.try_reserve.new.self.keys c.self.inside.warned.keys c.try_reserve.ensures.keys.0
+    (IsPermutation-refl c.self.inside.warned.keys)
 
 pub invariant_of-self-in_err-try_reserve-2 : goal.invariant_of-self-in_err-try_reserve-2
 invariant_of-self-in_err-try_reserve-2 g c =

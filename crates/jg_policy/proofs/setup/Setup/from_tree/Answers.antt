@@ -23,8 +23,8 @@ returns-then-is_too_large-clause-refused c _ =
     ap (λ items. states_twice (each_item class_stated items)) (sym c.items_at-stated.ensures) ∙ sym c.in-Ok-false.ensures ∙ c.in-Ok-false.field-0-test in
     first_found (tree_faults (table_view c.args.table.now)) _ (size_answers (table_view c.args.table.now) (sym c.in_default.ensures) once (sym c.if-is_too_large.ensures))
 
-pub settle-requires : goal.settle-requires
-settle-requires c =
+pub settle_classes-requires : goal.settle_classes-requires
+settle_classes-requires c =
     let stated = setup_stated (table_view c.args.table.now) in
     let classes : map class_view c.in-Ok.classes.entries ≡ stated.classes = c.in-Ok.ensures ∙ ap (each_item class_stated) c.items_at-stated.ensures in
     few_classes c.in-Ok-grants_of.grants.items c.in-Ok.classes.entries
@@ -42,7 +42,7 @@ invariant_of-result c =
         distinct = ap states_twice c.in-Ok.ensures ∙ sym c.in-Ok-false.ensures ∙ c.in-Ok-false.field-0-test;
         spelt = rw (grants, classes) (setup_spelt (table_view c.args.table.now) none);
       };
-      settled = rw (← c.as_slice.ensures.value) c.in-Ok-settle.ensures;
+      settled = rw (← c.as_slice.ensures.value) c.in-Ok-settle_classes.ensures;
     }
 
 pub returns-clause-clean : goal.returns-clause-clean

@@ -7,12 +7,16 @@ pub returns-clause-stands : goal.returns-clause-stands
 returns-clause-stands g c = λ e stands.
     detach_law c.self.inside.rows c.replace.new.self c.args.self.now e c.args.tid.0 c.self.view_is c.replace.ensures.was_once c.replace.ensures.once stands
     (written_by c.self.inside.rows c.replace.new.self c.args.tid.0 (λ (r : Row). record r { attached = false; depth = 0; pending = None }) _
-    (ap (λ (r : Row). record r { attached = false; depth = 0; pending = None }) (c.row-row.ensures ∙ ap (λ (rows : List (ℕ × Row)). row_of rows c.args.tid.0) (sym c.self.view_is))) c.replace.ensures.put)
+    (ap (λ (r : Row). record r { attached = false; depth = 0; pending = None })
+    (c.row-row.ensures ∙ ap (λ (rows : List (ℕ × Row)). row_of rows c.args.tid.0) (sym c.self.view_is)))
+    c.replace.ensures.put)
 
 pub returns-clause-row : goal.returns-clause-row
 returns-clause-row g c =
     let change = λ (r : Row). record r { attached = false; depth = 0; pending = None } in
     row_now c.args.self.now c.replace.new.self c.args.tid.0 change
     (subst (λ (rows : List (ℕ × Row)). Written rows c.replace.new.self c.args.tid.0 change) c.self.view_is
-    (written_by c.self.inside.rows c.replace.new.self c.args.tid.0 change _ (ap change (c.row-row.ensures ∙ ap (λ (rows : List (ℕ × Row)). row_of rows c.args.tid.0) (sym c.self.view_is))) c.replace.ensures.put))
+    (written_by c.self.inside.rows c.replace.new.self c.args.tid.0 change _
+    (ap change (c.row-row.ensures ∙ ap (λ (rows : List (ℕ × Row)). row_of rows c.args.tid.0) (sym c.self.view_is)))
+    c.replace.ensures.put))
     (inr refl)

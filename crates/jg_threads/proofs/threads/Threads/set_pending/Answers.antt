@@ -14,5 +14,7 @@ returns-clause-row g c =
     let change = λ (r : Row). record r { pending = Some c.args.object.0 } in
     row_now c.args.self.now c.replace.new.self c.args.tid.0 change
     (subst (λ (rows : List (ℕ × Row)). Written rows c.replace.new.self c.args.tid.0 change) c.self.view_is
-    (written_by c.self.inside.rows c.replace.new.self c.args.tid.0 change _ (ap change (c.row-row.ensures ∙ ap (λ (rows : List (ℕ × Row)). row_of rows c.args.tid.0) (sym c.self.view_is))) c.replace.ensures.put))
+    (written_by c.self.inside.rows c.replace.new.self c.args.tid.0 change _
+    (ap change (c.row-row.ensures ∙ ap (λ (rows : List (ℕ × Row)). row_of rows c.args.tid.0) (sym c.self.view_is)))
+    c.replace.ensures.put))
     (inl c.requires)

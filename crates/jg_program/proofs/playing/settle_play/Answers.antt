@@ -3,7 +3,7 @@ use Rattle.std.specs.Prelude.{All}
 use Rattle.jg_shell.specs.Settled.{IsOwnEntries, IsOfSome}
 use Rattle.jg_shell.specs.Work.{Work}
 use Rattle.jg_program.proofs.Telling.{settled_by}
-use Rattle.jg_program.proofs.playing.settle.Goals as goal
+use Rattle.jg_program.proofs.playing.settle_play.Goals as goal
 
 pub end_told-requires : goal.end_told-requires
 end_told-requires g c =

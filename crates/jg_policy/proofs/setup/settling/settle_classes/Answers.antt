@@ -6,7 +6,7 @@ use Rattle.jg_policy.specs.declared.access.Operation.TheVariants.{Load, Register
 use Rattle.jg_policy.specs.Access.{module_access, access_by}
 use Rattle.jg_policy.specs.Settling.{setup_view}
 use Rattle.jg_policy.proofs.Settling.{starts, continues}
-use Rattle.jg_policy.proofs.setup.settling.settle.Goals as goal
+use Rattle.jg_policy.proofs.setup.settling.settle_classes.Goals as goal
 
 pub loop-class-init : goal.loop-class-init
 loop-class-init c =

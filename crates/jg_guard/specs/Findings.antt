@@ -8,19 +8,19 @@ use Rattle.jg_heap.specs.Rows.{Rows}
 use Rattle.jg_heap.specs.Standing.{AreListed, MarksHeld}
 use Rattle.jg_rules.specs.Parts.{Parts}
 use Rattle.jg_rules.specs.Holding.{roots, going}
-use Rattle.jg_guard.specs.declared.collect.Held.{Held}
+use Rattle.jg_guard.specs.declared.collect.Findings.{Findings}
 
 -- the marks are those of what something holds, and the others in being are listed
-pub record IsHeld {A : Type 0} (setup : StatedSetup) (p : Parts) (held : Held A) : Type 0 where
-  pub marks : MarksHeld (class_count setup) (roots setup p) p.heap held.marks
-  pub unheld : held.unheld.items ≡ going setup p
+pub record AreFound {A : Type 0} (setup : StatedSetup) (p : Parts) (findings : Findings A) : Type 0 where
+  pub marks : MarksHeld (class_count setup) (roots setup p) p.heap findings.marks
+  pub unheld : findings.unheld.items ≡ going setup p
 
 -- a collection has found what is held; no other call has to
-abbrev pub Finds : {A : Type 0} → StatedSetup → Parts → Call → Held A → Type 0
-Finds setup p (Vm Collect) held = IsHeld setup p held
-Finds setup p call held = Unit {0}
+abbrev pub Finds : {A : Type 0} → StatedSetup → Parts → Call → Findings A → Type 0
+Finds setup p (Vm Collect) findings = AreFound setup p findings
+Finds setup p call findings = Unit {0}
 
 -- what a collection found is listed as the store stands
-abbrev pub IsReady : {A : Type 0} → Rows → Call → Held A → Type 0
-IsReady rows (Vm Collect) held = AreListed rows held.marks held.unheld.items
-IsReady rows call held = Unit {0}
+abbrev pub IsReady : {A : Type 0} → Rows → Call → Findings A → Type 0
+IsReady rows (Vm Collect) findings = AreListed rows findings.marks findings.unheld.items
+IsReady rows call findings = Unit {0}

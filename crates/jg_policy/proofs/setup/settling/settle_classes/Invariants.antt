@@ -2,7 +2,7 @@ use Rattle.std.specs.HashMap.{get_by}
 use Rattle.std.specs.Str.{bytes_eq}
 use Rattle.jg_policy.specs.Settling.{setup_view}
 use Rattle.jg_policy.proofs.Settling.{IsSettling}
-use Rattle.jg_policy.proofs.setup.settling.settle.Given as goal
+use Rattle.jg_policy.proofs.setup.settling.settle_classes.Given as goal
 
 abbrev pub invariant-loop-class : goal.invariant-loop-class
 invariant-loop-class l =

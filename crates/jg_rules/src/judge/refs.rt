@@ -1,14 +1,15 @@
-//! Rule 13: what is deleted isn't what keeps a critical buffer open.
+//! The calls on references: what a call deletes isn't what keeps a critical buffer open (rule 13).
 
-ghost use Rattle.std.specs.Prelude.{◌≡◌};
+ghost use Rattle.std.specs.Prelude.{◌≡◌, ℕ};
 ghost use Rattle.jg_words.specs.declared.call.Call.TheVariants.{Refs};
 ghost use Rattle.jg_rules.specs.Parts.{Parts};
 ghost use Rattle.jg_rules.specs.Rules.{own_verdict, refs_pinned};
 ghost use Rattle.jg_rules.specs.View.{ViewTells};
 
+use super::broken_if;
 use crate::store::Store;
 use crate::view::View;
-use jg_words::{RefsCall, Rule, Tid};
+use jg_words::{RefsCall, Rule};
 use std::alloc::Allocator;
 
 fn is_pinned<A: Allocator + Clone, S: Store>(view: &View<'_, A, S>, call: &RefsCall) -> bool
@@ -29,16 +30,10 @@ fn is_pinned<A: Allocator + Clone, S: Store>(view: &View<'_, A, S>, call: &RefsC
 /// The first of rules 10 to 17 that a call of the group breaks.
 pub(crate) fn judge_refs<A: Allocator + Clone, S: Store>(
     view: &View<'_, A, S>,
-    tid: Tid,
     call: &RefsCall,
 ) -> Option<Rule>
-    ensures { (p : Parts) → ViewTells S.Tells view.now p
-        → result ≡ own_verdict view.now.setup.now p tid.0 (Refs call.now) }
+    ensures { (p : Parts) (t : ℕ) → ViewTells S.Tells view.now p
+        → result ≡ own_verdict view.now.setup.now p t (Refs call.now) }
 {
-    let _tid = tid;
-    if is_pinned(view, call) {
-        Some(Rule::Pinned)
-    } else {
-        None
-    }
+    broken_if(is_pinned(view, call), Rule::Pinned)
 }
