@@ -17,9 +17,10 @@ use Rattle.jg_buffers.specs.Standing.{rows_of, Stands}
 use Rattle.jg_buffers.proofs.Maps.{Keyed, found_row, exact}
 use Rattle.jg_buffers.proofs.Numbers.{no_row, adds_number, keeps_numbers}
 use Rattle.jg_buffers.proofs.Lookups.{row_is, copies_free, pins_critical}
-use Rattle.jg_lists.proofs.Lists.{first}
+use Rattle.jg_lists.proofs.Lists.{first, find-filter}
 use Rattle.jg_lists.proofs.Named.{once_named, rows_named}
-use Rattle.jg_buffers.proofs.Steps.{first_of, find_first, find_both, rows_elsewhere_opened, rows_elsewhere_closed, rows_elsewhere_wrote, rows_of_copy, rows_of_pin, rows_of_closed, rows_of_written, Agrees, tells, stands_by, nothing_there, closed_law, each_key}
+use Rattle.jg_buffers.proofs.Steps.{first_of, rows_elsewhere_opened, rows_elsewhere_closed, rows_elsewhere_wrote, rows_of_copy, rows_of_pin, rows_of_closed, rows_of_written, Agrees, tells, stands_by, nothing_there, closed_law, each_key, find-append}
+use Rattle.jg_buffers.proofs.Pins.{head_is}
 
 -- what the table sees of its two maps
 abbrev pub seen : {I : Type 0} → (I → List ℤ) → List ((ℕ × ℕ) × Copied I) → List ((ℕ × ℕ) × Pinned) → Rows
@@ -121,11 +122,11 @@ not_mapped f (Some x) is = cc
 -- a new number is in no map
 pub no_pin : {I : Type 0} (shows : I → List ℤ) (es : List ((ℕ × ℕ) × Copied I)) (fs : List ((ℕ × ℕ) × Pinned)) (t k : ℕ) → IsAbove t k (seen shows es fs) → lookup (same_name (t, k)) fs ≡ None
 no_pin shows es fs t k above =
-    let none : find (is_buffer t k) (map (copy_seen shows) es ++ map pin_seen fs) ≡ None = find_first (is_buffer t k) (map (copy_seen shows) es ++ map pin_seen fs)
+    let none : find (is_buffer t k) (map (copy_seen shows) es ++ map pin_seen fs) ≡ None = find-filter (is_buffer t k) (map (copy_seen shows) es ++ map pin_seen fs)
     ∙ ap first (no_row (seen shows es fs) t k above) in
     not_mapped (λ w. pin_seen ((t, k), w)) (lookup (same_name (t, k)) fs)
     (sym (found_row pin_seen (λ i j x. refl) t k fs) ∙ second_none (find (is_buffer t k) (map (copy_seen shows) es)) (find (is_buffer t k) (map pin_seen fs))
-    (sym (find_both (is_buffer t k) (map (copy_seen shows) es) (map pin_seen fs)) ∙ none))
+    (sym (find-append (is_buffer t k) (map (copy_seen shows) es) (map pin_seen fs)) ∙ none))
 
 pub close_law : {I : Type 0} (shows : I → List ℤ) (es news : List ((ℕ × ℕ) × Copied I)) (fs others : List ((ℕ × ℕ) × Pinned)) (e : List Event) (t k : ℕ)
     → Stands (seen shows es fs) e → IsDistinct same_name (keys_of news) → StayOnce fs others → Changes es news t k None → Changes fs others t k None
@@ -145,9 +146,6 @@ close_law shows es news fs others e t k stands distinct once drops removes =
     (ap (λ c. option_to_list c ++ option_to_list (find (is_buffer t k) (map pin_seen others))) copy ∙ (ap option_to_list pin ∙ sym (rows_of_closed e t k))))
 
 -- ---- a write
-
-head_is : (a b : Buffer) (rest : List Buffer) → a ∷ rest ≡ b ∷ [] → a ≡ b
-head_is a b rest is = cc
 
 pin_short : (t k : ℕ) (w : Pinned) (i : ℕ) → i < copy_length (Some (pin_seen ((t, k), w))) → i < 0
 pin_short t k w i within = rw pins_critical at within

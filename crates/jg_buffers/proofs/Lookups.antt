@@ -18,7 +18,7 @@ use Rattle.jg_buffers.specs.Rows.{Rows, is_buffer, row_of, copy_length, items_in
 use Rattle.jg_buffers.specs.Seen.{copy_seen, pin_seen, copy_family, pin_family}
 use Rattle.jg_buffers.specs.Standing.{Stands}
 use Rattle.jg_buffers.proofs.Maps.{found_row}
-use Rattle.jg_buffers.proofs.Steps.{first_of, find_both, row_now, row_law}
+use Rattle.jg_buffers.proofs.Steps.{first_of, row_now, row_law, find-append}
 
 -- a value is seen as its view
 pub reopened : (a b : Rows) (e : List Event) → a ≡ b → Stands b e → Stands a e
@@ -31,7 +31,7 @@ pub row_is : {I : Type 0} (shows : I → List ℤ) (es : List ((ℕ × ℕ) × C
     → record { lent = map (copy_seen shows) es ++ map pin_seen fs } ≡ rows
     → row_of m n rows ≡ first_of (option_map (λ w. copy_seen shows ((m, n), w)) (lookup (same_name (m, n)) es)) (option_map (λ w. pin_seen ((m, n), w)) (lookup (same_name (m, n)) fs))
 row_is shows es fs rows m n is =
-    ap (row_of m n) (sym is) ∙ (find_both (is_buffer m n) (map (copy_seen shows) es) (map pin_seen fs)
+    ap (row_of m n) (sym is) ∙ (find-append (is_buffer m n) (map (copy_seen shows) es) (map pin_seen fs)
     ∙ (ap (λ c. first_of c (find (is_buffer m n) (map pin_seen fs))) (found_row (copy_seen shows) (λ i j e. refl) m n es)
     ∙ ap (first_of (option_map (λ w. copy_seen shows ((m, n), w)) (lookup (same_name (m, n)) es))) (found_row pin_seen (λ i j e. refl) m n fs)))
 

@@ -16,6 +16,7 @@ use Rattle.jg_words.specs.declared.reference.Kind.TheVariants.{Local, Global, We
 use Rattle.jg_lists.proofs.Named.{name_laws, equal_names}
 use Rattle.jg_buffers.specs.History.{Buffer, same_ref}
 use Rattle.jg_lists.specs.ByMaker.{same_name}
+use Rattle.jg_lists.specs.Acts.{once_if}
 use Rattle.jg_buffers.specs.Keys.{same_triple}
 use Rattle.jg_buffers.specs.Rows.{is_buffer}
 use Rattle.jg_buffers.specs.Seen.{key_of}
@@ -89,21 +90,18 @@ pub some_counted : {X : Type 0} (p : X → Bool) (xs : List X) → nat_lt 0 (how
 some_counted p [] = refl
 some_counted p (x ∷ xs) = some_here p x xs (p x) (some_counted p xs)
 
-abbrev one_if : Bool → ℕ
-one_if b = if b then 1 else 0
-
-added : (b : Bool) (h : ℕ) → one_if b + h ≡ (if b then h + 1 else h)
+added : (b : Bool) (h : ℕ) → once_if b + h ≡ (if b then h + 1 else h)
 added true h = omega arith
 added false h = omega arith
 
-counted_sum : {X : Type 0} (p : X → Bool) (xs : List X) → sum_by (λ x. one_if (p x)) xs ≡ how_many p xs
+counted_sum : {X : Type 0} (p : X → Bool) (xs : List X) → sum_by (λ x. once_if (p x)) xs ≡ how_many p xs
 counted_sum p [] = refl
-counted_sum p (x ∷ xs) = sum_by-cons (λ x. one_if (p x)) x xs ∙ (ap (λ h. one_if (p x) + h) (counted_sum p xs) ∙ added (p x) (how_many p xs))
+counted_sum p (x ∷ xs) = sum_by-cons (λ x. once_if (p x)) x xs ∙ (ap (λ h. once_if (p x) + h) (counted_sum p xs) ∙ added (p x) (how_many p xs))
 
 -- one entry less is one less of the count
 pub counted_popped : {X : Type 0} (p : X → Bool) (x : X) (xs ys : List X) → IsPermutation xs (x ∷ ys) → how_many p xs ≡ (if p x then how_many p ys + 1 else how_many p ys)
 counted_popped p x xs ys moves =
-    let popped = sum_by_popped (λ x. one_if (p x)) x xs ys moves in
+    let popped = sum_by_popped (λ x. once_if (p x)) x xs ys moves in
     let before = counted_sum p xs in
     let after = counted_sum p ys in
     let one = added (p x) (how_many p ys) in

@@ -2,11 +2,13 @@
 use Rattle.std.proofs.Common.{◌≡◌, ℕ, ◌<◌, Bool, true, false, List, [], ◌∷◌, ◌++◌, Option, Some, None, refl, ◌∙◌, ap, sym, subst, arith, eqb-true}
 use Rattle.std.specs.Prelude.{◌==◌, ◌&&◌, ◌||◌, ℤ, pos, if◌then◌else◌, slice_index_or}
 use Rattle.std.specs.List.{list_any}
-use Rattle.std.proofs.lemmas.Bool.Decides.{nat_tests}
+use Rattle.std.proofs.lemmas.Bool.Decides.{nat_tests, or_parts}
 use Rattle.std.proofs.lemmas.Option.{same_Some}
+use Rattle.std.proofs.lemmas.Bool.{eq-eqb}
 use Rattle.jg_words.specs.declared.reference.Ref.{Ref}
 use Rattle.jg_words.specs.declared.reference.Ref.TheVariants.{Null, To}
 use Rattle.jg_words.specs.declared.reference.Kind.TheVariants.{Local, Global, Weak}
+use Rattle.jg_words.proofs.Common.{eqb_self}
 use Rattle.jg_buffers.specs.History.{Buffer, Event, Opened, Wrote, Closed, ReleaseAll, is_same, is_critical, opened, content, in_critical, pinned_by, pins_object, same_ref}
 use Rattle.jg_buffers.specs.Laws.{about, OpenSince, changes, CriticalBuffer, IsOpenedBelow, NumbersRise, opens}
 use Rattle.jg_buffers.specs.Rows.{Rows, IsAbove}
@@ -15,7 +17,7 @@ use Rattle.jg_buffers.proofs.Counts.{same_ref_is}
 use Rattle.jg_buffers.proofs.Lookups.{still_open, still_lent}
 use Rattle.jg_buffers.proofs.Numbers.{above_law}
 use Rattle.jg_buffers.proofs.Pins.{OpenPin, pins_law, pins_have}
-use Rattle.jg_buffers.proofs.Steps.{row_law, row_now}
+use Rattle.jg_buffers.proofs.Steps.{row_law, row_now, same_self}
 
 -- ---- open
 
@@ -61,10 +63,6 @@ open_since (ReleaseAll k ∷ e) m n b now =
     let since = open_since e m n b left.0 in
     same_later (ReleaseAll k) e m n b (ap (λ o. (k == o) && is_critical b.family) (own_maker m n b since.own) ∙ left.1) since
 
-none_either : (a b : Bool) → (a || b) ≡ false → (a ≡ false) × (b ≡ false)
-none_either true b none = cc
-none_either false b none = (refl, none)
-
 left_open : (b : Buffer) (c critical : Bool) → (c && critical) ≡ false → (if c then if◌then◌else◌ {A = Option Buffer} critical None (Some b) else Some b) ≡ Some b
 left_open b true true some = cc
 left_open b true false none = refl
@@ -81,7 +79,7 @@ open_left (ReleaseAll k) e m n b own other was =
 open_kept : (later before : List Event) (m n : ℕ) (b : Buffer) → is_same m n b.maker b.n ≡ true → list_any (about b) later ≡ false → opened (later ++ Opened b ∷ before) m n ≡ Some b
 open_kept [] before m n b own kept = rw own refl
 open_kept (ev ∷ later) before m n b own kept =
-    let parts = none_either (about b ev) (list_any (about b) later) kept in
+    let parts = or_parts (about b ev) (list_any (about b) later) kept in
     open_left ev (later ++ Opened b ∷ before) m n b own parts.0 (open_kept later before m n b own parts.1)
 
 pub since_open : (e : List Event) (m n : ℕ) (b : Buffer) → OpenSince e m n b → opened e m n ≡ Some b
@@ -95,23 +93,17 @@ content_other (Wrote k j p v) e m n i other = rw other refl
 content_other (Closed k j) e m n i other = refl
 content_other (ReleaseAll k) e m n i other = refl
 
-same_self : (m n : ℕ) → is_same m n m n ≡ true
-same_self m n = grind (arith, nat_tests)
-
-self : (i : ℕ) → (i == i) ≡ true
-self i = grind (arith, nat_tests)
-
 pub written_means : (later before : List Event) (m n i : ℕ) (v : ℤ) → list_any (changes m n i) later ≡ false → content (later ++ Wrote m n i v ∷ before) m n i ≡ v
-written_means [] before m n i v kept = rw (same_self m n, self i) refl
+written_means [] before m n i v kept = rw (same_self m n, eqb_self i) refl
 written_means (ev ∷ later) before m n i v kept =
-    let parts = none_either (changes m n i ev) (list_any (changes m n i) later) kept in
+    let parts = or_parts (changes m n i ev) (list_any (changes m n i) later) kept in
     content_other ev (later ++ Wrote m n i v ∷ before) m n i parts.0 ∙ written_means later before m n i v parts.1
 
 pub unwritten_means : (later before : List Event) (b : Buffer) (i : ℕ) → list_any (changes b.maker b.n i) later ≡ false
     → content (later ++ Opened b ∷ before) b.maker b.n i ≡ slice_index_or b.items i (pos 0)
 unwritten_means [] before b i kept = rw (same_self b.maker b.n) refl
 unwritten_means (ev ∷ later) before b i kept =
-    let parts = none_either (changes b.maker b.n i ev) (list_any (changes b.maker b.n i) later) kept in
+    let parts = or_parts (changes b.maker b.n i ev) (list_any (changes b.maker b.n i) later) kept in
     content_other ev (later ++ Opened b ∷ before) b.maker b.n i parts.0 ∙ unwritten_means later before b i parts.1
 
 -- ---- critical
@@ -122,10 +114,7 @@ from_pin P Q e says pin = record { maker = pin.maker; n = pin.n; buffer = pin.bu
 to_pin : (P : Buffer → Bool) (Q : Buffer → Type 0) (e : List Event) → ((b : Buffer) → Q b → P b ≡ true) → CriticalBuffer e Q → OpenPin P e
 to_pin P Q e says pin = record { maker = pin.maker; n = pin.n; buffer = pin.buffer; is_open = pin.is_open; critical = pin.critical; passes = says pin.buffer pin.holds }
 
-number_same : (a b : ℕ) → a ≡ b → (a == b) ≡ true
-number_same a b is = grind (arith, nat_tests)
-
-ref_self : (r : Ref) → same_ref r r ≡ true
+pub ref_self : (r : Ref) → same_ref r r ≡ true
 ref_self Null = refl
 ref_self (To Local m n) = grind (arith, nat_tests)
 ref_self (To Global m n) = grind (arith, nat_tests)
@@ -135,7 +124,7 @@ pub critical_there : (e : List Event) (t : ℕ) → in_critical e t ≡ true →
 critical_there e t is = from_pin (λ b. b.maker == t) (λ b. b.maker ≡ t) e (λ b yes. eqb-true b.maker t yes) (pins_law (λ b. b.maker == t) e is)
 
 pub critical_back : (e : List Event) (t : ℕ) → CriticalBuffer e (λ b. b.maker ≡ t) → in_critical e t ≡ true
-critical_back e t pin = pins_have (λ b. b.maker == t) e (to_pin (λ b. b.maker == t) (λ b. b.maker ≡ t) e (λ b is. number_same b.maker t is) pin)
+critical_back e t pin = pins_have (λ b. b.maker == t) e (to_pin (λ b. b.maker == t) (λ b. b.maker ≡ t) e (λ b is. eq-eqb b.maker t is) pin)
 
 pub pinned_there : (e : List Event) (r : Ref) → pinned_by e r ≡ true → CriticalBuffer e (λ b. b.via ≡ r)
 pinned_there e r is = from_pin (λ b. same_ref b.via r) (λ b. b.via ≡ r) e (λ b passes. same_ref_is b.via r passes) (pins_law (λ b. same_ref b.via r) e is)
@@ -147,7 +136,7 @@ pub object_there : (e : List Event) (o : ℕ) → pins_object e o ≡ true → C
 object_there e o is = from_pin (λ b. b.object == o) (λ b. b.object ≡ o) e (λ b passes. eqb-true b.object o passes) (pins_law (λ b. b.object == o) e is)
 
 pub object_back : (e : List Event) (o : ℕ) → CriticalBuffer e (λ b. b.object ≡ o) → pins_object e o ≡ true
-object_back e o pin = pins_have (λ b. b.object == o) e (to_pin (λ b. b.object == o) (λ b. b.object ≡ o) e (λ b is. number_same b.object o is) pin)
+object_back e o pin = pins_have (λ b. b.object == o) e (to_pin (λ b. b.object == o) (λ b. b.object ≡ o) e (λ b is. eq-eqb b.object o is) pin)
 
 -- ---- numbers
 

@@ -6,7 +6,7 @@ use Rattle.std.proofs.lemmas.Bool.Decides.{nat_tests}
 use Rattle.std.proofs.lemmas.List.Elements.{recursion_from_All, All-from_recursion}
 use Rattle.jg_buffers.specs.History.{Buffer, is_same}
 use Rattle.jg_buffers.specs.Rows.{Rows, is_buffer, row_of, IsAbove, AddsNumber, KeepsNumbers}
-use Rattle.jg_lists.proofs.Lists.{Member}
+use Rattle.jg_lists.proofs.Lists.{Member, each_member}
 
 numbered : (k i n : ℕ) (rows : List Buffer) (b : Buffer) → AllByRecursion (λ row. row.maker ≡ k → row.n < i) rows → find (is_buffer k n) rows ≡ Some b → n < i
 numbered k i n [] b above found = cc
@@ -28,10 +28,6 @@ member_found : (p : Buffer → Bool) (x : Buffer) (rows : List Buffer) → Membe
 member_found p x [] there passes = absurd there
 member_found p x (row ∷ rows) (inl same) passes = found_by p row rows (p row) (inl (ap p (sym same) ∙ passes))
 member_found p x (row ∷ rows) (inr later) passes = found_by p row rows (p row) (inr (member_found p x rows later passes))
-
-each_member : {X : Type 0} (P : X → Type 0) (xs : List X) → ((x : X) → Member x xs → P x) → AllByRecursion P xs
-each_member P [] each = tt
-each_member P (x ∷ xs) each = (each x (inl refl), each_member P xs (λ y there. each y (inr there)))
 
 row_below : (rows : Rows) (k i : ℕ) → ((n : ℕ) (b : Buffer) → row_of k n rows ≡ Some b → n < i) → (row : Buffer) → Member row rows.lent → row.maker ≡ k → row.n < i
 row_below rows k i each row there is =

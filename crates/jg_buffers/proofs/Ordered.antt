@@ -10,7 +10,7 @@ use Rattle.std.proofs.lemmas.List.{length-map, length-append}
 use Rattle.std.proofs.lemmas.List.Elements.{filter-append}
 use Rattle.std.proofs.lemmas.List.Sorted.{sum_by-IsPermutation}
 use Rattle.std.proofs.lemmas.List.Sums.{length-filter}
-use Rattle.jg_lists.proofs.Lists.{filter_swap, map-filter, list_any-map}
+use Rattle.jg_lists.proofs.Lists.{filter_swap, map-filter, list_any-map, length-filter-most, any_filter, any_same}
 use Rattle.jg_words.specs.declared.buffer.BufId.{BufId}
 use Rattle.jg_buffers.specs.declared.copied.Copied.{Copied}
 use Rattle.jg_buffers.specs.declared.pinned.Pinned.{Pinned}
@@ -216,15 +216,6 @@ rises_sorted (x ∷ y ∷ r) up once =
 
 -- ---- what the table lists
 
-any_filter : {X : Type 0} (p q : X → Bool) (xs : List X) → list_any p (filter q xs) ≡ list_any (λ x. q x && p x) xs
-any_filter p q [] = refl
-any_filter p q (x ∷ xs) = by (q x) (any_filter p q xs)
-  where
-    by : (b : Bool) → list_any p (filter q xs) ≡ list_any (λ x. q x && p x) xs
-        → list_any p (if b then x ∷ filter q xs else filter q xs) ≡ ((b && p x) || list_any (λ x. q x && p x) xs)
-    by true e = ap (λ r. p x || r) e
-    by false e = e
-
 any_counted : {X : Type 0} (p : X → Bool) (xs : List X) → list_any p xs ≡ nat_lt 0 (length (filter p xs))
 any_counted p [] = refl
 any_counted p (x ∷ xs) = by (p x) (any_counted p xs)
@@ -233,23 +224,11 @@ any_counted p (x ∷ xs) = by (p x) (any_counted p xs)
     by true e = grind (arith, nat_tests)
     by false e = e
 
-any_same : {X : Type 0} (p q : X → Bool) → ((x : X) → p x ≡ q x) → (xs : List X) → list_any p xs ≡ list_any q xs
-any_same p q alike [] = refl
-any_same p q alike (x ∷ xs) = rw (alike x, any_same p q alike xs) refl
-
 counts_moved : {X : Type 0} (p : X → Bool) (xs ys : List X) → IsPermutation xs ys → length (filter p ys) ≡ length (filter p xs)
 counts_moved p xs ys moved = length-filter p ys ∙ sum_by-IsPermutation (λ x. cond (p x) 1 0) xs ys moved ∙ sym (length-filter p xs)
 
 any_moved : {X : Type 0} (p : X → Bool) (xs ys : List X) → IsPermutation xs ys → list_any p ys ≡ list_any p xs
 any_moved p xs ys moved = any_counted p ys ∙ ap (λ n. nat_lt 0 n) (counts_moved p xs ys moved) ∙ sym (any_counted p xs)
-
-filter_short : {X : Type 0} (p : X → Bool) (xs : List X) → length (filter p xs) ≤ length xs
-filter_short p [] = omega arith
-filter_short p (x ∷ xs) = by (p x) (filter_short p xs)
-  where
-    by : (b : Bool) → length (filter p xs) ≤ length xs → length (if b then x ∷ filter p xs else filter p xs) ≤ length (x ∷ xs)
-    by true short = omega (arith, short)
-    by false short = omega (arith, short)
 
 row_once : (e : List Event) (m n : ℕ) (found : Option Buffer) → length (rows_of e m n found) ≤ 1
 row_once e m n None = omega arith
@@ -280,7 +259,7 @@ module _ {I : Type 0} (shows : I → List ℤ) (es : List ((ℕ × ℕ) × Copie
       let mapped : map named_so both ≡ filter (names m n) (map named_so (filter T fs)) = map-filter named_so here (names m n) (λ f. refl) (filter T fs) in
       let sizes : length (map named_so both) ≡ length (filter (names m n) (map named_so (filter T fs))) = ap length mapped in
       let swapped : length both ≡ length (filter T (filter here fs)) = ap length (filter_swap here T fs) in
-      omega (arith, long, sizes, swapped, filter_short T (filter here fs), pins_once m n)
+      omega (arith, long, sizes, swapped, length-filter-most T (filter here fs), pins_once m n)
 
   -- sorted, the names of the pinned rows that pass are those of the open critical buffers that pass, in order
   pub sorted_pins : (P : Buffer → Bool) (blind : IsBlind P) (T : (ℕ × ℕ) × Pinned → Bool) → ((f : (ℕ × ℕ) × Pinned) → T f ≡ P (pin_seen f))
@@ -297,7 +276,7 @@ module _ {I : Type 0} (shows : I → List ℤ) (es : List ((ℕ × ℕ) × Copie
           ∙ ap (list_any (names m n)) is
           ∙ sym (list_any-map named_so (λ f. is_same m n f.0.0 f.0.1) (names m n) (λ f. refl) (filter T fs))
           ∙ any_filter (λ f. is_same m n f.0.0 f.0.1) T fs
-          ∙ any_same (λ f. T f && is_same m n f.0.0 f.0.1) (λ f. Q (pin_seen f)) (λ f. ap (λ b. b && is_same m n f.0.0 f.0.1) (alike f)) fs
+          ∙ any_same (λ f. T f && is_same m n f.0.0 f.0.1) (λ f. Q (pin_seen f)) fs (λ f. ap (λ b. b && is_same m n f.0.0 f.0.1) (alike f))
           ∙ pin_law shows Q (λ b items. ap (λ t. t && is_same m n b.maker b.n) (blind b items)) es fs e stands
           ∙ sym (any_filter (λ b. is_same m n b.maker b.n) P (pins e))
           ∙ sym (any_in_order m n (filter P (pins e)))

@@ -4,8 +4,10 @@ use Rattle.std.specs.Prelude.{ℤ, ◌==◌, ◌||◌, if◌then◌else◌, IfSo
 use Rattle.std.specs.List.{list_any, filter_map, cons_option}
 use Rattle.std.specs.Option.{option_map, option_to_list}
 use Rattle.std.specs.Map.{lookup}
-use Rattle.std.proofs.lemmas.Bool.Decides.{nat_tests}
+use Rattle.std.proofs.lemmas.Bool.Decides.{nat_tests, or_right}
 use Rattle.std.proofs.lemmas.Option.{same_Some}
+use Rattle.core.specs.Cmp.{both_ways}
+use Rattle.jg_words.proofs.Common.{clash}
 use Rattle.jg_buffers.specs.declared.copied.Copied.{Copied}
 use Rattle.jg_buffers.specs.declared.pinned.Pinned.{Pinned}
 use Rattle.jg_buffers.specs.History.{Buffer, Event, Opened, Wrote, Closed, ReleaseAll, is_same, is_critical, opened, critical_only, pin_of, pins, pins_object, IsPinOf}
@@ -14,7 +16,7 @@ use Rattle.jg_buffers.specs.Rows.{is_buffer}
 use Rattle.jg_buffers.specs.Seen.{copy_seen, pin_seen, key_name}
 use Rattle.jg_buffers.specs.Standing.{rows_of, Stands}
 use Rattle.jg_lists.proofs.Found.{found_in, is_found}
-use Rattle.jg_lists.proofs.Lists.{Member, any_member, any_of_filter, member_filter, both_ways, list_any-map}
+use Rattle.jg_lists.proofs.Lists.{Member, any_member, any_of_filter, member_filter, list_any-map}
 use Rattle.jg_buffers.proofs.Maps.{found_row}
 use Rattle.jg_buffers.proofs.Steps.{tells}
 use Rattle.jg_buffers.proofs.Lookups.{IsBlind, copies_free, pins_critical, still_open, still_lent}
@@ -58,13 +60,9 @@ has_pin P all (Wrote k i j v ∷ e) some = has_pin P all e some
 has_pin P all (Closed k i ∷ e) some = has_pin P all e some
 has_pin P all (ReleaseAll k ∷ e) some = has_pin P all e some
 
-either : (a b : Bool) → b ≡ true → (a || b) ≡ true
-either true b is = refl
-either false b is = is
-
 any_more : (P : Buffer → Bool) (found : Option Buffer) (rest : List Buffer) → list_any P rest ≡ true → list_any P (cons_option found rest) ≡ true
 any_more P None rest is = is
-any_more P (Some b) rest is = either (P b) (list_any P rest) is
+any_more P (Some b) rest is = or_right (P b) (list_any P rest) is
 
 pin_here : (P : Buffer → Bool) (all e : List Event) (m n : ℕ) (at b : Buffer) (c : Bool) → is_same m n at.maker at.n ≡ c → opened all m n ≡ Some b → is_critical b.family ≡ true → P b ≡ true
     → (opened e m n ≡ Some b → list_any P (filter_map (pin_of all) e) ≡ true) → (if c then Some at else opened e m n) ≡ Some b
@@ -92,14 +90,11 @@ pins_have P e pin = was_pin P e e pin.maker pin.n pin.buffer pin.is_open pin.cri
 
 -- ---- rows
 
-clash : (b : Bool) → b ≡ true → b ≡ false → ⊥
-clash b is isnt = cc
-
 abbrev head_or : Buffer → List Buffer → Option Buffer
 head_or d [] = Some d
 head_or d (b ∷ bs) = Some b
 
-head_is : (a b : Buffer) (rest : List Buffer) → a ∷ rest ≡ b ∷ [] → a ≡ b
+pub head_is : (a b : Buffer) (rest : List Buffer) → a ∷ rest ≡ b ∷ [] → a ≡ b
 head_is a b rest is = cc
 
 the_pin : (copy pin : Option Buffer) (b : Buffer) → option_to_list copy ++ option_to_list pin ≡ b ∷ []

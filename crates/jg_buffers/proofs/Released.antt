@@ -15,12 +15,9 @@ use Rattle.jg_buffers.proofs.Calls.{StayOnce, seen, still_exact}
 use Rattle.jg_buffers.proofs.Lookups.{row_is, copies_free, pins_critical, still_lent}
 use Rattle.jg_buffers.proofs.Maps.{found_row}
 use Rattle.jg_buffers.proofs.Numbers.{keeps_numbers}
-use Rattle.jg_buffers.proofs.Pins.{free_copy}
+use Rattle.jg_buffers.proofs.Pins.{free_copy, head_is}
 use Rattle.jg_buffers.proofs.Steps.{first_of, rows_kept, tells, stands_by}
 use Rattle.jg_buffers.proofs.Taken.{Clears}
-
-head_is : (a b : Buffer) (rest : List Buffer) → a ∷ rest ≡ b ∷ [] → a ≡ b
-head_is a b rest is = cc
 
 no_rest : (a b : Buffer) (rest : List Buffer) → a ∷ rest ≡ b ∷ [] → rest ≡ []
 no_rest a b rest is = cc

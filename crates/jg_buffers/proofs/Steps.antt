@@ -12,7 +12,7 @@ use Rattle.jg_buffers.specs.declared.family.Family.{Family}
 use Rattle.jg_buffers.specs.History.{Buffer, Event, Opened, Wrote, Closed, is_same, is_critical, opened, content, items_now, copy_with, pin_through}
 use Rattle.jg_buffers.specs.Rows.{Rows, is_buffer, row_of}
 use Rattle.jg_buffers.specs.Standing.{rows_of, Stands}
-use Rattle.jg_lists.proofs.Lists.{first}
+use Rattle.jg_lists.proofs.Lists.{first, find-filter}
 
 -- ---- items
 
@@ -34,7 +34,7 @@ rows_elsewhere_closed e m n k i apart = rw apart (rows_kept (Closed k i ∷ e) e
 pub rows_elsewhere_wrote : (e : List Event) (m n k i j : ℕ) (v : ℤ) → is_same m n k i ≡ false → rows_of (Wrote k i j v ∷ e) m n (opened (Wrote k i j v ∷ e) m n) ≡ rows_of e m n (opened e m n)
 rows_elsewhere_wrote e m n k i j v apart = rows_kept (Wrote k i j v ∷ e) e m n (opened e m n) (λ q. rw apart refl)
 
-same_self : (m n : ℕ) → is_same m n m n ≡ true
+pub same_self : (m n : ℕ) → is_same m n m n ≡ true
 same_self m n = grind (arith, nat_tests)
 
 -- the items of a new copy are those that it was made with
@@ -84,17 +84,10 @@ abbrev pub first_of : {X : Type 0} → Option X → Option X → Option X
 first_of None b = b
 first_of (Some x) b = Some x
 
-find-append : {X : Type 0} (p : X → Bool) (xs ys : List X) → find p (xs ++ ys) ≡ first_of (find p xs) (find p ys)
+pub find-append : {X : Type 0} (p : X → Bool) (xs ys : List X) → find p (xs ++ ys) ≡ first_of (find p xs) (find p ys)
 find-append p [] ys = refl
 find-append p (x ∷ xs) ys = rw (find-append p xs ys) (elim (p x) as (λ b. (if b then Some x else first_of (find p xs) (find p ys)) ≡ first_of (if b then Some x else find p xs) (find p ys))
     [ true ↦ refl | false ↦ refl ])
-
-pub find_both : {X : Type 0} (p : X → Bool) (xs ys : List X) → find p (xs ++ ys) ≡ first_of (find p xs) (find p ys)
-find_both p xs ys = find-append p xs ys
-
-pub find_first : {X : Type 0} (p : X → Bool) (xs : List X) → find p xs ≡ first (filter p xs)
-find_first p [] = refl
-find_first p (x ∷ xs) = rw (find_first p xs) (elim (p x) as (λ b. (if b then Some x else first (filter p xs)) ≡ first (if b then x ∷ filter p xs else filter p xs)) [ true ↦ refl | false ↦ refl ])
 
 -- at most one, and then not both
 record Alone {X : Type 0} (xs ys : List X) : Type 0 where
@@ -134,8 +127,8 @@ pub tells : (copies pins : List Buffer) (e : List Event) (m n : ℕ) → Stands 
 tells copies pins e m n stands =
     let split : filter (is_buffer m n) copies ++ filter (is_buffer m n) pins ≡ rows_of e m n (opened e m n) = sym (filter-append (is_buffer m n) copies pins) ∙ stands m n in
     let one = alone (filter (is_buffer m n) copies) (filter (is_buffer m n) pins) (row_now e m n (opened e m n)) (split ∙ rows_listed e m n (opened e m n)) in
-    let copy : filter (is_buffer m n) copies ≡ option_to_list (find (is_buffer m n) copies) = one.left ∙ ap option_to_list (sym (find_first (is_buffer m n) copies)) in
-    let pin : filter (is_buffer m n) pins ≡ option_to_list (find (is_buffer m n) pins) = one.right ∙ ap option_to_list (sym (find_first (is_buffer m n) pins)) in
+    let copy : filter (is_buffer m n) copies ≡ option_to_list (find (is_buffer m n) copies) = one.left ∙ ap option_to_list (sym (find-filter (is_buffer m n) copies)) in
+    let pin : filter (is_buffer m n) pins ≡ option_to_list (find (is_buffer m n) pins) = one.right ∙ ap option_to_list (sym (find-filter (is_buffer m n) pins)) in
     record {
       agrees = ap (λ l. l ++ option_to_list (find (is_buffer m n) pins)) (sym copy) ∙ (ap (λ l. filter (is_buffer m n) copies ++ l) (sym pin) ∙ split);
       copy = copy;
@@ -154,7 +147,7 @@ first_of_listed (Some b) = refl
 
 -- the row that a look-up by number finds
 pub row_law : (rows : Rows) (e : List Event) (m n : ℕ) → Stands rows e → row_of m n rows ≡ row_now e m n (opened e m n)
-row_law rows e m n stands = find_first (is_buffer m n) rows.lent ∙ (ap first (stands m n ∙ rows_listed e m n (opened e m n)) ∙ first_of_listed (row_now e m n (opened e m n)))
+row_law rows e m n stands = find-filter (is_buffer m n) rows.lent ∙ (ap first (stands m n ∙ rows_listed e m n (opened e m n)) ∙ first_of_listed (row_now e m n (opened e m n)))
 
 -- ---- one more event
 

@@ -1,6 +1,6 @@
 //! A call on its way through the guard to the machine.
 
-ghost use Rattle.std.specs.Prelude.{◌≡◌, ◌<◌, ◌⊎◌, ◌↔◌, List, ◌∷◌, length, slice_get, None, Some, Err, IfOk, IfErr, OnOk, OnErr};
+ghost use Rattle.std.specs.Prelude.{◌≡◌, ◌<◌, ◌⊎◌, ◌↔◌, List, ◌∷◌, length, None, Some, Err, IfOk, IfErr, OnOk, OnErr};
 ghost use Rattle.jg_words.specs.Entry.{Entry};
 ghost use Rattle.jg_words.specs.declared.rule.Rule.{Rule};
 ghost use Rattle.jg_guard.specs.Guard.{Takes, Unchanged, next_entry};

@@ -3,6 +3,7 @@ use Rattle.std.proofs.Common.{◌≡◌, ◌≢◌, ◌⊎◌, ◌++◌, ℕ, Bo
 use Rattle.std.specs.Prelude.{◌==◌, ◌&&◌, not, if◌then◌else◌, map}
 use Rattle.std.specs.List.{list_any}
 use Rattle.std.proofs.lemmas.Bool.Decides.{nat_tests}
+use Rattle.std.proofs.lemmas.Bool.{not-true, not-false}
 use Rattle.jg_words.specs.Entry.{Entry}
 use Rattle.jg_words.specs.declared.thread.Tid.{Tid}
 use Rattle.jg_words.specs.declared.thread.EnvId.{EnvId}
@@ -16,6 +17,7 @@ use Rattle.jg_words.specs.declared.entry.Outcome.TheVariants.{Passed}
 use Rattle.jg_words.specs.declared.entry.Reply.{Reply}
 use Rattle.jg_words.specs.declared.value.Value.{Value}
 use Rattle.jg_words.specs.declared.value.Value.TheVariants.{Ok as Done, Number, Truth, Null as NullAnswer, Reference, Buffer, Field, Environment, List as Listed, Busy, Detached, Throw}
+use Rattle.jg_words.proofs.Common.{clash, not_and_parts}
 use Rattle.jg_policy.specs.Stated.{StatedSetup}
 use Rattle.jg_locals.specs.History.{Act, Event, Make, by, acts_of, live, making, local_if_live, object_of, seen_after}
 use Rattle.jg_locals.proofs.Callers.{acts_more, acts_same}
@@ -30,7 +32,7 @@ use Rattle.jg_rules.specs.Answers.{answer}
 use Rattle.jg_rules.specs.Legal.{Legal, entry_by}
 use Rattle.jg_laws.specs.Histories.{WasHandedOut, reference_of, reference_in}
 use Rattle.jg_laws.specs.Proper.{IsProper}
-use Rattle.jg_laws.proofs.Fresh.{Legal-before, no_reference_twice}
+use Rattle.jg_laws.proofs.Fresh.{Legal-before, no_reference_twice, same_pair}
 use Rattle.jg_laws.proofs.HandsHere.{call_makes_none}
 use Rattle.jg_laws.proofs.Proper.{proper}
 use Rattle.jg_laws.proofs.Referring.{is_make, make_none, live_still, seen_still}
@@ -49,12 +51,8 @@ some_of : (found : Option ℕ) → is_nothing (named_by found) ≡ false → (o 
 some_of None is = absurd cc
 some_of (Some o) is = (o, refl)
 
-no_some : (found : Option ℕ) (o : ℕ) → found ≡ None → found ≡ Some o → ⊥
+pub no_some : (found : Option ℕ) (o : ℕ) → found ≡ None → found ≡ Some o → ⊥
 no_some found o none some = cc
-
-both_of : (b c : Bool) → (not b && c) ≡ true → (b ≡ false) × (c ≡ true)
-both_of true c is = absurd cc
-both_of false c is = (refl, is)
 
 acts_own : (t u : ℕ) (acts : List Act) (e : List Event) → t ≡ u → acts_of t (map (by u) acts ++ e) ≡ acts ++ acts_of t e
 acts_own t u [] e is = refl
@@ -67,7 +65,7 @@ acts_other t u (a ∷ acts) e differ = acts_same t u a (map (by u) acts ++ e) di
 quiet : (n o : ℕ) (acts old : List Act) → make_none acts ≡ true → live n (acts ++ old) ≡ Some o → live n old ≡ Some o
 quiet n o [] old none is = is
 quiet n o (a ∷ acts) old none is =
-    let each = both_of (is_make a) (make_none acts) none in
+    let each = not_and_parts (is_make a) (make_none acts) none in
     quiet n o acts old each.1 (live_still n o a (acts ++ old) each.0 is)
 
 -- acts that make none make nothing live
@@ -171,12 +169,9 @@ weak_quiet m n o (globals.DeleteStrong k i ∷ e) g none is = weak_quiet m n o e
 weak_quiet m n o (globals.DeleteWeak k i ∷ e) g none is = weak_quiet m n o e g none (unless (globals.is_same m n k i) (globals.weak (e ++ g) m n) o is)
 weak_quiet m n o (globals.Clear p ∷ e) g none is = weak_quiet m n o e g none is
 
-no_global_if : (b : Bool) (e : List globals.Event) → make_no_global e ≡ true → make_no_global (if_effective b e) ≡ true
+pub no_global_if : (b : Bool) (e : List globals.Event) → make_no_global e ≡ true → make_no_global (if_effective b e) ≡ true
 no_global_if true e none = none
 no_global_if false e none = refl
-
-same_pair : (m n k i : ℕ) → globals.is_same m n k i ≡ true → (k ≡ m) × (i ≡ n)
-same_pair m n k i is = grind (arith, nat_tests, is)
 
 -- the value is a reference of that kind, maker and number
 abbrev Hands : (Tid → ℕ → Ref) → ℕ → ℕ → Value → Type 0
@@ -291,9 +286,6 @@ module _ (s : StatedSetup) (p : Parts) (u : Tid) (call : Call) (reply : Reply) (
         let made = weak_by maker.0 n now.0 reply.value object (e ++ p.globals) mid now.1 in
         ap reference_in made.1.1.1.1 ∙ ap (λ m. Some (To Weak m made.1.0)) (tid_is made.0 maker made.1.1.0) ∙ ap (λ k. Some (To Weak maker k)) made.1.1.1.0
 
-clash : (b : Bool) → b ≡ true → b ≡ false → ⊥
-clash b is isnt = cc
-
 entry_hands : (s : StatedSetup) (p : Parts) (u : Tid) (env : Option EnvId) (call : Call) (t : ℕ) (r : Ref) (verdict : Option Rule) (y : Entry) → y ≡ entry_by verdict (answer s p u call) u env call
     → is_nothing (names p t r) ≡ true → is_nothing (names (after s y.tid.0 y.call y.outcome y.object p) t r) ≡ false → reference_of y.outcome ≡ Some r
 entry_hands s p u env call t r (Some rule) y is none some =
@@ -303,19 +295,11 @@ entry_hands s p u env call t r None y is none some =
     let here = sym (ap (λ (x : Entry). is_nothing (names (after s x.tid.0 x.call x.outcome x.object p) t r)) is) ∙ some in
     ap (λ (x : Entry). reference_of x.outcome) is ∙ comes s p u call a.reply a.object (proper s p u call) t r none here
 
-not_true : (b : Bool) → not b ≡ false → b ≡ true
-not_true true is = refl
-not_true false is = absurd cc
-
-not_false : (b : Bool) → not b ≡ true → b ≡ false
-not_false true is = absurd cc
-not_false false is = refl
-
 comes_to_name : (s : StatedSetup) (h : List Entry) (x : Entry) (t : Tid) (r : Ref) → Legal s (x ∷ h) → holds (parts s h) (Names t r) ≡ false → holds (parts s (x ∷ h)) (Names t r) ≡ true
     → reference_of x.outcome ≡ Some r
 comes_to_name s h x t r legal none some =
     entry_hands s (parts s h) x.tid x.env x.call t.0 r (verdict s (parts s h) x.tid.0 x.env x.call) x legal.0
-    (not_true (is_nothing (names (parts s h) t.0 r)) none) (not_false (is_nothing (names (parts s (x ∷ h)) t.0 r)) some)
+    (not-false (is_nothing (names (parts s h) t.0 r)) none) (not-true (is_nothing (names (parts s (x ∷ h)) t.0 r)) some)
 
 pub made_by_its_answer : MadeByItsAnswer
 made_by_its_answer s later x before t r legal none some = comes_to_name s before x t r (Legal-before s later (x ∷ before) legal) none some

@@ -1,5 +1,5 @@
 -- In which way a call breaks a rule. Where a rule has several parts, the first that fails is told.
-use Rattle.std.specs.Prelude.{ℕ, ℤ, pos, negsuc, ◌==◌, ◌&&◌, Bool, true, false, not, if◌then◌else◌, List, Option, Some, None, option_and_then}
+use Rattle.std.specs.Prelude.{ℕ, ℤ, pos, negsuc, ◌==◌, ◌&&◌, Bool, true, false, not, if◌then◌else◌, List, Option, Some, None}
 use Rattle.std.specs.Option.{option_map}
 use Rattle.std.specs.List.{find, position, position}
 use Rattle.jg_words.specs.declared.buffer.BufId.{BufId}

@@ -1,5 +1,5 @@
 -- What the rule asks of the journal that comes and goes, where a call breaks it.
-use Rattle.std.specs.Prelude.{ℕ, List, [], ◌∷◌, map, Option, Some, None}
+use Rattle.std.specs.Prelude.{List, ◌∷◌, map, Option, Some, None}
 use Rattle.std.specs.Option.{option_to_list}
 use Rattle.jg_words.specs.declared.object.ObjId.{ObjId}
 use Rattle.jg_words.specs.declared.thread.Tid.{Tid}

@@ -1,20 +1,19 @@
 -- What the tables hold where a fact is due, and that a core stands for a fact more.
-use Rattle.std.proofs.Common.{ℕ, ◌≡◌, ◌≢◌, ◌+◌, ◌<◌, ◌≤◌, ◌^◌, Bool, true, false, List, ◌∷◌, length, Option, Some, None, refl, ap, ◌∙◌, sym, subst, arith, eqb-true, if◌then◌else◌}
-use Rattle.std.specs.Prelude.{◌==◌, ◌&&◌, not, nat_lt, All, IsNone, IsTrue}
+use Rattle.std.proofs.Common.{ℕ, ◌≡◌, ◌≢◌, ◌+◌, ◌<◌, ◌≤◌, ◌^◌, Bool, true, false, List, ◌∷◌, Some, None, refl, ap, ◌∙◌, sym, subst, arith, if◌then◌else◌}
+use Rattle.std.specs.Prelude.{◌==◌, ◌&&◌, not, All, IsNone, IsTrue}
 use Rattle.std.proofs.lemmas.Bool.Decides.{nat_tests}
 use Rattle.jg_words.specs.declared.thread.Tid.{Tid}
 use Rattle.jg_words.specs.declared.object.ObjId.{ObjId}
-use Rattle.jg_words.specs.declared.reference.Kind.{Kind}
 use Rattle.jg_words.specs.declared.reference.Ref.{Ref}
+use Rattle.jg_words.proofs.Common.{and_first, and_second}
 use Rattle.jg_buffers.specs.declared.family.Family.{Family}
 use Rattle.jg_policy.specs.Stated.{StatedSetup, class_count}
-use Rattle.jg_lists.specs.Acts.{how_many}
 use Rattle.jg_lists.proofs.Acts.{acts_more}
 use Rattle.jg_threads.specs.History as threads
 use Rattle.jg_threads.specs.declared.row.Row.{Row}
 use Rattle.jg_threads.specs.Rows.{row_of, CanCount}
 use Rattle.jg_threads.specs.Standing as thread_standing
-use Rattle.jg_locals.specs.History.{acts_of, has_session, depth as locals_depth, is_push}
+use Rattle.jg_locals.specs.History.{acts_of, has_session, depth as locals_depth}
 use Rattle.jg_locals.specs.Rows.{Rows, HasFrame, pushed, entered, top}
 use Rattle.jg_locals.specs.Standing as local_standing
 use Rattle.jg_locals.proofs.Callers.{has_frame_law, above_law, pushed_law, entered_law, top_is}
@@ -36,14 +35,14 @@ use Rattle.jg_rules.specs.Names.{next_ref, next_buffer, open_frames, depth as de
 use Rattle.jg_laws.proofs.Kept.{Agreed, agree_of, Below, GlobalsBelow}
 use Rattle.jg_laws.proofs.Lending.{LentBelow}
 use Rattle.jg_core.specs.declared.fact.Fact.{Fact}
-use Rattle.jg_core.specs.declared.fact.Fact.TheVariants.{Begin, End, Enter, Leave, Push, Pop, Hand, Lend, Own, Free, Meet}
-use Rattle.jg_core.specs.Counts.{AreFew, raises_count}
-use Rattle.jg_core.specs.Facts.{on, parts_of, can_be, is_attached, is_kept_here, is_through, is_free_for, is_owner, makes, made_in, History}
+use Rattle.jg_core.specs.declared.fact.Fact.TheVariants.{Leave, Pop, Lend}
+use Rattle.jg_core.specs.Counts.{AreFew}
+use Rattle.jg_core.specs.Facts.{on, parts_of, can_be, is_attached, is_through, is_owner, makes, made_in, History}
 use Rattle.jg_core.specs.Kernel.{CoreState, CoreStands}
 use Rattle.jg_core.specs.Tables.{HasSession, IsOrdinary, IsDue, Stand}
 use Rattle.jg_core.proofs.Few.{are_few, few_on, sessions_most, references_most, buffers_most, depth_most, frames_most, owned_most}
 use Rattle.jg_core.proofs.Owners.{owned_by}
-use Rattle.jg_core.proofs.Each.{not_true, first, second, each_fact, each_told, keeps_agree, keeps_below, keeps_globals_below, keeps_lent_below}
+use Rattle.jg_core.proofs.Each.{each_fact, each_told, keeps_agree, keeps_below, keeps_globals_below, keeps_lent_below}
 
 -- ---- what holds of the facts
 
@@ -138,7 +137,7 @@ is_above_buffers s p rows t n o stands next = rw next (buffer_above_law rows p.b
 
 pub may_lend : (s : StatedSetup) (p : Parts) (t : Tid) (family : Family) (o : ObjId) (via : Ref) (n : ℕ) → can_be s p (Lend t family o via n) ≡ true → is_through family via ≡ true
 may_lend s p t family o via n is =
-    second (is_here s p o.0) (is_through family via) (second (is_attached p t.0) (is_here s p o.0 && is_through family via) is)
+    and_second (is_here s p o.0) (is_through family via) (and_second (is_attached p t.0) (is_here s p o.0 && is_through family via) is)
 
 pub can_own : (s : StatedSetup) (p : Parts) (rows : monitor_rows.Rows) (o : ℕ) → IsOrdinary s p → monitor_standing.Stands rows p.monitors
     → monitor_rows.count_in (monitor_rows.row_of o rows) < 18446744073709551615
@@ -162,7 +161,7 @@ session_left s rows p t can o stand = record {
   events = on (Leave t None) p;
   ordinary = ordinary_on s p (Leave t None) can refl o;
   stand = stand;
-  attached = attached_left p t (first (is_attached p t.0) _ can);
+  attached = attached_left p t (and_first (is_attached p t.0) _ can);
 }
 
 pub session_popped : (s : StatedSetup) (rows : RowsBeside object_rows.Rows) (p : Parts) (t : Tid) → can_be s p (Pop t None) ≡ true → IsOrdinary s p → Stand s rows (on (Pop t None) p)
@@ -171,7 +170,7 @@ session_popped s rows p t can o stand = record {
   events = on (Pop t None) p;
   ordinary = ordinary_on s p (Pop t None) can refl o;
   stand = stand;
-  attached = first (is_attached p t.0) _ can;
+  attached = and_first (is_attached p t.0) _ can;
 }
 
 -- ---- one fact more

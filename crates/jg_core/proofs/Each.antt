@@ -2,12 +2,14 @@
 use Rattle.std.proofs.Common.{ℕ, ◌≡◌, ◌+◌, Bool, true, false, List, [], ◌∷◌, ◌++◌, Option, Some, None, refl, arith}
 use Rattle.std.specs.Prelude.{◌==◌, ◌&&◌, not, nat_lt, if◌then◌else◌, replicate, pos}
 use Rattle.std.proofs.lemmas.Bool.Decides.{nat_tests}
+use Rattle.std.proofs.lemmas.Bool.{not-true}
 use Rattle.jg_words.specs.declared.object.ObjId.{ObjId}
 use Rattle.jg_words.specs.declared.object.Primitive.TheVariants.{Int}
 use Rattle.jg_words.specs.declared.reference.Ref.{Ref}
 use Rattle.jg_words.specs.declared.reference.Ref.TheVariants.{Null, To}
 use Rattle.jg_words.specs.declared.reference.Kind.{Kind}
 use Rattle.jg_words.specs.declared.reference.Kind.TheVariants.{Local, Global, Weak}
+use Rattle.jg_words.proofs.Common.{and_first, and_second}
 use Rattle.jg_policy.specs.Stated.{StatedSetup, class_count}
 use Rattle.jg_policy.specs.Links as links
 use Rattle.jg_threads.specs.History as threads
@@ -30,18 +32,6 @@ use Rattle.jg_laws.proofs.Fresh.{Gone as NotLive, gone_steps, Ended as NoTarget,
 use Rattle.jg_core.specs.declared.fact.Fact.{Fact}
 use Rattle.jg_core.specs.declared.fact.Fact.TheVariants.{Begin, End, Enter, Leave, Push, Pop, Ensure, Raise, Calm, Hand, Lost, Lend, Back, Own, Free, Meet, Gone, Link, Unlink, Warn, Checked}
 use Rattle.jg_core.specs.Facts.{on, handed_on, kept_on, lost_on, parts_of, can_be, is_attached, is_kept_here, History}
-
-pub not_true : (b : Bool) → not b ≡ true → b ≡ false
-not_true true is = absurd cc
-not_true false is = refl
-
-pub first : (a b : Bool) → (a && b) ≡ true → a ≡ true
-first true b is = refl
-first false b is = absurd cc
-
-pub second : (a b : Bool) → (a && b) ≡ true → b ≡ true
-second true b is = is
-second false b is = absurd cc
 
 -- what the events of facts keep: those that a passed call can bring, any buffer that is lent, and any object that is met
 pub record Keeps (s : StatedSetup) (P : Parts → Type 0) : Type 0 where
@@ -76,7 +66,7 @@ module _ (P : Parts → Type 0) (s : StatedSetup) (keeps : Keeps s P) where
   lending p t false o family via n old = keeps.lends p t (buffers.copy_with t (next_buffer p t) o family (replicate n (pos 0))) refl refl old
 
   pub each_fact : (p : Parts) (x : Fact) → can_be s p x ≡ true → P p → P (on x p)
-  each_fact p (Begin t) can old = keeps.steps.begins p t.0 (not_true (is_attached p t.0) (second (nat_lt 0 t.0) (not (is_attached p t.0)) can)) old
+  each_fact p (Begin t) can old = keeps.steps.begins p t.0 (not-true (is_attached p t.0) (and_second (nat_lt 0 t.0) (not (is_attached p t.0)) can)) old
   each_fact p (End t) can old =
       let q : Parts = record p { threads = threads.by t.0 threads.Detach ∷ p.threads; locals = locals.by t.0 locals.End ∷ p.locals } in
       let r : Parts = record q { monitors = monitors.by t.0 monitors.ReleaseAll ∷ p.monitors } in
@@ -86,14 +76,14 @@ module _ (P : Parts → Type 0) (s : StatedSetup) (keeps : Keeps s P) where
       keeps.steps.calms q t.0 (keeps.steps.enters p t.0 can old)
   each_fact p (Leave t kept) can old =
       let q : Parts = record p { threads = threads.by t.0 threads.Leave ∷ p.threads; locals = locals.by t.0 locals.Leave ∷ p.locals } in
-      let deep = first (not (depth p t.0 == 0)) (is_kept_here s p kept) (second (is_attached p t.0) (not (depth p t.0 == 0) && is_kept_here s p kept) can) in
+      let deep = and_first (not (depth p t.0 == 0)) (is_kept_here s p kept) (and_second (is_attached p t.0) (not (depth p t.0 == 0) && is_kept_here s p kept) can) in
       keeping (record q { threads = threads.by t.0 threads.Calm ∷ q.threads }) t.0 kept
-      (keeps.steps.calms q t.0 (keeps.steps.leaves p t.0 (first (is_attached p t.0) (not (depth p t.0 == 0) && is_kept_here s p kept) can) (not_true (depth p t.0 == 0) deep) old))
+      (keeps.steps.calms q t.0 (keeps.steps.leaves p t.0 (and_first (is_attached p t.0) (not (depth p t.0 == 0) && is_kept_here s p kept) can) (not-true (depth p t.0 == 0) deep) old))
   each_fact p (Push t room) can old = keeps.steps.pushes p t.0 room old
   each_fact p (Pop t kept) can old =
       keeping (record p { locals = locals.by t.0 locals.Pop ∷ p.locals }) t.0 kept
-      (keeps.steps.pops p t.0 (not_true (open_frames p t.0 == 0) (first (not (open_frames p t.0 == 0)) (is_kept_here s p kept)
-      (second (is_attached p t.0) (not (open_frames p t.0 == 0) && is_kept_here s p kept) can))) old)
+      (keeps.steps.pops p t.0 (not-true (open_frames p t.0 == 0) (and_first (not (open_frames p t.0 == 0)) (is_kept_here s p kept)
+      (and_second (is_attached p t.0) (not (open_frames p t.0 == 0) && is_kept_here s p kept) can))) old)
   each_fact p (Ensure t room) can old = keeps.steps.widens p t.0 room old
   each_fact p (Raise t o) can old = keeps.steps.raises p t.0 o.0 old
   each_fact p (Calm t) can old = keeps.steps.calms p t.0 old

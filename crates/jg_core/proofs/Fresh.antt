@@ -1,8 +1,7 @@
 -- No reference is handed out twice, and none that ended is live again.
-use Rattle.std.proofs.Common.{ℕ, ◌≡◌, ◌+◌, ◌≤◌, ◌<◌, true, List, [], ◌∷◌, ◌++◌, Option, Some, None, inl, inr, refl, sym, ◌∙◌, subst, arith}
+use Rattle.std.proofs.Common.{ℕ, ◌≡◌, ◌+◌, ◌≤◌, ◌<◌, true, List, [], ◌∷◌, ◌++◌, Some, None, inl, inr, refl, sym, ◌∙◌, subst, arith}
 use Rattle.std.specs.Prelude.{◌==◌}
 use Rattle.jg_words.specs.declared.thread.Tid.{Tid}
-use Rattle.jg_words.specs.declared.object.ObjId.{ObjId}
 use Rattle.jg_words.specs.declared.reference.Ref.{Ref}
 use Rattle.jg_words.specs.declared.reference.Ref.TheVariants.{Null, To}
 use Rattle.jg_words.specs.declared.reference.Kind.{Kind}
@@ -15,10 +14,10 @@ use Rattle.jg_locals.proofs.Callers.{live_below}
 use Rattle.jg_rules.specs.Parts.{Parts}
 use Rattle.jg_rules.specs.Names.{next_ref}
 use Rattle.jg_laws.proofs.Kept.{AtLeast, Below, GlobalsBelow, next_more, next_same}
-use Rattle.jg_laws.proofs.Fresh.{Counted, Gone as NotLive, own_gone, target_object, kind_target, Ended as NoTarget, kind_below}
+use Rattle.jg_laws.proofs.Fresh.{Counted, Gone as NotLive, own_gone, target_object, kind_target, Ended as NoTarget, kind_below, no_reference, one_reference, not_next}
 use Rattle.jg_core.specs.declared.fact.Fact.{Fact}
-use Rattle.jg_core.specs.declared.fact.Fact.TheVariants.{Begin, End, Enter, Leave, Push, Pop, Ensure, Raise, Calm, Hand, Lost, Lend, Back, Own, Free, Meet, Gone, Link, Unlink, Warn, Checked}
-use Rattle.jg_core.specs.Facts.{on, handed_on, parts_of, can_be, History}
+use Rattle.jg_core.specs.declared.fact.Fact.TheVariants.{Leave, Pop, Calm, Hand}
+use Rattle.jg_core.specs.Facts.{handed_on, parts_of, can_be, History}
 use Rattle.jg_core.specs.Laws.{handed_out, WasHandedOut, ReferencesCounted, NoReferenceTwice, NoReferenceRevived}
 use Rattle.jg_core.proofs.Each.{each_fact, each_told, each_later, before, keeps_at_least, keeps_below, keeps_globals_below, keeps_gone, keeps_ended}
 
@@ -37,12 +36,6 @@ next_handed t Weak o p = next_more p t
 
 next_left : (t : ℕ) (p : Parts) → next_ref (record p { threads = threads.by t threads.Calm ∷ threads.by t threads.Leave ∷ p.threads; locals = locals.by t locals.Leave ∷ p.locals }) t ≡ next_ref p t
 next_left t p = next_same (record p { threads = threads.by t threads.Leave ∷ p.threads }) t threads.Calm refl t ∙ next_same p t threads.Leave refl t
-
-one_reference : (q r : Ref) → Some q ≡ Some r → r ≡ q
-one_reference q r is = cc
-
-no_reference : {r : Ref} → None ≡ Some r → ⊥
-no_reference is = cc
 
 is_next : (w : List Fact) (x : Fact) (r : Ref) → handed_out w x ≡ Some r → IsNext w x r
 is_next w (Hand t kind o) r is = record {
@@ -89,9 +82,6 @@ counted s (x ∷ w) could r (inr was) = counted_more s r w x could.0 (counted s 
 
 pub references_counted : ReferencesCounted
 references_counted s w kind maker n could was = counted s w could (To kind maker n) was
-
-not_next : (p : Parts) (t : Tid) (kind : Kind) → Counted (To kind t (next_ref p t.0)) p → ⊥
-not_next p t kind below_itself = omega (arith, below_itself)
 
 pub no_reference_twice : NoReferenceTwice
 no_reference_twice s later x w r could is was =

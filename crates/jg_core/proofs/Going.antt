@@ -3,9 +3,12 @@ use Rattle.std.proofs.Common.{ℕ, ◌≡◌, ◌≢◌, ◌+◌, ◌++◌, ◌�
 use Rattle.std.specs.Prelude.{◌==◌, ◌&&◌, ◌||◌, not, nat_lt}
 use Rattle.std.specs.List.{list_any}
 use Rattle.std.specs.Option.{option_map, is_some}
-use Rattle.std.proofs.lemmas.Bool.Decides.{nat_tests}
+use Rattle.std.proofs.lemmas.Bool.Decides.{nat_tests, or_right}
 use Rattle.std.proofs.lemmas.List.Folds.{list_any_more}
+use Rattle.std.proofs.Math.Bool.{or-false}
+use Rattle.core.specs.Cmp.{both_ways}
 use Rattle.jg_words.specs.declared.object.ObjId.{ObjId}
+use Rattle.jg_words.proofs.Common.{or_first_off}
 use Rattle.jg_policy.specs.Stated.{StatedSetup, class_count}
 use Rattle.jg_globals.specs.History as globals
 use Rattle.jg_globals.proofs.Callers.{holds_law}
@@ -78,10 +81,6 @@ marked_more objects i q m new old within before set =
     either false true = refl
     either false false = refl
 
-unlisted_first : (b rest : Bool) → (b || rest) ≡ false → b ≡ false
-unlisted_first true rest is = is
-unlisted_first false rest is = refl
-
 unlisted_rest : (b rest : Bool) → (b || rest) ≡ false → rest ≡ false
 unlisted_rest true rest is = absurd cc
 unlisted_rest false rest is = is
@@ -90,21 +89,15 @@ unlisted_rest false rest is = is
 unlisted_front : (objects : List ObjId) (i q : ℕ) → is_listed objects q ≡ false → is_listed (take i objects) q ≡ false
 unlisted_front objects zero q is = refl
 unlisted_front [] (suc i) q is = refl
-unlisted_front (o ∷ objects) (suc i) q is = rw (unlisted_first (o.0 == q) (is_listed objects q) is) (unlisted_front objects i q (unlisted_rest (o.0 == q) (is_listed objects q) is))
+unlisted_front (o ∷ objects) (suc i) q is = rw (or_first_off (o.0 == q) (is_listed objects q) is) (unlisted_front objects i q (unlisted_rest (o.0 == q) (is_listed objects q) is))
 
 pub unlisted_before : {X : Type 0} (objects : List ObjId) (i q : ℕ) (new old : X) → is_listed objects q ≡ false → (if is_listed (take i objects) q then new else old) ≡ old
 unlisted_before objects i q new old is = rw (unlisted_front objects i q is) refl
 
 -- ---- one that goes leaves others as they were
 
-same_bool : (a b : Bool) → (a ≡ true → b ≡ true) → (b ≡ true → a ≡ true) → a ≡ b
-same_bool true true to from = refl
-same_bool true false to from = sym (to refl)
-same_bool false true to from = from refl
-same_bool false false to from = refl
-
 cleared_holds : (e : List globals.Event) (x o : ℕ) → globals.holds_object (globals.Clear x ∷ e) o ≡ globals.holds_object e o
-cleared_holds e x o = same_bool (globals.holds_object (globals.Clear x ∷ e) o) (globals.holds_object e o)
+cleared_holds e x o = both_ways (globals.holds_object (globals.Clear x ∷ e) o) (globals.holds_object e o)
     (λ is. let found = (holds_law (globals.Clear x ∷ e) o).0 is in (holds_law e o).1 found)
     (λ is. let found = (holds_law e o).0 is in (holds_law (globals.Clear x ∷ e) o).1 found)
 
@@ -146,10 +139,6 @@ gone_once s p o can =
 
 -- ---- what is unfit is what is held
 
-listed_more : (b rest : Bool) → rest ≡ true → (b || rest) ≡ true
-listed_more true rest is = refl
-listed_more false rest is = is
-
 listed_first : (o : ObjId) (objects : List ObjId) → is_listed (o ∷ objects) o.0 ≡ true
 listed_first o objects = let same : (o.0 == o.0) ≡ true = grind (arith, nat_tests) in rw same refl
 
@@ -172,7 +161,7 @@ unfit_is_held : (s : StatedSetup) (p : Parts) (m : ℕ → Option Bool) (objects
 unfit_is_held s p m [] marks = refl
 unfit_is_held s p m (o ∷ objects) marks =
     held_if s p m o objects (can_be s p (Gone o)) refl (marks o (listed_first o objects)) (λ can. unfit_is_held s (on (Gone o) p) (with_set m o.0) objects
-    (λ x listed. step_mark s p m o x (o.0 == x.0) refl can (marks x (listed_more (o.0 == x.0) (is_listed objects x.0) listed))))
+    (λ x listed. step_mark s p m o x (o.0 == x.0) refl can (marks x (or_right (o.0 == x.0) (is_listed objects x.0) listed))))
 
 -- ---- the list
 
@@ -190,12 +179,8 @@ listed_numbers : (objects : List ObjId) (before : List ℕ) (q : ℕ) → list_a
 listed_numbers [] before q = refl
 listed_numbers (o ∷ objects) before q = listed_numbers objects (o.0 ∷ before) q ∙ or_assoc (o.0 == q) (is_listed objects q) (list_any (λ x. x == q) before)
 
-or_false : (b : Bool) → (b || false) ≡ b
-or_false true = refl
-or_false false = refl
-
 pub all_listed : (objects : List ObjId) (q : ℕ) → list_any (λ x. x == q) (numbers_of objects []) ≡ is_listed objects q
-all_listed objects q = listed_numbers objects [] q ∙ or_false (is_listed objects q)
+all_listed objects q = listed_numbers objects [] q ∙ or-false (is_listed objects q)
 
 -- ---- the marks of a list, and what can go of it
 

@@ -1,13 +1,14 @@
 -- What references name, threads have pending, critical buffers are of and monitors belong to is there.
 use Rattle.std.proofs.Common.{ℕ, pos, ◌≡◌, ◌≢◌, ◌+◌, ◌-◌, ◌<◌, ◌∙◌, ◌++◌, Bool, true, false, List, [], ◌∷◌, map, Option, Some, None, refl, ap, sym, subst, arith, eqb-true, if◌then◌else◌}
 use Rattle.std.specs.Prelude.{◌==◌, ◌&&◌, ◌||◌, not, nat_lt, replicate}
-use Rattle.std.specs.Option.{is_some}
 use Rattle.std.proofs.lemmas.Bool.Decides.{nat_tests}
+use Rattle.std.proofs.lemmas.Bool.{not-true}
 use Rattle.jg_words.specs.declared.object.ObjId.{ObjId}
 use Rattle.jg_words.specs.declared.reference.Ref.{Ref}
 use Rattle.jg_words.specs.declared.reference.Ref.TheVariants.{Null, To}
 use Rattle.jg_words.specs.declared.reference.Kind.{Kind}
 use Rattle.jg_words.specs.declared.reference.Kind.TheVariants.{Local, Global, Weak}
+use Rattle.jg_words.proofs.Common.{clash, and_first, and_second, or_first, or_second, or_third, or_fourth}
 use Rattle.jg_policy.specs.Stated.{StatedSetup, class_count}
 use Rattle.jg_policy.specs.Links as links
 use Rattle.jg_lists.specs.Acts.{by, acts_of, how_many}
@@ -27,7 +28,7 @@ use Rattle.jg_heap.specs.Making.{Opaque}
 use Rattle.jg_heap.specs.declared.object.Slot.{Slot}
 use Rattle.jg_heap.specs.declared.object.Slot.TheVariants.{Number, Object as Pointer}
 use Rattle.jg_rules.specs.Parts.{Parts, nothing_yet}
-use Rattle.jg_rules.specs.Names.{depth, is_here, next_buffer, object_named, open_frames}
+use Rattle.jg_rules.specs.Names.{depth, is_here, next_buffer, open_frames}
 use Rattle.jg_rules.specs.Holding.{is_root}
 use Rattle.jg_laws.proofs.Here.{Here, AreKnown, here_made, known_made}
 use Rattle.jg_laws.proofs.NothingGone.{AllHere, named_here}
@@ -37,7 +38,7 @@ use Rattle.jg_core.specs.declared.fact.Fact.{Fact}
 use Rattle.jg_core.specs.declared.fact.Fact.TheVariants.{Begin, End, Enter, Leave, Push, Pop, Ensure, Raise, Calm, Hand, Lost, Lend, Back, Own, Free, Meet, Gone, Link, Unlink, Warn, Checked}
 use Rattle.jg_core.specs.Facts.{on, handed_on, kept_on, lost_on, lent, parts_of, can_be, is_attached, is_kept_here, is_free_for, is_through, History}
 use Rattle.jg_core.specs.Laws.{LiveIsHere, HeldIsHere, GoneStaysGone}
-use Rattle.jg_core.proofs.Each.{Keeps, before, each_later, not_true, first, second}
+use Rattle.jg_core.proofs.Each.{Keeps, before, each_later}
 
 -- ---- critical buffers and monitors
 
@@ -145,9 +146,9 @@ all_here s p all = record {
 
 here : (s : StatedSetup) (p : Parts) (o : ℕ) → is_here s p o ≡ true → Here (class_count s) p.heap o
 here s p o is =
-    let made = first (nat_lt o (heap.count_of (class_count s) p.heap)) (not (heap.gone_at (class_count s) p.heap o)) is in
-    let stays = second (nat_lt o (heap.count_of (class_count s) p.heap)) (not (heap.gone_at (class_count s) p.heap o)) is in
-    (grind (arith, nat_tests, made), not_true (heap.gone_at (class_count s) p.heap o) stays)
+    let made = and_first (nat_lt o (heap.count_of (class_count s) p.heap)) (not (heap.gone_at (class_count s) p.heap o)) is in
+    let stays = and_second (nat_lt o (heap.count_of (class_count s) p.heap)) (not (heap.gone_at (class_count s) p.heap o)) is in
+    (grind (arith, nat_tests, made), not-true (heap.gone_at (class_count s) p.heap o) stays)
 
 is_here_of : (s : StatedSetup) (p : Parts) (o : ℕ) → Here (class_count s) p.heap o → is_here s p o ≡ true
 is_here_of s p o both =
@@ -275,24 +276,6 @@ stays k e o x both apart =
     let other : (x == o) ≡ false = grind (arith, nat_tests, apart) in
     (both.0, other_by (x == o) (heap.gone_at k e x) (nat_lt x (heap.count_of k e) && not (nat_lt x k)) other both.1)
 
-or_first : (a b c d e : Bool) → a ≡ true → ((((a || b) || c) || d) || e) ≡ true
-or_first a b c d e is = rw is refl
-
-or_second : (a b c d e : Bool) → b ≡ true → ((((a || b) || c) || d) || e) ≡ true
-or_second true b c d e is = refl
-or_second false b c d e is = rw is refl
-
-or_third : (a b c d e : Bool) → c ≡ true → ((((a || b) || c) || d) || e) ≡ true
-or_third true b c d e is = refl
-or_third false true c d e is = refl
-or_third false false c d e is = rw is refl
-
-or_fourth : (a b c d e : Bool) → d ≡ true → ((((a || b) || c) || d) || e) ≡ true
-or_fourth true b c d e is = refl
-or_fourth false true c d e is = refl
-or_fourth false false true d e is = refl
-or_fourth false false false d e is = rw is refl
-
 or_fifth : (a b c d e : Bool) → e ≡ true → ((((a || b) || c) || d) || e) ≡ true
 or_fifth true b c d e is = refl
 or_fifth false true c d e is = refl
@@ -300,12 +283,9 @@ or_fifth false false true d e is = refl
 or_fifth false false false true e is = refl
 or_fifth false false false false e is = is
 
-on_and_off : (b : Bool) → b ≡ true → b ≡ false → ⊥
-on_and_off b on off = cc
-
 -- what is a root isn't the one that goes
 apart : (p : Parts) (o x : ℕ) → is_root p o ≡ false → is_root p x ≡ true → x ≢ o
-apart p o x none root same = on_and_off (is_root p o) (subst (λ (y : ℕ). is_root p y ≡ true) same root) none
+apart p o x none root same = clash (is_root p o) (subst (λ (y : ℕ). is_root p y ≡ true) same root) none
 
 not_first : (o x : ℕ) (b : Bool) → ((o == x) || b) ≡ false → x ≢ o
 not_first o x b is same = grind (arith, nat_tests, is, same)
@@ -359,34 +339,34 @@ each_here s p (End t) can all =
     (pins_released (Here k p.heap) p.buffers all.pins t.0)
 each_here s p (Enter t) can all = quiet (class_count s) p all t.0 (threads.Calm ∷ threads.Enter ∷ []) (locals.Enter ∷ []) tt refl
 each_here s p (Leave t kept) can all =
-    let is = second (not (depth p t.0 == 0)) (is_kept_here s p kept) (second (is_attached p t.0) (not (depth p t.0 == 0) && is_kept_here s p kept) can) in
+    let is = and_second (not (depth p t.0 == 0)) (is_kept_here s p kept) (and_second (is_attached p t.0) (not (depth p t.0 == 0) && is_kept_here s p kept) can) in
     kept_here s t.0 kept p (record p { threads = threads.by t.0 threads.Calm ∷ threads.by t.0 threads.Leave ∷ p.threads; locals = locals.by t.0 locals.Leave ∷ p.locals }) is refl
     (quiet (class_count s) p all t.0 (threads.Calm ∷ threads.Leave ∷ []) (locals.Leave ∷ []) tt refl)
 each_here s p (Push t room) can all = quiet (class_count s) p all t.0 [] (locals.Push room ∷ []) tt refl
 each_here s p (Pop t kept) can all =
     kept_here s t.0 kept p (record p { locals = locals.by t.0 locals.Pop ∷ p.locals })
-    (second (not (open_frames p t.0 == 0)) (is_kept_here s p kept) (second (is_attached p t.0) (not (open_frames p t.0 == 0) && is_kept_here s p kept) can)) refl
+    (and_second (not (open_frames p t.0 == 0)) (is_kept_here s p kept) (and_second (is_attached p t.0) (not (open_frames p t.0 == 0) && is_kept_here s p kept) can)) refl
     (quiet (class_count s) p all t.0 [] (locals.Pop ∷ []) tt refl)
 each_here s p (Ensure t room) can all = quiet (class_count s) p all t.0 [] (locals.Ensure room ∷ []) tt refl
-each_here s p (Raise t o) can all = quiet (class_count s) p all t.0 (threads.Raise o.0 ∷ []) [] (here s p o.0 (second (is_attached p t.0) (is_here s p o.0) can), tt) refl
+each_here s p (Raise t o) can all = quiet (class_count s) p all t.0 (threads.Raise o.0 ∷ []) [] (here s p o.0 (and_second (is_attached p t.0) (is_here s p o.0) can), tt) refl
 each_here s p (Calm t) can all = quiet (class_count s) p all t.0 (threads.Calm ∷ []) [] tt refl
-each_here s p (Hand t kind o) can all = handed_here (class_count s) p t.0 kind o.0 (here s p o.0 (second (is_attached p t.0) (is_here s p o.0) can)) all
+each_here s p (Hand t kind o) can all = handed_here (class_count s) p t.0 kind o.0 (here s p o.0 (and_second (is_attached p t.0) (is_here s p o.0) can)) all
 each_here s p (Lost r) can all = lost_here (class_count s) p all r
 each_here s p (Lend t family o via n) can all =
     let k : ℕ = class_count s in
-    let is = here s p o.0 (first (is_here s p o.0) (is_through family via) (second (is_attached p t.0) (is_here s p o.0 && is_through family via) can)) in
+    let is = here s p o.0 (and_first (is_here s p o.0) (is_through family via) (and_second (is_attached p t.0) (is_here s p o.0 && is_through family via) can)) in
     let q : Parts = record p { threads = threads.by t.0 threads.CountBuffer ∷ p.threads } in
     of_buffers k q (quiet k p all t.0 (threads.CountBuffer ∷ []) [] tt refl) (buffers.Opened (lent t.0 (next_buffer p t.0) family o.0 via n) ∷ p.buffers)
     (lent_pin (buffers.is_critical family) k p t.0 (next_buffer p t.0) o.0 family via n refl is all)
 each_here s p (Back b) can all = of_buffers (class_count s) p all (buffers.Closed b.maker.0 b.n ∷ p.buffers) (pin_closed (Here (class_count s) p.heap) p.buffers all.pins b.maker.0 b.n)
 each_here s p (Own t o) can all =
     of_monitors (class_count s) p all t.0 (monitors.Enter o.0) (here s p o.0
-    (first (is_here s p o.0) (is_free_for t.0 (monitors.owner p.monitors o.0)) (second (is_attached p t.0) (is_here s p o.0 && is_free_for t.0 (monitors.owner p.monitors o.0)) can)))
+    (and_first (is_here s p o.0) (is_free_for t.0 (monitors.owner p.monitors o.0)) (and_second (is_attached p t.0) (is_here s p o.0 && is_free_for t.0 (monitors.owner p.monitors o.0)) can)))
 each_here s p (Free t o) can all = of_monitors (class_count s) p all t.0 (monitors.Exit o.0) tt
 each_here s p (Meet class n) can all = met_here (class_count s) p all class n (let few : nat_lt class (class_count s) ≡ true = can in grind (arith, nat_tests, few))
 each_here s p (Gone o) can all =
-    let held = second (is_here s p o.0) (not (nat_lt o.0 (class_count s)) && not (is_root p o.0)) can in
-    gone_here (class_count s) p o.0 (not_true (is_root p o.0) (second (not (nat_lt o.0 (class_count s))) (not (is_root p o.0)) held)) all
+    let held = and_second (is_here s p o.0) (not (nat_lt o.0 (class_count s)) && not (is_root p o.0)) can in
+    gone_here (class_count s) p o.0 (not-true (is_root p o.0) (and_second (not (nat_lt o.0 (class_count s))) (not (is_root p o.0)) held)) all
 each_here s p (Link class native) can all = linked_here (class_count s) p all (links.Linked class native)
 each_here s p (Unlink class) can all = linked_here (class_count s) p all (links.UnlinkedAll class)
 each_here s p (Warn home) can all = linked_here (class_count s) p all (links.Warned home)
@@ -460,7 +440,7 @@ gone_stays_gone s later older o could =
     let k : ℕ = class_count s in
     let p : Parts = parts_of older in
     let can = (before s later (Gone o ∷ older) could).0 in
-    let made = first (nat_lt o.0 (heap.count_of k p.heap)) (not (heap.gone_at k p.heap o.0)) (first (is_here s p o.0) (not (nat_lt o.0 k) && not (is_root p o.0)) can) in
-    let class = not_true (nat_lt o.0 k) (first (not (nat_lt o.0 k)) (not (is_root p o.0)) (second (is_here s p o.0) (not (nat_lt o.0 k) && not (is_root p o.0)) can)) in
+    let made = and_first (nat_lt o.0 (heap.count_of k p.heap)) (not (heap.gone_at k p.heap o.0)) (and_first (is_here s p o.0) (not (nat_lt o.0 k) && not (is_root p o.0)) can) in
+    let class = not-true (nat_lt o.0 k) (and_first (not (nat_lt o.0 k)) (not (is_root p o.0)) (and_second (is_here s p o.0) (not (nat_lt o.0 k) && not (is_root p o.0)) can)) in
     let gone = each_later (λ q. heap.gone_at k q.heap o.0 ≡ true) s (keeps_gone s o.0) later (Gone o ∷ older) could (gone_now k p.heap o.0 made class) in
     not_here (nat_lt o.0 (heap.count_of k (parts_of (later ++ Gone o ∷ older)).heap)) _ gone

@@ -1,13 +1,14 @@
 -- What facts do to monitors was allowed at its time, so that none has two owners.
-use Rattle.std.proofs.Common.{ℕ, ◌≡◌, Bool, true, false, List, [], ◌∷◌, ◌++◌, Option, Some, None, refl, ap, eqb-true}
+use Rattle.std.proofs.Common.{ℕ, ◌≡◌, true, List, [], ◌∷◌, ◌++◌, Option, Some, None, refl, ap, eqb-true}
 use Rattle.std.specs.Prelude.{◌==◌, ◌&&◌}
 use Rattle.jg_words.specs.declared.object.ObjId.{ObjId}
 use Rattle.jg_words.specs.declared.reference.Ref.{Ref}
 use Rattle.jg_words.specs.declared.reference.Ref.TheVariants.{Null, To}
 use Rattle.jg_words.specs.declared.reference.Kind.{Kind}
 use Rattle.jg_words.specs.declared.reference.Kind.TheVariants.{Local, Global, Weak}
+use Rattle.jg_words.proofs.Common.{and_second}
 use Rattle.jg_policy.specs.Stated.{StatedSetup}
-use Rattle.jg_monitors.specs.declared.entering.Entering.TheVariants.{Entered, Busy}
+use Rattle.jg_monitors.specs.declared.entering.Entering.TheVariants.{Entered}
 use Rattle.jg_monitors.specs.History.{entering, owner}
 use Rattle.jg_monitors.specs.Standing.{AllAllowed}
 use Rattle.jg_monitors.proofs.Callers.{one_owner as one_owner_of, owner_has}
@@ -18,7 +19,6 @@ use Rattle.jg_core.specs.declared.fact.Fact.{Fact}
 use Rattle.jg_core.specs.declared.fact.Fact.TheVariants.{Begin, End, Enter, Leave, Push, Pop, Ensure, Raise, Calm, Hand, Lost, Lend, Back, Own, Free, Meet, Gone, Link, Unlink, Warn, Checked}
 use Rattle.jg_core.specs.Facts.{on, handed_on, kept_on, lost_on, parts_of, can_be, is_attached, is_free_for, is_owner, History}
 use Rattle.jg_core.specs.Laws.{OneOwner}
-use Rattle.jg_core.proofs.Each.{second}
 
 pub owned_by : (found : Option ℕ) (t : ℕ) → is_owner t found ≡ true → found ≡ Some t
 owned_by None t is = absurd cc
@@ -47,8 +47,8 @@ lost_allowed (To Weak maker n) p old = old
 allowed : (s : StatedSetup) (p : Parts) (x : Fact) → can_be s p x ≡ true → AllAllowed p.monitors → AllAllowed (on x p).monitors
 allowed s p (End t) can old = (old, tt)
 allowed s p (Own t o) can old =
-    let here = second (is_attached p t.0) (is_here s p o.0 && is_free_for t.0 (owner p.monitors o.0)) can in
-    (old, alone p.monitors t.0 o.0 (owner p.monitors o.0) refl old (not_busy (owner p.monitors o.0) t.0 (second (is_here s p o.0) (is_free_for t.0 (owner p.monitors o.0)) here)))
+    let here = and_second (is_attached p t.0) (is_here s p o.0 && is_free_for t.0 (owner p.monitors o.0)) can in
+    (old, alone p.monitors t.0 o.0 (owner p.monitors o.0) refl old (not_busy (owner p.monitors o.0) t.0 (and_second (is_here s p o.0) (is_free_for t.0 (owner p.monitors o.0)) here)))
 allowed s p (Free t o) can old = (old, owner_has p.monitors t.0 o.0 (owned_by (owner p.monitors o.0) t.0 can))
 allowed s p (Hand t kind o) can old = handed_allowed t.0 kind o.0 p old
 allowed s p (Leave t kept) can old = kept_allowed t.0 kept _ old

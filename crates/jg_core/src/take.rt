@@ -1,7 +1,6 @@
 //! What a fact does to the tables, where it can be.
 
-ghost use Rattle.std.specs.Prelude.{◌≡◌, ◌<◌, ◌≤◌, Some, None, ℕ, List, ◌∷◌, pos, replicate, IsOk, OnOk, OnErr, true};
-ghost use Rattle.std.specs.Option.{is_some};
+ghost use Rattle.std.specs.Prelude.{◌≡◌, ◌<◌, ◌≤◌, Some, None, ℕ, List, ◌∷◌, IsOk, OnOk, OnErr, true};
 ghost use Rattle.jg_buffers.specs.History.{Event, Opened};
 ghost use Rattle.jg_buffers.specs.Rows.{IsAbove};
 ghost use Rattle.jg_buffers.specs.Standing.{Stands};

@@ -1,15 +1,11 @@
 -- What holds of each thread's acts, where one thread did some more.
 use Rattle.std.proofs.Common.{ℕ, ◌≡◌, ◌≢◌, List, [], ◌∷◌, ◌++◌, map, refl, ap, ◌∙◌}
 use Rattle.jg_lists.specs.Acts.{Event, by, acts_of}
-use Rattle.jg_lists.proofs.Acts.{acts_more, acts_same, each_thread}
+use Rattle.jg_lists.proofs.Acts.{acts_more, each_thread, acts_others}
 
 pub own_acts : {A : Type 0} (u : ℕ) (xs : List A) (e : List (Event A)) → acts_of u (map (by u) xs ++ e) ≡ xs ++ acts_of u e
 own_acts u [] e = refl
 own_acts u (x ∷ xs) e = acts_more u u x (map (by u) xs ++ e) refl ∙ ap (λ ys. x ∷ ys) (own_acts u xs e)
-
-pub other_acts : {A : Type 0} (v u : ℕ) (xs : List A) (e : List (Event A)) → v ≢ u → acts_of v (map (by u) xs ++ e) ≡ acts_of v e
-other_acts v u [] e differ = refl
-other_acts v u (x ∷ xs) e differ = acts_same v u x (map (by u) xs ++ e) differ ∙ other_acts v u xs e differ
 
 module _ {A : Type 0} (R : List A → List A → Type 0) where
   -- u did these acts on one side, and those on the other
@@ -18,5 +14,5 @@ module _ {A : Type 0} (R : List A → List A → Type 0) where
   both u xs ys e f more old t =
       each_thread (λ v. R (acts_of v (map (by u) xs ++ e)) (acts_of v (map (by u) ys ++ f))) u
       (rw (own_acts u xs e, own_acts u ys f) (more (old u)))
-      (λ v differ. rw (other_acts v u xs e differ, other_acts v u ys f differ) (old v))
+      (λ v differ. rw (acts_others v u xs e differ, acts_others v u ys f differ) (old v))
       t

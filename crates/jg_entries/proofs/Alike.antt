@@ -1,5 +1,6 @@
 -- Parts whose tables read the same, table by table, so that the same events keep them so; and what that tells.
 use Rattle.std.proofs.Common.{ℕ, ◌≡◌, ◌+◌, true, List, refl, ap, sym, ◌∙◌}
+use Rattle.core.specs.Cmp.{both_ways}
 use Rattle.jg_policy.specs.Stated.{StatedSetup, class_count}
 use Rattle.jg_policy.specs.Links as links
 use Rattle.jg_threads.specs.History as threads
@@ -15,7 +16,7 @@ use Rattle.jg_entries.specs.Alike.{ReadAlike}
 use Rattle.jg_entries.proofs.Threads.{SameThread}
 use Rattle.jg_entries.proofs.Locals.{SameSession, same_live, same_frames}
 use Rattle.jg_entries.proofs.Globals.{SameGlobals, same_target}
-use Rattle.jg_entries.proofs.Buffers.{SameBuffers, same_pins, same_truth}
+use Rattle.jg_entries.proofs.Buffers.{SameBuffers, same_pins}
 use Rattle.jg_entries.proofs.Monitors.{SameMonitors, same_count, same_owner}
 use Rattle.jg_entries.proofs.Heap.{SameHeap, same_there, same_class}
 
@@ -94,9 +95,9 @@ turned s p q same = record {
 pub same_root : (s : StatedSetup) (p q : Parts) (o : ℕ) → AllAllowed p.monitors → AllAllowed q.monitors → Alike s p q → is_root p o ≡ is_root q o
 same_root s p q o all others same =
     let back = turned s p q same in
-    let a = same_truth (locals.holds_object p.locals o) (locals.holds_object q.locals o) (live_held s p q o same) (live_held s q p o back) in
-    let b = same_truth (globals.holds_object p.globals o) (globals.holds_object q.globals o) (strong_held s p q o same) (strong_held s q p o back) in
-    let c = same_truth (threads.is_pending p.threads o) (threads.is_pending q.threads o) (pending_held s p q o same) (pending_held s q p o back) in
+    let a = both_ways (locals.holds_object p.locals o) (locals.holds_object q.locals o) (live_held s p q o same) (live_held s q p o back) in
+    let b = both_ways (globals.holds_object p.globals o) (globals.holds_object q.globals o) (strong_held s p q o same) (strong_held s q p o back) in
+    let c = both_ways (threads.is_pending p.threads o) (threads.is_pending q.threads o) (pending_held s p q o same) (pending_held s q p o back) in
     let d = same_pins p.buffers q.buffers o same.buffers in
     let e = same_owner p.monitors q.monitors o all others same.monitors in
     rw (a, b, c, d, e) refl

@@ -2,7 +2,9 @@
 use Rattle.std.proofs.Common.{ℕ, ℤ, ◌≡◌, Bool, true, false, List, [], ◌∷◌, Option, Some, None, refl, ap, sym, subst, ◌∙◌, eqb-true, if◌then◌else◌}
 use Rattle.std.specs.Prelude.{◌==◌, ◌&&◌}
 use Rattle.std.specs.Option.{option_map}
+use Rattle.core.specs.Cmp.{both_ways}
 use Rattle.jg_words.specs.declared.reference.Ref.{Ref}
+use Rattle.jg_words.proofs.Common.{clash, and_first}
 use Rattle.jg_buffers.specs.declared.info.Info.{Info}
 use Rattle.jg_buffers.specs.History.{Buffer, Event, Opened, Wrote, Closed, ReleaseAll, is_same, is_critical, opened, info_of, in_critical, pinned_by, pins_object, copied_only}
 use Rattle.jg_buffers.specs.Laws.{CriticalBuffer}
@@ -58,25 +60,18 @@ released_if : (same : Bool) (m : ℕ) (b : Buffer) (before : Option Buffer) → 
 released_if true m b before old is = copied_own m b before old is
 released_if false m b before old is = old is
 
-first : (a b : Bool) → (a && b) ≡ true → a ≡ true
-first true b is = refl
-first false b is = absurd cc
-
 -- an open buffer is its maker's
 own_maker : (e : List Event) (m n : ℕ) (b : Buffer) → opened e m n ≡ Some b → b.maker ≡ m
 own_maker [] m n b is = absurd cc
-own_maker (Opened c ∷ e) m n b is = own_if (is_same m n c.maker c.n) m c b (opened e m n) (λ same. eqb-true c.maker m (first (c.maker == m) (c.n == n) same)) (own_maker e m n b) is
+own_maker (Opened c ∷ e) m n b is = own_if (is_same m n c.maker c.n) m c b (opened e m n) (λ same. eqb-true c.maker m (and_first (c.maker == m) (c.n == n) same)) (own_maker e m n b) is
 own_maker (Wrote k i j v ∷ e) m n b is = own_maker e m n b is
 own_maker (Closed k i ∷ e) m n b is = ended_if (is_same m n k i) m b (opened e m n) (own_maker e m n b) is
 own_maker (ReleaseAll k ∷ e) m n b is = released_if (k == m) m b (opened e m n) (own_maker e m n b) is
 
-on_and_off : (b : Bool) → b ≡ true → b ≡ false → ⊥
-on_and_off b on off = cc
-
 copies_only : (e : List Event) (m n : ℕ) (b : Buffer) (critical : Bool) → is_critical b.family ≡ critical
     → opened e m n ≡ Some b → in_critical e m ≡ false → (if critical then None else Some b) ≡ Some b
 copies_only e m n b true is there none =
-    absurd (on_and_off (in_critical e m) ((critical_law e m).1 (record { maker = m; n = n; buffer = b; is_open = there; critical = is; holds = own_maker e m n b there })) none)
+    absurd (clash (in_critical e m) ((critical_law e m).1 (record { maker = m; n = n; buffer = b; is_open = there; critical = is; holds = own_maker e m n b there })) none)
 copies_only e m n b false is there none = refl
 
 all_copies : (e : List Event) (m n : ℕ) (found : Option Buffer) → opened e m n ≡ found → in_critical e m ≡ false → copied_only found ≡ found
@@ -118,16 +113,11 @@ carried e f H same told c =
 turned : (e f : List Event) → SameBuffers e f → SameBuffers f e
 turned e f same maker n = sym (same maker n)
 
-pub same_truth : (a b : Bool) → (a ≡ true → b ≡ true) → (b ≡ true → a ≡ true) → a ≡ b
-same_truth true b there back = sym (there refl)
-same_truth false true there back = back refl
-same_truth false false there back = refl
-
 pub same_critical : (e f : List Event) (t : ℕ) → SameBuffers e f → in_critical e t ≡ in_critical f t
 same_critical e f t same =
     let H : Buffer → Type 0 = λ b. b.maker ≡ t in
     let told : (b c : Buffer) → info_of c ≡ info_of b → H b → H c = λ b c is own. ap (λ (i : Info). i.maker.0) is ∙ own in
-    same_truth (in_critical e t) (in_critical f t)
+    both_ways (in_critical e t) (in_critical f t)
     (λ is. (critical_law f t).1 (carried e f H same told ((critical_law e t).0 is)))
     (λ is. (critical_law e t).1 (carried f e H (turned e f same) told ((critical_law f t).0 is)))
 
@@ -135,7 +125,7 @@ pub same_pinned : (e f : List Event) (r : Ref) → SameBuffers e f → pinned_by
 same_pinned e f r same =
     let H : Buffer → Type 0 = λ b. b.via ≡ r in
     let told : (b c : Buffer) → info_of c ≡ info_of b → H b → H c = λ b c is own. ap (λ (i : Info). i.via) is ∙ own in
-    same_truth (pinned_by e r) (pinned_by f r)
+    both_ways (pinned_by e r) (pinned_by f r)
     (λ is. (pinned_law f r).1 (carried e f H same told ((pinned_law e r).0 is)))
     (λ is. (pinned_law e r).1 (carried f e H (turned e f same) told ((pinned_law f r).0 is)))
 
@@ -143,6 +133,6 @@ pub same_pins : (e f : List Event) (o : ℕ) → SameBuffers e f → pins_object
 same_pins e f o same =
     let H : Buffer → Type 0 = λ b. b.object ≡ o in
     let told : (b c : Buffer) → info_of c ≡ info_of b → H b → H c = λ b c is own. ap (λ (i : Info). i.object.0) is ∙ own in
-    same_truth (pins_object e o) (pins_object f o)
+    both_ways (pins_object e o) (pins_object f o)
     (λ is. (pinned_object_law f o).1 (carried e f H same told ((pinned_object_law e o).0 is)))
     (λ is. (pinned_object_law e o).1 (carried f e H (turned e f same) told ((pinned_object_law f o).0 is)))

@@ -9,6 +9,7 @@ use Rattle.jg_words.specs.declared.reference.Kind.TheVariants.{Local, Global, We
 use Rattle.jg_globals.specs.declared.target.Target.{Target}
 use Rattle.jg_globals.specs.declared.target.Target.TheVariants.{Object, Cleared}
 use Rattle.jg_globals.specs.History.{Event, MakeStrong, MakeWeak, DeleteStrong, DeleteWeak, Clear, strong, weak, is_same, after_making, clears, unless_cleared, weak_target, strong_target, target_of}
+use Rattle.jg_globals.proofs.Steps.{strong-clear, weak_target-clear, cleared_by}
 
 pub record SameGlobals (e f : List Event) : Type 0 where
   pub strong : (maker n : ℕ) → strong e maker n ≡ strong f maker n
@@ -69,53 +70,13 @@ weak_deleted k i e f same = record {
 
 -- ---- a collection
 
--- what a weak reference names after these objects were cleared
-abbrev cleared_by : List ℕ → Option Target → Option Target
-cleared_by objects None = None
-cleared_by objects (Some Cleared) = Some Cleared
-cleared_by objects (Some (Object o)) = if list_any (λ p. p == o.0) objects then Some Cleared else Some (Object o)
-
-clear_if : (objects : List ℕ) (o : ℕ) (b c : Bool) → list_any (λ p. p == o) objects ≡ b
-    → Some (if b || c then Cleared else Object (record { 0 = o })) ≡ cleared_by objects (Some (if c then Cleared else Object (record { 0 = o })))
-clear_if objects o true true is = refl
-clear_if objects o true false is = rw is refl
-clear_if objects o false true is = refl
-clear_if objects o false false is = rw is refl
-
-all_clears : (o : ℕ) (objects : List ℕ) (later : List Event) → list_any (clears o) (map (λ x. Clear x) objects ++ later) ≡ (list_any (λ p. p == o) objects || list_any (clears o) later)
-all_clears o [] later = refl
-all_clears o (x ∷ objects) later = or_more (x == o) (list_any (λ p. p == o) objects) (list_any (clears o) later) _ (all_clears o objects later)
-  where
-    or_more : (a b c d : Bool) → d ≡ (b || c) → (a || d) ≡ ((a || b) || c)
-    or_more true b c d is = refl
-    or_more false b c d is = is
-
-after_clears : (maker n : ℕ) (objects : List ℕ) (e : List Event) → after_making maker n (map (λ x. Clear x) objects ++ e) ≡ map (λ x. Clear x) objects ++ after_making maker n e
-after_clears maker n [] e = refl
-after_clears maker n (x ∷ objects) e = ap (λ l. Clear x ∷ l) (after_clears maker n objects e)
-
-weak_clears : (maker n : ℕ) (objects : List ℕ) (e : List Event) → weak (map (λ x. Clear x) objects ++ e) maker n ≡ weak e maker n
-weak_clears maker n [] e = refl
-weak_clears maker n (x ∷ objects) e = weak_clears maker n objects e
-
-strong_clears : (maker n : ℕ) (objects : List ℕ) (e : List Event) → strong (map (λ x. Clear x) objects ++ e) maker n ≡ strong e maker n
-strong_clears maker n [] e = refl
-strong_clears maker n (x ∷ objects) e = strong_clears maker n objects e
-
-cleared : (objects : List ℕ) (later : List Event) (found : Option ℕ) → unless_cleared (map (λ x. Clear x) objects ++ later) found ≡ cleared_by objects (unless_cleared later found)
-cleared objects later None = refl
-cleared objects later (Some o) = rw (all_clears o objects later) (clear_if objects o (list_any (λ p. p == o) objects) (list_any (clears o) later) refl)
-
-weak_collected : (maker n : ℕ) (objects : List ℕ) (e : List Event) → weak_target (map (λ x. Clear x) objects ++ e) maker n ≡ cleared_by objects (weak_target e maker n)
-weak_collected maker n objects e = rw (after_clears maker n objects e, weak_clears maker n objects e) (cleared objects (after_making maker n e) (weak e maker n))
-
 -- cleared one after the other, the first of the list first
 abbrev pub clear_each : List ℕ → List Event → List Event
 clear_each [] e = e
 clear_each (o ∷ objects) e = clear_each objects (Clear o ∷ e)
 
 cleared_if : (a b : Bool) (x : ℕ) (objects : List ℕ) (o : ObjId) → (x == o.0) ≡ a → list_any (λ p. p == o.0) objects ≡ b
-    → cleared_by objects (if a || false then Some Cleared else Some (Object o)) ≡ (if a || b then Some Cleared else Some (Object o))
+    → cleared_by objects (Some (if a || false then Cleared else Object o)) ≡ Some (if a || b then Cleared else Object o)
 cleared_if true b x objects o is rest = refl
 cleared_if false b x objects o is rest = rw rest refl
 
@@ -125,10 +86,10 @@ cleared_more x objects (Some Cleared) = refl
 cleared_more x objects (Some (Object o)) = cleared_if (x == o.0) (list_any (λ p. p == o.0) objects) x objects o refl refl
 
 weak_each : (maker n : ℕ) (objects : List ℕ) (e : List Event) → weak_target (clear_each objects e) maker n ≡ cleared_by objects (weak_target e maker n)
-weak_each maker n [] e = weak_collected maker n [] e
+weak_each maker n [] e = weak_target-clear maker n [] e
 weak_each maker n (x ∷ objects) e =
     weak_each maker n objects (Clear x ∷ e)
-    ∙ (ap (cleared_by objects) (weak_collected maker n (x ∷ []) e) ∙ cleared_more x objects (weak_target e maker n))
+    ∙ (ap (cleared_by objects) (weak_target-clear maker n (x ∷ []) e) ∙ cleared_more x objects (weak_target e maker n))
 
 strong_each : (maker n : ℕ) (objects : List ℕ) (e : List Event) → strong (clear_each objects e) maker n ≡ strong e maker n
 strong_each maker n [] e = refl
@@ -136,6 +97,6 @@ strong_each maker n (x ∷ objects) e = strong_each maker n objects (Clear x ∷
 
 pub all_cleared : (objects : List ℕ) (e f : List Event) → SameGlobals e f → SameGlobals (clear_each objects e) (map (λ o. Clear o) objects ++ f)
 all_cleared objects e f same = record {
-  strong = λ maker n. strong_each maker n objects e ∙ (same.strong maker n ∙ sym (strong_clears maker n objects f));
-  weak = λ maker n. weak_each maker n objects e ∙ (ap (cleared_by objects) (same.weak maker n) ∙ sym (weak_collected maker n objects f));
+  strong = λ maker n. strong_each maker n objects e ∙ (same.strong maker n ∙ sym (strong-clear maker n objects f));
+  weak = λ maker n. weak_each maker n objects e ∙ (ap (cleared_by objects) (same.weak maker n) ∙ sym (weak_target-clear maker n objects f));
 }

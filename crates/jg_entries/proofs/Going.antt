@@ -2,7 +2,9 @@
 use Rattle.std.proofs.Common.{ℕ, ◌≡◌, ◌≢◌, ◌+◌, ◌<◌, ◌≤◌, Bool, true, false, List, [], ◌∷◌, ◌++◌, map, zero, suc, refl, ap, sym, subst, ◌∙◌, arith}
 use Rattle.std.specs.Prelude.{◌==◌, ◌&&◌, ◌||◌, not, nat_lt, filter, if◌then◌else◌}
 use Rattle.std.specs.List.{list_any, range_with_len}
-use Rattle.std.proofs.lemmas.Bool.Decides.{nat_tests}
+use Rattle.std.proofs.lemmas.Bool.Decides.{nat_tests, and_from}
+use Rattle.std.proofs.lemmas.Bool.{and_parts}
+use Rattle.jg_lists.proofs.Lists.{any_same}
 use Rattle.jg_policy.specs.Stated.{StatedSetup, class_count}
 use Rattle.jg_globals.specs.History as globals
 use Rattle.jg_heap.specs.History as heap
@@ -17,7 +19,7 @@ use Rattle.jg_entries.proofs.Globals.{all_cleared, clear_each}
 use Rattle.jg_entries.proofs.Heap.{all_gone, go_each}
 use Rattle.jg_entries.proofs.Alike.{Alike, same_root}
 use Rattle.jg_entries.proofs.Steps.{globals_on, heap_on, same_here, on_all, CanAll, Told, on_more, can_more}
-use Rattle.jg_entries.proofs.Own.{Known, both_true}
+use Rattle.jg_entries.proofs.Own.{Known}
 
 -- ---- the parts after it
 
@@ -26,10 +28,6 @@ went_is [] p = refl
 went_is (o ∷ objects) p = on_more (gone_facts objects) (Gone (record { 0 = o }) ∷ []) p ∙ went_is objects (on (Gone (record { 0 = o })) p)
 
 -- ---- each could be
-
-any_same : {A : Type 0} (f g : A → Bool) (xs : List A) → ((x : A) → f x ≡ g x) → list_any f xs ≡ list_any g xs
-any_same f g [] same = refl
-any_same f g (x ∷ xs) same = rw (same x, any_same f g xs same) refl
 
 -- what is cleared held nothing
 held_still : (e : List globals.Event) (a o : ℕ) (ev : globals.Event) → globals.made_and_held (globals.Clear a ∷ e) o ev ≡ globals.made_and_held e o ev
@@ -90,22 +88,17 @@ unheld true r x is = absurd (let no : ⊥ = cc in no)
 unheld false true x is = absurd (let no : ⊥ = cc in no)
 unheld false false x is = (refl, refl)
 
-both_of : (a b : Bool) → (a && b) ≡ true → (a ≡ true) × (b ≡ true)
-both_of true true is = (refl, refl)
-both_of true false is = absurd (let no : ⊥ = cc in no)
-both_of false b is = absurd (let no : ⊥ = cc in no)
-
 not_held : (s : StatedSetup) (p q : Parts) → Known s p q → (o : ℕ) → o < heap.count_of (class_count s) q.heap
     → (not (heap.gone_at (class_count s) q.heap o) && not (heap.held_at (class_count s) (roots s q) q.heap o)) ≡ true → can_be s p (Gone (record { 0 = o })) ≡ true
 not_held s p q known o made is =
     let k : ℕ = class_count s in
-    let parts = both_of (not (heap.gone_at k q.heap o)) (not (heap.held_at k (roots s q) q.heap o)) is in
+    let parts = and_parts (not (heap.gone_at k q.heap o)) (not (heap.held_at k (roots s q) q.heap o)) is in
     let free = unheld (nat_lt o k) (list_any (λ r. r == o) (roots s q)) _ parts.1 in
     let below : nat_lt o (heap.count_of k q.heap) ≡ true = grind (arith, nat_tests, made) in
-    let here : is_here s q o ≡ true = both_true (nat_lt o (heap.count_of k q.heap)) (not (heap.gone_at k q.heap o)) below parts.0 in
+    let here : is_here s q o ≡ true = and_from (nat_lt o (heap.count_of k q.heap)) (not (heap.gone_at k q.heap o)) below parts.0 in
     let root : is_root q o ≡ false = sym (roots_law (is_root q) (heap.count_of k q.heap) o made) ∙ free.1 in
-    both_true (is_here s p o) (not (nat_lt o k) && not (is_root p o)) (same_here s p q known.same o ∙ here)
-    (both_true (not (nat_lt o k)) (not (is_root p o)) free.0 (ap not (same_root s p q o known.left known.right known.same ∙ root)))
+    and_from (is_here s p o) (not (nat_lt o k) && not (is_root p o)) (same_here s p q known.same o ∙ here)
+    (and_from (not (nat_lt o k)) (not (is_root p o)) free.0 (ap not (same_root s p q o known.left known.right known.same ∙ root)))
 
 pub collect_told : (s : StatedSetup) (p q : Parts) → Known s p q
     → Told s p (record q { globals = map (λ o. globals.Clear o) (going s q) ++ q.globals; heap = heap.Collected (roots s q) ∷ q.heap }) (gone_facts (going s q))

@@ -6,7 +6,8 @@ use Rattle.jg_words.specs.declared.reference.Ref.{Ref}
 use Rattle.jg_words.specs.declared.reference.Ref.TheVariants.{Null, To}
 use Rattle.jg_words.specs.declared.reference.Kind.{Kind}
 use Rattle.jg_words.specs.declared.reference.Kind.TheVariants.{Local, Global, Weak}
-use Rattle.jg_lists.proofs.Acts.{each_thread}
+use Rattle.jg_words.proofs.Common.{and_first}
+use Rattle.jg_lists.proofs.Acts.{each_thread, acts_others}
 use Rattle.jg_policy.specs.Stated.{StatedSetup}
 use Rattle.jg_threads.specs.History as threads
 use Rattle.jg_locals.specs.History as locals
@@ -20,9 +21,9 @@ use Rattle.jg_laws.proofs.Kept.{Agreed}
 use Rattle.jg_core.specs.declared.fact.Fact.{Fact}
 use Rattle.jg_core.specs.declared.fact.Fact.TheVariants.{Begin, End, Enter, Leave, Push, Pop, Ensure, Raise, Calm, Hand, Lost, Lend, Back, Own, Free, Meet, Gone, Link, Unlink, Warn, Checked}
 use Rattle.jg_core.specs.Facts.{on, parts_of, handed_on, kept_on, lost_on, can_be, is_attached, is_kept_here, is_through, is_free_for, is_owner, History}
-use Rattle.jg_core.proofs.Each.{first, each_told, keeps_agree}
+use Rattle.jg_core.proofs.Each.{each_told, keeps_agree}
 use Rattle.jg_core.proofs.Owners.{owned_by}
-use Rattle.jg_entries.proofs.Acts.{own_acts, other_acts}
+use Rattle.jg_entries.proofs.Acts.{own_acts}
 use Rattle.jg_entries.proofs.Locals.{idle_live}
 
 -- the acts of a thread, by the tables of threads, locals and monitors: none since its session, if it has none
@@ -39,7 +40,7 @@ acted : (te : List threads.Event) (le : List locals.Event) (me : List monitors.E
 acted te le me u xs ys zs own old t =
     each_thread (λ v. DidNothing (threads.acts_of v (map (threads.by u) xs ++ te)) (locals.acts_of v (map (locals.by u) ys ++ le)) (monitors.acts_of v (map (monitors.by u) zs ++ me))) u
     (rw (own_acts u xs te, own_acts u ys le, own_acts u zs me) own)
-    (λ v differ. rw (other_acts v u xs te differ, other_acts v u ys le differ, other_acts v u zs me differ) (old v))
+    (λ v differ. rw (acts_others v u xs te differ, acts_others v u ys le differ, acts_others v u zs me differ) (old v))
     t
 
 abbrev pub IsIdle : Parts → Type 0
@@ -96,29 +97,29 @@ each_idle s p (Begin t) can agreed old = acted p.threads p.locals p.monitors t.0
 each_idle s p (End t) can agreed old = acted p.threads p.locals p.monitors t.0 (threads.Detach ∷ []) (locals.End ∷ []) (monitors.ReleaseAll ∷ []) (λ none. (refl, refl, refl)) old
 each_idle s p (Enter t) can agreed old = acted p.threads p.locals p.monitors t.0 (threads.Calm ∷ threads.Enter ∷ []) (locals.Enter ∷ []) [] (λ none. off (is_attached p t.0) can none) old
 each_idle s p (Leave t kept) can agreed old =
-    let here = first (is_attached p t.0) (not (depth p t.0 == 0) && is_kept_here s p kept) can in
+    let here = and_first (is_attached p t.0) (not (depth p t.0 == 0) && is_kept_here s p kept) can in
     kept_idle (record p { threads = threads.by t.0 threads.Calm ∷ threads.by t.0 threads.Leave ∷ p.threads; locals = locals.by t.0 locals.Leave ∷ p.locals }) t.0 kept
     (left_attached p t.0 (threads.Calm ∷ threads.Leave ∷ []) here)
     (acted p.threads p.locals p.monitors t.0 (threads.Calm ∷ threads.Leave ∷ []) (locals.Leave ∷ []) [] (λ none. off (is_attached p t.0) here none) old)
 each_idle s p (Push t room) can agreed old = acted p.threads p.locals p.monitors t.0 [] (locals.Push room ∷ []) [] (λ none. off (is_attached p t.0) can none) old
 each_idle s p (Pop t kept) can agreed old =
-    let here = first (is_attached p t.0) (not (open_frames p t.0 == 0) && is_kept_here s p kept) can in
+    let here = and_first (is_attached p t.0) (not (open_frames p t.0 == 0) && is_kept_here s p kept) can in
     kept_idle (record p { locals = locals.by t.0 locals.Pop ∷ p.locals }) t.0 kept here
     (acted p.threads p.locals p.monitors t.0 [] (locals.Pop ∷ []) [] (λ none. off (is_attached p t.0) here none) old)
 each_idle s p (Ensure t room) can agreed old = acted p.threads p.locals p.monitors t.0 [] (locals.Ensure room ∷ []) [] (λ none. off (is_attached p t.0) can none) old
 each_idle s p (Raise t o) can agreed old =
     acted p.threads p.locals p.monitors t.0 (threads.Raise o.0 ∷ []) [] []
-    (λ none. off (is_attached p t.0) (first (is_attached p t.0) (is_here s p o.0) can) none) old
+    (λ none. off (is_attached p t.0) (and_first (is_attached p t.0) (is_here s p o.0) can) none) old
 each_idle s p (Calm t) can agreed old = acted p.threads p.locals p.monitors t.0 (threads.Calm ∷ []) [] [] (λ none. off (is_attached p t.0) can none) old
-each_idle s p (Hand t kind o) can agreed old = handed_idle p t.0 kind o.0 (first (is_attached p t.0) (is_here s p o.0) can) old
+each_idle s p (Hand t kind o) can agreed old = handed_idle p t.0 kind o.0 (and_first (is_attached p t.0) (is_here s p o.0) can) old
 each_idle s p (Lost r) can agreed old = lost_idle s p r can agreed old
 each_idle s p (Lend t family o via n) can agreed old =
-    acted p.threads p.locals p.monitors t.0 (threads.CountBuffer ∷ []) [] [] (λ none. off (is_attached p t.0) (first (is_attached p t.0) (is_here s p o.0 && is_through family via) can) none) old
+    acted p.threads p.locals p.monitors t.0 (threads.CountBuffer ∷ []) [] [] (λ none. off (is_attached p t.0) (and_first (is_attached p t.0) (is_here s p o.0 && is_through family via) can) none) old
 each_idle s p (Back b) can agreed old = old
 each_idle s p (Own t o) can agreed old =
     acted p.threads p.locals p.monitors t.0 [] [] (monitors.Enter o.0 ∷ [])
     (λ none. off (is_attached p t.0)
-    (first (is_attached p t.0) (is_here s p o.0 && is_free_for t.0 (monitors.owner p.monitors o.0)) can) none) old
+    (and_first (is_attached p t.0) (is_here s p o.0 && is_free_for t.0 (monitors.owner p.monitors o.0)) can) none) old
 each_idle s p (Free t o) can agreed old =
     acted p.threads p.locals p.monitors t.0 [] [] (monitors.Exit o.0 ∷ []) (λ none. off (is_attached p t.0) (by_monitor p t.0 o.0 (is_attached p t.0) refl old can) none) old
 each_idle s p (Meet class n) can agreed old = old

@@ -1,8 +1,9 @@
 -- What reads the same is judged the same.
 use Rattle.std.proofs.Common.{ℕ, ℤ, ◌≡◌, ◌∙◌, Bool, List, [], ◌∷◌, Option, Some, None, refl, ap}
 use Rattle.std.specs.Prelude.{◌&&◌, ◌==◌, not, nat_lt, if◌then◌else◌}
-use Rattle.std.specs.List.{list_any, find}
+use Rattle.std.specs.List.{find}
 use Rattle.std.specs.Option.{is_some}
+use Rattle.jg_lists.proofs.Lists.{any_same}
 use Rattle.jg_words.specs.declared.thread.EnvId.{EnvId}
 use Rattle.jg_words.specs.declared.reference.Ref.{Ref}
 use Rattle.jg_words.specs.declared.reference.Ref.TheVariants.{Null, To}
@@ -52,10 +53,6 @@ use Rattle.jg_entries.proofs.Buffers.{SameBuffers, same_critical, same_pinned}
 find_same : {A : Type 0} (f g : A → Bool) (xs : List A) → ((x : A) → f x ≡ g x) → find f xs ≡ find g xs
 find_same f g [] same = refl
 find_same f g (x ∷ xs) same = rw (same x, find_same f g xs same) refl
-
-any_same : {A : Type 0} (f g : A → Bool) (xs : List A) → ((x : A) → f x ≡ g x) → list_any f xs ≡ list_any g xs
-any_same f g [] same = refl
-any_same f g (x ∷ xs) same = rw (same x, any_same f g xs same) refl
 
 module _ (s : StatedSetup) (p q : Parts) (same : ReadAlike s p q) where
   pub names_same : (t : ℕ) (r : Ref) → names p t r ≡ names q t r

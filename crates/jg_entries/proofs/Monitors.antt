@@ -1,5 +1,6 @@
 -- Who owns a monitor is told by how often each thread entered and exited it.
-use Rattle.std.proofs.Common.{ℕ, ◌≡◌, ◌<◌, List, ◌∷◌, Option, Some, None, refl, ap, sym, subst, ◌∙◌, arith}
+use Rattle.std.proofs.Common.{ℕ, ◌≡◌, ◌<◌, List, ◌∷◌, Option, Some, None, refl, ap, sym, subst, ◌∙◌}
+use Rattle.jg_words.proofs.Common.{positive}
 use Rattle.jg_monitors.specs.History.{Event, Act, Enter, Exit, ReleaseAll, acts_of, since, count, owner}
 use Rattle.jg_monitors.specs.Standing.{AllAllowed}
 use Rattle.jg_monitors.proofs.Callers.{one_owner, owner_has, all_free}
@@ -11,16 +12,13 @@ SameMonitors e f = (t : ℕ) → since (acts_of t e) ≡ since (acts_of t f)
 pub same_count : (e f : List Event) (t o : ℕ) → SameMonitors e f → count e t o ≡ count f t o
 same_count e f t o same = rw (same t) refl
 
-no_count : (n : ℕ) → 0 < n → n ≡ 0 → ⊥
-no_count n some none = absurd (omega (arith, some, none))
-
 owner_by : (e : List Event) (t o : ℕ) (found : Option ℕ) → owner e o ≡ found → AllAllowed e → 0 < count e t o → found ≡ Some t
-owner_by e t o None is all some = absurd (no_count (count e t o) some (all_free e t o all is))
+owner_by e t o None is all some = absurd (positive (count e t o) some (all_free e t o all is))
 owner_by e t o (Some u) is all some = ap Some (one_owner e u t o all (owner_has e u o is) some)
 
 none_by : (e f : List Event) (o : ℕ) (found : Option ℕ) → owner f o ≡ found → ((t : ℕ) → count f t o ≡ 0) → None ≡ found
 none_by e f o None is free = refl
-none_by e f o (Some u) is free = absurd (no_count (count f u o) (owner_has f u o is) (free u))
+none_by e f o (Some u) is free = absurd (positive (count f u o) (owner_has f u o is) (free u))
 
 same_by : (e f : List Event) (o : ℕ) (found : Option ℕ) → owner e o ≡ found → AllAllowed e → AllAllowed f → SameMonitors e f → found ≡ owner f o
 same_by e f o None is all others same = none_by e f o (owner f o) refl (λ t. sym (same_count e f t o same) ∙ all_free e t o all is)

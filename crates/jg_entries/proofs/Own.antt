@@ -3,7 +3,7 @@ use Rattle.std.proofs.Common.{ℕ, ℤ, ◌≡◌, ◌+◌, Bool, true, false, L
 use Rattle.std.specs.Prelude.{◌==◌, ◌&&◌, not, nat_lt, if◌then◌else◌, pos, replicate}
 use Rattle.std.specs.List.{AllByRecursion}
 use Rattle.std.specs.Option.{is_some}
-use Rattle.std.proofs.lemmas.Bool.Decides.{nat_tests}
+use Rattle.std.proofs.lemmas.Bool.Decides.{nat_tests, and_from}
 use Rattle.std.proofs.lemmas.List.{length-replicate}
 use Rattle.jg_words.specs.declared.thread.Tid.{Tid}
 use Rattle.jg_words.specs.declared.object.ObjId.{ObjId}
@@ -59,9 +59,6 @@ pub record Known (s : StatedSetup) (p q : Parts) : Type 0 where
   pub all : AllHere s q
   pub stated : AllByRecursion (MakesStated s) q.heap
 
-pub both_true : (a b : Bool) → a ≡ true → b ≡ true → (a && b) ≡ true
-both_true a b is are = rw (is, are) refl
-
 -- ---- what any answer brings
 
 pub hand_told : (s : StatedSetup) (p d : Parts) (t : Tid) (kind : Kind) (o : ObjId) (n : ℕ) (xs : List Fact) → Told s p d xs → is_attached d t.0 ≡ true → is_here s d o.0 ≡ true → next_ref d t.0 ≡ n
@@ -69,7 +66,7 @@ pub hand_told : (s : StatedSetup) (p d : Parts) (t : Tid) (kind : Kind) (o : Obj
 hand_told s p d t kind o n xs told on_now here number =
     let r : Parts = on_all xs p in
     next s p d (handed_by t.0 kind n o.0 d) (Hand t kind o) xs told
-    (both_true (is_attached r t.0) (is_here s r o.0) (same_attached s r d told.alike t.0 ∙ on_now) (same_here s r d told.alike o.0 ∙ here))
+    (and_from (is_attached r t.0) (is_here s r o.0) (same_attached s r d told.alike t.0 ∙ on_now) (same_here s r d told.alike o.0 ∙ here))
     (handed_alike s r d t.0 kind n o.0 number told.alike)
 
 pub raise_told : (s : StatedSetup) (p d : Parts) (t : Tid) (o : ObjId) (xs : List Fact) → Told s p d xs → is_attached d t.0 ≡ true → is_here s d o.0 ≡ true
@@ -77,7 +74,7 @@ pub raise_told : (s : StatedSetup) (p d : Parts) (t : Tid) (o : ObjId) (xs : Lis
 raise_told s p d t o xs told on_now here =
     let r : Parts = on_all xs p in
     next s p d (record d { threads = threads.by t.0 (threads.Raise o.0) ∷ d.threads }) (Raise t o) xs told
-    (both_true (is_attached r t.0) (is_here s r o.0) (same_attached s r d told.alike t.0 ∙ on_now) (same_here s r d told.alike o.0 ∙ here))
+    (and_from (is_attached r t.0) (is_here s r o.0) (same_attached s r d told.alike t.0 ∙ on_now) (same_here s r d told.alike o.0 ∙ here))
     (threads_on s r d told.alike t.0 (threads.Raise o.0 ∷ []) (threads.Raise o.0 ∷ []) (raise_both o.0 (threads.acts_of t.0 r.threads) (threads.acts_of t.0 d.threads)))
 
 -- an object is made
@@ -129,7 +126,7 @@ module _ (s : StatedSetup) (p q : Parts) (known : Known s p q) (t : Tid) where
       let above : nat_lt 0 t.0 ≡ true = grind (arith, nat_tests, some) in
       let out : not (is_attached p t.0) ≡ true = ap not (same_on false is) in
       let now = threads_on s p q known.same t.0 (threads.Attach ∷ []) (threads.Attach ∷ []) (attach_both (threads.acts_of t.0 p.threads) (threads.acts_of t.0 q.threads)) in
-      one s p _ (Begin t) (both_true (nat_lt 0 t.0) (not (is_attached p t.0)) above out) (local_on s _ _ now t.0 locals.Start)
+      one s p _ (Begin t) (and_from (nat_lt 0 t.0) (not (is_attached p t.0)) above out) (local_on s _ _ now t.0 locals.Start)
 
   pub detach_told : (b : Bool) → is_attached q t.0 ≡ b → buffers.in_critical q.buffers t.0 ≡ false
       → Told s p (record q {
@@ -164,7 +161,7 @@ module _ (s : StatedSetup) (p q : Parts) (known : Known s p q) (t : Tid) where
   leave_can : (kept : Option ObjId) → is_attached q t.0 ≡ true → (depth q t.0 == 0) ≡ false → is_kept_here s p kept ≡ true → can_be s p (Leave t kept) ≡ true
   leave_can kept is deep here =
       let down : not (depth p t.0 == 0) ≡ true = rw depth_is (ap not deep) in
-      both_true (is_attached p t.0) (not (depth p t.0 == 0) && is_kept_here s p kept) (same_on true is) (both_true (not (depth p t.0 == 0)) (is_kept_here s p kept) down here)
+      and_from (is_attached p t.0) (not (depth p t.0 == 0) && is_kept_here s p kept) (same_on true is) (and_from (not (depth p t.0 == 0)) (is_kept_here s p kept) down here)
 
   left_alike : pending q t.0 ≡ None
       → Alike s (record p { threads = threads.by t.0 threads.Calm ∷ threads.by t.0 threads.Leave ∷ p.threads; locals = locals.by t.0 locals.Leave ∷ p.locals })
@@ -192,7 +189,7 @@ module _ (s : StatedSetup) (p q : Parts) (known : Known s p q) (t : Tid) where
       let later : is_attached (record p { threads = threads.by t.0 threads.Calm ∷ threads.by t.0 threads.Leave ∷ p.threads }) t.0 ≡ true =
       ap threads.attached (own_acts t.0 (threads.Calm ∷ threads.Leave ∷ []) p.threads) ∙ same_on true is in
       record {
-        can = (both_true _ (is_here s p o) later (same_here s p q known.same o ∙ here), (leave_can None is deep refl, tt));
+        can = (and_from _ (is_here s p o) later (same_here s p q known.same o ∙ here), (leave_can None is deep refl, tt));
         alike = local_on s _ _ a1 t.0 locals.Leave;
       }
 
@@ -204,7 +201,7 @@ module _ (s : StatedSetup) (p q : Parts) (known : Known s p q) (t : Tid) where
   pop_can : (kept : Option ObjId) → is_attached q t.0 ≡ true → (open_frames q t.0 == 0) ≡ false → is_kept_here s p kept ≡ true → can_be s p (Pop t kept) ≡ true
   pop_can kept is some here =
       let down : not (open_frames p t.0 == 0) ≡ true = rw frames_are (ap not some) in
-      both_true (is_attached p t.0) (not (open_frames p t.0 == 0) && is_kept_here s p kept) (same_on true is) (both_true (not (open_frames p t.0 == 0)) (is_kept_here s p kept) down here)
+      and_from (is_attached p t.0) (not (open_frames p t.0 == 0) && is_kept_here s p kept) (same_on true is) (and_from (not (open_frames p t.0 == 0)) (is_kept_here s p kept) down here)
 
   pub pop_told : is_attached q t.0 ≡ true → (open_frames q t.0 == 0) ≡ false → Told s p (record q { locals = locals.by t.0 locals.Pop ∷ q.locals }) (Pop t None ∷ [])
   pop_told is some = one s p _ (Pop t None) (pop_can None is some refl) (local_on s p q known.same t.0 locals.Pop)
@@ -266,8 +263,8 @@ module _ (s : StatedSetup) (p q : Parts) (known : Known s p q) (t : Tid) where
   own_told o is here enters =
       let free : is_free_for t.0 (monitors.owner p.monitors o) ≡ true = ap (is_free_for t.0) (reading.owners o) ∙ free_for (monitors.owner q.monitors o) enters in
       one s p _ (Own t (record { 0 = o }))
-      (both_true (is_attached p t.0) (is_here s p o && is_free_for t.0 (monitors.owner p.monitors o)) (same_on true is)
-      (both_true (is_here s p o) (is_free_for t.0 (monitors.owner p.monitors o)) (same_here s p q known.same o ∙ here) free))
+      (and_from (is_attached p t.0) (is_here s p o && is_free_for t.0 (monitors.owner p.monitors o)) (same_on true is)
+      (and_from (is_here s p o) (is_free_for t.0 (monitors.owner p.monitors o)) (same_here s p q known.same o ∙ here) free))
       (monitor_on s p q known.same t.0 (monitors.Enter o))
 
   pub free_told : (o : ℕ) → is_owner t.0 (monitors.owner q.monitors o) ≡ true
@@ -286,8 +283,8 @@ module _ (s : StatedSetup) (p q : Parts) (known : Known s p q) (t : Tid) where
 
   lend_can : (family : Family) (o : ℕ) (via : Ref) (n : ℕ) → is_attached q t.0 ≡ true → is_here s q o ≡ true → is_through family via ≡ true → can_be s p (Lend t family (record { 0 = o }) via n) ≡ true
   lend_can family o via n is here through =
-      both_true (is_attached p t.0) (is_here s p o && is_through family via) (same_on true is)
-      (both_true (is_here s p o) (is_through family via) (same_here s p q known.same o ∙ here) through)
+      and_from (is_attached p t.0) (is_here s p o && is_through family via) (same_on true is)
+      (and_from (is_here s p o) (is_through family via) (same_here s p q known.same o ∙ here) through)
 
   pub copy_told : (family : Family) (o : ℕ) (items : List ℤ) → buffers.is_critical family ≡ false → is_attached q t.0 ≡ true → is_here s q o ≡ true
       → Told s p (record q { threads = threads.by t.0 threads.CountBuffer ∷ q.threads; buffers = buffers.Opened (buffers.copy_with t.0 (next_buffer q t.0) o family items) ∷ q.buffers })

@@ -5,6 +5,8 @@ use Rattle.std.specs.Str.{bytes_eq}
 use Rattle.std.specs.Option.{unwrap_or, is_some, option_map, option_and_then}
 use Rattle.std.proofs.lemmas.Bool.Decides.{nat_tests}
 use Rattle.std.proofs.lemmas.Option.{same_Some}
+use Rattle.std.proofs.lemmas.Bool.{not-false}
+use Rattle.core.proofs.option.Match.{None-if_not_some}
 use Rattle.jg_words.specs.Call.{fun_of}
 use Rattle.jg_words.specs.Fun.{needs_env}
 use Rattle.jg_words.specs.declared.thread.Tid.{Tid}
@@ -69,6 +71,7 @@ use Rattle.jg_rules.specs.Buffers.{is_commit, writes_back, is_open_and, buffer_n
 use Rattle.jg_rules.specs.Rules.{is_nothing, is_null, is_by, is_not, is_not_owned}
 use Rattle.jg_rules.specs.Effects.{settled, passed_on, done_by, done_if, call_heap, wrote_copy, wrote_pinned, wrote_back, copied_back, closed, linking, unlinking, is_effective, if_effective, first_value, pointer}
 use Rattle.jg_words.specs.Classes.{class_thrown}
+use Rattle.jg_words.proofs.Common.{or_first_off}
 use Rattle.jg_rules.specs.Answers.{answer, unnoticed, plain, handed, thrown, present_env, unless_pending, registered, entered, class_found, field_found, field_value, or_outside, is_outside, region}
 use Rattle.jg_rules.specs.Unbroken.{Unbroken}
 use Rattle.jg_laws.proofs.Acts.{attached_caller, attached_done, next_done}
@@ -88,18 +91,6 @@ use Rattle.jg_entries.proofs.Own.{Known, hand_told, raise_told, meet_told, warn_
 use Rattle.jg_entries.proofs.Going.{collect_told}
 
 -- ---- what is told of a test that passed
-
-first_off : (a b : Bool) → (a || b) ≡ false → a ≡ false
-first_off true b is = absurd (let no : ⊥ = cc in no)
-first_off false b is = refl
-
-none_of : (found : Option ℕ) → is_some found ≡ false → found ≡ None
-none_of None is = refl
-none_of (Some o) is = absurd (let no : ⊥ = cc in no)
-
-on_of : (b : Bool) → not b ≡ false → b ≡ true
-on_of true is = refl
-on_of false is = absurd (let no : ⊥ = cc in no)
 
 here_is : (k : ℕ) (e : List heap.Event) (o : ℕ) → Here k e o → heap.is_there k e o ≡ true
 here_is k e o both = (let below : nat_lt o (heap.count_of k e) ≡ true = grind (arith, nat_tests, both.0) in rw (below, both.1) refl)
@@ -301,21 +292,21 @@ local_lost : (s : StatedSetup) (p q : Parts) (t : Tid) (r : Ref) → Known s p q
 local_lost s p q t Null known alive kind = none s p q known.same
 local_lost s p q t (To Local maker n) known alive kind =
     let own : maker.0 ≡ t.0 = eqb-true maker.0 t.0 (local_if (maker.0 == t.0) false _ alive) in
-    local_told s p q known t maker n own (first_off (is_nothing (names q t.0 (To Local maker n))) false alive)
+    local_told s p q known t maker n own (or_first_off (is_nothing (names q t.0 (To Local maker n))) false alive)
 local_lost s p q t (To Global maker n) known alive kind = absurd (let no : ⊥ = cc in no)
 local_lost s p q t (To Weak maker n) known alive kind = absurd (let no : ⊥ = cc in no)
 
 strong_lost : (s : StatedSetup) (p q : Parts) (t : Tid) (r : Ref) → Known s p q → (is_nothing (names q t.0 r) || false) ≡ false → is_not Global r ≡ false
     → Told s p (done_by s t.0 (Refs (DeleteGlobalRef r)) q) (lost_facts r)
 strong_lost s p q t Null known alive kind = none s p q known.same
-strong_lost s p q t (To Global maker n) known alive kind = strong_told s p q known t maker n (first_off (is_nothing (names q t.0 (To Global maker n))) false alive)
+strong_lost s p q t (To Global maker n) known alive kind = strong_told s p q known t maker n (or_first_off (is_nothing (names q t.0 (To Global maker n))) false alive)
 strong_lost s p q t (To Local maker n) known alive kind = absurd (let no : ⊥ = cc in no)
 strong_lost s p q t (To Weak maker n) known alive kind = absurd (let no : ⊥ = cc in no)
 
 weak_lost : (s : StatedSetup) (p q : Parts) (t : Tid) (r : Ref) → Known s p q → (is_nothing (names q t.0 r) || false) ≡ false → is_not Weak r ≡ false
     → Told s p (done_by s t.0 (Refs (DeleteWeakGlobalRef r)) q) (lost_facts r)
 weak_lost s p q t Null known alive kind = none s p q known.same
-weak_lost s p q t (To Weak maker n) known alive kind = weak_told s p q known t maker n (first_off (is_nothing (names q t.0 (To Weak maker n))) false alive)
+weak_lost s p q t (To Weak maker n) known alive kind = weak_told s p q known t maker n (or_first_off (is_nothing (names q t.0 (To Weak maker n))) false alive)
 weak_lost s p q t (To Local maker n) known alive kind = absurd (let no : ⊥ = cc in no)
 weak_lost s p q t (To Global maker n) known alive kind = absurd (let no : ⊥ = cc in no)
 
@@ -352,7 +343,7 @@ must_here s p q t r known alive there = named_is s p q t (the_object q t r) r kn
 
 owner_by : (t : ℕ) (found : Option ℕ) → not (is_by t found) ≡ false → is_owner t found ≡ true
 owner_by t None owned = absurd (let no : ⊥ = cc in no)
-owner_by t (Some u) owned = on_of (u == t) owned
+owner_by t (Some u) owned = not-false (u == t) owned
 
 mine : (q : Parts) (t o : ℕ) (named : Option ℕ) → named ≡ Some o → is_not_owned q t named ≡ false → is_owner t (monitors.owner q.monitors o) ≡ true
 mine q t o None is owned = absurd (let no : ⊥ = cc in no)
@@ -392,12 +383,12 @@ module _ (s : StatedSetup) (p q : Parts) (t : Tid) (env : Option EnvId) (known :
   nothing = none s p q known.same
 
   vm_core : (call : VmCall) → Unbroken s q t.0 env (Vm call) → Core s p q t (Vm call)
-  vm_core AttachCurrentThread u = attach_told s p q known t (is_attached q t.0) refl (first_off (t.0 == 0) _ u.own_thread)
+  vm_core AttachCurrentThread u = attach_told s p q known t (is_attached q t.0) refl (or_first_off (t.0 == 0) _ u.own_thread)
   vm_core DetachCurrentThread u = detach_told s p q known t (is_attached q t.0) refl u.not_critical
   vm_core GetEnv u = env_brings s p q t (Vm GetEnv) (session q t.0) [] nothing
   vm_core (NativeEnter class method signature) u =
       let c : Call = Vm (NativeEnter class method signature) in
-      hands_call c Local (class_named s class) (Enter t ∷ []) refl u (enter_told s p q known t (present c refl u) (none_of (pending q t.0) u.calm)) (answered_here c u)
+      hands_call c Local (class_named s class) (Enter t ∷ []) refl u (enter_told s p q known t (present c refl u) (None-if_not_some (pending q t.0) u.calm)) (answered_here c u)
   vm_core (NativeLeave r) u =
       leaves s p q t r (pending q t.0) (object_named q t.0 r) known (present (Vm (NativeLeave r)) refl u) u.right_frame refl
       (λ o is. named_is s p q t.0 o r known is) (λ o is. here_is (class_count s) q.heap o (known.all.pending t.0 o is))

@@ -13,11 +13,9 @@ use Rattle.jg_words.specs.declared.value.Value.{Value}
 use Rattle.jg_words.specs.declared.value.Value.TheVariants.{Ok as Done, Number, Truth, Null as NullAnswer, Reference, Buffer, Field, Environment, List as Listed, Busy, Detached, Throw}
 use Rattle.jg_rules.specs.Effects.{value_globals}
 use Rattle.std.proofs.lemmas.Bool.Decides.{nat_tests}
+use Rattle.std.proofs.Math.Bool.{or-true}
+use Rattle.jg_causes.proofs.Making.{no_some}
 use Rattle.jg_laws.proofs.Steps.{make_no_global}
-
-or_true : (b : Bool) → (b || true) ≡ true
-or_true true = refl
-or_true false = refl
 
 -- the weak reference is not in being, or it is cleared
 abbrev NamesNone : ℕ → ℕ → List globals.Event → Type 0
@@ -41,7 +39,7 @@ none_kept m n (globals.Clear p ∷ e) old none was = by (none_kept m n e old non
   where
     by : NamesNone m n (e ++ old) → NamesNone m n (globals.Clear p ∷ (e ++ old))
     by (inl gone) = inl gone
-    by (inr (o, there, cleared)) = inr (o, there, ap (λ b. (p == o) || b) cleared ∙ or_true (p == o))
+    by (inr (o, there, cleared)) = inr (o, there, ap (λ b. (p == o) || b) cleared ∙ or-true (p == o))
 none_kept m n (globals.DeleteWeak k i ∷ e) old none was = by (none_kept m n e old none was) (globals.is_same m n k i) refl
   where
     by : NamesNone m n (e ++ old) → (b : Bool) → globals.is_same m n k i ≡ b → NamesNone m n (globals.DeleteWeak k i ∷ (e ++ old))
@@ -67,9 +65,6 @@ none_names later (Some o) is = by (list_any (globals.clears o) later) refl is
         → (Some o ≡ None) ⊎ ((p : ℕ) × (Some o ≡ Some p) × (list_any (globals.clears p) later ≡ true))
     by true cleared is = inr (o, refl, cleared)
     by false live is = absurd cc
-
-no_some : (found : Option ℕ) (o : ℕ) → found ≡ None → found ≡ Some o → ⊥
-no_some found o none some = cc
 
 -- the value is the weak reference of that maker and number
 abbrev HandsWeak : ℕ → ℕ → Value → Type 0

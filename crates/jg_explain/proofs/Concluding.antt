@@ -6,6 +6,7 @@ use Rattle.std.proofs.lemmas.List.{length-reverse}
 use Rattle.std.proofs.lemmas.Option.{slice_get_cases}
 use Rattle.jg_words.specs.Entry.{Entry}
 use Rattle.jg_words.specs.declared.reference.Ref.TheVariants.{Null, To}
+use Rattle.jg_words.proofs.Common.{clash}
 use Rattle.jg_policy.specs.Stated.{StatedSetup}
 use Rattle.jg_buffers.specs.History.{opened}
 use Rattle.jg_lists.proofs.Oldest.{oldest, oldest_more}
@@ -19,7 +20,7 @@ use Rattle.jg_explain.specs.Explained.{after, turns_before, was}
 use Rattle.jg_explain.specs.Followed.{GaveOther, Was, comes_once, given_in, was_given}
 use Rattle.jg_explain.proofs.Giving.{buffer_numbered, buffer_still_given, ref_numbered, ref_still_given}
 use Rattle.jg_explain.proofs.Objects.{object_by_its_answer}
-use Rattle.jg_explain.proofs.Once.{HoldsOnce, clash, holding, over_now, unmade}
+use Rattle.jg_explain.proofs.Once.{HoldsOnce, holding, over_now, unmade}
 use Rattle.jg_explain.proofs.Onces.{names_once, object_once, open_none, open_once, open_there}
 use Rattle.jg_explain.proofs.Opening.{opened_by_its_answer}
 use Rattle.jg_explain.proofs.Splits.{behind, front_legal}

@@ -7,7 +7,6 @@ use Rattle.jg_words.specs.declared.buffer.BufId.{BufId}
 use Rattle.jg_words.specs.declared.thread.Tid.{Tid}
 use Rattle.jg_words.specs.declared.thread.EnvId.{EnvId}
 use Rattle.jg_words.specs.declared.object.ObjId.{ObjId}
-use Rattle.jg_words.specs.declared.reference.Ref.{Ref}
 use Rattle.jg_words.specs.declared.reference.Ref.TheVariants.{Null, To}
 use Rattle.jg_words.specs.declared.reference.Kind.{Kind}
 use Rattle.jg_words.specs.declared.reference.Kind.TheVariants.{Local, Global, Weak}
@@ -25,16 +24,13 @@ use Rattle.jg_rules.specs.Answers.{answer}
 use Rattle.jg_rules.specs.Legal.{Legal, entry_by}
 use Rattle.jg_laws.specs.Histories.{reference_in, reference_of}
 use Rattle.jg_laws.specs.Proper.{IsProper}
-use Rattle.jg_laws.proofs.Fresh.{references_counted}
+use Rattle.jg_laws.proofs.Fresh.{references_counted, no_reference}
 use Rattle.jg_laws.proofs.Kept.{AtLeast, at_least_steps}
 use Rattle.jg_laws.proofs.Lending.{lent_below_next}
 use Rattle.jg_laws.proofs.Proper.{proper}
 use Rattle.jg_laws.proofs.Steps.{each_since}
 use Rattle.jg_explain.proofs.Closing.{IsGiven, below_by, given_steps}
 use Rattle.jg_explain.proofs.Opening.{buffer_in, buffer_of}
-
-no_reference : {r : Ref} → None ≡ Some r → ⊥
-no_reference is = cc
 
 no_buffer : {b : BufId} → None ≡ Some b → ⊥
 no_buffer is = cc

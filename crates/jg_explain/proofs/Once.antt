@@ -1,6 +1,7 @@
 -- What comes to hold once and then holds no more: a few entries at which it is asked tell where it turned.
 use Rattle.std.proofs.Common.{◌≡◌, ◌+◌, ◌-◌, ◌<◌, ◌≤◌, ℕ, zero, suc, Bool, true, false, List, length, Some, None, refl, ap, sym, ◌∙◌, arith, add-one}
 use Rattle.jg_words.specs.Entry.{Entry}
+use Rattle.jg_words.proofs.Common.{clash}
 use Rattle.jg_lists.proofs.Oldest.{oldest}
 use Rattle.jg_causes.specs.declared.turns.Turns.{Turns}
 use Rattle.jg_causes.specs.Turns.{turns, turned, same, still}
@@ -10,9 +11,6 @@ use Rattle.jg_explain.proofs.Turning.{turns_more}
 pub record HoldsOnce (test : List Entry → Bool) (h : List Entry) : Type 0 where
   pub first : test (oldest 0 h) ≡ false
   pub over : (i j k : ℕ) → i ≤ j → j ≤ k → k ≤ length h → test (oldest i h) ≡ true → test (oldest j h) ≡ false → test (oldest k h) ≡ false
-
-pub clash : (b : Bool) → b ≡ true → b ≡ false → ⊥
-clash b is isnt = cc
 
 module _ (test : List Entry → Bool) (h : List Entry) (once : HoldsOnce test h) where
   -- the turns of so many entries

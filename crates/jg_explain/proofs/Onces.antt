@@ -2,6 +2,7 @@
 use Rattle.std.proofs.Common.{◌≡◌, ◌++◌, ◌∙◌, ℕ, Bool, true, false, List, [], Option, Some, None, refl, ap, sym, subst, arith}
 use Rattle.std.specs.Prelude.{◌==◌, if◌then◌else◌, not}
 use Rattle.std.specs.Option.{is_some, option_map}
+use Rattle.core.proofs.option.Match.{None-if_not_some}
 use Rattle.jg_words.specs.Entry.{Entry}
 use Rattle.jg_words.specs.declared.buffer.BufId.{BufId}
 use Rattle.jg_words.specs.declared.reference.Kind.{Kind}
@@ -66,15 +67,11 @@ pub is_there : {X : Type 0} (found : Option X) → is_some found ≡ true → (x
 is_there None is = absurd cc
 is_there (Some x) is = (x, refl)
 
-pub is_none : {X : Type 0} (found : Option X) → is_some found ≡ false → found ≡ None
-is_none None is = refl
-is_none (Some x) is = absurd cc
-
 object_ends : (s : StatedSetup) (t maker : Tid) (kind : Kind) (n : ℕ) → EndsForGood s (NamesObject t (To kind maker n))
 object_ends s t maker kind n newest later first legal held ceased =
     let r = To kind maker n in
     let some = is_there (object_named (parts s first) t.0 r) held in
-    let none = is_none (object_named (parts s (later ++ first)) t.0 r) ceased in
+    let none = None-if_not_some (object_named (parts s (later ++ first)) t.0 r) ceased in
     ap is_some (no_reference_revived s newest later first t.0 some.0 r legal some.1 none)
 
 pub open_there : (found : Option Buffer) → is_some (option_map info_of found) ≡ true → (b : Buffer) × (found ≡ Some b)

@@ -1,5 +1,5 @@
 -- A call changes nothing of what is asked of another thread.
-use Rattle.std.proofs.Common.{◌≡◌, ◌≢◌, ◌++◌, ◌∙◌, ℕ, List, [], ◌∷◌, map, Option, Some, None, refl, ap, sym}
+use Rattle.std.proofs.Common.{◌≡◌, ◌≢◌, ◌++◌, ◌∙◌, ℕ, ◌∷◌, map, Option, Some, None, refl, ap, sym}
 use Rattle.std.proofs.lemmas.Option.{same_Some}
 use Rattle.jg_words.specs.declared.call.Call.{Call}
 use Rattle.jg_words.specs.declared.entry.Outcome.{Outcome}
@@ -9,30 +9,26 @@ use Rattle.jg_words.specs.declared.thread.Tid.{Tid}
 use Rattle.jg_policy.specs.Stated.{StatedSetup}
 use Rattle.jg_threads.specs.History as threads
 use Rattle.jg_locals.specs.History as locals
-use Rattle.jg_lists.specs.Acts.{Event, acts_of, by}
-use Rattle.jg_lists.proofs.Acts.{acts_same}
+use Rattle.jg_lists.specs.Acts.{acts_of, by}
+use Rattle.jg_lists.proofs.Acts.{acts_others}
 use Rattle.jg_rules.specs.Parts.{Parts}
 use Rattle.jg_rules.specs.Effects.{after, call_locals, call_threads, if_effective, is_effective, value_locals, value_threads}
 use Rattle.jg_causes.specs.declared.condition.Condition.{Condition}
 use Rattle.jg_causes.specs.declared.condition.Condition.TheVariants.{IsAttached, IsPresent, HasPending, Names, NamesObject, IsOpen, Owns, IsOwned, HasFrame, InNative, IsLinked}
 use Rattle.jg_causes.specs.Conditions.{holds}
 
-apart : {Act : Type 0} (t u : ℕ) (acts : List Act) (e : List (Event Act)) → t ≢ u → acts_of t (map (by u) acts ++ e) ≡ acts_of t e
-apart t u [] e differ = refl
-apart t u (a ∷ acts) e differ = acts_same t u a (map (by u) acts ++ e) differ ∙ apart t u acts e differ
-
 -- what another thread's call does, in the acts of t
 threads_kept : (s : StatedSetup) (p : Parts) (t u : ℕ) (call : Call) (o : Outcome) (object : Option ObjId) → t ≢ u → threads.acts_of t (after s u call o object p).threads ≡ threads.acts_of t p.threads
 threads_kept s p t u call (Denied rule) object differ = refl
 threads_kept s p t u call (Passed reply) object differ =
     let own = if_effective (is_effective reply.value) (call_threads s p u call) in
-    apart t u (value_threads reply.value object) (map (threads.by u) own ++ p.threads) differ ∙ apart t u own p.threads differ
+    acts_others t u (value_threads reply.value object) (map (threads.by u) own ++ p.threads) differ ∙ acts_others t u own p.threads differ
 
 locals_kept : (s : StatedSetup) (p : Parts) (t u : ℕ) (call : Call) (o : Outcome) (object : Option ObjId) → t ≢ u → locals.acts_of t (after s u call o object p).locals ≡ locals.acts_of t p.locals
 locals_kept s p t u call (Denied rule) object differ = refl
 locals_kept s p t u call (Passed reply) object differ =
     let own = if_effective (is_effective reply.value) (call_locals s p u call) in
-    apart t u (value_locals reply.value object) (map (locals.by u) own ++ p.locals) differ ∙ apart t u own p.locals differ
+    acts_others t u (value_locals reply.value object) (map (locals.by u) own ++ p.locals) differ ∙ acts_others t u own p.locals differ
 
 -- the thread of which such a condition speaks alone
 abbrev pub thread_of : Condition → Option Tid

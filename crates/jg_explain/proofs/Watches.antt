@@ -3,7 +3,7 @@ use Rattle.std.proofs.Common.{◌≡◌, ◌+◌, ◌<◌, ◌≤◌, ℕ, Bool,
 use Rattle.std.proofs.lemmas.List.Edits.{map_over_more}
 use Rattle.std.proofs.lemmas.Option.{slice_get-get_or, get_or_from_slice_get}
 use Rattle.std.specs.Prelude.{nat_lt, min}
-use Rattle.std.proofs.lemmas.Bool.Decides.{nat_tests}
+use Rattle.std.proofs.lemmas.Bool.{ltb-true, ltb-false}
 use Rattle.jg_words.specs.Entry.{Entry}
 use Rattle.jg_policy.specs.Stated.{StatedSetup}
 use Rattle.jg_guard.specs.Guard.{State}
@@ -22,12 +22,6 @@ written_more f xs ys i d y below long so_far is =
     ap (λ v. set ys i v) is
     ∙ map_over_more f xs ys i (get_or ys i d) below so_far (sym (get_or_from_slice_get ys i (get_or ys i d) (get_or ys i d) (slice_get-get_or ys i d inside)))
 
-is_below : (n m : ℕ) → nat_lt n m ≡ true → n < m
-is_below n m e = grind (arith, nat_tests, e)
-
-is_not_below : (n m : ℕ) → nat_lt n m ≡ false → m ≤ n
-is_not_below n m e = grind (arith, nat_tests, e)
-
 module _ (s : StatedSetup) (h : List Entry) (n : ℕ) (below : n < length h) where
   abbrev at_place : Watch → ℕ → Watch
   at_place w i = record { place = w.place; condition = w.condition; holds = was s w.condition h i; turns = turns_before s w.condition h i }
@@ -37,13 +31,13 @@ module _ (s : StatedSetup) (h : List Entry) (n : ℕ) (below : n < length h) whe
 
   by_test : (w : Watch) (b : Bool) → nat_lt n w.place ≡ b → asked_if b s (as_it_was (n + 1) h) n (watched s h n w) ≡ watched s h (n + 1) w
   by_test w true e =
-      let inside : n < w.place = is_below n w.place e in
+      let inside : n < w.place = ltb-true n w.place e in
       let this : min n w.place ≡ n = omega (arith, inside) in
       let next : min (n + 1) w.place ≡ n + 1 = omega (arith, inside) in
       ap (λ i. with_turns w (turned (same (was s w.condition h i) (was s w.condition h (n + 1))) n (turns_before s w.condition h i))) this
       ∙ ap (λ ts. with_turns w ts) (sym (turns_more (after s w.condition) h n below)) ∙ ap (λ i. at_place w i) (sym next)
   by_test w false e =
-      let outside : w.place ≤ n = is_not_below n w.place e in
+      let outside : w.place ≤ n = ltb-false n w.place e in
       let same_place : min n w.place ≡ min (n + 1) w.place = omega (arith, outside) in
       ap (λ i. at_place w i) same_place
 

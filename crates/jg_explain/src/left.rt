@@ -1,6 +1,6 @@
 //! What a journal leaves behind, and since when.
 
-ghost use Rattle.std.specs.Prelude.{◌≡◌, ◌++◌, IfOk, OnOk, flat_map, length, map, string_bytes};
+ghost use Rattle.std.specs.Prelude.{◌≡◌, ◌++◌, IfOk, OnOk, flat_map, map, string_bytes};
 ghost use Rattle.jg_explain.specs.Left as left;
 
 use crate::following::watch_each;

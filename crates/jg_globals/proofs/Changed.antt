@@ -16,15 +16,13 @@ use Rattle.jg_globals.specs.declared.target.Target.{Target}
 use Rattle.jg_globals.specs.declared.target.Target.TheVariants.{Cleared}
 use Rattle.jg_globals.specs.Clearing.{IsCleared, EachChanged}
 use Rattle.jg_lists.specs.ByMaker.{entries, named}
+use Rattle.jg_lists.proofs.Seats.{some_none}
 
 -- the first i entries are changed, and the others are as they were
 pub record ChangedSoFar {K V : Type 0} (change : V → V → Type 0) (olds now : List (K × V)) (i : ℕ) : Type 0 where
   pub done : EachChanged change (take i olds) (take i now)
   pub rest : drop i now ≡ drop i olds
   pub long : length now ≡ length olds
-
-some_none : {X : Type 0} {x : X} → Some x ≡ None → ⊥
-some_none is = cc
 
 -- with one value more changed
 one_more : {K V : Type 0} (change : V → V → Type 0) (olds es : List (K × V)) (i : ℕ) (k : K) (v w : V) → ChangedSoFar change olds es i → slice_get es i ≡ Some (k, v) → change v w

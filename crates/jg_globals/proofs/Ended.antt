@@ -1,8 +1,8 @@
 -- What ended stays ended where no number is handed out twice, and what a caller that counts the numbers knows of the rows.
 use Rattle.std.proofs.Common.{◌≡◌, ℕ, ◌<◌, Bool, true, false, List, [], ◌∷◌, ◌++◌, Option, Some, None, refl, ◌∙◌, ap, sym, subst, arith, inl, inr}
 use Rattle.std.specs.Prelude.{◌==◌, ◌||◌, if◌then◌else◌}
-use Rattle.std.specs.List.{list_any, AllByRecursion}
-use Rattle.std.proofs.lemmas.Bool.Decides.{nat_tests}
+use Rattle.std.specs.List.{list_any}
+use Rattle.std.proofs.lemmas.Bool.Decides.{nat_tests, or_right}
 use Rattle.std.proofs.lemmas.List.Elements.{All-from_recursion}
 use Rattle.std.proofs.lemmas.Option.{same_Some}
 use Rattle.jg_globals.specs.declared.target.Target.{Target}
@@ -11,8 +11,9 @@ use Rattle.jg_globals.specs.History.{Event, MakeStrong, MakeWeak, DeleteStrong, 
 use Rattle.jg_globals.specs.Laws.{IsMadeBelow, NumbersRise, makes, StaysEnded}
 use Rattle.jg_globals.specs.Rows.{Rows, Strong, Weak, is_strong, is_weak, IsAbove}
 use Rattle.jg_globals.specs.Standing.{Stands, weak_rows}
-use Rattle.jg_lists.proofs.Lists.{Member, member_filter}
+use Rattle.jg_lists.proofs.Lists.{Member, member_filter, each_member}
 use Rattle.jg_globals.proofs.Lookups.{strong_of_member}
+use Rattle.jg_globals.proofs.Means.{cleared_if}
 
 -- a number that was given isn't above all that were given
 given_below : (e : List Event) (m n k i : ℕ) → list_any (makes m n) e ≡ true → IsMadeBelow k i e → is_same m n k i ≡ false
@@ -72,14 +73,10 @@ still_there : (found : Option ℕ) (b : Bool) (o : ℕ) → if◌then◌else◌ 
 still_there found true o now = cc
 still_there found false o now = now
 
-either_made : (a b : Bool) → b ≡ true → (a || b) ≡ true
-either_made true b is = refl
-either_made false b is = is
-
 -- a weak reference in being was made
 was_weak : (e : List Event) (m n p : ℕ) → weak e m n ≡ Some p → list_any (makes m n) e ≡ true
 was_weak [] m n p now = cc
-was_weak (MakeStrong k i o ∷ e) m n p now = either_made (is_same m n k i) (list_any (makes m n) e) (was_weak e m n p now)
+was_weak (MakeStrong k i o ∷ e) m n p now = or_right (is_same m n k i) (list_any (makes m n) e) (was_weak e m n p now)
 was_weak (MakeWeak k i o ∷ e) m n p now = made_weakly e m n k i o (is_same m n k i) refl (was_weak e m n) p now
 was_weak (DeleteStrong k i ∷ e) m n p now = was_weak e m n p now
 was_weak (DeleteWeak k i ∷ e) m n p now = was_weak e m n p (still_there (weak e m n) (is_same m n k i) p now)
@@ -102,15 +99,11 @@ clear_seen (MakeStrong k i p ∷ later) e m n o rise made seen = clear_seen late
 clear_seen (MakeWeak k i p ∷ later) e m n o rise made seen = rw (given_below (later ++ e) m n k i (was_given later e m n made) rise.0) (clear_seen later e m n o rise.1 made seen)
 clear_seen (DeleteStrong k i ∷ later) e m n o rise made seen = clear_seen later e m n o rise made seen
 clear_seen (DeleteWeak k i ∷ later) e m n o rise made seen = clear_seen later e m n o rise made seen
-clear_seen (Clear p ∷ later) e m n o rise made seen = either_made (p == o) (list_any (clears o) (after_making m n (later ++ e))) (clear_seen later e m n o rise made seen)
-
-by_answer : (p : ℕ) (b : Bool) → Some (if b then Cleared else Object (record { 0 = p })) ≡ Some Cleared → b ≡ true
-by_answer p true is = refl
-by_answer p false is = cc
+clear_seen (Clear p ∷ later) e m n o rise made seen = or_right (p == o) (list_any (clears o) (after_making m n (later ++ e))) (clear_seen later e m n o rise made seen)
 
 was_cleared : (later : List Event) (found : Option ℕ) → unless_cleared later found ≡ Some Cleared → (o : ℕ) × ((found ≡ Some o) × (list_any (clears o) later ≡ true))
 was_cleared later None is = cc
-was_cleared later (Some o) is = (o, (refl, by_answer o (list_any (clears o) later) is))
+was_cleared later (Some o) is = (o, (refl, cleared_if o (list_any (clears o) later) is))
 
 not_live : (later : List Event) (p o : ℕ) (found : Option ℕ) → ((q : ℕ) → found ≡ Some q → q ≡ p) → list_any (clears p) later ≡ true → unless_cleared later found ≡ Some (Object (record { 0 = o })) → ⊥
 not_live later p o None same seen live = cc
@@ -157,10 +150,6 @@ weak_below (Clear p ∷ e) k i o n now below = weak_below e k i o n now below
 in_being : (e : List Event) (k i : ℕ) (t : Target) (found : Option ℕ) → unless_cleared (after_making k i e) found ≡ Some t → (o : ℕ) × (found ≡ Some o)
 in_being e k i t None is = cc
 in_being e k i t (Some o) is = (o, refl)
-
-each_member : {X : Type 0} (P : X → Type 0) (xs : List X) → ((x : X) → Member x xs → P x) → AllByRecursion P xs
-each_member P [] each = tt
-each_member P (x ∷ xs) each = (each x (inl refl), each_member P xs (λ y there. each y (inr there)))
 
 weak_of_member : (m n : ℕ) (row : Weak) (found : Option Target) → Member row (weak_rows m n found) → found ≡ Some row.target
 weak_of_member m n row None there = absurd there

@@ -6,4 +6,4 @@ mod Listed
 mod Lookups
 mod Means
 mod Numbers
-mod Steps
+pub mod Steps

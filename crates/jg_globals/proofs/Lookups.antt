@@ -5,6 +5,7 @@ use Rattle.std.specs.List.{list_any}
 use Rattle.std.specs.Map.{lookup}
 use Rattle.std.specs.Option.{option_map}
 use Rattle.std.proofs.lemmas.Bool.Decides.{nat_tests}
+use Rattle.core.specs.Cmp.{both_ways}
 use Rattle.jg_words.specs.declared.object.ObjId.{ObjId}
 use Rattle.jg_lists.specs.ByMaker.{Name, same_name}
 use Rattle.jg_globals.specs.declared.target.Target.{Target}
@@ -14,7 +15,7 @@ use Rattle.jg_globals.specs.Seen.{strong_seen, weak_seen}
 use Rattle.jg_globals.specs.Standing.{Stands, strong_rows, weak_rows}
 use Rattle.jg_lists.proofs.Found.{found_in, is_found}
 use Rattle.jg_lists.proofs.Named.{first_named}
-use Rattle.jg_lists.proofs.Lists.{first, list_any-map, Member, any_member, member_filter, any_of_filter, both_ways}
+use Rattle.jg_lists.proofs.Lists.{first, list_any-map, Member, any_member, member_filter, any_of_filter}
 
 pub strong_tests : (m n : ℕ) (e : Name × ObjId) → is_strong m n (strong_seen e) ≡ same_name (m, n) e.0
 strong_tests m n e = grind (arith, nat_tests)

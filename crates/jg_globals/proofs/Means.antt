@@ -2,11 +2,10 @@
 use Rattle.std.proofs.Common.{◌≡◌, ℕ, Bool, true, false, List, [], ◌∷◌, ◌++◌, Option, Some, None, refl, ◌∙◌, ap, subst, arith}
 use Rattle.std.specs.Prelude.{◌||◌, if◌then◌else◌}
 use Rattle.std.specs.List.{list_any}
-use Rattle.std.proofs.lemmas.Bool.Decides.{nat_tests}
+use Rattle.std.proofs.lemmas.Bool.Decides.{nat_tests, or_parts}
 use Rattle.jg_globals.specs.declared.target.Target.{Target}
 use Rattle.jg_globals.specs.declared.target.Target.TheVariants.{Object, Cleared}
 use Rattle.jg_globals.specs.History.{Event, MakeStrong, MakeWeak, DeleteStrong, DeleteWeak, Clear, is_same, strong, weak, clears, after_making, unless_cleared, weak_target}
-use Rattle.jg_lists.proofs.Lists.{none_either}
 use Rattle.jg_globals.specs.Laws.{StrongSince, WeakSince, about_strong, about_weak}
 
 -- ---- global references
@@ -56,7 +55,7 @@ strong_other (Clear p) e m n other = refl
 strong_kept : (later before : List Event) (m n o : ℕ) → list_any (about_strong m n) later ≡ false → strong (later ++ MakeStrong m n o ∷ before) m n ≡ Some o
 strong_kept [] before m n o kept = rw (is_same_self m n) refl
 strong_kept (ev ∷ later) before m n o kept =
-    let parts = none_either (about_strong m n ev) (list_any (about_strong m n) later) kept in
+    let parts = or_parts (about_strong m n ev) (list_any (about_strong m n) later) kept in
     strong_other ev (later ++ MakeStrong m n o ∷ before) m n parts.0 ∙ strong_kept later before m n o parts.1
 
 pub strong_target_since : (e : List Event) (m n o : ℕ) → StrongSince e m n o → strong e m n ≡ Some o
@@ -108,7 +107,7 @@ live_if : (o p : ℕ) (b : Bool) → Some (if b then Cleared else Object (record
 live_if o p true is = cc
 live_if o p false is = (refl, ap number_of is)
 
-cleared_if : (p : ℕ) (b : Bool) → Some (if b then Cleared else Object (record { 0 = p })) ≡ Some Cleared → b ≡ true
+pub cleared_if : (p : ℕ) (b : Bool) → Some (if b then Cleared else Object (record { 0 = p })) ≡ Some Cleared → b ≡ true
 cleared_if p true is = refl
 cleared_if p false is = cc
 
@@ -151,13 +150,13 @@ after_other (Clear p) e m n other = refl
 weak_kept : (later before : List Event) (m n o : ℕ) → list_any (about_weak m n) later ≡ false → weak (later ++ MakeWeak m n o ∷ before) m n ≡ Some o
 weak_kept [] before m n o kept = rw (is_same_self m n) refl
 weak_kept (ev ∷ later) before m n o kept =
-    let parts = none_either (about_weak m n ev) (list_any (about_weak m n) later) kept in
+    let parts = or_parts (about_weak m n ev) (list_any (about_weak m n) later) kept in
     weak_other ev (later ++ MakeWeak m n o ∷ before) m n parts.0 ∙ weak_kept later before m n o parts.1
 
 after_kept : (later before : List Event) (m n o : ℕ) → list_any (about_weak m n) later ≡ false → after_making m n (later ++ MakeWeak m n o ∷ before) ≡ later
 after_kept [] before m n o kept = rw (is_same_self m n) refl
 after_kept (ev ∷ later) before m n o kept =
-    let parts = none_either (about_weak m n ev) (list_any (about_weak m n) later) kept in
+    let parts = or_parts (about_weak m n ev) (list_any (about_weak m n) later) kept in
     after_other ev (later ++ MakeWeak m n o ∷ before) m n parts.0 ∙ ap (λ l. ev ∷ l) (after_kept later before m n o parts.1)
 
 pub weak_target_since : (e : List Event) (m n o : ℕ) (b : Bool) → WeakSince e m n o b → weak_target e m n ≡ Some (if b then Cleared else Object (record { 0 = o }))

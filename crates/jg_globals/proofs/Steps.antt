@@ -172,7 +172,7 @@ weak_absent k i es above =
     no_value (λ t. weak_seen ((k, i), t)) (lookup (same_name (k, i)) es) (sym (first_named weak_seen (is_weak k i) (k, i) (weak_tests k i) es) ∙ ap first none)
 
 -- what a reference names once each of the objects was cleared
-abbrev cleared_by : List ℕ → Option Target → Option Target
+abbrev pub cleared_by : List ℕ → Option Target → Option Target
 cleared_by objects None = None
 cleared_by objects (Some Cleared) = Some Cleared
 cleared_by objects (Some (Object o)) = Some (if list_any (λ p. p == o.0) objects then Cleared else Object o)
@@ -199,13 +199,13 @@ clear_more p objects None = refl
 clear_more p objects (Some Cleared) = refl
 clear_more p objects (Some (Object o)) = clear_object p objects o (list_any (λ q. q == o.0) objects)
 
-weak_target-clear : (m n : ℕ) (objects : List ℕ) (e : List Event) → weak_target (map (λ o. Clear o) objects ++ e) m n ≡ cleared_by objects (weak_target e m n)
+pub weak_target-clear : (m n : ℕ) (objects : List ℕ) (e : List Event) → weak_target (map (λ o. Clear o) objects ++ e) m n ≡ cleared_by objects (weak_target e m n)
 weak_target-clear m n [] e = none_cleared (weak_target e m n)
 weak_target-clear m n (o ∷ objects) e =
     let older = map (λ p. Clear p) objects ++ e in
     clear_one (after_making m n older) o (weak older m n) ∙ (ap (cleared_by (o ∷ [])) (weak_target-clear m n objects e) ∙ clear_more o objects (weak_target e m n))
 
-strong-clear : (m n : ℕ) (objects : List ℕ) (e : List Event) → strong (map (λ o. Clear o) objects ++ e) m n ≡ strong e m n
+pub strong-clear : (m n : ℕ) (objects : List ℕ) (e : List Event) → strong (map (λ o. Clear o) objects ++ e) m n ≡ strong e m n
 strong-clear m n [] e = refl
 strong-clear m n (o ∷ objects) e = strong-clear m n objects e
 

@@ -3,6 +3,7 @@ use Rattle.std.proofs.Common.{ℕ, ℤ, pos, ◌≡◌, ◌+◌, ◌≤◌, Bool
 use Rattle.std.specs.Prelude.{◌==◌, ◌&&◌, ◌||◌, nat_lt, int_lt}
 use Rattle.std.specs.Option.{option_map, unwrap_or}
 use Rattle.std.proofs.lemmas.Bool.Decides.{nat_tests}
+use Rattle.std.proofs.lemmas.Bool.{eqb-true}
 use Rattle.jg_words.specs.declared.object.ObjId.{ObjId}
 use Rattle.jg_words.specs.declared.object.Primitive.{Primitive}
 use Rattle.jg_words.specs.declared.object.Primitive.TheVariants.{Boolean, Byte, Char, Short, Int, Long}
@@ -30,9 +31,6 @@ use Rattle.jg_rules.specs.Effects.{is_effective, pointer}
 use Rattle.jg_rules.proofs.Objects.{IsThere, is_there, first_is_of}
 use Rattle.jg_guard.specs.Tables.{IsDue}
 
-same : (a b : ℕ) → (a == b) ≡ true → a ≡ b
-same a b is = grind (arith, nat_tests, is)
-
 other_class : (element : Primitive) → 2 ≤ array_class element
 other_class Boolean = omega arith
 other_class Byte = omega arith
@@ -56,7 +54,7 @@ pub primitive_there : (s : StatedSetup) (rows : TableRows) (p : Parts) (element 
     → IsThere s rows p (unwrap_or (object_in named) 0) (array_class element)
 primitive_there s rows p element named stand alive there right =
     is_there s rows p (unwrap_or (object_in named) 0) (array_class element) stand
-    (same (class_of s p (unwrap_or (object_in named) 0)) (array_class element) (first_is_of s p (ArrayOf element) named false false false alive there right)) (other_class element)
+    (eqb-true (class_of s p (unwrap_or (object_in named) 0)) (array_class element) (first_is_of s p (ArrayOf element) named false false false alive there right)) (other_class element)
 
 pub get_region_due : (s : StatedSetup) (rows : TableRows) (t : ℕ) (element : Primitive) (r : Ref) (start n : ℤ) (due : IsDue s rows t (Arrays (GetArrayRegion element r start n)))
     → IsThere s rows due.events (the_object due.events t r) (array_class element)
@@ -73,7 +71,7 @@ objects_there : (s : StatedSetup) (rows : TableRows) (p : Parts) (named : Named)
     → IsThere s rows p (unwrap_or (object_in named) 0) 3
 objects_there s rows p named a b c stand alive there right =
     is_there s rows p (unwrap_or (object_in named) 0) 3 stand
-    (same (class_of s p (unwrap_or (object_in named) 0)) 3 (first_is_of s p ObjectArray named a b c alive there right)) (omega arith)
+    (eqb-true (class_of s p (unwrap_or (object_in named) 0)) 3 (first_is_of s p ObjectArray named a b c alive there right)) (omega arith)
 
 pub get_element_due : (s : StatedSetup) (rows : TableRows) (t : ℕ) (r : Ref) (index : ℤ) (due : IsDue s rows t (Arrays (GetObjectArrayElement r index)))
     → IsThere s rows due.events (the_object due.events t r) 3

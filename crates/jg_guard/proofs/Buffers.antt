@@ -5,6 +5,7 @@ use Rattle.std.specs.List.{range_with_len}
 use Rattle.std.specs.Option.{option_map, unwrap_or}
 use Rattle.std.proofs.lemmas.Bool.Decides.{nat_tests}
 use Rattle.std.proofs.lemmas.List.FromFn.{length-map-range_with_len}
+use Rattle.std.proofs.lemmas.Bool.{not-false}
 use Rattle.jg_words.specs.declared.buffer.BufId.{BufId}
 use Rattle.jg_words.specs.declared.object.Primitive.{Primitive}
 use Rattle.jg_words.specs.declared.reference.Ref.{Ref}
@@ -14,6 +15,7 @@ use Rattle.jg_words.specs.declared.call.buffers.BuffersCall.TheVariants.{GetArra
 use Rattle.jg_policy.specs.Stated.{StatedSetup, class_count}
 use Rattle.jg_heap.specs.Making.{Making, class_in, IsPrimitiveArray}
 use Rattle.jg_words.specs.Classes.{array_class}
+use Rattle.jg_words.proofs.Common.{and_first}
 use Rattle.jg_heap.specs.Rows.{count_in, class_at, length_at}
 use Rattle.jg_heap.specs.Reading.{natural}
 use Rattle.jg_heap.specs.History.{making_at}
@@ -85,10 +87,6 @@ place_if true true index n is both = grind (arith, nat_tests, is)
 place_if true false index n is both = absurd cc
 place_if false c index n is both = absurd cc
 
-right : (b : Bool) → not b ≡ false → b ≡ true
-right true is = refl
-right false is = absurd cc
-
 place_within : (index : ℤ) (n : ℕ) → is_place index n ≡ true → natural index < n
 place_within index n is = place_if (int_le (pos 0) index) (nat_lt (natural index) n) index n refl is
 
@@ -97,19 +95,15 @@ pub read_within : (s : StatedSetup) (rows : TableRows) (t : ℕ) (b : BufId) (in
     → natural index < info.length
 read_within s rows t b index info due is =
     let told : not (is_place index info.length) ≡ false = subst (λ (found : Option Info). is_outside_of index found ≡ false) is due.unbroken.right_argument in
-    place_within index info.length (right (is_place index info.length) told)
-
-first_of : (a c : Bool) → (a && c) ≡ true → a ≡ true
-first_of true c is = refl
-first_of false c is = absurd cc
+    place_within index info.length (not-false (is_place index info.length) told)
 
 pub written_within : (s : StatedSetup) (rows : TableRows) (t : ℕ) (b : BufId) (index value : ℤ) (info : Info) (due : IsDue s rows t (Buffers (BufferWrite b index value)))
     → buffer_named due.events b ≡ Some info → natural index < info.length
 written_within s rows t b index value info due is =
     let told : not (is_place index info.length && is_value_of_type (item_type s due.events info info.family) value) ≡ false =
     subst (λ (found : Option Info). is_wrong_item s due.events index value found ≡ false) is due.unbroken.right_argument in
-    place_within index info.length (first_of (is_place index info.length) (is_value_of_type (item_type s due.events info info.family) value)
-    (right (is_place index info.length && is_value_of_type (item_type s due.events info info.family) value) told))
+    place_within index info.length (and_first (is_place index info.length) (is_value_of_type (item_type s due.events info info.family) value)
+    (not-false (is_place index info.length && is_value_of_type (item_type s due.events info info.family) value) told))
 
 -- only items of an array are written
 written_array : (s : StatedSetup) (rows : TableRows) (t : ℕ) (b : BufId) (index value : ℤ) (info : Info) (due : IsDue s rows t (Buffers (BufferWrite b index value)))
@@ -117,7 +111,7 @@ written_array : (s : StatedSetup) (rows : TableRows) (t : ℕ) (b : BufId) (inde
 written_array s rows t b index value info due is =
     let told : not (is_of_array info.family && not (is_anothers t info)) ≡ false =
     subst (λ (found : Option Info). not (is_open_and (λ x. is_of_array x.family && not (is_anothers t x)) found) ≡ false) is due.unbroken.right_buffer in
-    first_of (is_of_array info.family) (not (is_anothers t info)) (right (is_of_array info.family && not (is_anothers t info)) told)
+    and_first (is_of_array info.family) (not (is_anothers t info)) (not-false (is_of_array info.family && not (is_anothers t info)) told)
 
 -- the row of a copy is as long as the look-up tells
 length_if : (b : Bool) (n : ℕ) → b ≡ false → (if b then 0 else n) ≡ n

@@ -1,6 +1,6 @@
 -- Two lists in which each item is as often are as long as each other.
 use Rattle.std.proofs.Common.{◌≡◌, ◌+◌, ◌<◌, ◌∙◌, ℕ, suc, Bool, true, false, if◌then◌else◌, List, [], ◌∷◌, length, refl, ap, sym, arith, add-one}
-use Rattle.jg_policy.specs.LinkRows.{how_many}
+use Rattle.jg_lists.specs.Acts.{how_many}
 
 -- without the first that passes the test
 abbrev without : {A : Type 0} → (A → Bool) → List A → List A

@@ -2,14 +2,14 @@
 use Rattle.std.proofs.Common.{ℕ, ◌≡◌, ◌+◌, ◌++◌, ◌∙◌, Bool, true, false, if◌then◌else◌, List, [], ◌∷◌, map, filter, length, Option, Some, None, refl, ap, arith}
 use Rattle.std.specs.Prelude.{◌==◌, IsPermutation}
 use Rattle.std.specs.Option.{is_some}
+use Rattle.jg_lists.specs.Acts.{how_many, once_if}
+use Rattle.jg_lists.proofs.Lists.{how_many-map}
 use Rattle.jg_words.specs.declared.reference.Ref.{Ref}
 use Rattle.jg_words.specs.declared.reference.Ref.TheVariants.{Null, To}
 use Rattle.jg_words.specs.declared.reference.Kind.TheVariants.{Local, Global, Weak}
 use Rattle.jg_words.specs.declared.buffer.BufId.{BufId}
 use Rattle.jg_policy.specs.Stated.{StatedSetup}
-use Rattle.jg_policy.specs.LinkRows.{how_many}
-use Rattle.jg_policy.specs.LinkStanding.{once_if}
-use Rattle.jg_policy.proofs.Counting.{how_many-reordered, how_many-map}
+use Rattle.jg_policy.proofs.Counting.{how_many-reordered}
 use Rattle.jg_locals.specs.History as locals
 use Rattle.jg_locals.specs.Rows.{is_local, local_ref}
 use Rattle.jg_locals.specs.Standing as local_standing

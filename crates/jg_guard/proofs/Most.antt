@@ -12,45 +12,26 @@ use Rattle.jg_words.specs.declared.reference.Kind.{Kind}
 use Rattle.jg_words.specs.declared.reference.Kind.TheVariants.{Local, Global, Weak}
 use Rattle.jg_policy.specs.Stated.{StatedSetup}
 use Rattle.jg_policy.specs.Stated.{class_count}
-use Rattle.jg_policy.specs.LinkStanding.{once_if}
 use Rattle.jg_buffers.specs.History.{same_ref, is_same}
 use Rattle.jg_heap.specs.History.{gone_at, others_in_being}
 use Rattle.jg_guard.specs.Left.{is_left}
 use Rattle.jg_rules.specs.Parts.{Parts}
 use Rattle.jg_rules.specs.Effects.{parts}
-use Rattle.jg_words.specs.declared.entry.Outcome.TheVariants.{Denied}
 use Rattle.jg_rules.specs.Parts.{TableRows, TablesStand}
 use Rattle.jg_guard.specs.declared.peaks.Peaks.{Peaks}
 use Rattle.jg_guard.specs.Peaks.{ArePeaks, CountsBuffers, CountsObjects, CountsRefs, IsMost, IsNow, raised}
 use Rattle.jg_guard.proofs.Counting.{as_long}
 use Rattle.jg_guard.proofs.Listing.{all_listed, buffers_listed, refs_of}
 use Rattle.std.proofs.lemmas.List.{length-append, length-map}
+use Rattle.jg_lists.specs.Acts.{once_if}
 use Rattle.jg_locals.specs.Rows.{local_ref}
 use Rattle.jg_globals.specs.Rows.{strong_ref, weak_ref}
 use Rattle.jg_buffers.specs.Rows.{name_of}
-
-ref_itself : (r : Ref) → same_ref r r ≡ true
-ref_itself Null = refl
-ref_itself (To Local maker n) = grind (arith, nat_tests)
-ref_itself (To Global maker n) = grind (arith, nat_tests)
-ref_itself (To Weak maker n) = grind (arith, nat_tests)
+use Rattle.jg_buffers.proofs.Counts.{same_ref_is}
+use Rattle.jg_buffers.proofs.Means.{ref_self}
 
 numbered : (kind : Kind) (m k : Tid) (n o : ℕ) → m.0 ≡ k.0 → n ≡ o → To kind m n ≡ To kind k o
 numbered kind m k n o maker number = ap (λ (i : ℕ). To kind (record { 0 = i }) n) maker ∙ ap (λ (i : ℕ). To kind k i) number
-
-ref_equal : (q r : Ref) → same_ref q r ≡ true → q ≡ r
-ref_equal Null Null is = refl
-ref_equal Null (To kind maker n) is = absurd cc
-ref_equal (To kind maker n) Null is = absurd cc
-ref_equal (To Local m n) (To Local k o) is = numbered Local m k n o (grind (arith, nat_tests, is)) (grind (arith, nat_tests, is))
-ref_equal (To Global m n) (To Global k o) is = numbered Global m k n o (grind (arith, nat_tests, is)) (grind (arith, nat_tests, is))
-ref_equal (To Weak m n) (To Weak k o) is = numbered Weak m k n o (grind (arith, nat_tests, is)) (grind (arith, nat_tests, is))
-ref_equal (To Local m n) (To Global k o) is = absurd cc
-ref_equal (To Local m n) (To Weak k o) is = absurd cc
-ref_equal (To Global m n) (To Local k o) is = absurd cc
-ref_equal (To Global m n) (To Weak k o) is = absurd cc
-ref_equal (To Weak m n) (To Local k o) is = absurd cc
-ref_equal (To Weak m n) (To Global k o) is = absurd cc
 
 tail_same : (x y : Entry) (h l : List Entry) → x ∷ h ≡ y ∷ l → h ≡ l
 tail_same x y h l is = cc
@@ -58,7 +39,7 @@ tail_same x y h l is = cc
 -- two lists of the references that are left are as long as each other
 refs_once : (p : Parts) (m n : ℕ) → CountsRefs p m → CountsRefs p n → m ≡ n
 refs_once p m n (qs, lists, long) (rs, others, same) =
-    sym long ∙ as_long same_ref ref_itself ref_equal qs rs (λ r. lists r ∙ sym (others r)) ∙ same
+    sym long ∙ as_long same_ref ref_self same_ref_is qs rs (λ r. lists r ∙ sym (others r)) ∙ same
 
 module _ (Counts : Parts → ℕ → Type 0) (once : (p : Parts) (m n : ℕ) → Counts p m → Counts p n → m ≡ n) (s : StatedSetup) where
   most_begun : (n : ℕ) → Counts (parts s []) n → IsMost Counts s [] n

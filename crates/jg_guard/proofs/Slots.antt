@@ -3,6 +3,7 @@ use Rattle.std.proofs.Common.{ℕ, ◌≡◌, ◌<◌, ◌≤◌, Bool, true, fa
 use Rattle.std.specs.Prelude.{◌==◌, ◌&&◌, ◌||◌, not}
 use Rattle.std.specs.List.{AllByRecursion}
 use Rattle.std.specs.Option.{unwrap_or}
+use Rattle.std.proofs.lemmas.Bool.{eqb-true}
 use Rattle.jg_words.specs.declared.object.FieldId.{FieldId}
 use Rattle.jg_words.specs.declared.object.Primitive.{Primitive}
 use Rattle.jg_policy.specs.Stated.{StatedSetup}
@@ -17,7 +18,7 @@ use Rattle.jg_rules.specs.Rules.{is_nothing, is_null, is_stated_as, is_of_class}
 use Rattle.jg_rules.proofs.Objects.{is_there}
 use Rattle.jg_laws.specs.Laws.{MakesStated}
 use Rattle.jg_laws.proofs.Makings.{length_stated}
-use Rattle.jg_laws.proofs.StatedFields.{IsStatedField, stated_field, both_true, same_number}
+use Rattle.jg_laws.proofs.StatedFields.{IsStatedField, stated_field, both_true}
 
 -- the object is in the store and has a slot for the field
 pub record HasSlot (rows : TableRows) (o : ℕ) (field : FieldId) : Type 0 where
@@ -49,4 +50,4 @@ has_slot s rows p wanted Nothing field a b stand stated alive there right = absu
 has_slot s rows p wanted NamesNull field a b stand stated alive there right = absurd cc
 has_slot s rows p wanted (Object x) field a b stand stated alive there right =
     let both = both_true (is_stated_as wanted (field_type s field.class field.field)) (class_of s p x.0 == field.class) right in
-    slot_here s rows p x.0 field stand stated (stated_field s field.class field.field wanted both.0) (same_number (class_of s p x.0) field.class both.1)
+    slot_here s rows p x.0 field stand stated (stated_field s field.class field.field wanted both.0) (eqb-true (class_of s p x.0) field.class both.1)

@@ -1,46 +1,15 @@
 -- One entry more, and how many have each number then.
-use Rattle.std.proofs.Common.{◌≡◌, ◌+◌, ◌<◌, ◌≤◌, ◌∙◌, ℕ, Bool, true, false, if◌then◌else◌, List, [], ◌∷◌, length, refl, ap, sym, subst, arith, replicate, zero, suc}
+use Rattle.std.proofs.Common.{◌≡◌, ◌+◌, ◌<◌, ◌≤◌, ◌∙◌, ℕ, Bool, true, false, if◌then◌else◌, List, [], ◌∷◌, length, refl, ap, sym, arith, replicate, zero, suc}
 use Rattle.std.specs.Prelude.{◌==◌, slice_index_or, slice_set}
 use Rattle.std.proofs.lemmas.Bool.Decides.{nat_tests}
 use Rattle.std.proofs.lemmas.List.{get_or-set_same, get_or-set_other}
-use Rattle.jg_words.specs.declared.rule.Rule.{Rule}
-use Rattle.jg_words.specs.declared.rule.Rule.TheVariants.{WrongThread, Detached, InCritical, Pending, ForeignLocal, DeadReference, WrongRefKind, NullReference, WrongType, BadField, BadBuffer, BadArgument, Pinned, NotOwner, BadFrame, NoNativeAccess, NotLinked}
+use Rattle.jg_lists.proofs.Lists.{how_many-most}
 use Rattle.jg_words.specs.Entry.{Entry}
-use Rattle.jg_words.specs.Rule.{number_of}
-use Rattle.jg_policy.specs.LinkRows.{how_many}
 use Rattle.jg_guard.specs.Tally.{IsTally, outcome_number, tallied}
-
-number_below : (rule : Rule) → number_of rule < 18
-number_below WrongThread = omega arith
-number_below Detached = omega arith
-number_below InCritical = omega arith
-number_below Pending = omega arith
-number_below ForeignLocal = omega arith
-number_below DeadReference = omega arith
-number_below WrongRefKind = omega arith
-number_below NullReference = omega arith
-number_below WrongType = omega arith
-number_below BadField = omega arith
-number_below BadBuffer = omega arith
-number_below BadArgument = omega arith
-number_below Pinned = omega arith
-number_below NotOwner = omega arith
-number_below BadFrame = omega arith
-number_below NoNativeAccess = omega arith
-number_below NotLinked = omega arith
-
--- no more are counted than there are
-few : {A : Type 0} (p : A → Bool) (xs : List A) → how_many p xs ≤ length xs
-few p [] = omega arith
-few p (x ∷ xs) = by (p x) (few p xs)
-  where
-    by : (b : Bool) → how_many p xs ≤ length xs → (if b then how_many p xs + 1 else how_many p xs) ≤ length (x ∷ xs)
-    by true le = omega (arith, le)
-    by false le = omega (arith, le)
 
 pub fits : (h : List Entry) (tally : List ℕ) (limit k : ℕ) → IsTally h tally → length h < limit → limit < 4294967296 → slice_index_or tally k 0 < 4294967295
 fits h tally limit k is room small =
-    let some = few (λ (x : Entry). outcome_number x.outcome == k) h in
+    let some = how_many-most (λ (x : Entry). outcome_number x.outcome == k) h in
     omega (arith, is k, some, room, small)
 
 pub one_more : (h : List Entry) (x : Entry) (tally new : List ℕ) (n : ℕ) → n < length tally → outcome_number x.outcome ≡ n → IsTally h tally

@@ -1,17 +1,17 @@
 -- What a history leaves behind.
 use Rattle.std.specs.Prelude.{ℕ, ◌≡◌, Bool, false, ◌==◌, List, [], ◌∷◌, filter, Option, Some, None, IsSortedByKey}
 use Rattle.std.specs.Option.{is_some}
+use Rattle.jg_lists.specs.Acts.{how_many, once_if}
 use Rattle.jg_words.specs.declared.reference.Ref.{Ref}
 use Rattle.jg_words.specs.declared.reference.Ref.TheVariants.{Null, To}
 use Rattle.jg_words.specs.declared.reference.Kind.TheVariants.{Local, Global, Weak}
 use Rattle.jg_words.specs.declared.buffer.BufId.{BufId}
-use Rattle.jg_policy.specs.LinkRows.{how_many}
-use Rattle.jg_policy.specs.LinkStanding.{once_if}
 use Rattle.jg_locals.specs.History as locals
 use Rattle.jg_globals.specs.History as globals
 use Rattle.jg_buffers.specs.History as buffers
 use Rattle.jg_buffers.specs.History.{same_ref, is_same}
 use Rattle.jg_buffers.specs.Keys.{pair_cmp}
+use Rattle.jg_buffers.specs.Ordered.{buffer_key}
 use Rattle.jg_monitors.specs.History as monitors
 use Rattle.jg_monitors.specs.Rows.{Ascends}
 use Rattle.jg_monitors.specs.declared.owned_monitor.OwnedMonitor.{OwnedMonitor}
@@ -52,9 +52,6 @@ ListsMonitors p owned = (o : ℕ)
 abbrev pub ref_key : Ref → ℕ × ℕ
 ref_key Null = (0, 0)
 ref_key (To kind maker n) = (maker.0, n)
-
-abbrev pub buffer_key : BufId → ℕ × ℕ
-buffer_key b = (b.maker.0, b.n)
 
 abbrev pub RefsAscend : List Ref → Type 0
 RefsAscend refs = IsSortedByKey ref_key pair_cmp refs

@@ -1,11 +1,11 @@
 -- How many calls passed, and how many each rule denied.
 use Rattle.std.specs.Prelude.{ℕ, ◌≡◌, ◌==◌, List, slice_index_or}
+use Rattle.jg_lists.specs.Acts.{how_many}
 use Rattle.jg_words.specs.declared.entry.Outcome.{Outcome}
 use Rattle.jg_words.specs.declared.entry.Outcome.TheVariants.{Passed, Denied}
 use Rattle.jg_words.specs.declared.rule.Rule.{Rule}
 use Rattle.jg_words.specs.Entry.{Entry}
 use Rattle.jg_words.specs.Rule.{number_of}
-use Rattle.jg_policy.specs.LinkRows.{how_many}
 
 -- 0 of a passed call, and of a denied one the number of its rule
 abbrev pub outcome_number : Outcome → ℕ

@@ -1,7 +1,7 @@
 //! The collector: each table marks what it holds, once; the store marks what stands in a slot; what
 //! isn't marked then goes, and weak references to it are cleared.
 
-ghost use Rattle.std.specs.Prelude.{◌≡◌, ◌==◌, ◌<◌, ◌^◌, ◌++◌, ℕ, false, List, length, map, pos, slice_get, Some, OnOk, OnErr};
+ghost use Rattle.std.specs.Prelude.{◌≡◌, ◌==◌, ◌<◌, ◌^◌, ◌++◌, ℕ, false, List, map, slice_get, Some, OnOk, OnErr};
 ghost use Rattle.std.specs.List.{list_any};
 ghost use Rattle.jg_globals.specs.History as globals_of;
 ghost use Rattle.jg_globals.specs.Standing as globals_standing;

@@ -8,8 +8,8 @@ use Rattle.std.proofs.lemmas.List.{append_assoc, append-nil, get_or-drop, get_or
 use Rattle.std.proofs.lemmas.List.Elements.{All-append, All-from_get_or, filter-append}
 use Rattle.std.proofs.lemmas.List.Folds.{list_any_more}
 use Rattle.std.proofs.lemmas.List.FromFn.{length-range_with_len, get_or-range_with_len}
+use Rattle.std.proofs.Math.Bool.{or-false}
 use Rattle.jg_lists.proofs.Lists.{range_more, any_more, any_agree}
-use Rattle.jg_lists.proofs.Marks.{or_false}
 use Rattle.jg_heap.specs.Kept.{unheld_in, block_of, numbers_in, AreWhole}
 
 -- ---- numbers in a row
@@ -47,7 +47,7 @@ some_more : (xs : List Bool) (a n : ℕ) → (n < length (drop a xs)) ⊎ (lengt
 some_more xs a n (inl more) = list_any_more (λ b. b) (drop a xs) n false more ∙ ap (λ b. list_any (λ b. b) (take n (drop a xs)) || b) (get_or-drop a xs n false)
 some_more xs a n (inr past) =
     ap (list_any (λ b. b)) (take_all (n + 1) (drop a xs) (omega (arith, past)) ∙ sym (take_all n (drop a xs) past))
-    ∙ sym (or_false (list_any (λ b. b) (take n (drop a xs))))
+    ∙ sym (or-false (list_any (λ b. b) (take n (drop a xs))))
     ∙ ap (λ b. list_any (λ b. b) (take n (drop a xs)) || b) (sym (get_or_past xs (a + n) false (omega (arith, past, length-drop a xs))))
 
 -- some item of a piece of a list is true

@@ -12,8 +12,8 @@ use Rattle.jg_heap.specs.Kept.{Object, row_of, swept_row, ended_row, row_points_
 use Rattle.jg_heap.specs.Rows.{row_of_making}
 use Rattle.jg_heap.specs.History.{Event, Collected, count_of, gone_at, held_at, points_at, going}
 use Rattle.jg_heap.specs.Standing.{Stands, standing, row_at, slots_at, MarksRoots, MarksHeld, AreListed}
-use Rattle.jg_lists.proofs.Lists.{any_agree}
-use Rattle.jg_heap.proofs.Lists.{any_filter, filter_filter, keep_agree, or_swapped, goes_alike, gone_alike}
+use Rattle.jg_lists.proofs.Lists.{any_agree, any_filter}
+use Rattle.jg_heap.proofs.Lists.{filter_filter, keep_agree, or_swapped, goes_alike, gone_alike}
 use Rattle.jg_heap.proofs.Pointing.{points_slots}
 use Rattle.jg_heap.proofs.Sweeping.{goes_now, pointing_holds}
 use Rattle.jg_heap.proofs.Steps.{standing_is}

@@ -4,12 +4,12 @@ use Rattle.std.proofs.lemmas.Bool.{false≢true}
 use Rattle.std.proofs.lemmas.List.{map-set}
 use Rattle.std.specs.List.{list_any}
 use Rattle.jg_words.specs.declared.object.ObjId.{ObjId}
+use Rattle.jg_words.proofs.Common.{list_any-map}
 use Rattle.jg_heap.specs.declared.object.Slot.TheVariants.{Number, Object as ToObject}
 use Rattle.jg_heap.specs.declared.body.Body.{Body}
 use Rattle.jg_heap.specs.declared.body.Body.TheVariants.{Class, Fields, Units, Numbers, References}
 use Rattle.jg_heap.specs.History.{holds}
 use Rattle.jg_heap.specs.Kept.{Object, row_of, slots_of_body, body_may_point, may_point_at, slot_of_row_holds}
-use Rattle.jg_heap.proofs.Lists.{list_any_map}
 
 -- a number names no object
 pub numbers_hold : (o : ℕ) (items : List ℤ) → list_any (holds o) (map Number items) ≡ false
@@ -17,7 +17,7 @@ numbers_hold o [] = refl
 numbers_hold o (n ∷ items) = numbers_hold o items
 
 pub references_hold : (o : ℕ) (items : List (Option ObjId)) → list_any (holds o) (map ToObject items) ≡ list_any (λ target. holds o (ToObject target)) items
-references_hold o items = list_any_map ToObject (holds o) items
+references_hold o items = list_any-map ToObject (holds o) items
 
 -- what may not point at objects holds none
 holds_none : {A : Type 0} (o : ℕ) (body : Body A) → body_may_point body ≡ false → list_any (holds o) (slots_of_body body) ≡ false

@@ -6,6 +6,7 @@ use Rattle.std.proofs.lemmas.Bool.Decides.{nat_tests}
 use Rattle.std.proofs.lemmas.List.Folds.{Any-from_list_any, list_any_at}
 use Rattle.std.proofs.lemmas.List.FromFn.{length-range_with_len, get_or-range_with_len}
 use Rattle.std.proofs.lemmas.Map.Views.{any-filter_same}
+use Rattle.jg_lists.proofs.Lists.{length-filter-most}
 use Rattle.jg_words.specs.declared.object.ObjId.{ObjId}
 use Rattle.jg_heap.specs.declared.object.Slot.{Slot}
 use Rattle.jg_heap.specs.declared.object.Slot.TheVariants.{Number, Object as ToObject}
@@ -13,9 +14,10 @@ use Rattle.jg_heap.specs.Making.{Making, slots_in, slot_in}
 use Rattle.jg_heap.specs.Rows.{count_in}
 use Rattle.jg_heap.specs.History.{Event, Made, Wrote, Collected, Went, count_of, making_at, value_at, gone_at, held_at, held_by, holds, points_at, some_slot, going, region_writes}
 use Rattle.jg_heap.specs.Laws.{StandsInASlot, HoldsInASlot, PointsMeans, ValuePasses, RegionWritten, RegionSpares, RegionKeeps, KeepsObjects, HeldMeans, WasCollected, WasLetGo, GoneMeans, StaysGone, ClassesStay, GoingMeans, Spares, LatestWrite, FirstValue, MadeAs, MadeStays, ClassesAre, RootsMean, GoingIsBounded, RowsMean}
-use Rattle.jg_heap.proofs.Lists.{kept_any, length-filter-le}
+use Rattle.jg_heap.proofs.Lists.{kept_any}
 use Rattle.jg_heap.proofs.Pointing.{points_same, by_slot}
 use Rattle.jg_heap.proofs.Told.{count_stands, class_stands, gone_stands, length_stands}
+use Rattle.jg_heap.proofs.Steps.{value_wrote_here}
 
 -- ---- gone
 
@@ -162,9 +164,6 @@ kept k (Wrote p i v ∷ later) before o j h s = cond-false _ _ _ s.0 ∙ kept k 
 kept k (Collected roots ∷ later) before o j h s = kept k later before o j h s.1
 kept k (Went p ∷ later) before o j h s = kept k later before o j h s.1
 
-wrote_value : (k : ℕ) (before : List Event) (o j : ℕ) (v : Slot) → value_at k (Wrote o j v ∷ before) o j ≡ v
-wrote_value k before o j v = rw (eq-eqb o o refl, eq-eqb j j refl) refl
-
 wrote_count : (k : ℕ) (before : List Event) (o j : ℕ) (v : Slot) → count_of k (Wrote o j v ∷ before) ≡ count_of k before
 wrote_count k before o j v = refl
 
@@ -175,7 +174,7 @@ made_count : (k : ℕ) (before : List Event) (m : Making) → count_of k before 
 made_count k before m = omega arith
 
 pub latest_write : LatestWrite
-latest_write k later before o j v h s = kept k later (Wrote o j v ∷ before) o j (omega (arith, wrote_count k before o j v)) s ∙ wrote_value k before o j v
+latest_write k later before o j v h s = kept k later (Wrote o j v ∷ before) o j (omega (arith, wrote_count k before o j v)) s ∙ value_wrote_here k before o j v
 
 pub first_value : FirstValue
 first_value k later before m j s = kept k later (Made m ∷ before) (count_of k before) j (made_count k before m) s ∙ made_value k before m j
@@ -221,7 +220,7 @@ region_written k e o j (v ∷ values) zero h =
     ap (value_at k (region_writes o j (v ∷ values) ++ e) o) same
     ∙ ap (λ (l : List Event). value_at k l o j) (region_from o j v values e)
     ∙ region_spares k (Wrote o j (Number v) ∷ e) o (j + 1) values o j (inr (inl (omega arith)))
-    ∙ wrote_value k e o j (Number v)
+    ∙ value_wrote_here k e o j (Number v)
 region_written k e o j (v ∷ values) (suc i) h =
     let same : j + suc i ≡ j + 1 + i = omega arith in
     ap (value_at k (region_writes o j (v ∷ values) ++ e) o) same
@@ -308,5 +307,5 @@ roots_mean is_held n o h = kept_any is_held n o h
 pub going_bounded : GoingIsBounded
 going_bounded k roots e =
     let n : length (range_with_len 0 (count_of k e)) ≡ count_of k e = length-range_with_len 0 (count_of k e) in
-    let m : length (going k roots e) ≤ length (range_with_len 0 (count_of k e)) = length-filter-le (λ o. not (gone_at k e o) && not (held_at k roots e o)) (range_with_len 0 (count_of k e)) in
+    let m : length (going k roots e) ≤ length (range_with_len 0 (count_of k e)) = length-filter-most (λ o. not (gone_at k e o) && not (held_at k roots e o)) (range_with_len 0 (count_of k e)) in
     omega arith

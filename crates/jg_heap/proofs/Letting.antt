@@ -9,14 +9,14 @@ use Rattle.std.proofs.lemmas.List.Folds.{list_any-append}
 use Rattle.std.proofs.lemmas.List.Filters.{length-filter_both}
 use Rattle.std.proofs.lemmas.List.FromFn.{fill_by_all, length-map-range_with_len, get_or-map-range_with_len}
 use Rattle.std.proofs.lemmas.Option.{slice_get-get_or}
-use Rattle.jg_lists.proofs.Lists.{range_more}
-use Rattle.jg_lists.proofs.Marks.{or_false}
+use Rattle.std.proofs.Math.Bool.{or-false}
+use Rattle.jg_lists.proofs.Lists.{range_more, any_filter}
 use Rattle.jg_heap.specs.declared.body.Body.{Body}
 use Rattle.jg_heap.specs.History.{Event, Collected, going}
 use Rattle.jg_heap.specs.Rows.{Row, Rows, row_in}
 use Rattle.jg_heap.specs.Kept.{Object, Stored, AreWhole, LetsGo, marked_or_root, trues, objects_of, row_of, ended_row, live_in, is_there, numbers_in, block_of, slot_of_row_holds}
 use Rattle.jg_heap.specs.Standing.{Stands, MarksRoots, MarksHeld, held_objects, standing}
-use Rattle.jg_heap.proofs.Lists.{any_filter, list_any_implies, keep_alike, kept_any}
+use Rattle.jg_heap.proofs.Lists.{list_any_implies, keep_alike, kept_any}
 use Rattle.jg_heap.proofs.Collecting.{goes_listed, marks_of, list_goes, rows_swept}
 use Rattle.jg_heap.proofs.Objects.{length-objects_of, being_of, stays, unset_at, stored_swept, swept_of}
 use Rattle.jg_heap.proofs.Sweeping.{goes_now, live_swept, pointing_within, there_at}
@@ -55,7 +55,7 @@ module _ (held : ℕ → Bool) where
   lets_none old o = stays (get_or old o false)
 
   more_any : (objects : List ℕ) (i o : ℕ) → list_any (λ p. eqb p o) (objects ++ i ∷ []) ≡ (list_any (λ p. eqb p o) objects || eqb i o)
-  more_any objects i o = list_any-append (λ p. eqb p o) objects (i ∷ []) ∙ ap (λ b. list_any (λ p. eqb p o) objects || b) (or_false (eqb i o))
+  more_any objects i o = list_any-append (λ p. eqb p o) objects (i ∷ []) ∙ ap (λ b. list_any (λ p. eqb p o) objects || b) (or-false (eqb i o))
 
   -- one more goes
   pub lets_go : (objects : List ℕ) (old cur : List Bool) (i : ℕ) → i < length cur → LetsGo held objects old cur → held i ≡ false → LetsGo held (objects ++ i ∷ []) old (set cur i false)

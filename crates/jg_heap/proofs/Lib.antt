@@ -2,14 +2,14 @@ pub mod Lists
 mod Blocks
 pub mod Items
 mod Told
-mod Steps
+pub mod Steps
 pub mod Regions
 mod Pointing
 mod Sweeping
 mod Marking
 mod Collecting
 mod Calls
-mod Laws
+pub mod Laws
 mod Shapes
 mod Next
 mod Objects

@@ -1,11 +1,10 @@
 -- Lists and tests, whatever they hold.
-use Rattle.std.proofs.Common.{ℕ, ◌≡◌, ◌<◌, ◌≤◌, ◌+◌, ◌∙◌, sym, ap, refl, List, [], ◌∷◌, length, get_or, map, replicate, zero, suc, Bool, true, false, not, ◌||◌, ◌&&◌, eqb, inl, inr, arith, zero-add}
+use Rattle.std.proofs.Common.{ℕ, ◌≡◌, ◌<◌, ◌≤◌, ◌+◌, ◌∙◌, sym, ap, refl, List, [], ◌∷◌, get_or, map, replicate, zero, suc, Bool, true, false, not, ◌||◌, ◌&&◌, eqb, inl, inr, arith, zero-add}
 use Rattle.std.specs.Prelude.{All, filter}
 use Rattle.std.specs.List.{list_any, range_with_len}
 use Rattle.std.proofs.lemmas.Bool.{or_cases, or_left, or_right, cases_Bool, eq-eqb, eqb-true}
 use Rattle.std.proofs.lemmas.List.Elements.{All-filter, All-from_get_or}
 use Rattle.std.proofs.lemmas.List.Folds.{list_any_at}
-use Rattle.std.proofs.lemmas.List.Filters.{length-filter_both}
 use Rattle.std.proofs.lemmas.Map.Views.{any-filter_same}
 use Rattle.std.proofs.lemmas.List.FromFn.{length-map-range_with_len, get_or-map-range_with_len, fill_by_all, length-range_with_len, get_or-range_with_len}
 
@@ -13,34 +12,14 @@ pub map_replicate : {A B : Type 0} (f : A → B) (n : ℕ) (x : A) → map f (re
 map_replicate f zero x = refl
 map_replicate f (suc n) x = ap (λ xs. f x ∷ xs) (map_replicate f n x)
 
--- a test of what a function makes
-pub list_any_map : {A B : Type 0} (f : A → B) (p : B → Bool) (xs : List A) → list_any p (map f xs) ≡ list_any (λ x. p (f x)) xs
-list_any_map f p [] = refl
-list_any_map f p (x ∷ xs) = ap (λ b. p (f x) || b) (list_any_map f p xs)
-
 -- what passes one test passes another
 pub list_any_implies : {A : Type 0} (p q : A → Bool) → ((x : A) → p x ≡ true → q x ≡ true) → (xs : List A) → list_any p xs ≡ true → list_any q xs ≡ true
 list_any_implies p q h [] t = t
 list_any_implies p q h (x ∷ xs) t = elim (or_cases (p x) (list_any p xs) t) [ inl here ↦ or_left _ _ (h x here) | inr later ↦ or_right (q x) _ (list_any_implies p q h xs later) ]
 
--- two tests that imply each other
-pub both_imply : (a b : Bool) → (a ≡ true → b ≡ true) → (b ≡ true → a ≡ true) → a ≡ b
-both_imply true b f g = sym (f refl)
-both_imply false true f g = g refl
-both_imply false false f g = refl
-
 -- two functions that agree below n make one list
 pub map_agree : {X : Type 0} (f g : ℕ → X) (n : ℕ) (d : X) → ((p : ℕ) → p < n → f p ≡ g p) → map f (range_with_len 0 n) ≡ map g (range_with_len 0 n)
 map_agree f g n d h = fill_by_all g (map f (range_with_len 0 n)) n d (length-map-range_with_len f 0 n) (λ p l. get_or-map-range_with_len f 0 n p p d l (omega arith) ∙ h p l)
-
--- a test of what another test keeps
-pub any_filter : {X : Type 0} (p q : X → Bool) (xs : List X) → list_any p (filter q xs) ≡ list_any (λ x. q x && p x) xs
-any_filter p q [] = refl
-any_filter p q (x ∷ xs) =
-    elim (cases_Bool (q x)) [
-      | inl keeps ↦ rw (keeps) (ap (λ b. p x || b) (any_filter p q xs))
-      | inr drops ↦ rw (drops) (any_filter p q xs)
-    ]
 
 pub filter_filter : {X : Type 0} (p q : X → Bool) (xs : List X) → filter p (filter q xs) ≡ filter (λ x. q x && p x) xs
 filter_filter p q [] = refl
@@ -105,6 +84,3 @@ stays_alike false false = refl
 pub and_implied : (a b : Bool) → (a ≡ false → b ≡ false) → (a && b) ≡ b
 and_implied true b h = refl
 and_implied false b h = sym (h refl)
-
-pub length-filter-le : {X : Type 0} (p : X → Bool) (xs : List X) → length (filter p xs) ≤ length xs
-length-filter-le p xs = omega (arith, length-filter_both p (λ x. not (p x)) (λ x. refl) xs)

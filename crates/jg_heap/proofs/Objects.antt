@@ -7,6 +7,7 @@ use Rattle.std.proofs.lemmas.Bool.Decides.{nat_tests}
 use Rattle.std.proofs.lemmas.List.Elements.{All-filter}
 use Rattle.std.proofs.lemmas.List.{length-append, length-map, length-set}
 use Rattle.std.proofs.lemmas.List.Folds.{list_any_more}
+use Rattle.std.proofs.Math.Bool.{not-not}
 use Rattle.jg_heap.specs.declared.body.Body.{Body}
 use Rattle.jg_heap.specs.Rows.{Row, row_in, no_row}
 use Rattle.jg_heap.specs.Kept.{Object, Keeps, Stored, AreWhole, numbers_in, live_in, objects_of, row_of, row_of_body, ended_row, in_being, may_point, body_may_point, slot_of_row_holds}
@@ -14,13 +15,9 @@ use Rattle.jg_heap.proofs.Told.{kept}
 use Rattle.jg_heap.proofs.Sweeping.{all_below, ended_none, keeps_wrote, keeps_made, keeps_swept}
 use Rattle.jg_heap.proofs.Collecting.{goes_listed}
 
-twice : (b : Bool) → not (not b) ≡ b
-twice true = refl
-twice false = refl
-
 -- it goes, or it was gone
 goes_or_gone : (is goes : Bool) → not (is && not goes) ≡ (not is || goes)
-goes_or_gone true goes = twice goes
+goes_or_gone true goes = not-not goes
 goes_or_gone false goes = refl
 
 module _ {A : Type 0} where
@@ -33,7 +30,7 @@ module _ {A : Type 0} where
   being_of [] [] same = refl
   being_of [] (is ∷ there) same = absurd (omega (arith, same))
   being_of (b ∷ bodies) [] same = absurd (omega (arith, same))
-  being_of (b ∷ bodies) (is ∷ there) same = ap (λ t. t ∷ there) (sym (twice is)) ∙ ap (λ (l : List Bool). not (not is) ∷ l) (being_of bodies there (omega (arith, same)))
+  being_of (b ∷ bodies) (is ∷ there) same = ap (λ t. t ∷ there) (sym (not-not is)) ∙ ap (λ (l : List Bool). not (not is) ∷ l) (being_of bodies there (omega (arith, same)))
 
   pub pointing_of : (bodies : List (Body A)) (there : List Bool) → length there ≡ length bodies → map may_point (objects_of bodies there) ≡ map body_may_point bodies
   pointing_of [] there same = refl

@@ -4,11 +4,13 @@ use Rattle.std.specs.List.{list_any, range_with_len}
 use Rattle.std.proofs.lemmas.Bool.{cases_Bool, or_cases, or_left, or_right, and_parts, and_from, ltb-true, lt-ltb, eqb-true, eq-eqb, cond-true, cond-false, false≢true}
 use Rattle.std.proofs.lemmas.List.Folds.{list_any_at, Any-from_list_any}
 use Rattle.std.proofs.lemmas.List.FromFn.{length-range_with_len, get_or-range_with_len}
+use Rattle.core.specs.Cmp.{both_ways}
+use Rattle.jg_words.proofs.Common.{list_any-map}
 use Rattle.jg_heap.specs.declared.object.Slot.TheVariants.{Number}
 use Rattle.jg_heap.specs.Making.{Making, Plain, Text, Filled, Opaque, slots_in, slot_in}
 use Rattle.jg_heap.specs.History.{Event, Made, Wrote, Collected, Went, count_of, making_at, value_at, holds, made_with, wrote_for, some_slot, points_at}
 use Rattle.jg_heap.specs.Standing.{slots_at}
-use Rattle.jg_heap.proofs.Lists.{list_any_map, list_any_implies, both_imply}
+use Rattle.jg_heap.proofs.Lists.{list_any_implies}
 
 -- the event wrote this slot
 abbrev writes : ℕ → ℕ → Event → Bool
@@ -91,10 +93,10 @@ pub points_same : (k : ℕ) (e : List Event) (p o : ℕ) → points_at k e p o �
 points_same k e p o =
     elim (cases_Bool (made_with o (making_at k e p))) [
       | inl some ↦ cond-true _ _ _ some
-      | inr none ↦ cond-false _ _ _ none ∙ both_imply (list_any (wrote_for k e p o) e) (some_slot k e p o) (by_write k e e p o) (by_some k e p o none)
+      | inr none ↦ cond-false _ _ _ none ∙ both_ways (list_any (wrote_for k e p o) e) (some_slot k e p o) (by_write k e e p o) (by_some k e p o none)
     ]
 
 -- the slots of its row say the same
 pub points_slots : (k : ℕ) (e : List Event) (p o : ℕ) → list_any (holds o) (slots_at k e p) ≡ points_at k e p o
 unfolding slots_at
-points_slots k e p o = list_any_map (value_at k e p) (holds o) (range_with_len 0 (slots_in (making_at k e p))) ∙ sym (points_same k e p o)
+points_slots k e p o = list_any-map (value_at k e p) (holds o) (range_with_len 0 (slots_in (making_at k e p))) ∙ sym (points_same k e p o)

@@ -62,7 +62,7 @@ slots_made_new k m e =
     ∙ sym (fill_by_all (value_at k (Made m ∷ e) (count_of k e)) (first_slots m) (slots_in m) (Number (pos 0)) (length-first_slots m) (λ j l. get_or-first_slots m j l ∙ sym (value_made_new k m e j)))
 
 -- what isn't made yet isn't gone
-gone_past : (k : ℕ) (e : List Event) (o : ℕ) → count_of k e ≤ o → gone_at k e o ≡ false
+pub gone_past : (k : ℕ) (e : List Event) (o : ℕ) → count_of k e ≤ o → gone_at k e o ≡ false
 gone_past k [] o h = refl
 gone_past k (Made m ∷ e) o h = gone_past k e o (omega arith)
 gone_past k (Wrote p j v ∷ e) o h = gone_past k e o h
@@ -92,7 +92,7 @@ standing_made k m e =
 
 -- ---- writing
 
-value_wrote_here : (k : ℕ) (e : List Event) (o j : ℕ) (v : Slot) → value_at k (Wrote o j v ∷ e) o j ≡ v
+pub value_wrote_here : (k : ℕ) (e : List Event) (o j : ℕ) (v : Slot) → value_at k (Wrote o j v ∷ e) o j ≡ v
 value_wrote_here k e o j v = rw (eq-eqb o o refl, eq-eqb j j refl) refl
 
 value_wrote_slot : (k : ℕ) (e : List Event) (o j i : ℕ) (v : Slot) → i ≢ j → value_at k (Wrote o j v ∷ e) o i ≡ value_at k e o i

@@ -7,11 +7,11 @@ use Rattle.std.proofs.lemmas.List.{get_or_append_left, get_or-map, get_or_past, 
 use Rattle.std.proofs.lemmas.Simd.{map-map}
 use Rattle.std.proofs.lemmas.List.Elements.{filter-append, filter_agree, All-filter}
 use Rattle.std.proofs.lemmas.Bool.{cases_eq, cases_lt}
+use Rattle.std.proofs.Math.Bool.{or-false}
 use Rattle.jg_heap.specs.Rows.{Row, row_in, no_row}
 use Rattle.jg_heap.specs.Kept.{Object, row_of, ended_row, is_there, in_being, live_in, may_point, may_point_at, slot_of_row_holds, numbers_in, AreWhole, Keeps}
-use Rattle.jg_lists.proofs.Lists.{filter_swap, range_more, any_agree}
-use Rattle.jg_lists.proofs.Marks.{or_false}
-use Rattle.jg_heap.proofs.Lists.{keep_agree, keep_alike, kept_below, kept_any, any_filter, filter_filter, stays_alike, and_implied}
+use Rattle.jg_lists.proofs.Lists.{filter_swap, range_more, any_agree, any_filter}
+use Rattle.jg_heap.proofs.Lists.{keep_agree, keep_alike, kept_below, kept_any, filter_filter, stays_alike, and_implied}
 use Rattle.jg_heap.proofs.Blocks.{numbers_more, numbers_within}
 use Rattle.jg_heap.proofs.Items.{none_at}
 
@@ -28,7 +28,7 @@ row_set_other cur i o y h = ap (λ (r : List Row). row_in r o) (map-set row_of c
 
 -- none goes
 pub ended_none : (row : Row) → row ≡ ended_row false row
-ended_none row = ap (λ g. record row { gone = g }) (sym (or_false row.gone))
+ended_none row = ap (λ g. record row { gone = g }) (sym (or-false row.gone))
 
 -- ---- the numbers of those that aren't gone
 

@@ -47,10 +47,10 @@ use Rattle.jg_laws.proofs.Kept.{AtLeast, at_least_steps, below, globals_below, n
 abbrev Raises : Parts → Tid → Parts → Ref → Type 0
 Raises p t q r = ((kind : Kind) × (r ≡ To kind t (next_ref p t.0))) × (next_ref p t.0 < next_ref q t.0)
 
-no_reference : {r : Ref} → None ≡ Some r → ⊥
+pub no_reference : {r : Ref} → None ≡ Some r → ⊥
 no_reference is = cc
 
-one_reference : (q r : Ref) → Some q ≡ Some r → r ≡ q
+pub one_reference : (q r : Ref) → Some q ≡ Some r → r ≡ q
 one_reference q r is = cc
 
 same_to : (kind : Kind) (maker t : Tid) (n m : ℕ) → maker ≡ t → n ≡ m → To kind maker n ≡ To kind t m
@@ -117,7 +117,7 @@ pub Legal-before : (s : StatedSetup) (later h : List Entry) → Legal s (later +
 Legal-before s [] h legal = legal
 Legal-before s (x ∷ later) h legal = Legal-before s later h legal.1
 
-not_next : (p : Parts) (t : Tid) (kind : Kind) → Counted (To kind t (next_ref p t.0)) p → ⊥
+pub not_next : (p : Parts) (t : Tid) (kind : Kind) → Counted (To kind t (next_ref p t.0)) p → ⊥
 not_next p t kind below_itself = omega (arith, below_itself)
 
 pub no_reference_twice : NoReferenceTwice
@@ -319,7 +319,7 @@ ended_steps s kind t n =
       calms = λ p u old. (counts.calms p u old.0, old.1);
     }
 
-same_pair : (t n k i : ℕ) → globals.is_same t n k i ≡ true → (k ≡ t) × (i ≡ n)
+pub same_pair : (t n k i : ℕ) → globals.is_same t n k i ≡ true → (k ≡ t) × (i ≡ n)
 same_pair t n k i is = grind (arith, nat_tests, is)
 
 strong_below_if : (b : Bool) (e : List globals.Event) (m t n k i p o : ℕ) → globals.is_same t n k i ≡ b → (k ≡ t → i < m)

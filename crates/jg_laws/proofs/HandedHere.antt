@@ -6,6 +6,7 @@ use Rattle.std.specs.Str.{bytes_eq}
 use Rattle.std.specs.Option.{unwrap_or}
 use Rattle.std.proofs.lemmas.List.{length-map}
 use Rattle.std.proofs.lemmas.Bool.Decides.{nat_tests}
+use Rattle.std.proofs.lemmas.Bool.{eqb-true}
 use Rattle.jg_words.specs.declared.thread.Tid.{Tid}
 use Rattle.jg_words.specs.declared.thread.EnvId.{EnvId}
 use Rattle.jg_words.specs.declared.object.ObjId.{ObjId}
@@ -47,6 +48,7 @@ use Rattle.jg_words.specs.Classes.{array_class}
 use Rattle.jg_heap.specs.Reading.{natural, decoded}
 use Rattle.jg_heap.specs.History as heap
 use Rattle.jg_heap.proofs.Callers.{classes_law, gone_law}
+use Rattle.jg_heap.proofs.Laws.{classes_counted}
 use Rattle.jg_rules.specs.declared.answer.Answer.{Answer}
 use Rattle.jg_rules.specs.declared.named.Named.{Named}
 use Rattle.jg_rules.specs.declared.named.Named.TheVariants.{Nothing, Null as NamesNull, Object}
@@ -59,6 +61,7 @@ use Rattle.jg_words.specs.Classes.{class_thrown}
 use Rattle.jg_rules.specs.Rules.{verdict, is_stated_as, is_of_class}
 use Rattle.jg_policy.specs.declared.access.Operation.{Operation}
 use Rattle.jg_policy.specs.declared.access.Operation.TheVariants.{Link}
+use Rattle.jg_policy.proofs.Reading.{count_base}
 use Rattle.jg_rules.specs.Answers.{answer, handed, plain, saying, entered, present_env, class_found, field_found, registered, admitted, unless_pending, or_outside, is_outside, field_value, region}
 use Rattle.jg_rules.specs.Legal.{Legal, entry_by}
 use Rattle.jg_rules.specs.Unbroken.{Unbroken}
@@ -67,7 +70,7 @@ use Rattle.jg_rules.proofs.Objects.{first_is_of, made_so}
 use Rattle.jg_laws.specs.Laws.{MakesStated, StaysGone, LiveIsNotGone}
 use Rattle.jg_laws.proofs.Makings.{length_stated}
 use Rattle.jg_laws.proofs.Natives.{all_stated}
-use Rattle.jg_laws.proofs.StatedFields.{IsStatedField, stated_field, both_true, same_number}
+use Rattle.jg_laws.proofs.StatedFields.{IsStatedField, stated_field, both_true}
 use Rattle.jg_laws.proofs.Steps.{Steps, each_since, heap_steps}
 use Rattle.jg_laws.proofs.Here.{Here, here_made, here_new, known_made, slots_made}
 use Rattle.jg_laws.proofs.Referring.{RaisesMeet, locals_made, pending_more, strong_more, weak_more}
@@ -76,27 +79,16 @@ use Rattle.jg_laws.proofs.HandsHere.{the_named, done_here}
 
 -- ---- classes
 
-counted : (k : ℕ) (e : List heap.Event) → k ≤ heap.count_of k e
-counted k [] = omega arith
-counted k (heap.Made m ∷ e) = omega (arith, counted k e)
-counted k (heap.Wrote p j v ∷ e) = counted k e
-counted k (heap.Collected roots ∷ e) = counted k e
-counted k (heap.Went p ∷ e) = counted k e
-
 -- a class object is there
 class_here : (k : ℕ) (e : List heap.Event) (c : ℕ) → c < k → Here k e c
-class_here k e c is = (omega (arith, is, counted k e), classes_law k e c is)
-
-fifteen : length base_names ≡ 15
-unfolding base_names
-fifteen = refl
+class_here k e c is = (omega (arith, is, classes_counted k e), classes_law k e c is)
 
 class_below : (s : StatedSetup) (name : List ℕ) (c : ℕ) → class_named s name ≡ Some c → c < class_count s
 class_below s name c is =
     let within = position-within (bytes_eq name) (base_names ++ class_names s) c is in
     let both = length-append base_names (class_names s) in
     let own : length (class_names s) ≡ length s.classes = length-map s.classes _ in
-    omega (arith, within, both, own, fifteen)
+    omega (arith, within, both, own, count_base)
 
 -- each object's class is one of the setup's
 class_known : (b : Bool) (s : StatedSetup) (class : ℕ) → class < class_count s → (if b then class else 1) < class_count s
@@ -126,7 +118,7 @@ element_here : (s : StatedSetup) (p : Parts) (t : ℕ) (env : Option EnvId) (r :
     → is_outside index (pos 1) (length_of s p (the_object p t r)) ≡ false → target_in (slot_of s p (the_object p t r) (natural index)) ≡ Some o → Here (class_count s) p.heap o
 element_here s p t env r index o kept all within is =
     let x : ℕ = the_object p t r in
-    let array : class_of s p x ≡ 3 = same_number (class_of s p x) 3 (first_is_of s p ObjectArray (names p t r) false false false kept.alive kept.not_null kept.right_type) in
+    let array : class_of s p x ≡ 3 = eqb-true (class_of s p x) 3 (first_is_of s p ObjectArray (names p t r) false false false kept.alive kept.not_null kept.right_type) in
     let made = made_so s p x 3 array (omega arith) in
     let size = slots_of (heap.making_at (class_count s) p.heap x) (omega (arith, made.class)) in
     let low : nat_lt (length_of s p x) (natural index + 1) ≡ false = inside (int_lt index (pos 0)) (int_lt (pos 1) (pos 0)) _ within in
@@ -149,7 +141,7 @@ field_named s p Nothing field o a b stated all right some found = absurd cc
 field_named s p NamesNull field o a b stated all right some found = absurd cc
 field_named s p (Object x) field o a b stated all right some found =
     let both = both_true (is_stated_as None (field_type s field.class field.field)) (class_of s p x.0 == field.class) right in
-    field_at s p x.0 field o stated all (stated_field s field.class field.field None both.0) (same_number (class_of s p x.0) field.class both.1) found
+    field_at s p x.0 field o stated all (stated_field s field.class field.field None both.0) (eqb-true (class_of s p x.0) field.class both.1) found
 
 -- ---- what an answer hands out
 

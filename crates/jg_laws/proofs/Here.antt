@@ -4,12 +4,14 @@ use Rattle.std.specs.Prelude.{◌==◌, ◌&&◌, ◌||◌, not, nat_lt, if◌th
 use Rattle.std.specs.List.{list_any}
 use Rattle.std.proofs.lemmas.Bool.Decides.{nat_tests}
 use Rattle.jg_words.specs.declared.object.ObjId.{ObjId}
+use Rattle.jg_words.proofs.Common.{or_middle}
 use Rattle.jg_heap.specs.declared.object.Slot.{Slot}
 use Rattle.jg_heap.specs.declared.object.Slot.TheVariants.{Number, Object}
 use Rattle.jg_heap.specs.Making.{Making, class_in, slots_in, slot_in}
-use Rattle.jg_heap.specs.History.{Event, Made, Wrote, Collected, Went, count_of, making_at, value_at, gone_at, held_by, held_at, going, region_writes}
+use Rattle.jg_heap.specs.History.{Event, Made, Wrote, Collected, count_of, making_at, value_at, gone_at, held_by, held_at, going, region_writes}
 use Rattle.jg_heap.specs.Standing.{held_objects}
 use Rattle.jg_heap.proofs.Callers.{roots_law, held_law}
+use Rattle.jg_heap.proofs.Steps.{gone_past}
 
 -- it was made, and isn't gone
 abbrev pub Here : ℕ → List Event → ℕ → Type 0
@@ -40,20 +42,12 @@ unmade_went k e p o past old =
     let none : nat_lt o (count_of k e) ≡ false = grind (arith, nat_tests) in
     rw (old, none) (both_no (o == p))
 
--- what wasn't made isn't gone
-unmade : (k : ℕ) (e : List Event) (o : ℕ) → count_of k e ≤ o → gone_at k e o ≡ false
-unmade k [] o past = refl
-unmade k (Made m ∷ e) o past = unmade k e o (omega (arith, past))
-unmade k (Wrote p j v ∷ e) o past = unmade k e o past
-unmade k (Collected roots ∷ e) o past = unmade_if k e roots o past (unmade k e o past)
-unmade k (Went p ∷ e) o past = unmade_went k e p o past (unmade k e o past)
-
 pub here_made : (k : ℕ) (e : List Event) (m : Making) (o : ℕ) → Here k e o → Here k (Made m ∷ e) o
 here_made k e m o here = (omega (arith, here.0), here.1)
 
 -- a new object is there
 pub here_new : (k : ℕ) (e : List Event) (m : Making) → Here k (Made m ∷ e) (count_of k e)
-here_new k e m = (omega arith, unmade k e (count_of k e) (omega arith))
+here_new k e m = (omega arith, gone_past k e (count_of k e) (omega arith))
 
 -- the pointers that a making has are there
 abbrev pub PointsHere : ℕ → List Event → Making → Type 0
@@ -127,15 +121,11 @@ stays a false c kept held = rw kept refl
 here_held : (k : ℕ) (roots : List ℕ) (e : List Event) (o : ℕ) → Here k e o → held_at k roots e o ≡ true → Here k (Collected roots ∷ e) o
 here_held k roots e o here held = (here.0, stays (gone_at k e o) (nat_lt o (count_of k e)) (held_at k roots e o) here.1 held)
 
-rooted : (a b c : Bool) → b ≡ true → ((a || b) || c) ≡ true
-rooted true b c is = refl
-rooted false b c is = rw is refl
-
 -- what a root holds stays
 pub here_rooted : (k : ℕ) (is_root : ℕ → Bool) (e : List Event) (o : ℕ) → Here k e o → is_root o ≡ true → Here k (Collected (held_objects is_root (count_of k e)) ∷ e) o
 here_rooted k is_root e o here is =
     here_held k (held_objects is_root (count_of k e)) e o here
-    (rooted (nat_lt o k) (list_any (λ r. r == o) (held_objects is_root (count_of k e))) _ (roots_law is_root (count_of k e) o here.0 ∙ is))
+    (or_middle (nat_lt o k) (list_any (λ r. r == o) (held_objects is_root (count_of k e))) _ (roots_law is_root (count_of k e) o here.0 ∙ is))
 
 is_held : (gone held : Bool) → gone ≡ false → (not gone && not held) ≡ false → held ≡ true
 is_held true held kept is = absurd cc

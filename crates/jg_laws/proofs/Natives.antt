@@ -1,7 +1,7 @@
 -- What was entered was linked, and what the setup states of fields holds of each object.
-use Rattle.std.proofs.Common.{◌≡◌, ◌∙◌, Bool, true, false, List, ◌∷◌, Option, Some, None, refl, sym, ap, subst}
-use Rattle.std.specs.Prelude.{not}
+use Rattle.std.proofs.Common.{◌≡◌, ◌∙◌, List, ◌∷◌, Option, Some, None, refl, sym, ap, subst}
 use Rattle.std.specs.List.{AllByRecursion}
+use Rattle.std.proofs.lemmas.Bool.{not-false}
 use Rattle.jg_words.specs.declared.rule.Rule.{Rule}
 use Rattle.jg_words.specs.Entry.{Entry}
 use Rattle.jg_words.specs.declared.entry.Reply.{Reply}
@@ -41,10 +41,6 @@ fields_are_stated s h o legal high =
 
 -- ---- native methods
 
-not_false : (b : Bool) → not b ≡ false → b ≡ true
-not_false true is = refl
-not_false false is = absurd cc
-
 never_passed : (rule : Rule) (reply : Reply) → Denied rule ≡ Passed reply → ⊥
 never_passed rule reply is = cc
 
@@ -60,4 +56,4 @@ entered_was_linked s later x before class method signature reply legal is passed
     let kept = passed_unbroken s (parts s before) (verdict s (parts s before) x.tid.0 x.env x.call) x reply refl own.0 passed in
     let here : Unbroken s (parts s before) x.tid.0 x.env (Vm (NativeEnter class method signature)) =
     subst (λ (call : Call). Unbroken s (parts s before) x.tid.0 x.env call) is kept in
-    (not_false _ here.is_linked, here.accessible)
+    (not-false _ here.is_linked, here.accessible)

@@ -6,6 +6,7 @@ use Rattle.jg_words.specs.declared.object.ObjId.{ObjId}
 use Rattle.jg_words.specs.declared.reference.Ref.{Ref}
 use Rattle.jg_words.specs.declared.reference.Ref.TheVariants.{Null, To}
 use Rattle.jg_words.specs.declared.reference.Kind.TheVariants.{Local, Global, Weak}
+use Rattle.jg_words.proofs.Common.{or_first, or_second, or_third}
 use Rattle.jg_globals.specs.declared.target.Target.{Target}
 use Rattle.jg_globals.specs.declared.target.Target.TheVariants.{Object as ToObject, Cleared}
 use Rattle.jg_globals.specs.History as globals
@@ -60,18 +61,6 @@ named_here s p t o (To Global maker n) all is = strong_named (Here (class_count 
 named_here s p t o (To Weak maker n) all is = weak_named (Here (class_count s) p.heap) (globals.weak_target p.globals maker.0 n) o (λ x found. all.weak maker.0 n x found) is
 
 -- ---- a collection
-
-or_first : (a b c d e : Bool) → a ≡ true → ((((a || b) || c) || d) || e) ≡ true
-or_first a b c d e is = rw is refl
-
-or_second : (a b c d e : Bool) → b ≡ true → ((((a || b) || c) || d) || e) ≡ true
-or_second true b c d e is = refl
-or_second false b c d e is = rw is refl
-
-or_third : (a b c d e : Bool) → c ≡ true → ((((a || b) || c) || d) || e) ≡ true
-or_third true b c d e is = refl
-or_third false true c d e is = refl
-or_third false false c d e is = rw is refl
 
 -- a clearing leaves global references
 unclear : (objects : List ℕ) (e : List globals.Event) (m n o : ℕ) → globals.strong (map (λ p. globals.Clear p) objects ++ e) m n ≡ Some o → globals.strong e m n ≡ Some o

@@ -3,7 +3,7 @@
 use Rattle.std.proofs.Common.{ℕ, ◌≡◌, ◌≢◌, ◌+◌, ◌<◌, ◌≤◌, ◌++◌, ◌∙◌, Bool, true, false, List, [], ◌∷◌, map, Option, Some, None, refl, ap, sym, subst, arith}
 use Rattle.std.specs.Prelude.{◌==◌, ◌&&◌, ◌||◌, not, if◌then◌else◌}
 use Rattle.std.specs.List.{list_any}
-use Rattle.std.proofs.lemmas.Bool.Decides.{nat_tests}
+use Rattle.std.proofs.lemmas.Bool.Decides.{nat_tests, or_parts}
 use Rattle.std.proofs.lemmas.Option.{same_Some}
 use Rattle.jg_words.specs.declared.thread.Tid.{Tid}
 use Rattle.jg_words.specs.declared.thread.EnvId.{EnvId}
@@ -22,6 +22,7 @@ use Rattle.jg_words.specs.declared.call.vm.VmCall.TheVariants.{AttachCurrentThre
 use Rattle.jg_words.specs.declared.call.refs.RefsCall.TheVariants.{NewLocalRef, NewGlobalRef, NewWeakGlobalRef, DeleteLocalRef, DeleteGlobalRef, DeleteWeakGlobalRef, IsSameObject, GetObjectRefType}
 use Rattle.jg_words.specs.declared.call.buffers.BuffersCall.{BuffersCall}
 use Rattle.jg_words.specs.declared.call.buffers.BuffersCall.TheVariants.{GetArrayElements, ReleaseArrayElements, GetStringChars, ReleaseStringChars, GetStringUTFChars, ReleaseStringUTFChars, GetPrimitiveArrayCritical, ReleasePrimitiveArrayCritical, GetStringCritical, ReleaseStringCritical, BufferRead, BufferWrite}
+use Rattle.jg_words.proofs.Common.{clash, or_fourth, or_middle}
 use Rattle.jg_policy.specs.Stated.{StatedSetup, class_count}
 use Rattle.jg_threads.specs.History as threads
 use Rattle.jg_locals.specs.History as locals
@@ -199,16 +200,6 @@ deletion_leaves e Weak maker i o (To Weak m n) pins free = (other e Weak maker m
 
 -- ---- what is pinned isn't collected
 
-or_fourth : (a b c d e : Bool) → d ≡ true → ((((a || b) || c) || d) || e) ≡ true
-or_fourth true b c d e is = refl
-or_fourth false true c d e is = refl
-or_fourth false false true d e is = refl
-or_fourth false false false d e is = rw is refl
-
-or_second : (a b c : Bool) → b ≡ true → ((a || b) || c) ≡ true
-or_second true b c is = refl
-or_second false b c is = rw is refl
-
 held_no : (a b : Bool) → b ≡ true → (not a && not b) ≡ false
 held_no true b is = refl
 held_no false b is = rw is refl
@@ -219,20 +210,16 @@ not_going s p o made pinned =
     let root : is_root p o ≡ true =
     or_fourth (locals.holds_object p.locals o) (globals.holds_object p.globals o) (threads.is_pending p.threads o)
     (buffers.pins_object p.buffers o) (monitors.held p.monitors o) pinned in
-    let held : heap.held_at k (roots s p) p.heap o ≡ true = or_second _ (list_any (λ r. r == o) (roots s p)) _ (roots_law (is_root p) (heap.count_of k p.heap) o made ∙ root) in
+    let held : heap.held_at k (roots s p) p.heap o ≡ true = or_middle _ (list_any (λ r. r == o) (roots s p)) _ (roots_law (is_root p) (heap.count_of k p.heap) o made ∙ root) in
     roots_law (λ x. not (heap.gone_at k p.heap x) && not (heap.held_at k (roots s p) p.heap x)) (heap.count_of k p.heap) o made
     ∙ held_no (heap.gone_at k p.heap o) (heap.held_at k (roots s p) p.heap o) held
 
-first_no : (a b : Bool) → (a || b) ≡ false → (a ≡ false) × (b ≡ false)
-first_no true b is = absurd cc
-first_no false b is = (refl, is)
-
 clears_leave : (kind : Kind) (k i o : ℕ) (objects : List ℕ) → list_any (λ x. x == o) objects ≡ false → Leave kind k i o (map (λ x. globals.Clear x) objects)
 clears_leave kind k i o [] none = tt
-clears_leave Local k i o (x ∷ objects) none = (refl, clears_leave Local k i o objects (first_no (x == o) (list_any (λ y. y == o) objects) none).1)
-clears_leave Global k i o (x ∷ objects) none = (refl, clears_leave Global k i o objects (first_no (x == o) (list_any (λ y. y == o) objects) none).1)
+clears_leave Local k i o (x ∷ objects) none = (refl, clears_leave Local k i o objects (or_parts (x == o) (list_any (λ y. y == o) objects) none).1)
+clears_leave Global k i o (x ∷ objects) none = (refl, clears_leave Global k i o objects (or_parts (x == o) (list_any (λ y. y == o) objects) none).1)
 clears_leave Weak k i o (x ∷ objects) none =
-    let two = first_no (x == o) (list_any (λ y. y == o) objects) none in
+    let two = or_parts (x == o) (list_any (λ y. y == o) objects) none in
     (two.0, clears_leave Weak k i o objects two.1)
 
 -- ---- a call of another thread
@@ -304,9 +291,6 @@ named_still s p t env call u o (To Weak maker i) kept below differ pins stays is
 none_if : (b : Bool) (e : List Event) → if_effective b [] ++ e ≡ e
 none_if true e = refl
 none_if false e = refl
-
-clash : (b : Bool) → b ≡ true → b ≡ false → ⊥
-clash b is isnt = cc
 
 -- a call that may not be called inside a critical region
 other_live : (s : StatedSetup) (p : Parts) (t : Tid) (env : Option EnvId) (call : Call) → Unbroken s p t.0 env call → call_buffers s p t.0 call ≡ [] → buffers.in_critical p.buffers t.0 ≡ false

@@ -2,7 +2,9 @@
 use Rattle.std.proofs.Common.{ℕ, ◌≡◌, ◌++◌, ◌∙◌, Bool, true, false, List, [], ◌∷◌, map, Option, Some, None, refl, ap, sym, subst}
 use Rattle.std.specs.Prelude.{◌==◌, ◌&&◌, ◌||◌, not, nat_le, if◌then◌else◌}
 use Rattle.std.specs.List.{list_any}
+use Rattle.std.proofs.lemmas.Bool.Decides.{or_from}
 use Rattle.jg_words.specs.declared.object.ObjId.{ObjId}
+use Rattle.jg_words.proofs.Common.{not_and_parts}
 use Rattle.jg_globals.specs.History as globals
 use Rattle.jg_globals.specs.History.{is_same, clears, unless_cleared, after_making}
 use Rattle.jg_globals.specs.declared.target.Target.TheVariants.{Object as ToObject, Cleared}
@@ -69,14 +71,10 @@ abbrev pub make_none : List Act → Bool
 make_none [] = true
 make_none (a ∷ acts) = not (is_make a) && make_none acts
 
-quiet_if : (b c : Bool) → (not b && c) ≡ true → (b ≡ false) × (c ≡ true)
-quiet_if true c is = absurd cc
-quiet_if false c is = (refl, is)
-
 pub locals_still : (H : ℕ → Type 0) (e : List Event) (u : ℕ) (acts : List Act) → make_none acts ≡ true → LocalsMeet H e → LocalsMeet H (map (by u) acts ++ e)
 locals_still H e u [] none old = old
 locals_still H e u (a ∷ acts) none old =
-    let quiet = quiet_if (is_make a) (make_none acts) none in
+    let quiet = not_and_parts (is_make a) (make_none acts) none in
     let rest = locals_still H e u acts quiet.1 old in
     locals_on H (map (by u) acts ++ e) u a rest (λ n o is. rest u n o (live_still n o a (acts_of u (map (by u) acts ++ e)) quiet.0 is))
 
@@ -180,9 +178,6 @@ object_is : (x : ℕ) (o : ObjId) (b : Bool) → Some (if b then Cleared else To
 object_is x o true is = absurd cc
 object_is x o false is = cc
 
-or_false : (a b : Bool) → a ≡ false → b ≡ false → (a || b) ≡ false
-or_false a b first second = rw (first, second) refl
-
 spared_on : (p : ℕ) (o : ObjId) (later : List globals.Event) (found : Option ℕ) (others : Bool) (Rest : Type 0) → (unless_cleared later found ≡ Some (ToObject o) → (others ≡ false) × Rest)
     → unless_cleared (globals.Clear p ∷ later) found ≡ Some (ToObject o) → (((p == o.0) || others) ≡ false) × Rest
 spared_on p o later None others Rest rest is = absurd cc
@@ -190,7 +185,7 @@ spared_on p o later (Some x) others Rest rest is =
     let both = uncleared_if (p == x) (list_any (clears x) later) (record { 0 = x }) o is in
     let same : x ≡ o.0 = object_is x o (list_any (clears x) later) both.1 in
     let older = rest both.1 in
-    (or_false (p == o.0) others (ap (λ y. p == y) (sym same) ∙ both.0) older.0, older.1)
+    (or_from (p == o.0) others (ap (λ y. p == y) (sym same) ∙ both.0) older.0, older.1)
 
 -- a weak reference that names an object after others were cleared names none of those
 pub spared : (objects : List ℕ) (e : List globals.Event) (m n : ℕ) (o : ObjId) → globals.weak_target (map (λ p. globals.Clear p) objects ++ e) m n ≡ Some (ToObject o)

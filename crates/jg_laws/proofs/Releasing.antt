@@ -2,6 +2,7 @@
 use Rattle.std.proofs.Common.{ℕ, ◌≡◌, Bool, true, false, Option, Some, None, refl, subst, eqb-true}
 use Rattle.std.specs.Prelude.{◌==◌, ◌&&◌, ◌||◌, not}
 use Rattle.std.specs.Option.{option_map}
+use Rattle.std.proofs.lemmas.Bool.{not-false}
 use Rattle.jg_words.specs.declared.buffer.BufId.{BufId}
 use Rattle.jg_words.specs.declared.reference.Ref.{Ref}
 use Rattle.jg_buffers.specs.History.{Buffer, opened, info_of}
@@ -11,10 +12,6 @@ use Rattle.jg_rules.specs.Names.{names, object_named, the_object}
 use Rattle.jg_rules.specs.Buffers.{is_open_and, family_number, is_of_family, is_of_object, is_anothers}
 use Rattle.jg_rules.specs.Rules.{is_nothing, is_null, is_releasable}
 use Rattle.jg_laws.proofs.HandsHere.{the_named}
-
-right : (b : Bool) → not b ≡ false → b ≡ true
-right true is = refl
-right false is = absurd cc
 
 -- the buffer is of this family and of this object
 pub record Released (p : Parts) (b : BufId) (family : Family) (o : ℕ) : Type 0 where
@@ -44,4 +41,4 @@ released_if p t family b o named (Some x) is names_it may =
 pub released : (p : Parts) (t : ℕ) (family : Family) (r : Ref) (b : BufId) → (is_nothing (names p t r) || false) ≡ false → ((true && is_null (names p t r)) || false) ≡ false
     → not (is_releasable p t family r b) ≡ false → Released p b family (the_object p t r)
 released p t family r b alive there may =
-    released_if p t family b (the_object p t r) (object_named p t r) (opened p.buffers b.maker.0 b.n) refl (the_named (names p t r) false false alive there) (right (is_releasable p t family r b) may)
+    released_if p t family b (the_object p t r) (object_named p t r) (opened p.buffers b.maker.0 b.n) refl (the_named (names p t r) false false alive there) (not-false (is_releasable p t family r b) may)

@@ -20,7 +20,7 @@ use Rattle.jg_words.specs.declared.call.monitors.MonitorsCall.TheVariants.{Monit
 use Rattle.jg_words.specs.declared.call.exceptions.ExceptionsCall.TheVariants.{Throw, ExceptionOccurred, ExceptionDescribe, ExceptionClear, ExceptionCheck}
 use Rattle.jg_threads.specs.History as threads
 use Rattle.jg_locals.specs.History as locals
-use Rattle.jg_locals.specs.History.{Act, acts_of, is_push, is_pop, done_at, frames}
+use Rattle.jg_locals.specs.History.{Act, acts_of, is_push, done_at, frames}
 use Rattle.jg_heap.specs.History as heap
 use Rattle.jg_rules.specs.Parts.{Parts}
 use Rattle.jg_rules.specs.Effects.{parts, after, is_effective, if_effective, call_threads, call_locals, call_monitors, value_threads, value_locals, started, deletes_local}

@@ -45,6 +45,3 @@ pub both_true : (a b : Bool) → not (a && b) ≡ false → (a ≡ true) × (b �
 both_true true true is = (refl, refl)
 both_true true false is = absurd cc
 both_true false b is = absurd cc
-
-pub same_number : (a b : ℕ) → (a == b) ≡ true → a ≡ b
-same_number a b is = grind (arith, nat_tests, is)

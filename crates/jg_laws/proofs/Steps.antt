@@ -36,6 +36,7 @@ use Rattle.jg_rules.specs.Buffers.{buffer_named, is_commit}
 use Rattle.jg_heap.specs.Spelling.{spelt}
 use Rattle.jg_heap.specs.Reading.{natural}
 use Rattle.jg_words.specs.declared.call.buffers.BuffersCall.{BuffersCall}
+use Rattle.jg_words.proofs.Common.{clash}
 use Rattle.jg_buffers.specs.declared.family.Family.TheVariants.{Elements, Chars, UtfChars, ArrayCritical, StringCritical}
 use Rattle.jg_rules.specs.Effects.{parts, after, started, deletes_local, call_globals, call_buffers, call_monitors, call_heap, call_links, done_by, done_if, is_effective, warning, value_heap, settled, closed, wrote_copy}
 use Rattle.jg_rules.specs.Rules.{verdict}
@@ -236,9 +237,6 @@ each_if P s steps false p t env call kept none old = old
 
 -- ---- events of the answer
 
-both_ways : (b : Bool) → b ≡ true → b ≡ false → ⊥
-both_ways b is other = cc
-
 settling : (P : Parts → Type 0) (s : StatedSetup) → Steps s P → (home : Option ℕ) (p q : Parts) (t : Tid) (call : Call) (value : Value) (warned : Bool) (o : Option ObjId)
     → IsProper s p t call value warned o → next_ref q t.0 ≡ next_ref p t.0 → opens_one (call_buffers s p t.0 call) ≡ false
     → P q → P (settled home t.0 (record { value = value; warned = false; noticed = false }) o q)
@@ -251,7 +249,7 @@ settling P s steps home p q t call (Reference (To Global maker n)) warned (Some 
 settling P s steps home p q t call (Reference (To Weak maker n)) warned (Some o) is same none old =
     subst (λ (m : Tid). P (record q { threads = threads.by t.0 threads.CountRef ∷ q.threads; globals = globals.MakeWeak m.0 n o.0 ∷ q.globals })) (sym is.1)
     (steps.hands_weak q t.0 n o.0 (is.2 ∙ sym same) old)
-settling P s steps home p q t call (Lent b) warned o is same none old = absurd (both_ways (opens_one (call_buffers s p t.0 call)) is.3 none)
+settling P s steps home p q t call (Lent b) warned o is same none old = absurd (clash (opens_one (call_buffers s p t.0 call)) is.3 none)
 settling P s steps home p q t call (Threw kind) warned None is same none old = absurd is
 settling P s steps home p q t call (Threw kind) warned (Some o) is same none old =
     steps.raises (record q { heap = value_heap (Threw kind) ++ q.heap }) t.0 o.0 (steps.to_heap q (value_heap (Threw kind)) (thrown_stated s kind) old)

@@ -1,6 +1,6 @@
 -- What each thread did, one event later, and rows counted by a key.
 use Rattle.std.proofs.Common.{◌≡◌, ◌≢◌, ◌+◌, ℕ, length, Bool, true, false, List, [], ◌∷◌, ◌++◌, Option, Some, None, refl, ◌∙◌, ap, subst, eqb, eqb-true, arith}
-use Rattle.std.specs.Prelude.{◌==◌, if◌then◌else◌, filter}
+use Rattle.std.specs.Prelude.{◌==◌, if◌then◌else◌, filter, map}
 use Rattle.std.specs.Map.{keys_of}
 use Rattle.std.specs.BTreeMap.{is_at}
 use Rattle.std.specs.Ordering.{nat_cmp, eq_by_cmp}
@@ -81,3 +81,8 @@ counted_by x passed h false later = later
 pub length-filter : {X : Type 0} (p : X → Bool) (xs : List X) → length (filter p xs) ≡ how_many p xs
 length-filter p [] = refl
 length-filter p (x ∷ xs) = counted_by x (filter p xs) (how_many p xs) (p x) (length-filter p xs)
+
+-- what another thread did, all at once, is not among one's own
+pub acts_others : {Act : Type 0} (t u : ℕ) (acts : List Act) (e : List (Event Act)) → t ≢ u → acts_of t (map (by u) acts ++ e) ≡ acts_of t e
+acts_others t u [] e differ = refl
+acts_others t u (a ∷ acts) e differ = acts_same t u a (map (by u) acts ++ e) differ ∙ acts_others t u acts e differ

@@ -1,6 +1,6 @@
 -- Lemmas on lists and tests.
-use Rattle.std.proofs.Common.{◌≡◌, ◌<◌, ◌+◌, ◌++◌, ℕ, zero, suc, get_or, Bool, true, false, List, [], ◌∷◌, Option, Some, None, refl, ◌∙◌, ap, sym, subst, arith, inl, inr}
-use Rattle.std.specs.Prelude.{All, ◌⊎◌, ◌||◌, if◌then◌else◌, filter, find, map, slice_set}
+use Rattle.std.proofs.Common.{◌≡◌, ◌<◌, ◌≤◌, ◌+◌, ◌++◌, length, ℕ, zero, suc, get_or, Bool, true, false, List, [], ◌∷◌, Option, Some, None, refl, ◌∙◌, ap, sym, subst, arith, inl, inr}
+use Rattle.std.specs.Prelude.{All, ◌⊎◌, ◌&&◌, ◌||◌, if◌then◌else◌, filter, find, map, slice_set}
 use Rattle.std.specs.List.{list_any, range_with_len, swap, AllByRecursion}
 use Rattle.std.specs.List.Sorted.{IsPermutation, apply_swaps, SwapsInRange}
 use Rattle.std.specs.Option.{option_map}
@@ -9,11 +9,8 @@ use Rattle.std.proofs.lemmas.List.{length-map, map-id, map-set}
 use Rattle.std.proofs.lemmas.List.Folds.{list_any-append}
 use Rattle.std.proofs.lemmas.List.FromFn.{map-range_with_len_more}
 use Rattle.std.proofs.Math.ListN.{get_or-map}
-use Rattle.jg_lists.proofs.Marks.{or_false}
-
-pub none_either : (a b : Bool) → (a || b) ≡ false → (a ≡ false) × (b ≡ false)
-none_either true b none = cc
-none_either false b none = (refl, none)
+use Rattle.std.proofs.Math.Bool.{or-false}
+use Rattle.jg_lists.specs.Acts.{how_many}
 
 pub filter_swap : {X : Type 0} (p q : X → Bool) (xs : List X) → filter p (filter q xs) ≡ filter q (filter p xs)
 filter_swap p q [] = refl
@@ -92,15 +89,6 @@ any_of_filter p q (x ∷ xs) is =
     let tail = any_of_filter p q xs in
     grind (arith, nat_tests, tail)
 
-same_answers : (a b : Bool) → (a ≡ true → b ≡ true) → (b ≡ true → a ≡ true) → a ≡ b
-same_answers true b there back = sym (there refl)
-same_answers false true there back = back refl
-same_answers false false there back = refl
-
--- two answers are equal where each is yes if the other is
-pub both_ways : (a b : Bool) → (a ≡ true → b ≡ true) → (b ≡ true → a ≡ true) → a ≡ b
-both_ways a b there back = same_answers a b there back
-
 -- what holds of all that is made of the items is said of the items
 pub all_mapped : {X Y : Type 0} (f : X → Y) (P : Y → Type 0) (xs : List X) → All P (map f xs) → All (λ x. P (f x)) xs
 all_mapped f P xs all i d inside = subst P (get_or-map f xs i d) (all i (f d) (simp length-map inside))
@@ -113,7 +101,7 @@ range_more a n =
     sym (map-id (range_with_len a (n + 1))) ∙ map-range_with_len_more (λ (o : ℕ). o) a n (a + n) refl ∙ ap (λ (os : List ℕ). os ++ (a + n) ∷ []) (map-id (range_with_len a n))
 
 pub any_more : (p : ℕ → Bool) (a n : ℕ) → list_any p (range_with_len a (n + 1)) ≡ (list_any p (range_with_len a n) || p (a + n))
-any_more p a n = ap (list_any p) (range_more a n) ∙ list_any-append p (range_with_len a n) ((a + n) ∷ []) ∙ ap (λ b. list_any p (range_with_len a n) || b) (or_false (p (a + n)))
+any_more p a n = ap (list_any p) (range_more a n) ∙ list_any-append p (range_with_len a n) ((a + n) ∷ []) ∙ ap (λ b. list_any p (range_with_len a n) || b) (or-false (p (a + n)))
 
 -- two tests that agree on numbers in a row
 pub any_agree : (p q : ℕ → Bool) (a n : ℕ) → ((o : ℕ) → o < a + n → p o ≡ q o) → list_any p (range_with_len a n) ≡ list_any q (range_with_len a n)
@@ -142,3 +130,46 @@ module _ {X Y : Type 0} (f : X → Y) where
     below = subst (λ n. SwapsInRange n other.moves) (sym (length-map xs f)) other.below;
     is = ap (map f) other.is ∙ map_swaps xs other.moves;
   }
+
+-- ---- what every list keeps
+
+pub each_member : {X : Type 0} (P : X → Type 0) (xs : List X) → ((x : X) → Member x xs → P x) → AllByRecursion P xs
+each_member P [] each = tt
+each_member P (x ∷ xs) each = (each x (inl refl), each_member P xs (λ y there. each y (inr there)))
+
+pub length-filter-most : {X : Type 0} (p : X → Bool) (xs : List X) → length (filter p xs) ≤ length xs
+length-filter-most p [] = omega arith
+length-filter-most p (x ∷ xs) = by (p x) (length-filter-most p xs)
+  where
+    by : (b : Bool) → length (filter p xs) ≤ length xs → length (if b then x ∷ filter p xs else filter p xs) ≤ length (x ∷ xs)
+    by true most = omega (arith, most)
+    by false most = omega (arith, most)
+
+pub how_many-map : {X Y : Type 0} (p : Y → Bool) (f : X → Y) (xs : List X) → how_many p (map f xs) ≡ how_many (λ x. p (f x)) xs
+how_many-map p f [] = refl
+how_many-map p f (x ∷ xs) = ap (λ n. if p (f x) then n + 1 else n) (how_many-map p f xs)
+
+pub how_many-most : {X : Type 0} (p : X → Bool) (xs : List X) → how_many p xs ≤ length xs
+how_many-most p [] = omega arith
+how_many-most p (x ∷ xs) = by (p x) (how_many-most p xs)
+  where
+    by : (b : Bool) → how_many p xs ≤ length xs → (if b then how_many p xs + 1 else how_many p xs) ≤ length (x ∷ xs)
+    by true most = omega (arith, most)
+    by false most = omega (arith, most)
+
+pub find-filter : {X : Type 0} (p : X → Bool) (xs : List X) → find p xs ≡ first (filter p xs)
+find-filter p [] = refl
+find-filter p (x ∷ xs) = rw (find-filter p xs) (elim (p x) as (λ b. (if b then Some x else first (filter p xs)) ≡ first (if b then x ∷ filter p xs else filter p xs)) [ true ↦ refl | false ↦ refl ])
+
+pub any_filter : {X : Type 0} (p q : X → Bool) (xs : List X) → list_any p (filter q xs) ≡ list_any (λ x. q x && p x) xs
+any_filter p q [] = refl
+any_filter p q (x ∷ xs) = by (q x) (any_filter p q xs)
+  where
+    by : (b : Bool) → list_any p (filter q xs) ≡ list_any (λ x. q x && p x) xs
+        → list_any p (if b then x ∷ filter q xs else filter q xs) ≡ ((b && p x) || list_any (λ x. q x && p x) xs)
+    by true e = ap (λ r. p x || r) e
+    by false e = e
+
+pub any_same : {X : Type 0} (p q : X → Bool) (xs : List X) → ((x : X) → p x ≡ q x) → list_any p xs ≡ list_any q xs
+any_same p q [] alike = refl
+any_same p q (x ∷ xs) alike = rw (alike x, any_same p q xs alike) refl

@@ -9,15 +9,8 @@ use Rattle.std.proofs.lemmas.List.Folds.{list_any_more}
 use Rattle.std.proofs.lemmas.Bool.{cases_lt}
 use Rattle.std.proofs.Math.Seq.{take-set-lt}
 use Rattle.std.proofs.lemmas.Option.{get_or_from_slice_get, slice_get_past, slice_get-get_or}
+use Rattle.std.proofs.Math.Bool.{or-false, or-true}
 use Rattle.jg_lists.specs.Marks.{Marks, but_last, marks_in}
-
-pub or_false : (b : Bool) → (b || false) ≡ b
-or_false true = refl
-or_false false = refl
-
-or_true : (b : Bool) → (b || true) ≡ true
-or_true true = refl
-or_true false = refl
 
 or_assoc : (a b c : Bool) → ((a || b) || c) ≡ (a || (b || c))
 or_assoc true b c = refl
@@ -26,10 +19,10 @@ or_assoc false b c = refl
 set_at : (marks : List Bool) (i o : ℕ) (b : Bool) → (i == o) ≡ b → o < length marks → get_or (slice_set marks i true) o false ≡ (get_or marks o false || b)
 set_at marks i o true is within =
     let same : i ≡ o = grind (arith, nat_tests) in
-    rw (same, get_or-set_same marks o true false within, or_true (get_or marks o false)) refl
+    rw (same, get_or-set_same marks o true false within, or-true (get_or marks o false)) refl
 set_at marks i o false is within =
     let apart : o ≢ i = grind (arith, nat_tests) in
-    rw (get_or-set_other marks i o true false apart, or_false (get_or marks o false)) refl
+    rw (get_or-set_other marks i o true false apart, or-false (get_or marks o false)) refl
 
 within_or_past : (marks : List Bool) (i o : ℕ) → (o < length marks) ⊎ (length marks ≤ o) → slice_get (slice_set marks i true) o ≡ option_map (λ mark. mark || i == o) (slice_get marks o)
 within_or_past marks i o (inl within) =
@@ -49,7 +42,7 @@ marked_twice a b (Some m) = ap Some (or_assoc m a b)
 
 same_mark : (mark : Option Bool) → mark ≡ option_map (λ m. m || false) mark
 same_mark None = refl
-same_mark (Some m) = ap Some (sym (or_false m))
+same_mark (Some m) = ap Some (sym (or-false m))
 
 -- none is set
 pub marks_stay : (marks : ℕ → Option Bool) → Marks (λ o. false) marks marks
@@ -68,7 +61,7 @@ noted turns turn i =
 
 unset_at : (mark : Option Bool) (b : Bool) → b ≡ false → mark ≡ option_map (λ m. m || b) mark
 unset_at None b unset = refl
-unset_at (Some m) b unset = rw (unset, or_false m) refl
+unset_at (Some m) b unset = rw (unset, or-false m) refl
 
 without_mark : (mark : Option Bool) (b : Bool) → mark ≡ None → mark ≡ option_map (λ m. m || b) mark
 without_mark mark b none = rw none refl

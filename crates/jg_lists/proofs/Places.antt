@@ -1,16 +1,13 @@
 -- Values found by their number's own place.
-use Rattle.std.proofs.Common.{◌≡◌, ◌≢◌, ◌<◌, ◌≤◌, ◌+◌, ◌-◌, length, get_or, ℕ, zero, suc, false, List, [], ◌∷◌, ◌++◌, Option, Some, None, refl, ◌∙◌, sym, ap, subst, arith, inl, inr, ◌⊎◌}
+use Rattle.std.proofs.Common.{◌≡◌, ◌≢◌, ◌<◌, ◌≤◌, ◌+◌, ◌-◌, length, get_or, ℕ, zero, suc, List, [], ◌∷◌, ◌++◌, Option, Some, None, refl, ◌∙◌, sym, ap, subst, arith, inl, inr, ◌⊎◌}
 use Rattle.std.specs.Prelude.{IsPermutation, IsSome, map, slice_set}
 use Rattle.std.specs.List.{IsDistinct, SwappedAt, swap, swap_remove}
 use Rattle.std.specs.Map.{set_value}
 use Rattle.std.specs.BTreeMap.{is_at}
 use Rattle.std.specs.Ordering.{nat_cmp, eq_by_cmp}
 use Rattle.std.proofs.lemmas.Bool.{cases_eq, cases_lt}
-use Rattle.std.proofs.lemmas.Bool.Decides.{nat_tests}
 use Rattle.std.proofs.lemmas.List.{get_or-map, get_or-set_same, get_or-set_other, get_or_append_left, get_or_past, length-append, length-map, length-set, map-append}
 use Rattle.std.proofs.Math.Seq.{get_or-append_seam}
-use Rattle.std.proofs.lemmas.Grind.{get_or_default_zero}
-use Rattle.std.proofs.lemmas.Map.Keys.{IsDistinct-from_apart}
 use mathlib.Core.List.{map-map}
 use Rattle.jg_lists.specs.declared.by_number.Numbered.{Numbered}
 use Rattle.jg_lists.specs.ByThread.{at, IsOnce}
@@ -19,26 +16,8 @@ use Rattle.jg_lists.specs.ByPlace.{Placed, IsSeatOf, Swaps}
 use Rattle.std.proofs.lemmas.List.Sorted.{IsPermutation-swap, length_permutation}
 use Rattle.jg_lists.proofs.Lists.{map-IsPermutation}
 use Rattle.jg_lists.proofs.Values.{moved_at}
-use Rattle.jg_lists.proofs.Numbers.{IsWithout}
-use Rattle.jg_lists.proofs.Seats.{seat_found, not_there, set_in, same_numbers, keys_seen, within_view, last_number, seats_without, pairs_less}
-
-apart : (x y : ℕ) → x ≢ y → eq_by_cmp nat_cmp x y ≡ false
-apart x y differ = grind (arith, nat_tests)
-
--- two seats of one number would have one place
-numbers_apart : (places numbers : List ℕ) → Placed places numbers → (i j d : ℕ) → i < j → j < length numbers → eq_by_cmp nat_cmp (get_or numbers i d) (get_or numbers j d) ≡ false
-numbers_apart places numbers placed i j d before within =
-    let one : get_or numbers i d ≡ get_or numbers i 0 = get_or_default_zero numbers i d (omega (arith, before, within)) in
-    let other : get_or numbers j d ≡ get_or numbers j 0 = get_or_default_zero numbers j d within in
-    let first : get_or places (get_or numbers i 0) 0 ≡ i + 1 = placed.found i (omega (arith, before, within)) in
-    let last : get_or places (get_or numbers j 0) 0 ≡ j + 1 = placed.found j within in
-    apart (get_or numbers i d) (get_or numbers j d) (λ same.
-    let alike : get_or numbers i 0 ≡ get_or numbers j 0 = sym one ∙ same ∙ other in
-    let both : i + 1 ≡ j + 1 = sym first ∙ ap (λ n. get_or places n 0) alike ∙ last in
-    omega (arith, both, before))
-
-numbers_once : (places numbers : List ℕ) → Placed places numbers → IsDistinct (eq_by_cmp nat_cmp) numbers
-numbers_once places numbers placed = IsDistinct-from_apart (eq_by_cmp nat_cmp) numbers (numbers_apart places numbers placed)
+use Rattle.jg_lists.proofs.Numbers.{IsWithout, numbers_once}
+use Rattle.jg_lists.proofs.Seats.{seat_found, not_there, set_in, same_numbers, keys_seen, within_view, last_number, seats_without, pairs_less, some_none}
 
 pub placed_none : Placed [] []
 placed_none = record {
@@ -212,9 +191,6 @@ placed_swapped old new numbers moved i j i_in j_in placed seats same places = re
         (omega (arith, was.0, same), seats.others k 0 first second ∙ was.1)
 
 -- ---- seats
-
-some_none : {V : Type 0} {v : V} → Some v ≡ None → ⊥
-some_none is = cc
 
 by_place : {V : Type 0} (place : ℕ) (value : Option V) → IsSome value → (0 ≡ place → value ≡ None) → 1 ≤ place
 by_place zero (Some v) some none = absurd (some_none (none refl))

@@ -22,7 +22,7 @@ use Rattle.jg_lists.proofs.Numbers.{numbers_once, placed_one, IsWithout, without
 apart : (x y : ℕ) → x ≢ y → is_at (nat_cmp y) x ≡ false
 apart x y differ = grind (arith, nat_tests)
 
-some_none : {V : Type 0} {v : V} → Some v ≡ None → ⊥
+pub some_none : {V : Type 0} {v : V} → Some v ≡ None → ⊥
 some_none is = cc
 
 misses_each : (slots numbers : List ℕ) (n : ℕ) → Placed slots numbers → Misses slots numbers n → (i : ℕ) → i < length numbers → get_or numbers i 0 ≢ n

@@ -138,10 +138,6 @@ set_none (e ∷ es) t w none =
     set_past e es (set_value (is_at (nat_cmp t)) es w) w (is_at (nat_cmp t) e.0) (none_head (at t es) e.1 (is_at (nat_cmp t) e.0) none)
     (set_none es t w (none_tail (at t es) e.1 (is_at (nat_cmp t) e.0) none))
 
-pub absent : {V : Type 0} (value : Option V) → is_some value ≡ false → value ≡ None
-absent None is = refl
-absent (Some v) is = cc
-
 pub some_there : {V : Type 0} (value : Option V) → is_some value ≡ true → IsSome value
 some_there None is = cc
 some_there (Some v) is = refl

@@ -28,3 +28,7 @@ moments (a ∷ later) before = record { act = a; before = later ++ before } ∷ 
 abbrev pub how_many : {X : Type 0} → (X → Bool) → List X → ℕ
 how_many kind [] = 0
 how_many kind (x ∷ xs) = if kind x then how_many kind xs + 1 else how_many kind xs
+
+-- how often a thing stands that does or doesn't hold
+abbrev pub once_if : Bool → ℕ
+once_if b = if b then 1 else 0

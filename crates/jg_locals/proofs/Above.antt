@@ -1,7 +1,6 @@
 -- Numbers above those that were made, and above those that are live.
-use Rattle.std.proofs.Common.{◌≡◌, ℕ, ◌<◌, Bool, true, false, List, [], ◌∷◌, ◌++◌, Option, Some, None, refl, sym, subst, arith, inl, inr}
+use Rattle.std.proofs.Common.{◌≡◌, ℕ, ◌<◌, Bool, true, false, List, [], ◌∷◌, ◌++◌, Option, Some, None, refl, sym, subst, arith, inl}
 use Rattle.std.specs.Prelude.{All, IsSome, IsTrue, ◌↔◌}
-use Rattle.std.specs.List.{AllByRecursion}
 use Rattle.std.proofs.lemmas.Bool.Decides.{nat_tests}
 use Rattle.std.proofs.lemmas.List.Elements.{All-from_recursion, recursion_from_All}
 use Rattle.jg_locals.specs.History.{Act, Start, Make, Push, Ensure, Enter, Delete, Pop, Leave, End, Event, acts_of, has_session, frames, Making, making, local_if_live, Local, live_local, object_of, live, IsMadeBelow}
@@ -11,7 +10,7 @@ use Rattle.jg_locals.specs.Standing.{AllAllowed, rows_of_local, Stands}
 use Rattle.jg_locals.proofs.LocalSteps.{making_splits}
 use Rattle.jg_locals.proofs.Lives.{live_was_made}
 use Rattle.jg_locals.proofs.Lookups.{no_pushes}
-use Rattle.jg_lists.proofs.Lists.{Member, member_filter, member_filtered, at_member}
+use Rattle.jg_lists.proofs.Lists.{Member, member_filter, member_filtered, at_member, each_member}
 use Rattle.jg_locals.proofs.Tops.{top_told}
 
 -- a thread with a session has a frame
@@ -44,10 +43,6 @@ found_below t n k acts row (Some made) is below m =
     let P : List Act → Type 0 = λ xs. IsMadeBelow n xs in
     made_before n k made.object made.before made.later (subst P (making_splits k acts made is) below)
 
-all_members : {X : Type 0} (P : X → Type 0) (xs : List X) → ((x : X) → Member x xs → P x) → AllByRecursion P xs
-all_members P [] each = tt
-all_members P (x ∷ xs) each = (each x (inl refl), all_members P xs (λ y m. each y (inr m)))
-
 row_below : (rows : Rows) (e : List Event) (t n : ℕ) → Stands rows e → IsMadeBelow n (acts_of t e) → (row : LocalRow) → Member row rows.locals → row.tid ≡ t → row.n < n
 row_below rows e t n stands below row m mine =
     let own : is_local t row.n row ≡ true = grind (arith, nat_tests) in
@@ -58,7 +53,7 @@ row_below rows e t n stands below row m mine =
 
 -- a number above all that were made is above all that are live
 pub above_rows : (rows : Rows) (e : List Event) (t n : ℕ) → Stands rows e → IsMadeBelow n (acts_of t e) → All (λ row. row.tid ≡ t → row.n < n) rows.locals
-above_rows rows e t n stands below = All-from_recursion _ _ (all_members _ rows.locals (row_below rows e t n stands below))
+above_rows rows e t n stands below = All-from_recursion _ _ (each_member _ rows.locals (row_below rows e t n stands below))
 
 live_of_row : (t k : ℕ) (row : LocalRow) (found : Option Local) → Member row (rows_of_local t found) → IsSome (object_of found)
 live_of_row t k row None m = absurd m
@@ -92,7 +87,7 @@ pub above_live : (rows : Rows) (e : List Event) (t n : ℕ) (b : Bool) → Stand
     → IsTrue b ↔ ((k : ℕ) → IsSome (live k (acts_of t e)) → k < n)
 above_live rows e t n b stands test = (
   (λ is k some. live_below rows e t n k stands (test.0 is) some),
-  (λ each. test.1 (All-from_recursion _ _ (all_members _ rows.locals (below_live rows e t n stands each)))),
+  (λ each. test.1 (All-from_recursion _ _ (each_member _ rows.locals (below_live rows e t n stands each)))),
 )
 
 -- a live local was made, so its number is below

@@ -1,9 +1,10 @@
 -- Each frame's count is that of the live locals made in it, whatever is done.
-use Rattle.std.proofs.Common.{◌≡◌, ℕ, suc, ◌+◌, ◌≤◌, length, Bool, true, false, List, [], ◌∷◌, ◌++◌, Some, refl, ◌∙◌, ap, sym, arith}
+use Rattle.std.proofs.Common.{◌≡◌, ℕ, ◌+◌, ◌≤◌, length, Bool, true, false, List, [], ◌∷◌, ◌++◌, Some, refl, ◌∙◌, ap, sym, arith}
 use Rattle.std.specs.Prelude.{◌==◌, ◌&&◌, not, if◌then◌else◌, filter, map}
 use Rattle.std.specs.List.{AllByRecursion}
 use Rattle.std.proofs.lemmas.Bool.Decides.{nat_tests}
 use Rattle.jg_lists.specs.Acts.{how_many}
+use Rattle.jg_lists.proofs.Lists.{length-filter-most, how_many-most}
 use Rattle.jg_locals.specs.declared.row.LocalSlot.{LocalSlot}
 use Rattle.jg_locals.specs.declared.row.Frame.{Frame}
 use Rattle.jg_locals.specs.declared.row.Opened.{Opened}
@@ -116,23 +117,7 @@ counted_set live room d k (o ∷ os) counted = (room_at live room d k o (is_fram
 
 -- ---- counts are small
 
-count-most : {X : Type 0} (p : X → Bool) (xs : List X) → how_many p xs ≤ length xs
-count-most p [] = omega arith
-count-most p (x ∷ xs) = at (p x) (how_many p xs) (length xs) (count-most p xs)
-  where
-    at : (b : Bool) (a c : ℕ) → a ≤ c → (if b then a + 1 else a) ≤ suc c
-    at true a c le = omega (arith, le)
-    at false a c le = omega (arith, le)
-
-filter-most : {X : Type 0} (p : X → Bool) (xs : List X) → length (filter p xs) ≤ length xs
-filter-most p [] = omega arith
-filter-most p (x ∷ xs) = at x (filter p xs) (length xs) (p x) (filter-most p xs)
-  where
-    at : {X : Type 0} (x : X) (ys : List X) (n : ℕ) (b : Bool) → length ys ≤ n → length (if b then x ∷ ys else ys) ≤ suc n
-    at x ys n true le = omega (arith, le)
-    at x ys n false le = omega (arith, le)
-
 pub counted_most : (slots : List LocalSlot) (os : List Opened) → Counted (filter is_live slots) os → AllByRecursion (λ o. o.held ≤ length slots) os
 counted_most slots os counted =
     each-map (λ o. o.held ≡ how_many (λ s. is_in s o.frame) (filter is_live slots)) (λ o. o.held ≤ length slots)
-    (λ o is. omega (arith, is, count-most (λ s. is_in s o.frame) (filter is_live slots), filter-most is_live slots)) os counted
+    (λ o is. omega (arith, is, how_many-most (λ s. is_in s o.frame) (filter is_live slots), length-filter-most is_live slots)) os counted

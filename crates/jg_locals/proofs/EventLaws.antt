@@ -184,12 +184,12 @@ open_frames-ensure : (t c : ℕ) (acts : List Act) → has_session acts ≡ true
     ≡ open_frames t (Ensure c ∷ acts)
 open_frames-ensure t c acts is = rw is (rows_up_to-ensure t (depth acts) c acts)
 
-other_raised : (t d k room : ℕ) (row : FrameRow) → row.tid ≢ t → raised t d k room row ≡ row
+pub other_raised : (t d k room : ℕ) (row : FrameRow) → row.tid ≢ t → raised t d k room row ≡ row
 other_raised t d k room row differ =
     let fails : (row.tid == t && (row.depth == d && row.frame == k)) ≡ false = grind (arith, nat_tests) in
     rw fails refl
 
-same_tid : (t d k room : ℕ) (row : FrameRow) → (raised t d k room row).tid ≡ row.tid
+pub same_tid : (t d k room : ℕ) (row : FrameRow) → (raised t d k room row).tid ≡ row.tid
 same_tid t d k room row = elim (row.tid == t && (row.depth == d && row.frame == k)) as (λ b. (if b then record row { room = room } else row).tid ≡ row.tid) [ true ↦ refl | false ↦ refl ]
 
 -- the room that EnsureLocalCapacity makes the frame's, as its row and the rows of locals tell it

@@ -1,5 +1,5 @@
 -- The first live local of an object, over all stacks.
-use Rattle.std.proofs.Common.{◌≡◌, ◌<◌, ◌+◌, ℕ, Bool, true, false, cond, List, [], ◌∷◌, ◌++◌, Option, Some, None, length, get_or, drop, inl, inr, refl, ◌∙◌, ap, sym, subst, arith, eqb-true}
+use Rattle.std.proofs.Common.{◌≡◌, ◌<◌, ◌+◌, ℕ, Bool, true, false, cond, List, [], ◌∷◌, ◌++◌, Option, Some, None, length, get_or, drop, refl, ◌∙◌, ap, sym, subst, arith, eqb-true}
 use Rattle.std.specs.Prelude.{◌==◌, ◌&&◌, if◌then◌else◌, IfSome, filter, find, map}
 use Rattle.std.specs.Option.{option_map, option_or, is_some}
 use Rattle.std.proofs.lemmas.Bool.Decides.{nat_tests}
@@ -11,7 +11,7 @@ use Rattle.jg_lists.proofs.Found.{found_in, is_found, any_found}
 use Rattle.jg_lists.proofs.Lists.{Member, member_filter}
 use Rattle.jg_locals.specs.declared.row.LocalSlot.{LocalSlot}
 use Rattle.jg_locals.specs.History.{Event, acts_of, live_local, live, holds_object}
-use Rattle.jg_locals.specs.Rows.{LocalRow, Rows, is_local}
+use Rattle.jg_locals.specs.Rows.{LocalRow, is_local}
 use Rattle.jg_locals.specs.Seen.{StackRows, gather, locals_of, local_row, rows_seen, is_live}
 use Rattle.jg_locals.specs.Standing.{Stands}
 use Rattle.jg_locals.proofs.Held.{live_of_member, holds_law}

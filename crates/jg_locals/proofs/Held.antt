@@ -3,6 +3,7 @@ use Rattle.std.proofs.Common.{◌≡◌, ℕ, Bool, true, false, List, [], ◌�
 use Rattle.std.specs.Prelude.{◌==◌, IsTrue, ◌↔◌}
 use Rattle.std.specs.List.{list_any}
 use Rattle.std.proofs.lemmas.Bool.Decides.{nat_tests}
+use Rattle.core.specs.Cmp.{both_ways}
 use Rattle.jg_locals.specs.History.{Act, Start, Make, Push, Ensure, Enter, Delete, Pop, Leave, End, Event, acts_of, Local, live_local, object_of, live, is_object, makes_live, holds_object}
 use Rattle.jg_locals.specs.Rows.{LocalRow}
 use Rattle.jg_locals.specs.Rows.{Rows, is_local}
@@ -99,14 +100,9 @@ held_means e o = (
       any_act (λ ev. makes_live o (acts_of ev.tid e) ev.act) some.0 (Make some.1 o) e made.0 made.1 made.2 (λ v mine act. makes_it o some.0 some.1 e v some.2 mine act)),
 )
 
-same_truth : (a b : Bool) → (a ≡ true → b ≡ true) → (b ≡ true → a ≡ true) → a ≡ b
-same_truth true b there back = sym (there refl)
-same_truth false true there back = back refl
-same_truth false false there back = refl
-
 -- the rows tell which objects are held
 pub holds_law : (rows : Rows) (e : List Event) (o : ℕ) → Stands rows e → list_any (λ row. row.object == o) rows.locals ≡ holds_object e o
 holds_law rows e o stands =
     let by_rows = rows_hold rows e o stands in
     let by_events = held_means e o in
-    same_truth _ _ (λ is. by_events.1 (by_rows.0 is)) (λ is. by_rows.1 (by_events.0 is))
+    both_ways _ _ (λ is. by_events.1 (by_rows.0 is)) (λ is. by_rows.1 (by_events.0 is))

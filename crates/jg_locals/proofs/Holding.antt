@@ -3,8 +3,8 @@ use Rattle.std.proofs.Common.{◌≡◌, ℕ, ◌+◌, Bool, true, false, List, 
 use Rattle.std.specs.Prelude.{◌==◌, ◌&&◌, not, if◌then◌else◌, filter, IsSome}
 use Rattle.std.specs.List.{AllByRecursion}
 use Rattle.std.proofs.lemmas.Bool.Decides.{nat_tests}
-use Rattle.jg_lists.specs.Acts.{how_many}
-use Rattle.jg_lists.proofs.Lists.{Member, member_filter, member_filtered}
+use Rattle.jg_lists.specs.Acts.{how_many, once_if}
+use Rattle.jg_lists.proofs.Lists.{Member, member_filter, member_filtered, each_member}
 use Rattle.jg_locals.specs.History.{Act, Start, Make, Push, Ensure, Enter, Delete, Pop, Leave, End, Event, acts_of, has_session, Making, making, seen_after, Local, local_if_live, live_local}
 use Rattle.jg_locals.specs.Room.{numbers, is_made_in, held}
 use Rattle.jg_locals.specs.Rows.{LocalRow, FrameRow, Rows, is_local, is_of_frame}
@@ -22,14 +22,11 @@ total_alike : (f g : ℕ → ℕ) (ns : List ℕ) → AllByRecursion (λ n. f n 
 total_alike f g [] all = refl
 total_alike f g (n ∷ ns) all = rw (all.0, total_alike f g ns all.1) refl
 
-abbrev one_where : Bool → ℕ
-one_where b = if b then 1 else 0
-
-total_ones : (q : ℕ → Bool) (ns : List ℕ) → total (λ n. one_where (q n)) ns ≡ how_many q ns
+total_ones : (q : ℕ → Bool) (ns : List ℕ) → total (λ n. once_if (q n)) ns ≡ how_many q ns
 total_ones q [] = refl
-total_ones q (n ∷ ns) = at (q n) (total (λ n. one_where (q n)) ns) (how_many q ns) (total_ones q ns)
+total_ones q (n ∷ ns) = at (q n) (total (λ n. once_if (q n)) ns) (how_many q ns) (total_ones q ns)
   where
-    at : (b : Bool) (x y : ℕ) → x ≡ y → one_where b + x ≡ (if b then y + 1 else y)
+    at : (b : Bool) (x y : ℕ) → x ≡ y → once_if b + x ≡ (if b then y + 1 else y)
     at true x y same = omega (arith, same)
     at false x y same = omega (arith, same)
 
@@ -150,10 +147,6 @@ found_made : (t n : ℕ) (row : LocalRow) (found : Option Making) → Member row
 found_made t n row None m = absurd m
 found_made t n row (Some made) m = refl
 
-all_members : {X : Type 0} (P : X → Type 0) (xs : List X) → ((x : X) → Member x xs → P x) → AllByRecursion P xs
-all_members P [] each = tt
-all_members P (x ∷ xs) each = (each x (inl refl), all_members P xs (λ y m. each y (inr m)))
-
 own_row : (rows : Rows) (e : List Event) (t : ℕ) → Stands rows e → (row : LocalRow) → Member row (filter (λ row. row.tid == t) rows.locals) → Member row.n (numbers (acts_of t e))
 own_row rows e t stands row m =
     let kept = member_filtered (λ (row : LocalRow). row.tid == t) row rows.locals m in
@@ -168,11 +161,11 @@ own_row rows e t stands row m =
 abbrev is_within : ℕ → ℕ → LocalRow → Bool
 is_within d k row = row.depth == d && row.frame == k
 
-one_local : (t d k : ℕ) (found : Option Local) → how_many (is_within d k) (rows_of_local t found) ≡ one_where (is_made_in d k found)
+one_local : (t d k : ℕ) (found : Option Local) → how_many (is_within d k) (rows_of_local t found) ≡ once_if (is_made_in d k found)
 one_local t d k None = refl
 one_local t d k (Some l) = at (l.depth == d && l.frame == k)
   where
-    at : (b : Bool) → (if b then 0 + 1 else 0) ≡ one_where b
+    at : (b : Bool) → (if b then 0 + 1 else 0) ≡ once_if b
     at true = refl
     at false = refl
 
@@ -188,9 +181,9 @@ pub held_told : (rows : Rows) (e : List Event) (f : FrameRow) → Stands rows e 
 held_told rows e f stands =
     let own = filter (λ (row : LocalRow). row.tid == f.tid) rows.locals in
     let ns = numbers (acts_of f.tid e) in
-    let each = counted (is_within f.depth f.frame) ns own (numbers_apart (acts_of f.tid e)) (all_members (λ row. Member row.n ns) own (own_row rows e f.tid stands)) in
-    let same = total_alike (λ n. how_many (is_within f.depth f.frame) (filter (λ row. row.n == n) own)) (λ n. one_where (is_made_in f.depth f.frame (live_local n (acts_of f.tid e)))) ns
-    (all_members _ ns (λ n m. ap (how_many (is_within f.depth f.frame)) (own_number f.tid n rows.locals ∙ stands.locals f.tid n) ∙ one_local f.tid f.depth f.frame (live_local n (acts_of f.tid e)))) in
+    let each = counted (is_within f.depth f.frame) ns own (numbers_apart (acts_of f.tid e)) (each_member (λ row. Member row.n ns) own (own_row rows e f.tid stands)) in
+    let same = total_alike (λ n. how_many (is_within f.depth f.frame) (filter (λ row. row.n == n) own)) (λ n. once_if (is_made_in f.depth f.frame (live_local n (acts_of f.tid e)))) ns
+    (each_member _ ns (λ n m. ap (how_many (is_within f.depth f.frame)) (own_number f.tid n rows.locals ∙ stands.locals f.tid n) ∙ one_local f.tid f.depth f.frame (live_local n (acts_of f.tid e)))) in
     count-filter (is_within f.depth f.frame) (λ row. row.tid == f.tid) rows.locals ∙ (each ∙ (same ∙ total_ones (λ n. is_made_in f.depth f.frame (live_local n (acts_of f.tid e))) ns))
 
 none_held : (d k : ℕ) (acts : List Act) (ns : List ℕ) → AllAllowed acts → has_session acts ≡ false → how_many (λ n. is_made_in d k (live_local n acts)) ns ≡ 0

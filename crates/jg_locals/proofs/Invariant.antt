@@ -6,6 +6,7 @@ use Rattle.std.proofs.lemmas.Bool.Decides.{nat_tests}
 use Rattle.std.proofs.lemmas.List.Elements.{All-from_recursion, recursion_from_All}
 use Rattle.std.proofs.lemmas.List.Folds.{list_any-append}
 use Rattle.std.proofs.lemmas.Map.Views.{any-filter_same}
+use Rattle.jg_words.proofs.Common.{list_any-front}
 use Rattle.jg_locals.specs.declared.row.LocalSlot.{LocalSlot}
 use Rattle.jg_locals.specs.declared.row.Frame.{Frame}
 use Rattle.jg_locals.specs.Seen.{last, Chain, is_live, is_in, is_below, is_up_to, is_before, is_under, is_same_frame, stays, passes, Sound, Kept, slot_made, IsNext}
@@ -105,14 +106,11 @@ next_by frames f (Some h) chain is next = chain-last is_under (λ g. is_under g 
 pub next_frames : (frames : List Frame) (f : Frame) → Chain is_under frames → IsNext (last frames) f → AllByRecursion (λ g. is_under g f ≡ true) frames
 next_frames frames f chain next = next_by frames f (last frames) chain refl next
 
-any_more : {X : Type 0} (p : X → Bool) (xs ys : List X) → list_any p xs ≡ true → list_any p (xs ++ ys) ≡ true
-any_more p xs ys is = rw (list_any-append, is) refl
-
 pub open_kept : (slots : List LocalSlot) (frames : List Frame) (f : Frame) → Kept slots frames → IsNext (last frames) f → Kept slots (frames ++ f ∷ [])
 open_kept slots frames f kept next = record {
   sound = record {
     rises = kept.sound.rises;
-    inside = each-map (λ s. list_any (is_in s) frames ≡ true) (λ s. list_any (is_in s) (frames ++ f ∷ []) ≡ true) (λ s any. any_more (is_in s) frames (f ∷ []) any) slots kept.sound.inside;
+    inside = each-map (λ s. list_any (is_in s) frames ≡ true) (λ s. list_any (is_in s) (frames ++ f ∷ []) ≡ true) (λ s any. list_any-front (is_in s) frames (f ∷ []) any) slots kept.sound.inside;
   };
   opened = chain-push is_under frames f kept.opened (next_by frames f (last frames) kept.opened refl next);
   ends = kept.ends;

@@ -5,6 +5,7 @@ use Rattle.std.specs.List.{AllByRecursion}
 use Rattle.std.specs.Option.{is_some, option_map}
 use Rattle.std.proofs.lemmas.Bool.Decides.{nat_tests}
 use Rattle.std.proofs.lemmas.List.Elements.{recursion_from_All}
+use Rattle.jg_lists.proofs.Lists.{find-filter, first}
 use Rattle.jg_locals.specs.History.{Act, Start, Make, Push, Ensure, Enter, Delete, Pop, Leave, End, Event, acts_of, has_session, session, depth, how_many, is_enter, is_push, done_at, frames, Local, live_local, object_of, live}
 use Rattle.jg_locals.specs.Rows.{LocalRow}
 use Rattle.jg_locals.specs.Rows.{FrameRow}
@@ -24,14 +25,6 @@ above_fresh u n (row ∷ locals) above =
 
 pub fresh : (u n : ℕ) (locals : List LocalRow) → All (λ row. row.tid ≡ u → row.n < n) locals → filter (is_local u n) locals ≡ []
 fresh u n locals above = above_fresh u n locals (recursion_from_All _ _ above)
-
-abbrev first : {X : Type 0} → List X → Option X
-first [] = None
-first (x ∷ xs) = Some x
-
-find-filter : {X : Type 0} (p : X → Bool) (xs : List X) → find p xs ≡ first (filter p xs)
-find-filter p [] = refl
-find-filter p (x ∷ xs) = rw (find-filter p xs) (elim (p x) as (λ b. (if b then Some x else first (filter p xs)) ≡ first (if b then x ∷ filter p xs else filter p xs)) [ true ↦ refl | false ↦ refl ])
 
 object_of_first : (t : ℕ) (found : Option Local) → option_map (λ row. row.object) (first (rows_of_local t found)) ≡ object_of found
 object_of_first t None = refl

@@ -199,13 +199,10 @@ each-ended P f [] i d all = tt
 each-ended P f (x ∷ xs) zero d all = (f x all.0, all.1)
 each-ended P f (x ∷ xs) (suc i) d all = (all.0, each-ended P f xs i d all.1)
 
-chain-ended : (xs : List LocalSlot) (i : ℕ) (d : LocalSlot) → Chain is_before xs → Chain is_before (slice_set xs i (ended (get_or xs i d)))
+pub chain-ended : (xs : List LocalSlot) (i : ℕ) (d : LocalSlot) → Chain is_before xs → Chain is_before (slice_set xs i (ended (get_or xs i d)))
 chain-ended [] i d chain = tt
 chain-ended (x ∷ xs) zero d chain = (chain.0, chain.1)
 chain-ended (x ∷ xs) (suc i) d chain = (each-ended (λ y. is_before x y ≡ true) (λ s h. h) xs i d chain.0, chain-ended xs i d chain.1)
-
-chain-hidden : (xs : List LocalSlot) (i : ℕ) (d : LocalSlot) → Chain is_before xs → Chain is_before (slice_set xs i (ended (get_or xs i d)))
-chain-hidden xs i d chain = chain-ended xs i d chain
 
 sound-ended : (slots : List LocalSlot) (frames : List Frame) (i : ℕ) (d : LocalSlot) → Sound slots frames → Sound (slice_set slots i (ended (get_or slots i d))) frames
 sound-ended slots frames i d sound = record {
@@ -299,7 +296,7 @@ sound_there slots frames i w at sound =
 pub rises_there : (slots : List LocalSlot) (i : ℕ) (w : LocalSlot) → w ≡ get_or slots i w → Chain is_before slots → Chain is_before (slice_set slots i (ended w))
 rises_there slots i w at chain =
     let P : LocalSlot → Type 0 = λ x. Chain is_before (slice_set slots i (ended x)) in
-    subst P (sym at) (chain-hidden slots i w chain)
+    subst P (sym at) (chain-ended slots i w chain)
 
 pub slot_found : (slots : List LocalSlot) (n i : ℕ) (w : LocalSlot) → w ≡ get_or slots i w → Chain is_before slots → (i < length slots) × ((s : LocalSlot) → (get_or slots i s).n ≡ n)
     → (if w.live then Some w else None) ≡ find (λ s. s.n == n) (filter is_live slots)

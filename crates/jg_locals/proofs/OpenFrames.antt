@@ -1,8 +1,8 @@
 -- What the frames open at a depth are.
 use Rattle.std.proofs.Common.{◌≡◌, ℕ, Bool, true, false, List, [], ◌∷◌, ◌++◌, refl, arith}
 use Rattle.std.specs.List.{list_any}
+use Rattle.std.proofs.lemmas.Bool.Decides.{or_parts}
 use Rattle.jg_lists.specs.Acts.{moments}
-use Rattle.jg_lists.proofs.Lists.{none_either}
 use Rattle.jg_locals.specs.History.{Act, how_many, begins, done_at, is_push, is_pop}
 use Rattle.jg_locals.specs.Laws.{is_at_depth, begins_at, OpenFramesMean}
 use Rattle.jg_locals.proofs.Looking.{pops_at_most_pushes}
@@ -12,7 +12,7 @@ counted : (kind : Act → Bool) (d : ℕ) (later before : List Act) (a : Act) �
     → done_at kind d (later ++ a ∷ before) ≡ how_many (is_at_depth kind d) (moments later (a ∷ before))
 counted kind d [] before a first none = rw first refl
 counted kind d (x ∷ later) before a first none =
-    let both = none_either (begins d x (later ++ a ∷ before)) (list_any (begins_at d) (moments later (a ∷ before))) none in
+    let both = or_parts (begins d x (later ++ a ∷ before)) (list_any (begins_at d) (moments later (a ∷ before))) none in
     rw (both.0, counted kind d later before a first both.1) refl
 
 pub open_frames_mean : OpenFramesMean

@@ -16,7 +16,7 @@ use Rattle.jg_locals.specs.Seen.{last, Chain, is_in, is_under, is_from, frame_of
 use Rattle.jg_locals.proofs.Chains.{each-map, chain-front, chain-last, last-push, last-nil, filter-all, last-map}
 use Rattle.jg_locals.proofs.Numbers.{each-at, each-from, chain-at, less_or_same, low_or_high}
 
-each_unmapped : {X Y : Type 0} (P : Y → Type 0) (g : X → Y) (xs : List X) → AllByRecursion P (map g xs) → AllByRecursion (λ x. P (g x)) xs
+pub each_unmapped : {X Y : Type 0} (P : Y → Type 0) (g : X → Y) (xs : List X) → AllByRecursion P (map g xs) → AllByRecursion (λ x. P (g x)) xs
 each_unmapped P g [] all = tt
 each_unmapped P g (x ∷ xs) all = (all.0, each_unmapped P g xs all.1)
 

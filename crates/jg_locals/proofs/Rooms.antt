@@ -1,12 +1,12 @@
 -- What one more act does to a frame's room.
-use Rattle.std.proofs.Common.{◌≡◌, ℕ, suc, ◌+◌, ◌≤◌, Bool, true, false, List, [], ◌∷◌, ◌++◌, Option, Some, None, refl, arith}
+use Rattle.std.proofs.Common.{◌≡◌, ℕ, suc, ◌+◌, ◌≤◌, Bool, true, false, List, [], ◌∷◌, ◌++◌, refl, arith}
 use Rattle.std.specs.Prelude.{◌==◌, ◌&&◌}
 use Rattle.std.specs.Option.{is_some}
 use Rattle.std.specs.List.{list_any}
 use Rattle.jg_lists.specs.Acts.{moments}
-use Rattle.jg_lists.proofs.Lists.{none_either}
 use Rattle.jg_locals.specs.Laws.{opens_at, RoomMeans}
-use Rattle.std.proofs.lemmas.Bool.Decides.{nat_tests}
+use Rattle.std.proofs.lemmas.Bool.Decides.{nat_tests, or_parts}
+use Rattle.core.proofs.option.Match.{None-if_not_some}
 use Rattle.jg_locals.specs.History.{Act, Push, Ensure, Enter, depth, frames}
 use Rattle.jg_locals.specs.Room.{promised, held, only_if, greater, if_opened, opened_with, frame_room}
 
@@ -43,12 +43,8 @@ room_of_others_ensured d k c acts apart =
     let is : (depth acts == d && frames d acts == k) ≡ false = grind (arith, nat_tests, apart) in
     rw is (greater_none (frame_room d k acts))
 
-not_some : (found : Option ℕ) → is_some found ≡ false → found ≡ None
-not_some None is = refl
-not_some (Some n) is = cc
-
 pub room_means : RoomMeans
 room_means d k room [] before a is none = rw is refl
 room_means d k room (x ∷ later) before a is none =
-    let both = none_either (is_some (opened_with d k x (later ++ a ∷ before))) (list_any (opens_at d k) (moments later (a ∷ before))) none in
-    rw (not_some (opened_with d k x (later ++ a ∷ before)) both.0, room_means d k room later before a is both.1) refl
+    let both = or_parts (is_some (opened_with d k x (later ++ a ∷ before))) (list_any (opens_at d k) (moments later (a ∷ before))) none in
+    rw (None-if_not_some (opened_with d k x (later ++ a ∷ before)) both.0, room_means d k room later before a is both.1) refl

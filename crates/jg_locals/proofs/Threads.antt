@@ -1,6 +1,6 @@
 -- One thread's part of the rows, and what changes of one stack do to the rows.
 use Rattle.std.proofs.Common.{◌≡◌, ◌≢◌, ℕ, ◌+◌, ◌<◌, Bool, true, false, List, [], ◌∷◌, ◌++◌, Option, Some, None, refl, ◌∙◌, ap, sym, subst, arith, eqb-true}
-use Rattle.std.specs.Prelude.{◌==◌, ◌&&◌, ◌||◌, not, if◌then◌else◌, filter, find, map, All, IsNone, IsSome, IsTrue, ◌↔◌, ◌≤◌, OnOk, IsOk, Result, nat_lt}
+use Rattle.std.specs.Prelude.{◌==◌, ◌&&◌, ◌||◌, not, if◌then◌else◌, filter, find, map, All, IsNone, IsSome, IsTrue, ◌↔◌, ◌≤◌, IsOk, Result, nat_lt}
 use Rattle.std.specs.Option.{option_map, is_some}
 use Rattle.std.specs.declared.result.Result.TheVariants.{Ok, Err}
 use Rattle.std.specs.List.{AllByRecursion, list_any}
@@ -26,14 +26,15 @@ use Rattle.jg_locals.specs.Rows.{Rows, Table, Room, LocalRow, FrameRow, is_local
 use Rattle.jg_locals.specs.Standing.{Stands}
 use Rattle.jg_locals.specs.Seen.{last, StackRows, slots_in, frames_in, stack_at, local_row, frame_row, gather, locals_of, frames_of, rows_seen, rooms_seen, room_seen, room_in, Changes, slot_made, room_set, held_in, is_full, is_frame, IsNext, is_under}
 use Rattle.jg_locals.proofs.Chains.{each-map, each-filter, filter-all, filter-none, filter-twice, filter-alike, last-map}
-use Rattle.jg_lists.proofs.Acts.{each_thread}
-use Rattle.jg_lists.proofs.Lists.{filter_swap}
+use Rattle.jg_lists.proofs.Acts.{each_thread, at_key}
+use Rattle.jg_lists.proofs.Lists.{filter_swap, how_many-map}
 use Rattle.jg_locals.proofs.FrameSteps.{is_not_frame, is_not_depth, raised}
 use Rattle.jg_locals.proofs.Tops.{find-reverse}
 use Rattle.jg_locals.proofs.Lookups.{fresh, crowded_law}
 use Rattle.jg_locals.proofs.Holding.{count-filter}
 use Rattle.jg_locals.proofs.StandingSteps.{own_alike, others_alike}
-use Rattle.jg_locals.proofs.EventLaws.{start_law, make_law, push_law, ensure_law, room_made, enter_law, delete_law, pop_law, leave_law, end_law, is_not_in, is_not_at}
+use Rattle.jg_locals.proofs.EventLaws.{start_law, make_law, push_law, ensure_law, room_made, enter_law, delete_law, pop_law, leave_law, end_law, is_not_in, is_not_at, other_raised, same_tid}
+use Rattle.jg_locals.proofs.Opened.{each_unmapped}
 
 each : {X : Type 0} (P : X → Type 0) → ((x : X) → P x) → (xs : List X) → AllByRecursion P xs
 each P f [] = tt
@@ -97,9 +98,6 @@ own_at f tid own t e es false is once later =
   where
     there : (a k t : ℕ) → a ≡ k → (k == t) ≡ false → (a == t) ≡ false
     there a k t is differ = grind (arith, nat_tests, is, differ)
-
-at_key : (o k : ℕ) → is_at (nat_cmp o) k ≡ (k == o)
-at_key o k = grind (arith, nat_tests)
 
 own_part : {V X : Type 0} (f : ℕ → V → List X) (tid : X → ℕ) (own : (k : ℕ) (v : V) → AllByRecursion (λ x. tid x ≡ k) (f k v)) (t : ℕ) (es : List (ℕ × V)) → IsOnce es
     → filter (λ x. tid x == t) (gather f es) ≡ in_entry f t (lookup (is_at (nat_cmp t)) es)
@@ -313,15 +311,11 @@ leave_step old new u f e a b is some c stands =
 
 -- ---- what the newest frame holds, and its room
 
-count-map : {X Y : Type 0} (p : Y → Bool) (g : X → Y) (xs : List X) → how_many p (map g xs) ≡ how_many (λ x. p (g x)) xs
-count-map p g [] = refl
-count-map p g (x ∷ xs) = ap (λ n. if p (g x) then n + 1 else n) (count-map p g xs)
-
 -- the rows of the frame's locals are as many as its stack's
 held_seen : (m : List (ℕ × StackRows)) (t : ℕ) (f : Frame) → IsOnce m → how_many (is_of_frame (frame_row t f)) (gather locals_of m) ≡ held_in (Some f) (slots_at m t)
 held_seen m t f ordered =
     count-filter (λ row. row.depth == f.depth && row.frame == f.frame) (λ row. row.tid == t) (gather locals_of m)
-    ∙ (ap (how_many (λ row. row.depth == f.depth && row.frame == f.frame)) (own_locals m t ordered) ∙ count-map (λ row. row.depth == f.depth && row.frame == f.frame) (local_row t) (slots_at m t))
+    ∙ (ap (how_many (λ row. row.depth == f.depth && row.frame == f.frame)) (own_locals m t ordered) ∙ how_many-map (λ row. row.depth == f.depth && row.frame == f.frame) (local_row t) (slots_at m t))
 
 row_set : (t d k room : ℕ) (f : Frame) → raised t d k room (frame_row t f) ≡ frame_row t (room_set room d k f)
 row_set t d k room f =
@@ -336,23 +330,15 @@ rows_set : (t d k room : ℕ) (fs : List Frame) → map (raised t d k room) (map
 rows_set t d k room [] = refl
 rows_set t d k room (f ∷ fs) = rw (row_set t d k room f, rows_set t d k room fs) refl
 
-raised_tid : (t d k room : ℕ) (row : FrameRow) → (raised t d k room row).tid ≡ row.tid
-raised_tid t d k room row = elim (row.tid == t && (row.depth == d && row.frame == k)) as (λ b. (if b then record row { room = room } else row).tid ≡ row.tid) [ true ↦ refl | false ↦ refl ]
-
-raised_other : (t d k room : ℕ) (row : FrameRow) → row.tid ≢ t → raised t d k room row ≡ row
-raised_other t d k room row differ =
-    let fails : (row.tid == t && (row.depth == d && row.frame == k)) ≡ false = grind (arith, nat_tests) in
-    rw fails refl
-
 raise_frames : (old new : List (ℕ × StackRows)) (u d k room : ℕ) (ls : List LocalSlot) → IsOnce old → IsOnce new → Changes u old new ls (map (room_set room d k) (frames_at old u))
     → (t : ℕ) → filter (λ row. row.tid == t) (map (raised u d k room) (gather frames_of old)) ≡ filter (λ row. row.tid == t) (gather frames_of new)
 raise_frames old new u d k room ls a b c t =
     let olds = gather frames_of old in
     let news = gather frames_of new in
     each_thread (λ v. filter (λ row. row.tid == v) (map (raised u d k room) olds) ≡ filter (λ row. row.tid == v) news) u
-    (own_alike u (raised u d k room) olds (λ row. raised_tid u d k room row)
+    (own_alike u (raised u d k room) olds (λ row. same_tid u d k room row)
     ∙ (ap (map (raised u d k room)) (own_frames old u a) ∙ (rows_set u d k room (frames_at old u) ∙ (ap (map (frame_row u)) (sym c.frames) ∙ sym (own_frames new u b)))))
-    (λ v differ. others_alike v u (raised u d k room) olds differ (λ row. raised_tid u d k room row) (λ row other. raised_other u d k room row other)
+    (λ v differ. others_alike v u (raised u d k room) olds differ (λ row. same_tid u d k room row) (λ row other. other_raised u d k room row other)
     ∙ (own_frames old v a ∙ (ap (λ x. map (frame_row v) (frames_in x)) (sym (c.others v differ)) ∙ sym (own_frames new v b))))
     t
 
@@ -397,10 +383,6 @@ object_seen m t n a =
     let found = find_one t n (gather locals_of m) ∙ (ap (find (λ row. row.n == n)) (own_locals m t a) ∙ find-map (λ row. row.n == n) (local_row t) (slots_at m t)) in
     sym (ap (option_map (λ row. row.object)) found ∙ object_same t (find (λ s. s.n == n) (slots_at m t)))
 
-each_unmap : {X Y : Type 0} (P : Y → Type 0) (g : X → Y) (xs : List X) → AllByRecursion P (map g xs) → AllByRecursion (λ x. P (g x)) xs
-each_unmap P g [] all = tt
-each_unmap P g (x ∷ xs) all = (all.0, each_unmap P g xs all.1)
-
 each_tomap : {X Y : Type 0} (P : Y → Type 0) (g : X → Y) (xs : List X) → AllByRecursion (λ x. P (g x)) xs → AllByRecursion P (map g xs)
 each_tomap P g [] all = tt
 each_tomap P g (x ∷ xs) all = (all.0, each_tomap P g xs all.1)
@@ -422,7 +404,7 @@ pub above_slots : (m : List (ℕ × StackRows)) (t n : ℕ) → IsOnce m → All
 above_slots m t n a all =
     let kept = each-filter (λ row. row.tid ≡ t → row.n < n) (λ row. row.tid == t) (gather locals_of m) (recursion_from_All _ _ all) in
     let P : List LocalRow → Type 0 = λ l. AllByRecursion (λ row. row.tid ≡ t → row.n < n) l in
-    let there = each_unmap (λ row. row.tid ≡ t → row.n < n) (local_row t) (slots_at m t) (subst P (own_locals m t a) kept) in
+    let there = each_unmapped (λ row. row.tid ≡ t → row.n < n) (local_row t) (slots_at m t) (subst P (own_locals m t a) kept) in
     All-from_recursion (λ s. s.n < n) (slots_at m t) (each-map (λ (s : LocalSlot). t ≡ t → s.n < n) (λ s. s.n < n) (λ s h. h refl) (slots_at m t) there)
 
 above_rows : (m : List (ℕ × StackRows)) (t n : ℕ) → IsOnce m → All (λ s. s.n < n) (slots_at m t) → All (λ row. row.tid ≡ t → row.n < n) (gather locals_of m)
@@ -458,10 +440,6 @@ room_is (e ∷ es) t = at e es t (is_at (nat_cmp t) e.0) (room_is es t)
 
 abbrev pub table_seen : List (ℕ × StackRows) → Table
 table_seen m = record { rows = rows_seen m; room = rooms_seen m }
-
-pub on_ok : {T E P Q : Type 0} (r : Result T E) → (P → Q) → OnOk r P → OnOk r Q
-on_ok (Ok x) f h = f h
-on_ok (Err x) f h = tt
 
 pub ok_not_err : {T E : Type 0} (r : Result T E) (x : E) → IsOk r → r ≡ Err x → ⊥
 ok_not_err (Ok y) x ok is = cc

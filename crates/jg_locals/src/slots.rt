@@ -1,8 +1,7 @@
 //! One thread's list of locals, which ascends by number.
 
-ghost use Rattle.std.specs.Prelude.{◌≡◌, ◌≤◌, ◌<◌, ◌+◌, ◌-◌, ◌/◌, ◌&&◌, ◌==◌, ◌||◌, ◌++◌, ◌∷◌, ◌↔◌, [], IfSome, IsTrue, List, All, OnOk, OnErr, map, Some, None, MatchOption, true, false, not, if◌then◌else◌, filter, find, length, option_to_list, slice_index_or, vec_len, vec_capacity};
+ghost use Rattle.std.specs.Prelude.{◌≡◌, ◌≤◌, ◌<◌, ◌+◌, ◌-◌, ◌/◌, ◌&&◌, ◌==◌, ◌||◌, ◌++◌, ◌∷◌, ◌↔◌, [], IsTrue, List, All, OnOk, OnErr, map, Some, None, true, false, not, if◌then◌else◌, filter, find, length, option_to_list, vec_len, vec_capacity};
 ghost use Rattle.std.specs.Option.{is_some, option_map};
-ghost use Rattle.std.specs.List.{AllByRecursion};
 ghost use Rattle.jg_locals.specs.Seen.{Chain, is_before, is_live, dead_in, last, passes, stays, is_below, IsBelowAll, Sound, slot_ref};
 ghost use Rattle.jg_locals.specs.declared.row.Frame.{Frame};
 

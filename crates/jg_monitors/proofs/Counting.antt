@@ -4,6 +4,7 @@ use Rattle.std.specs.Prelude.{◌==◌, ◌⊎◌, nat_lt, if◌then◌else◌, 
 use Rattle.std.specs.List.{find}
 use Rattle.std.proofs.lemmas.Bool.Decides.{nat_tests}
 use Rattle.std.proofs.lemmas.Option.{same_Some}
+use Rattle.jg_words.proofs.Common.{clash, eqb_self, positive}
 use Rattle.jg_monitors.specs.History.{Act, Enter, Exit, ReleaseAll, Event, by, acts_of, since, enters, exits, how_many, count, owner, is_some, held}
 use Rattle.jg_monitors.specs.Standing.{IsAllowed, AllAllowed}
 use Rattle.jg_lists.proofs.Lists.{Member}
@@ -50,13 +51,10 @@ count_other_thread e t u o a differ =
     let apart : (u == t) ≡ false = grind (arith, nat_tests) in
     rw apart refl
 
-self : (t : ℕ) → (t == t) ≡ true
-self t = grind (arith, nat_tests)
-
 pub count_enter : (e : List Event) (t o : ℕ) → AllAllowed e → count (by t (Enter o) ∷ e) t o ≡ count e t o + 1
 count_enter e t o all =
     let most = exits_at_most e t o all in
-    rw (self t, self o) (omega (arith, most))
+    rw (eqb_self t, eqb_self o) (omega (arith, most))
 
 other_enter : (e : List Event) (t u o p : ℕ) (b : Bool) → (p == o) ≡ false
     → how_many (enters o) (since (after b (Enter p) (acts_of t e))) - how_many (exits o) (since (after b (Enter p) (acts_of t e))) ≡ count e t o
@@ -75,10 +73,10 @@ pub count_other_exit : (e : List Event) (t u o p : ℕ) → (p == o) ≡ false �
 count_other_exit e t u o p differ = other_exit e t u o p (u == t) differ
 
 pub count_exit : (e : List Event) (t o : ℕ) → count (by t (Exit o) ∷ e) t o ≡ count e t o - 1
-count_exit e t o = rw (self t, self o) (omega arith)
+count_exit e t o = rw (eqb_self t, eqb_self o) (omega arith)
 
 pub count_release : (e : List Event) (t o : ℕ) → count (by t ReleaseAll ∷ e) t o ≡ 0
-count_release e t o = rw (self t) refl
+count_release e t o = rw (eqb_self t) refl
 
 -- ---- one owner
 
@@ -103,9 +101,6 @@ grown_by u a e t o false is some = inl some
 grown : (ev : Event) (e : List Event) (t o : ℕ) → 0 < count (ev ∷ e) t o → (0 < count e t o) ⊎ ((ev.tid ≡ t) × (ev.act ≡ Enter o))
 grown ev e t o some = grown_by ev.tid ev.act e t o (ev.tid == t) refl some
 
-positive : (n : ℕ) → 0 < n → n ≡ 0 → ⊥
-positive n some none = omega arith
-
 by_test : (t u : ℕ) (b : Bool) → (t == u) ≡ b → ((t ≢ u) → ⊥) → t ≡ u
 by_test t u true is never = eqb-true t u is
 by_test t u false is never = absurd (never (λ same. grind (arith, nat_tests)))
@@ -129,9 +124,6 @@ one_owner [] t u o all a b = absurd (omega arith)
 one_owner (ev ∷ e) t u o all a b = owners_meet ev e t u o all.1 (one_owner e t u o all.0) (grown ev e t o a) (grown ev e u o b)
 
 -- ---- the owner that is found
-
-clash : (b : Bool) → b ≡ true → b ≡ false → ⊥
-clash b is isnt = cc
 
 found_in : {X : Type 0} (p : X → Bool) (x y : X) (xs : List X) (b : Bool) → p y ≡ b → (Member x xs → (z : X) × ((find p xs ≡ Some z) × (p z ≡ true))) → p x ≡ true → (x ≡ y) ⊎ Member x xs
     → (z : X) × (((if b then Some y else find p xs) ≡ Some z) × (p z ≡ true))

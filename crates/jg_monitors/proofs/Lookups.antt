@@ -17,9 +17,9 @@ use Rattle.jg_monitors.specs.Standing.{AllAllowed, rows_of, Stands}
 use Rattle.jg_monitors.specs.Laws.{RowTells}
 use Rattle.jg_lists.specs.ByThread.{at}
 use Rattle.jg_lists.proofs.Acts.{at_key}
-use Rattle.jg_lists.proofs.Lists.{first}
+use Rattle.jg_lists.proofs.Lists.{first, find-filter}
 use Rattle.jg_monitors.proofs.Counting.{owner_is, no_owner}
-use Rattle.jg_monitors.proofs.Steps.{row_at, find_first, found_row, Tells, tells}
+use Rattle.jg_monitors.proofs.Steps.{row_at, found_row, Tells, tells}
 
 -- a value is seen as its view
 pub reopened : (a b : Rows) (e : List Event) → a ≡ b → Stands b e → Stands a e
@@ -65,7 +65,7 @@ count_first e o (Some t) = refl
 -- what any rows that stand tell
 pub rows_law : (rows : Rows) (e : List Event) (o : ℕ) → Stands rows e → RowTells rows e o
 rows_law rows e o stands =
-    let row : row_of o rows ≡ first (rows_of e o (owner e o)) = find_first (is_of o) rows.owned ∙ ap first (stands.owned o) in
+    let row : row_of o rows ≡ first (rows_of e o (owner e o)) = find-filter (is_of o) rows.owned ∙ ap first (stands.owned o) in
     record {
       owner = ap owner_in row ∙ owner_first e o (owner e o);
       count = ap count_in row ∙ count_first e o (owner e o);

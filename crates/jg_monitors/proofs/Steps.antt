@@ -13,12 +13,12 @@ use Rattle.std.proofs.lemmas.Map.Keys.{IsDistinct-tail}
 use Rattle.jg_monitors.specs.declared.owned.Owned.{Owned}
 use Rattle.jg_monitors.specs.declared.owned.Found.TheVariants.{Free, Own, Others}
 use Rattle.jg_monitors.specs.History.{Enter, Exit, ReleaseAll, Event, by, count, owner}
-use Rattle.jg_monitors.specs.Rows.{Row, is_of}
+use Rattle.jg_monitors.specs.Rows.{Row, is_of, count_in}
 use Rattle.jg_monitors.specs.Seen.{seen, lowered, raised, finds}
 use Rattle.jg_monitors.specs.Standing.{IsAllowed, AllAllowed, rows_of, Stands}
 use Rattle.jg_lists.specs.ByThread.{at, IsOnce}
 use Rattle.jg_lists.proofs.Acts.{at_key}
-use Rattle.jg_lists.proofs.Lists.{first}
+use Rattle.jg_lists.proofs.Lists.{first, find-filter}
 use Rattle.jg_monitors.proofs.Counting.{count_enter, count_exit, count_release, count_other_thread, count_other_enter, count_other_exit, one_owner, owner_is, owner_has, no_owner, all_free}
 
 -- ---- rows and look-ups
@@ -66,28 +66,20 @@ abbrev owner_at : Option Row → ℕ
 owner_at None = 0
 owner_at (Some row) = row.owner
 
-abbrev count_at : Option Row → ℕ
-count_at None = 0
-count_at (Some row) = row.count
-
 told_by : (e : List Event) (o : ℕ) (found : Option Owned) (was : Option ℕ) → owner e o ≡ was → AllAllowed e → row_at o found ≡ first (rows_of e o was) → Tells e o found
 told_by e o None None is all same = λ t. all_free e t o all is
 told_by e o None (Some t) is all same = cc
 told_by e o (Some w) None is all same = cc
 told_by e o (Some w) (Some t) is all same =
     let thread : w.tid ≡ t = ap owner_at same in
-    let number : w.count ≡ count e t o = ap count_at same in
+    let number : w.count ≡ count e t o = ap count_in same in
     let some : 0 < count e t o = owner_has e t o is in
     (rw thread (sym number), omega (arith, number, some))
-
-pub find_first : {X : Type 0} (p : X → Bool) (xs : List X) → find p xs ≡ first (filter p xs)
-find_first p [] = refl
-find_first p (x ∷ xs) = rw (find_first p xs) (elim (p x) as (λ b. (if b then Some x else first (filter p xs)) ≡ first (if b then x ∷ filter p xs else filter p xs)) [ true ↦ refl | false ↦ refl ])
 
 pub tells : (es : List (ℕ × Owned)) (e : List Event) (o : ℕ) → Stands (record { owned = map seen es }) e → Tells e o (at o es)
 tells es e o stands =
     told_by e o (at o es) (owner e o) refl stands.allowed
-    (sym (found_row o es) ∙ (find_first (is_of o) (map seen es) ∙ ap first (stands.owned o)))
+    (sym (found_row o es) ∙ (find-filter (is_of o) (map seen es) ∙ ap first (stands.owned o)))
 
 rows_told : (e : List Event) (o : ℕ) (found : Option Owned) → AllAllowed e → Tells e o found → rows_at o found ≡ rows_of e o (owner e o)
 rows_told e o None all told = rw (no_owner e o told) refl

@@ -7,33 +7,17 @@ use Rattle.jg_words.specs.declared.object.ObjId.{ObjId}
 use Rattle.jg_heap.specs.Making.{Making, class_in, length_in}
 use Rattle.jg_heap.specs.History.{Event, Made, Wrote, Collected, Went, count_of, making_at, gone_at, is_there, class_there}
 use Rattle.jg_heap.proofs.Callers.{classes_law}
+use Rattle.jg_heap.proofs.Steps.{gone_past}
+use Rattle.jg_heap.proofs.Laws.{classes_counted}
 use Rattle.jg_objects.specs.History.{is_told, told, length_there, is_listed, went}
 use Rattle.jg_objects.specs.Laws.{ToldMeans, WentMeans}
 
 -- ---- what isn't made yet, and class objects
 
-counted : (k : ℕ) (e : List Event) → k ≤ count_of k e
-counted k [] = omega arith
-counted k (Made m ∷ e) = omega (arith, counted k e)
-counted k (Wrote o j v ∷ e) = counted k e
-counted k (Collected roots ∷ e) = counted k e
-counted k (Went p ∷ e) = counted k e
-
-not_gone : (k : ℕ) (e : List Event) (o : ℕ) → count_of k e ≤ o → gone_at k e o ≡ false
-not_gone k [] o past = refl
-not_gone k (Made m ∷ e) o past = not_gone k e o (omega (arith, past))
-not_gone k (Wrote p j v ∷ e) o past = not_gone k e o past
-not_gone k (Collected roots ∷ e) o past =
-    let out : nat_lt o (count_of k e) ≡ false = grind (arith, nat_tests, past) in
-    rw (not_gone k e o past, out) refl
-not_gone k (Went p ∷ e) o past =
-    let out : nat_lt o (count_of k e) ≡ false = grind (arith, nat_tests, past) in
-    rw (not_gone k e o past, out) (elim (o == p) as (λ b. (b && false) ≡ false) [ true ↦ refl | false ↦ refl ])
-
 class_object_class : (k : ℕ) (e : List Event) (o : ℕ) → o < k → class_in (making_at k e o) ≡ 1
 class_object_class k [] o is = refl
 class_object_class k (Made m ∷ e) o is =
-    let other : (o == count_of k e) ≡ false = grind (arith, nat_tests, is, counted k e) in
+    let other : (o == count_of k e) ≡ false = grind (arith, nat_tests, is, classes_counted k e) in
     rw other (class_object_class k e o is)
 class_object_class k (Wrote p j v ∷ e) o is = class_object_class k e o is
 class_object_class k (Collected roots ∷ e) o is = class_object_class k e o is
@@ -42,7 +26,7 @@ class_object_class k (Went p ∷ e) o is = class_object_class k e o is
 class_object_there : (k : ℕ) (e : List Event) (o : ℕ) → nat_lt o k ≡ true → is_there k e o ≡ true
 class_object_there k e o is =
     let below : o < k = grind (arith, nat_tests, is) in
-    let made : nat_lt o (count_of k e) ≡ true = grind (arith, nat_tests, below, counted k e) in
+    let made : nat_lt o (count_of k e) ≡ true = grind (arith, nat_tests, below, classes_counted k e) in
     rw (made, classes_law k e o below) refl
 
 -- ---- what is known of an object, from what is told
@@ -91,10 +75,10 @@ told_at_first k o = none_by (nat_lt o k) (1, 0)
 told_made_new : (k : ℕ) (m : Making) (e : List Event) → told k (Made m ∷ e) (count_of k e) ≡ Some (class_in m, length_in m)
 unfolding told
 told_made_new k m e =
-    let other : nat_lt (count_of k e) k ≡ false = grind (arith, nat_tests, counted k e) in
+    let other : nat_lt (count_of k e) k ≡ false = grind (arith, nat_tests, classes_counted k e) in
     let made : nat_lt (count_of k e) (count_of k e + 1) ≡ true = grind (arith, nat_tests) in
     let mine : (count_of k e == count_of k e) ≡ true = grind (arith, nat_tests) in
-    rw (other, made, not_gone k e (count_of k e) (omega arith), mine) refl
+    rw (other, made, gone_past k e (count_of k e) (omega arith), mine) refl
 
 told_made_old : (k : ℕ) (m : Making) (e : List Event) (o : ℕ) → o ≢ count_of k e → told k (Made m ∷ e) o ≡ told k e o
 unfolding told

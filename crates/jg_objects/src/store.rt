@@ -1,7 +1,7 @@
 //! What judging asks of a store, answered by the objects that are there.
 
-ghost use Rattle.std.specs.Prelude.{◌≡◌, ℕ, List};
-ghost use Rattle.jg_heap.specs.History.{Event, class_there};
+ghost use Rattle.std.specs.Prelude.{◌≡◌};
+ghost use Rattle.jg_heap.specs.History.{class_there};
 ghost use Rattle.jg_objects.specs.Standing.{Tells};
 
 use crate::objects::Objects;

@@ -1,12 +1,11 @@
 -- How many items pass a test.
-use Rattle.std.proofs.Common.{◌≡◌, ℕ, ◌+◌, Bool, true, false, not, ◌||◌, ◌&&◌, cond, if◌then◌else◌, List, [], ◌∷◌, filter, map, refl, ap, ◌∙◌, sym, arith}
+use Rattle.std.proofs.Common.{◌≡◌, ℕ, ◌+◌, Bool, true, false, not, ◌||◌, ◌&&◌, cond, if◌then◌else◌, List, [], ◌∷◌, filter, refl, ap, ◌∙◌, sym, arith}
 use Rattle.std.proofs.lemmas.Bool.{false≢true}
 use Rattle.std.proofs.lemmas.List.Sorted.{sum_by-IsPermutation}
 use Rattle.std.proofs.lemmas.List.Sums.{sum_by-cons}
 use Rattle.std.specs.Prelude.{sum_by, IsPermutation, MatchBool}
 use Rattle.std.specs.List.{list_any}
-use Rattle.jg_policy.specs.LinkRows.{how_many}
-use Rattle.jg_policy.specs.LinkStanding.{once_if}
+use Rattle.jg_lists.specs.Acts.{how_many, once_if}
 
 module _ {A : Type 0} (p : A → Bool) where
   as_sum : (xs : List A) → how_many p xs ≡ sum_by (λ x. once_if (p x)) xs
@@ -44,10 +43,6 @@ module _ {A : Type 0} (p : A → Bool) where
       by : (b : Bool) → list_any p xs ≡ b → list_any p xs ≡ true
       by true e = e
       by false e = let none : how_many p xs ≡ 0 = how_many_none xs e in absurd (omega arith)
-
-  pub how_many-map : {B : Type 0} (f : B → A) (xs : List B) → how_many p (map f xs) ≡ how_many (λ x. p (f x)) xs
-  how_many-map f [] = refl
-  how_many-map f (x ∷ xs) = ap (λ n. if p (f x) then n + 1 else n) (how_many-map f xs)
 
 -- equal keys, and what is told of each
 module _ {A : Type 0} (same : A → A → Bool) (equal : (q k : A) → same q k ≡ true → q ≡ k) where

@@ -2,6 +2,7 @@
 use Rattle.std.proofs.Common.{◌≡◌, ℕ, Bool, not, true, false, ◌||◌, ◌&&◌, List, [], ◌∷◌, string_bytes, refl}
 use Rattle.std.specs.List.{list_all}
 use Rattle.std.specs.Map.{keys_of}
+use Rattle.std.proofs.Math.Bool.{not-not}
 use Rattle.toml.proofs.Views.{Entry}
 use Rattle.toml.specs.View.{members_view}
 use Rattle.jg_policy.specs.Findings.{has_unknown_key, is_among}
@@ -16,12 +17,8 @@ has_unknown_key-keys known [] = refl
 has_unknown_key-keys known (e ∷ es) =
     rw (has_unknown_key-keys known es) (de_morgan (is_among known (string_bytes e.0)) _)
 
-pub not_not : (b : Bool) → not (not b) ≡ b
-not_not true = refl
-not_not false = refl
-
 pub not_unknown : (known : List (List ℕ)) (es : List Entry)
     → not (has_unknown_key known (members_view es)) ≡ list_all (λ k. is_among known (string_bytes k)) (keys_of es)
-not_unknown known es = rw (has_unknown_key-keys known es) (not_not _)
+not_unknown known es = rw (has_unknown_key-keys known es) (not-not _)
 
 pub ruleset key_rules = (not_unknown)

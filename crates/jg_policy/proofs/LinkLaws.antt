@@ -1,16 +1,12 @@
 -- What is linked and what was warned of, in terms of single events.
 use Rattle.std.proofs.Common.{◌≡◌, ℕ, ◌<◌, zero, suc, Bool, true, false, not, ◌||◌, ◌&&◌, ◌==◌, List, [], ◌∷◌, ◌++◌, length, All, Contains, get_or, refl, ap, ◌∙◌, sym, arith}
-use Rattle.std.proofs.lemmas.Bool.{false≢true}
-use Rattle.std.proofs.lemmas.Bool.Decides.{nat_tests}
+use Rattle.std.proofs.lemmas.Bool.{false≢true, eqb-true, and_parts}
 use Rattle.std.proofs.lemmas.List.Elements.{All-nil, All-cons, Contains-push, Contains-append_left, Contains-append_right}
 use Rattle.std.specs.Prelude.{◌≢◌}
+use Rattle.std.proofs.Math.Bool.{or-true}
+use Rattle.jg_words.proofs.Common.{eqb_self}
 use Rattle.jg_policy.specs.Links.{Event, Linked, UnlinkedAll, Warned, linked, warned}
 use Rattle.jg_policy.specs.Laws.{IsLinked}
-use Rattle.jg_policy.proofs.LinkSteps.{equal_ℕ, both_true}
-use Rattle.jg_policy.proofs.Repeats.{or_true}
-
-itself : (n : ℕ) → (n == n) ≡ true
-itself n = grind (arith, nat_tests)
 
 later_by : (class native : ℕ) (ev : Event) (e : List Event) → ev ≢ UnlinkedAll class → IsLinked e class native → IsLinked (ev ∷ e) class native
 later_by class native ev e other (later, before, is, none) =
@@ -22,26 +18,26 @@ is_linked (Linked c n ∷ e) class native h = by (class == c && native == n) ref
   where
     by : (b : Bool) → (class == c && native == n) ≡ b → (b || linked e class native) ≡ true → (linked e class native ≡ true → IsLinked e class native) → IsLinked (Linked c n ∷ e) class native
     by true same h rest =
-        let tests = both_true _ _ same in
-        let c_is : class ≡ c = equal_ℕ class c tests.0 in
-        let n_is : native ≡ n = equal_ℕ native n tests.1 in
+        let tests = and_parts _ _ same in
+        let c_is : class ≡ c = eqb-true class c tests.0 in
+        let n_is : native ≡ n = eqb-true native n tests.1 in
         rw (c_is, n_is) ([], e, refl, All-nil _)
     by false same h rest = later_by class native (Linked c n) e (λ is. cc) (rest h)
 is_linked (UnlinkedAll c ∷ e) class native h =
-    let both = both_true (not (c == class)) (linked e class native) h in
+    let both = and_parts (not (c == class)) (linked e class native) h in
     later_by class native (UnlinkedAll c) e
-    (λ is. let same : c ≡ class = cc in let yes : (c == class) ≡ true = rw same (itself class) in false≢true (ap not (sym yes) ∙ both.0))
+    (λ is. let same : c ≡ class = cc in let yes : (c == class) ≡ true = rw same (eqb_self class) in false≢true (ap not (sym yes) ∙ both.0))
     (is_linked e class native both.1)
 is_linked (Warned home ∷ e) class native h = later_by class native (Warned home) e (λ is. cc) (is_linked e class native h)
 
 stays_linked : (later before : List Event) (class native : ℕ) → All (λ ev. ev ≢ UnlinkedAll class) later → linked (later ++ Linked class native ∷ before) class native ≡ true
-stays_linked [] before class native none = rw (itself class, itself native)
+stays_linked [] before class native none = rw (eqb_self class, eqb_self native)
 stays_linked (Linked c n ∷ later) before class native none =
-    rw (stays_linked later before class native (λ k d h. none (suc k) d (omega arith))) (or_true (class == c && native == n))
+    rw (stays_linked later before class native (λ k d h. none (suc k) d (omega arith))) (or-true (class == c && native == n))
 stays_linked (UnlinkedAll c ∷ later) before class native none = by (c == class) refl (stays_linked later before class native (λ k d h. none (suc k) d (omega arith)))
   where
     by : (b : Bool) → (c == class) ≡ b → linked (later ++ Linked class native ∷ before) class native ≡ true → (not b && linked (later ++ Linked class native ∷ before) class native) ≡ true
-    by true same rest = absurd (none 0 (UnlinkedAll c) (omega arith) (ap UnlinkedAll (equal_ℕ c class same)))
+    by true same rest = absurd (none 0 (UnlinkedAll c) (omega arith) (ap UnlinkedAll (eqb-true c class same)))
     by false same rest = rest
 stays_linked (Warned home ∷ later) before class native none = stays_linked later before class native (λ k d h. none (suc k) d (omega arith))
 
@@ -58,7 +54,7 @@ is_warned (UnlinkedAll c ∷ e) home h = warned_before (UnlinkedAll c) e home (i
 is_warned (Warned other ∷ e) home h = by (home == other) refl h (is_warned e home)
   where
     by : (b : Bool) → (home == other) ≡ b → (b || warned e home) ≡ true → (warned e home ≡ true → Contains e (Warned home)) → Contains (Warned other ∷ e) (Warned home)
-    by true same h rest = rw (equal_ℕ home other same) (Contains-append_left (Warned other ∷ []) e (Warned other) (Contains-push [] (Warned other)))
+    by true same h rest = rw (eqb-true home other same) (Contains-append_left (Warned other ∷ []) e (Warned other) (Contains-push [] (Warned other)))
     by false same h rest = warned_before (Warned other) e home (rest h)
 
 warned_at : (e : List Event) (home k : ℕ) → k < length e → get_or e k (Warned home) ≡ Warned home → warned e home ≡ true
@@ -67,8 +63,8 @@ warned_at (Linked c n ∷ e) home zero below at = absurd (let no : ⊥ = cc in n
 warned_at (Linked c n ∷ e) home (suc k) below at = warned_at e home k (omega arith) at
 warned_at (UnlinkedAll c ∷ e) home zero below at = absurd (let no : ⊥ = cc in no)
 warned_at (UnlinkedAll c ∷ e) home (suc k) below at = warned_at e home k (omega arith) at
-warned_at (Warned other ∷ e) home zero below at = let same : other ≡ home = cc in rw (same, itself home)
-warned_at (Warned other ∷ e) home (suc k) below at = rw (warned_at e home k (omega arith) at) (or_true (home == other))
+warned_at (Warned other ∷ e) home zero below at = let same : other ≡ home = cc in rw (same, eqb_self home)
+warned_at (Warned other ∷ e) home (suc k) below at = rw (warned_at e home k (omega arith) at) (or-true (home == other))
 
 pub warned_from : (e : List Event) (home : ℕ) → Contains e (Warned home) → warned e home ≡ true
 warned_from e home (k, below, at) = warned_at e home k below at

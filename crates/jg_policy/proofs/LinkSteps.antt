@@ -1,16 +1,18 @@
 -- What each call of the table of links does to the rows.
-use Rattle.std.proofs.Common.{◌≡◌, ℕ, ◌+◌, ◌≤◌, Bool, true, false, not, ◌&&◌, ◌||◌, ◌==◌, if◌then◌else◌, cond, List, [], ◌∷◌, Option, Some, None, map, refl, ◌∙◌, ap, sym, subst, arith}
-use Rattle.std.proofs.lemmas.Bool.{false≢true}
+use Rattle.std.proofs.Common.{◌≡◌, ℕ, ◌+◌, ◌≤◌, Bool, true, false, not, ◌&&◌, ◌||◌, ◌==◌, if◌then◌else◌, cond, List, [], ◌∷◌, Some, None, map, refl, ◌∙◌, ap, sym, subst, arith}
+use Rattle.std.proofs.lemmas.Bool.{false≢true, eqb-true, and_parts}
 use Rattle.std.proofs.lemmas.Bool.Decides.{nat_tests}
 use Rattle.std.proofs.lemmas.Map.Keys.{IsDistinct-head, IsDistinct-tail}
 use Rattle.std.specs.Prelude.{IsPermutation, MatchBool, nat_le}
 use Rattle.std.specs.List.{list_any, IsDistinct, AllByRecursion}
+use Rattle.jg_lists.specs.Acts.{how_many, once_if}
+use Rattle.jg_lists.proofs.Lists.{how_many-map}
 use Rattle.jg_policy.specs.declared.links.Link.{Link}
 use Rattle.jg_policy.specs.Links.{Event, Linked, UnlinkedAll, Warned, linked, warned}
-use Rattle.jg_policy.specs.LinkRows.{Rows, is_link, how_many}
+use Rattle.jg_policy.specs.LinkRows.{Rows, is_link}
 use Rattle.jg_policy.specs.LinkKept.{link_view, same_link, greatest_of, IsUpTo, AreUpTo}
-use Rattle.jg_policy.specs.LinkStanding.{Stands, once_if}
-use Rattle.jg_policy.proofs.Counting.{how_many-reordered, how_many-map, how_many-put, found_once}
+use Rattle.jg_policy.specs.LinkStanding.{Stands}
+use Rattle.jg_policy.proofs.Counting.{how_many-reordered, how_many-put, found_once}
 
 abbrev pub rows_of : List Link → List ℕ → Rows
 rows_of links warnings = record { linked = map link_view links; warned = warnings }
@@ -18,17 +20,10 @@ rows_of links warnings = record { linked = map link_view links; warned = warning
 abbrev pub link_at : ℕ → ℕ → Link
 link_at class native = record { class = class; native = native }
 
-pub equal_ℕ : (a b : ℕ) → (a == b) ≡ true → a ≡ b
-equal_ℕ a b h = grind (arith, nat_tests)
-
-pub both_true : (a b : Bool) → (a && b) ≡ true → (a ≡ true) × (b ≡ true)
-both_true true b h = (refl, h)
-both_true false b h = absurd (false≢true h)
-
 equal_link : (q k : Link) → same_link q k ≡ true → q ≡ k
 equal_link q k h =
-    let tests = both_true _ _ h in
-    rw (equal_ℕ q.class k.class tests.0, equal_ℕ q.native k.native tests.1) refl
+    let tests = and_parts _ _ h in
+    rw (eqb-true q.class k.class tests.0, eqb-true q.native k.native tests.1) refl
 
 module _ (links : List Link) (warnings : List ℕ) (e : List Event) (stands : Stands (rows_of links warnings) e) where
   once_linked : (q : Link) → how_many (same_link q) links ≡ once_if (linked e q.class q.native)
@@ -54,7 +49,7 @@ module _ (links : List Link) (warnings : List ℕ) (e : List Event) (stands : St
       → MatchBool added (IsPermutation (home ∷ warnings) new) (new ≡ warnings) → Stands (rows_of links new) (Warned home ∷ e)
   after_warn home added new is put = record {
     linked = stands.linked;
-    warned = how_many-put (λ m n. m == n) equal_ℕ warnings new home added is put (warned e) stands.warned;
+    warned = how_many-put (λ m n. m == n) eqb-true warnings new home added is put (warned e) stands.warned;
   }
 
   -- where each link is there once, and just those of the class are gone
@@ -104,7 +99,7 @@ pub up_to_raised : (old new : List (ℕ × ℕ)) (class most : ℕ) → ((c : �
 up_to_raised old new class most put least c n below = subst (IsUpTo n) (sym (put c)) (by (class == c) refl)
   where
     by : (b : Bool) → (class == c) ≡ b → IsUpTo n (cond b (Some most) (greatest_of c old))
-    by true same = least n (subst (λ k. IsUpTo n (greatest_of k old)) (sym (equal_ℕ class c same)) below)
+    by true same = least n (subst (λ k. IsUpTo n (greatest_of k old)) (sym (eqb-true class c same)) below)
     by false other = below
 
 pub up_to_alike : (links new : List Link) (old now : List (ℕ × ℕ)) → ((q : Link) → list_any (same_link q) new ≡ list_any (same_link q) links)
@@ -135,7 +130,7 @@ gone_all links new old class most is dropped all q = dropped q ∙ by (class == 
     by true same true within there here = refl
     by true same false above false here = refl
     by true same false above true here =
-        let below : q.native ≤ most = subst (IsUpTo q.native) (ap (λ k. greatest_of k old) (sym (equal_ℕ class q.class same)) ∙ is) (all q here) in
+        let below : q.native ≤ most = subst (IsUpTo q.native) (ap (λ k. greatest_of k old) (sym (eqb-true class q.class same)) ∙ is) (all q here) in
         absurd (grind (arith, nat_tests, below, above))
     by false other le within there here = refl
 
@@ -143,7 +138,7 @@ pub gone_none : (links : List Link) (old : List (ℕ × ℕ)) (class : ℕ) → 
 gone_none links old class is all q = by (class == q.class) refl (list_any (same_link q) links) refl
   where
     by : (c : Bool) → (class == q.class) ≡ c → (there : Bool) → list_any (same_link q) links ≡ there → there ≡ (not c && there)
-    by true same true here = absurd (subst (IsUpTo q.native) (ap (λ k. greatest_of k old) (sym (equal_ℕ class q.class same)) ∙ is) (all q here))
+    by true same true here = absurd (subst (IsUpTo q.native) (ap (λ k. greatest_of k old) (sym (eqb-true class q.class same)) ∙ is) (all q here))
     by true same false here = refl
     by false same there here = refl
 

@@ -6,12 +6,12 @@ use Rattle.std.proofs.lemmas.Slice.Eq.{bytes_eq-Decides}
 use Rattle.std.specs.List.{list_any}
 use Rattle.std.specs.Option.{option_map}
 use Rattle.std.specs.Str.{bytes_eq}
+use Rattle.std.proofs.Math.Bool.{or-true}
 use Rattle.jg_policy.specs.Stated.{StatedClass, StatedSetup, class_count}
 use Rattle.jg_policy.specs.Classes.{module_name_of, module_names, module_of}
 use Rattle.jg_policy.proofs.Places.{place, position-place, position-any}
-use Rattle.jg_policy.proofs.Repeats.{or_true}
 
-equal_bytes : (xs ys : List ℕ) → bytes_eq xs ys ≡ true → xs ≡ ys
+pub equal_bytes : (xs ys : List ℕ) → bytes_eq xs ys ≡ true → xs ≡ ys
 equal_bytes xs ys h = (bytes_eq-Decides xs ys).0 h
 
 itself : (xs : List ℕ) → bytes_eq xs xs ≡ true
@@ -56,7 +56,7 @@ modules_in cs = map (λ (c : StatedClass). c.module_name) cs
 
 behind : (names : List (List ℕ)) (x : List ℕ) (o : Option (List ℕ)) → IsAmong names o → IsAmong (x ∷ names) o
 behind names x None h = tt
-behind names x (Some a) h = rw h (or_true (bytes_eq a x))
+behind names x (Some a) h = rw h (or-true (bytes_eq a x))
 
 among : (cs : List StatedClass) (i : ℕ) → IsAmong (modules_in cs) (module_at cs i)
 among [] i = tt

@@ -1,14 +1,14 @@
 -- What is found at a place has the name that was sought.
 use Rattle.std.proofs.Common.{◌≡◌, ℕ, ◌+◌, ◌-◌, ◌==◌, suc, Bool, true, false, ◌&&◌, cond, List, [], ◌∷◌, ◌++◌, slice_get, Option, Some, None, position, refl, ap, ◌∙◌, sym, subst, arith}
-use Rattle.std.proofs.lemmas.Bool.{false≢true}
+use Rattle.std.proofs.lemmas.Bool.{and_parts}
 use Rattle.std.proofs.lemmas.Bool.Decides.{nat_tests}
-use Rattle.std.proofs.lemmas.Slice.Eq.{bytes_eq-Decides}
 use Rattle.std.specs.Option.{option_map}
 use Rattle.std.specs.Str.{bytes_eq}
 use Rattle.jg_policy.specs.BaseClasses.{base_names}
 use Rattle.jg_policy.specs.Stated.{StatedMember, StatedSetup, class_names}
 use Rattle.jg_policy.specs.Classes.{class_named, class_name_of, is_member, member_named, member_at}
 use Rattle.jg_policy.proofs.Places.{place, position-place}
+use Rattle.jg_policy.proofs.ModuleLaws.{equal_bytes}
 
 -- the item at a place, which passes the test
 abbrev Passes : {A : Type 0} → (A → Bool) → List A → ℕ → Type 0
@@ -33,9 +33,6 @@ position-item p xs n h = place-item p xs n (sym (position-place p xs) ∙ h)
 some_is_one : {A : Type 0} (o : Option A) (x y : A) → o ≡ Some x → o ≡ Some y → x ≡ y
 some_is_one o x y e f = cc
 
-equal_bytes : (xs ys : List ℕ) → bytes_eq xs ys ≡ true → xs ≡ ys
-equal_bytes xs ys h = (bytes_eq-Decides xs ys).0 h
-
 module _ (s : StatedSetup) where
   pub class_has_its_name : (name : List ℕ) (class : ℕ) → class_named s name ≡ Some class → class_name_of s class ≡ Some name
   class_has_its_name name class h =
@@ -44,11 +41,6 @@ module _ (s : StatedSetup) where
 
   pub one_class_name : (name other : List ℕ) (class : ℕ) → class_named s name ≡ Some class → class_named s other ≡ Some class → name ≡ other
   one_class_name name other class h g = some_is_one (class_name_of s class) name other (class_has_its_name name class h) (class_has_its_name other class g)
-
-both : (p q : Bool) → (p && q) ≡ true → (p ≡ true) × (q ≡ true)
-both true true h = (refl, refl)
-both true false h = absurd (false≢true h)
-both false q h = absurd (false≢true h)
 
 member_is : (m : StatedMember) (name signature : List ℕ) → name ≡ m.name → signature ≡ m.signature → m ≡ record { name = name; signature = signature }
 member_is m name signature e f = rw (e, f)
@@ -63,7 +55,7 @@ module _ (members : List StatedMember) where
       by None e h = absurd (let no : ⊥ = cc in no)
       by (Some i) e h =
           let found = position-item (is_member name signature) members i e in
-          let parts = both (bytes_eq name found.0.name) (bytes_eq signature found.0.signature) found.2 in
+          let parts = and_parts (bytes_eq name found.0.name) (bytes_eq signature found.0.signature) found.2 in
           let number_is : i + 1 ≡ number = cc in
           let above : (number == 0) ≡ false = grind (arith, nat_tests) in
           let place_is : i ≡ number - 1 = omega arith in

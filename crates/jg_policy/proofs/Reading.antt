@@ -3,6 +3,7 @@ use Rattle.std.proofs.Common.{◌≡◌, ℕ, ◌+◌, ◌-◌, ◌<◌, ◌≤�
 use Rattle.std.proofs.lemmas.Bool.Decides.{nat_tests}
 use Rattle.std.specs.Option.{option_map}
 use Rattle.std.specs.Str.{bytes_eq}
+use Rattle.jg_words.proofs.Common.{slice_get-before}
 use Rattle.jg_policy.specs.declared.class.Class.{Class}
 use Rattle.jg_policy.specs.BaseClasses.{base_names}
 use Rattle.jg_policy.specs.Stated.{StatedClass, StatedSetup, class_names}
@@ -31,14 +32,9 @@ module _ (s : StatedSetup) (es : Entries) (kept : map class_view es ≡ s.classe
   pub class_absent : None ≡ slice_get es (class - 15) → class_at s class ≡ None
   class_absent at = class_at-kept ∙ ap (option_map class_view) (sym at)
 
-count_base : length base_names ≡ 15
+pub count_base : length base_names ≡ 15
 unfolding base_names
 count_base = refl
-
-get_front : {A : Type 0} (xs ys : List A) (i : ℕ) → i < length xs → slice_get (xs ++ ys) i ≡ slice_get xs i
-get_front [] ys i low = absurd (omega (arith, low))
-get_front (x ∷ xs) ys zero low = refl
-get_front (x ∷ xs) ys (suc i) low = get_front xs ys i (omega (arith, low))
 
 get_back : {A : Type 0} (xs ys : List A) (i : ℕ) → length xs ≤ i → slice_get (xs ++ ys) i ≡ slice_get ys (i - length xs)
 get_back [] ys i high = let same : i ≡ i - 0 = omega arith in ap (slice_get ys) same
@@ -49,7 +45,7 @@ get_back (x ∷ xs) ys (suc i) high =
 
 -- the names of classes by number
 pub name_of_base : (s : StatedSetup) (class : ℕ) → class < 15 → class_name_of s class ≡ slice_get base_names class
-name_of_base s class low = get_front base_names (class_names s) class (omega (arith, low, count_base))
+name_of_base s class low = slice_get-before base_names (class_names s) class (omega (arith, low, count_base))
 
 module _ (s : StatedSetup) (es : Entries) (kept : map class_view es ≡ s.classes) (class : ℕ) (above : 15 ≤ class) where
   stated_kept : slice_get s.classes (class - 15) ≡ option_map class_view (slice_get es (class - 15))

@@ -1,11 +1,14 @@
 -- What is stated twice.
-use Rattle.std.proofs.Common.{◌≡◌, ℕ, Bool, true, false, not, ◌||◌, ◌&&◌, cond, List, [], ◌∷◌, ◌++◌, map, Option, Some, is_some, String, Global, string_bytes, refl, ap, ◌∙◌, sym, append_assoc}
+use Rattle.std.proofs.Common.{◌≡◌, ℕ, Bool, true, false, not, ◌||◌, ◌&&◌, cond, List, [], ◌∷◌, ◌++◌, map, Option, Some, is_some, String, Global, string_bytes, refl, ◌∙◌, sym, append_assoc}
 use Rattle.std.proofs.lemmas.List.{map-append}
 use Rattle.std.proofs.lemmas.Bool.{false≢true}
 use Rattle.std.proofs.lemmas.List.Folds.{list_any-append}
 use Rattle.std.specs.List.{list_any}
 use Rattle.std.specs.Map.{lookup}
 use Rattle.std.specs.Str.{bytes_eq}
+use Rattle.std.proofs.lemmas.Bool.Decides.{or_parts}
+use Rattle.std.proofs.Math.Bool.{or-true}
+use Rattle.jg_words.proofs.Common.{list_any-map, list_any-front}
 use Rattle.jg_policy.specs.declared.class.Class.{Class}
 use Rattle.jg_policy.specs.declared.class.Member.{Member}
 use Rattle.jg_policy.specs.BaseClasses.{base_names}
@@ -24,15 +27,8 @@ either_grows true b c d p q h = rw (p refl)
 either_grows false true c d p q h = refl
 either_grows false false c d p q h = q h
 
-pub or_true : (b : Bool) → (b || true) ≡ true
-or_true true = refl
-or_true false = refl
-
-pub any_grows : {A : Type 0} (p : A → Bool) (xs ys : List A) → list_any p xs ≡ true → list_any p (xs ++ ys) ≡ true
-any_grows p xs ys h = rw (list_any-append p xs ys, h)
-
 pub any_last : {A : Type 0} (p : A → Bool) (xs : List A) (x : A) → p x ≡ true → list_any p (xs ++ x ∷ []) ≡ true
-any_last p xs x h = rw (list_any-append p xs (x ∷ []), h) (or_true (list_any p xs))
+any_last p xs x h = rw (list_any-append p xs (x ∷ []), h) (or-true (list_any p xs))
 
 module _ {A : Type 0} (same : A → A → Bool) where
   -- a last item repeats one before it
@@ -44,7 +40,7 @@ module _ {A : Type 0} (same : A → A → Bool) where
 
   has_repeat-grows : (xs ys : List A) → has_repeat same xs ≡ true → has_repeat same (xs ++ ys) ≡ true
   has_repeat-grows [] ys h = absurd (false≢true h)
-  has_repeat-grows (x ∷ xs) ys h = either_grows _ _ _ _ (any_grows (λ y. same y x) xs ys) (has_repeat-grows xs ys) h
+  has_repeat-grows (x ∷ xs) ys h = either_grows _ _ _ _ (list_any-front (λ y. same y x) xs ys) (has_repeat-grows xs ys) h
 
   -- a new item leaves a list without repeats
   pub no_repeat-last : (xs : List A) (x : A) → list_any (same x) xs ≡ false → has_repeat same xs ≡ false → has_repeat same (xs ++ x ∷ []) ≡ false
@@ -52,7 +48,7 @@ module _ {A : Type 0} (same : A → A → Bool) where
 
   -- an item that is among those before it makes a repeat, whatever follows
   pub repeat_here : (xs : List A) (x : A) (rest : List A) → list_any (same x) xs ≡ true → has_repeat same ((xs ++ x ∷ []) ++ rest) ≡ true
-  repeat_here xs x rest old = has_repeat-grows (xs ++ x ∷ []) rest (rw (has_repeat-last xs x, old) (or_true (has_repeat same xs)))
+  repeat_here xs x rest old = has_repeat-grows (xs ++ x ∷ []) rest (rw (has_repeat-last xs x, old) (or-true (has_repeat same xs)))
 
 -- ---- classes
 
@@ -62,12 +58,12 @@ names classes = map (λ c. c.name) classes
 twice_grows : (cs ds : List StatedClass) → states_twice cs ≡ true → states_twice (cs ++ ds) ≡ true
 twice_grows cs ds h =
     rw (map-append (λ (c : StatedClass). c.name) cs ds, ← append_assoc base_names (names cs) (names ds))
-    (either_grows _ _ _ _ (has_repeat-grows bytes_eq (base_names ++ names cs) (names ds)) (any_grows repeats_member cs ds) h)
+    (either_grows _ _ _ _ (has_repeat-grows bytes_eq (base_names ++ names cs) (names ds)) (list_any-front repeats_member cs ds) h)
 
 -- a class with a repeated member
 pub twice_member : (cs : List StatedClass) (c : StatedClass) (rest : List StatedClass) → repeats_member c ≡ true → states_twice ((cs ++ c ∷ []) ++ rest) ≡ true
 twice_member cs c rest h =
-    twice_grows (cs ++ c ∷ []) rest (rw (any_last repeats_member cs c h) (or_true (repeats_name (names (cs ++ c ∷ [])))))
+    twice_grows (cs ++ c ∷ []) rest (rw (any_last repeats_member cs c h) (or-true (repeats_name (names (cs ++ c ∷ [])))))
 
 repeats_name-last : (cs : List StatedClass) (c : StatedClass)
     → repeats_name (names (cs ++ c ∷ [])) ≡ (repeats_name (names cs) || (list_any (bytes_eq c.name) base_names || list_any (bytes_eq c.name) (names cs)))
@@ -82,29 +78,21 @@ repeats_name-last cs c =
 -- a class whose name is a base class's
 pub twice_base : (cs : List StatedClass) (c : StatedClass) (rest : List StatedClass) → list_any (bytes_eq c.name) base_names ≡ true → states_twice ((cs ++ c ∷ []) ++ rest) ≡ true
 twice_base cs c rest h =
-    twice_grows (cs ++ c ∷ []) rest (rw (repeats_name-last cs c, h, or_true (repeats_name (names cs))))
+    twice_grows (cs ++ c ∷ []) rest (rw (repeats_name-last cs c, h, or-true (repeats_name (names cs))))
 
 -- a class whose name is an earlier one's
 pub twice_name : (cs : List StatedClass) (c : StatedClass) (rest : List StatedClass) → list_any (bytes_eq c.name) (names cs) ≡ true → states_twice ((cs ++ c ∷ []) ++ rest) ≡ true
 twice_name cs c rest h =
-    twice_grows (cs ++ c ∷ []) rest (rw (repeats_name-last cs c, h, or_true (list_any (bytes_eq c.name) base_names), or_true (repeats_name (names cs))))
-
-neither : (a b : Bool) → (a || b) ≡ false → (a ≡ false) × (b ≡ false)
-neither true b h = absurd (false≢true (sym h))
-neither false b h = (refl, h)
+    twice_grows (cs ++ c ∷ []) rest (rw (repeats_name-last cs c, h, or-true (list_any (bytes_eq c.name) base_names), or-true (repeats_name (names cs))))
 
 -- a new class without repeats
 pub once_stated : (cs : List StatedClass) (c : StatedClass) → list_any (bytes_eq c.name) base_names ≡ false → list_any (bytes_eq c.name) (names cs) ≡ false
     → repeats_member c ≡ false → states_twice cs ≡ false → states_twice (cs ++ c ∷ []) ≡ false
 once_stated cs c base new own none =
-    let before = neither (repeats_name (names cs)) (list_any repeats_member cs) none in
+    let before = or_parts (repeats_name (names cs)) (list_any repeats_member cs) none in
     rw (repeats_name-last cs c, base, new, list_any-append repeats_member cs (c ∷ []), own, before.0, before.1)
 
 -- ---- as they are kept
-
-list_any-map : {A B : Type 0} (show : A → B) (p : B → Bool) (xs : List A) → list_any p (map show xs) ≡ list_any (λ x. p (show x)) xs
-list_any-map show p [] = refl
-list_any-map show p (x ∷ xs) = ap (λ b. p (show x) || b) (list_any-map show p xs)
 
 pub any_named : (name : List ℕ) (es : List (String Global × Class)) → list_any (bytes_eq name) (names (map class_view es)) ≡ is_some (lookup (λ k. bytes_eq name (string_bytes k)) es)
 any_named name [] = refl

@@ -1,5 +1,5 @@
 -- Names, and pairs of them, that were put in order one after another.
-use Rattle.std.proofs.Common.{◌≡◌, ℕ, ◌<◌, ◌+◌, Bool, true, false, ◌||◌, ◌&&◌, cond, Ordering, List, [], ◌∷◌, ◌++◌, length, take, drop, get_or, Option, Some, None, is_some, refl, ◌∙◌, sym}
+use Rattle.std.proofs.Common.{◌≡◌, ℕ, ◌<◌, ◌+◌, Bool, true, false, ◌||◌, ◌&&◌, cond, Ordering, List, [], ◌∷◌, ◌++◌, length, take, drop, get_or, refl, ◌∙◌, sym}
 use Rattle.std.proofs.lemmas.Bool.{false≢true}
 use Rattle.std.proofs.lemmas.List.Folds.{list_any-append}
 use Rattle.std.proofs.lemmas.Map.Text.{is_eq-slice_cmp}
@@ -8,12 +8,13 @@ use Rattle.std.specs.List.{list_any}
 use Rattle.std.specs.Ordering.{is_eq, nat_cmp, ordering_then}
 use Rattle.std.specs.Str.{bytes_eq}
 use denote.Ref.{Bor}
+use Rattle.jg_words.proofs.Common.{list_any-front}
 use Rattle.toml.specs.Data.{Data}
 use Rattle.toml.specs.View.{view, items_view}
 use Rattle.toml.specs.declared.value.Value.{Value}
 use Rattle.jg_policy.specs.Stated.{StatedMember, StatedClass, each_item, class_stated}
 use Rattle.jg_policy.specs.Findings.{has_repeat, same_member, states_twice}
-use Rattle.jg_policy.proofs.Repeats.{any_grows, any_last, repeat_here, no_repeat-last}
+use Rattle.jg_policy.proofs.Repeats.{any_last, repeat_here, no_repeat-last}
 use Rattle.jg_policy.proofs.Stating.{each_item-parts, each_item-more}
 
 abbrev Text : Type 0
@@ -81,10 +82,6 @@ pub refuted : (b other : Bool) → other ≡ false → (b ≡ true → other ≡
 refuted true other fails h = absurd (false≢true (sym fails ∙ h refl))
 refuted false other fails h = refl
 
-pub none_of : {A : Type 0} (o : Option A) → is_some o ≡ false → o ≡ None
-none_of None h = refl
-none_of (Some a) h = absurd (false≢true (sym h))
-
 module _ (vs : List Value) (i : ℕ) (v : Value) where
   -- a class by which something is stated twice, whatever follows
   pub twice_here : i < length vs → v ≡ get_or vs i v
@@ -100,7 +97,7 @@ module _ {A : Type 0} (p : A → Bool) (f : Data → A) (vs : List Value) (i : �
   any_here below is passes =
       let done = each_item f (items_view (take i vs)) in
       rw (each_item-parts f done vs i v below is refl)
-      (any_grows p (done ++ f (view v) ∷ []) (each_item f (items_view (drop (i + 1) vs))) (any_last p done (f (view v)) passes))
+      (list_any-front p (done ++ f (view v) ∷ []) (each_item f (items_view (drop (i + 1) vs))) (any_last p done (f (view v)) passes))
 
   -- an item that doesn't, as none before it does
   pub none_more : i < length vs → v ≡ get_or vs i v → p (f (view v)) ≡ false → list_any p (each_item f (items_view (take i vs))) ≡ false

@@ -1,7 +1,7 @@
 -- Modules numbered one after another, and what is read of what was settled.
 use Rattle.std.proofs.Common.{◌≡◌, ℕ, ◌+◌, ◌-◌, ◌<◌, ◌≤◌, nat_lt, Bool, ◌||◌, ◌&&◌, true, false, cond, List, [], ◌∷◌, ◌++◌, length, map, take, get_or, slice_get, Option, Some, None, position, option_and_then, unwrap_or, if◌then◌else◌, String, Global, string_bytes, codes, append_assoc, refl, ap, ◌∙◌, sym, arith}
 use Rattle.std.proofs.lemmas.Bool.Decides.{nat_tests}
-use Rattle.std.proofs.Math.Bool.{and-true}
+use Rattle.std.proofs.Math.Bool.{and-true, or-true}
 use Rattle.std.proofs.lemmas.List.{length-map, length-append, map-append, map_more}
 use Rattle.std.proofs.lemmas.List.Folds.{list_any-append}
 use Rattle.std.specs.Cmp.Lexicographic.{bytes_decides, nat_list_eq_equiv}
@@ -21,7 +21,6 @@ use Rattle.jg_policy.specs.Kept.{grant_view, class_view}
 use Rattle.jg_policy.specs.Settling.{settled_for, settled_view, settled_access, AreSettled}
 use Rattle.jg_policy.proofs.Places.{or_later, position-cons}
 use Rattle.jg_policy.proofs.Reading.{slice_get-map}
-use Rattle.jg_policy.proofs.Repeats.{or_true}
 
 -- ---- texts in a set
 
@@ -30,7 +29,7 @@ pub put_text : (text name : List ℕ) (held : Bool) → cond (bytes_eq text name
 put_text text name held = rw (nat_list_eq_equiv.symm name text) (by (bytes_eq text name) held)
   where
     by : (b held : Bool) → cond b true held ≡ (held || b)
-    by true held = sym (or_true held)
+    by true held = sym (or-true held)
     by false true = refl
     by false false = refl
 

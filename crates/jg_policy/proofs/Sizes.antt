@@ -1,8 +1,8 @@
--- The limits of a setup, over what is kept of it.
-use Rattle.std.proofs.Common.{◌≡◌, ℕ, ◌≤◌, ◌<◌, zero, suc, nat_lt, Bool, true, false, ◌||◌, List, [], ◌∷◌, length, map, Some, slice_get, String, Global, refl, sym, arith}
+-- The limits of a setup, lt-ltb what is kept of it.
+use Rattle.std.proofs.Common.{◌≡◌, ℕ, ◌≤◌, ◌<◌, zero, suc, false, ◌||◌, List, [], ◌∷◌, length, map, Some, slice_get, String, Global, refl}
 use Rattle.std.proofs.lemmas.List.{length-map}
-use Rattle.std.proofs.lemmas.Bool.{false≢true}
-use Rattle.std.proofs.lemmas.Bool.Decides.{nat_tests}
+use Rattle.std.proofs.lemmas.Bool.{ltb-false, lt-ltb}
+use Rattle.std.proofs.lemmas.Bool.Decides.{or_parts}
 use Rattle.std.specs.List.{list_any}
 use Rattle.jg_policy.specs.declared.class.Class.{Class}
 use Rattle.jg_policy.specs.declared.grant.Grant.{Grant}
@@ -20,23 +20,9 @@ pub large_kept : (s : StatedSetup) (gs : List Grant) (es : List (String Global �
 large_kept s gs es grants classes =
     rw (← grants, ← classes, length-map gs grant_view, length-map es class_view, any_many es) refl
 
-neither : (a b : Bool) → (a || b) ≡ false → (a ≡ false) × (b ≡ false)
-neither true b h = absurd (false≢true (sym h))
-neither false b h = (refl, h)
-
--- the test of a count against a limit
-pub over : (n m : ℕ) → n < m → nat_lt n m ≡ true
-over n m h = grind (arith, nat_tests)
-
-pub within : (n m : ℕ) → m ≤ n → nat_lt n m ≡ false
-within n m h = grind (arith, nat_tests)
-
-at_most : (n m : ℕ) → nat_lt n m ≡ false → m ≤ n
-at_most n m h = grind (arith, nat_tests)
-
 -- what the invariant of a setup says of its classes
 pub few_classes : (gs : List Grant) (es : List (String Global × Class)) → is_large_kept gs es ≡ false → length es ≤ 1000
-few_classes gs es h = at_most 1000 (length es) (neither _ _ (neither _ _ h).0).0
+few_classes gs es h = ltb-false 1000 (length es) (or_parts _ _ (or_parts _ _ h).0).0
 
 -- and of each one
 pub record HasFew (c : Class) : Type 0 where
@@ -47,10 +33,10 @@ few_in : (es : List (String Global × Class)) → list_any has_many_kept (map (�
 few_in [] none i e at = absurd (let no : ⊥ = cc in no)
 few_in (x ∷ es) none zero e at =
     let is : x ≡ e = cc in
-    let few = neither _ _ (neither _ _ none).0 in
-    rw (← is) (record { fields = at_most 100 _ few.0; natives = at_most 100 _ few.1 })
-few_in (x ∷ es) none (suc i) e at = few_in es (neither _ _ none).1 i e at
+    let few = or_parts _ _ (or_parts _ _ none).0 in
+    rw (← is) (record { fields = ltb-false 100 _ few.0; natives = ltb-false 100 _ few.1 })
+few_in (x ∷ es) none (suc i) e at = few_in es (or_parts _ _ none).1 i e at
 
 pub few_members : (gs : List Grant) (es : List (String Global × Class)) → is_large_kept gs es ≡ false
     → (i : ℕ) (e : String Global × Class) → slice_get es i ≡ Some e → HasFew e.1
-few_members gs es h = few_in es (neither _ _ h).1
+few_members gs es h = few_in es (or_parts _ _ h).1

@@ -2,6 +2,7 @@
 use Rattle.std.proofs.Common.{◌≡◌, ℕ, Bool, true, false, not, if◌then◌else◌, ◌&&◌, List, [], ◌∷◌, ◌++◌, Option, Some, None, codes, refl}
 use Rattle.std.specs.Prelude.{unwrap_or}
 use Rattle.std.specs.List.{list_all}
+use Rattle.std.proofs.lemmas.Bool.Decides.{and_from}
 use Rattle.toml.specs.Data.{Data, Items, no_items, item, Members, no_members, get_member, as_str, as_array, as_table}
 use Rattle.jg_policy.specs.declared.fault.SetupFault.{SetupFault}
 use Rattle.jg_policy.specs.declared.fault.SetupFault.TheVariants.{BadName, UnknownKey}
@@ -19,9 +20,6 @@ no_first (x ∷ xs) ys h = absurd (let no : ⊥ = cc in no)
 no_second : (xs ys : List SetupFault) → xs ++ ys ≡ [] → ys ≡ []
 no_second [] ys h = h
 no_second (x ∷ xs) ys h = absurd (let no : ⊥ = cc in no)
-
-both_hold : (a b : Bool) → a ≡ true → b ≡ true → (a && b) ≡ true
-both_hold a b h k = rw (h, k) refl
 
 not_found : (b : Bool) (f : SetupFault) → fault_if (not b) f ≡ [] → b ≡ true
 not_found true f h = refl
@@ -42,7 +40,7 @@ module _ {A : Type 0} (rule : Data → List SetupFault) (f : Data → A) (spelt 
   each_spelt : (ds : Items) → each_of rule ds ≡ [] → list_all spelt (each_item f ds) ≡ true
   each_spelt no_items h = refl
   each_spelt (item d ds) h =
-      both_hold (spelt (f d)) (list_all spelt (each_item f ds)) (good d (no_first (rule d) (each_of rule ds) h)) (each_spelt ds (no_second (rule d) (each_of rule ds) h))
+      and_from (spelt (f d)) (list_all spelt (each_item f ds)) (good d (no_first (rule d) (each_of rule ds) h)) (each_spelt ds (no_second (rule d) (each_of rule ds) h))
 
   array_spelt : (o : Option Data) → optional (array_faults rule) o ≡ [] → list_all spelt (each_item f (items_at o)) ≡ true
   array_spelt None h = refl
@@ -64,7 +62,7 @@ module _ {A : Type 0} (rule : Members → List SetupFault) (f : Members → A) (
 member_table_spelt : (spelling : Spelling) (ms : Members) → member_table_faults spelling ms ≡ [] → is_member_spelt spelling (member_stated_in ms) ≡ true
 member_table_spelt spelling ms h =
     let rest = no_second (fault_if (has_unknown_key member_keys ms) UnknownKey) _ h in
-    both_hold _ _ (required_spelt MemberName (get_member (codes "name") ms) (no_first _ _ rest)) (required_spelt spelling (get_member (codes "type") ms) (no_second _ _ rest))
+    and_from _ _ (required_spelt MemberName (get_member (codes "name") ms) (no_first _ _ rest)) (required_spelt spelling (get_member (codes "type") ms) (no_second _ _ rest))
 
 member_spelt : (spelling : Spelling) (d : Data) → member_faults spelling d ≡ [] → is_member_spelt spelling (member_stated d) ≡ true
 member_spelt spelling = table_spelt (member_table_faults spelling) member_stated_in (is_member_spelt spelling) (member_table_spelt spelling)
@@ -79,9 +77,9 @@ class_table_spelt ms h =
     let lists = no_second (optional truth_faults (get_member (codes "throwable") ms)) _ parts in
     let fields = no_first (optional (array_faults (member_faults FieldType)) (get_member (codes "fields") ms)) _ lists in
     let natives = no_second (optional (array_faults (member_faults FieldType)) (get_member (codes "fields") ms)) _ lists in
-    both_hold _ _
-    (both_hold _ _ (required_spelt ClassName (get_member (codes "name") ms) name) (required_spelt ModuleName (get_member (codes "module") ms) module_name))
-    (both_hold _ _
+    and_from _ _
+    (and_from _ _ (required_spelt ClassName (get_member (codes "name") ms) name) (required_spelt ModuleName (get_member (codes "module") ms) module_name))
+    (and_from _ _
     (array_spelt (member_faults FieldType) member_stated (is_member_spelt FieldType) (member_spelt FieldType) (get_member (codes "fields") ms) fields)
     (array_spelt (member_faults NativeType) member_stated (is_member_spelt NativeType) (member_spelt NativeType) (get_member (codes "natives") ms) natives))
 
@@ -109,5 +107,5 @@ grants_spelt ms = by (is_version_2 ms)
 pub setup_spelt : (ms : Members) → shape_faults ms ≡ [] → are_spelt (setup_stated ms).grants (setup_stated ms).classes ≡ true
 setup_spelt ms h =
     let lists = no_second (setup_heading_faults ms) (setup_lists_faults ms) h in
-    both_hold _ _ (grants_spelt ms (no_first (granting_faults ms) _ lists))
+    and_from _ _ (grants_spelt ms (no_first (granting_faults ms) _ lists))
     (array_spelt class_faults class_stated is_class_spelt class_spelt (get_member (codes "class") ms) (no_second (granting_faults ms) _ lists))

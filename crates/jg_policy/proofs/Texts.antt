@@ -29,7 +29,7 @@ one_setup text s t (tree, is, clean, stated) (other, same, fine, told) =
     let one : tree ≡ other = same_Some tree other (sym is ∙ same) in
     stated ∙ ap setup_stated one ∙ sym told
 
-nothing_first : (fault : SetupFault) → IsFirstFault [] fault → ⊥
+pub nothing_first : (fault : SetupFault) → IsFirstFault [] fault → ⊥
 nothing_first fault h = let (k, below, at) = h.among in omega arith
 
 pub no_fault : (text : List ℕ) (s : StatedSetup) (fault : SetupFault) → States text s → IsFirstFault (text_faults_of (parse_document text)) fault → ⊥

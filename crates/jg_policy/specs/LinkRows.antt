@@ -1,5 +1,5 @@
 -- The rows that the table of links keeps.
-use Rattle.std.specs.Prelude.{ℕ, ◌+◌, Bool, ◌==◌, ◌&&◌, if◌then◌else◌, List, [], ◌∷◌}
+use Rattle.std.specs.Prelude.{ℕ, ◌+◌, Bool, ◌==◌, ◌&&◌, if◌then◌else◌, List, ◌∷◌}
 
 -- a linked native method
 pub record LinkRow : Type 0 where
@@ -19,8 +19,3 @@ pub record Table : Type 0 where
 -- the row is that of the method
 abbrev pub is_link : ℕ → ℕ → LinkRow → Bool
 is_link class native row = class == row.class && native == row.native
-
--- how many items pass the test
-abbrev pub how_many : {A : Type 0} → (A → Bool) → List A → ℕ
-how_many p [] = 0
-how_many p (x ∷ xs) = if p x then how_many p xs + 1 else how_many p xs

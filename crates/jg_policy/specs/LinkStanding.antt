@@ -1,11 +1,8 @@
 -- When rows stand for a list of events.
-use Rattle.std.specs.Prelude.{◌≡◌, ℕ, Bool, ◌==◌, if◌then◌else◌, List}
+use Rattle.std.specs.Prelude.{◌≡◌, ℕ, ◌==◌, if◌then◌else◌, List}
+use Rattle.jg_lists.specs.Acts.{how_many, once_if}
 use Rattle.jg_policy.specs.Links.{Event, linked, warned}
-use Rattle.jg_policy.specs.LinkRows.{Rows, is_link, how_many}
-
--- how often a thing stands that does or doesn't hold
-abbrev pub once_if : Bool → ℕ
-once_if b = if b then 1 else 0
+use Rattle.jg_policy.specs.LinkRows.{Rows, is_link}
 
 -- there is one row for each linked method and each warned module, and no other
 pub record Stands (rows : Rows) (e : List Event) : Type 0 where

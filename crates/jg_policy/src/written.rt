@@ -1,5 +1,5 @@
 //! A setup as the tree of a text of version 2.
-ghost use Rattle.std.specs.Prelude.{◌≡◌, ◌++◌, ◌∷◌, [], pos, map, string_bytes, codes, IfOk, OnOk};
+ghost use Rattle.std.specs.Prelude.{◌≡◌, ◌++◌, ◌∷◌, map, IfOk, OnOk};
 ghost use Rattle.toml.specs.Data.{string, array, table as table_data};
 ghost use Rattle.toml.specs.View.{view, table_view, items_of};
 ghost use Rattle.jg_policy.specs.Kept.{member_view, grant_view, class_view, named_class_view};

@@ -1,5 +1,5 @@
 -- What the text states that stands for no setup.
-use Rattle.std.proofs.Common.{◌≡◌, ◌≢◌, ◌∙◌, ◌⊎◌, inl, inr, ◌<◌, ℕ, Bool, List, [], nat_eq, Some, Result, Ok, Err, IfOk, IfErr, codes, pos, refl, sym, ap, subst, arith}
+use Rattle.std.proofs.Common.{◌≡◌, ◌≢◌, ◌∙◌, ◌⊎◌, inl, inr, ◌<◌, ℕ, Bool, List, [], nat_eq, Some, Result, Ok, Err, IfOk, IfErr, codes, pos, refl, sym, ap, subst}
 use Rattle.std.proofs.lemmas.Bool.{false≢true}
 use Rattle.std.proofs.lemmas.Option.{same_Some}
 use Rattle.toml.specs.Data.{Members, no_members, member, integer, string}
@@ -11,6 +11,7 @@ use Rattle.jg_policy.specs.BaseClasses.{base_names}
 use Rattle.jg_policy.specs.Stated.{StatedSetup, setup_stated}
 use Rattle.jg_policy.specs.Faults.{IsFirstFault, rank}
 use Rattle.jg_policy.specs.Findings.{tree_faults, text_faults_of}
+use Rattle.jg_policy.proofs.Texts.{nothing_first}
 use Rattle.jg_program.specs.StatedBy.{base_setup}
 
 -- the text
@@ -50,15 +51,10 @@ memory_or_not BadName = inr (λ e. false≢true (ap is_memory e))
 memory_or_not Duplicate = inr (λ e. false≢true (ap is_memory e))
 memory_or_not TooMany = inr (λ e. false≢true (ap is_memory e))
 
-none_found : (fault : SetupFault) → IsFirstFault [] fault → ⊥
-none_found fault first =
-    let short : first.among.0 < 0 = first.among.1 in
-    omega arith
-
 -- where there is no fault to be found, only the want of memory is left
 none_but_memory : (fault : SetupFault) → (fault ≡ NoMemory) ⊎ (fault ≢ NoMemory) → (fault ≢ NoMemory → IsFirstFault [] fault) → fault ≡ NoMemory
 none_but_memory fault (inl memory) found = memory
-none_but_memory fault (inr other) found = absurd (none_found fault (found other))
+none_but_memory fault (inr other) found = absurd (nothing_first fault (found other))
 
 pub closed_is_faultless : (r : Result StatedSetup SetupFault) → IfErr r (λ fault. fault ≢ NoMemory → IsFirstFault (text_faults_of (parse_document closed_text)) fault)
     → IfErr r (λ fault. fault ≡ NoMemory)

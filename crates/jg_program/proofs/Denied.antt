@@ -3,34 +3,19 @@ use Rattle.std.proofs.Common.{◌≡◌, ◌+◌, ◌≤◌, ◌||◌, ℕ, suc,
 use Rattle.std.specs.Prelude.{◌==◌, nat_lt}
 use Rattle.std.specs.Option.{is_some}
 use Rattle.std.proofs.lemmas.Bool.Decides.{nat_tests}
+use Rattle.std.proofs.lemmas.Bool.{ne_eqb}
 use Rattle.jg_words.specs.declared.entry.Outcome.{Outcome}
 use Rattle.jg_words.specs.declared.entry.Outcome.TheVariants.{Passed, Denied}
 use Rattle.jg_words.specs.declared.rule.Rule.{Rule}
-use Rattle.jg_words.specs.declared.rule.Rule.TheVariants.{WrongThread, Detached, InCritical, Pending, ForeignLocal, DeadReference, WrongRefKind, NullReference, WrongType, BadField, BadBuffer, BadArgument, Pinned, NotOwner, BadFrame, NoNativeAccess, NotLinked}
 use Rattle.jg_words.specs.Entry.{Entry, rule_in}
 use Rattle.jg_words.specs.Rule.{number_of}
+use Rattle.jg_words.proofs.Common.{positive, rule_number}
 use Rattle.jg_guard.specs.Tally.{outcome_number, passed_in}
 use Rattle.jg_program.specs.Reported.{any_denied}
 
 -- a denied call doesn't count as one that passed
 not_passed : (rule : Rule) → (number_of rule == 0) ≡ false
-not_passed WrongThread = refl
-not_passed Detached = refl
-not_passed InCritical = refl
-not_passed Pending = refl
-not_passed ForeignLocal = refl
-not_passed DeadReference = refl
-not_passed WrongRefKind = refl
-not_passed NullReference = refl
-not_passed WrongType = refl
-not_passed BadField = refl
-not_passed BadBuffer = refl
-not_passed BadArgument = refl
-not_passed Pinned = refl
-not_passed NotOwner = refl
-not_passed BadFrame = refl
-not_passed NoNativeAccess = refl
-not_passed NotLinked = refl
+not_passed rule = ne_eqb (number_of rule) 0 (positive (number_of rule) (rule_number rule).0)
 
 -- with one outcome more, where so many of these passed
 few_more : (b : Bool) (passed all : ℕ) → passed ≤ all → (if b then passed + 1 else passed) ≤ suc all

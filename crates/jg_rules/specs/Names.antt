@@ -14,7 +14,7 @@ use Rattle.jg_globals.specs.History as globals
 use Rattle.jg_globals.specs.declared.target.Target.{Target}
 use Rattle.jg_globals.specs.declared.target.Target.TheVariants.{Object as ToObject, Cleared}
 use Rattle.jg_heap.specs.History as heap
-use Rattle.jg_heap.specs.Making.{class_in, units_in, length_in}
+use Rattle.jg_heap.specs.Making.{units_in, length_in}
 use Rattle.jg_heap.specs.declared.object.Slot.{Slot}
 use Rattle.jg_heap.specs.declared.object.Slot.TheVariants.{Number, Object as Pointer}
 use Rattle.jg_rules.specs.declared.named.Named.{Named}

@@ -1,5 +1,5 @@
 -- A call that the guard took is in front of its journal.
-use Rattle.std.proofs.Common.{◌≡◌, ◌∙◌, ap, ℕ, List, ◌∷◌, ◌++◌, [], Option, Some, None, Result, Ok, Err, OnOk, inl, inr, refl, subst, length, take, slice_get, ◌<◌}
+use Rattle.std.proofs.Common.{◌≡◌, ◌∙◌, ap, ℕ, List, ◌∷◌, ◌++◌, [], Option, Some, None, Ok, Err, inl, inr, refl, subst, length, take, slice_get, ◌<◌}
 use Rattle.std.specs.Io.KnownBytes.{Appends}
 use Rattle.jg_words.specs.Entry.{Entry}
 use Rattle.jg_words.specs.declared.thread.Tid.{Tid}
@@ -60,10 +60,6 @@ pub completes : (front : Option Entry) (x e : Entry) (text new : List ℕ) → f
 completes front x e text new seen first is added =
     let same : x ≡ e = cc in
     added ∙ ap (λ (y : Entry). text ++ answer_text y.outcome) same ∙ completed e text is
-
-pub on_ok : {T E P Q : Type 0} (r : Result T E) → (P → Q) → OnOk r P → OnOk r Q
-on_ok (Ok x) f p = f p
-on_ok (Err e) f p = tt
 
 pub not_taken : (bytes : Option (List ℕ)) (old new : State) (text : List ℕ) (t : Tid) (env : Option EnvId) (call : Call) (n : ℕ) (fault : RunFault)
     → FailsCall old new (next_entry old t env call) n fault → Spells text t env call → Answers bytes bytes old new text n (Err fault)

@@ -1,9 +1,6 @@
 -- What taking one call does, and what replaying one line of a journal does. No public contract
 -- stands on this.
 use Rattle.std.specs.Prelude.{◌≡◌, ◌≢◌, ℕ, ◌<◌, ◌≤◌, List, [], ◌∷◌, ◌++◌, length, Option, Some, None, Result, Ok, Err, ◌⊎◌}
-use Rattle.jg_words.specs.declared.thread.Tid.{Tid}
-use Rattle.jg_words.specs.declared.thread.EnvId.{EnvId}
-use Rattle.jg_words.specs.declared.call.Call.{Call}
 use Rattle.jg_words.specs.Entry.{Entry}
 use Rattle.jg_guard.specs.Guard.{State}
 use Rattle.jg_text.specs.Begun.{BeginsCall, BeginsWith}

@@ -1,5 +1,5 @@
 -- Places in a journal that gets one entry more.
-use Rattle.std.proofs.Common.{ℕ, ◌≡◌, ◌<◌, zero, suc, List, [], ◌∷◌, ◌++◌, length, map, reverse, Option, Some, None, Result, Ok, Err, IfOk, refl, sym, ap, ◌∙◌, arith}
+use Rattle.std.proofs.Common.{ℕ, ◌≡◌, ◌<◌, List, [], ◌∷◌, ◌++◌, length, map, reverse, Option, Some, None, Result, Ok, Err, IfOk, refl, sym, ap, ◌∙◌, arith}
 use Rattle.std.specs.Prelude.{slice_get}
 use Rattle.std.specs.Option.{option_map}
 use Rattle.std.proofs.lemmas.List.{reverse-append, length-reverse, length-map}
@@ -9,6 +9,7 @@ use Rattle.jg_words.specs.declared.thread.EnvId.{EnvId}
 use Rattle.jg_words.specs.declared.rule.Rule.{Rule}
 use Rattle.jg_words.specs.declared.call.Call.{Call}
 use Rattle.jg_words.specs.Entry.{Entry}
+use Rattle.jg_words.proofs.Common.{slice_get-before}
 use Rattle.jg_rules.specs.declared.answer.Answer.{Answer}
 use Rattle.jg_rules.specs.Effects.{parts}
 use Rattle.jg_rules.specs.Rules.{verdict}
@@ -22,11 +23,6 @@ use Rattle.jg_shell.specs.Receipts.{Told, told_of, told_by, told_at, IsReceiptOf
 slice_get_last : {X : Type 0} (xs : List X) (x : X) → slice_get (xs ++ x ∷ []) (length xs) ≡ Some x
 slice_get_last [] x = refl
 slice_get_last (y ∷ xs) x = slice_get_last xs x
-
-slice_get_before : {X : Type 0} (xs ys : List X) (i : ℕ) → i < length xs → slice_get (xs ++ ys) i ≡ slice_get xs i
-slice_get_before [] ys i lt = absurd (omega arith)
-slice_get_before (x ∷ xs) ys zero lt = refl
-slice_get_before (x ∷ xs) ys (suc i) lt = slice_get_before xs ys i (omega arith)
 
 turned : (x : Entry) (h : List Entry) → reverse (x ∷ h) ≡ reverse h ++ x ∷ []
 turned x h = reverse-append (x ∷ []) h
@@ -42,7 +38,7 @@ told_newest x h =
 pub told_older : (x : Entry) (h : List Entry) (i : ℕ) → i < length h → told_at (x ∷ h) i ≡ told_at h i
 told_older x h i lt =
     ap (λ (o : Option Entry). option_map told_of o)
-    (ap (λ (xs : List Entry). slice_get xs i) (turned x h) ∙ slice_get_before (reverse h) (x ∷ []) i (omega (arith, length-reverse h)))
+    (ap (λ (xs : List Entry). slice_get xs i) (turned x h) ∙ slice_get-before (reverse h) (x ∷ []) i (omega (arith, length-reverse h)))
 
 -- only the places below the length have entries
 pub told_within : (h : List Entry) (i : ℕ) (t : Told) → told_at h i ≡ Some t → i < length h

@@ -1,7 +1,7 @@
 -- Receipts that are right and complete are the entries of their thread.
 use Rattle.std.proofs.Common.{ℕ, ◌≡◌, ◌<◌, ◌≤◌, ◌+◌, Bool, true, false, List, [], ◌∷◌, ◌++◌, length, get_or, refl, sym, ap, ap₂, subst, ◌∙◌, arith, inl, inr, Some, map, reverse, append_assoc, append-nil}
 use Rattle.std.specs.Prelude.{◌==◌, ◌&&◌, ◌||◌, if◌then◌else◌, All, Any}
-use Rattle.std.proofs.lemmas.Bool.{cases_lt}
+use Rattle.std.proofs.lemmas.Bool.{cases_lt, and_parts}
 use Rattle.std.proofs.lemmas.Bool.Decides.{nat_tests}
 use Rattle.std.proofs.lemmas.List.{reverse-append, get_or_default}
 use Rattle.std.proofs.lemmas.List.Elements.{All-cons, All-nil, All-head, All-tail}
@@ -104,10 +104,6 @@ own_entries t [] [] d c = refl
 own_entries t [] (r ∷ rs) d c = absurd (omega (arith, d.0))
 own_entries t (x ∷ h) rs d c = own_at t x h rs (x.tid.0 == t.0) refl d c (own_entries t h)
 
-both : (a b : Bool) → (a && b) ≡ true → (a ≡ true) × (b ≡ true)
-both true b e = (refl, e)
-both false b e = absurd (cc e)
-
 -- the worker that was told of a place, and its index
 record IsTeller (workers : List Work) (t : Tid) (place : ℕ) : Type 0 where
   index : ℕ
@@ -120,7 +116,7 @@ record IsTeller (workers : List Work) (t : Tid) (place : ℕ) : Type 0 where
 teller : (h : List Entry) (workers : List Work) → IsAllTold h workers → (i : ℕ) (told : Told) → told_at h i ≡ Some told → IsTeller workers told.tid i
 teller h workers all i told at =
     let any = Any-from_list_any (tells told.tid i) workers (all.told i told (told_within h i told at) at) in
-    let test = both _ _ any.4 in
+    let test = and_parts _ _ any.4 in
     record { index = any.0; worker = any.1; within = any.2; worker_is = any.3; thread = tid_same any.1.tid told.tid test.0; has = test.1 }
 
 -- workers of one thread are one

@@ -1,6 +1,6 @@
 //! Classes, types and functions, as they are told.
 
-ghost use Rattle.std.specs.Prelude.{◌≡◌, ◌<◌, ◌++◌, OnOk, flat_map, map, option_map, take, string_bytes};
+ghost use Rattle.std.specs.Prelude.{◌≡◌, ◌<◌, ◌++◌, OnOk, flat_map, option_map, string_bytes};
 ghost use Rattle.jg_policy.specs.Classes.{field_type};
 ghost use Rattle.jg_telling.specs.Words as words;
 

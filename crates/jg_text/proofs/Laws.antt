@@ -3,7 +3,7 @@ use Rattle.std.proofs.Common.{◌≡◌, ◌≢◌, ℕ, ℤ, pos, negsuc, suc, 
 use Rattle.std.specs.Int.{IsInRange}
 use Rattle.std.specs.List.{join_with_byte, AllByRecursion}
 use Rattle.std.specs.Fmt.{decimal, signed_decimal}
-use Rattle.std.proofs.lemmas.Bool.{ne_eqb}
+use Rattle.std.proofs.lemmas.Bool.{ne_eqb, and_parts, ltb-true}
 use Rattle.std.proofs.lemmas.Bool.Decides.{nat_tests}
 use Rattle.std.specs.Prelude.{nat_eq, nat_lt, Bool, ◌&&◌}
 use Rattle.std.specs.List.{list_all}
@@ -35,7 +35,7 @@ use Rattle.jg_text.specs.Pieces.{after_spaces}
 use Rattle.jg_text.proofs.Numbers.{own, mag_fits, mag_fits_small}
 use Rattle.jg_text.proofs.Cuts.{IsClean, split_first, dotted_same}
 use Rattle.jg_text.proofs.Lists.{Fit, pieces, commas_split, same_inner}
-use Rattle.jg_words.proofs.ByName.{names_injective, both_true, below, each_passes}
+use Rattle.jg_words.proofs.ByName.{names_injective, each_passes}
 use Rattle.jg_text.proofs.Calls.{same_call, same_kinds, few_operands, longest, room}
 use Rattle.jg_text.proofs.Faulty.{HasHead, no_fault}
 use Rattle.jg_text.proofs.Writing.{join_operands}
@@ -182,8 +182,8 @@ in_range b h k = grind (arith, nat_tests)
 seen_by_test : (bs : List ℕ) → list_all is_seen bs ≡ true → AllByRecursion (λ b. IsInRange 33 126 b) bs
 seen_by_test [] h = tt
 seen_by_test (b ∷ bs) h =
-    let parts = both_true (is_seen b) (list_all is_seen bs) h in
-    let two = both_true (nat_lt 32 b) (nat_lt b 127) parts.0 in
+    let parts = and_parts (is_seen b) (list_all is_seen bs) h in
+    let two = and_parts (nat_lt 32 b) (nat_lt b 127) parts.0 in
     (in_range b two.0 two.1, seen_by_test bs parts.1)
 
 -- each operand is seen
@@ -288,7 +288,7 @@ words_short [] h = omega arith
 words_short (u ∷ us) h = simp length-append (omega (arith, word_short u h.0, words_short us h.1))
 
 name_short : (f : Fun) → length (name_of f) < 40
-name_short f = below (length (name_of f)) 40 (each_passes (λ g. pointwise nat_eq (name_of g) (name_of f)) (λ g. nat_lt (length (name_of g)) 40) all f (named-name_of f) refl)
+name_short f = ltb-true (length (name_of f)) 40 (each_passes (λ g. pointwise nat_eq (name_of g) (name_of f)) (λ g. nat_lt (length (name_of g)) 40) all f (named-name_of f) refl)
 
 env_short : (e : Option EnvId) → FitsEnv e → length (env_text e) ≤ 42
 env_short None h = omega arith

@@ -6,7 +6,7 @@ use Rattle.std.specs.Str.{IsUtf8}
 use Rattle.std.specs.List.{list_all, AllByRecursion}
 use Rattle.std.specs.Fmt.{decimal, signed_decimal}
 use Rattle.std.proofs.lemmas.Fmt.{length-decimal-le}
-use Rattle.std.proofs.lemmas.Bool.{cases_lt}
+use Rattle.std.proofs.lemmas.Bool.{cases_lt, and_parts, ltb-true}
 use Rattle.std.proofs.lemmas.List.{get_or_past}
 use Rattle.std.proofs.lemmas.Str.{IsUtf8-from_ascii}
 use Rattle.std.proofs.lemmas.List.Elements.{All-append, All-cons, All-from_recursion}
@@ -25,12 +25,12 @@ use Rattle.jg_words.specs.declared.value.Thrown.{Thrown}
 use Rattle.jg_words.specs.declared.value.Thrown.TheVariants.{ArrayIndexOutOfBounds, StringIndexOutOfBounds, NoClassDefFound, NoSuchField, NoSuchMethod}
 use Rattle.jg_words.specs.declared.value.Value.{Value}
 use Rattle.jg_words.specs.declared.value.Value.TheVariants as value
+use Rattle.jg_words.proofs.Common.{rule_number}
 use Rattle.jg_text.specs.Words.{FitsTid, FitsEnv, ref_text, items_text, FitsRef, of_ref, of_items, dotted_text}
 use Rattle.jg_text.specs.Operands.{FitsCall}
 use Rattle.jg_text.specs.Spelling.{Spells}
 use Rattle.jg_text.specs.Journal.{value_text, notice_text, warning_text, outcome_text, thrown_name, entry_text, call_line, FitsValue, FitsOutcome}
 use Rattle.jg_text.proofs.Laws.{dotted_short, signed_short, joined_short, short_call, printable_line, seen_word, seen_number, seen_signed, seen_dotted, wide}
-use Rattle.jg_words.proofs.ByName.{both_true, below}
 
 pub always : {T E P : Type 0} (r : Result T E) → P → OnOk r P
 always (Ok x) p = p
@@ -47,10 +47,10 @@ is_printable b = nat_lt 31 b && nat_lt b 127
 by_test : (bs : List ℕ) → list_all is_printable bs ≡ true → AllByRecursion (λ b. IsInRange 32 126 b) bs
 by_test [] h = tt
 by_test (b ∷ bs) h =
-    let parts = both_true (is_printable b) (list_all is_printable bs) h in
-    let two = both_true (nat_lt 31 b) (nat_lt b 127) parts.0 in
-    let low = below 31 b two.0 in
-    let high = below b 127 two.1 in
+    let parts = and_parts (is_printable b) (list_all is_printable bs) h in
+    let two = and_parts (nat_lt 31 b) (nat_lt b 127) parts.0 in
+    let low = ltb-true 31 b two.0 in
+    let high = ltb-true b 127 two.1 in
     (omega (arith, low, high), by_test bs parts.1)
 
 -- a text that is known
@@ -111,25 +111,6 @@ value_plain value.Busy h = known 21002 (value_text value.Busy) refl (omega arith
 value_plain value.Detached h = known 21002 (value_text value.Detached) refl (omega arith)
 value_plain (value.Throw t) h = more 60 21002 (value_text (value.Throw t)) (thrown_plain t) (omega arith)
 
-number_small : (rule : Rule) → number_of rule < 100
-number_small WrongThread = omega arith
-number_small Detached = omega arith
-number_small InCritical = omega arith
-number_small Pending = omega arith
-number_small ForeignLocal = omega arith
-number_small DeadReference = omega arith
-number_small WrongRefKind = omega arith
-number_small NullReference = omega arith
-number_small WrongType = omega arith
-number_small BadField = omega arith
-number_small BadBuffer = omega arith
-number_small BadArgument = omega arith
-number_small Pinned = omega arith
-number_small NotOwner = omega arith
-number_small BadFrame = omega arith
-number_small NoNativeAccess = omega arith
-number_small NotLinked = omega arith
-
 rule_plain : (rule : Rule) → IsPlainText 20 (name_of rule)
 rule_plain WrongThread = known 20 (name_of WrongThread) refl (omega arith)
 rule_plain Detached = known 20 (name_of Detached) refl (omega arith)
@@ -155,7 +136,7 @@ outcome_plain (Passed r) h =
     more ((21002 + 7) + 5) 21040 (outcome_text (Passed r)) (both (21002 + 7) 5 (value_text r.value ++ notice_text r.noticed) (warning_text r.warned) noticed (warning_plain r.warned)) (omega arith)
 outcome_plain (Denied rule) h =
     let n = number_of rule in
-    let small = number_small rule in
+    let small = (rule_number rule).1 in
     let few : IsPlainText 2 (decimal n) = record {
       printable = wide (decimal n) (seen_number n (omega (arith, small)));
       short = length-decimal-le 2 n (omega arith) (omega arith) (omega (arith, small));

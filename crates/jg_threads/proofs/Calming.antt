@@ -1,24 +1,23 @@
 -- The rows by which an exception may be pending stand in front.
-use Rattle.std.proofs.Common.{◌≡◌, ◌≢◌, ◌<◌, ◌≤◌, ◌+◌, ◌-◌, ℕ, zero, suc, Bool, true, false, ◌⊎◌, inl, inr, List, [], ◌∷◌, ◌++◌, Option, Some, None, length, get_or, take, drop, is_some, refl, ◌∙◌, ap, sym, subst, arith}
-use Rattle.std.specs.Prelude.{◌==◌, ◌||◌, if◌then◌else◌, All, IfSome, IsSome, find, map}
+use Rattle.std.proofs.Common.{◌≡◌, ◌≢◌, ◌<◌, ◌≤◌, ◌+◌, ◌-◌, ℕ, zero, suc, Bool, true, false, ◌⊎◌, inl, inr, List, [], ◌∷◌, ◌++◌, Option, Some, None, length, get_or, take, drop, refl, ◌∙◌, ap, sym, subst, arith}
+use Rattle.std.specs.Prelude.{◌==◌, ◌||◌, if◌then◌else◌, IfSome, find, map}
 use Rattle.std.specs.List.{list_any}
-use Rattle.std.specs.Map.{keys_of, values_of}
+use Rattle.std.specs.Map.{keys_of}
 use Rattle.std.specs.Option.{option_map, option_or}
 use Rattle.std.specs.Ordering.{nat_cmp, eq_by_cmp}
 use Rattle.std.proofs.lemmas.Bool.{cases_eq, cases_lt}
 use Rattle.std.proofs.lemmas.Bool.Decides.{nat_tests}
-use Rattle.std.proofs.lemmas.List.{get_or-map, get_or-drop, get_or_append_left, length-append, length-map, length-drop, take-append-drop, take-map}
-use Rattle.std.proofs.Math.Seq.{get_or-append_seam}
+use Rattle.std.proofs.lemmas.List.{get_or-map, get_or-drop, length-map, length-drop, take-append-drop, take-map}
 use Rattle.std.proofs.lemmas.List.Folds.{find-append, list_any-append, list_any_none}
 use Rattle.std.proofs.lemmas.Map.Keys.{apart_from_distinct}
+use Rattle.std.proofs.Math.Bool.{or-false}
+use Rattle.core.proofs.option.Match.{None-if_not_some}
 use Rattle.jg_lists.specs.declared.by_number.Numbered.{Numbered}
 use Rattle.jg_lists.specs.ByNumber.{seen}
 use Rattle.jg_lists.specs.ByThread.{at, IsOnce}
 use Rattle.jg_lists.specs.ByPlace.{IsSeatOf, Swaps}
 use Rattle.jg_lists.proofs.Found.{number_where, any_found}
-use Rattle.jg_lists.proofs.Lists.{Member, list_any-map}
-use Rattle.jg_lists.proofs.Marks.{or_false}
-use Rattle.jg_lists.proofs.Values.{absent}
+use Rattle.jg_lists.proofs.Lists.{Member}
 use Rattle.jg_threads.specs.Calm.{IsCalm, AreCalm, AreOthersCalm, IsInFront}
 use Rattle.jg_threads.specs.Rows.{Row, row_of, row_or_none}
 use Rattle.jg_threads.proofs.Pending.{entry_found}
@@ -107,14 +106,14 @@ module _ (p : Row → Bool) (quiet : (row : Row) → IsCalm row → p row ≡ fa
   any_in_front =
       sym (ap (list_any (λ (e : ℕ × Row). p e.1)) (sym (take-append-drop raised rows))
       ∙ list_any-append (λ (e : ℕ × Row). p e.1) (take raised rows) (drop raised rows)
-      ∙ ap (λ b. list_any (λ (e : ℕ × Row). p e.1) (take raised rows) || b) none_behind ∙ or_false _)
+      ∙ ap (λ b. list_any (λ (e : ℕ × Row). p e.1) (take raised rows) || b) none_behind ∙ or-false _)
 
   pub found_in_front : number_where p (take raised rows) ≡ number_where p rows
   found_in_front =
       sym (ap (number_where p) (sym (take-append-drop raised rows))
       ∙ ap (option_map (λ (e : ℕ × Row). e.0)) (find-append (λ (e : ℕ × Row). p e.1) (take raised rows) (drop raised rows))
       ∙ either (find (λ (e : ℕ × Row). p e.1) (take raised rows)) (find (λ (e : ℕ × Row). p e.1) (drop raised rows))
-      (absent _ (any_found (λ (e : ℕ × Row). e.0) (λ e. p e.1) (drop raised rows) ∙ none_behind)))
+      (None-if_not_some _ (any_found (λ (e : ℕ × Row). e.0) (λ e. p e.1) (drop raised rows) ∙ none_behind)))
     where
       either : (own later : Option (ℕ × Row)) → option_map (λ (e : ℕ × Row). e.0) later ≡ None → option_map (λ (e : ℕ × Row). e.0) (option_or own later) ≡ option_map (λ (e : ℕ × Row). e.0) own
       either None later none = none

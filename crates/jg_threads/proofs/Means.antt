@@ -3,6 +3,7 @@ use Rattle.std.proofs.Common.{◌≡◌, ◌≤◌, ℕ, Bool, true, false, List
 use Rattle.std.proofs.lemmas.Bool.Decides.{nat_tests}
 use Rattle.std.specs.Prelude.{◌==◌, not}
 use Rattle.std.proofs.lemmas.List.{append-nil}
+use Rattle.jg_words.proofs.Common.{eqb_self}
 use Rattle.jg_lists.specs.Acts.{moments}
 use Rattle.jg_threads.specs.History.{Act, Attach, Detach, Enter, Leave, Raise, Calm, CountRef, CountBuffer, how_many, acts_of, attached, sessions, pending, is_object}
 use Rattle.jg_threads.specs.Laws.{HasNoDetach, KeepsPending, begins_session, AttachedMeans, PendingMeans, IsPendingMeans, SessionMeans, SessionsNeverFall, HandedOutNeverFall}
@@ -110,15 +111,12 @@ session_means acts n = (
   (λ both. number_of (attached acts) (sessions acts) n both.0 (sessions_counted acts ∙ both.1)),
 )
 
-itself : (o : ℕ) → (o == o) ≡ true
-itself o = grind (arith, nat_tests)
-
 pub is_pending_means : IsPendingMeans
 is_pending_means e o = (
   (λ is.
       let found = some_event (λ ev. is_object o (pending (acts_of ev.tid e))) e is in
       (found.0.tid, object_is o (pending (acts_of found.0.tid e)) found.1)),
-  (λ some. is_pending_by e o some.0 (ap (is_object o) some.1 ∙ itself o)),
+  (λ some. is_pending_by e o some.0 (ap (is_object o) some.1 ∙ eqb_self o)),
 )
 
 one_more : (b : Bool) (n m : ℕ) → n ≤ m → n ≤ (if b then m else m + 1)

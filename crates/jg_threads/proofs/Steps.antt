@@ -253,14 +253,6 @@ attach_again_law rows e u r stands is on =
       allowed = each_acted (λ t acts. AllAllowed acts) u Attach e (λ t differ. stands.allowed t) (stands.allowed u, tt);
     }
 
-pub not_off : (b : Bool) → not b ≡ true → b ≡ false
-not_off true is = sym is
-not_off false is = refl
-
-pub not_on : (b : Bool) → not b ≡ false → b ≡ true
-not_on true is = refl
-not_on false is = sym is
-
 -- ---- a row is replaced
 
 replaced_at : (u t : ℕ) (old : List (ℕ × Row)) (change : Row → Row) (b : Bool) → (u == t) ≡ b

@@ -2,8 +2,7 @@
 
 ghost use Rattle.std.specs.Prelude.{◌≡◌, ◌+◌, ◌-◌, ◌<◌, ◌^◌, ◌↔◌, List, [], ◌∷◌, false, true, if◌then◌else◌, None, Some, IfOk, IfSome, OnOk, OnErr, IsTrue};
 ghost use Rattle.std.specs.Option.{is_some, option_map};
-ghost use Rattle.std.specs.List.{list_any};
-ghost use Rattle.jg_threads.specs.History.{Event, by, Attach, Detach, Enter, Leave, Raise, Calm, CountRef, CountBuffer, acts_of, attached, sessions, session, depth, pending, refs, buffers, is_object, is_pending};
+ghost use Rattle.jg_threads.specs.History.{Event, by, Attach, Detach, Enter, Leave, Raise, Calm, CountRef, CountBuffer, acts_of, attached, sessions, session, depth, pending, refs, buffers, is_pending};
 ghost use Rattle.jg_threads.specs.Rows.{row_of, no_row, CanCount};
 ghost use Rattle.jg_lists.specs.Marks.{Marks};
 ghost use Rattle.jg_threads.specs.Standing.{Stands};

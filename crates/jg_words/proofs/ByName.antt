@@ -1,10 +1,10 @@
 -- A function is found by its name alone.
-use Rattle.std.proofs.Common.{◌≡◌, ◌≢◌, ℕ, List, [], ◌∷◌, Bool, true, false, Option, Some, None, refl, sym, ◌∙◌, ap, subst, Contains, Bor, ◌<◌, arith}
-use Rattle.std.specs.Prelude.{IfNone, IfSome, find, cond, nat_eq, nat_lt, ◌&&◌, slice_index_or}
+use Rattle.std.proofs.Common.{◌≡◌, ◌≢◌, ℕ, List, [], ◌∷◌, Bool, true, false, Option, Some, None, refl, sym, ◌∙◌, ap, subst, Contains, Bor, ◌<◌}
+use Rattle.std.specs.Prelude.{IfNone, IfSome, find, cond, nat_eq, ◌&&◌, slice_index_or}
 use Rattle.std.specs.List.{list_all, list_any}
-use Rattle.std.proofs.lemmas.Bool.Decides.{nat_tests}
 use Rattle.std.proofs.lemmas.List.Folds.{Any-from_list_any}
 use Rattle.std.specs.Cmp.Lexicographic.{pointwise, same_text}
+use Rattle.std.proofs.lemmas.Bool.{and_parts}
 use Rattle.jg_words.specs.declared.fun.Fun.{Fun}
 use Rattle.jg_words.specs.Fun.{name_of, named, all}
 use Rattle.jg_words.proofs.Names.{named-name_of}
@@ -27,22 +27,13 @@ named_some text f e = let passes : pointwise nat_eq (name_of f) text ≡ true = 
 named_none : (text : List ℕ) → named text ≡ None → (f : Fun) → text ≢ name_of f
 named_none text e f same = let clash : Some f ≡ None = sym (named-name_of f) ∙ ap named (sym same) ∙ e in absurd (cc)
 
-pub both_true : (a b : Bool) → (a && b) ≡ true → (a ≡ true) × (b ≡ true)
-both_true true true e = (refl, refl)
-both_true true false e = absurd (cc)
-both_true false true e = absurd (cc)
-both_true false false e = absurd (cc)
-
-pub below : (a b : ℕ) → nat_lt a b ≡ true → a < b
-below a b h = grind (arith, nat_tests)
-
 -- what all functions pass, each passes
 pub each_passes : (p q : Fun → Bool) (xs : List Fun) (f : Fun) → find p xs ≡ Some f → list_all q xs ≡ true → q f ≡ true
 each_passes p q [] f e h = absurd (cc)
 each_passes p q (x ∷ xs) f e h =
     elim (p x) as (λ b. cond b (Some x) (find p xs) ≡ Some f → q f ≡ true) [
-      | true ↦ λ k. (let same : x ≡ f = cc in subst (λ (y : Fun). q y ≡ true) same (both_true (q x) (list_all q xs) h).0)
-      | false ↦ λ k. each_passes p q xs f k (both_true (q x) (list_all q xs) h).1
+      | true ↦ λ k. (let same : x ≡ f = cc in subst (λ (y : Fun). q y ≡ true) same (and_parts (q x) (list_all q xs) h).0)
+      | false ↦ λ k. each_passes p q xs f k (and_parts (q x) (list_all q xs) h).1
     ] e
 
 -- a function stands in a row one of whose names is its own

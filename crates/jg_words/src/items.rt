@@ -1,6 +1,6 @@
 //! Lists of numbers, as operands and as answers.
 
-ghost use Rattle.std.specs.Prelude.{◌≡◌, ◌≤◌, ◌↔◌, ◌<◌, IsOk, IfOk, IfErr, length, vec_len, IsTrue};
+ghost use Rattle.std.specs.Prelude.{◌≡◌, ◌≤◌, ◌↔◌, ◌<◌, IsOk, IfOk, IfErr, length, vec_len};
 
 use std::alloc::AllocError;
 use std::marker::Model;

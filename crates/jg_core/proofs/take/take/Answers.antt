@@ -1,6 +1,4 @@
-use Rattle.std.specs.Prelude.{◌==◌, not}
-use Rattle.jg_core.specs.Facts.{is_attached}
-use Rattle.jg_core.proofs.Each.{first}
+use Rattle.std.specs.Prelude.{◌==◌}
 use Rattle.jg_core.proofs.Due.{has_frame, can_push}
 use Rattle.jg_core.proofs.take.take.Goals as goal
 

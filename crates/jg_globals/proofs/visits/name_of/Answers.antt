@@ -1,4 +1,4 @@
-use Rattle.std.proofs.Common.{◌≡◌, ℕ, List, Option, Some, None, ◌∙◌, ap, sym, subst, map}
+use Rattle.std.proofs.Common.{◌≡◌, ℕ, List, Option, Some, None, ◌∙◌, ap, sym, subst}
 use Rattle.std.specs.Prelude.{◌==◌}
 use Rattle.jg_words.specs.declared.object.ObjId.{ObjId}
 use Rattle.jg_lists.specs.ByMaker.{Name}

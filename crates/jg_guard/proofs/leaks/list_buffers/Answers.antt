@@ -3,7 +3,7 @@ use Rattle.std.specs.Prelude.{IsPermutation}
 use Rattle.std.proofs.lemmas.Fn.{always_returns_same}
 use Rattle.jg_words.specs.declared.buffer.BufId.{BufId}
 use Rattle.jg_buffers.specs.Rows.{name_of}
-use Rattle.jg_guard.specs.Left.{buffer_key}
+use Rattle.jg_buffers.specs.Ordered.{buffer_key}
 use Rattle.jg_guard.specs.Tables.{rows_of}
 use Rattle.jg_guard.proofs.Listing.{buffers_in_order}
 use Rattle.jg_guard.proofs.leaks.list_buffers.Goals as goal

@@ -1,12 +1,12 @@
 use Rattle.std.proofs.Common.{refl}
+use Rattle.std.proofs.lemmas.Bool.{lt-ltb, le-ltb}
 use Rattle.jg_policy.specs.Stated.{class_stated}
-use Rattle.jg_policy.proofs.Sizes.{over, within}
 use Rattle.jg_policy.proofs.Stating.{stated_count}
 use Rattle.jg_policy.proofs.limits.is_too_large.Goals as goal
 
 pub returns-then-classes-gt-MAX_CLASSES : goal.returns-then-classes-gt-MAX_CLASSES
 returns-then-classes-gt-MAX_CLASSES c =
-    rw (← c.items_at-classes.ensures, stated_count class_stated c.items_at-classes.result.now, over 1000 _ c.if-classes-gt-MAX_CLASSES.true) refl
+    rw (← c.items_at-classes.ensures, stated_count class_stated c.items_at-classes.result.now, lt-ltb 1000 _ c.if-classes-gt-MAX_CLASSES.true) refl
 
 pub returns : goal.returns
 returns c =
@@ -14,8 +14,8 @@ returns c =
       c.any_has_many_members.ensures,
       ← c.items_at-classes.ensures,
       stated_count class_stated c.items_at-classes.result.now,
-      within 1000 _ c.if-classes-gt-MAX_CLASSES.false,
+      le-ltb 1000 _ c.if-classes-gt-MAX_CLASSES.false,
       ← c.grant_count.ensures,
-      within 1000 _ c.if-grant_count-gt-MAX_GRANTS.false,
+      le-ltb 1000 _ c.if-grant_count-gt-MAX_GRANTS.false,
     )
     refl

@@ -1,4 +1,4 @@
-use Rattle.std.proofs.Common.{◌∙◌, ◌≤◌, ℕ, sym, subst}
+use Rattle.std.proofs.Common.{◌∙◌, ◌≤◌, sym, subst}
 use Rattle.jg_policy.specs.LinkKept.{IsUpTo}
 use Rattle.jg_policy.proofs.LinkSteps.{up_to_raised}
 use Rattle.jg_policy.proofs.links.raise.Goals as goal

@@ -1,9 +1,8 @@
-use Rattle.std.proofs.Common.{ℕ, rules, ◌≡◌, ◌<◌, ◌≤◌, ◌^◌, ◌+◌, Bool, true, false, List, ◌∷◌, refl, sym, subst, arith, ◌∙◌, if◌then◌else◌}
-use Rattle.jg_rules.specs.Parts.{Parts}
+use Rattle.std.proofs.Common.{rules, ◌≡◌, ◌<◌, ◌≤◌, ◌^◌, ◌+◌, true, false, List, ◌∷◌, refl, ◌∙◌, if◌then◌else◌}
 use Rattle.jg_core.specs.declared.fact.Fact.{Fact}
-use Rattle.jg_core.specs.Facts.{parts_of, can_be, makes, made_in}
+use Rattle.jg_core.specs.Facts.{parts_of, can_be, makes}
 use Rattle.jg_core.specs.Tables.{rows_of}
-use Rattle.jg_core.specs.Kernel.{CoreState, CoreStands}
+use Rattle.jg_core.specs.Kernel.{CoreState}
 use Rattle.jg_core.proofs.Due.{due, told_by, told_one}
 use Rattle.jg_core.proofs.kernel.Core.tell.Goals as goal
 

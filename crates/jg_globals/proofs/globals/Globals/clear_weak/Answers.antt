@@ -4,7 +4,7 @@ use Rattle.jg_globals.specs.Standing.{Stands}
 use Rattle.jg_lists.specs.ByMaker.{named}
 use Rattle.jg_globals.specs.Seen.{strong_seen, weak_seen}
 use Rattle.std.proofs.lemmas.Bool.Decides.{nat_tests}
-use Rattle.jg_lists.proofs.Marks.{or_false}
+use Rattle.std.proofs.Math.Bool.{or-false}
 use Rattle.jg_globals.proofs.Counting.{length-changed}
 use Rattle.jg_globals.proofs.Lookups.{reopened, above_in}
 use Rattle.jg_globals.proofs.Numbers.{cleared_kept}
@@ -16,7 +16,7 @@ pub returns-clause-stands : goal.returns-clause-stands
 returns-clause-stands g c = λ e stands.
     let was : Stands (record { strong = map strong_seen (named c.self.inside.strong); weak = map weak_seen (named c.self.inside.weak) }) e = reopened _ _ e c.self.view_is stands in
     clear_law _ _ (named c.self.inside.weak) (named c.clear_rows.new.rows) e (c.args.object.0 ∷ []) refl c.clear_rows.ensures
-    (λ m n o answer named answered. grind (arith, nat_tests, or_false, answered.1)) was
+    (λ m n o answer named answered. grind (arith, nat_tests, or-false, answered.1)) was
 
 -- as many are in being
 pub invariant_of-self : goal.invariant_of-self

@@ -1,7 +1,7 @@
 use Rattle.std.proofs.Common.{ℕ, List, ◌∙◌, ap, sym, subst}
 use Rattle.std.specs.Prelude.{IsPermutation}
 use Rattle.std.specs.Map.{lookup}
-use Rattle.jg_lists.specs.ByMaker.{Name, same_name, named, IsThereOnce}
+use Rattle.jg_lists.specs.ByMaker.{same_name, named, IsThereOnce}
 use Rattle.jg_lists.proofs.Closed.{closed_same, closed_found, closed_there}
 use Rattle.jg_lists.proofs.by_maker.ByMaker.close.Goals as goal
 

@@ -1,5 +1,6 @@
 use Rattle.std.proofs.Common.{refl, sym, ◌∙◌}
-use Rattle.jg_lists.proofs.Values.{absent, through, through_none}
+use Rattle.core.proofs.option.Match.{None-if_not_some}
+use Rattle.jg_lists.proofs.Values.{through, through_none}
 use Rattle.jg_lists.proofs.by_place.ByPlace.get_mut.Goals as goal
 
 pub returns-then-contains : goal.returns-then-contains
@@ -10,7 +11,7 @@ returns-then-contains g c = (
 
 pub returns-else-contains : goal.returns-else-contains
 returns-else-contains g c =
-    let none = absent _ (sym c.contains.ensures.value ∙ c.if-contains.false) in (
+    let none = None-if_not_some _ (sym c.contains.ensures.value ∙ c.if-contains.false) in (
       (refl, λ w. through_none c.args.self.now c.args.number w c.contains.ensures.once none, refl),
       record { writes_back = tt; value = sym none; once = c.contains.ensures.once },
     )

@@ -1,8 +1,9 @@
 use Rattle.std.proofs.Common.{◌≡◌, ◌+◌, ◌^◌, ◌<◌, Some, refl, arith, rules}
+use Rattle.std.proofs.lemmas.Result.{on_ok_weaker}
 use Rattle.jg_locals.specs.Seen.{last, stack_at, frames_in}
 use Rattle.jg_locals.proofs.Lookups.{reopened}
 use Rattle.jg_locals.proofs.Tallies.{tallied}
-use Rattle.jg_locals.proofs.Threads.{table_seen, enter_step, started_top, entered_is, room_up, on_ok}
+use Rattle.jg_locals.proofs.Threads.{table_seen, enter_step, started_top, entered_is, room_up}
 use Rattle.jg_locals.proofs.locals.Locals.enter.Goals as goal
 
 pub unwrap-top-requires : goal.unwrap-top-requires
@@ -16,7 +17,7 @@ overflow_add-top g c =
     search rules
 
 pub returns-clause-ok : goal.returns-clause-ok
-returns-clause-ok g c = on_ok c.open_at.result (λ changes. λ e stands.
+returns-clause-ok g c = on_ok_weaker c.open_at.result (λ changes. λ e stands.
     let is : last (frames_in (stack_at c.args.tid.0 c.self.inside.stacks)) ≡ Some c.unwrap-top.result = cc in
     enter_step c.self.inside.stacks c.open_at.new.stacks c.args.tid.0 c.unwrap-top.result e c.self.invariant.once (c.open_at.ensures.once c.self.invariant.once) is changes
     (reopened (table_seen c.self.inside.stacks) c.args.self.now e c.self.view_is stands)) c.open_at.ensures.ok

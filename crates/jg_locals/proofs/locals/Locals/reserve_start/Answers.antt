@@ -1,14 +1,15 @@
 use Rattle.std.proofs.Common.{◌≤◌, refl, arith}
+use Rattle.std.proofs.lemmas.Result.{on_ok_weaker}
 use Rattle.jg_locals.specs.Seen.{room_seen}
 use Rattle.jg_locals.proofs.Tallies.{tallied}
-use Rattle.jg_locals.proofs.Threads.{room_up, starts_to, on_ok}
+use Rattle.jg_locals.proofs.Threads.{room_up, starts_to}
 use Rattle.jg_locals.proofs.locals.Locals.reserve_start.Goals as goal
 
 pub returns-in_err-add_stack-clause-locals : goal.returns-in_err-add_stack-clause-locals
 returns-in_err-add_stack-clause-locals g c = room_up c.self.inside.stacks c.add_stack.new.stacks c.args.self.now c.args.tid.0 c.self.view_is c.add_stack.ensures.room
 
 pub returns-clause-ok : goal.returns-clause-ok
-returns-clause-ok g c = on_ok c.reserve_frame_at.result (λ some. starts_to c.reserve_frame_at.new.stacks c.args.tid.0 some) c.reserve_frame_at.ensures.ok
+returns-clause-ok g c = on_ok_weaker c.reserve_frame_at.result (λ some. starts_to c.reserve_frame_at.new.stacks c.args.tid.0 some) c.reserve_frame_at.ensures.ok
 
 pub returns-clause-locals : goal.returns-clause-locals
 returns-clause-locals g c =

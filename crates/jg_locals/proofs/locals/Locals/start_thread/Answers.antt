@@ -1,8 +1,9 @@
 use Rattle.std.proofs.Common.{◌≡◌, ◌∙◌, refl, ap}
+use Rattle.std.proofs.lemmas.Result.{on_ok_weaker}
 use Rattle.jg_locals.specs.Rows.{Table}
 use Rattle.jg_locals.specs.Seen.{rows_seen}
 use Rattle.jg_locals.proofs.Tallies.{tallied}
-use Rattle.jg_locals.proofs.Threads.{start_step, none_top, next_first, has_stack, starts_from, ok_not_err, restand, on_ok}
+use Rattle.jg_locals.proofs.Threads.{start_step, none_top, next_first, has_stack, starts_from, ok_not_err, restand}
 use Rattle.jg_locals.proofs.locals.Locals.start_thread.Goals as goal
 
 pub returns-in_err-add_stack-clause-room : goal.returns-in_err-add_stack-clause-room
@@ -16,7 +17,7 @@ open_at-requires-clause-next g c =
     (none_top (rows_seen c.add_stack.new.stacks) c.args.self.now.rows c.args.tid.0 same c.requires)
 
 pub returns-clause-ok : goal.returns-clause-ok
-returns-clause-ok g c = on_ok c.open_at.result (λ changes. λ e stands.
+returns-clause-ok g c = on_ok_weaker c.open_at.result (λ changes. λ e stands.
     let same : rows_seen c.add_stack.new.stacks ≡ c.args.self.now.rows = c.add_stack.ensures.rows ∙ ap (λ (t : Table). t.rows) c.self.view_is in
     let ordered = c.add_stack.ensures.once c.self.invariant.once in
     start_step c.add_stack.new.stacks c.open_at.new.stacks c.args.tid.0 e ordered (c.open_at.ensures.once ordered)

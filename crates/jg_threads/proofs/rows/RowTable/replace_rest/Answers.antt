@@ -1,5 +1,5 @@
 use Rattle.std.proofs.Common.{◌≡◌, ap, ◌∙◌, sym}
-use Rattle.jg_threads.specs.Rows.{Row, row_of}
+use Rattle.jg_threads.specs.Rows.{row_of}
 use Rattle.jg_threads.proofs.Calming.{rest_is_calm}
 use Rattle.jg_threads.proofs.rows.RowTable.replace_rest.Goals as goal
 

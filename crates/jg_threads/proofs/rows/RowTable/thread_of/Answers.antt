@@ -1,7 +1,4 @@
-use Rattle.std.proofs.Common.{ℕ, List, take, ◌∙◌, ap, sym}
-use Rattle.std.specs.Prelude.{map}
-use Rattle.jg_lists.specs.ByNumber.{seen}
-use Rattle.jg_lists.specs.declared.by_number.Numbered.{Numbered}
+use Rattle.std.proofs.Common.{◌∙◌, ap}
 use Rattle.jg_lists.proofs.Found.{number_where}
 use Rattle.jg_threads.specs.Rows.{Row}
 use Rattle.jg_threads.specs.History.{is_object}

@@ -1,4 +1,4 @@
-use Rattle.std.proofs.Common.{◌≡◌, ◌+◌, ◌-◌, ℕ, List, Some, None, false, inl, inr, refl, ◌∙◌, ap, sym, subst}
+use Rattle.std.proofs.Common.{◌≡◌, ◌+◌, ◌-◌, ℕ, List, inl, ◌∙◌, ap, sym, subst}
 use Rattle.jg_threads.specs.Rows.{Row, row_of}
 use Rattle.jg_threads.proofs.Steps.{Written, enter_law, written_by, row_now}
 use Rattle.jg_threads.proofs.threads.Threads.enter_native.Goals as goal
