@@ -1,6 +1,9 @@
 -- What other crates rest on: each is a law of specs/Laws.
 use Rattle.jg_buffers.specs.Laws.{CriticalMeans, PinnedMeans, PinnedObjectMeans, NewNumberIsAbove}
 use Rattle.jg_buffers.proofs.Means.{critical_there, critical_back, pinned_there, pinned_back, object_there, object_back, above_all}
+pub use Rattle.jg_buffers.proofs.Counts.{same_ref_is}
+pub use Rattle.jg_buffers.proofs.Means.{ref_self}
+pub use Rattle.jg_buffers.proofs.Lookups.{still_lent}
 
 pub critical_law : CriticalMeans
 critical_law e t = (critical_there e t, critical_back e t)

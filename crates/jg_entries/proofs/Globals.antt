@@ -9,7 +9,7 @@ use Rattle.jg_words.specs.declared.reference.Kind.TheVariants.{Local, Global, We
 use Rattle.jg_globals.specs.declared.target.Target.{Target}
 use Rattle.jg_globals.specs.declared.target.Target.TheVariants.{Object, Cleared}
 use Rattle.jg_globals.specs.History.{Event, MakeStrong, MakeWeak, DeleteStrong, DeleteWeak, Clear, strong, weak, is_same, after_making, clears, unless_cleared, weak_target, strong_target, target_of}
-use Rattle.jg_globals.proofs.Steps.{strong-clear, weak_target-clear, cleared_by}
+use Rattle.jg_globals.proofs.Callers.{strong-clear, weak_target-clear, cleared_by}
 
 pub record SameGlobals (e f : List Event) : Type 0 where
   pub strong : (maker n : ℕ) → strong e maker n ≡ strong f maker n

@@ -8,7 +8,7 @@ use Rattle.jg_threads.specs.History as threads
 use Rattle.jg_locals.proofs.Callers.{each_thread}
 use Rattle.jg_buffers.specs.History.{Buffer, Event, Opened, Wrote, Closed, ReleaseAll, copied_only, opened, is_same}
 use Rattle.jg_buffers.specs.Laws.{IsOpenedBelow}
-use Rattle.jg_buffers.proofs.Lookups.{still_lent}
+use Rattle.jg_buffers.proofs.Callers.{still_lent}
 use Rattle.jg_rules.specs.Parts.{Parts}
 use Rattle.jg_rules.specs.Names.{next_buffer}
 use Rattle.jg_rules.specs.Effects.{parts}

@@ -2,6 +2,7 @@
 use Rattle.jg_globals.specs.Laws.{HoldsMeans, NewNumberIsAbove}
 use Rattle.jg_globals.proofs.Ended.{new_number}
 use Rattle.jg_globals.proofs.Lookups.{was_made, has_reference}
+pub use Rattle.jg_globals.proofs.Steps.{cleared_by, strong-clear, weak_target-clear}
 
 pub holds_law : HoldsMeans
 holds_law e o = (

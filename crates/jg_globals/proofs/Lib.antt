@@ -6,4 +6,4 @@ mod Listed
 mod Lookups
 mod Means
 mod Numbers
-pub mod Steps
+mod Steps

@@ -27,8 +27,7 @@ use Rattle.jg_lists.specs.Acts.{once_if}
 use Rattle.jg_locals.specs.Rows.{local_ref}
 use Rattle.jg_globals.specs.Rows.{strong_ref, weak_ref}
 use Rattle.jg_buffers.specs.Rows.{name_of}
-use Rattle.jg_buffers.proofs.Counts.{same_ref_is}
-use Rattle.jg_buffers.proofs.Means.{ref_self}
+use Rattle.jg_buffers.proofs.Callers.{same_ref_is, ref_self}
 
 numbered : (kind : Kind) (m k : Tid) (n o : ℕ) → m.0 ≡ k.0 → n ≡ o → To kind m n ≡ To kind k o
 numbered kind m k n o maker number = ap (λ (i : ℕ). To kind (record { 0 = i }) n) maker ∙ ap (λ (i : ℕ). To kind k i) number

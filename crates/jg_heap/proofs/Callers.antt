@@ -1,6 +1,8 @@
 -- What other crates rest on: each is a law of specs/Laws.
 use Rattle.jg_heap.specs.Laws.{ClassesStay, HeldMeans, RootsMean, RowsMean, StaysGone}
 use Rattle.jg_heap.proofs.Laws.{classes_stay, held_means, roots_mean, rows_mean, stays_gone}
+pub use Rattle.jg_heap.proofs.Steps.{gone_past}
+pub use Rattle.jg_heap.proofs.Laws.{classes_counted}
 
 pub classes_law : ClassesStay
 classes_law k e o is = classes_stay k e o is

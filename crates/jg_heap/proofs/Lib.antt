@@ -2,14 +2,14 @@ pub mod Lists
 mod Blocks
 pub mod Items
 mod Told
-pub mod Steps
+mod Steps
 pub mod Regions
 mod Pointing
 mod Sweeping
 mod Marking
 mod Collecting
 mod Calls
-pub mod Laws
+mod Laws
 mod Shapes
 mod Next
 mod Objects

@@ -47,8 +47,7 @@ use Rattle.jg_heap.specs.Making.{Making, Plain, Text, Filled, Opaque, class_in, 
 use Rattle.jg_words.specs.Classes.{array_class}
 use Rattle.jg_heap.specs.Reading.{natural, decoded}
 use Rattle.jg_heap.specs.History as heap
-use Rattle.jg_heap.proofs.Callers.{classes_law, gone_law}
-use Rattle.jg_heap.proofs.Laws.{classes_counted}
+use Rattle.jg_heap.proofs.Callers.{classes_law, gone_law, classes_counted}
 use Rattle.jg_rules.specs.declared.answer.Answer.{Answer}
 use Rattle.jg_rules.specs.declared.named.Named.{Named}
 use Rattle.jg_rules.specs.declared.named.Named.TheVariants.{Nothing, Null as NamesNull, Object}

@@ -12,7 +12,7 @@ use Rattle.jg_heap.specs.History as heap
 use Rattle.jg_heap.specs.Making.{Making}
 use Rattle.jg_buffers.specs.History.{Buffer, Event, Opened, Wrote, Closed, ReleaseAll, opened, is_same}
 use Rattle.jg_buffers.specs.Laws.{IsOpenedBelow}
-use Rattle.jg_buffers.proofs.Lookups.{still_lent}
+use Rattle.jg_buffers.proofs.Callers.{still_lent}
 use Rattle.jg_rules.specs.Parts.{Parts}
 use Rattle.jg_rules.specs.Names.{next_buffer}
 use Rattle.jg_rules.specs.Effects.{parts}

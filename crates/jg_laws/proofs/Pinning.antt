@@ -35,8 +35,7 @@ use Rattle.jg_heap.proofs.Callers.{roots_law}
 use Rattle.jg_monitors.specs.History as monitors
 use Rattle.jg_buffers.specs.History as buffers
 use Rattle.jg_buffers.specs.History.{Buffer, Event, Opened, Wrote, Closed, ReleaseAll, opened, is_same, is_critical}
-use Rattle.jg_buffers.proofs.Lookups.{still_lent}
-use Rattle.jg_buffers.proofs.Callers.{critical_law, pinned_law, pinned_object_law}
+use Rattle.jg_buffers.proofs.Callers.{critical_law, pinned_law, pinned_object_law, still_lent}
 use Rattle.jg_rules.specs.declared.named.Named.TheVariants.{Nothing}
 use Rattle.jg_rules.specs.Parts.{Parts}
 use Rattle.jg_rules.specs.Names.{names, named_by, object_in, object_named, next_ref}

@@ -6,9 +6,7 @@ use Rattle.std.proofs.lemmas.Bool.Decides.{nat_tests}
 use Rattle.jg_words.specs.declared.object.ObjId.{ObjId}
 use Rattle.jg_heap.specs.Making.{Making, class_in, length_in}
 use Rattle.jg_heap.specs.History.{Event, Made, Wrote, Collected, Went, count_of, making_at, gone_at, is_there, class_there}
-use Rattle.jg_heap.proofs.Callers.{classes_law}
-use Rattle.jg_heap.proofs.Steps.{gone_past}
-use Rattle.jg_heap.proofs.Laws.{classes_counted}
+use Rattle.jg_heap.proofs.Callers.{classes_law, gone_past, classes_counted}
 use Rattle.jg_objects.specs.History.{is_told, told, length_there, is_listed, went}
 use Rattle.jg_objects.specs.Laws.{ToldMeans, WentMeans}
 
