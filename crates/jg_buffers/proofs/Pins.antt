@@ -6,7 +6,7 @@ use Rattle.std.specs.Option.{option_map, option_to_list}
 use Rattle.std.specs.Map.{lookup}
 use Rattle.std.proofs.lemmas.Bool.Decides.{nat_tests, or_right}
 use Rattle.std.proofs.lemmas.Option.{same_Some}
-use Rattle.core.specs.Cmp.{both_ways}
+use Rattle.std.specs.Cmp.{both_ways}
 use Rattle.jg_words.proofs.Common.{clash}
 use Rattle.jg_buffers.specs.declared.copied.Copied.{Copied}
 use Rattle.jg_buffers.specs.declared.pinned.Pinned.{Pinned}

@@ -1,6 +1,6 @@
 -- Parts whose tables read the same, table by table, so that the same events keep them so; and what that tells.
 use Rattle.std.proofs.Common.{ℕ, ◌≡◌, ◌+◌, true, List, refl, ap, sym, ◌∙◌}
-use Rattle.core.specs.Cmp.{both_ways}
+use Rattle.std.specs.Cmp.{both_ways}
 use Rattle.jg_policy.specs.Stated.{StatedSetup, class_count}
 use Rattle.jg_policy.specs.Links as links
 use Rattle.jg_threads.specs.History as threads

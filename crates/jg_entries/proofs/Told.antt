@@ -6,7 +6,7 @@ use Rattle.std.specs.Option.{unwrap_or, is_some, option_map, option_and_then}
 use Rattle.std.proofs.lemmas.Bool.Decides.{nat_tests}
 use Rattle.std.proofs.lemmas.Option.{same_Some}
 use Rattle.std.proofs.lemmas.Bool.{not-false}
-use Rattle.core.proofs.option.Match.{None-if_not_some}
+use Rattle.std.proofs.option.Match.{None-if_not_some}
 use Rattle.jg_words.specs.Call.{fun_of}
 use Rattle.jg_words.specs.Fun.{needs_env}
 use Rattle.jg_words.specs.declared.thread.Tid.{Tid}

@@ -5,7 +5,7 @@ use Rattle.std.specs.List.{list_any}
 use Rattle.std.specs.Map.{lookup}
 use Rattle.std.specs.Option.{option_map}
 use Rattle.std.proofs.lemmas.Bool.Decides.{nat_tests}
-use Rattle.core.specs.Cmp.{both_ways}
+use Rattle.std.specs.Cmp.{both_ways}
 use Rattle.jg_words.specs.declared.object.ObjId.{ObjId}
 use Rattle.jg_lists.specs.ByMaker.{Name, same_name}
 use Rattle.jg_globals.specs.declared.target.Target.{Target}

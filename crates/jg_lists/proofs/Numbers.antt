@@ -11,15 +11,15 @@ use Rattle.std.proofs.lemmas.Grind.{get_or_default_zero}
 use Rattle.std.proofs.lemmas.Map.Keys.{IsDistinct-from_apart}
 use Rattle.jg_lists.specs.Searches.{home, Reaches, Placed, Leaves}
 
-pub differs : (x y : ℕ) → x ≢ y → eq_by_cmp nat_cmp x y ≡ false
-differs x y differ = grind (arith, nat_tests)
+pub apart : (x y : ℕ) → x ≢ y → eq_by_cmp nat_cmp x y ≡ false
+apart x y differ = grind (arith, nat_tests)
 
-pub numbers_apart : (slots numbers : List ℕ) → Placed slots numbers → (i j d : ℕ) → i < j → j < length numbers → eq_by_cmp nat_cmp (get_or numbers i d) (get_or numbers j d) ≡ false
+numbers_apart : (slots numbers : List ℕ) → Placed slots numbers → (i j d : ℕ) → i < j → j < length numbers → eq_by_cmp nat_cmp (get_or numbers i d) (get_or numbers j d) ≡ false
 numbers_apart slots numbers placed i j d before within =
     let first : i < length numbers = omega (arith, before, within) in
     let one : get_or numbers i d ≡ get_or numbers i 0 = get_or_default_zero numbers i d first in
     let other : get_or numbers j d ≡ get_or numbers j 0 = get_or_default_zero numbers j d within in
-    differs (get_or numbers i d) (get_or numbers j d) (λ same.
+    apart (get_or numbers i d) (get_or numbers j d) (λ same.
     let both : i ≡ j = placed.apart i j first within (sym one ∙ same ∙ other) in
     omega (arith, both, before))
 
@@ -29,7 +29,7 @@ numbers_once slots numbers placed = IsDistinct-from_apart (eq_by_cmp nat_cmp) nu
 pub placed_none : (slots : List ℕ) → Placed slots []
 placed_none slots = record {
   found = λ i inside. absurd (omega (arith, inside));
-  differs = λ i j inside. absurd (omega (arith, inside));
+  apart = λ i j inside. absurd (omega (arith, inside));
 }
 
 -- ---- a number more
@@ -65,7 +65,7 @@ module _ (old new numbers : List ℕ) (n : ℕ) (placed : Placed old numbers) (a
   pub placed_one : Placed new (numbers ++ n ∷ [])
   placed_one = record {
     found = λ i inside. more_found i (more_is i inside);
-    differs = λ i j one other same. more_apart i j (more_is i one) (more_is j other) same;
+    apart = λ i j one other same. more_apart i j (more_is i one) (more_is j other) same;
   }
 
 -- ---- a number less
@@ -127,5 +127,5 @@ module _ (old new numbers left : List ℕ) (seat : ℕ) (placed : Placed old num
   pub placed_less : Placed new left
   placed_less = record {
     found = λ j inside. left_found j (cases_eq j seat) inside;
-    differs = λ i j one other same. left_apart i j (cases_eq i seat) (cases_eq j seat) one other same;
+    apart = λ i j one other same. left_apart i j (cases_eq i seat) (cases_eq j seat) one other same;
   }

@@ -14,10 +14,27 @@ use Rattle.jg_lists.specs.ByThread.{at, IsOnce}
 use Rattle.jg_lists.specs.ByNumber.{seen, number_of}
 use Rattle.jg_lists.specs.ByPlace.{Placed, IsSeatOf, Swaps}
 use Rattle.std.proofs.lemmas.List.Sorted.{IsPermutation-swap, length_permutation}
+use Rattle.std.proofs.lemmas.Grind.{get_or_default_zero}
+use Rattle.std.proofs.lemmas.Map.Keys.{IsDistinct-from_apart}
 use Rattle.jg_lists.proofs.Lists.{map-IsPermutation}
 use Rattle.jg_lists.proofs.Values.{moved_at}
-use Rattle.jg_lists.proofs.Numbers.{IsWithout, numbers_once}
+use Rattle.jg_lists.proofs.Numbers.{IsWithout, apart}
 use Rattle.jg_lists.proofs.Seats.{seat_found, not_there, set_in, same_numbers, keys_seen, within_view, last_number, seats_without, pairs_less, some_none}
+
+-- two seats of one number would have one place
+numbers_apart : (places numbers : List ℕ) → Placed places numbers → (i j d : ℕ) → i < j → j < length numbers → eq_by_cmp nat_cmp (get_or numbers i d) (get_or numbers j d) ≡ false
+numbers_apart places numbers placed i j d before within =
+    let one : get_or numbers i d ≡ get_or numbers i 0 = get_or_default_zero numbers i d (omega (arith, before, within)) in
+    let other : get_or numbers j d ≡ get_or numbers j 0 = get_or_default_zero numbers j d within in
+    let first : get_or places (get_or numbers i 0) 0 ≡ i + 1 = placed.found i (omega (arith, before, within)) in
+    let last : get_or places (get_or numbers j 0) 0 ≡ j + 1 = placed.found j within in
+    apart (get_or numbers i d) (get_or numbers j d) (λ same.
+    let alike : get_or numbers i 0 ≡ get_or numbers j 0 = sym one ∙ same ∙ other in
+    let both : i + 1 ≡ j + 1 = sym first ∙ ap (λ n. get_or places n 0) alike ∙ last in
+    omega (arith, both, before))
+
+pub numbers_once : (places numbers : List ℕ) → Placed places numbers → IsDistinct (eq_by_cmp nat_cmp) numbers
+numbers_once places numbers placed = IsDistinct-from_apart (eq_by_cmp nat_cmp) numbers (numbers_apart places numbers placed)
 
 pub placed_none : Placed [] []
 placed_none = record {

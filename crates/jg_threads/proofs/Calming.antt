@@ -11,7 +11,7 @@ use Rattle.std.proofs.lemmas.List.{get_or-map, get_or-drop, length-map, length-d
 use Rattle.std.proofs.lemmas.List.Folds.{find-append, list_any-append, list_any_none}
 use Rattle.std.proofs.lemmas.Map.Keys.{apart_from_distinct}
 use Rattle.std.proofs.Math.Bool.{or-false}
-use Rattle.core.proofs.option.Match.{None-if_not_some}
+use Rattle.std.proofs.option.Match.{None-if_not_some}
 use Rattle.jg_lists.specs.declared.by_number.Numbered.{Numbered}
 use Rattle.jg_lists.specs.ByNumber.{seen}
 use Rattle.jg_lists.specs.ByThread.{at, IsOnce}

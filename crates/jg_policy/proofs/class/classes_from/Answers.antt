@@ -4,7 +4,7 @@ use Rattle.std.specs.Str.{bytes_eq}
 use Rattle.std.specs.String.{string_eq}
 use Rattle.indexmap.specs.IndexMap.{get}
 use Rattle.indexmap.proofs.CallerLemmas.{insert_entry-new}
-use Rattle.core.proofs.option.Match.{None-if_not_some}
+use Rattle.std.proofs.option.Match.{None-if_not_some}
 use Rattle.toml.specs.View.{view, items_view}
 use Rattle.jg_policy.specs.declared.class.Class.{Class}
 use Rattle.jg_policy.specs.Stated.{StatedClass, each_item, class_stated}

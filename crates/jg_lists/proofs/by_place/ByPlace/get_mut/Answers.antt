@@ -1,5 +1,5 @@
 use Rattle.std.proofs.Common.{refl, sym, ◌∙◌}
-use Rattle.core.proofs.option.Match.{None-if_not_some}
+use Rattle.std.proofs.option.Match.{None-if_not_some}
 use Rattle.jg_lists.proofs.Values.{through, through_none}
 use Rattle.jg_lists.proofs.by_place.ByPlace.get_mut.Goals as goal
 
