@@ -4,9 +4,10 @@ use Rattle.std.specs.Prelude.{ℤ, ◌==◌, ◌||◌, if◌then◌else◌, IfSo
 use Rattle.std.specs.List.{list_any, filter_map, cons_option}
 use Rattle.std.specs.Option.{option_map, option_to_list}
 use Rattle.std.specs.Map.{lookup}
-use Rattle.std.proofs.lemmas.Bool.Decides.{nat_tests, or_right}
+use Rattle.std.proofs.lemmas.Bool.Decides.{nat_tests}
 use Rattle.std.proofs.lemmas.Option.{same_Some}
 use Rattle.std.specs.Cmp.{both_ways}
+use Rattle.std.proofs.lemmas.Bool.{or_right}
 use Rattle.jg_words.proofs.Common.{clash}
 use Rattle.jg_buffers.specs.declared.copied.Copied.{Copied}
 use Rattle.jg_buffers.specs.declared.pinned.Pinned.{Pinned}

@@ -3,10 +3,11 @@ use Rattle.std.proofs.Common.{ℕ, ◌≡◌, ◌≢◌, ◌+◌, ◌++◌, ◌�
 use Rattle.std.specs.Prelude.{◌==◌, ◌&&◌, ◌||◌, not, nat_lt}
 use Rattle.std.specs.List.{list_any}
 use Rattle.std.specs.Option.{option_map, is_some}
-use Rattle.std.proofs.lemmas.Bool.Decides.{nat_tests, or_right}
+use Rattle.std.proofs.lemmas.Bool.Decides.{nat_tests}
 use Rattle.std.proofs.lemmas.List.Folds.{list_any_more}
 use Rattle.std.proofs.Math.Bool.{or-false}
 use Rattle.std.specs.Cmp.{both_ways}
+use Rattle.std.proofs.lemmas.Bool.{or_right}
 use Rattle.jg_words.specs.declared.object.ObjId.{ObjId}
 use Rattle.jg_words.proofs.Common.{or_first_off}
 use Rattle.jg_policy.specs.Stated.{StatedSetup, class_count}

@@ -1,7 +1,7 @@
 -- What the frames open at a depth are.
 use Rattle.std.proofs.Common.{◌≡◌, ℕ, Bool, true, false, List, [], ◌∷◌, ◌++◌, refl, arith}
 use Rattle.std.specs.List.{list_any}
-use Rattle.std.proofs.lemmas.Bool.Decides.{or_parts}
+use Rattle.std.proofs.lemmas.Bool.{or_parts}
 use Rattle.jg_lists.specs.Acts.{moments}
 use Rattle.jg_locals.specs.History.{Act, how_many, begins, done_at, is_push, is_pop}
 use Rattle.jg_locals.specs.Laws.{is_at_depth, begins_at, OpenFramesMean}

@@ -5,8 +5,9 @@ use Rattle.std.specs.Option.{is_some}
 use Rattle.std.specs.List.{list_any}
 use Rattle.jg_lists.specs.Acts.{moments}
 use Rattle.jg_locals.specs.Laws.{opens_at, RoomMeans}
-use Rattle.std.proofs.lemmas.Bool.Decides.{nat_tests, or_parts}
+use Rattle.std.proofs.lemmas.Bool.Decides.{nat_tests}
 use Rattle.std.proofs.option.Match.{None-if_not_some}
+use Rattle.std.proofs.lemmas.Bool.{or_parts}
 use Rattle.jg_locals.specs.History.{Act, Push, Ensure, Enter, depth, frames}
 use Rattle.jg_locals.specs.Room.{promised, held, only_if, greater, if_opened, opened_with, frame_room}
 

@@ -1,12 +1,11 @@
 -- What is stated twice.
 use Rattle.std.proofs.Common.{◌≡◌, ℕ, Bool, true, false, not, ◌||◌, ◌&&◌, cond, List, [], ◌∷◌, ◌++◌, map, Option, Some, is_some, String, Global, string_bytes, refl, ◌∙◌, sym, append_assoc}
 use Rattle.std.proofs.lemmas.List.{map-append}
-use Rattle.std.proofs.lemmas.Bool.{false≢true}
+use Rattle.std.proofs.lemmas.Bool.{false≢true, or_parts}
 use Rattle.std.proofs.lemmas.List.Folds.{list_any-append}
 use Rattle.std.specs.List.{list_any}
 use Rattle.std.specs.Map.{lookup}
 use Rattle.std.specs.Str.{bytes_eq}
-use Rattle.std.proofs.lemmas.Bool.Decides.{or_parts}
 use Rattle.std.proofs.Math.Bool.{or-true}
 use Rattle.jg_words.proofs.Common.{list_any-map, list_any-front}
 use Rattle.jg_policy.specs.declared.class.Class.{Class}

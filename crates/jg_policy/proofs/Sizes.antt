@@ -1,8 +1,7 @@
 -- The limits of a setup, lt-ltb what is kept of it.
 use Rattle.std.proofs.Common.{◌≡◌, ℕ, ◌≤◌, ◌<◌, zero, suc, false, ◌||◌, List, [], ◌∷◌, length, map, Some, slice_get, String, Global, refl}
 use Rattle.std.proofs.lemmas.List.{length-map}
-use Rattle.std.proofs.lemmas.Bool.{ltb-false, lt-ltb}
-use Rattle.std.proofs.lemmas.Bool.Decides.{or_parts}
+use Rattle.std.proofs.lemmas.Bool.{ltb-false, lt-ltb, or_parts}
 use Rattle.std.specs.List.{list_any}
 use Rattle.jg_policy.specs.declared.class.Class.{Class}
 use Rattle.jg_policy.specs.declared.grant.Grant.{Grant}

@@ -2,7 +2,7 @@
 use Rattle.std.proofs.Common.{◌≡◌, ℕ, Bool, true, false, not, if◌then◌else◌, ◌&&◌, List, [], ◌∷◌, ◌++◌, Option, Some, None, codes, refl}
 use Rattle.std.specs.Prelude.{unwrap_or}
 use Rattle.std.specs.List.{list_all}
-use Rattle.std.proofs.lemmas.Bool.Decides.{and_from}
+use Rattle.std.proofs.lemmas.Bool.{and_from}
 use Rattle.toml.specs.Data.{Data, Items, no_items, item, Members, no_members, get_member, as_str, as_array, as_table}
 use Rattle.jg_policy.specs.declared.fault.SetupFault.{SetupFault}
 use Rattle.jg_policy.specs.declared.fault.SetupFault.TheVariants.{BadName, UnknownKey}
