@@ -8,14 +8,14 @@ ghost use Rattle.jg_lists.specs.ByMaker.{same_name};
 
 use crate::family::Family;
 use indexmap::IndexMap;
-use jg_words::Primitive;
+use jg_words::ItemType;
 use std::alloc::Allocator;
 use std::hash::{BuildHasherDefault, FoldHasher};
 
 /// The families that copy.
 #[derive(Clone, Copy, Debug, PartialEq, Eq)]
 pub enum CopyKind {
-    Elements(Primitive),
+    Elements(ItemType),
     Chars,
     UtfChars,
 }
@@ -36,7 +36,7 @@ pub fn copy_kind(family: Family) -> CopyKind
     ensures { copy_family result ≡ family }
 {
     match family {
-        Family::Elements(primitive) => CopyKind::Elements(primitive),
+        Family::Elements(item) => CopyKind::Elements(item),
         Family::Chars => CopyKind::Chars,
         Family::UtfChars => CopyKind::UtfChars,
         Family::ArrayCritical => unreachable!(),
@@ -48,7 +48,7 @@ pub fn family_of_copy(kind: CopyKind) -> Family
     ensures { result ≡ copy_family kind }
 {
     match kind {
-        CopyKind::Elements(primitive) => Family::Elements(primitive),
+        CopyKind::Elements(item) => Family::Elements(item),
         CopyKind::Chars => Family::Chars,
         CopyKind::UtfChars => Family::UtfChars,
     }

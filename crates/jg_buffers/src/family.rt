@@ -1,13 +1,13 @@
 //! The functions that open a buffer, by the one that releases it.
 
-use jg_words::Primitive;
+use jg_words::ItemType;
 
 /// The functions that open a buffer, and that alone may release it: `Get<Type>ArrayElements`,
 /// `GetStringChars` and `GetStringUTFChars` copy; `GetPrimitiveArrayCritical` and
 /// `GetStringCritical` pin.
 #[derive(Clone, Copy, Debug, PartialEq, Eq)]
 pub enum Family {
-    Elements(Primitive),
+    Elements(ItemType),
     Chars,
     UtfChars,
     ArrayCritical,

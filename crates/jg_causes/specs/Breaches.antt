@@ -25,6 +25,7 @@ use Rattle.jg_words.specs.declared.call.arrays.ArraysCall.{ArraysCall}
 use Rattle.jg_words.specs.declared.call.arrays.ArraysCall.TheVariants.{NewArray, GetArrayLength, GetArrayRegion, SetArrayRegion, NewObjectArray, GetObjectArrayElement, SetObjectArrayElement}
 use Rattle.jg_words.specs.declared.call.buffers.BuffersCall.{BuffersCall}
 use Rattle.jg_words.specs.declared.call.buffers.BuffersCall.TheVariants.{GetArrayElements, ReleaseArrayElements, GetStringChars, ReleaseStringChars, GetStringUTFChars, ReleaseStringUTFChars, GetPrimitiveArrayCritical, ReleasePrimitiveArrayCritical, GetStringCritical, ReleaseStringCritical, BufferRead, BufferWrite}
+use Rattle.jg_words.specs.declared.object.ItemType.TheVariants.{Of}
 use Rattle.jg_buffers.specs.declared.family.Family.{Family}
 use Rattle.jg_buffers.specs.declared.family.Family.TheVariants.{Elements, Chars, UtfChars, ArrayCritical, StringCritical}
 use Rattle.jg_buffers.specs.declared.info.Info.{Info}
@@ -168,7 +169,7 @@ of_writing t b (Some info) =
 
 abbrev pub buffers_buffer_breach : StatedSetup → Parts → ℕ → BuffersCall → Breach
 buffers_buffer_breach s p t (GetArrayElements element r) = breach.Unbroken
-buffers_buffer_breach s p t (ReleaseArrayElements element r b mode) = release_breach s p t (Elements element) r b
+buffers_buffer_breach s p t (ReleaseArrayElements element r b mode) = release_breach s p t (Elements (Of element)) r b
 buffers_buffer_breach s p t (GetStringChars r) = breach.Unbroken
 buffers_buffer_breach s p t (ReleaseStringChars r b) = release_breach s p t Chars r b
 buffers_buffer_breach s p t (GetStringUTFChars r) = breach.Unbroken

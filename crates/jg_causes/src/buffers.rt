@@ -11,7 +11,7 @@ use jg_rules::{
     View, buffer_named, class_of, is_anothers, is_of_array, is_of_family, is_of_object,
     object_named,
 };
-use jg_words::{BufId, BuffersCall, Call, Ref, Tid};
+use jg_words::{BufId, BuffersCall, Call, ItemType, Ref, Tid};
 use std::alloc::Allocator;
 
 fn of_release<A: Allocator + Clone>(
@@ -102,7 +102,7 @@ fn buffers_breach<A: Allocator + Clone>(view: &View<'_, A>, tid: Tid, call: &Buf
             array,
             buffer,
             ..
-        } => release_breach(view, tid, Family::Elements(*element), *array, *buffer),
+        } => release_breach(view, tid, Family::Elements(ItemType::Of(*element)), *array, *buffer),
         BuffersCall::GetStringChars { .. } => Breach::Unbroken,
         BuffersCall::ReleaseStringChars { string, buffer } => {
             release_breach(view, tid, Family::Chars, *string, *buffer)

@@ -10,6 +10,7 @@ use Rattle.jg_words.specs.declared.reference.Ref.TheVariants.{Null, To}
 use Rattle.jg_words.specs.declared.reference.Kind.{Kind}
 use Rattle.jg_words.specs.declared.reference.Kind.TheVariants.{Local, Global, Weak}
 use Rattle.jg_words.proofs.Common.{and_first, and_second}
+use Rattle.jg_words.specs.declared.object.ItemType.TheVariants.{Of}
 use Rattle.jg_policy.specs.Stated.{StatedSetup, class_count}
 use Rattle.jg_policy.specs.Links as links
 use Rattle.jg_threads.specs.History as threads
@@ -121,7 +122,7 @@ before s (x ∷ newer) w could = before s newer w could.1
 
 -- the same buffer, of the one array of another store
 abbrev other : StatedSetup → buffers.Buffer → buffers.Buffer
-other s b = record b { object = class_count s; family = Elements Int; length = 0 }
+other s b = record b { object = class_count s; family = Elements (Of Int); length = 0 }
 
 abbrev one_array : List heap.Event
 one_array = heap.Made (Filled 8 0 (Number (pos 0))) ∷ []

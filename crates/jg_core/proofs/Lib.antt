@@ -5,3 +5,4 @@ pub mod Owners
 pub mod Here
 pub mod Due
 pub mod Going
+pub mod Tied

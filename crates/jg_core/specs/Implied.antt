@@ -29,6 +29,7 @@ use Rattle.jg_words.specs.declared.call.monitors.MonitorsCall.{MonitorsCall}
 use Rattle.jg_words.specs.declared.call.monitors.MonitorsCall.TheVariants.{MonitorEnter, MonitorExit}
 use Rattle.jg_words.specs.declared.call.buffers.BuffersCall.{BuffersCall}
 use Rattle.jg_words.specs.declared.call.buffers.BuffersCall.TheVariants.{GetArrayElements, ReleaseArrayElements, GetStringChars, ReleaseStringChars, GetStringUTFChars, ReleaseStringUTFChars, GetPrimitiveArrayCritical, ReleasePrimitiveArrayCritical, GetStringCritical, ReleaseStringCritical, BufferRead, BufferWrite}
+use Rattle.jg_words.specs.declared.object.ItemType.TheVariants.{Of}
 use Rattle.jg_policy.specs.Stated.{StatedSetup}
 use Rattle.jg_threads.specs.History.{sessions, acts_of, Attach}
 use Rattle.jg_buffers.specs.declared.family.Family.{Family}
@@ -196,7 +197,7 @@ abbrev pub giving_back : ℤ → BufId → Option Fact
 giving_back mode b = if is_commit mode then None else Some (Back b)
 
 abbrev pub buffers_implied : Parts → Tid → BuffersCall → Says → Option (Option Fact)
-buffers_implied p t (GetArrayElements element r) says = lending t (Elements element) (object_named p t.0 r) Null says
+buffers_implied p t (GetArrayElements element r) says = lending t (Elements (Of element)) (object_named p t.0 r) Null says
 buffers_implied p t (ReleaseArrayElements element r b mode) says = doing t (Some (giving_back mode b)) says
 buffers_implied p t (GetStringChars r) says = lending t Chars (object_named p t.0 r) Null says
 buffers_implied p t (ReleaseStringChars r b) says = doing t (Some (Some (Back b))) says

@@ -5,3 +5,5 @@ pub mod Laws
 pub mod Tables
 pub mod Kernel
 pub mod Implied
+pub mod Expected
+pub mod Asking

@@ -19,13 +19,13 @@ use jg_buffers::Family;
 use jg_objects::Objects;
 use jg_rules::{View, class_meant, native_meant, object_named};
 use jg_words::{
-    ArraysCall, BufId, BuffersCall, Call, ExceptionsCall, FramesCall, Kind, MonitorsCall, Name,
-    ObjId, ObjectsCall, Ref, RefsCall, StringsCall, Tid, VmCall,
+    ArraysCall, BufId, BuffersCall, Call, ExceptionsCall, FramesCall, ItemType, Kind, MonitorsCall,
+    Name, ObjId, ObjectsCall, Ref, RefsCall, StringsCall, Tid, VmCall,
 };
 use std::alloc::Allocator;
 
 /// It was done, and implies that; or it threw.
-fn doing(tid: Tid, done: Option<Option<Fact>>, says: Says) -> Option<Option<Fact>>
+pub(crate) fn doing(tid: Tid, done: Option<Option<Fact>>, says: Says) -> Option<Option<Fact>>
     ensures { result ≡ spec.doing tid done says }
 {
     match says {
@@ -38,7 +38,7 @@ fn doing(tid: Tid, done: Option<Option<Fact>>, says: Says) -> Option<Option<Fact
 }
 
 /// It was done, and throws nothing.
-fn done_only(fact: Option<Fact>, says: Says) -> Option<Option<Fact>>
+pub(crate) fn done_only(fact: Option<Fact>, says: Says) -> Option<Option<Fact>>
     ensures { result ≡ spec.done_only fact says }
 {
     match says {
@@ -51,7 +51,7 @@ fn done_only(fact: Option<Fact>, says: Says) -> Option<Option<Fact>>
 }
 
 /// A reference of the kind was handed out, or null.
-fn handing(tid: Tid, kind: Kind, says: Says) -> Option<Option<Fact>>
+pub(crate) fn handing(tid: Tid, kind: Kind, says: Says) -> Option<Option<Fact>>
     ensures { result ≡ spec.handing tid kind says }
 {
     match says {
@@ -86,7 +86,7 @@ fn lent(
 }
 
 /// A buffer was lent, or null was answered.
-fn lending(
+pub(crate) fn lending(
     tid: Tid,
     family: Family,
     object: Option<ObjId>,
@@ -118,7 +118,7 @@ fn kept_by(says: Says) -> Option<Option<ObjId>>
 }
 
 /// A native method left.
-fn leaving(tid: Tid, says: Says) -> Option<Option<Fact>>
+pub(crate) fn leaving(tid: Tid, says: Says) -> Option<Option<Fact>>
     ensures { result ≡ option_map (λ kept. Some (Leave tid kept)) (spec.kept_by says) }
 {
     match kept_by(says) {
@@ -128,7 +128,7 @@ fn leaving(tid: Tid, says: Says) -> Option<Option<Fact>>
 }
 
 /// A frame was popped.
-fn popping(tid: Tid, says: Says) -> Option<Option<Fact>>
+pub(crate) fn popping(tid: Tid, says: Says) -> Option<Option<Fact>>
     ensures { result ≡ option_map (λ kept. Some (Pop tid kept)) (spec.kept_by says) }
 {
     match kept_by(says) {
@@ -138,7 +138,7 @@ fn popping(tid: Tid, says: Says) -> Option<Option<Fact>>
 }
 
 /// A session begins where the thread has none.
-fn attaching(is_attached: bool, tid: Tid) -> Option<Fact>
+pub(crate) fn attaching(is_attached: bool, tid: Tid) -> Option<Fact>
     ensures { result ≡ spec.attaching is_attached tid }
 {
     if is_attached {
@@ -149,7 +149,7 @@ fn attaching(is_attached: bool, tid: Tid) -> Option<Fact>
 }
 
 /// A session ends where the thread has one.
-fn detaching(is_attached: bool, tid: Tid) -> Option<Fact>
+pub(crate) fn detaching(is_attached: bool, tid: Tid) -> Option<Fact>
     ensures { result ≡ spec.detaching is_attached tid }
 {
     if is_attached {
@@ -160,7 +160,7 @@ fn detaching(is_attached: bool, tid: Tid) -> Option<Fact>
 }
 
 /// A native method is linked that the setup states.
-fn linking(class: Option<u32>, native: Option<u32>) -> Option<Fact>
+pub(crate) fn linking(class: Option<u32>, native: Option<u32>) -> Option<Fact>
     ensures { result ≡ spec.linking class native }
 {
     match class {
@@ -173,7 +173,7 @@ fn linking(class: Option<u32>, native: Option<u32>) -> Option<Fact>
 }
 
 /// None of the class is, if the setup states it.
-fn unlinking(class: Option<u32>) -> Option<Fact>
+pub(crate) fn unlinking(class: Option<u32>) -> Option<Fact>
     ensures { result ≡ spec.unlinking class }
 {
     match class {
@@ -234,7 +234,7 @@ fn vm_implied<A: Allocator + Clone>(
 }
 
 /// The reference ended, if it wasn't null.
-fn losing(reference: Ref) -> Option<Fact>
+pub(crate) fn losing(reference: Ref) -> Option<Fact>
     ensures { result ≡ spec.losing reference }
 {
     match reference {
@@ -259,7 +259,7 @@ fn refs_implied(tid: Tid, call: &RefsCall, says: Says) -> Option<Option<Fact>>
 }
 
 /// The number that an operand gives; 0 for one below 0.
-fn natural(n: i32) -> u32
+pub(crate) fn natural(n: i32) -> u32
     ensures { result ≡ reading.natural n }
 {
     if n < 0 { 0 } else { n as u32 }
@@ -394,7 +394,7 @@ fn monitors_implied<A: Allocator + Clone>(
 }
 
 /// The buffer was given back, but by `JNI_COMMIT`.
-fn giving_back(mode: i32, buffer: BufId) -> Option<Fact>
+pub(crate) fn giving_back(mode: i32, buffer: BufId) -> Option<Fact>
     ensures { result ≡ spec.giving_back mode buffer }
 {
     if natural(mode) == 1 {
@@ -415,7 +415,13 @@ fn buffers_implied<A: Allocator + Clone>(
     match call {
         BuffersCall::GetArrayElements { element, array } => {
             let object = object_named(view, tid, *array);
-            lending(tid, Family::Elements(*element), object, Ref::Null, says)
+            lending(
+                tid,
+                Family::Elements(ItemType::Of(*element)),
+                object,
+                Ref::Null,
+                says,
+            )
         }
         BuffersCall::ReleaseArrayElements { buffer, mode, .. } => {
             doing(tid, Some(giving_back(*mode, *buffer)), says)
@@ -526,7 +532,10 @@ fn given_by<A: Allocator + Clone>(view: &View<'_, A, Objects<A>>, fact: Fact) ->
 }
 
 /// The same, if there is one.
-fn given_with<A: Allocator + Clone>(view: &View<'_, A, Objects<A>>, fact: Option<Fact>) -> Given
+pub(crate) fn given_with<A: Allocator + Clone>(
+    view: &View<'_, A, Objects<A>>,
+    fact: Option<Fact>,
+) -> Given
     requires { (t : ℕ) → CanCount view.now.threads.now t }
     ensures { (p : Parts) → ViewTells Tells view.now p → result ≡ spec.given_with p fact }
 {

@@ -2,7 +2,9 @@
 //! what the machine does. No rule refuses what it is told. Chapters are the JNI Specification's.
 #![tactic(auto)]
 
+mod asking;
 mod did;
+mod expected;
 mod fact;
 mod gone;
 mod implied;
@@ -13,11 +15,13 @@ mod says;
 mod tables;
 mod take;
 
+pub use asking::{Answer, Ended, Ticket};
+pub use expected::Expected;
 pub use fact::{Checked, Fact};
 pub use gone::{Holder, StillHeld};
 pub use kernel::{Broken, Core, Untold};
 pub use promises::{
     gone_stays_gone, held_is_here, live_is_here, no_reference_revived, no_reference_twice,
-    one_owner, references_are_counted,
+    one_owner, questions_are_judged_as_calls, questions_are_told_as_calls, references_are_counted,
 };
 pub use says::{Given, Says};

@@ -1,5 +1,6 @@
 //! What holds whatever a machine told, each as the contract of a function that does nothing.
 
+ghost use Rattle.jg_core.specs.Asking.{AskedAsCalls, ToldAsCalls};
 ghost use Rattle.jg_core.specs.Laws.{GoneStaysGone, HeldIsHere, LiveIsHere, NoReferenceRevived, NoReferenceTwice, OneOwner, ReferencesCounted};
 
 /// The number of a reference that was handed out is below the number of its thread's next one.
@@ -35,4 +36,14 @@ pub fn held_is_here()
 /// An object that is gone stays gone.
 pub fn gone_stays_gone()
     ensures { GoneStaysGone }
+{}
+
+/// What is told of a call's question that returned is what [`Core::did`](crate::Core::did) takes of the call.
+pub fn questions_are_told_as_calls()
+    ensures { ToldAsCalls }
+{}
+
+/// A call's question is answered by the verdict on the call.
+pub fn questions_are_judged_as_calls()
+    ensures { AskedAsCalls }
 {}

@@ -44,6 +44,7 @@ use Rattle.jg_rules.specs.Parts.{Parts}
 use Rattle.jg_rules.specs.Names.{names, named_by, named_by_target, object_in, object_named, native_meant}
 use Rattle.jg_rules.specs.Operands.{operands, is_of}
 use Rattle.jg_words.specs.Classes.{element_of}
+use Rattle.jg_words.specs.declared.object.ItemType.TheVariants.{Of, Float, Double}
 use Rattle.jg_rules.specs.Buffers.{buffer_named, item_type, is_place, is_value_of_type}
 use Rattle.jg_rules.specs.Rules.{broken, rules_in_order, is_session, is_nothing, is_null, is_wrong, is_of_class, is_stated_as, field_of_another, is_outside_of, is_wrong_item, is_linked, is_by, is_not_owned, is_releasable}
 use Rattle.jg_entries.specs.Alike.{ReadAlike}
@@ -116,7 +117,7 @@ module _ (s : StatedSetup) (p q : Parts) (same : ReadAlike s p q) where
 
   buffer_rule : (t : ℕ) (env : Option EnvId) (call : BuffersCall) → broken BadBuffer s p t env (Buffers call) ≡ broken BadBuffer s q t env (Buffers call)
   buffer_rule t env (GetArrayElements element r) = refl
-  buffer_rule t env (ReleaseArrayElements element r b mode) = ap not (releases t (Elements element) r b)
+  buffer_rule t env (ReleaseArrayElements element r b mode) = ap not (releases t (Elements (Of element)) r b)
   buffer_rule t env (GetStringChars r) = refl
   buffer_rule t env (ReleaseStringChars r b) = ap not (releases t Chars r b)
   buffer_rule t env (GetStringUTFChars r) = refl
@@ -129,7 +130,9 @@ module _ (s : StatedSetup) (p q : Parts) (same : ReadAlike s p q) where
   buffer_rule t env (BufferWrite b index value) = rw (same.lent b) refl
 
   item_same : (info : Info) (family : Family) → item_type s p info family ≡ item_type s q info family
-  item_same info (Elements element) = refl
+  item_same info (Elements (Of element)) = refl
+  item_same info (Elements Float) = refl
+  item_same info (Elements Double) = refl
   item_same info Chars = refl
   item_same info UtfChars = refl
   item_same info ArrayCritical = ap element_of (same.classes info.object.0)

@@ -72,6 +72,7 @@ use Rattle.jg_rules.specs.Rules.{is_nothing, is_null, is_by, is_not, is_not_owne
 use Rattle.jg_rules.specs.Effects.{settled, passed_on, done_by, done_if, call_heap, wrote_copy, wrote_pinned, wrote_back, copied_back, closed, linking, unlinking, is_effective, if_effective, first_value, pointer}
 use Rattle.jg_words.specs.Classes.{class_thrown}
 use Rattle.jg_words.proofs.Common.{or_first_off}
+use Rattle.jg_words.specs.declared.object.ItemType.TheVariants.{Of}
 use Rattle.jg_rules.specs.Answers.{answer, unnoticed, plain, handed, thrown, present_env, unless_pending, registered, entered, class_found, field_found, field_value, or_outside, is_outside, region}
 use Rattle.jg_rules.specs.Unbroken.{Unbroken}
 use Rattle.jg_laws.proofs.Acts.{attached_caller, attached_done, next_done}
@@ -509,7 +510,7 @@ module _ (s : StatedSetup) (p q : Parts) (t : Tid) (env : Option EnvId) (known :
   buffers_core : (call : BuffersCall) → Unbroken s q t.0 env (Buffers call) → Core s p q t (Buffers call)
   buffers_core (GetArrayElements element r) u =
       let o : ℕ = the_object q t.0 r in
-      copy_told s p q known t (Elements element) o (items_of s q o) refl (present (Buffers (GetArrayElements element r)) refl u) (must_here s p q t.0 r known u.alive u.not_null)
+      copy_told s p q known t (Elements (Of element)) o (items_of s q o) refl (present (Buffers (GetArrayElements element r)) refl u) (must_here s p q t.0 r known u.alive u.not_null)
   buffers_core (ReleaseArrayElements element r b mode) u =
       closing_told s p q t b (is_commit mode) (copied_back q b mode ++ q.heap) known
       (back_if (writes_back mode) (class_count s) p.heap q.heap (buffers.contents q.buffers b.maker.0 b.n) (buffer_named q b) known.same.heap) (open_some _ (buffer_named q b) u.right_buffer)

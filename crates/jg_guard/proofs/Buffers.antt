@@ -16,6 +16,7 @@ use Rattle.jg_policy.specs.Stated.{StatedSetup, class_count}
 use Rattle.jg_heap.specs.Making.{Making, class_in, IsPrimitiveArray}
 use Rattle.jg_words.specs.Classes.{array_class}
 use Rattle.jg_words.proofs.Common.{and_first}
+use Rattle.jg_words.specs.declared.object.ItemType.TheVariants.{Of, Float, Double}
 use Rattle.jg_heap.specs.Rows.{count_in, class_at, length_at}
 use Rattle.jg_heap.specs.Reading.{natural}
 use Rattle.jg_heap.specs.History.{making_at}
@@ -34,6 +35,7 @@ use Rattle.jg_rules.specs.Rules.{is_nothing, is_null as is_null_named, is_wrong,
 use Rattle.jg_rules.proofs.Objects.{IsThere, as_made, made_there, first_is_of}
 use Rattle.jg_laws.specs.Laws.{FitsMaking, FitsObject}
 use Rattle.jg_laws.proofs.Lent.{is_string, within, four}
+use Rattle.jg_laws.proofs.Makings.{array_class-le}
 use Rattle.jg_laws.proofs.Releasing.{released}
 use Rattle.jg_guard.specs.Tables.{IsDue}
 use Rattle.jg_guard.proofs.Arrays.{primitive_there}
@@ -157,8 +159,10 @@ contents_length : (e : List Event) (m n : ℕ) (x : Buffer) → opened e m n ≡
 contents_length e m n x is copies = rw is (contents_if (is_critical x.family) e m n x.length copies)
 
 -- the buffer's family is that of the element's arrays
-family_is : (f : Family) (element : Primitive) → family_number f ≡ array_class element → (other : Primitive) × (f ≡ Elements other) × (array_class other ≡ array_class element)
-family_is (Elements other) element is = (other, refl, is)
+family_is : (f : Family) (element : Primitive) → family_number f ≡ array_class element → (other : Primitive) × (f ≡ Elements (Of other)) × (array_class other ≡ array_class element)
+family_is (Elements (Of other)) element is = (other, refl, is)
+family_is (Elements Float) element is = absurd (omega (arith, is, array_class-le element))
+family_is (Elements Double) element is = absurd (omega (arith, is, array_class-le element))
 family_is Chars element is = absurd (omega (arith, is, four element))
 family_is UtfChars element is = absurd (omega (arith, is, four element))
 family_is ArrayCritical element is = absurd (omega (arith, is, four element))
@@ -169,7 +173,7 @@ pub released_object : (s : StatedSetup) (rows : TableRows) (t : ℕ) (element : 
     (info : Info)
     → buffer_named due.events b ≡ Some info → info.object.0 ≡ the_object due.events t r
 released_object s rows t element r b mode due info is =
-    let it = released due.events t (Elements element) r b due.unbroken.alive due.unbroken.not_null due.unbroken.right_buffer in
+    let it = released due.events t (Elements (Of element)) r b due.unbroken.alive due.unbroken.not_null due.unbroken.right_buffer in
     let told : info_of it.buffer ≡ info = one_info (info_of it.buffer) info (sym (ap (option_map info_of) it.is_open) ∙ is) in
     ap (λ (i : Info). i.object.0) (sym told) ∙ it.object
 
@@ -178,7 +182,7 @@ pub back_fits : (s : StatedSetup) (rows : TableRows) (t : ℕ) (element : Primit
     → length (contents due.events.buffers b.maker.0 b.n) ≡ length_of s due.events (the_object due.events t r)
 back_fits s rows t element r b mode due =
     let p : Parts = due.events in
-    let it = released p t (Elements element) r b due.unbroken.alive due.unbroken.not_null due.unbroken.right_buffer in
+    let it = released p t (Elements (Of element)) r b due.unbroken.alive due.unbroken.not_null due.unbroken.right_buffer in
     let family = family_is it.buffer.family element it.family_of in
     let fits = due.lent b.maker.0 b.n it.buffer it.is_open in
     let fit = subst (λ (f : Family). FitsMaking f (making_at (class_count s) p.heap it.buffer.object) it.buffer.length) family.1 fits.1 in

@@ -10,6 +10,7 @@ use Rattle.jg_words.specs.declared.reference.Ref.{Ref}
 use Rattle.jg_policy.specs.Stated.{StatedSetup, class_count}
 use Rattle.jg_heap.specs.Making.{IsPrimitiveArray}
 use Rattle.jg_words.specs.Classes.{array_class}
+use Rattle.jg_words.specs.declared.object.ItemType.TheVariants.{Of}
 use Rattle.jg_heap.specs.Spelling.{spelt}
 use Rattle.jg_buffers.specs.History.{Buffer, copy_with, pin_through}
 use Rattle.jg_buffers.specs.declared.family.Family.TheVariants.{Elements, Chars, UtfChars, ArrayCritical, StringCritical}
@@ -42,7 +43,7 @@ is_string s p named alive there right = eqb-true (class_of s p (unwrap_or (objec
 
 pub elements_fit : (s : StatedSetup) (p : Parts) (t n : ℕ) (element : Primitive) (named : Named) → (is_nothing named || false) ≡ false → ((true && is_null named) || false) ≡ false
     → (is_wrong s p (ArrayOf element) named || false) ≡ false
-    → FitsObject (class_count s) p.heap (copy_with t n (unwrap_or (object_in named) 0) (Elements element) (items_of s p (unwrap_or (object_in named) 0)))
+    → FitsObject (class_count s) p.heap (copy_with t n (unwrap_or (object_in named) 0) (Elements (Of element)) (items_of s p (unwrap_or (object_in named) 0)))
 elements_fit s p t n element named alive there right =
     let o : ℕ = unwrap_or (object_in named) 0 in
     let is : class_of s p o ≡ array_class element = eqb-true (class_of s p o) (array_class element) (first_is_of s p (ArrayOf element) named false false false alive there right) in

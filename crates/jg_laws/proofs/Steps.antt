@@ -37,6 +37,7 @@ use Rattle.jg_heap.specs.Spelling.{spelt}
 use Rattle.jg_heap.specs.Reading.{natural}
 use Rattle.jg_words.specs.declared.call.buffers.BuffersCall.{BuffersCall}
 use Rattle.jg_words.proofs.Common.{clash}
+use Rattle.jg_words.specs.declared.object.ItemType.TheVariants.{Of}
 use Rattle.jg_buffers.specs.declared.family.Family.TheVariants.{Elements, Chars, UtfChars, ArrayCritical, StringCritical}
 use Rattle.jg_rules.specs.Effects.{parts, after, started, deletes_local, call_globals, call_buffers, call_monitors, call_heap, call_links, done_by, done_if, is_effective, warning, value_heap, settled, closed, wrote_copy}
 use Rattle.jg_rules.specs.Rules.{verdict}
@@ -282,7 +283,7 @@ writes_none b index v (Some info) = writes_if (buffers.is_critical info.family) 
 buffers_passed : (P : Parts → Type 0) (s : StatedSetup) → Steps s P → (p : Parts) (t : Tid) (env : Option EnvId) (call : BuffersCall) → Unbroken s p t.0 env (Buffers call) → P p
     → P (answered s p t (Buffers call) (answer s p t (Buffers call)))
 buffers_passed P s steps p t env (GetArrayElements element r) kept old =
-    steps.lends p t.0 (buffers.copy_with t.0 (next_buffer p t.0) (the_object p t.0 r) (Elements element) (items_of s p (the_object p t.0 r)))
+    steps.lends p t.0 (buffers.copy_with t.0 (next_buffer p t.0) (the_object p t.0 r) (Elements (Of element)) (items_of s p (the_object p t.0 r)))
     (record { maker = refl; number = refl; fits = elements_fit s p t.0 (next_buffer p t.0) element (names p t.0 r) kept.alive kept.not_null kept.right_type }) old
 buffers_passed P s steps p t env (ReleaseArrayElements element r b mode) kept old =
     each_other P s steps p t env (Buffers (ReleaseArrayElements element r b mode)) kept (closes_none (is_commit mode) b) old

@@ -17,6 +17,7 @@ use Rattle.jg_words.specs.declared.call.objects.ObjectsCall.TheVariants.{AllocOb
 use Rattle.jg_words.specs.declared.call.strings.StringsCall.TheVariants.{NewString, NewStringUTF}
 use Rattle.jg_words.specs.declared.call.arrays.ArraysCall.TheVariants.{NewArray, SetArrayRegion, NewObjectArray, SetObjectArrayElement}
 use Rattle.jg_words.specs.declared.call.buffers.BuffersCall.TheVariants.{GetArrayElements, ReleaseArrayElements, GetStringChars, ReleaseStringChars, GetStringUTFChars, ReleaseStringUTFChars, GetPrimitiveArrayCritical, ReleasePrimitiveArrayCritical, GetStringCritical, ReleaseStringCritical, BufferRead, BufferWrite}
+use Rattle.jg_words.specs.declared.object.ItemType.TheVariants.{Of}
 use Rattle.jg_policy.specs.Stated.{StatedSetup}
 use Rattle.jg_heap.specs.Reading.{natural}
 use Rattle.jg_heap.specs.History as heap
@@ -116,7 +117,7 @@ released_own p t family r c id b right same is =
 used_own : (p : Parts) (t : ℕ) (call : Call) (id : BufId) (b : Buffer) → bad_buffer p t call ≡ false
     → buffer_used call ≡ Some id → IsOpen p id b → is_anothers t (info_of b) ≡ false
 used_own p t (Buffers (ReleaseArrayElements element r c mode)) id b right same is =
-    released_own p t (Elements element) r c id b right same is
+    released_own p t (Elements (Of element)) r c id b right same is
 used_own p t (Buffers (ReleaseStringChars r c)) id b right same is = released_own p t Chars r c id b right same is
 used_own p t (Buffers (ReleaseStringUTFChars r c)) id b right same is =
     released_own p t UtfChars r c id b right same is
@@ -204,7 +205,7 @@ writes_meet s p t env (Arrays (NewObjectArray n class fill)) kept live = (tt, tt
 writes_meet s p t env (Arrays (SetObjectArrayElement r index value)) kept live =
     (inl (first_named p t r ObjectArray (optional value ∷ []) kept.alive kept.not_null), tt)
 writes_meet s p t env (Buffers (ReleaseArrayElements element r b mode)) kept live =
-    let it = released p t (Elements element) r b kept.alive kept.not_null kept.right_buffer in
+    let it = released p t (Elements (Of element)) r b kept.alive kept.not_null kept.right_buffer in
     let H : ℕ → Type 0 = Reaches p t (Buffers (ReleaseArrayElements element r b mode)) in
     back_meets (writes_back mode) H (contents p.buffers b.maker.0 b.n) (buffer_named p b) (info_of it.buffer) (ap (option_map info_of) it.is_open)
     (subst H (sym it.object) (inl (first_named p t r (ArrayOf element) [] kept.alive kept.not_null)))

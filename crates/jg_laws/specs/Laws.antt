@@ -18,6 +18,7 @@ use Rattle.jg_heap.specs.History as heap
 use Rattle.jg_heap.specs.Making.{Making, Plain, Text, Filled, Opaque}
 use Rattle.jg_heap.specs.Making.{class_in, units_in, length_in, IsPrimitiveArray}
 use Rattle.jg_words.specs.Classes.{array_class}
+use Rattle.jg_words.specs.declared.object.ItemType.TheVariants.{Of, Float, Double}
 use Rattle.jg_heap.specs.Spelling.{spelt}
 use Rattle.jg_buffers.specs.History as buffers
 use Rattle.jg_buffers.specs.Laws.{CriticalBuffer}
@@ -135,7 +136,9 @@ LiveIsNotGone = (s : StatedSetup) (h : List Entry) (t o : ℕ) (r : Ref) → Leg
 
 -- an object that was made so has an item for each of so many of a buffer
 abbrev pub FitsMaking : Family → Making → ℕ → Type 0
-FitsMaking (Elements element) m n = (class_in m ≡ array_class element) × (n ≡ length_in m)
+FitsMaking (Elements (Of element)) m n = (class_in m ≡ array_class element) × (n ≡ length_in m)
+FitsMaking (Elements Float) m n = ⊥
+FitsMaking (Elements Double) m n = ⊥
 FitsMaking Chars m n = (class_in m ≡ 2) × (n ≡ length (units_in m))
 FitsMaking UtfChars m n = (class_in m ≡ 2) × (n ≡ length (spelt (units_in m)))
 FitsMaking ArrayCritical m n = IsPrimitiveArray (class_in m) × (n ≡ length_in m)

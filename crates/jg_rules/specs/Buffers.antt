@@ -5,6 +5,7 @@ use Rattle.jg_words.specs.declared.buffer.BufId.{BufId}
 use Rattle.jg_words.specs.declared.object.Primitive.{Primitive}
 use Rattle.jg_policy.specs.Stated.{StatedSetup}
 use Rattle.jg_words.specs.Classes.{array_class, element_of}
+use Rattle.jg_words.specs.declared.object.ItemType.TheVariants.{Of, Float, Double}
 use Rattle.jg_heap.specs.Reading.{natural}
 use Rattle.jg_buffers.specs.History.{opened, content, info_of, is_critical}
 use Rattle.jg_buffers.specs.declared.family.Family.{Family}
@@ -29,7 +30,9 @@ family_number Chars = 0
 family_number UtfChars = 1
 family_number ArrayCritical = 2
 family_number StringCritical = 3
-family_number (Elements element) = array_class element
+family_number (Elements (Of element)) = array_class element
+family_number (Elements Float) = 10
+family_number (Elements Double) = 11
 
 abbrev pub is_of_family : Family → Info → Bool
 is_of_family family info = family_number info.family == family_number family
@@ -46,7 +49,7 @@ is_anothers t info = is_critical info.family && not (info.maker.0 == t)
 -- its items are those of an array, and may be written; a string's may not (JNI Specification, chapter 4, "String
 -- Operations")
 abbrev pub is_of_array : Family → Bool
-is_of_array (Elements element) = true
+is_of_array (Elements item) = true
 is_of_array Chars = false
 is_of_array UtfChars = false
 is_of_array ArrayCritical = true
@@ -69,7 +72,9 @@ is_place index n = int_le (pos 0) index && nat_lt (natural index) n
 
 -- the type of a buffer's items, where they may be written
 abbrev pub item_type : StatedSetup → Parts → Info → Family → Option Primitive
-item_type s p info (Elements element) = Some element
+item_type s p info (Elements (Of element)) = Some element
+item_type s p info (Elements Float) = None
+item_type s p info (Elements Double) = None
 item_type s p info Chars = None
 item_type s p info UtfChars = None
 item_type s p info ArrayCritical = element_of (class_of s p info.object.0)
@@ -81,7 +86,7 @@ is_value_of_type (Some element) v = is_value_of element v
 
 -- an item of an open buffer: of a copy its own, of a pinned one what the object has there now
 abbrev pub item_of : StatedSetup → Parts → BufId → Info → ℕ → Family → ℤ
-item_of s p b info index (Elements element) = content p.buffers b.maker.0 b.n index
+item_of s p b info index (Elements item) = content p.buffers b.maker.0 b.n index
 item_of s p b info index Chars = content p.buffers b.maker.0 b.n index
 item_of s p b info index UtfChars = content p.buffers b.maker.0 b.n index
 item_of s p b info index ArrayCritical = number_in (slot_of s p info.object.0 index)

@@ -33,6 +33,7 @@ use Rattle.jg_words.specs.declared.call.monitors.MonitorsCall.TheVariants.{Monit
 use Rattle.jg_words.specs.declared.call.buffers.BuffersCall.{BuffersCall}
 use Rattle.jg_words.specs.declared.call.buffers.BuffersCall.TheVariants.{GetArrayElements, ReleaseArrayElements, GetStringChars, ReleaseStringChars, GetStringUTFChars, ReleaseStringUTFChars, GetPrimitiveArrayCritical, ReleasePrimitiveArrayCritical, GetStringCritical, ReleaseStringCritical, BufferRead, BufferWrite}
 use Rattle.jg_words.specs.declared.buffer.BufId.{BufId}
+use Rattle.jg_words.specs.declared.object.ItemType.TheVariants.{Of}
 use Rattle.jg_buffers.specs.declared.family.Family.{Family}
 use Rattle.jg_buffers.specs.declared.family.Family.TheVariants.{Elements, Chars, UtfChars, ArrayCritical, StringCritical}
 use Rattle.jg_buffers.specs.declared.info.Info.{Info}
@@ -193,7 +194,7 @@ wrote_copy b index v (Some info) =
 -- (JNI Specification, chapter 4, "String Operations", "Array Operations")
 abbrev pub buffers_buffers : StatedSetup → Parts → ℕ → BuffersCall → List buffers.Event
 buffers_buffers s p t (GetArrayElements element r) =
-    lent_copy p t (the_object p t r) (Elements element) (items_of s p (the_object p t r))
+    lent_copy p t (the_object p t r) (Elements (Of element)) (items_of s p (the_object p t r))
 buffers_buffers s p t (ReleaseArrayElements element r b mode) = closed_by mode b
 buffers_buffers s p t (GetStringChars r) =
     lent_copy p t (the_object p t r) Chars (map pos (units_of s p (the_object p t r)))

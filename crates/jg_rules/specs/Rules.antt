@@ -51,6 +51,7 @@ use Rattle.jg_buffers.specs.History as buffers
 use Rattle.jg_monitors.specs.History as monitors
 use Rattle.jg_rules.specs.Access.{native_class, native_use, refuses}
 use Rattle.jg_words.specs.Passing.{passes_critical, passes_pending}
+use Rattle.jg_words.specs.declared.object.ItemType.TheVariants.{Of}
 use Rattle.jg_rules.specs.Names.{names, session, depth, open_frames, pending, class_of, native_meant, object_named}
 use Rattle.jg_rules.specs.Operands.{operands, is_of}
 use Rattle.jg_rules.specs.Buffers.{buffer_named, is_open_and, is_of_family, is_of_object, is_anothers, is_of_array, is_mode, is_place, item_type, is_value_of_type}
@@ -249,7 +250,7 @@ is_writable p t b = is_open_and (λ x. is_of_array x.family && not (is_anothers 
 
 abbrev pub buffers_bad_buffer : Parts → ℕ → BuffersCall → Bool
 buffers_bad_buffer p t (GetArrayElements element r) = false
-buffers_bad_buffer p t (ReleaseArrayElements element r b mode) = not (is_releasable p t (Elements element) r b)
+buffers_bad_buffer p t (ReleaseArrayElements element r b mode) = not (is_releasable p t (Elements (Of element)) r b)
 buffers_bad_buffer p t (GetStringChars r) = false
 buffers_bad_buffer p t (ReleaseStringChars r b) = not (is_releasable p t Chars r b)
 buffers_bad_buffer p t (GetStringUTFChars r) = false

@@ -71,7 +71,7 @@ pub fn home_named<A: Allocator + Clone, S: Store>(
 }
 
 /// Whether this use of native code by the class is refused.
-pub(crate) fn is_refused_to<A: Allocator + Clone, S: Store>(
+pub fn is_refused_to<A: Allocator + Clone, S: Store>(
     view: &View<'_, A, S>,
     operation: Operation,
     class: Option<u32>,

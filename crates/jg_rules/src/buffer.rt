@@ -12,7 +12,7 @@ use crate::object::class_of;
 use crate::store::Store;
 use crate::view::View;
 use jg_buffers::{Family, Info};
-use jg_words::{BufId, ObjId, Primitive, Tid, element_of};
+use jg_words::{BufId, ItemType, ObjId, Primitive, Tid, element_of};
 use std::alloc::Allocator;
 
 /// The open buffer of that name, if there is one.
@@ -35,7 +35,9 @@ fn family_number(family: Family) -> u32
         Family::UtfChars => 1,
         Family::ArrayCritical => 2,
         Family::StringCritical => 3,
-        Family::Elements(element) => element.array_class(),
+        Family::Elements(ItemType::Of(element)) => element.array_class(),
+        Family::Elements(ItemType::Float) => 10,
+        Family::Elements(ItemType::Double) => 11,
     }
 }
 
@@ -97,7 +99,8 @@ pub fn item_type<A: Allocator + Clone, S: Store>(
         → result ≡ buffers_of.item_type view.now.setup.now p info info.family }
 {
     match info.family {
-        Family::Elements(element) => Some(element),
+        Family::Elements(ItemType::Of(element)) => Some(element),
+        Family::Elements(_) => None,
         Family::Chars => None,
         Family::UtfChars => None,
         Family::ArrayCritical => element_of(class_of(view, info.object)),

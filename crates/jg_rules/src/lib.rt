@@ -13,14 +13,15 @@ mod operand;
 mod store;
 mod view;
 
-pub use access::{class_asked, home_named, is_warned_use};
+pub use access::{class_asked, home_named, is_refused_to, is_warned_use};
 pub use answer::Answer;
 pub use buffer::{
     buffer_named, is_anothers, is_of_array, is_of_family, is_of_object, is_place, item_type,
 };
 pub use holding::{is_root, mark_roots};
 pub use judge::{
-    first_broken, fits, is_field_of_type, is_foreign_local, is_not_the_owner, is_of_machine,
+    first_broken, fits, is_field_of_type, is_foreign_local, is_mode, is_not_the_owner,
+    is_object_of, is_of_another_kind, is_of_machine, is_readable, is_releasable, is_writable,
     is_wrong_caller, is_wrong_object,
 };
 pub use named::{Named, class_meant, field_meant, look_up, native_meant, object_named, the_object};

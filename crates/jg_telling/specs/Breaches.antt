@@ -2,7 +2,7 @@
 use Rattle.std.specs.Prelude.{ℕ, ℤ, List, [], ◌++◌, codes, Option, Some, None}
 use Rattle.std.specs.Fmt.{decimal, signed_decimal}
 use Rattle.jg_words.specs.Call.{fun_of}
-use Rattle.jg_words.specs.Fun.{name_of, buffers_name}
+use Rattle.jg_words.specs.Fun.{name_of}
 use Rattle.jg_words.specs.declared.buffer.BufId.{BufId}
 use Rattle.jg_words.specs.declared.thread.Tid.{Tid}
 use Rattle.jg_words.specs.declared.thread.EnvId.{EnvId}
@@ -26,7 +26,7 @@ use Rattle.jg_causes.specs.declared.breach.Argument.{Argument}
 use Rattle.jg_causes.specs.declared.breach.Argument.TheVariants.{Capacity, Length, Mode, Value}
 use Rattle.jg_causes.specs.declared.breach.Breach.{Breach}
 use Rattle.jg_causes.specs.declared.breach.Breach.TheVariants.{OnlyForMachine, NotForMachine, EnvOfAnother, NoEnv, NotPresent, InRegion, ExceptionPending, ForeignLocal, DeadReference, OtherKind, NoObject, OtherType, NoField, FieldOfOtherType, FieldOfOtherClass, NotOpen, LentOtherwise, OfOtherObject, OfOtherThread, OfString, OutOfRange, ItemOutOfRange, TooLong, NotModifiedUtf8, NoClass, NoItem, PinnedReference, NotOwner, NoFrame, NotInNative, StillInNative, AccessRefused, NoNative, NotLinked, Unbroken}
-use Rattle.jg_telling.specs.Words.{quoted, quoted_if, class_text, module_text, type_text, wanted_text, lender_of, use_text}
+use Rattle.jg_telling.specs.Words.{quoted, quoted_if, class_text, module_text, type_text, wanted_text, lender_name, use_text}
 
 -- ---- of what the rule speaks
 
@@ -168,7 +168,7 @@ field_of_class_text s r f class =
 
 abbrev pub lent_otherwise_text : Call → BufId → Family → List ℕ
 lent_otherwise_text call b family =
-    buf_text b ++ codes " was lent by " ++ buffers_name (lender_of family) ++ codes ", which " ++ fun_text call
+    buf_text b ++ codes " was lent by " ++ lender_name family ++ codes ", which " ++ fun_text call
     ++ codes " does not end"
 
 abbrev pub other_object_text : StatedSetup → BufId → Ref → ℕ → List ℕ

@@ -2,8 +2,9 @@
 use Rattle.std.specs.Prelude.{ℕ, ◌+◌, ◌/◌, ◌%◌, ◌&&◌, nat_le, nat_lt, if◌then◌else◌, List, [], ◌∷◌, ◌++◌, length, take, flat_map, codes, Option, Some, None}
 use Rattle.jg_words.specs.declared.object.Primitive.{Primitive}
 use Rattle.jg_words.specs.declared.object.Primitive.TheVariants.{Boolean, Byte, Char, Short, Int, Long}
-use Rattle.jg_words.specs.declared.fun.buffers.BuffersFun.{BuffersFun}
+use Rattle.jg_words.specs.Fun.{buffers_name}
 use Rattle.jg_words.specs.declared.fun.buffers.BuffersFun.TheVariants.{GetArrayElements, GetStringChars, GetStringUTFChars, GetPrimitiveArrayCritical, GetStringCritical}
+use Rattle.jg_words.specs.declared.object.ItemType.TheVariants.{Of, Float, Double}
 use Rattle.jg_buffers.specs.declared.family.Family.{Family}
 use Rattle.jg_buffers.specs.declared.family.Family.TheVariants.{Elements, Chars, UtfChars, ArrayCritical, StringCritical}
 use Rattle.jg_policy.specs.Stated.{StatedSetup}
@@ -64,13 +65,15 @@ abbrev pub wanted_text : Option Primitive → List ℕ
 wanted_text None = codes "a class"
 wanted_text (Some primitive) = codes "type " ++ primitive_text primitive
 
--- the function that lends buffers of the family
-abbrev pub lender_of : Family → BuffersFun
-lender_of (Elements element) = GetArrayElements element
-lender_of Chars = GetStringChars
-lender_of UtfChars = GetStringUTFChars
-lender_of ArrayCritical = GetPrimitiveArrayCritical
-lender_of StringCritical = GetStringCritical
+-- the name of the function that lends buffers of the family
+abbrev pub lender_name : Family → List ℕ
+lender_name (Elements (Of element)) = buffers_name (GetArrayElements element)
+lender_name (Elements Float) = codes "GetFloatArrayElements"
+lender_name (Elements Double) = codes "GetDoubleArrayElements"
+lender_name Chars = buffers_name GetStringChars
+lender_name UtfChars = buffers_name GetStringUTFChars
+lender_name ArrayCritical = buffers_name GetPrimitiveArrayCritical
+lender_name StringCritical = buffers_name GetStringCritical
 
 abbrev pub use_text : Operation → List ℕ
 use_text Load = codes "to load a library"

@@ -5,7 +5,7 @@ ghost use Rattle.jg_text.specs.Words.{buf_text, env_id_text, ref_text, tid_text}
 ghost use Rattle.jg_telling.specs.Breaches as breaches;
 
 use crate::words::{
-    lender_of, push_class, push_field_type, push_module, push_quoted, push_type, push_wanted,
+    lender_name, push_class, push_field_type, push_module, push_quoted, push_type, push_wanted,
     use_words,
 };
 use jg_buffers::Family;
@@ -256,7 +256,7 @@ fn push_lent_otherwise(
         ≡ string_bytes out.old ++ breaches.lent_otherwise_text call.now buffer family) }
 {
     push_after_buffer(out, buffer, " was lent by ")?;
-    out.push_str(lender_of(family).name())?;
+    out.push_str(lender_name(family))?;
     out.push_str(", which ")?;
     out.push_str(fun_name(call))?;
     out.push_str(" does not end")

@@ -7,7 +7,7 @@ ghost use Rattle.jg_telling.specs.Words as words;
 use jg_buffers::Family;
 use jg_policy::{Operation, Setup};
 use jg_rules::ObjectType;
-use jg_words::{BuffersFun, FieldId, Primitive};
+use jg_words::{BuffersFun, FieldId, ItemType, Primitive};
 use std::alloc::AllocError;
 
 /// How many bytes of an input are told.
@@ -136,16 +136,18 @@ pub fn push_wanted(out: &mut String, wanted: Option<Primitive>) -> Result<(), Al
     }
 }
 
-/// The function that lends buffers of the family.
-pub fn lender_of(family: Family) -> BuffersFun
-    ensures { result ≡ words.lender_of family }
+/// The name of the function that lends buffers of the family.
+pub fn lender_name(family: Family) -> &'static str
+    ensures { result.now ≡ words.lender_name family }
 {
     match family {
-        Family::Elements(element) => BuffersFun::GetArrayElements(element),
-        Family::Chars => BuffersFun::GetStringChars,
-        Family::UtfChars => BuffersFun::GetStringUTFChars,
-        Family::ArrayCritical => BuffersFun::GetPrimitiveArrayCritical,
-        Family::StringCritical => BuffersFun::GetStringCritical,
+        Family::Elements(ItemType::Of(element)) => BuffersFun::GetArrayElements(element).name(),
+        Family::Elements(ItemType::Float) => "GetFloatArrayElements",
+        Family::Elements(ItemType::Double) => "GetDoubleArrayElements",
+        Family::Chars => BuffersFun::GetStringChars.name(),
+        Family::UtfChars => BuffersFun::GetStringUTFChars.name(),
+        Family::ArrayCritical => BuffersFun::GetPrimitiveArrayCritical.name(),
+        Family::StringCritical => BuffersFun::GetStringCritical.name(),
     }
 }
 

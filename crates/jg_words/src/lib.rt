@@ -42,7 +42,7 @@ pub use fun::vm::VmFun;
 pub use fun::{Fun, of_name_undoes_name};
 pub use items::{Items, MAX_ITEMS};
 pub use name::{MAX_NAME, Name, NameFault};
-pub use object::{FieldId, ObjId, Primitive};
+pub use object::{FieldId, ItemType, ObjId, Primitive};
 pub use reference::{Kind, Ref};
 pub use rule::Rule;
 pub use thread::{EnvId, Tid};

@@ -11,7 +11,7 @@ pub struct FieldId {
     pub field: u32,
 }
 
-/// A primitive type of array items and fields.
+/// A primitive type of array items and fields, of those that scripts know.
 #[derive(Clone, Copy, Debug, PartialEq, Eq)]
 pub enum Primitive {
     Boolean,
@@ -20,4 +20,13 @@ pub enum Primitive {
     Short,
     Int,
     Long,
+}
+
+/// A primitive type (JNI Specification, chapter 3, "Primitive Types"). No script knows `float` and `double`; a machine
+/// of its own has arrays of them.
+#[derive(Clone, Copy, Debug, PartialEq, Eq)]
+pub enum ItemType {
+    Of(Primitive),
+    Float,
+    Double,
 }

@@ -23,7 +23,7 @@ use jg_buffers::Family;
 use jg_heap::{Slot, to_mutf8};
 use jg_policy::Setup;
 use jg_rules::{Answer, View, buffer_named, slot_of, the_object, units_of};
-use jg_words::{BufId, BuffersCall, ObjId, Primitive, Ref, Tid, Value};
+use jg_words::{BufId, BuffersCall, ItemType, ObjId, Primitive, Ref, Tid, Value};
 use std::alloc::{AllocError, Allocator};
 
 /// The answer of a call that lends the thread's next buffer.
@@ -139,7 +139,7 @@ fn copy_items<A: Allocator + Clone>(
     let items = tables.heap.items(object);
     tables
         .buffers
-        .open_copy(tid, n, object, Family::Elements(element), items)?;
+        .open_copy(tid, n, object, Family::Elements(ItemType::Of(element)), items)?;
     Ok(())
 }
 

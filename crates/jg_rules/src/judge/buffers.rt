@@ -17,10 +17,11 @@ use crate::named::object_named;
 use crate::store::Store;
 use crate::view::View;
 use jg_buffers::{Family, Info};
-use jg_words::{BufId, BuffersCall, Primitive, Ref, Rule, Tid};
+use jg_words::{BufId, BuffersCall, ItemType, Primitive, Ref, Rule, Tid};
 use std::alloc::Allocator;
 
-fn is_releasable<A: Allocator + Clone, S: Store>(
+/// Whether the thread may release it as a buffer of the family and of the object that the reference names.
+pub fn is_releasable<A: Allocator + Clone, S: Store>(
     view: &View<'_, A, S>,
     tid: Tid,
     family: Family,
@@ -39,7 +40,8 @@ fn is_releasable<A: Allocator + Clone, S: Store>(
     }
 }
 
-fn is_readable<A: Allocator + Clone, S: Store>(
+/// Whether it is open, and the thread may read its items.
+pub fn is_readable<A: Allocator + Clone, S: Store>(
     view: &View<'_, A, S>,
     tid: Tid,
     buffer: BufId,
@@ -52,7 +54,8 @@ fn is_readable<A: Allocator + Clone, S: Store>(
     }
 }
 
-fn is_writable<A: Allocator + Clone, S: Store>(
+/// Whether it is open, and the thread may write its items.
+pub fn is_writable<A: Allocator + Clone, S: Store>(
     view: &View<'_, A, S>,
     tid: Tid,
     buffer: BufId,
@@ -80,7 +83,7 @@ fn is_bad_buffer<A: Allocator + Clone, S: Store>(
             array,
             buffer,
             ..
-        } => !is_releasable(view, tid, Family::Elements(*element), *array, *buffer),
+        } => !is_releasable(view, tid, Family::Elements(ItemType::Of(*element)), *array, *buffer),
         BuffersCall::GetStringChars { .. } => false,
         BuffersCall::ReleaseStringChars { string, buffer } => {
             !is_releasable(view, tid, Family::Chars, *string, *buffer)
@@ -102,7 +105,8 @@ fn is_bad_buffer<A: Allocator + Clone, S: Store>(
     }
 }
 
-fn is_mode(mode: i32) -> bool
+/// Whether it is 0, JNI_COMMIT or JNI_ABORT.
+pub fn is_mode(mode: i32) -> bool
     ensures { result ≡ buffers_of.is_mode mode }
 {
     0 <= mode && mode <= 2

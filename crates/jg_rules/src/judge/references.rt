@@ -50,7 +50,8 @@ fn is_primitive_array_class(class: u32) -> bool
     4 <= class && class <= 9
 }
 
-fn is_object_of<A: Allocator + Clone, S: Store>(
+/// Whether the object is of the type.
+pub fn is_object_of<A: Allocator + Clone, S: Store>(
     view: &View<'_, A, S>,
     object_type: ObjectType,
     object: ObjId,
@@ -99,7 +100,8 @@ fn deletes_another_kind(call: &RefsCall) -> bool
     }
 }
 
-fn is_of_another_kind(reference: Ref, wanted: Kind) -> bool
+/// Whether it is a reference of another kind. Null is of each.
+pub fn is_of_another_kind(reference: Ref, wanted: Kind) -> bool
     ensures { result ≡ is_not wanted reference }
 {
     match reference {

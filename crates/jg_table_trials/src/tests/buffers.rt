@@ -7,7 +7,7 @@ ghost use Rattle.jg_buffers.specs.Rows.{IsAbove};
 use super::ballast;
 use jg_buffers::{Buffers, Family, Info};
 use jg_lists::{Marking, ObjectMarks};
-use jg_words::{BufId, Kind, ObjId, Primitive, Ref, Tid};
+use jg_words::{BufId, ItemType, Kind, ObjId, Primitive, Ref, Tid};
 use linked_list_allocator::LocalHeap;
 use std::alloc::{AllocError, Global};
 use std::process::Abort;
@@ -19,7 +19,7 @@ const T2: Tid = Tid(2);
 
 const ARRAY: ObjId = ObjId(15);
 
-const INTS: Family = Family::Elements(Primitive::Int);
+const INTS: Family = Family::Elements(ItemType::Of(Primitive::Int));
 
 fn buffer(maker: Tid, n: u64) -> BufId {
     BufId { maker, n }

@@ -1,7 +1,6 @@
 use Rattle.std.proofs.Common.{rules, codes, string_bytes, ℕ, List, ◌≡◌, ◌++◌}
 use Rattle.jg_text.specs.Words.{buf_text}
-use Rattle.jg_words.specs.Fun.{buffers_name}
-use Rattle.jg_telling.specs.Words.{lender_of}
+use Rattle.jg_telling.specs.Words.{lender_name}
 use Rattle.jg_telling.specs.Breaches as breaches
 use Rattle.jg_telling.proofs.Chains.{two, then_words}
 use Rattle.jg_telling.proofs.breaches.push_lent_otherwise.Goals as goal
@@ -10,11 +9,11 @@ pub returns : goal.returns
 returns c =
     let start : List ℕ = string_bytes c.args.out.now in
     let text1 : List ℕ = buf_text c.args.buffer ++ codes " was lent by " in
-    let one2 : string_bytes c.push_str.new.self ≡ string_bytes c.push_after_buffer.new.out ++ buffers_name (lender_of c.args.family)
+    let one2 : string_bytes c.push_str.new.self ≡ string_bytes c.push_after_buffer.new.out ++ lender_name c.args.family
     = search rules in
-    let text2 : List ℕ = text1 ++ buffers_name (lender_of c.args.family) in
+    let text2 : List ℕ = text1 ++ lender_name c.args.family in
     let to2 : string_bytes c.push_str.new.self ≡ start ++ text2
-    = two start text1 (buffers_name (lender_of c.args.family)) c.in_ok-push_after_buffer.ensures one2 in
+    = two start text1 (lender_name c.args.family) c.in_ok-push_after_buffer.ensures one2 in
     let text3 : List ℕ = text2 ++ codes ", which " in
     let to3 : string_bytes c.push_str-2.new.self ≡ start ++ text3
     = two start text2 (codes ", which ") to2 c.in_ok-push_str-2.ensures.bytes in

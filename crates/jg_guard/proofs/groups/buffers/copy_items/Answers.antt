@@ -4,6 +4,7 @@ use Rattle.jg_rules.proofs.Objects.{items_are}
 use Rattle.jg_guard.proofs.Due.{stand_at, can_open}
 use Rattle.jg_guard.proofs.Arrays.{is_primitive}
 use Rattle.jg_guard.proofs.Buffers.{elements_there, copied_at}
+use Rattle.jg_words.specs.declared.object.ItemType.TheVariants.{Of}
 use Rattle.jg_buffers.specs.declared.family.Family.TheVariants.{Elements}
 use Rattle.jg_guard.proofs.groups.buffers.copy_items.Goals as goal
 
@@ -30,7 +31,7 @@ returns-clause-stands g c = λ p stands.
       threads = stands.threads;
       locals = stands.locals;
       globals = stands.globals;
-      buffers = copied_at _ p.buffers c.args.tid.0 _ _ _ _ (Elements c.args.element) _ _ (c.next_buf-n.ensures.history p.threads stands.threads) object
+      buffers = copied_at _ p.buffers c.args.tid.0 _ _ _ _ (Elements (Of c.args.element)) _ _ (c.next_buf-n.ensures.history p.threads stands.threads) object
           (sym items ∙ ap (items_of c.args.setup.now p) object) (c.in_ok-open_copy.ensures.ok p.buffers stands.buffers);
       monitors = stands.monitors;
       heap = stands.heap;

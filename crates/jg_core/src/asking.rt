@@ -1,0 +1,183 @@
+//! Questions by the table of functions.
+
+ghost use Rattle.std.specs.Prelude.{◌≡◌, ℕ, List, IfOk, IfErr, OnErr};
+ghost use Rattle.std.specs.Option.{option_map};
+ghost use Rattle.jg_core.specs.Asking.{asked, EndedAs, RefusesEnding, Returned, RefusesReturn};
+ghost use Rattle.jg_core.specs.Facts.{parts_of};
+ghost use Rattle.jg_core.specs.Kernel.{CoreStands, Stayed};
+ghost use Rattle.jg_core.specs.declared.fact.Fact.{Fact as FactOf};
+ghost use Rattle.jg_core.specs.Asking as spec;
+ghost use Rattle.jg_objects.specs.Standing.{Tells};
+ghost use Rattle.jg_rules.specs.Parts.{Parts};
+ghost use Rattle.jg_rules.specs.View.{ViewTells};
+ghost use Rattle.jg_threads.specs.Rows.{CanCount};
+
+use crate::expected::{Expected, expected_of, told};
+use crate::fact::Fact;
+use crate::implied::given_with;
+use crate::kernel::{Core, Untold};
+use crate::says::{Given, Says};
+use jg_functions::row_of;
+use jg_objects::Objects;
+use jg_questions::{Argument, Bounds, culprit, first_broken, first_reference, suits};
+use jg_rules::{View, object_named};
+use jg_words::{EnvId, ObjId, Rule, Tid};
+use std::alloc::Allocator;
+
+/// A question that breaks no rule: by whom it was asked, and what comes of it.
+#[derive(Clone, Copy, Debug, PartialEq, Eq)]
+pub struct Ticket {
+    pub tid: Tid,
+    pub expected: Expected,
+}
+
+/// What a question is answered.
+#[derive(Clone, Copy, Debug, PartialEq, Eq)]
+pub enum Answer {
+    /// It breaks no rule.
+    Passed(Ticket),
+    /// It breaks this rule first; and the place of the operand, counted from 0, that breaks it, where one does.
+    Denied { rule: Rule, operand: Option<usize> },
+    /// The table has no such function.
+    NoFunction,
+    /// The operands aren't as many as the function's, or not of their sorts.
+    Misfit,
+}
+
+/// What a call that ends something was answered, and the name of what it hands out.
+#[derive(Clone, Copy, Debug, PartialEq, Eq)]
+pub struct Ended {
+    pub answer: Answer,
+    pub given: Given,
+}
+
+/// The object that a frame or an activation keeps, as a machine says it.
+fn kept(object: Option<ObjId>) -> Says
+    ensures { result ≡ spec.kept (option_map (λ o. o.0) object) }
+{
+    match object {
+        None => Says::Null,
+        Some(object) => Says::Object(object),
+    }
+}
+
+/// What the machine is going to say of a passed call that ends something: it is done, and a frame that is popped keeps
+/// the object that the operand names, as an activation does that ends.
+fn foreseen<A: Allocator + Clone>(
+    view: &View<'_, A, Objects<A>>,
+    ticket: Ticket,
+    arguments: &[Argument],
+) -> Says
+    ensures { (p : Parts) → ViewTells Tells view.now p → result ≡ spec.foreseen p ticket arguments.now }
+{
+    match ticket.expected {
+        Expected::Left => kept(object_named(view, ticket.tid, first_reference(arguments))),
+        Expected::Popped => kept(object_named(view, ticket.tid, first_reference(arguments))),
+        _ => Says::Done,
+    }
+}
+
+/// What the ticket's function gives, beside the fact that was told.
+fn given_for<A: Allocator + Clone>(
+    view: &View<'_, A, Objects<A>>,
+    ticket: Ticket,
+    fact: Option<Fact>,
+) -> Given
+    requires { (t : ℕ) → CanCount view.now.threads.now t }
+    ensures { (p : Parts) → ViewTells Tells view.now p → result ≡ spec.given_for p ticket fact }
+{
+    match ticket.expected {
+        Expected::Attached(_) => { Given::Environment(view.threads.env_once_attached(ticket.tid)) }
+        _ => given_with(view, fact),
+    }
+}
+
+impl<A: Allocator + Clone> Core<A> {
+    /// Asks whether the thread, with this environment, may now call the function at this place of the table, with
+    /// these operands. A question changes nothing. Ask when the call begins.
+    pub fn ask(
+        &self,
+        bounds: Bounds,
+        tid: Tid,
+        env: Option<EnvId>,
+        function: u16,
+        arguments: &[Argument],
+    ) -> Answer
+        ensures { (w : List FactOf) → CoreStands self.now w
+            → result ≡ asked bounds self.now.setup (parts_of w) tid env function arguments.now }
+    {
+        let view = self.tables.view(&self.setup);
+        match row_of(usize::from(function)) {
+            None => Answer::NoFunction,
+            Some(row) => {
+                if !suits(row.takes, arguments) {
+                    return Answer::Misfit;
+                }
+                match first_broken(&view, bounds, tid, env, &row, arguments) {
+                    Some(rule) => Answer::Denied {
+                        rule,
+                        operand: culprit(&view, bounds, tid, rule, row.takes, arguments),
+                    },
+                    None => Answer::Passed(Ticket {
+                        tid,
+                        expected: expected_of(&view, tid, &row, arguments),
+                    }),
+                }
+            }
+        }
+    }
+
+    /// Takes what a passed question implies that returned, by what the machine says of it, and answers the name of what
+    /// it handed out. It is taken as [`Core::did`] takes a call, and refused so.
+    pub fn returned(&mut self, ticket: Ticket, says: Says) -> Result<Given, Untold>
+        ensures ok { IfOk result (λ out. Returned self.old self.new ticket says out) }
+        ensures err { OnErr result (Stayed self.old self.new) }
+        ensures why { IfErr result (RefusesReturn self.old ticket says) }
+    {
+        let Some(fact) = told(ticket.tid, ticket.expected, says) else {
+            return Err(Untold::Impossible);
+        };
+        let view = self.tables.view(&self.setup);
+        let out = given_for(&view, ticket, fact);
+        let Some(fact) = fact else {
+            return Ok(out);
+        };
+        match self.tell(fact) {
+            Ok(()) => Ok(out),
+            Err(why) => Err(why),
+        }
+    }
+
+    /// Asks as [`Core::ask`] does and, where no rule is broken, takes at once what the call ends: so that of two
+    /// threads that end one thing at once, one is denied. For DeleteLocalRef and its like, releases, PopLocalFrame,
+    /// MonitorExit, ExceptionClear, UnregisterNatives and a native method's leaving. Call it before the machine ends
+    /// it. It is taken as [`Core::returned`] takes a ticket, and refused so.
+    pub fn ending(
+        &mut self,
+        bounds: Bounds,
+        tid: Tid,
+        env: Option<EnvId>,
+        function: u16,
+        arguments: &[Argument],
+    ) -> Result<Ended, Untold>
+        ensures ok { IfOk result (λ out. EndedAs self.old self.new bounds tid env function arguments.now out) }
+        ensures err { OnErr result (Stayed self.old self.new) }
+        ensures why { IfErr result (RefusesEnding self.old bounds tid env function arguments.now) }
+    {
+        let answer = self.ask(bounds, tid, env, function, arguments);
+        match answer {
+            Answer::Passed(ticket) => {
+                let view = self.tables.view(&self.setup);
+                let says = foreseen(&view, ticket, arguments);
+                match self.returned(ticket, says) {
+                    Ok(given) => Ok(Ended { answer, given }),
+                    Err(why) => Err(why),
+                }
+            }
+            _ => {
+                let given = Given::Nothing;
+                Ok(Ended { answer, given })
+            }
+        }
+    }
+}

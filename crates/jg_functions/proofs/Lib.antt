@@ -1,0 +1,2 @@
+pub mod ByName
+pub mod Rows

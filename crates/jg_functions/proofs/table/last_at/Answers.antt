@@ -1,0 +1,7 @@
+use Rattle.std.proofs.Common.{refl}
+use Rattle.jg_functions.specs.Table.{last}
+use Rattle.jg_functions.proofs.Rows.{seen_at}
+use Rattle.jg_functions.proofs.table.last_at.Goals as goal
+
+pub returns : goal.returns
+returns c = seen_at _ last c.args.place c.row_in.result c.row_in.ensures refl

@@ -1,0 +1,3 @@
+pub mod ByName
+pub mod Columns
+pub mod Table

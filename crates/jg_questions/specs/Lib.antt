@@ -1,0 +1,7 @@
+pub mod Asked
+pub mod Broken
+pub mod Culprit
+pub mod Faults
+pub mod Kinds
+pub mod Suits
+pub mod Written

@@ -1,0 +1,323 @@
+//! Which of rules 5, 6 and 8 to 12 the operands of a question break, each rule for itself.
+
+ghost use Rattle.std.specs.Prelude.{◌≡◌, pos};
+ghost use Rattle.jg_rules.specs.Parts.{Parts};
+ghost use Rattle.jg_rules.specs.View.{ViewTells};
+ghost use Rattle.jg_rules.specs.Numbers.{is_within};
+ghost use Rattle.jg_rules.specs.Rules.{is_outside_of};
+ghost use Rattle.jg_questions.specs.Asked as asked;
+ghost use Rattle.jg_questions.specs.Broken as rules;
+ghost use Rattle.jg_questions.specs.Faults as spec;
+
+use crate::argument::{Argument, Bounds};
+use crate::kinds::is_kind;
+use crate::suiting::is_last;
+use jg_buffers::Info;
+use jg_functions::{ObjectKind, Takes};
+use jg_rules::{
+    Named, Store, View, fits, is_foreign_local, is_mode, is_readable, is_releasable, is_writable,
+    item_type, look_up,
+};
+use jg_words::{BufId, ItemType, Ref, Tid};
+use std::alloc::Allocator;
+
+/// Which rules operands break.
+#[derive(Clone, Copy, Debug, PartialEq, Eq)]
+pub struct Faults {
+    pub foreign_local: bool,
+    pub dead_reference: bool,
+    pub null_reference: bool,
+    pub wrong_type: bool,
+    pub bad_field: bool,
+    pub bad_buffer: bool,
+    pub bad_argument: bool,
+}
+
+/// What the rules on references see of an operand.
+#[derive(Clone, Copy, Debug, PartialEq, Eq)]
+pub struct Judged {
+    pub reference: Ref,
+    pub nullable: bool,
+    pub kind: ObjectKind,
+}
+
+fn allowed(reference: Ref) -> Judged
+    ensures { result ≡ asked.allowed reference }
+{
+    Judged {
+        reference,
+        nullable: true,
+        kind: ObjectKind::AnyObject,
+    }
+}
+
+fn allowed_in(argument: Argument) -> Judged
+    ensures { result ≡ asked.allowed_in argument }
+{
+    match argument {
+        Argument::Reference(reference) => allowed(reference),
+        _ => allowed(Ref::Null),
+    }
+}
+
+fn needed_in(kind: ObjectKind, argument: Argument) -> Judged
+    ensures { result ≡ asked.needed_in kind argument }
+{
+    match argument {
+        Argument::Reference(reference) => Judged {
+            reference,
+            nullable: false,
+            kind,
+        },
+        _ => allowed(Ref::Null),
+    }
+}
+
+fn judged_of(takes: Takes, argument: Argument) -> Judged
+    ensures { result ≡ asked.judged_of takes argument }
+{
+    match takes {
+        Takes::Reference(kind) => needed_in(kind, argument),
+        Takes::Nullable => allowed_in(argument),
+        Takes::Arguments => allowed_in(argument),
+        _ => allowed(Ref::Null),
+    }
+}
+
+fn is_wrong_kind<A: Allocator + Clone, S: Store>(
+    view: &View<'_, A, S>,
+    kind: ObjectKind,
+    named: Named,
+) -> bool
+    ensures { (p : Parts) → ViewTells S.Tells view.now p
+        → result ≡ rules.is_wrong_kind view.now.setup.now p kind named }
+{
+    match named {
+        Named::Nothing => false,
+        Named::Null => false,
+        Named::Object(object) => !is_kind(view, kind, object),
+    }
+}
+
+fn is_unfit(argument: Argument) -> bool
+    ensures { result ≡ rules.is_unfit argument }
+{
+    match argument {
+        Argument::Id { fits } => !fits,
+        _ => false,
+    }
+}
+
+/// Whether the buffer may not be given; the reference is the one that a release names.
+fn is_refused_buffer<A: Allocator + Clone, S: Store>(
+    view: &View<'_, A, S>,
+    tid: Tid,
+    via: Ref,
+    takes: Takes,
+    buffer: BufId,
+) -> bool
+    ensures { (p : Parts) → ViewTells S.Tells view.now p
+        → result ≡ rules.is_refused_buffer p tid.0 via takes buffer }
+{
+    match takes {
+        Takes::Buffer(family) => !is_releasable(view, tid, family, via, buffer),
+        Takes::Readable => !is_readable(view, tid, buffer),
+        Takes::Writable => !is_writable(view, tid, buffer),
+        _ => false,
+    }
+}
+
+fn is_wrong_buffer<A: Allocator + Clone, S: Store>(
+    view: &View<'_, A, S>,
+    tid: Tid,
+    via: Ref,
+    takes: Takes,
+    argument: Argument,
+) -> bool
+    ensures { (p : Parts) → ViewTells S.Tells view.now p
+        → result ≡ rules.is_wrong_buffer p tid.0 via takes argument }
+{
+    match argument {
+        Argument::Buffer(buffer) => is_refused_buffer(view, tid, via, takes, buffer),
+        _ => false,
+    }
+}
+
+fn is_up_to(most: i32, n: i32) -> bool
+    ensures { result ≡ is_within (pos 0) most n }
+{
+    0 <= n && n <= most
+}
+
+fn is_outside(n: i32, info: Option<Info>) -> bool
+    ensures { result ≡ is_outside_of n info }
+{
+    match info {
+        None => false,
+        Some(info) => !(0 <= n && (n as u64) < info.length),
+    }
+}
+
+fn is_wrong_item<A: Allocator + Clone, S: Store>(
+    view: &View<'_, A, S>,
+    n: i64,
+    info: Option<Info>,
+) -> bool
+    ensures { (p : Parts) → ViewTells S.Tells view.now p
+        → result ≡ rules.is_wrong_item view.now.setup.now p n info }
+{
+    match info {
+        None => false,
+        Some(info) => match item_type(view, info) {
+            None => false,
+            Some(element) => !fits(element, n),
+        },
+    }
+}
+
+fn is_item_value(item: ItemType, n: i64) -> bool
+    ensures { result ≡ rules.is_item_value item n }
+{
+    match item {
+        ItemType::Of(primitive) => fits(primitive, n),
+        ItemType::Float => true,
+        ItemType::Double => true,
+    }
+}
+
+/// Whether it isn't what its function bounds it to; the buffer is the one that it counts in.
+fn is_wrong_number(bounds: Bounds, info: Option<Info>, takes: Takes, n: i32) -> bool
+    ensures { result ≡ rules.is_wrong_number bounds info takes n }
+{
+    match takes {
+        Takes::Capacity => !is_up_to(bounds.capacity, n),
+        Takes::Length => !is_up_to(bounds.length, n),
+        Takes::Count => bounds.items < n,
+        Takes::Mode => !is_up_to(2, n),
+        Takes::Place => is_outside(n, info),
+        _ => false,
+    }
+}
+
+/// Whether the buffer, or a field of the type, can't hold it.
+fn is_wrong_value<A: Allocator + Clone, S: Store>(
+    view: &View<'_, A, S>,
+    info: Option<Info>,
+    takes: Takes,
+    value: i64,
+) -> bool
+    ensures { (p : Parts) → ViewTells S.Tells view.now p
+        → result ≡ rules.is_wrong_value view.now.setup.now p info takes value }
+{
+    match takes {
+        Takes::Item => is_wrong_item(view, value, info),
+        Takes::Value(item) => !is_item_value(item, value),
+        _ => false,
+    }
+}
+
+fn is_out_of_bounds<A: Allocator + Clone, S: Store>(
+    view: &View<'_, A, S>,
+    bounds: Bounds,
+    info: Option<Info>,
+    takes: Takes,
+    argument: Argument,
+) -> bool
+    ensures { (p : Parts) → ViewTells S.Tells view.now p
+        → result ≡ rules.is_out_of_bounds bounds view.now.setup.now p info takes argument }
+{
+    match argument {
+        Argument::Number(n) => is_wrong_number(bounds, info, takes, n),
+        Argument::Value(value) => is_wrong_value(view, info, takes, value),
+        Argument::List { fits, .. } => !fits,
+        Argument::Class(class) => class.is_none(),
+        _ => false,
+    }
+}
+
+/// What the operands are judged beside: the reference that a release names, and the buffer that a place counts in.
+#[derive(Clone, Copy, Debug, PartialEq, Eq)]
+pub struct Beside {
+    pub bounds: Bounds,
+    pub via: Ref,
+    pub info: Option<Info>,
+}
+
+/// What one operand breaks.
+pub fn faults_of<A: Allocator + Clone, S: Store>(
+    view: &View<'_, A, S>,
+    tid: Tid,
+    beside: Beside,
+    takes: Takes,
+    argument: Argument,
+) -> Faults
+    ensures { (p : Parts) → ViewTells S.Tells view.now p
+        → result ≡ spec.faults_of view.now.setup.now p tid.0 beside takes argument }
+{
+    let judged = judged_of(takes, argument);
+    let named = look_up(view, tid, judged.reference);
+    Faults {
+        foreign_local: is_foreign_local(tid, judged.reference),
+        dead_reference: named == Named::Nothing,
+        null_reference: !judged.nullable && named == Named::Null,
+        wrong_type: is_wrong_kind(view, judged.kind, named),
+        bad_field: is_unfit(argument),
+        bad_buffer: is_wrong_buffer(view, tid, beside.via, takes, argument),
+        bad_argument: is_out_of_bounds(view, beside.bounds, beside.info, takes, argument),
+    }
+}
+
+impl Faults {
+    /// No rule is broken.
+    pub const NONE: Faults = Faults {
+        foreign_local: false,
+        dead_reference: false,
+        null_reference: false,
+        wrong_type: false,
+        bad_field: false,
+        bad_buffer: false,
+        bad_argument: false,
+    };
+
+    /// What either breaks.
+    fn or(self, other: Faults) -> Faults
+        ensures { result ≡ spec.either self other }
+    {
+        Faults {
+            foreign_local: self.foreign_local || other.foreign_local,
+            dead_reference: self.dead_reference || other.dead_reference,
+            null_reference: self.null_reference || other.null_reference,
+            wrong_type: self.wrong_type || other.wrong_type,
+            bad_field: self.bad_field || other.bad_field,
+            bad_buffer: self.bad_buffer || other.bad_buffer,
+            bad_argument: self.bad_argument || other.bad_argument,
+        }
+    }
+}
+
+/// What the operands break, each beside what the row says of it.
+pub fn faults_in<A: Allocator + Clone, S: Store>(
+    view: &View<'_, A, S>,
+    tid: Tid,
+    beside: Beside,
+    takes: &[Takes],
+    arguments: &[Argument],
+) -> Faults
+    ensures { (p : Parts) → ViewTells S.Tells view.now p
+        → result ≡ spec.faults_in view.now.setup.now p tid.0 beside (asked.paired takes.now arguments.now) }
+{
+    let mut faults = Faults::NONE;
+    let mut wanted = takes;
+    let mut rest = arguments;
+    while let Some((argument, later)) = rest.split_first() {
+        let Some((take, more)) = wanted.split_first() else {
+            return faults;
+        };
+        faults = faults.or(faults_of(view, tid, beside, *take, *argument));
+        if !is_last(*take) {
+            wanted = more;
+        }
+        rest = later;
+    }
+    faults
+}

@@ -1,0 +1,19 @@
+//! Questions to a machine's guard by the table of functions: which rule a call breaks first, by the row of its function
+//! and its operands.
+#![tactic(auto)]
+
+mod argument;
+mod culprits;
+mod faults;
+mod firsts;
+mod judge;
+mod kinds;
+mod promises;
+mod suiting;
+
+pub use argument::{Argument, Bounds};
+pub use culprits::culprit;
+pub use firsts::{first_buffer, first_number, first_reference, native_by_name};
+pub use judge::first_broken;
+pub use promises::{calls_suit, judged_as_written};
+pub use suiting::suits;
