@@ -102,7 +102,13 @@ fn buffers_breach<A: Allocator + Clone>(view: &View<'_, A>, tid: Tid, call: &Buf
             array,
             buffer,
             ..
-        } => release_breach(view, tid, Family::Elements(ItemType::Of(*element)), *array, *buffer),
+        } => release_breach(
+            view,
+            tid,
+            Family::Elements(ItemType::Of(*element)),
+            *array,
+            *buffer,
+        ),
         BuffersCall::GetStringChars { .. } => Breach::Unbroken,
         BuffersCall::ReleaseStringChars { string, buffer } => {
             release_breach(view, tid, Family::Chars, *string, *buffer)

@@ -1,6 +1,8 @@
 //! The worked rows, each with the setup that it is under.
 
-use jg_row_trials::access::{A_THROW_WARNS_OF_NOTHING, ACCESS_ALLOWED, ACCESS_DENIED, ACCESS_WARNED};
+use jg_row_trials::access::{
+    A_THROW_WARNS_OF_NOTHING, ACCESS_ALLOWED, ACCESS_DENIED, ACCESS_WARNED,
+};
 use jg_row_trials::arrays::{
     A_THROW_CHANGES_NOTHING_ELSE, OBJECT_ARRAYS, REGIONS_OF_ARRAYS, VALUES_OF_TYPES,
     WRITES_OF_REGIONS,
@@ -35,7 +37,9 @@ use jg_row_trials::natives::{
     FRAME_OF_EARLIER_ACTIVATION, FRAME_OF_OTHER_ACTIVATION, LEAVE_CUTS_FRAMES,
     LEAVE_WITH_AN_EXCEPTION_PENDING, NATIVES_OF_A_CLASS,
 };
-use jg_row_trials::object_fields::{FIELDS, FIELDS_OF_EACH_TYPE, FIELDS_OF_OBJECTS, FIELDS_OF_OTHERS};
+use jg_row_trials::object_fields::{
+    FIELDS, FIELDS_OF_EACH_TYPE, FIELDS_OF_OBJECTS, FIELDS_OF_OTHERS,
+};
 use jg_row_trials::objects::{CLASSES_AND_INSTANCES, THROWN_CLASSES, WRONG_TYPES};
 use jg_row_trials::owners::{BUSY_UNTIL_DETACHED, MONITORS};
 use jg_row_trials::references::{

@@ -137,9 +137,13 @@ fn copy_items<A: Allocator + Clone>(
     let object = the_object(&tables.view(setup), tid, array);
     let n = tables.threads.next_buf(tid);
     let items = tables.heap.items(object);
-    tables
-        .buffers
-        .open_copy(tid, n, object, Family::Elements(ItemType::Of(element)), items)?;
+    tables.buffers.open_copy(
+        tid,
+        n,
+        object,
+        Family::Elements(ItemType::Of(element)),
+        items,
+    )?;
     Ok(())
 }
 

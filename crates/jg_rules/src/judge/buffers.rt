@@ -83,7 +83,13 @@ fn is_bad_buffer<A: Allocator + Clone, S: Store>(
             array,
             buffer,
             ..
-        } => !is_releasable(view, tid, Family::Elements(ItemType::Of(*element)), *array, *buffer),
+        } => !is_releasable(
+            view,
+            tid,
+            Family::Elements(ItemType::Of(*element)),
+            *array,
+            *buffer,
+        ),
         BuffersCall::GetStringChars { .. } => false,
         BuffersCall::ReleaseStringChars { string, buffer } => {
             !is_releasable(view, tid, Family::Chars, *string, *buffer)
