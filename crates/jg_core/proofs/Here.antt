@@ -25,13 +25,11 @@ use Rattle.jg_monitors.specs.History as monitors
 use Rattle.jg_monitors.proofs.Callers.{held_law}
 use Rattle.jg_heap.specs.History as heap
 use Rattle.jg_heap.specs.Making.{Opaque}
-use Rattle.jg_heap.specs.declared.object.Slot.{Slot}
-use Rattle.jg_heap.specs.declared.object.Slot.TheVariants.{Number, Object as Pointer}
 use Rattle.jg_rules.specs.Parts.{Parts, nothing_yet}
 use Rattle.jg_rules.specs.Names.{depth, is_here, next_buffer, open_frames}
 use Rattle.jg_rules.specs.Holding.{is_root}
-use Rattle.jg_laws.proofs.Here.{Here, AreKnown, here_made, known_made}
-use Rattle.jg_laws.proofs.NothingGone.{AllHere, named_here}
+use Rattle.jg_laws.proofs.Here.{Here, here_made}
+use Rattle.jg_laws.proofs.NothingGone.{reference_here}
 use Rattle.jg_laws.proofs.HandedHere.{gone_steps}
 use Rattle.jg_laws.proofs.Referring.{LocalsMeet, PendingMeets, RaisesMeet, StrongMeets, WeakMeets, MakesMeet, make_none, locals_made, locals_still, pending_more, strong_more, weak_more, spared}
 use Rattle.jg_core.specs.declared.fact.Fact.{Fact}
@@ -116,10 +114,6 @@ owned_more H e u a own old t o some = acted_by (u == t) H o (acts_of t e) a own 
 
 -- ---- all of them
 
--- no slot of an object holds another
-abbrev HoldNothing : ℕ → List heap.Event → Type 0
-HoldNothing k e = (x j : ℕ) → heap.value_at k e x j ≡ Number (pos 0)
-
 pub record HeldHere (k : ℕ) (p : Parts) : Type 0 where
   pub locals : LocalsMeet (Here k p.heap) p.locals
   pub pending : PendingMeets (Here k p.heap) p.threads
@@ -127,22 +121,6 @@ pub record HeldHere (k : ℕ) (p : Parts) : Type 0 where
   pub weak : WeakMeets (Here k p.heap) p.globals
   pub pins : PinsMeet (Here k p.heap) p.buffers
   pub owned : OwnedMeets (Here k p.heap) p.monitors
-  pub nothing : HoldNothing k p.heap
-  pub known : AreKnown k p.heap
-
-pointer_number : (v : Slot) (o : ObjId) (H : Type 0) → v ≡ Number (pos 0) → v ≡ Pointer (Some o) → H
-pointer_number v o H number is = absurd cc
-
--- what jg_laws says of it
-all_here : (s : StatedSetup) (p : Parts) → HeldHere (class_count s) p → AllHere s p
-all_here s p all = record {
-  locals = all.locals;
-  pending = all.pending;
-  strong = all.strong;
-  weak = all.weak;
-  slots = λ x j o made gone within is. pointer_number (heap.value_at (class_count s) p.heap x j) o (Here (class_count s) p.heap o.0) (all.nothing x j) is;
-  known = all.known;
-}
 
 here : (s : StatedSetup) (p : Parts) (o : ℕ) → is_here s p o ≡ true → Here (class_count s) p.heap o
 here s p o is =
@@ -166,8 +144,6 @@ module _ (k : ℕ) (p : Parts) (all : HeldHere k p) where
     weak = all.weak;
     pins = all.pins;
     owned = all.owned;
-    nothing = all.nothing;
-    known = all.known;
   }
 
   of_globals : (e : List globals.Event) → MakesMeet (Here k p.heap) e → HeldHere k (record p { globals = e ++ p.globals })
@@ -178,8 +154,6 @@ module _ (k : ℕ) (p : Parts) (all : HeldHere k p) where
     weak = weak_more (Here k p.heap) e p.globals makes all.weak;
     pins = all.pins;
     owned = all.owned;
-    nothing = all.nothing;
-    known = all.known;
   }
 
   of_buffers : (e : List buffers.Event) → PinsMeet (Here k p.heap) e → HeldHere k (record p { buffers = e })
@@ -190,8 +164,6 @@ module _ (k : ℕ) (p : Parts) (all : HeldHere k p) where
     weak = all.weak;
     pins = pins;
     owned = all.owned;
-    nothing = all.nothing;
-    known = all.known;
   }
 
   of_monitors : (u : ℕ) (a : monitors.Act) → EntersMeet (Here k p.heap) a → HeldHere k (record p { monitors = monitors.by u a ∷ p.monitors })
@@ -202,8 +174,6 @@ module _ (k : ℕ) (p : Parts) (all : HeldHere k p) where
     weak = all.weak;
     pins = all.pins;
     owned = owned_more (Here k p.heap) p.monitors u a own all.owned;
-    nothing = all.nothing;
-    known = all.known;
   }
 
   local_made : (t n o : ℕ) → Here k p.heap o → HeldHere k (record p { locals = locals.by t (locals.Make n o) ∷ p.locals })
@@ -214,8 +184,6 @@ module _ (k : ℕ) (p : Parts) (all : HeldHere k p) where
     weak = all.weak;
     pins = all.pins;
     owned = all.owned;
-    nothing = all.nothing;
-    known = all.known;
   }
 
   linked_here : (event : links.Event) → HeldHere k (record p { links = event ∷ p.links })
@@ -226,8 +194,6 @@ module _ (k : ℕ) (p : Parts) (all : HeldHere k p) where
     weak = all.weak;
     pins = all.pins;
     owned = all.owned;
-    nothing = all.nothing;
-    known = all.known;
   }
 
   lost_here : (r : Ref) → HeldHere k (lost_on r p)
@@ -236,8 +202,8 @@ module _ (k : ℕ) (p : Parts) (all : HeldHere k p) where
   lost_here (To Global maker n) = of_globals (globals.DeleteStrong maker.0 n ∷ []) tt
   lost_here (To Weak maker n) = of_globals (globals.DeleteWeak maker.0 n ∷ []) tt
 
-  met_here : (class n : ℕ) → class < k → HeldHere k (record p { heap = heap.Made (Opaque class n) ∷ p.heap })
-  met_here class n few =
+  met_here : (class n : ℕ) → HeldHere k (record p { heap = heap.Made (Opaque class n) ∷ p.heap })
+  met_here class n =
       let m = Opaque class n in
       record {
         locals = λ t i o is. here_made k p.heap m o (all.locals t i o is);
@@ -246,13 +212,7 @@ module _ (k : ℕ) (p : Parts) (all : HeldHere k p) where
         weak = λ t i o is. here_made k p.heap m o.0 (all.weak t i o is);
         pins = λ i j b is critical. here_made k p.heap m b.object (all.pins i j b is critical);
         owned = λ t o some. here_made k p.heap m o (all.owned t o some);
-        nothing = λ x j. new_slot (x == heap.count_of k p.heap) (heap.value_at k p.heap x j) (all.nothing x j);
-        known = known_made k p.heap m few all.known;
       }
-    where
-      new_slot : (b : Bool) (v : Slot) → v ≡ Number (pos 0) → (if b then Number (pos 0) else v) ≡ Number (pos 0)
-      new_slot true v is = refl
-      new_slot false v is = is
 
 handed_here : (k : ℕ) (p : Parts) (t : ℕ) (kind : Kind) (o : ℕ) → Here k p.heap o → HeldHere k p → HeldHere k (handed_on t kind o p)
 handed_here k p t Local o is all = local_made k (record p { threads = threads.by t threads.CountRef ∷ p.threads }) (quiet k p all t (threads.CountRef ∷ []) [] tt refl) t _ o is
@@ -318,8 +278,6 @@ gone_here k p o none all =
       pins = λ m n b is critical. stays k p.heap o b.object (all.pins m n b is critical)
           (apart p o b.object none (by_pin p b.object ((pinned_object_law p.buffers b.object).1 (record { maker = m; n = n; buffer = b; is_open = is; critical = critical; holds = refl }))));
       owned = λ t x some. stays k p.heap o x (all.owned t x some) (apart p o x none (by_monitor p x ((held_law p.monitors x).1 (t, some))));
-      nothing = all.nothing;
-      known = all.known;
     }
 
 -- ---- all facts
@@ -363,7 +321,7 @@ each_here s p (Own t o) can all =
     of_monitors (class_count s) p all t.0 (monitors.Enter o.0) (here s p o.0
     (and_first (is_here s p o.0) (is_free_for t.0 (monitors.owner p.monitors o.0)) (and_second (is_attached p t.0) (is_here s p o.0 && is_free_for t.0 (monitors.owner p.monitors o.0)) can)))
 each_here s p (Free t o) can all = of_monitors (class_count s) p all t.0 (monitors.Exit o.0) tt
-each_here s p (Meet class n) can all = met_here (class_count s) p all class n (let few : nat_lt class (class_count s) ≡ true = can in grind (arith, nat_tests, few))
+each_here s p (Meet class n) can all = met_here (class_count s) p all class n
 each_here s p (Gone o) can all =
     let held = and_second (is_here s p o.0) (not (nat_lt o.0 (class_count s)) && not (is_root p o.0)) can in
     gone_here (class_count s) p o.0 (not-true (is_root p o.0) (and_second (not (nat_lt o.0 (class_count s))) (not (is_root p o.0)) held)) all
@@ -372,27 +330,24 @@ each_here s p (Unlink class) can all = linked_here (class_count s) p all (links.
 each_here s p (Warn home) can all = linked_here (class_count s) p all (links.Warned home)
 each_here s p (Checked check) can all = all
 
-none_here : (k : ℕ) → 1 < k → HeldHere k nothing_yet
-none_here k few = record {
+none_here : (k : ℕ) → HeldHere k nothing_yet
+none_here k = record {
   locals = λ t n o is. absurd cc;
   pending = λ t o is. absurd cc;
   strong = λ t n o is. absurd cc;
   weak = λ t n o is. absurd cc;
   pins = λ m n b is critical. absurd cc;
   owned = λ t o some. absurd (omega (arith, some));
-  nothing = λ x j. refl;
-  known = λ o. few;
 }
 
-base_classes : (s : StatedSetup) → 1 < class_count s
-base_classes s = omega arith
-
 told_here : (s : StatedSetup) (w : List Fact) → History s w → HeldHere (class_count s) (parts_of w)
-told_here s [] could = none_here (class_count s) (base_classes s)
+told_here s [] could = none_here (class_count s)
 told_here s (x ∷ w) could = each_here s (parts_of w) x could.0 (told_here s w could.1)
 
 pub live_is_here : LiveIsHere
-live_is_here s w t o r could is = is_here_of s (parts_of w) o (named_here s (parts_of w) t o r (all_here s (parts_of w) (told_here s w could)) is)
+live_is_here s w t o r could is =
+    let all = told_here s w could in
+    is_here_of s (parts_of w) o (reference_here s (parts_of w) t o r all.locals all.strong all.weak is)
 
 -- ---- what is held
 

@@ -1,5 +1,6 @@
 pub mod Few
 pub mod Each
+pub mod Classes
 pub mod Fresh
 pub mod Owners
 pub mod Here

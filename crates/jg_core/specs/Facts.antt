@@ -23,6 +23,7 @@ use Rattle.jg_rules.specs.Names.{names, next_ref, next_buffer, depth, open_frame
 use Rattle.jg_rules.specs.Buffers.{buffer_named}
 use Rattle.jg_rules.specs.Rules.{is_nothing}
 use Rattle.jg_rules.specs.Holding.{is_root}
+use Rattle.jg_questions.specs.Kinds.{is_class}
 use Rattle.jg_core.specs.declared.fact.Fact.{Fact}
 use Rattle.jg_core.specs.declared.fact.Fact.TheVariants.{Begin, End, Enter, Leave, Push, Pop, Ensure, Raise, Calm, Hand, Lost, Lend, Back, Own, Free, Meet, Gone, Link, Unlink, Warn, Checked}
 use Rattle.jg_core.specs.declared.fact.Checked.{Checked as Check}
@@ -172,7 +173,7 @@ can_be s p (Lend t family o via n) = is_attached p t.0 && (is_here s p o.0 && is
 can_be s p (Back b) = is_some (buffer_named p b)
 can_be s p (Own t o) = is_attached p t.0 && (is_here s p o.0 && is_free_for t.0 (monitors.owner p.monitors o.0))
 can_be s p (Free t o) = is_owner t.0 (monitors.owner p.monitors o.0)
-can_be s p (Meet class n) = nat_lt class (class_count s)
+can_be s p (Meet class n) = is_class s class
 -- it is no class object, and nothing holds it: no live strong reference, pending exception, critical buffer or monitor
 can_be s p (Gone o) = is_here s p o.0 && (not (nat_lt o.0 (class_count s)) && not (is_root p o.0))
 can_be s p (Link class native) = is_some (native_at s class native)

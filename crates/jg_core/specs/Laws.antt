@@ -1,17 +1,19 @@
 -- What every list of facts has, each of which could be when it was told. A list has the newest first.
 use Rattle.std.specs.Prelude.{ℕ, ◌≡◌, ◌<◌, ◌⊎◌, true, false, List, [], ◌∷◌, ◌++◌, Option, Some, None}
+use Rattle.std.specs.List.{AllByRecursion}
 use Rattle.jg_words.specs.declared.thread.Tid.{Tid}
 use Rattle.jg_words.specs.declared.object.ObjId.{ObjId}
 use Rattle.jg_words.specs.declared.reference.Kind.{Kind}
 use Rattle.jg_words.specs.declared.reference.Kind.TheVariants.{Local}
 use Rattle.jg_words.specs.declared.reference.Ref.{Ref}
 use Rattle.jg_words.specs.declared.reference.Ref.TheVariants.{To}
-use Rattle.jg_policy.specs.Stated.{StatedSetup}
+use Rattle.jg_policy.specs.Stated.{StatedSetup, class_count}
 use Rattle.jg_monitors.specs.History as monitors
 use Rattle.jg_rules.specs.Names.{is_here, next_ref, object_named}
 use Rattle.jg_rules.specs.Holding.{is_root}
+use Rattle.jg_questions.specs.Written.{AreStated}
 use Rattle.jg_core.specs.declared.fact.Fact.{Fact}
-use Rattle.jg_core.specs.declared.fact.Fact.TheVariants.{Leave, Pop, Hand, Gone}
+use Rattle.jg_core.specs.declared.fact.Fact.TheVariants.{Leave, Pop, Hand, Meet, Gone}
 use Rattle.jg_core.specs.Facts.{parts_of, History}
 
 -- the reference that the fact hands out after these, if it hands out one
@@ -62,3 +64,13 @@ HeldIsHere = (s : StatedSetup) (w : List Fact) (o : ℕ) → History s w
 abbrev pub GoneStaysGone : Type 0
 GoneStaysGone = (s : StatedSetup) (later before : List Fact) (o : ObjId)
     → History s (later ++ Gone o ∷ before) → is_here s (parts_of (later ++ Gone o ∷ before)) o.0 ≡ false
+
+-- an object that is met is of a class of the setup
+abbrev pub IsStatedMeet : StatedSetup → Fact → Type 0
+IsStatedMeet s (Meet class n) = class < class_count s
+IsStatedMeet s x = Unit {0}
+
+-- where all that were met are, each object is
+-- (proofs/Classes.antt)
+abbrev pub ClassesStated : Type 0
+ClassesStated = (s : StatedSetup) (w : List Fact) → AllByRecursion (IsStatedMeet s) w → AreStated s (parts_of w)

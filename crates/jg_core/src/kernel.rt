@@ -7,6 +7,7 @@ ghost use Rattle.jg_words.specs.declared.reference.Kind.TheVariants.{Local};
 ghost use Rattle.jg_words.specs.declared.reference.Ref.TheVariants.{To};
 ghost use Rattle.jg_rules.specs.Names.{next_ref, next_buffer, object_count};
 ghost use Rattle.jg_rules.specs.Rules.{verdict};
+ghost use Rattle.jg_questions.specs.Kinds.{own_class};
 ghost use Rattle.jg_core.specs.declared.fact.Fact.TheVariants.{Begin, Hand, Leave, Lend, Meet, Pop};
 ghost use Rattle.jg_core.specs.Facts.{first_held, parts_of};
 ghost use Rattle.jg_core.specs.Kernel.{broken, CoreStands, Keeps, Took, TookAll, Stayed, Refuses};
@@ -24,6 +25,7 @@ use jg_locals::Locals;
 use jg_monitors::Monitors;
 use jg_objects::Objects;
 use jg_policy::{Links, Setup};
+use jg_questions::OwnKind;
 use jg_rules::first_broken;
 use jg_threads::Threads;
 use jg_words::{BufId, Call, EnvId, Kind, ObjId, Ref, Rule, Tid};
@@ -174,6 +176,13 @@ impl<A: Allocator + Clone> Core<A> {
         Ok(())
     }
 
+    /// The class of the kind: its number stands behind those of the setup.
+    pub fn class_of(&self, kind: OwnKind) -> u32
+        ensures { result ≡ own_class self.now.setup kind }
+    {
+        kind.class_in(&self.setup)
+    }
+
     /// Begins the thread's session, and answers its environment (chapter 5, `AttachCurrentThread`).
     pub fn begin(&mut self, tid: Tid) -> Result<EnvId, Untold>
         ensures ok { OnOk result (Took self.old self.new (Begin tid)) }
@@ -261,8 +270,8 @@ impl<A: Allocator + Clone> Core<A> {
         Ok(BufId { maker: tid, n })
     }
 
-    /// Meets the next object, of this class, by its number in the setup, and of so many characters or items, and
-    /// answers it.
+    /// Meets the next object, of this class, and of so many characters or items, and answers it. The class goes by its
+    /// number in the setup, or is that of a kind ([`Core::class_of`]) whose class the setup doesn't state.
     pub fn meet(&mut self, class: u32, length: u32) -> Result<ObjId, Untold>
         ensures ok { OnOk result (Took self.old self.new (Meet class length)) }
         ensures next { IfOk result (λ object. (w : List Fact) → CoreStands self.old w

@@ -21,7 +21,8 @@ pub use fact::{Checked, Fact};
 pub use gone::{Holder, StillHeld};
 pub use kernel::{Broken, Core, Untold};
 pub use promises::{
-    gone_stays_gone, held_is_here, live_is_here, no_reference_revived, no_reference_twice,
-    one_owner, questions_are_judged_as_calls, questions_are_told_as_calls, references_are_counted,
+    classes_are_stated, gone_stays_gone, held_is_here, live_is_here, no_reference_revived,
+    no_reference_twice, one_owner, questions_are_judged_as_calls, questions_are_told_as_calls,
+    references_are_counted,
 };
 pub use says::{Given, Says};

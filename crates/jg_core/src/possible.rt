@@ -14,6 +14,7 @@ ghost use Rattle.jg_core.specs.Facts as facts;
 use crate::fact::{Checked, Fact};
 use jg_buffers::Family;
 use jg_objects::Objects;
+use jg_questions::is_class;
 use jg_rules::{Named, View, buffer_named, is_root, look_up};
 use jg_words::{ObjId, Ref, Tid};
 use std::alloc::Allocator;
@@ -185,7 +186,7 @@ pub(crate) fn can_be<A: Allocator + Clone>(view: &View<'_, A, Objects<A>>, fact:
             attached && (is_here(view, object) && is_free_for(view, tid, object))
         }
         Fact::Free { tid, object } => is_owner(view, tid, object),
-        Fact::Meet { class, .. } => class < view.setup.class_count(),
+        Fact::Meet { class, .. } => is_class(view.setup, class),
         Fact::Gone(object) => may_go(view, object),
         Fact::Link { class, native } => view.setup.has_native(class, native),
         Fact::Unlink(class) => class < view.setup.class_count(),

@@ -1,7 +1,7 @@
 //! What holds whatever a machine told, each as the contract of a function that does nothing.
 
 ghost use Rattle.jg_core.specs.Asking.{AskedAsCalls, ToldAsCalls};
-ghost use Rattle.jg_core.specs.Laws.{GoneStaysGone, HeldIsHere, LiveIsHere, NoReferenceRevived, NoReferenceTwice, OneOwner, ReferencesCounted};
+ghost use Rattle.jg_core.specs.Laws.{ClassesStated, GoneStaysGone, HeldIsHere, LiveIsHere, NoReferenceRevived, NoReferenceTwice, OneOwner, ReferencesCounted};
 
 /// The number of a reference that was handed out is below the number of its thread's next one.
 pub fn references_are_counted()
@@ -36,6 +36,11 @@ pub fn held_is_here()
 /// An object that is gone stays gone.
 pub fn gone_stays_gone()
     ensures { GoneStaysGone }
+{}
+
+/// Where each object that was met is of a class of the setup, each object is, as questions of the 95 calls want it.
+pub fn classes_are_stated()
+    ensures { ClassesStated }
 {}
 
 /// What is told of a call's question that returned is what [`Core::did`](crate::Core::did) takes of the call.

@@ -1,25 +1,29 @@
 -- The facts of a legal history could be, and read as it does.
-use Rattle.std.proofs.Common.{◌≡◌, List, [], ◌∷◌, Option, Some, None, refl, sym, subst}
+use Rattle.std.proofs.Common.{ℕ, ◌≡◌, ◌∙◌, ◌<◌, List, [], ◌∷◌, Option, Some, None, refl, ap, sym, subst}
 use Rattle.jg_words.specs.declared.thread.Tid.{Tid}
 use Rattle.jg_words.specs.declared.thread.EnvId.{EnvId}
 use Rattle.jg_words.specs.declared.rule.Rule.{Rule}
 use Rattle.jg_words.specs.declared.call.Call.{Call}
+use Rattle.jg_words.specs.Call.{fun_of}
 use Rattle.jg_words.specs.Entry.{Entry}
-use Rattle.jg_policy.specs.Stated.{StatedSetup}
+use Rattle.jg_policy.specs.Stated.{StatedSetup, class_count}
 use Rattle.jg_rules.specs.Parts.{Parts, nothing_yet}
 use Rattle.jg_rules.specs.Effects.{parts, after}
 use Rattle.jg_rules.specs.Rules.{verdict}
 use Rattle.jg_rules.specs.Answers.{answer}
 use Rattle.jg_rules.specs.Legal.{Legal, entry_by}
 use Rattle.jg_rules.proofs.Kept.{unbroken}
-use Rattle.jg_laws.proofs.HandedHere.{all_here}
+use Rattle.jg_questions.specs.Written.{AreStated, arguments_of, row_for, written_bounds}
+use Rattle.jg_laws.proofs.HandedHere.{all_here, classes_are_stated}
 use Rattle.jg_laws.proofs.Natives.{all_stated}
 use Rattle.jg_laws.proofs.Owners.{all_allowed as entries_allowed}
 use Rattle.jg_core.specs.declared.fact.Fact.{Fact}
+use Rattle.jg_core.specs.Asking.{by_verdict}
 use Rattle.jg_core.specs.Facts.{parts_of, History}
 use Rattle.jg_core.proofs.Owners.{all_allowed as facts_allowed}
+use Rattle.jg_core.proofs.Tied.{asked_as_calls}
 use Rattle.jg_entries.specs.Entries.{outcome_facts, facts_of}
-use Rattle.jg_entries.specs.Laws.{FactsReadAlike, FactsCouldBe, JudgedAlike}
+use Rattle.jg_entries.specs.Laws.{FactsReadAlike, FactsCouldBe, JudgedAlike, AskedAlike}
 use Rattle.jg_entries.proofs.Idle.{all_idle, agreed_told}
 use Rattle.jg_entries.proofs.Alike.{Alike, reads}
 use Rattle.jg_entries.proofs.Judged.{alike_is_judged_alike}
@@ -80,3 +84,12 @@ facts_read_alike s h legal =
 
 pub judged_alike : JudgedAlike
 judged_alike s h t env call legal = alike_is_judged_alike s (parts_of (facts_of s h)) (parts s h) t env call (facts_read_alike s h legal)
+
+-- a call's question has the call's verdict where each object is of a class of the setup, as it is after each legal history
+pub asked_alike : AskedAlike
+asked_alike s h t env call place legal at =
+    let p : Parts = parts_of (facts_of s h) in
+    let same = facts_read_alike s h legal in
+    let stated : AreStated s p = λ o. subst (λ (class : ℕ). class < class_count s) (sym (same.classes o)) (classes_are_stated s h o legal) in
+    asked_as_calls s p t env call place stated at
+    ∙ ap (by_verdict written_bounds s p t (row_for (fun_of call)) (arguments_of s p t.0 call)) (judged_alike s h t.0 env call legal)

@@ -1,13 +1,18 @@
 -- That to judge by facts is to judge by entries.
-use Rattle.std.specs.Prelude.{ℕ, ◌≡◌, List, Option}
+use Rattle.std.specs.Prelude.{ℕ, ◌≡◌, slice_get, List, Option, Some}
+use Rattle.jg_words.specs.declared.thread.Tid.{Tid}
 use Rattle.jg_words.specs.declared.thread.EnvId.{EnvId}
 use Rattle.jg_words.specs.Entry.{Entry}
 use Rattle.jg_words.specs.declared.call.Call.{Call}
+use Rattle.jg_words.specs.Call.{fun_of}
 use Rattle.jg_policy.specs.Stated.{StatedSetup}
 use Rattle.jg_rules.specs.Parts.{Parts}
 use Rattle.jg_rules.specs.Effects.{parts}
 use Rattle.jg_rules.specs.Legal.{Legal}
 use Rattle.jg_rules.specs.Rules.{verdict}
+use Rattle.jg_functions.specs.Table.{functions}
+use Rattle.jg_questions.specs.Written.{arguments_of, row_for, written_bounds}
+use Rattle.jg_core.specs.Asking.{asked, by_verdict}
 use Rattle.jg_core.specs.Facts.{parts_of, History}
 use Rattle.jg_entries.specs.Entries.{facts_of}
 use Rattle.jg_entries.specs.Alike.{ReadAlike}
@@ -33,3 +38,12 @@ AlikeIsJudgedAlike = (s : StatedSetup) (p q : Parts) (t : ℕ) (env : Option Env
 abbrev pub JudgedAlike : Type 0
 JudgedAlike = (s : StatedSetup) (h : List Entry) (t : ℕ) (env : Option EnvId) (call : Call) → Legal s h
     → verdict s (parts_of (facts_of s h)) t env call ≡ verdict s (parts s h) t env call
+
+-- after the facts, a call's question is answered by the verdict on the call after the history
+-- (proofs/Histories.antt)
+abbrev pub AskedAlike : Type 0
+AskedAlike = (s : StatedSetup) (h : List Entry) (t : Tid) (env : Option EnvId) (call : Call) (place : ℕ) → Legal s h
+    → slice_get functions place ≡ Some (row_for (fun_of call))
+    → asked written_bounds s (parts_of (facts_of s h)) t env place (arguments_of s (parts_of (facts_of s h)) t.0 call)
+    ≡ by_verdict written_bounds s (parts_of (facts_of s h)) t (row_for (fun_of call))
+    (arguments_of s (parts_of (facts_of s h)) t.0 call) (verdict s (parts s h) t.0 env call)

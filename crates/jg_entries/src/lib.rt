@@ -2,7 +2,7 @@
 //! of a function that does nothing.
 #![tactic(auto)]
 
-ghost use Rattle.jg_entries.specs.Laws.{FactsReadAlike, FactsCouldBe, AlikeIsJudgedAlike, JudgedAlike};
+ghost use Rattle.jg_entries.specs.Laws.{FactsReadAlike, FactsCouldBe, AlikeIsJudgedAlike, JudgedAlike, AskedAlike};
 
 /// A legal history and the facts that its entries are leave parts that read the same: sessions, native methods,
 /// frames, locals and what is pending, what references name, open buffers but for their items, monitors, the objects
@@ -24,4 +24,9 @@ pub fn alike_is_judged_alike()
 /// After the facts of a legal history each call breaks the rule first that it breaks first after the history.
 pub fn judged_alike()
     ensures { JudgedAlike }
+{}
+
+/// After the facts of a legal history a call's question is answered by the verdict on the call after the history.
+pub fn asked_alike()
+    ensures { AskedAlike }
 {}

@@ -1,10 +1,8 @@
 -- What a call hands out a reference for was made and isn't gone; so no legal history has a live reference to what is gone.
-use Rattle.std.proofs.Common.{option_map, ℕ, ℤ, pos, ◌≡◌, ◌+◌, ◌<◌, ◌≤◌, ◌++◌, Bool, true, false, List, [], ◌∷◌, map, length, Option, Some, None, refl, ap, sym, subst, arith, length-append}
+use Rattle.std.proofs.Common.{option_map, ℕ, ℤ, pos, ◌≡◌, ◌+◌, ◌<◌, ◌≤◌, ◌++◌, Bool, true, false, List, [], ◌∷◌, map, length, Option, Some, None, refl, ap, sym, subst, arith}
 use Rattle.std.specs.Prelude.{◌==◌, ◌&&◌, ◌||◌, not, nat_lt, int_lt, if◌then◌else◌}
 use Rattle.std.specs.List.{AllByRecursion}
-use Rattle.std.specs.Str.{bytes_eq}
 use Rattle.std.specs.Option.{unwrap_or}
-use Rattle.std.proofs.lemmas.List.{length-map}
 use Rattle.std.proofs.lemmas.Bool.Decides.{nat_tests}
 use Rattle.std.proofs.lemmas.Bool.{eqb-true}
 use Rattle.jg_words.specs.declared.thread.Tid.{Tid}
@@ -32,10 +30,8 @@ use Rattle.jg_words.specs.declared.call.strings.StringsCall.TheVariants.{NewStri
 use Rattle.jg_words.specs.declared.call.arrays.ArraysCall.TheVariants.{NewArray, GetArrayLength, GetArrayRegion, SetArrayRegion, NewObjectArray, GetObjectArrayElement, SetObjectArrayElement}
 use Rattle.jg_words.specs.declared.call.buffers.BuffersCall.TheVariants.{GetArrayElements, ReleaseArrayElements, GetStringChars, ReleaseStringChars, GetStringUTFChars, ReleaseStringUTFChars, GetPrimitiveArrayCritical, ReleasePrimitiveArrayCritical, GetStringCritical, ReleaseStringCritical, BufferRead, BufferWrite}
 use Rattle.jg_words.specs.declared.call.monitors.MonitorsCall.TheVariants.{MonitorEnter, MonitorExit}
-use Rattle.jg_policy.specs.BaseClasses.{base_names}
-use Rattle.jg_policy.specs.Stated.{StatedSetup, class_count, class_names}
+use Rattle.jg_policy.specs.Stated.{StatedSetup, class_count}
 use Rattle.jg_policy.specs.Classes.{class_named, class_at, fields_in, field_type}
-use Rattle.jg_policy.proofs.Places.{position-within}
 use Rattle.jg_globals.specs.History as globals
 use Rattle.jg_threads.specs.History as threads
 use Rattle.jg_monitors.specs.History as monitors
@@ -60,13 +56,13 @@ use Rattle.jg_words.specs.Classes.{class_thrown}
 use Rattle.jg_rules.specs.Rules.{verdict, is_stated_as, is_of_class}
 use Rattle.jg_policy.specs.declared.access.Operation.{Operation}
 use Rattle.jg_policy.specs.declared.access.Operation.TheVariants.{Link}
-use Rattle.jg_policy.proofs.Reading.{count_base}
+use Rattle.jg_policy.proofs.NameLaws.{class_below}
 use Rattle.jg_rules.specs.Answers.{answer, handed, plain, saying, entered, present_env, class_found, field_found, registered, admitted, unless_pending, or_outside, is_outside, field_value, region}
 use Rattle.jg_rules.specs.Legal.{Legal, entry_by}
 use Rattle.jg_rules.specs.Unbroken.{Unbroken}
 use Rattle.jg_rules.proofs.Kept.{unbroken}
 use Rattle.jg_rules.proofs.Objects.{first_is_of, made_so}
-use Rattle.jg_laws.specs.Laws.{MakesStated, StaysGone, LiveIsNotGone}
+use Rattle.jg_laws.specs.Laws.{MakesStated, StaysGone, LiveIsNotGone, ClassesAreStated}
 use Rattle.jg_laws.proofs.Makings.{length_stated}
 use Rattle.jg_laws.proofs.Natives.{all_stated}
 use Rattle.jg_laws.proofs.StatedFields.{IsStatedField, stated_field, both_true}
@@ -82,15 +78,8 @@ use Rattle.jg_laws.proofs.HandsHere.{the_named, done_here}
 class_here : (k : ℕ) (e : List heap.Event) (c : ℕ) → c < k → Here k e c
 class_here k e c is = (omega (arith, is, classes_counted k e), classes_law k e c is)
 
-class_below : (s : StatedSetup) (name : List ℕ) (c : ℕ) → class_named s name ≡ Some c → c < class_count s
-class_below s name c is =
-    let within = position-within (bytes_eq name) (base_names ++ class_names s) c is in
-    let both = length-append base_names (class_names s) in
-    let own : length (class_names s) ≡ length s.classes = length-map s.classes _ in
-    omega (arith, within, both, own, count_base)
-
 -- each object's class is one of the setup's
-class_known : (b : Bool) (s : StatedSetup) (class : ℕ) → class < class_count s → (if b then class else 1) < class_count s
+pub class_known : (b : Bool) (s : StatedSetup) (class : ℕ) → class < class_count s → (if b then class else 1) < class_count s
 class_known true s class is = is
 class_known false s class is = omega arith
 
@@ -440,6 +429,10 @@ all_here s [] legal =
       known = λ o. omega arith;
     }
 all_here s (x ∷ h) legal = each_here s (verdict s (parts s h) x.tid.0 x.env x.call) (parts s h) x refl (all_stated s h legal.1) (all_here s h legal.1) x legal.0
+
+-- one that isn't there counts as a class object, whose class is 1
+pub classes_are_stated : ClassesAreStated
+classes_are_stated s h o legal = class_known (is_here s (parts s h) o) s _ ((all_here s h legal).known o)
 
 pub live_is_not_gone : LiveIsNotGone
 live_is_not_gone s h t o r legal is = (named_here s (parts s h) t o r (all_here s h legal) is).1

@@ -54,11 +54,15 @@ weak_named H None o old is = absurd cc
 weak_named H (Some (ToObject x)) o old is = subst H (same_Some x.0 o is) (old x refl)
 weak_named H (Some Cleared) o old is = absurd cc
 
+pub reference_here : (s : StatedSetup) (p : Parts) (t o : ℕ) (r : Ref) → LocalsMeet (Here (class_count s) p.heap) p.locals → StrongMeets (Here (class_count s) p.heap) p.globals
+    → WeakMeets (Here (class_count s) p.heap) p.globals → object_named p t r ≡ Some o → Here (class_count s) p.heap o
+reference_here s p t o Null locals_meet strong weak is = absurd cc
+reference_here s p t o (To Local maker n) locals_meet strong weak is = locals_meet t n o (local_named (maker.0 == t) (locals.live n (locals.acts_of t p.locals)) o is)
+reference_here s p t o (To Global maker n) locals_meet strong weak is = strong_named (Here (class_count s) p.heap) (globals.strong p.globals maker.0 n) o (strong maker.0 n o) is
+reference_here s p t o (To Weak maker n) locals_meet strong weak is = weak_named (Here (class_count s) p.heap) (globals.weak_target p.globals maker.0 n) o (λ x found. weak maker.0 n x found) is
+
 pub named_here : (s : StatedSetup) (p : Parts) (t o : ℕ) (r : Ref) → AllHere s p → object_named p t r ≡ Some o → Here (class_count s) p.heap o
-named_here s p t o Null all is = absurd cc
-named_here s p t o (To Local maker n) all is = all.locals t n o (local_named (maker.0 == t) (locals.live n (locals.acts_of t p.locals)) o is)
-named_here s p t o (To Global maker n) all is = strong_named (Here (class_count s) p.heap) (globals.strong p.globals maker.0 n) o (all.strong maker.0 n o) is
-named_here s p t o (To Weak maker n) all is = weak_named (Here (class_count s) p.heap) (globals.weak_target p.globals maker.0 n) o (λ x found. all.weak maker.0 n x found) is
+named_here s p t o r all is = reference_here s p t o r all.locals all.strong all.weak is
 
 -- ---- a collection
 

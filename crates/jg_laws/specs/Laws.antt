@@ -103,6 +103,11 @@ abbrev pub FieldsAreStated : Type 0
 FieldsAreStated = (s : StatedSetup) (h : List Entry) (o : ℕ) → Legal s h → 10 ≤ class_of s (parts s h) o
     → length_of s (parts s h) o ≡ length (fields_in (class_at s (class_of s (parts s h) o)))
 
+-- each object is of a class that the setup states
+-- (proofs/HandedHere.antt)
+abbrev pub ClassesAreStated : Type 0
+ClassesAreStated = (s : StatedSetup) (h : List Entry) (o : ℕ) → Legal s h → class_of s (parts s h) o < class_count s
+
 -- a native method that was entered was linked then, and its class was not refused native access
 -- (proofs/Natives.antt)
 abbrev pub EnteredWasLinked : Type 0

@@ -2,7 +2,7 @@
 //! journal can be any legal history within its limit, so each is a law of the guard.
 #![tactic(auto)]
 
-ghost use Rattle.jg_laws.specs.Laws.{ReferencesCounted, NoReferenceTwice, NoReferenceRevived, DeniedEntriesDoNothing, OneHistoryForTheCalls, DepthsAgree, FieldsAreStated, EnteredWasLinked, OneOwner, StaysGone, LiveIsNotGone, BuffersFit, PinsAreLive, TouchesLive, TouchesNothingGone};
+ghost use Rattle.jg_laws.specs.Laws.{ReferencesCounted, NoReferenceTwice, NoReferenceRevived, DeniedEntriesDoNothing, OneHistoryForTheCalls, DepthsAgree, FieldsAreStated, ClassesAreStated, EnteredWasLinked, OneOwner, StaysGone, LiveIsNotGone, BuffersFit, PinsAreLive, TouchesLive, TouchesNothingGone};
 
 /// The number of a reference that was handed out is below the number of its maker's next one.
 pub fn references_are_counted()
@@ -37,6 +37,11 @@ pub fn depths_agree()
 /// An object of a class of the setup has the fields that the setup states for the class.
 pub fn fields_are_stated()
     ensures { FieldsAreStated }
+{}
+
+/// Each object is of a class that the setup states.
+pub fn classes_are_stated()
+    ensures { ClassesAreStated }
 {}
 
 /// A native method that was entered was linked then, and its class was not refused native access.

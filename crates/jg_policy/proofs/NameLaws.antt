@@ -1,13 +1,15 @@
 -- What is found at a place has the name that was sought.
-use Rattle.std.proofs.Common.{◌≡◌, ℕ, ◌+◌, ◌-◌, ◌==◌, suc, Bool, true, false, ◌&&◌, cond, List, [], ◌∷◌, ◌++◌, slice_get, Option, Some, None, position, refl, ap, ◌∙◌, sym, subst, arith}
+use Rattle.std.proofs.Common.{◌≡◌, ℕ, ◌+◌, ◌-◌, ◌==◌, suc, Bool, true, false, ◌&&◌, cond, List, [], ◌∷◌, ◌++◌, slice_get, Option, Some, None, position, refl, ap, ◌∙◌, sym, subst, arith, length, ◌<◌}
 use Rattle.std.proofs.lemmas.Bool.{and_parts}
 use Rattle.std.proofs.lemmas.Bool.Decides.{nat_tests}
+use Rattle.std.proofs.lemmas.List.{length-append, length-map}
 use Rattle.std.specs.Option.{option_map}
 use Rattle.std.specs.Str.{bytes_eq}
 use Rattle.jg_policy.specs.BaseClasses.{base_names}
-use Rattle.jg_policy.specs.Stated.{StatedMember, StatedSetup, class_names}
+use Rattle.jg_policy.specs.Stated.{StatedMember, StatedSetup, class_count, class_names}
 use Rattle.jg_policy.specs.Classes.{class_named, class_name_of, is_member, member_named, member_at}
-use Rattle.jg_policy.proofs.Places.{place, position-place}
+use Rattle.jg_policy.proofs.Places.{place, position-place, position-within}
+use Rattle.jg_policy.proofs.Reading.{count_base}
 use Rattle.jg_policy.proofs.ModuleLaws.{equal_bytes}
 
 -- the item at a place, which passes the test
@@ -29,6 +31,14 @@ place-item {A = A} p (x ∷ xs) n h = by (p x) refl (place p xs) (place-item p x
 
 position-item : {A : Type 0} (p : A → Bool) (xs : List A) (n : ℕ) → position p xs ≡ Some n → Passes p xs n
 position-item p xs n h = place-item p xs n (sym (position-place p xs) ∙ h)
+
+-- a class that the setup states has a number below the count of its classes
+pub class_below : (s : StatedSetup) (name : List ℕ) (c : ℕ) → class_named s name ≡ Some c → c < class_count s
+class_below s name c is =
+    let within = position-within (bytes_eq name) (base_names ++ class_names s) c is in
+    let both = length-append base_names (class_names s) in
+    let own : length (class_names s) ≡ length s.classes = length-map s.classes _ in
+    omega (arith, within, both, own, count_base)
 
 some_is_one : {A : Type 0} (o : Option A) (x y : A) → o ≡ Some x → o ≡ Some y → x ≡ y
 some_is_one o x y e f = cc

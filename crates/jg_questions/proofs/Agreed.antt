@@ -43,7 +43,9 @@ use Rattle.jg_functions.specs.declared.row.Takes.{Takes}
 use Rattle.jg_functions.specs.Columns.{Columns}
 use Rattle.jg_questions.specs.declared.argument.Argument.{Argument}
 use Rattle.jg_questions.specs.Asked.{paired, judged, first_reference, first_buffer}
-use Rattle.jg_questions.specs.Kinds.{is_kind, is_own}
+use Rattle.jg_questions.specs.declared.kinds.OwnKind.{OwnKind}
+use Rattle.jg_questions.specs.declared.kinds.OwnKind.TheVariants as own
+use Rattle.jg_questions.specs.Kinds.{is_kind, is_own, own_class}
 use Rattle.jg_questions.specs.Broken.{verdict, broken, is_collection, wrong_kind, is_wrong_kind, is_unfit, is_wrong_buffer, is_out_of_bounds, is_wrong_item, buffer_meant, pinned, not_owner, bad_frame, no_access, not_linked, stated}
 use Rattle.jg_questions.specs.Written.{AreStated, JudgedAsWritten, arguments_of, row_for, written_bounds}
 use Rattle.jg_questions.proofs.Rows.{takes_of, effect_of, IsRow, row_is}
@@ -63,17 +65,17 @@ kind_of (ArrayOf element) = ArrayOfKind (Of element)
 kind_of ObjectArray = ObjectArrayKind
 
 -- what is of a stated class is of no class of a machine's own
-none_own : (s : StatedSetup) (p : Parts) (k o : ℕ) → AreStated s p → is_own s p k o ≡ false
-none_own s p k o all = let below = all o in ne_eqb (class_of s p o) (class_count s + k) (λ same. omega (arith, below, same))
+none_own : (s : StatedSetup) (p : Parts) (kind : OwnKind) (o : ℕ) → AreStated s p → is_own s p kind o ≡ false
+none_own s p kind o all = let below = all o in ne_eqb (class_of s p o) (own_class s kind) (λ same. omega (arith, below, same))
 
 kinds_agree : (s : StatedSetup) (p : Parts) (type : ObjectType) (o : ℕ) → AreStated s p → is_kind s p (kind_of type) o ≡ is_of s p type o
 kinds_agree s p AnyObject o all = refl
-kinds_agree s p ClassObject o all = rw (none_own s p 2 o all, none_own s p 3 o all) (or-false _)
-kinds_agree s p PlainClass o all = rw (none_own s p 2 o all) (or-false _)
-kinds_agree s p ThrowableObject o all = rw (none_own s p 1 o all) (or-false _)
+kinds_agree s p ClassObject o all = rw (none_own s p own.Class o all, none_own s p own.ClassOfArrays o all) (or-false _)
+kinds_agree s p PlainClass o all = rw (none_own s p own.Class o all) (or-false _)
+kinds_agree s p ThrowableObject o all = rw (none_own s p own.Throwable o all) (or-false _)
 kinds_agree s p StringObject o all = refl
-kinds_agree s p AnyArray o all = rw (none_own s p 4 o all, none_own s p 5 o all) (or-false _)
-kinds_agree s p PrimitiveArray o all = rw (none_own s p 4 o all, none_own s p 5 o all) (or-false _)
+kinds_agree s p AnyArray o all = rw (none_own s p own.Floats o all, none_own s p own.Doubles o all) (or-false _)
+kinds_agree s p PrimitiveArray o all = rw (none_own s p own.Floats o all, none_own s p own.Doubles o all) (or-false _)
 kinds_agree s p (ArrayOf element) o all = refl
 kinds_agree s p ObjectArray o all = refl
 

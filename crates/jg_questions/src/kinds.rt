@@ -6,27 +6,68 @@ ghost use Rattle.jg_rules.specs.Parts.{Parts};
 ghost use Rattle.jg_rules.specs.View.{ViewTells};
 
 use jg_functions::ObjectKind;
+use jg_policy::Setup;
 use jg_rules::{ObjectType, Store, View, class_of, is_object_of};
 use jg_words::{ItemType, ObjId};
 use std::alloc::Allocator;
 
-/// How far behind the classes of the setup the numbers of the kinds stand.
-const THROWABLE: u32 = 1;
+/// A kind of objects whose class no setup states. A machine meets an object of such a class by its kind.
+#[derive(Clone, Copy, Debug, PartialEq, Eq)]
+pub enum OwnKind {
+    /// It is of none of the others.
+    Object,
+    /// It can be thrown.
+    Throwable,
+    /// It is the class object of a class that isn't one of arrays.
+    Class,
+    /// It is the class object of a class of arrays.
+    ClassOfArrays,
+    /// It is an array of float.
+    Floats,
+    /// It is an array of double.
+    Doubles,
+}
 
-const CLASS: u32 = 2;
+impl OwnKind {
+    /// How far behind the classes of the setup the kind's class has its number.
+    fn place(self) -> u32
+        ensures { result ≡ kinds.own_place self }
+    {
+        match self {
+            OwnKind::Object => 0,
+            OwnKind::Throwable => 1,
+            OwnKind::Class => 2,
+            OwnKind::ClassOfArrays => 3,
+            OwnKind::Floats => 4,
+            OwnKind::Doubles => 5,
+        }
+    }
 
-const CLASS_OF_ARRAYS: u32 = 3;
+    /// The number of the kind's class, which stands behind those of the setup.
+    pub fn class_in(self, setup: &Setup) -> u32
+        ensures { result ≡ kinds.own_class setup.now self }
+    {
+        setup.class_count() + self.place()
+    }
+}
 
-const FLOATS: u32 = 4;
+/// Whether the number is that of a class of the setup, or of a kind of objects whose class it doesn't state.
+pub fn is_class(setup: &Setup, class: u32) -> bool
+    ensures { result ≡ kinds.is_class setup.now class }
+{
+    class <= OwnKind::Doubles.class_in(setup)
+}
 
-const DOUBLES: u32 = 5;
-
-/// Whether the object is of the kind that stands so far behind the classes of the setup.
-fn is_own<A: Allocator + Clone, S: Store>(view: &View<'_, A, S>, kind: u32, object: ObjId) -> bool
+/// Whether the object is of the kind.
+fn is_own<A: Allocator + Clone, S: Store>(
+    view: &View<'_, A, S>,
+    kind: OwnKind,
+    object: ObjId,
+) -> bool
     ensures { (p : Parts) → ViewTells S.Tells view.now p
         → result ≡ kinds.is_own view.now.setup.now p kind object.0 }
 {
-    u64::from(class_of(view, object)) == u64::from(view.setup.class_count()) + u64::from(kind)
+    class_of(view, object) == kind.class_in(view.setup)
 }
 
 /// Whether it is the class object of a stated class that isn't one of arrays.
@@ -47,8 +88,8 @@ fn is_array_of<A: Allocator + Clone, S: Store>(
 {
     match item {
         ItemType::Of(element) => is_object_of(view, ObjectType::ArrayOf(element), object),
-        ItemType::Float => is_own(view, FLOATS, object),
-        ItemType::Double => is_own(view, DOUBLES, object),
+        ItemType::Float => is_own(view, OwnKind::Floats, object),
+        ItemType::Double => is_own(view, OwnKind::Doubles, object),
     }
 }
 
@@ -56,7 +97,7 @@ fn is_own_array<A: Allocator + Clone, S: Store>(view: &View<'_, A, S>, object: O
     ensures { (p : Parts) → ViewTells S.Tells view.now p
         → result ≡ kinds.is_own_array view.now.setup.now p object.0 }
 {
-    is_own(view, FLOATS, object) || is_own(view, DOUBLES, object)
+    is_own(view, OwnKind::Floats, object) || is_own(view, OwnKind::Doubles, object)
 }
 
 /// Whether the object is of the kind.
@@ -72,18 +113,19 @@ pub fn is_kind<A: Allocator + Clone, S: Store>(
         ObjectKind::AnyObject => true,
         ObjectKind::ClassObject => {
             is_object_of(view, ObjectType::ClassObject, object)
-                || is_own(view, CLASS, object)
-                || is_own(view, CLASS_OF_ARRAYS, object)
+                || is_own(view, OwnKind::Class, object)
+                || is_own(view, OwnKind::ClassOfArrays, object)
         }
         ObjectKind::PlainClass => {
-            is_object_of(view, ObjectType::PlainClass, object) || is_own(view, CLASS, object)
+            is_object_of(view, ObjectType::PlainClass, object)
+                || is_own(view, OwnKind::Class, object)
         }
         ObjectKind::InstanceClass => {
-            is_stated_instance(view, object) || is_own(view, CLASS, object)
+            is_stated_instance(view, object) || is_own(view, OwnKind::Class, object)
         }
         ObjectKind::ThrowableObject => {
             is_object_of(view, ObjectType::ThrowableObject, object)
-                || is_own(view, THROWABLE, object)
+                || is_own(view, OwnKind::Throwable, object)
         }
         ObjectKind::StringObject => is_object_of(view, ObjectType::StringObject, object),
         ObjectKind::AnyArray => {

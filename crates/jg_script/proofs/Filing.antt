@@ -7,15 +7,16 @@ use Rattle.jg_text.specs.declared.fault.ScriptFault.{ScriptFault}
 use Rattle.jg_text.specs.declared.fault.ScriptFault.TheVariants.{LineTooLong}
 use Rattle.jg_text.specs.Spelling.{Spells}
 use Rattle.jg_script.specs.Checked.{IsWellFormed}
-use Rattle.jg_script.specs.Devices.{TakesFront}
-use Rattle.jg_script.specs.TextLines.{LinesTaken, BeginsTooLong}
+use Rattle.jg_lines.specs.Devices.{TakesFront}
+use Rattle.jg_lines.specs.TextLines.{LinesTaken, BeginsTooLong}
 use Rattle.jg_script.specs.ScriptFile.{CallLine, text_of, file_text, AreSpelt, lines_by, HoldsRefused, IsFile, IsRefused, ReadsScripts}
 use Rattle.jg_script.specs.Threads.{Adds, TakesLine}
 use Rattle.jg_script.specs.declared.run_fault.RunFault.{RunFault}
 use Rattle.jg_script.specs.declared.run_fault.RunFault.TheVariants.{Script, Limit, NoMemory, Read, Write}
 use Rattle.jg_script.specs.declared.scripts.Line.{Line}
 use Rattle.jg_script.specs.declared.scripts.Lines.{Lines}
-use Rattle.jg_script.proofs.TextLines.{lines_more, followed, followed_by_long, followed_by_more, begun, ended, one_more}
+use Rattle.jg_lines.proofs.TextLines.{lines_more, followed, followed_by_more, begun, ended, one_more}
+use Rattle.jg_script.proofs.Known.{followed_by_long}
 
 -- what is known before line number `line`: the lines taken are a file's, with these scripts
 pub record HasRead (input input' : Option (List ℕ)) (line : ℕ) (scripts : List Lines) : Type 0 where

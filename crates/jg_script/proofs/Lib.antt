@@ -1,8 +1,6 @@
-pub mod TextLines
+pub mod Known
 pub mod Taking
 pub mod Runs
-pub mod Fronts
-pub mod Pieces
 pub mod Replaying
 pub mod Reread
 pub mod Leaking
@@ -10,4 +8,3 @@ pub mod Threads
 pub mod Filing
 pub mod Writing
 pub mod Outcomes
-mod Unread

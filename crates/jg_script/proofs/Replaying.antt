@@ -17,10 +17,10 @@ use Rattle.jg_text.proofs.Laws.{begins_once, short_call, printable_line}
 use Rattle.jg_text.proofs.Plain.{line_plain}
 use Rattle.jg_text.proofs.Cuts.{same_cut}
 use Rattle.jg_script.specs.Checked.{IsScript}
-use Rattle.jg_script.specs.Devices.{IsOneLine}
+use Rattle.jg_lines.specs.Devices.{IsOneLine}
 use Rattle.jg_guard.specs.Guard.{State, next_entry}
 use Rattle.jg_script.specs.Entries.{Took, FailsCall, IsNoEntry, ReplaysLine}
-use Rattle.jg_script.specs.TextLines.{IsCut}
+use Rattle.jg_lines.specs.TextLines.{IsCut}
 use Rattle.jg_script.specs.declared.replay.Difference.TheVariants.{OtherOutcome}
 use Rattle.jg_script.specs.declared.run_fault.RunFault.{RunFault}
 use Rattle.jg_script.specs.declared.run_fault.RunFault.TheVariants.{Script, Limit, NoMemory, Read, Write}

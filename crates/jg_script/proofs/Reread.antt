@@ -9,8 +9,8 @@ use Rattle.jg_rules.specs.Legal.{Legal}
 use Rattle.jg_text.specs.Begun.{BeginsCall}
 use Rattle.jg_text.specs.Journal.{journal_text}
 use Rattle.jg_guard.specs.Guard.{State}
-use Rattle.jg_script.specs.declared.line.Taken.{Taken}
-use Rattle.jg_script.specs.declared.line.Taken.TheVariants.{Line, LastLine, Nothing, TooLong}
+use Rattle.jg_lines.specs.declared.line.Taken.{Taken}
+use Rattle.jg_lines.specs.declared.line.Taken.TheVariants.{Line, LastLine, Nothing, TooLong}
 use Rattle.jg_script.specs.declared.replay.Verdict.TheVariants as verdict
 use Rattle.jg_script.specs.declared.replay.Difference.{Difference}
 use Rattle.jg_script.specs.declared.replay.Difference.TheVariants.{NoLineFeed, NoCall, OtherOutcome}
@@ -19,10 +19,10 @@ use Rattle.jg_script.specs.declared.replay.Replayed.TheVariants as replayed
 use Rattle.jg_script.specs.declared.run_fault.RunFault.{RunFault}
 use Rattle.jg_script.specs.declared.run_fault.RunFault.TheVariants.{Script, Limit, NoMemory, Read, Write}
 use Rattle.jg_script.specs.Checked.{IsScript, ReaderFails}
-use Rattle.jg_script.specs.Devices.{IsOneLine, TakesBytes, TakesFront}
+use Rattle.jg_lines.specs.Devices.{IsOneLine, TakesBytes, TakesFront}
 use Rattle.jg_script.specs.Entries.{IsNoEntry, ReplaysLine, IsPast}
 use Rattle.jg_script.specs.Replayed.{IsHistory, GoesOn, IsDifferent, IsTextThen, Finds, ReplaysJournal, Verifies, verdict_in}
-use Rattle.jg_script.specs.TextLines.{IsCut, IsNextLine, ReadsOneMore}
+use Rattle.jg_lines.specs.TextLines.{IsCut, IsNextLine, ReadsOneMore}
 use Rattle.jg_script.proofs.Replaying.{call_in, call_goes_on, ends_with_feed}
 
 -- what a reading knows before a line: what was read is the text of the guard's journal, a legal

@@ -10,9 +10,10 @@ use Rattle.jg_script.specs.declared.run_fault.RunFault.{RunFault}
 use Rattle.jg_script.specs.declared.run_fault.RunFault.TheVariants.{Script, Limit, NoMemory, Read, Write}
 use Rattle.jg_script.specs.Answered.{Answers, Journals, KeepsFaulty}
 use Rattle.jg_script.specs.Checked.{Checks, HoldsFaulty, Reads, script_text, IsWellFormed, WritesAll, IsScript}
-use Rattle.jg_script.specs.TextLines.{lines_of, LinesTaken, BeginsTooLong, BeginsWith, AreFollowedBy, TakesOneMore, ReadsOneMore}
-use Rattle.jg_script.specs.Devices.{TakesFront}
-use Rattle.jg_script.proofs.TextLines.{followed, followed_by_long, begun, begun_before, one_more}
+use Rattle.jg_lines.specs.TextLines.{lines_of, LinesTaken, BeginsTooLong, BeginsWith, AreFollowedBy, TakesOneMore, ReadsOneMore}
+use Rattle.jg_lines.specs.Devices.{TakesFront}
+use Rattle.jg_lines.proofs.TextLines.{followed, begun, begun_before, one_more}
+use Rattle.jg_script.proofs.Known.{followed_by_long}
 use Rattle.std.proofs.KnownBytes.{Appends-nil, Appends-kept, Appends-trans, Consumes-nil, Consumes-trans}
 
 -- the lines of the longer history

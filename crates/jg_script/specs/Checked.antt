@@ -13,7 +13,7 @@ use Rattle.jg_text.specs.Faults.{IsFirstFault}
 use Rattle.jg_text.specs.Journal.{call_line, call_lines, entry_text, journal_text}
 use Rattle.jg_script.specs.declared.run_fault.RunFault.{RunFault}
 use Rattle.jg_script.specs.declared.run_fault.RunFault.TheVariants.{Script, Limit, NoMemory, Read, Write}
-use Rattle.jg_script.specs.TextLines.{HoldsLines, BeginsWith, AreFollowedBy, TakesOneMore, ReadsOneMore}
+use Rattle.jg_lines.specs.TextLines.{HoldsLines, BeginsWith, AreFollowedBy, TakesOneMore, ReadsOneMore}
 
 -- a line that spells some call
 abbrev pub IsWellFormed : List ℕ → Type 0

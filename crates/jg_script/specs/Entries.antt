@@ -6,9 +6,9 @@ use Rattle.jg_guard.specs.Guard.{State}
 use Rattle.jg_text.specs.Begun.{BeginsCall, BeginsWith}
 use Rattle.jg_text.specs.Journal.{entry_text}
 use Rattle.jg_script.specs.Checked.{IsScript}
-use Rattle.jg_script.specs.Devices.{IsOneLine}
+use Rattle.jg_lines.specs.Devices.{IsOneLine}
 use Rattle.jg_script.specs.Replayed.{GoesOn}
-use Rattle.jg_script.specs.TextLines.{IsCut}
+use Rattle.jg_lines.specs.TextLines.{IsCut}
 use Rattle.jg_script.specs.declared.replay.Difference.{Difference}
 use Rattle.jg_script.specs.declared.replay.Difference.TheVariants.{NoLineFeed, NoCall, OtherOutcome}
 use Rattle.jg_script.specs.declared.replay.Replayed.{Replayed}

@@ -1,7 +1,4 @@
-pub mod Seen
-pub mod TextLines
 pub mod Checked
-pub mod Devices
 pub mod Answered
 pub mod Replayed
 pub mod Entries

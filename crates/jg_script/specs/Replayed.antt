@@ -7,7 +7,7 @@ use Rattle.jg_rules.specs.Legal.{Legal}
 use Rattle.jg_text.specs.Begun.{BeginsCall, BeginsWith}
 use Rattle.jg_text.specs.Journal.{entry_text, journal_text}
 use Rattle.jg_script.specs.Checked.{IsScript}
-use Rattle.jg_script.specs.TextLines.{ReadsOneMore, IsNextLine}
+use Rattle.jg_lines.specs.TextLines.{ReadsOneMore, IsNextLine}
 use Rattle.jg_script.specs.declared.run_fault.RunFault.{RunFault}
 use Rattle.jg_script.specs.declared.run_fault.RunFault.TheVariants.{Script, Limit, NoMemory, Read, Write}
 use Rattle.jg_script.specs.declared.replay.Verdict.{Verdict}

@@ -12,7 +12,7 @@ use Rattle.jg_text.specs.Words.{FitsTid, FitsEnv}
 use Rattle.jg_text.specs.Operands.{FitsCall}
 use Rattle.jg_text.specs.Faults.{IsFirstFault}
 use Rattle.jg_script.specs.Checked.{IsWellFormed}
-use Rattle.jg_script.specs.TextLines.{HoldsLines, BeginsWith, AreFollowedBy, ReadsOneMore}
+use Rattle.jg_lines.specs.TextLines.{HoldsLines, BeginsWith, AreFollowedBy, ReadsOneMore}
 use Rattle.jg_script.specs.declared.run_fault.RunFault.{RunFault}
 use Rattle.jg_script.specs.declared.run_fault.RunFault.TheVariants.{Script, Limit, NoMemory, Read, Write}
 use Rattle.jg_script.specs.declared.scripts.Line.{Line}

@@ -9,10 +9,9 @@ ghost use Rattle.jg_guard.specs.Guard.{next_entry};
 ghost use Rattle.jg_script.specs.Entries.{Took, FailsCall};
 ghost use Rattle.jg_script.specs.Checked.{WriterFails};
 
-use crate::line::write_text;
 use crate::run_fault::RunFault;
-use crate::watched::Watched;
 use jg_guard::{Guard, Refusal};
+use jg_lines::{Watched, write_text};
 use jg_text::{ScriptFault, push_answer, read_call};
 use jg_words::{Call, Entry, EnvId, Tid};
 use std::alloc::{AllocError, Allocator, Global};

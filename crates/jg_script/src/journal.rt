@@ -3,10 +3,9 @@
 ghost use Rattle.jg_script.specs.Checked.{WriterFails};
 ghost use Rattle.jg_script.specs.Written.{WritesJournal, WritesLine};
 
-use crate::line::write_text;
 use crate::run_fault::RunFault;
-use crate::watched::Watched;
 use jg_guard::Guard;
+use jg_lines::{Watched, write_text};
 use jg_text::push_entry;
 use jg_words::Entry;
 use std::alloc::{Allocator, Global};

@@ -2,28 +2,20 @@
 #![tactic(auto)]
 
 mod answer;
-mod faulty;
-mod handing;
 mod journal;
 mod leaks;
-mod line;
 mod outcome;
-mod piece;
 mod replay;
 mod run;
 mod run_fault;
 mod scripts;
-mod watched;
 
-pub use faulty::Faulty;
-pub use handing::HandsOn;
+pub use jg_lines::{DeviceFailed, Faulty, HandsOn, Watched, write_text};
 pub use jg_text::{MAX_LINE, ScriptFault, read_call, write_entry};
 pub use journal::write_journal;
 pub use leaks::write_leaks;
-pub use line::write_text;
 pub use outcome::outcome_in;
 pub use replay::{Difference, Replayed, Verdict, replay_journal, verify};
 pub use run::{check, check_lines};
 pub use run_fault::RunFault;
 pub use scripts::{Line, Lines, MAX_LINES, MAX_THREADS, Scripts, read_script_lines, read_scripts};
-pub use watched::{DeviceFailed, Watched};

@@ -7,11 +7,9 @@ ghost use Rattle.jg_script.specs.Entries.{ReplaysLine, IsPast};
 ghost use Rattle.jg_script.specs.Replayed.{verdict_of, ReplaysJournal, Verifies};
 
 use crate::answer::take_call;
-use crate::line::{Taken, next_line};
-use crate::piece::LineFault;
 use crate::run_fault::RunFault;
-use crate::watched::Watched;
 use jg_guard::Guard;
+use jg_lines::{LineFault, Taken, Watched, next_line};
 use jg_policy::Setup;
 use jg_text::{MAX_LINE, push_entry, read_begun};
 use std::alloc::{Allocator, Global};

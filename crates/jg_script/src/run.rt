@@ -1,30 +1,16 @@
 //! A script is answered line by line.
 
 ghost use Rattle.std.specs.Prelude.{◌≡◌, []};
-ghost use Rattle.std.specs.Io.KnownBytes.{Keeps};
 ghost use Rattle.jg_rules.specs.Legal.{Legal};
 ghost use Rattle.jg_script.specs.Checked.{Checks, HoldsFaulty, Reads, IsScript, ReaderFails, WriterFails};
 
 use crate::answer::answer_line;
-use crate::line::{Taken, next_line};
-use crate::piece::LineFault;
 use crate::run_fault::RunFault;
-use crate::watched::Watched;
 use jg_guard::Guard;
+use jg_lines::{LineFault, Taken, Watched, hand_over, next_line};
 use jg_text::{MAX_LINE, ScriptFault};
 use std::alloc::{Allocator, Global};
 use std::io::{BufRead, Write};
-
-/// Hands on what was answered, unless the next line is there already: whoever sends a line and waits
-/// has its answer before more is asked for.
-fn hand_over<R: BufRead, W: Write>(reader: &Watched<R>, writer: &mut Watched<W>)
-    ensures kept { Keeps (W.contents writer.old.device) (W.contents writer.new.device) }
-    ensures failed { writer.new.failed ≡ writer.old.failed }
-{
-    if !reader.shows_line() {
-        writer.pass_on();
-    }
-}
 
 /// Answers the lines of a script as `check` does. `text` is room for a line: what it held is lost. After
 /// `Script` it holds the faulty line, without its line feed, unless that is too long.

@@ -5,10 +5,8 @@ ghost use Rattle.jg_script.specs.Checked.{ReaderFails};
 ghost use Rattle.jg_script.specs.ScriptFile.{Ascend, HoldsRefused, ReadsScripts};
 ghost use Rattle.jg_script.specs.Threads.{IsAt, IsGap, Adds, NotAdded, TakesLine};
 
-use crate::line::{Taken, next_line};
-use crate::piece::LineFault;
 use crate::run_fault::RunFault;
-use crate::watched::Watched;
+use jg_lines::{LineFault, Taken, Watched, next_line};
 use jg_text::{ScriptFault, read_call};
 use jg_words::{Call, EnvId, Tid};
 use std::alloc::{AllocError, Global};

@@ -1,4 +1,4 @@
-use Rattle.jg_script.proofs.Fronts.{tells_line}
+use Rattle.jg_script.proofs.Known.{tells_line}
 use Rattle.jg_script.proofs.replay.is_line_of.Goals as goal
 
 pub returns-in-Some-eq10-default : goal.returns-in-Some-eq10-default

@@ -1,5 +1,5 @@
 use Rattle.std.proofs.Common.{◌∙◌, arith, inl, refl}
-use Rattle.jg_script.proofs.TextLines.{lines_more, begun, ended}
+use Rattle.jg_lines.proofs.TextLines.{lines_more, begun, ended}
 use Rattle.jg_script.proofs.Runs.{still_checked, line_reads, answered_reads, goes_on, answered_err, answered_faulty, long_answered}
 use Rattle.jg_script.proofs.run.check_lines.Goals as goal
 

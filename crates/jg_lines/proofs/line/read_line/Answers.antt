@@ -2,8 +2,8 @@ use Rattle.std.proofs.Common.{◌≡◌, ◌<◌, ◌++◌, ◌∷◌, [], ◌==
 use Rattle.std.specs.Io.KnownBytes.{Consumes}
 use Rattle.std.proofs.KnownBytes.{Consumes-kept, Consumes-trans}
 use Rattle.std.proofs.lemmas.List.Elements.{All-append}
-use Rattle.jg_script.proofs.Fronts.{with_feed, with_byte}
-use Rattle.jg_script.proofs.line.read_line.Goals as goal
+use Rattle.jg_lines.proofs.Fronts.{with_feed, with_byte}
+use Rattle.jg_lines.proofs.line.read_line.Goals as goal
 
 pub returns-in-Ok-Feed-clause-front : goal.returns-in-Ok-Feed-clause-front
 returns-in-Ok-Feed-clause-front g c =

@@ -2,8 +2,8 @@ use Rattle.std.proofs.Common.{◌<◌, ◌≤◌, ◌+◌, length, take, subst, 
 use Rattle.std.specs.Io.KnownBytes.{Consumes}
 use Rattle.std.specs.Io.BufRead.{FillKeeps}
 use Rattle.std.proofs.BufReadLemmas.{Consumes_shown}
-use Rattle.jg_script.proofs.Pieces.{no_feed, before_feed, through_feed}
-use Rattle.jg_script.proofs.piece.take_piece.Goals as goal
+use Rattle.jg_lines.proofs.Pieces.{no_feed, before_feed, through_feed}
+use Rattle.jg_lines.proofs.piece.take_piece.Goals as goal
 
 pub returns-else-is_err-clause-taken : goal.returns-else-is_err-clause-taken
 returns-else-is_err-clause-taken g c =

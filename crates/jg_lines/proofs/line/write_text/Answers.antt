@@ -2,7 +2,7 @@ use Rattle.std.proofs.Common.{◌≡◌, ◌≤◌, ◌+◌, ◌++◌, ℕ, List
 use Rattle.std.proofs.KnownBytes.{Appends-trans}
 use Rattle.std.proofs.Math.Seq.{take-append-add}
 use Rattle.std.proofs.lemmas.List.{take-append-drop, length-take-le}
-use Rattle.jg_script.proofs.line.write_text.Goals as goal
+use Rattle.jg_lines.proofs.line.write_text.Goals as goal
 
 take_step : (text : List ℕ) (i n : ℕ) → i ≤ length text → take i text ++ take n (drop i text) ≡ take (i + n) text
 take_step text i n within =

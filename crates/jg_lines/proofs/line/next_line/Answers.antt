@@ -1,6 +1,6 @@
 use Rattle.std.proofs.Common.{◌<◌, length, rules}
-use Rattle.jg_script.proofs.TextLines.{line_taken, last_taken, too_long}
-use Rattle.jg_script.proofs.line.next_line.Goals as goal
+use Rattle.jg_lines.proofs.TextLines.{line_taken, last_taken, too_long}
+use Rattle.jg_lines.proofs.line.next_line.Goals as goal
 
 pub returns-in-Ok-Feed-clause-taken : goal.returns-in-Ok-Feed-clause-taken
 returns-in-Ok-Feed-clause-taken g c =

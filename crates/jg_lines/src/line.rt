@@ -1,8 +1,8 @@
 //! One line of a reader, and one text to a writer.
 
 ghost use Rattle.std.specs.Prelude.{◌≡◌, ℕ, ◌<◌, length, take, IfOk, IfErr, OnOk, OnErr, true};
-ghost use Rattle.std.specs.Io.KnownBytes.{Appends};
-ghost use Rattle.jg_script.specs.Devices.{TakesLine, TakesFront, IsOneLine, FailsLine, Takes, TakesBytes};
+ghost use Rattle.std.specs.Io.KnownBytes.{Appends, Keeps};
+ghost use Rattle.jg_lines.specs.Devices.{TakesLine, TakesFront, IsOneLine, FailsLine, Takes, TakesBytes};
 
 use crate::piece::{LineFault, Piece};
 use crate::watched::{DeviceFailed, Watched};
@@ -104,4 +104,15 @@ pub fn write_text<W: Write>(writer: &mut Watched<W>, text: &[u8]) -> Result<(), 
         }
     }
     Ok(())
+}
+
+/// Hands on what was answered, unless the next line is there already: whoever sends a line and waits
+/// has its answer before more is asked for.
+pub fn hand_over<R: BufRead, W: Write>(reader: &Watched<R>, writer: &mut Watched<W>)
+    ensures kept { Keeps (W.contents writer.old.device) (W.contents writer.new.device) }
+    ensures failed { writer.new.failed ≡ writer.old.failed }
+{
+    if !reader.shows_line() {
+        writer.pass_on();
+    }
 }

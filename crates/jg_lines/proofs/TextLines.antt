@@ -7,10 +7,8 @@ use Rattle.std.proofs.lemmas.List.Elements.{recursion_from_All}
 use Rattle.std.proofs.lemmas.List.Splits.{slice_split_none, slice_split_at, length-slice_split, slice_split-cons_no}
 use Rattle.std.proofs.lemmas.Bool.{ne_eqb}
 use Rattle.std.proofs.KnownBytes.{Consumes-trans}
-use Rattle.jg_text.specs.declared.fault.ScriptFault.TheVariants.{LineTooLong}
-use Rattle.jg_text.specs.Faults.{IsFirstFault}
-use Rattle.jg_script.specs.Devices.{IsOneLine, TakesFront}
-use Rattle.jg_script.specs.TextLines.{lines_of, without_empty_last, LinesTaken, BeginsTooLong, HoldsLines, BeginsWith, AreFollowedBy, ReadsOneMore}
+use Rattle.jg_lines.specs.Devices.{IsOneLine, TakesFront}
+use Rattle.jg_lines.specs.TextLines.{lines_of, without_empty_last, LinesTaken, BeginsTooLong, HoldsLines, BeginsWith, AreFollowedBy, ReadsOneMore}
 
 abbrev is_feed : ℕ → Bool
 is_feed b = b == 10
@@ -104,13 +102,6 @@ ended (Some text) (Some rest) xs e done = e ∙ ap (λ r. xs ++ lines_of r) done
 pub followed_by_more : (a : Option (List ℕ)) (xs : List (List ℕ)) (P Q : List ℕ → Type 0) → ((next : List ℕ) → P next → Q next) → AreFollowedBy a xs P → AreFollowedBy a xs Q
 followed_by_more None xs P Q f p = tt
 followed_by_more (Some text) xs P Q f (next, more, split, p) = (next, more, split, f next p)
-
--- the line that comes next is too long
-pub followed_by_long : (a b : Option (List ℕ)) (xs : List (List ℕ)) → LinesTaken a b xs → BeginsTooLong b → AreFollowedBy a xs (λ next. IsFirstFault next LineTooLong)
-followed_by_long None b xs e long = tt
-followed_by_long (Some text) None xs e long = absurd e
-followed_by_long (Some text) (Some rest) xs e (bad, more, split, long) =
-    (bad, more, e ∙ ap (λ ls. xs ++ ls) split, record { fault = long; first = λ g low. absurd (omega (arith, low)) })
 
 -- what was read is a text that was read before, and a front of one more line
 pub one_more : (input mid input' : Option (List ℕ)) (text : List ℕ) → Consumes input mid text → TakesFront mid input' → ReadsOneMore input input' text

@@ -19,7 +19,7 @@ pub struct Faulty {
 
 impl Model for Faulty {
     ghost use Rattle.std.specs.Prelude.{◌<◌, ◌≤◌, length, drop};
-    ghost use Rattle.jg_script.specs.Seen.{Passing};
+    ghost use Rattle.jg_lines.specs.Seen.{Passing};
 
     ghost Value = { Passing };
 

@@ -1,15 +1,15 @@
 -- What is taken from a reader, line by line. No public contract stands on this.
 use Rattle.std.specs.Prelude.{◌≡◌, ◌==◌, ℕ, ◌<◌, ◌≤◌, Bool, true, false, List, [], ◌∷◌, ◌++◌, length, All, Option}
 use Rattle.std.specs.Io.KnownBytes.{Consumes, Keeps, IsAtEnd}
-use Rattle.jg_script.specs.declared.piece.LineFault.{LineFault}
-use Rattle.jg_script.specs.declared.piece.LineFault.TheVariants.{Read, NoMemory}
-use Rattle.jg_script.specs.declared.piece.Piece.{Piece}
-use Rattle.jg_script.specs.declared.piece.Piece.TheVariants as piece
-use Rattle.jg_script.specs.declared.line.Taken.{Taken}
-use Rattle.jg_script.specs.declared.line.Taken.TheVariants.{Line, LastLine, Nothing, TooLong}
-use Rattle.jg_script.specs.declared.line.LineEnd.{LineEnd}
-use Rattle.jg_script.specs.declared.line.LineEnd.TheVariants.{Feed, End, Long}
-use Rattle.jg_script.specs.TextLines.{LinesTaken, BeginsTooLong, IsFrontOfLine}
+use Rattle.jg_lines.specs.declared.piece.LineFault.{LineFault}
+use Rattle.jg_lines.specs.declared.piece.LineFault.TheVariants.{Read, NoMemory}
+use Rattle.jg_lines.specs.declared.piece.Piece.{Piece}
+use Rattle.jg_lines.specs.declared.piece.Piece.TheVariants as piece
+use Rattle.jg_lines.specs.declared.line.Taken.{Taken}
+use Rattle.jg_lines.specs.declared.line.Taken.TheVariants.{Line, LastLine, Nothing, TooLong}
+use Rattle.jg_lines.specs.declared.line.LineEnd.{LineEnd}
+use Rattle.jg_lines.specs.declared.line.LineEnd.TheVariants.{Feed, End, Long}
+use Rattle.jg_lines.specs.TextLines.{LinesTaken, BeginsTooLong, IsFrontOfLine}
 
 -- no line feed is among the bytes
 abbrev pub IsOneLine : List ℕ → Type 0

@@ -3,7 +3,7 @@ use Rattle.std.proofs.Common.{◌≡◌, ◌==◌, ℕ, ◌+◌, ◌<◌, ◌≤
 use Rattle.std.proofs.lemmas.List.{take_more}
 use Rattle.std.proofs.lemmas.List.Elements.{All-from_get_or}
 use Rattle.memchr.specs.Find.{Nowhere, Passes, is_byte}
-use Rattle.jg_script.specs.Devices.{IsOneLine}
+use Rattle.jg_lines.specs.Devices.{IsOneLine}
 
 not_true : (b : Bool) → ¬ (b ≡ true) → b ≡ false
 not_true true = λ no. absurd (no refl)

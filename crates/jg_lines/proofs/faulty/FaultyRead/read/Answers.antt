@@ -1,8 +1,8 @@
 use Rattle.std.proofs.Common.{arith, ◌≡◌, ◌+◌, ◌-◌, take, drop, ap, sym, ◌∙◌}
 use Rattle.std.proofs.Math.ListN.{drop_of_length-le}
 use Rattle.std.proofs.lemmas.List.{length-drop}
-use Rattle.jg_script.proofs.Unread.{gives_front}
-use Rattle.jg_script.proofs.faulty.FaultyRead.read.Goals as goal
+use Rattle.jg_lines.proofs.Unread.{gives_front}
+use Rattle.jg_lines.proofs.faulty.FaultyRead.read.Goals as goal
 
 pub returns-clause-unread : goal.returns-clause-unread
 returns-clause-unread c =

@@ -2,7 +2,7 @@
 
 ghost use Rattle.std.specs.Prelude.{◌≡◌, true, false, length, take, ◌<◌, ◌≤◌, IfOk, IfErr, OnOk, OnErr, MatchOption, ◌∷◌, []};
 ghost use Rattle.std.specs.Io.KnownBytes.{Keeps, Consumes, Appends, IsAtEnd};
-ghost use Rattle.jg_script.specs.Devices.{TakesPiece, FailsLine};
+ghost use Rattle.jg_lines.specs.Devices.{TakesPiece, FailsLine};
 
 use crate::handing::HandsOn;
 use crate::piece::{LineFault, Piece, take_piece};
@@ -21,7 +21,7 @@ pub struct Watched<D> {
 }
 
 impl<D> Model for Watched<D> {
-    ghost use Rattle.jg_script.specs.Seen.{Seen};
+    ghost use Rattle.jg_lines.specs.Seen.{Seen};
 
     ghost Value = { Seen D };
 

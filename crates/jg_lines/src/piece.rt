@@ -2,7 +2,7 @@
 
 ghost use Rattle.std.specs.Prelude.{◌≡◌, ◌<◌, ◌≤◌, length, IfOk, OnErr};
 ghost use Rattle.std.specs.Io.KnownBytes.{Keeps};
-ghost use Rattle.jg_script.specs.Devices.{TakesPiece};
+ghost use Rattle.jg_lines.specs.Devices.{TakesPiece};
 
 use memchr::{memchr, memrchr};
 use std::io::BufRead;

@@ -1,0 +1,4 @@
+pub mod TextLines
+pub mod Fronts
+pub mod Pieces
+mod Unread
