@@ -1,5 +1,4 @@
--- What the readers and writers of a line's parts say to one another. No public contract stands on
--- these.
+-- What the readers and writers of a line's parts say to one another.
 use Rattle.std.specs.Prelude.{◌≡◌, ◌≢◌, ℕ, ℤ, List, [], ◌∷◌, ◌++◌, ◌+◌, ◌≤◌, ◌==◌, length, map, slice_index, Option, Some, None, All, FitsSigned}
 use Rattle.std.specs.List.{flat_map, slice_split}
 use Rattle.std.specs.Fmt.{signed_decimal}

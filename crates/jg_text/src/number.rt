@@ -54,7 +54,7 @@ fn long_number(text: &[u8]) -> Option<u64>
 }
 
 /// The number of at most 64 bits that the text spells.
-pub fn number(text: &[u8]) -> Option<u64>
+pub fn read_number(text: &[u8]) -> Option<u64>
     ensures some { IfSome result (λ n. text.now ≡ decimal n) }
     ensures fits { IfSome result (λ n. n < 2 ^ 64) }
     ensures none { IfNone result ((n : ℕ) → n < 2 ^ 64 → text.now ≢ decimal n) }
@@ -70,7 +70,7 @@ pub fn small_number(text: &[u8]) -> Option<u16>
     ensures some { IfSome result (λ n. text.now ≡ decimal n) }
     ensures none { IfNone result ((n : ℕ) → n < 2 ^ 16 → text.now ≢ decimal n) }
 {
-    match number(text) {
+    match read_number(text) {
         Some(n) if n < 0x1_0000 => Some(n as u16),
         _ => None,
     }
@@ -151,10 +151,10 @@ fn two_long_numbers(text: &[u8]) -> Option<(u64, u64)>
     let Some((front, back)) = cut_at(b'.', text) else {
         return None;
     };
-    let Some(a) = number(front) else {
+    let Some(a) = read_number(front) else {
         return None;
     };
-    match number(back) {
+    match read_number(back) {
         Some(b) => Some((a, b)),
         None => None,
     }
@@ -233,7 +233,7 @@ pub fn signed_number(text: &[u8]) -> Option<i64>
 {
     match behind_minus(text) {
         Some(back) => negative(back),
-        None => match number(text) {
+        None => match read_number(text) {
             Some(n) if n < 0x8000_0000_0000_0000 => Some(n as i64),
             _ => None,
         },
@@ -246,7 +246,7 @@ fn negative(text: &[u8]) -> Option<i64>
     ensures fits { IfSome result (λ z. FitsSigned w64 z) }
     ensures none { IfNone result ((z : ℤ) → FitsSigned w64 z → 45 ∷ text.now ≢ signed_decimal z) }
 {
-    match number(text) {
+    match read_number(text) {
         Some(n) if n == 0x8000_0000_0000_0000 => Some(i64::MIN),
         Some(n) if n != 0 && n < 0x8000_0000_0000_0000 => Some(-(n as i64)),
         _ => None,

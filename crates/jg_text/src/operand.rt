@@ -177,7 +177,7 @@ impl OperandText for BufId {
     }
 }
 
-/// The first field, and what stands behind the space after it.
+/// The first field of a line, and what stands behind the space after it, where there is one.
 pub fn cut(text: &[u8]) -> (&[u8], Option<&[u8]>)
     ensures { MatchOption result.1 (fields text.now ≡ result.0.now ∷ []) (λ rest. fields text.now ≡ result.0.now
         ∷ fields rest.now) }
@@ -189,7 +189,7 @@ pub fn cut(text: &[u8]) -> (&[u8], Option<&[u8]>)
 }
 
 /// The first field of what is left, and what is left behind it, where something is left.
-pub(crate) fn next_field(rest: Option<&[u8]>) -> Option<(&[u8], Option<&[u8]>)>
+pub fn next_field(rest: Option<&[u8]>) -> Option<(&[u8], Option<&[u8]>)>
     ensures { MatchOption result (rest_fields (option_copied rest.entry) ≡ [])
         (λ r. rest_fields (option_copied rest.entry) ≡ r.0.now ∷ rest_fields (option_copied r.1)) }
 {

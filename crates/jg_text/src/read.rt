@@ -19,8 +19,8 @@ use std::alloc::Global;
 /// The most bytes that a line has, without its line feed.
 pub const MAX_LINE: usize = 65_536;
 
-/// Each byte is from 0x20 to 0x7E.
-fn is_printable(line: &[u8]) -> bool
+/// Whether each byte is from 0x20 to 0x7E.
+pub fn is_printable(line: &[u8]) -> bool
     ensures { IsTrue result ↔ All (λ b. IsInRange 32 126 b) line.now }
 {
     // No way out of the loop and no number wider than a byte, so that it goes over many bytes at once.

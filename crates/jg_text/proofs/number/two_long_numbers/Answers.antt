@@ -8,11 +8,11 @@ pub returns-in_default-clause-none : goal.returns-in_default-clause-none
 returns-in_default-clause-none c = λ a b a_fits b_fits e.
     no_cut 46 c.args.text.now (decimal a) (decimal b) c.in_default.ensures.none (clean_decimal 46 a (omega arith) (omega arith)) e
 
-pub returns-in_default-number-clause-none : goal.returns-in_default-number-clause-none
-returns-in_default-number-clause-none c = λ a b a_fits b_fits e.
+pub returns-in_default-read_number-clause-none : goal.returns-in_default-read_number-clause-none
+returns-in_default-read_number-clause-none c = λ a b a_fits b_fits e.
     let cut = c.in-Some.ensures.some in
     let same = same_cut 46 c.in-Some.front.now c.in-Some.back.now (decimal a) (decimal b) cut.1 (clean_decimal 46 a (omega arith) (omega arith)) (sym cut.0 ∙ e) in
-    c.in_default-number.ensures.none a a_fits same.0
+    c.in_default-read_number.ensures.none a a_fits same.0
 
 pub returns-in-None-clause-none : goal.returns-in-None-clause-none
 returns-in-None-clause-none c = λ a b a_fits b_fits e.
