@@ -17,4 +17,4 @@ pub use firsts::{first_buffer, first_number, first_reference, native_by_name};
 pub use judge::first_broken;
 pub use kinds::{OwnKind, is_class};
 pub use promises::{calls_suit, judged_as_written};
-pub use suiting::suits;
+pub use suiting::{are_none, is_last, suits};

@@ -121,7 +121,7 @@ fn suits_one(takes: Takes, argument: Argument) -> bool
     }
 }
 
-/// Whether it may be any number of operands.
+/// Whether it may stand for any number of operands.
 pub fn is_last(takes: Takes) -> bool
     ensures { result ≡ asked.is_last takes }
 {
@@ -131,7 +131,8 @@ pub fn is_last(takes: Takes) -> bool
     }
 }
 
-fn are_none(takes: &[Takes]) -> bool
+/// Whether there may be no operand more.
+pub fn are_none(takes: &[Takes]) -> bool
     ensures { result ≡ spec.are_none takes.now }
 {
     match takes.first() {
