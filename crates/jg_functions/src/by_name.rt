@@ -67,6 +67,7 @@ fn is_named(place: u16, text: &[u8]) -> bool
 /// The place in the table of the function whose name these bytes spell, if there is one.
 pub fn place_of(text: &[u8]) -> Option<u16>
     ensures some { IfSome result (λ place. name_at place ≡ text.now) }
+    ensures one { IfSome result (λ place. (other : ℕ) → other < 243 → name_at other ≡ text.now → place ≡ other) }
     ensures none { IfNone result ((place : ℕ) → place < 243 → name_at place ≢ text.now) }
 {
     let place = place_in(&SHIFTS, &PLACES, text);
