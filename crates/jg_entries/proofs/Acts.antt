@@ -1,5 +1,5 @@
 -- What holds of each thread's acts, where one thread did some more.
-use Rattle.std.proofs.Common.{ℕ, ◌≡◌, ◌≢◌, List, [], ◌∷◌, ◌++◌, map, refl, ap, ◌∙◌}
+use Rattle.std.proofs.Common.{ℕ, ◌≡◌, List, [], ◌∷◌, ◌++◌, map, refl, ap, ◌∙◌}
 use Rattle.jg_lists.specs.Acts.{Event, by, acts_of}
 use Rattle.jg_lists.proofs.Acts.{acts_more, each_thread, acts_others}
 

@@ -1,6 +1,6 @@
 -- Open buffers without their items: the same events keep them the same.
 use Rattle.std.proofs.Common.{ℕ, ℤ, ◌≡◌, Bool, true, false, List, [], ◌∷◌, Option, Some, None, refl, ap, sym, subst, ◌∙◌, eqb-true, if◌then◌else◌}
-use Rattle.std.specs.Prelude.{◌==◌, ◌&&◌}
+use Rattle.std.specs.Prelude.{◌==◌}
 use Rattle.std.specs.Option.{option_map}
 use Rattle.std.specs.Cmp.{both_ways}
 use Rattle.jg_words.specs.declared.reference.Ref.{Ref}

@@ -1,6 +1,6 @@
 -- What calls do of their own, as facts: each could be when it is told, and the parts are alike after it.
 use Rattle.std.proofs.Common.{ℕ, ℤ, ◌≡◌, ◌+◌, Bool, true, false, List, [], ◌∷◌, ◌++◌, map, length, Option, Some, None, refl, ap, sym, subst, ◌∙◌, arith}
-use Rattle.std.specs.Prelude.{◌==◌, ◌&&◌, not, nat_lt, if◌then◌else◌, pos, replicate}
+use Rattle.std.specs.Prelude.{◌==◌, ◌&&◌, not, nat_le, nat_lt, if◌then◌else◌, pos, replicate}
 use Rattle.std.specs.List.{AllByRecursion}
 use Rattle.std.specs.Option.{is_some}
 use Rattle.std.proofs.lemmas.Bool.Decides.{nat_tests}
@@ -82,7 +82,8 @@ raise_told s p d t o xs told on_now here =
 pub meet_told : (s : StatedSetup) (p q : Parts) (m : Making) → Alike s p q → nat_lt (class_in m) (class_count s) ≡ true
     → Told s p (record q { heap = heap.Made m ∷ q.heap }) (Meet (class_in m) (length_in m) ∷ [])
 meet_told s p q m same stated =
-    one s p (record q { heap = heap.Made m ∷ q.heap }) (Meet (class_in m) (length_in m)) stated
+    let fits : nat_le (class_in m) (class_count s + 5) ≡ true = grind (arith, nat_tests, stated) in
+    one s p (record q { heap = heap.Made m ∷ q.heap }) (Meet (class_in m) (length_in m)) fits
     (heap_on s p q same _ (heap.Made m ∷ q.heap) (made_both (class_count s) p.heap q.heap m same.heap))
 
 pub warn_told : (s : StatedSetup) (p d : Parts) (xs : List Fact) (warned : Bool) (home : Option ℕ) → ((h : ℕ) → home ≡ Some h → is_home s h ≡ true) → Told s p d xs

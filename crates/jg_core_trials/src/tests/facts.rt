@@ -57,6 +57,7 @@ fn of_objects() -> [Fact; 10] {
 }
 
 /// What can't be of references, buffers, and numbers of the setup: it has 15 classes, one module and no native method.
+/// Six more numbers are those of kinds of objects whose class it doesn't state.
 fn of_numbers() -> [Fact; 9] {
     [
         Fact::Lost(Ref::Null),
@@ -68,7 +69,7 @@ fn of_numbers() -> [Fact; 9] {
         Fact::Lost(local(2)),
         Fact::Back(BufId { maker: T, n: 1 }),
         Fact::Meet {
-            class: 15,
+            class: 21,
             length: 0,
         },
         Fact::Link {
