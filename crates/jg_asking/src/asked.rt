@@ -1,9 +1,11 @@
-//! Calls, judged by the core and made by the guard.
+//! Calls, judged by the core, asked about by the table and made by the guard.
 
 use crate::prepared::{ARRAY, ENV, THREAD, local, pass};
 use jg_buffers::Family;
-use jg_core::Core;
+use jg_core::{Answer, Core};
+use jg_functions::place_of;
 use jg_guard::Guard;
+use jg_questions::{Argument, Bounds};
 use jg_words::{
     BufId, BuffersCall, Call, FieldId, MonitorsCall, ObjectsCall, Primitive, RefsCall, StringsCall,
 };
@@ -78,6 +80,48 @@ pub fn judged(core: &mut Core, kind: Kind, count: u64) -> Option<()> {
         ask(core, &release(buffer.n), count)?;
     }
     Some(())
+}
+
+/// What a real machine bounds.
+const UNBOUNDED: Bounds = Bounds {
+    capacity: i32::MAX,
+    length: i32::MAX,
+    items: i32::MAX,
+};
+
+/// Asks for the function of that name so many times, with these operands.
+fn ask_for(core: &Core, name: &str, arguments: &[Argument], count: u64) -> Option<()> {
+    let function = place_of(name.as_bytes())?;
+    for _ in 0..count {
+        let Answer::Passed(_) = core.ask(UNBOUNDED, THREAD, ENV, function, arguments) else {
+            return None;
+        };
+    }
+    Some(())
+}
+
+/// Asks by the table for calls of that kind so many times; of a critical pair for both. None is denied.
+pub fn asked(core: &mut Core, kind: Kind, count: u64) -> Option<()> {
+    let first = Argument::Reference(local(1));
+    let array = Argument::Reference(local(2));
+    let point = Argument::Reference(local(4));
+    match kind {
+        Kind::Length => ask_for(core, "GetStringLength", &[first], count),
+        Kind::Local => ask_for(core, "NewLocalRef", &[first], count),
+        Kind::Field => {
+            let field = Argument::Id { fits: true };
+            ask_for(core, "GetIntField", &[point, field], count)
+        }
+        Kind::Monitor => ask_for(core, "MonitorEnter", &[first], count),
+        Kind::Critical => {
+            ask_for(core, "GetPrimitiveArrayCritical", &[array], count)?;
+            let buffer = core
+                .lend(THREAD, Family::ArrayCritical, ARRAY, local(2), 4)
+                .ok()?;
+            let release = [array, Argument::Buffer(buffer), Argument::Number(0)];
+            ask_for(core, "ReleasePrimitiveArrayCritical", &release, count)
+        }
+    }
 }
 
 /// Makes calls of that kind so many times. None is denied.
