@@ -113,14 +113,14 @@ impl<A: Allocator + Clone> Core<A> {
                 if !suits(row.takes, arguments) {
                     return Answer::Misfit;
                 }
-                match first_broken(&view, bounds, tid, env, &row, arguments) {
+                match first_broken(&view, bounds, tid, env, row, arguments) {
                     Some(rule) => Answer::Denied {
                         rule,
                         operand: culprit(&view, bounds, tid, rule, row.takes, arguments),
                     },
                     None => Answer::Passed(Ticket {
                         tid,
-                        expected: expected_of(&view, tid, &row, arguments),
+                        expected: expected_of(&view, tid, row, arguments),
                     }),
                 }
             }

@@ -1,7 +1,7 @@
 //! The table, in the order of the JNI Specification.
 
 ghost use Rattle.std.specs.Prelude.{◌≡◌, slice_get};
-ghost use Rattle.std.specs.Option.{option_map};
+ghost use Rattle.std.specs.Option.{option_copied, option_map};
 ghost use Rattle.jg_functions.specs.Columns.{IsRowAt, columns};
 ghost use Rattle.jg_functions.specs.Table as table;
 
@@ -425,69 +425,69 @@ Own false {
 };
 
 /// The row at this place, counted from 0.
-fn row_in(rows: &[Row], place: usize) -> Option<Row>
-    ensures { IsRowAt rows.now place result }
+fn row_in(rows: &'static [Row], place: usize) -> Option<&'static Row>
+    ensures { IsRowAt rows.now place (option_copied result) }
 {
-    rows.get(place).copied()
+    rows.get(place)
 }
 
-fn first_at(place: usize) -> Option<Row>
-    ensures { option_map columns result ≡ slice_get table.first place }
+fn first_at(place: usize) -> Option<&'static Row>
+    ensures { option_map columns (option_copied result) ≡ slice_get table.first place }
 {
     row_in(&FIRST, place)
 }
 
-fn fields_at(place: usize) -> Option<Row>
-    ensures { option_map columns result ≡ slice_get table.fields place }
+fn fields_at(place: usize) -> Option<&'static Row>
+    ensures { option_map columns (option_copied result) ≡ slice_get table.fields place }
 {
     row_in(&FIELDS, place)
 }
 
-fn virtual_calls_at(place: usize) -> Option<Row>
-    ensures { option_map columns result ≡ slice_get table.virtual_calls place }
+fn virtual_calls_at(place: usize) -> Option<&'static Row>
+    ensures { option_map columns (option_copied result) ≡ slice_get table.virtual_calls place }
 {
     row_in(&VIRTUAL_CALLS, place)
 }
 
-fn nonvirtual_calls_at(place: usize) -> Option<Row>
-    ensures { option_map columns result ≡ slice_get table.nonvirtual_calls place }
+fn nonvirtual_calls_at(place: usize) -> Option<&'static Row>
+    ensures { option_map columns (option_copied result) ≡ slice_get table.nonvirtual_calls place }
 {
     row_in(&NONVIRTUAL_CALLS, place)
 }
 
-fn static_fields_at(place: usize) -> Option<Row>
-    ensures { option_map columns result ≡ slice_get table.static_fields place }
+fn static_fields_at(place: usize) -> Option<&'static Row>
+    ensures { option_map columns (option_copied result) ≡ slice_get table.static_fields place }
 {
     row_in(&STATIC_FIELDS, place)
 }
 
-fn static_calls_at(place: usize) -> Option<Row>
-    ensures { option_map columns result ≡ slice_get table.static_calls place }
+fn static_calls_at(place: usize) -> Option<&'static Row>
+    ensures { option_map columns (option_copied result) ≡ slice_get table.static_calls place }
 {
     row_in(&STATIC_CALLS, place)
 }
 
-fn strings_at(place: usize) -> Option<Row>
-    ensures { option_map columns result ≡ slice_get table.strings place }
+fn strings_at(place: usize) -> Option<&'static Row>
+    ensures { option_map columns (option_copied result) ≡ slice_get table.strings place }
 {
     row_in(&STRINGS, place)
 }
 
-fn arrays_at(place: usize) -> Option<Row>
-    ensures { option_map columns result ≡ slice_get table.arrays place }
+fn arrays_at(place: usize) -> Option<&'static Row>
+    ensures { option_map columns (option_copied result) ≡ slice_get table.arrays place }
 {
     row_in(&ARRAYS, place)
 }
 
-fn last_at(place: usize) -> Option<Row>
-    ensures { option_map columns result ≡ slice_get table.last place }
+fn last_at(place: usize) -> Option<&'static Row>
+    ensures { option_map columns (option_copied result) ≡ slice_get table.last place }
 {
     row_in(&LAST, place)
 }
 
 /// The function's row, by its place in the table, counted from 0.
-pub fn row_of(place: usize) -> Option<Row>
-    ensures { option_map columns result ≡ slice_get table.functions place }
+pub fn row_of(place: usize) -> Option<&'static Row>
+    ensures { option_map columns (option_copied result) ≡ slice_get table.functions place }
 {
     if place < 31 {
         return first_at(place);

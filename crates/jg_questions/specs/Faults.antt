@@ -10,8 +10,21 @@ use Rattle.jg_functions.specs.declared.row.Takes.{Takes}
 use Rattle.jg_questions.specs.declared.argument.Argument.{Argument}
 use Rattle.jg_questions.specs.declared.faults.Faults.{Faults}
 use Rattle.jg_questions.specs.declared.faults.Beside.{Beside}
+use Rattle.jg_questions.specs.declared.faults.Judged.{Judged}
 use Rattle.jg_questions.specs.Asked.{judged_of}
 use Rattle.jg_questions.specs.Broken.{is_wrong_kind, is_unfit, is_wrong_buffer, is_out_of_bounds}
+
+-- what a reference breaks that is judged so
+abbrev pub of_reference : StatedSetup → Parts → ℕ → Judged → Faults
+of_reference s p t judged = record {
+  foreign_local = is_foreign t judged.reference;
+  dead_reference = is_nothing (names p t judged.reference);
+  null_reference = not judged.nullable && is_null (names p t judged.reference);
+  wrong_type = is_wrong_kind s p judged.kind (names p t judged.reference);
+  bad_field = false;
+  bad_buffer = false;
+  bad_argument = false;
+}
 
 abbrev pub faults_of : StatedSetup → Parts → ℕ → Beside → Takes → Argument → Faults
 faults_of s p t beside takes x = record {

@@ -84,30 +84,6 @@ fn judged_of(takes: Takes, argument: Argument) -> Judged
     }
 }
 
-fn is_wrong_kind<A: Allocator + Clone, S: Store>(
-    view: &View<'_, A, S>,
-    kind: ObjectKind,
-    named: Named,
-) -> bool
-    ensures { (p : Parts) → ViewTells S.Tells view.now p
-        → result ≡ rules.is_wrong_kind view.now.setup.now p kind named }
-{
-    match named {
-        Named::Nothing => false,
-        Named::Null => false,
-        Named::Object(object) => !is_kind(view, kind, object),
-    }
-}
-
-fn is_unfit(argument: Argument) -> bool
-    ensures { result ≡ rules.is_unfit argument }
-{
-    match argument {
-        Argument::Id { fits } => !fits,
-        _ => false,
-    }
-}
-
 /// Whether the buffer may not be given; the reference is the one that a release names.
 fn is_refused_buffer<A: Allocator + Clone, S: Store>(
     view: &View<'_, A, S>,
@@ -123,22 +99,6 @@ fn is_refused_buffer<A: Allocator + Clone, S: Store>(
         Takes::Buffer(family) => !is_releasable(view, tid, family, via, buffer),
         Takes::Readable => !is_readable(view, tid, buffer),
         Takes::Writable => !is_writable(view, tid, buffer),
-        _ => false,
-    }
-}
-
-fn is_wrong_buffer<A: Allocator + Clone, S: Store>(
-    view: &View<'_, A, S>,
-    tid: Tid,
-    via: Ref,
-    takes: Takes,
-    argument: Argument,
-) -> bool
-    ensures { (p : Parts) → ViewTells S.Tells view.now p
-        → result ≡ rules.is_wrong_buffer p tid.0 via takes argument }
-{
-    match argument {
-        Argument::Buffer(buffer) => is_refused_buffer(view, tid, via, takes, buffer),
         _ => false,
     }
 }
@@ -243,7 +203,36 @@ pub struct Beside {
     pub info: Option<Info>,
 }
 
-/// What one operand breaks.
+/// What a reference breaks that is judged so.
+fn faults_of_reference<A: Allocator + Clone, S: Store>(
+    view: &View<'_, A, S>,
+    tid: Tid,
+    judged: Judged,
+) -> Faults
+    ensures { (p : Parts) → ViewTells S.Tells view.now p
+        → result ≡ spec.of_reference view.now.setup.now p tid.0 judged }
+{
+    let foreign_local = is_foreign_local(tid, judged.reference);
+    match look_up(view, tid, judged.reference) {
+        Named::Nothing => Faults {
+            foreign_local,
+            dead_reference: true,
+            ..Faults::NONE
+        },
+        Named::Null => Faults {
+            foreign_local,
+            null_reference: !judged.nullable,
+            ..Faults::NONE
+        },
+        Named::Object(object) => Faults {
+            foreign_local,
+            wrong_type: !is_kind(view, judged.kind, object),
+            ..Faults::NONE
+        },
+    }
+}
+
+/// What one operand breaks: a reference rules 5 to 9 alone, and every other operand one of rules 10 to 12.
 pub fn faults_of<A: Allocator + Clone, S: Store>(
     view: &View<'_, A, S>,
     tid: Tid,
@@ -254,16 +243,20 @@ pub fn faults_of<A: Allocator + Clone, S: Store>(
     ensures { (p : Parts) → ViewTells S.Tells view.now p
         → result ≡ spec.faults_of view.now.setup.now p tid.0 beside takes argument }
 {
-    let judged = judged_of(takes, argument);
-    let named = look_up(view, tid, judged.reference);
-    Faults {
-        foreign_local: is_foreign_local(tid, judged.reference),
-        dead_reference: named == Named::Nothing,
-        null_reference: !judged.nullable && named == Named::Null,
-        wrong_type: is_wrong_kind(view, judged.kind, named),
-        bad_field: is_unfit(argument),
-        bad_buffer: is_wrong_buffer(view, tid, beside.via, takes, argument),
-        bad_argument: is_out_of_bounds(view, beside.bounds, beside.info, takes, argument),
+    match argument {
+        Argument::Reference(_) => faults_of_reference(view, tid, judged_of(takes, argument)),
+        Argument::Buffer(buffer) => Faults {
+            bad_buffer: is_refused_buffer(view, tid, beside.via, takes, buffer),
+            ..Faults::NONE
+        },
+        Argument::Id { fits } => Faults {
+            bad_field: !fits,
+            ..Faults::NONE
+        },
+        _ => Faults {
+            bad_argument: is_out_of_bounds(view, beside.bounds, beside.info, takes, argument),
+            ..Faults::NONE
+        },
     }
 }
 

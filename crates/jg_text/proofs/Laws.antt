@@ -228,7 +228,7 @@ pub fields_spelling : (t : Tid) (e : Option EnvId) (c : Call) → FitsTid t → 
 unfolding spelling
 fields_spelling t e c ht he hc = fields_join (tid_text t) (env_text e ∷ name_of (fun_of c) ∷ operand_texts c) (clean_all (line_fields t e c) (seen_fields t e c ht he hc))
 
-tids_same : (t u : Tid) → FitsTid t → FitsTid u → tid_text t ≡ tid_text u → t ≡ u
+pub tids_same : (t u : Tid) → FitsTid t → FitsTid u → tid_text t ≡ tid_text u → t ≡ u
 tids_same t u h k e =
     let numbers : decimal t.0 ≡ decimal u.0 = cc in
     ap (λ (m : ℕ). let v : Tid = record { 0 = m } in v) (decimal_injective t.0 u.0 (omega (arith, h)) (omega (arith, k)) numbers)

@@ -28,7 +28,7 @@ pub use meanings::{
 pub use number::{read_number, signed_number, small_signed_number};
 pub use operand::{cut, next_field};
 pub use place::{Place, function_of, place_of};
-pub use read::{MAX_LINE, is_printable, read_call};
+pub use read::{MAX_LINE, count_fields, is_printable, read_call};
 pub use takes::{OperandKind, operands_of};
 pub use word::{push_buf, push_env, push_field, push_ref, push_tid, read_buf, read_ref};
 pub use write::{push_answer, push_entry, write_entry};

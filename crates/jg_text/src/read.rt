@@ -33,8 +33,8 @@ pub fn is_printable(line: &[u8]) -> bool
     others == 0
 }
 
-/// How many fields stand behind the function's name.
-fn count_fields(rest: Option<&[u8]>) -> usize
+/// How many fields are left, where something is left.
+pub fn count_fields(rest: Option<&[u8]>) -> usize
     ensures { result ≡ length (rest_fields (option_copied rest.entry)) }
 {
     match rest {

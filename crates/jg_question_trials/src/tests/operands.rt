@@ -61,6 +61,19 @@ const DEAD_WEAK: Argument = reference!(Weak, OTHER, 6);
 /// Its object is gone.
 const CLEARED: Argument = reference!(Weak, OTHER, 7);
 
+/// A reference of each kind, dead or alive.
+const ANY: [Argument; 9] = [
+    NULL,
+    GLOBAL,
+    WEAK,
+    CLEARED,
+    FOREIGN,
+    DEAD_LOCAL,
+    NEVER_MADE,
+    DEAD_GLOBAL,
+    DEAD_WEAK,
+];
+
 const INTS: Argument = buffer!(T, 5);
 
 const CHARS: Argument = buffer!(T, 9);
@@ -192,17 +205,7 @@ pub(super) fn also_fitting(row: &Row, take: Takes) -> &'static [Argument] {
         Takes::Nullable if matches!(row.effect, Effect::Ends(_)) => &[NULL],
         Takes::Nullable | Takes::Arguments => &[NULL, LOCAL, GLOBAL, WEAK, CLEARED],
         Takes::Reference(ObjectKind::AnyObject) => &[LOCAL, GLOBAL, WEAK],
-        Takes::Unjudged => &[
-            NULL,
-            GLOBAL,
-            WEAK,
-            CLEARED,
-            FOREIGN,
-            DEAD_LOCAL,
-            NEVER_MADE,
-            DEAD_GLOBAL,
-            DEAD_WEAK,
-        ],
+        Takes::Unjudged => &ANY,
         Takes::Number => &[
             Argument::Number(i32::MIN),
             Argument::Number(i32::MAX),
@@ -229,7 +232,7 @@ pub(super) fn also_fitting(row: &Row, take: Takes) -> &'static [Argument] {
     }
 }
 
-/// Beyond them.
+/// Values that the type doesn't have.
 pub(super) fn out_of_type(item: ItemType) -> &'static [Argument] {
     match item {
         ItemType::Of(Primitive::Boolean) => &[Argument::Value(-1), Argument::Value(2)],

@@ -1,0 +1,6 @@
+pub mod Words
+pub mod Parts
+pub mod Operands
+pub mod Events
+pub mod Faults
+pub mod Pieces

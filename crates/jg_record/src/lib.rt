@@ -1,0 +1,16 @@
+//! A line of a record: what a machine told a core, or asked it, and what the core answered.
+#![tactic(auto)]
+
+mod event;
+mod facts;
+mod fault;
+mod operands;
+mod parts;
+mod read;
+mod verb;
+mod word;
+
+pub use event::{Event, Lists};
+pub use fault::RecordFault;
+pub use parts::{Parts, cut_line};
+pub use read::read_event;

@@ -1,0 +1,522 @@
+"""A model of `jg watch`: how it answers a record (docs/FORMATS.md, "A record").
+
+The model was written from docs/RULES.md and the definitions in specs/ folders, not from the code of the crates. Hold
+it beside RULES.md: each rule is a function, in the same order. The facts follow, a function each. What was told is kept
+in dictionaries. `watch` answers a whole record. `Machine` is the core alone: `ask` answers a question, and `tell` takes
+a fact."""
+import collections
+import re
+
+from ends import End, RULES
+from record_words import Fault, OWN_KINDS, SPELT, Setup, fits, is_fact, read_fact, read_question
+
+MOST_BYTES, MOST_INT = 65_536, 2**31 - 1
+IMPOSSIBLE = 'impossible'
+# The exit statuses: all lines were answered, also where the last one is cut off; an answer is another one than the
+# core's, or a fact can't be; a line is faulty.
+ANSWERED, OTHERWISE, FAULTY = 0, 1, 2
+
+# What a reference names where it names no object.
+NOTHING, NULL = 'nothing', 'null'
+
+# Classes that each setup has, by their numbers. Arrays of floats and of doubles are kinds beyond the setup.
+OBJECT, CLASS, STRING, OBJECTS = 0, 1, 2, 3
+ARRAYS = {'boolean': 4, 'byte': 5, 'char': 6, 'short': 7, 'int': 8, 'long': 9, 'float': 'floats', 'double': 'doubles'}
+ITEMS = {array: item for item, array in ARRAYS.items()}
+# The values of a primitive type (JNI Specification, chapter 3). Long, float and double take any number of 64 bits.
+RANGES = {'boolean': (0, 1), 'byte': (-2**7, 2**7 - 1), 'char': (0, 2**16 - 1), 'short': (-2**15, 2**15 - 1),
+          'int': (-2**31, 2**31 - 1)}
+
+CRITICAL = 'critical', 'critical-string'
+OF_STRINGS = 'string', 'utf', 'critical-string'
+IS_BUFFER = 'Buffer', 'Readable', 'Writable'
+
+# ---- the rules (docs/RULES.md): whether the question q breaks the rule, after the facts that the machine m was told
+
+# An operand that rules 5 to 9 speak of: what it must name, and whether it may be null.
+Judged = collections.namedtuple('Judged', 'reference nullable wanted')
+
+
+def judged(q):
+    """The references among the operands, left to right, but for GetObjectRefType's."""
+    return [Judged(value, takes[0] in ('Nullable', 'Arguments'), takes)
+            for takes, value in q.operands if takes[0] not in SPELT and takes[0] != 'Unjudged']
+
+
+def first_reference(q):
+    return next((value for takes, value in q.operands if takes[0] not in SPELT), None)
+
+
+def wrong_thread(m, q):
+    """1: thread 0 collects, and makes no other call. An environment is its own thread's alone."""
+    return (q.row.effect[0] == 'Collects') != (q.thread == 0) or q.env is not None and q.env[0] != q.thread
+
+
+def detached(m, q):
+    """2: no environment where one is needed, or one that isn't of the caller's present session."""
+    return q.row.takes_env if q.env is None else q.env != (q.thread, m.session(q.thread))
+
+
+def in_critical(m, q):
+    """3: a critical buffer that the caller was lent is open, and the function may not be called then."""
+    return q.row.passes not in ('Critical', 'Both') and any(
+        maker == q.thread and it.family in CRITICAL for (maker, _), it in m.buffers.items())
+
+
+def pending(m, q):
+    """4: the caller has a pending exception, and the function may not be called then."""
+    return q.row.passes not in ('Pending', 'Both') and m.thread(q.thread).pending is not None
+
+
+def foreign_local(m, q):
+    """5: a local reference that another thread was handed."""
+    return any(it.reference and it.reference[0] == 'L' and it.reference[1] != q.thread for it in judged(q))
+
+
+def dead_reference(m, q):
+    """6: a reference that was never made or has ended."""
+    return any(m.names(q.thread, it.reference) == NOTHING for it in judged(q))
+
+
+def wrong_ref_kind(m, q):
+    """7: the deletion of a reference of another kind. Null may be deleted as any kind."""
+    it = first_reference(q)
+    return q.row.effect[0] == 'Ends' and it is not None and it[0] != q.row.effect[1][0]
+
+
+def null_reference(m, q):
+    """8: null, or a weak reference whose object is gone, where an object is wanted."""
+    return any(not it.nullable and m.names(q.thread, it.reference) == NULL for it in judged(q))
+
+
+def wrong_type(m, q):
+    """9: an object that isn't of the declared type."""
+    objects = [(it, m.names(q.thread, it.reference)) for it in judged(q) if not it.nullable]
+    return any(o not in (NOTHING, NULL) and not m.is_of(o, *it.wanted) for it, o in objects)
+
+
+def bad_field(m, q):
+    """10: an ID that doesn't fit, be it of a field or of a method."""
+    return any(SPELT.get(takes[0]) is fits and not value for takes, value in q.operands)
+
+
+def bad_buffer(m, q):
+    """11: a buffer that isn't open, or may not be used so."""
+    return any(takes[0] in IS_BUFFER and is_refused(m, q, takes, value) for takes, value in q.operands)
+
+
+def is_refused(m, q, takes, buffer):
+    """It isn't open, or it is critical and another thread's. Or it is released by another function than its own, or
+    with another object. Or it is a string's and would be written."""
+    it, o = m.buffers.get(buffer), m.names(q.thread, first_reference(q))
+    if it is None or it.family in CRITICAL and buffer[0] != q.thread:
+        return True
+    if takes[0] == 'Buffer':
+        return it.family != takes[1] or o not in (NOTHING, NULL, it.object)
+    return takes[0] == 'Writable' and it.family in OF_STRINGS
+
+
+def bad_argument(m, q):
+    """12: a number, a name or a list that the function doesn't take, by the bounds that were told last."""
+    buffer = next((m.buffers.get(value) for takes, value in q.operands if takes[0] in IS_BUFFER), None)
+    return any(is_wrong(m, buffer, takes, value) for takes, value in q.operands)
+
+
+def is_wrong(m, buffer, takes, value):
+    match takes[0]:
+        case 'Capacity' | 'Length':
+            return not 0 <= value <= m.bounds[takes[0]]
+        case 'Count':
+            return value > m.bounds['Count']
+        case 'Mode':
+            return value not in (0, 1, 2)
+        case 'Place':
+            return buffer is not None and not 0 <= value < buffer.length
+        case 'Item':
+            return buffer is not None and not is_value(m.item_type(buffer), value)
+        case 'Value':
+            return not is_value(takes[1], value)
+        case 'Items' | 'Utf8':
+            return not value[1]
+        case 'ClassName':
+            return value is None
+    return False
+
+
+def is_value(item, value):
+    low, high = RANGES.get(item, (value, value))
+    return low <= value <= high
+
+
+def pinned(m, q):
+    """13: the deletion of a global or weak reference through which an open critical buffer was made."""
+    return q.row.effect in (('Ends', 'Global'), ('Ends', 'Weak')) and any(
+        it.family in CRITICAL and it.via == first_reference(q) for it in m.buffers.values())
+
+
+def not_owner(m, q):
+    """14: MonitorExit by a thread that doesn't own the monitor."""
+    o = m.names(q.thread, first_reference(q))
+    return q.row.effect[0] == 'Frees' and o not in (NOTHING, NULL) and m.owner(o) != q.thread
+
+
+def bad_frame(m, q):
+    """15: a pop without a push, a return outside a native method, a detachment inside one."""
+    match q.row.effect[0]:
+        case 'Pops':
+            return m.pushed(q.thread) == 0
+        case 'Leaves':
+            return m.depth(q.thread) == 0
+        case 'Detaches':
+            return m.depth(q.thread) > 0
+    return False
+
+
+def class_named(m, q):
+    """The class that the first operand names by its number, where the setup states it."""
+    number = q.operands[0][1]
+    return number if m.setup.has_class(number) else None
+
+
+def no_native_access(m, q):
+    """16: a use of native code that the setup refuses to the class's module. A class object has its class's number."""
+    match q.row.effect[0]:
+        case 'Enters':
+            return m.setup.refuses(class_named(m, q), 'link')
+        case 'Loads':
+            return m.setup.refuses(class_named(m, q), 'load')
+        case 'Links':
+            o = m.names(q.thread, first_reference(q))
+            return o not in (NOTHING, NULL) and m.setup.refuses(o, 'register')
+    return False
+
+
+def not_linked(m, q):
+    """17: NativeEnter of a method that isn't linked."""
+    return q.row.effect[0] == 'Enters' and (class_named(m, q), q.operands[1][1]) not in m.linked
+
+
+JUDGES = [wrong_thread, detached, in_critical, pending, foreign_local, dead_reference, wrong_ref_kind, null_reference,
+          wrong_type, bad_field, bad_buffer, bad_argument, pinned, not_owner, bad_frame, no_native_access, not_linked]
+
+# ---- the machine
+
+Buffer = collections.namedtuple('Buffer', 'family object via length')
+
+
+class Thread:
+    def __init__(self):
+        # How many sessions it began, and how many references and buffers it was handed in all of them.
+        self.sessions = self.references = self.buffers = 0
+        # The session's base and then each native method that it is in; none without a session. Each is a list of
+        # frames, the oldest first. A frame has the objects of its live locals by their numbers.
+        self.activations = []
+        self.pending = None
+
+
+class Machine:
+    """A core: what the facts told so far."""
+
+    def __init__(self, setup=None):
+        self.setup = setup or Setup()
+        self.threads = {}
+        # The object of each global and weak reference that wasn't deleted; NULL where the object is gone.
+        self.globals = {}
+        # The open ones, by their threads and numbers.
+        self.buffers = {}
+        # Of each owned monitor, by its object: the owner, and how often it entered and didn't exit.
+        self.owners = {}
+        # Class and length of each object that was met and isn't gone.
+        self.objects = {}
+        self.next_object = self.setup.count
+        self.linked, self.warned = set(), set()
+        self.bounds = {'Capacity': MOST_INT, 'Length': MOST_INT, 'Count': MOST_INT}
+
+    def ask(self, fields):
+        """The answer to a question: `passed`, or the first rule that it breaks."""
+        question = read_question(fields)
+        for number, judge in enumerate(JUDGES, 1):
+            if judge(self, question):
+                return f'deny {number} {RULES[number - 1]}'
+        return 'passed'
+
+    def tell(self, fields):
+        """Takes a fact. Answers the name that it gives, or None; IMPOSSIBLE where it can't be, and nothing changes."""
+        fact = read_fact(fields)
+        return getattr(self, f'told_{fact.word}')(fact.thread, *fact.operands)
+
+    # ---- what is so now
+
+    def thread(self, t):
+        return self.threads.get(t) or Thread()
+
+    def is_attached(self, t):
+        return bool(self.thread(t).activations)
+
+    def session(self, t):
+        return self.thread(t).sessions if self.is_attached(t) else None
+
+    def depth(self, t):
+        """How many native methods it is in."""
+        return max(0, len(self.thread(t).activations) - 1)
+
+    def pushed(self, t):
+        """How many frames it pushed and didn't pop in the present native method."""
+        return len(self.thread(t).activations[-1]) - 1 if self.is_attached(t) else 0
+
+    def names(self, t, it):
+        """What the reference names for the thread: an object, NULL or NOTHING."""
+        if it is None:
+            return NULL
+        if it[0] != 'L':
+            return self.globals.get(it, NOTHING)
+        for frames in self.thread(t).activations if it[1] == t else []:
+            for frame in frames:
+                if it[2] in frame:
+                    return frame[it[2]]
+        return NOTHING
+
+    def is_here(self, o):
+        return o < self.setup.count or o in self.objects
+
+    def class_of(self, o):
+        return self.objects[o][0] if o in self.objects else CLASS
+
+    def is_of(self, o, wanted, item=None):
+        """Whether the object is of the type that the table declares (rule 9)."""
+        found = self.class_of(o)
+        match wanted:
+            case 'class':
+                return found in (CLASS, 'class', 'array-class')
+            case 'plain_class':
+                return o == OBJECT or 10 <= o < self.setup.count or found == 'class'
+            case 'instance_class':
+                return found == CLASS and not 3 <= o <= 9 or found == 'class'
+            case 'throwable':
+                return found in self.setup.throwable or found == 'throwable'
+            case 'string':
+                return found == STRING
+            case 'array':
+                return found == OBJECTS or found in ITEMS
+            case 'primitive_array':
+                return found in ITEMS
+            case 'array_of':
+                return found == ARRAYS[item]
+            case 'object_array':
+                return found == OBJECTS
+        return wanted == 'object'
+
+    def item_type(self, buffer):
+        """The type of the items of an array's buffer; a pinned one is of its object's class."""
+        if buffer.family == 'critical':
+            return ITEMS.get(self.class_of(buffer.object))
+        return buffer.family.removesuffix('s') if buffer.family not in OF_STRINGS else None
+
+    def owner(self, o):
+        return self.owners.get(o, (None, 0))[0]
+
+    def is_held(self, o):
+        """A live local, a global reference, a pending exception, a critical buffer or its monitor's owner holds it."""
+        frames = [frame for it in self.threads.values() for frames in it.activations for frame in frames]
+        return (any(o in frame.values() for frame in frames)
+                or any(it[0] == 'G' and target == o for it, target in self.globals.items())
+                or any(it.pending == o for it in self.threads.values())
+                or any(it.family in CRITICAL and it.object == o for it in self.buffers.values())
+                or o in self.owners)
+
+    # ---- the facts: each says first where it can't be
+
+    def handed(self, t, letter, o):
+        it = self.threads[t]
+        it.references += 1
+        if letter == 'L':
+            it.activations[-1][-1][it.references] = o
+        else:
+            self.globals[letter, t, it.references] = o
+        return f'{letter}{t}.{it.references}'
+
+    def kept(self, t, o):
+        return None if o is None else self.handed(t, 'L', o)
+
+    def told_begins(self, t):
+        if t == 0 or self.is_attached(t):
+            return IMPOSSIBLE
+        it = self.threads.setdefault(t, Thread())
+        it.sessions += 1
+        it.activations = [[{}]]
+        return f'E{t}.{it.sessions}'
+
+    def told_ends(self, t):
+        """Its native methods, locals, pending exception, critical buffers and monitors end with the session."""
+        if not self.is_attached(t):
+            return IMPOSSIBLE
+        self.threads[t].activations, self.threads[t].pending = [], None
+        self.buffers = {name: it for name, it in self.buffers.items() if name[0] != t or it.family not in CRITICAL}
+        self.owners = {o: it for o, it in self.owners.items() if it[0] != t}
+
+    def told_enters(self, t):
+        """What was pending is its caller's."""
+        if not self.is_attached(t):
+            return IMPOSSIBLE
+        self.threads[t].activations.append([{}])
+        self.threads[t].pending = None
+
+    def told_leaves(self, t, o):
+        """What was pending is its caller's. A local of the frame below keeps the object that it returned."""
+        if self.depth(t) == 0 or o is not None and not self.is_here(o):
+            return IMPOSSIBLE
+        self.threads[t].activations.pop()
+        self.threads[t].pending = None
+        return self.kept(t, o)
+
+    def told_pushed(self, t, room):
+        """No rule speaks of the room of a frame."""
+        if not self.is_attached(t):
+            return IMPOSSIBLE
+        self.threads[t].activations[-1].append({})
+
+    def told_popped(self, t, o):
+        if self.pushed(t) == 0 or o is not None and not self.is_here(o):
+            return IMPOSSIBLE
+        self.threads[t].activations[-1].pop()
+        return self.kept(t, o)
+
+    def told_ensured(self, t, room):
+        return None if self.is_attached(t) else IMPOSSIBLE
+
+    def told_raised(self, t, o):
+        if not self.is_attached(t) or not self.is_here(o):
+            return IMPOSSIBLE
+        self.threads[t].pending = o
+
+    def told_calmed(self, t):
+        if not self.is_attached(t):
+            return IMPOSSIBLE
+        self.threads[t].pending = None
+
+    def told_got(self, t, letter, o):
+        return self.handed(t, letter, o) if self.is_attached(t) and self.is_here(o) else IMPOSSIBLE
+
+    def told_lost(self, t, it):
+        """It wasn't deleted, but its object may be gone. Any thread may have deleted it."""
+        if it is None or self.names(it[1], it) == NOTHING:
+            return IMPOSSIBLE
+        if it[0] != 'L':
+            del self.globals[it]
+        else:
+            for frame in (frame for frames in self.threads[it[1]].activations for frame in frames):
+                frame.pop(it[2], None)
+
+    def told_lent(self, t, family, o, via, length):
+        if not self.is_attached(t) or not self.is_here(o) or family in CRITICAL and via is None:
+            return IMPOSSIBLE
+        self.threads[t].buffers += 1
+        self.buffers[t, self.threads[t].buffers] = Buffer(family, o, via, length)
+        return f'B{t}.{self.threads[t].buffers}'
+
+    def told_gave(self, t, buffer):
+        return None if self.buffers.pop(buffer, None) else IMPOSSIBLE
+
+    def told_owns(self, t, o):
+        owner, count = self.owners.get(o, (t, 0))
+        if not self.is_attached(t) or not self.is_here(o) or owner != t:
+            return IMPOSSIBLE
+        self.owners[o] = t, count + 1
+
+    def told_freed(self, t, o):
+        owner, count = self.owners.get(o, (None, 0))
+        if owner != t:
+            return IMPOSSIBLE
+        self.owners[o] = t, count - 1
+        if count == 1:
+            del self.owners[o]
+
+    def told_met(self, t, of_class, length):
+        if of_class not in OWN_KINDS and not self.setup.has_class(of_class):
+            return IMPOSSIBLE
+        self.objects[self.next_object] = of_class, length
+        self.next_object += 1
+        return f'O{self.next_object - 1}'
+
+    def told_gone(self, t, *gone):
+        """All of them or none. Weak references to them are cleared."""
+        if len(set(gone)) < len(gone) or any(o not in self.objects or self.is_held(o) for o in gone):
+            return IMPOSSIBLE
+        self.objects = {o: it for o, it in self.objects.items() if o not in gone}
+        self.globals = {it: NULL if o in gone else o for it, o in self.globals.items()}
+
+    def told_linked(self, t, number, native):
+        if not self.setup.has_native(number, native):
+            return IMPOSSIBLE
+        self.linked.add((number, native))
+
+    def told_unlinked(self, t, number):
+        if not self.setup.has_class(number):
+            return IMPOSSIBLE
+        self.linked = {it for it in self.linked if it[0] != number}
+
+    def told_warned(self, t, module):
+        """No rule speaks of warnings."""
+        if module >= len(self.setup.modules):
+            return IMPOSSIBLE
+        self.warned.add(module)
+
+    def told_local(self, t, number, o):
+        found = self.names(t, ('L', t, number))
+        return None if self.is_attached(t) and found == (NOTHING if o is None else o) else IMPOSSIBLE
+
+    def told_pending(self, t, o):
+        return None if self.is_attached(t) and self.thread(t).pending == o else IMPOSSIBLE
+
+    def told_length(self, t, o, length):
+        return None if o in self.objects and self.objects[o][1] == length else IMPOSSIBLE
+
+    def told_bounds(self, t, capacity, length, items):
+        self.bounds = {'Capacity': capacity, 'Length': length, 'Count': items}
+
+
+# ---- a record
+
+# An event ends at the first ` = ` or ` @ `. An answer ends at the first ` @ ` behind it.
+LINE = re.compile(rb'(?P<event>.*?)(?: = (?P<answer>.*?))?(?: @ (?P<note>.*))?', re.S)
+
+
+def answered(machine, line):
+    """What is written for the line, the answer that stands in it, and the core's answer."""
+    if len(line) > MOST_BYTES:
+        raise Fault('LineTooLong')
+    if line.startswith(b'#'):
+        return line, None, None
+    event, told, note = LINE.fullmatch(line).group('event', 'answer', 'note')
+    if not all(0x20 <= byte <= 0x7E for byte in event + (told or b'')):
+        raise Fault('NotAscii')
+    fields = event.decode().split(' ')
+    answer = machine.tell(fields) if is_fact(fields) else machine.ask(fields)
+    answer = None if answer is None else answer.encode()
+    parts = (b'', event), (b' = ', answer), (b' @ ', note)
+    return b''.join(before + part for before, part in parts if part is not None), told, answer
+
+
+def watch(text, setup=None):
+    """How `jg watch` ends: its exit status, what it writes on standard output, and what on standard error.
+
+    It ends at the first line that is faulty, tells what can't be, or has another answer. That line isn't written."""
+    machine, out = Machine(setup), []
+    *lines, rest = text.split(b'\n')
+
+    def ended(status, said=b''):
+        return End(status, b''.join(out), said)
+
+    for number, line in enumerate(lines, 1):
+        try:
+            written, told, answer = answered(machine, line)
+        except Fault as fault:
+            return ended(FAULTY, f'line {number}: {fault}\n'.encode())
+        if answer == IMPOSSIBLE.encode():
+            return ended(OTHERWISE, b'impossible at line %d: %s\n' % (number, LINE.fullmatch(line)['event']))
+        if told not in (None, answer):
+            return ended(OTHERWISE, b'differs at line %d\n' % number)
+        out.append(written + b'\n')
+    if len(rest) > MOST_BYTES:
+        return ended(FAULTY, b'line %d: LineTooLong\n' % (len(lines) + 1))
+    return ended(ANSWERED, b'line %d: cut off\n' % (len(lines) + 1) if rest else b'')
