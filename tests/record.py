@@ -2,19 +2,22 @@
 
 The model was written from docs/RULES.md and the definitions in specs/ folders, not from the code of the crates. Hold
 it beside RULES.md: each rule is a function, in the same order. The facts follow, a function each. What was told is kept
-in dictionaries. `watch` answers a whole record. `Machine` is the core alone: `ask` answers a question, and `tell` takes
-a fact."""
+in dictionaries. `Machine` is the core alone: `ask` answers a question, and `tell` takes a fact. `Watch` answers a
+record line by line, and `watch` a whole one.
+
+As a program, `python3 tests/record.py watch` with the options of `jg watch` behaves as that does, so that tests/records
+can be tried without `jg`. It reads arguments and setups that have no fault alone."""
 import collections
-import re
+import sys
 
 from ends import End, RULES
-from record_words import Fault, OWN_KINDS, SPELT, Setup, fits, is_fact, read_fact, read_question
+from record_words import Fault, SPELT, Setup, fits, is_fact, read_fact, read_question
 
 MOST_BYTES, MOST_INT = 65_536, 2**31 - 1
 IMPOSSIBLE = 'impossible'
 # The exit statuses: all lines were answered, also where the last one is cut off; an answer is another one than the
-# core's, or a fact can't be; a line is faulty.
-ANSWERED, OTHERWISE, FAULTY = 0, 1, 2
+# core's, or a fact can't be; a line is faulty; a question was denied, where `--strict` asks for that.
+ANSWERED, OTHERWISE, FAULTY, DENIED = 0, 1, 2, 5
 
 # What a reference names where it names no object.
 NOTHING, NULL = 'nothing', 'null'
@@ -139,7 +142,7 @@ def is_wrong(m, buffer, takes, value):
         case 'Items' | 'Utf8':
             return not value[1]
         case 'ClassName':
-            return value is None
+            return not m.setup.has_class(value)
     return False
 
 
@@ -242,7 +245,7 @@ class Machine:
 
     def tell(self, fields):
         """Takes a fact. Answers the name that it gives, or None; IMPOSSIBLE where it can't be, and nothing changes."""
-        fact = read_fact(fields)
+        fact = read_fact(fields, self.setup)
         return getattr(self, f'told_{fact.word}')(fact.thread, *fact.operands)
 
     # ---- what is so now
@@ -432,8 +435,6 @@ class Machine:
             del self.owners[o]
 
     def told_met(self, t, of_class, length):
-        if of_class not in OWN_KINDS and not self.setup.has_class(of_class):
-            return IMPOSSIBLE
         self.objects[self.next_object] = of_class, length
         self.next_object += 1
         return f'O{self.next_object - 1}'
@@ -442,8 +443,10 @@ class Machine:
         """All of them or none. Weak references to them are cleared."""
         if len(set(gone)) < len(gone) or any(o not in self.objects or self.is_held(o) for o in gone):
             return IMPOSSIBLE
-        self.objects = {o: it for o, it in self.objects.items() if o not in gone}
-        self.globals = {it: NULL if o in gone else o for it, o in self.globals.items()}
+        for o in gone:
+            del self.objects[o]
+        for it in [it for it, o in self.globals.items() if o in gone]:
+            self.globals[it] = NULL
 
     def told_linked(self, t, number, native):
         if not self.setup.has_native(number, native):
@@ -475,48 +478,145 @@ class Machine:
         self.bounds = {'Capacity': capacity, 'Length': length, 'Count': items}
 
 
+    # ---- what is left
+
+    def references(self):
+        """All that didn't end, by their makers and then by their numbers. A cleared weak one is among them."""
+        frames = ((t, frame) for t, it in self.threads.items() for frames in it.activations for frame in frames)
+        return sorted([*self.globals, *(('L', t, n) for t, frame in frames for n in frame)], key=lambda it: it[1:])
+
+    def leaks(self):
+        """Yields the lines of `--leaks`."""
+        yield from (f'leak {letter}{t}.{n}' for letter, t, n in self.references())
+        yield from (f'leak B{t}.{n}' for t, n in sorted(self.buffers))
+        yield from (f'leak M{o} T{t} {count}' for o, (t, count) in sorted(self.owners.items()))
+
+    def sizes(self):
+        """How many references, objects that are no class objects, and buffers there are."""
+        return len(self.references()), len(self.objects), len(self.buffers)
+
+
 # ---- a record
 
-# An event ends at the first ` = ` or ` @ `. An answer ends at the first ` @ ` behind it.
-LINE = re.compile(rb'(?P<event>.*?)(?: = (?P<answer>.*?))?(?: @ (?P<note>.*))?', re.S)
+
+def cut(line):
+    """The event of a line, its answer and its note; None for what is missing. The note is cut off first, so that no
+    answer reaches into it."""
+    before, at, note = line.partition(b' @ ')
+    event, equals, told = before.partition(b' = ')
+    return event, told if equals else None, note if at else None
 
 
-def answered(machine, line):
-    """What is written for the line, the answer that stands in it, and the core's answer."""
-    if len(line) > MOST_BYTES:
-        raise Fault('LineTooLong')
-    if line.startswith(b'#'):
-        return line, None, None
-    event, told, note = LINE.fullmatch(line).group('event', 'answer', 'note')
-    if not all(0x20 <= byte <= 0x7E for byte in event + (told or b'')):
-        raise Fault('NotAscii')
-    fields = event.decode().split(' ')
-    answer = machine.tell(fields) if is_fact(fields) else machine.ask(fields)
-    answer = None if answer is None else answer.encode()
-    parts = (b'', event), (b' = ', answer), (b' @ ', note)
-    return b''.join(before + part for before, part in parts if part is not None), told, answer
+def is_denial(answer):
+    return answer is not None and answer.startswith(b'deny ')
 
 
-def watch(text, setup=None):
-    """How `jg watch` ends: its exit status, what it writes on standard output, and what on standard error.
+class Watch:
+    """A run of `jg watch`. `status` is None as long as it goes on."""
 
-    It ends at the first line that is faulty, tells what can't be, or has another answer. That line isn't written."""
-    machine, out = Machine(setup), []
-    *lines, rest = text.split(b'\n')
+    def __init__(self, setup=None, options=()):
+        self.machine, self.options = Machine(setup), options
+        self.lines, self.status, self.fault = 0, None, ''
+        # How often a question was answered by what, and the most that there was of each size after a line.
+        self.answers, self.most = collections.Counter(), (0, 0, 0)
 
-    def ended(status, said=b''):
-        return End(status, b''.join(out), said)
-
-    for number, line in enumerate(lines, 1):
+    def take(self, line):
+        """What is written on standard output of the next line, which has a line feed."""
+        self.lines += 1
         try:
-            written, told, answer = answered(machine, line)
+            return self.written(line)
         except Fault as fault:
-            return ended(FAULTY, f'line {number}: {fault}\n'.encode())
+            self.status, self.fault = FAULTY, f'line {self.lines}: {fault}\n'
+            return b''
+
+    def written(self, line):
+        if len(line) > MOST_BYTES:
+            raise Fault('LineTooLong')
+        if line.startswith(b'#'):
+            return b'' if '--denials' in self.options else line + b'\n'
+        event, told, note = cut(line)
+        answer = self.answered(event)
         if answer == IMPOSSIBLE.encode():
-            return ended(OTHERWISE, b'impossible at line %d: %s\n' % (number, LINE.fullmatch(line)['event']))
+            self.status = OTHERWISE
+            return b'impossible at line %d: %s\n' % (self.lines, event)
         if told not in (None, answer):
-            return ended(OTHERWISE, b'differs at line %d\n' % number)
-        out.append(written + b'\n')
-    if len(rest) > MOST_BYTES:
-        return ended(FAULTY, b'line %d: LineTooLong\n' % (len(lines) + 1))
-    return ended(ANSWERED, b'line %d: cut off\n' % (len(lines) + 1) if rest else b'')
+            self.status = OTHERWISE
+            return b'differs at line %d\n' % self.lines
+        self.count(answer)
+        if '--denials' in self.options and not is_denial(answer):
+            return b''
+        parts = (b'', event), (b' = ', answer), (b' @ ', note)
+        return b''.join(before + part for before, part in parts if part is not None) + b'\n'
+
+    def answered(self, event):
+        """The core's answer, or None. The bytes of the event are judged before all else of it."""
+        if not all(0x20 <= byte <= 0x7E for byte in event):
+            raise Fault('NotAscii')
+        fields = event.decode().split(' ')
+        answer = self.machine.tell(fields) if is_fact(fields) else self.machine.ask(fields)
+        return answer and answer.encode()
+
+    def count(self, answer):
+        """Counts what was answered. A line at which the run ends is none of it."""
+        if answer == b'passed' or is_denial(answer):
+            self.answers[answer.decode()] += 1
+        if '--summary' in self.options:
+            self.most = tuple(map(max, self.most, self.machine.sizes()))
+
+    def end(self, rest=b''):
+        """The status and what is said, where nothing follows but this rest, which has no line feed. A rest that is too
+        long is known to be so before its end."""
+        status, said = self.status, self.fault
+        if status is None:
+            is_long = len(rest) > MOST_BYTES
+            status = FAULTY if is_long else DENIED if '--strict' in self.options and self.denied() else ANSWERED
+            said = f'line {self.lines + 1}: {"LineTooLong" if is_long else "cut off"}\n' if rest else ''
+        if '--leaks' in self.options and status in (ANSWERED, DENIED):
+            said += ''.join(f'{line}\n' for line in self.machine.leaks())
+        if '--summary' in self.options:
+            said += ''.join(f'{line}\n' for line in self.summary())
+        return status, said.encode()
+
+    def denied(self):
+        return self.answers.total() - self.answers['passed']
+
+    def summary(self):
+        """Yields the lines of `--summary`. Those of calls are of questions; what there was is looked at after each
+        line."""
+        yield f'calls {self.answers.total()}, passed {self.answers["passed"]}, denied {self.denied()}'
+        denials = (f'deny {number} {name}' for number, name in enumerate(RULES, 1))
+        yield from (f'{it} {self.answers[it]}' for it in denials if self.answers[it])
+        yield 'most at once: references {}, objects {}, buffers {}'.format(*self.most)
+
+
+def watch(text, setup=None, options=()):
+    """How `jg watch` ends: its exit status, what it writes on standard output, and what on standard error."""
+    run, out = Watch(setup, options), []
+    *lines, rest = text.split(b'\n')
+    for line in lines:
+        out.append(run.take(line))
+        if run.status is not None:
+            break
+    status, said = run.end(rest)
+    return End(status, b''.join(out), said)
+
+
+def main(words):
+    """Watches the record on standard input."""
+    setup = words[words.index('--setup') + 1] if '--setup' in words else None
+    run, rest = Watch(Setup(setup), words), b''
+    for line in sys.stdin.buffer:
+        if not line.endswith(b'\n'):
+            rest = line
+            break
+        sys.stdout.buffer.write(run.take(line[:-1]))
+        if run.status is not None:
+            break
+    sys.stdout.buffer.flush()
+    status, said = run.end(rest)
+    sys.stderr.buffer.write(said)
+    return status
+
+
+if __name__ == '__main__':
+    sys.exit(main(sys.argv[1:]))

@@ -1,15 +1,18 @@
-"""Records by hand, under examples/setup.toml: each is answered up to its last line, and with what is then said.
+"""Records by hand, under examples/setup.toml, and how each ends, as docs/FORMATS.md says it ("A record").
 
-In each the last line is faulty, says what can't be, has another answer than the core's, or is cut off; or nothing is
-said. There are 18 classes: 15 and 16 with a native method each, 17 throwable. The first object that is met is O18."""
+In each a line is faulty, says what can't be, or has another answer than the core's, or the last one is cut off; or all
+is answered. There are 18 classes: 15 and 16 with a native method each, 17 throwable. The first object that is met is
+O18."""
+import collections
 
 MOST = 65_536
 # Faulty lines of each fault. No core was told anything before them.
 FAULTY = {
     'LineTooLong': [b'#' * (MOST + 1), b'T1 begins @ ' + b'x' * MOST, b'\xff' * (MOST + 1), b'x' * (MOST + 1)],
     'NotAscii': [
-        b'\t', b'T1 begins\r', b'T1\tbegins', b'T1 begins = E1.1\x7f', b'T1 begins = \x00 @ note', b'\xc3\xa9',
-        b'\x80 # x', b'T1 - FindClass caf\xc3\xa9', b'T1 begins\x00 @ note'],
+        b'\t', b'T1 begins\r', b'T1\tbegins', b'T1 begins\x7f = E1.1', b'T1 begins\x7f', b'\xc3\xa9', b'T\x1f begins',
+        b'\x80 # x', b'T1 - FindClass caf\xc3\xa9', b'T1 begins\x00 @ note', b'T1 begins\r = E1.1', b'\x00\x00',
+        b'T1 begins =\t@ note'],
     'NoThread': [
         b'', b' ', b' T1 begins', b'T', b't1 begins', b'T01 begins', b'T65536 begins', b'T-1 begins', b'T+1 begins',
         b'T1. begins', b'begins', b'E1.1', b' @ note', b' = E1.1', b' # no comment', b'TT1 begins', b'T1=E1.1',
@@ -25,7 +28,9 @@ FAULTY = {
         b'T1 - GetEnv 1', b'T1 - GetEnv ', b'T1 E1.1 NewLocalRef', b'T1 E1.1 NewLocalRef null null',
         b'T1 E1.1 CallVoidMethodA L1.1', b'T1 E1.1 CallVoidMethodA', b'T1 E1.1 CallNonvirtualIntMethodV null null',
         b'T1 E1.1 NewStringUTF', b'T1 E1.1 NewStringUTF 1 ', b'T1 E1.1 SetIntField L1.1 id', b'T1 begins 1',
-        b'T1 begins ', b'T1 begins =', b'T1 enters null', b'T1 leaves',
+        b'T1 begins ', b'T1 begins =', b'T1 begins @', b'T1 begins = @ note', b'T1 begins = @ x = E1.1',
+        b'T1 - FindClass = = deny 2 Detached', b'T1 - FindClass @ @ note', b'T1 - GetMethodID null = ()V',
+        b'T1 enters null', b'T1 leaves',
         b'T1 pushed', b'T1 popped null null', b'T1 got local', b'T1 got O18', b'T1 lost', b'T1 lent ints O18 null',
         b'T1 met 8', b'T0 met object', b'T0 gone', b'T0 gone @ none', b'T1 linked 15', b'T1 local 1', b'T1 pending',
         b'T1 length O18', b'T1 bounds 1 2', b'T1 bounds 1 2 3 4', b'T1 ends null', b'T1 calmed O18', b'T1 raised'],
@@ -45,7 +50,8 @@ FAULTY = {
         b'T1 E1.1 ReleaseIntArrayElements L1.1 null 0', b'T1 - BufferRead B1.1 2147483648', b'T1 - BufferRead b1.1 0',
         b'T1 E1.1 NewString [72,105]', b'T1 E1.1 NewString !', b'T1 E1.1 NewString 12!!', b'T1 E1.1 NewString -1',
         b'T1 E1.1 NewString 012', b'T1 E1.1 NewString 18446744073709551616', b'T1 E1.1 NewStringUTF ',
-        b'T1 E1.1 FindClass ' + b'x' * 256, b'T1 E1.1 FindClass ', b'T1 E1.1 NativeEnter app/Main 1',
+        b'T1 E1.1 FindClass ' + b'x' * 256, b'T1 E1.1 FindClass ', b'T1 - FindClass =', b'T1 - FindClass @',
+        b'T1 - ThrowNew null =', b'T1 - ThrowNew null @', b'T1 - LoadLibrary 15 =', b'T1 E1.1 NativeEnter app/Main 1',
         b'T1 E1.1 NativeEnter 15 run', b'T1 E1.1 NativeEnter 4294967296 1', b'T1 E1.1 NativeEnter -1 1',
         b'T1 E1.1 NativeEnter 15 4294967296', b'T1 E1.1 LoadLibrary null tool',
         b'T1 leaves L1.1', b'T1 leaves O', b'T1 leaves 18', b'T1 leaves O018', b'T1 leaves O18446744073709551616',
@@ -55,7 +61,9 @@ FAULTY = {
         b'T1 lent ints null null 1', b'T1 lent ints O18 - 1', b'T1 lent ints O18 null -1',
         b'T1 lent ints O18 null 4294967296', b'T1 gave L1.1', b'T1 gave null', b'T1 owns null', b'T1 freed L1.1',
         b'T1 met ints 1', b'T1 met O8 1', b'T1 met null 1', b'T1 met 4294967296 1', b'T1 met 8 4294967296',
-        b'T1 met -1 1', b'T1 met string 1', b'T0 gone null', b'T0 gone O18 ', b'T0 gone [O18]', b'T0 gone O18,O19',
+        b'T1 met -1 1', b'T1 met string 1', b'T0 met 18 1', b'T0 met 24 1', b'T0 met 4294967295 1', b'T0 met 015 1',
+        b'T0 met - 1', b'T0 met Object 1', b'T0 met java/lang/String 1', b'T0 gone null',
+        b'T0 gone O18 ', b'T0 gone [O18]', b'T0 gone O18,O19',
         b'T1 linked app/Main 1', b'T1 linked 15 -', b'T1 linked 15 4294967296', b'T1 unlinked -', b'T1 warned app',
         b'T1 local L1.1 O18', b'T1 local -1 null', b'T1 local 18446744073709551616 null', b'T1 local 1 L1.1',
         b'T1 pending 0', b'T1 length null 1', b'T1 length O18 4294967296', b'T1 bounds 2147483648 0 0',
@@ -95,7 +103,6 @@ IMPOSSIBLE = [
     (b'', b'T1 freed O0'), (BEGUN, b'T1 freed O0'), (BEGUN + b'T2 begins\nT2 owns O0\n', b'T1 freed O0'),
     (BEGUN + b'T1 owns O0\nT1 owns O0\nT1 freed O0\nT1 freed O0\n', b'T1 freed O0'),
     (BEGUN + b'T1 owns O0\nT1 ends\nT1 begins\n', b'T1 freed O0'),
-    (b'', b'T0 met 4294967295 1'), (b'', b'T0 met 24 1'), (b'', b'T0 met 18 1'),
     (b'', b'T0 gone O0'), (b'', b'T0 gone O17'), (b'', b'T0 gone O18'), (GONE, b'T0 gone O18'), (GOT, b'T0 gone O18'),
     (MET, b'T0 gone O18 O18'), (GOT + b'T0 met 2 1\n', b'T0 gone O19 O18'), (MET, b'T0 gone O18 O19'),
     (GOT + b'T1 enters\n', b'T0 gone O18'), (MET + b'T1 got global O18\nT1 ends\n', b'T0 gone O18'),
@@ -114,7 +121,9 @@ IMPOSSIBLE = [
 # Other answers than the core's.
 DIFFERENT = [
     (b'', b'T1 begins = E1.2'), (b'', b'T1 begins = passed'), (b'', b'T1 begins = '), (b'', b'T1 begins = E1.1 '),
-    (b'', b'T1 begins =  E1.1'), (b'', b'T1 begins = E1.1 = E1.1'), (b'', b'T1 begins = @ note'),
+    (b'', b'T1 begins =  E1.1'), (b'', b'T1 begins = E1.1 = E1.1'), (b'', b'T1 begins =  @ note'),
+    (b'', b'T1 begins = E1.1\x7f'), (b'', b'T1 begins = \x00 @ note'), (b'', b'T1 begins = \xc3\xa9 @ \xff'),
+    (b'', b'T1 begins = E1.1\r'), (b'', b'T1 begins = # E1.1'), (b'', b'T1 begins = E1.1 @'),
     (BEGUN, b'T1 enters = '), (BEGUN, b'T1 enters = ok'), (BEGUN, b'T1 enters = E1.1'),
     (BEGUN, b'T1 - GetEnv = ok'), (BEGUN, b'T1 - GetEnv = Passed'), (BEGUN, b'T1 - GetEnv =  @ note'),
     (BEGUN, b'T1 - ExceptionCheck = passed'), (BEGUN, b'T1 - ExceptionCheck = deny 2'),
@@ -128,6 +137,7 @@ ANSWERED = [
     b'', b'#\n', b'#' * MOST + b'\n', b'T1 begins @ ' + b'x' * (MOST - 12) + b'\n', b'T1 begins = E1.1 @ \n',
     b'T1 begins @ a = b @ c\n', b'# \xff\x00\r\t = @ \n', b'T1 begins = E1.1 @ \xff\x00 @ = \n', b'T65535 begins\n',
     b'T1 - FindClass null\nT1 - FindClass -\nT1 - FindClass == = deny 2 Detached\nT1 - FindClass @! @ note\n',
+    b'T1 - FindClass ?\nT1 - FindClass # = deny 2 Detached\nT1 - FindClass @@ = deny 2 Detached @  @ \n',
     b'T1 E1.18446744073709551615 NewLocalRef L65535.18446744073709551615\n',
     b'T1 begins\nT1 lent ints O0 null 4294967295\nT1 - BufferRead B1.1 2147483647\n',
     b'T0 met 8 4294967295\nT0 length O18 4294967295\nT0 met doubles 0\nT9 gone O19 O18\n',
@@ -428,6 +438,11 @@ T1 E1.1 GetIntArrayRegion L1.1 0 0 = deny 12 BadArgument
 T1 E1.1 GetIntArrayRegion L1.1 0 -1 = passed
 T1 E1.1 NativeEnter - 1 = deny 12 BadArgument
 T1 E1.1 LoadLibrary - x = deny 12 BadArgument
+T1 E1.1 LoadLibrary 17 x = passed
+T1 E1.1 LoadLibrary 18 x = deny 12 BadArgument
+T1 E1.1 LoadLibrary 4294967295 ? = deny 12 BadArgument
+T1 E1.1 NativeEnter 18 1 = deny 12 BadArgument
+T1 E1.1 NativeEnter 4294967295 - = deny 12 BadArgument
 """,
     # 14 to 17.
     b"""T1 begins = E1.1
@@ -463,7 +478,7 @@ T1 E1.1 LoadLibrary 15 x = passed
 T1 E1.1 LoadLibrary 16 x = deny 16 NoNativeAccess
 T1 E1.1 LoadLibrary 17 x = passed
 T1 E1.1 LoadLibrary 0 x = passed
-T1 E1.1 LoadLibrary 18 x = passed
+T1 E1.1 LoadLibrary 18 x = deny 12 BadArgument
 T1 E1.1 RegisterNatives L1.1 1 = passed
 T1 E1.1 RegisterNatives L1.1 - = passed
 T1 E1.1 RegisterNatives L1.2 1 = deny 16 NoNativeAccess
@@ -476,7 +491,7 @@ T1 E1.1 NativeEnter 15 1 = passed
 T1 E1.1 NativeEnter 15 2 = deny 17 NotLinked
 T1 E1.1 NativeEnter 15 - = deny 17 NotLinked
 T1 E1.1 NativeEnter 17 1 = deny 17 NotLinked
-T1 E1.1 NativeEnter 18 1 = deny 17 NotLinked
+T1 E1.1 NativeEnter 18 1 = deny 12 BadArgument
 T0 unlinked 16
 T1 E1.1 NativeEnter 15 1 = passed
 T0 unlinked 15
@@ -533,25 +548,107 @@ T2 lent ints O17 null 0 = B2.4
 ]
 # The last line is cut off.
 CUT = [b'T', b'#', b'\xff', b' ', b'T1 begins', b'T1 begins\nT1 ends', b'T1 begins\n\r', b'x' * MOST]
-# It is so even where there is no more of it than what is too long.
+# It is too long, which is known before a line feed could come.
 CUT_AND_LONG = [b'#' * (MOST + 1), b'T1 begins @ ' + b'x' * 2 * MOST]
+
+# What is left at its end: of thread 2 no buffer, since a critical one ends with its session.
+LEFT = b"""T2 begins = E2.1
+T1 begins = E1.1
+T0 met 8 4 = O18
+T0 met 2 1 = O19
+T1 got local O18 = L1.1
+T2 got global O18 = G2.1
+T1 got weak O19 = W1.2
+T0 gone O19
+T1 lent ints O18 null 4 = B1.1
+T2 lent critical O18 G2.1 4 = B2.1
+T10 begins = E10.1
+T10 got local O0 = L10.1
+T10 owns O9
+T1 owns O18
+T1 owns O18
+# a comment
+T1 E1.1 GetArrayLength L1.1 = passed @ one
+T1 E1.1 GetArrayLength W1.2 = deny 8 NullReference @ two
+T2 E2.1 GetArrayLength G2.1 = deny 3 InCritical
+T1 E1.1 GetObjectClass L1.3 = deny 6 DeadReference @\x20
+T1 E1.1 GetObjectClass L1.3 = deny 6 DeadReference
+T2 ends
+"""
+DENIALS = b"""T1 E1.1 GetArrayLength W1.2 = deny 8 NullReference @ two
+T2 E2.1 GetArrayLength G2.1 = deny 3 InCritical
+T1 E1.1 GetObjectClass L1.3 = deny 6 DeadReference @\x20
+T1 E1.1 GetObjectClass L1.3 = deny 6 DeadReference
+"""
+LEAKS = b"""leak L1.1
+leak W1.2
+leak G2.1
+leak L10.1
+leak B1.1
+leak M9 T10 1
+leak M18 T1 2
+"""
+# What is left at the end of tests/record.txt.
+LEFT_BY_HAND = b"""leak W1.31
+leak G1.32
+leak L2.3
+leak B1.7
+leak M36 T2 2
+"""
+SUMMARY = b"""calls 5, passed 1, denied 4
+deny 3 InCritical 1
+deny 6 DeadReference 2
+deny 8 NullReference 1
+most at once: references 4, objects 2, buffers 2
+"""
+NO_CALLS = b"""calls 0, passed 0, denied 0
+most at once: references 0, objects 0, buffers 0
+"""
+ALL = '--denials', '--leaks', '--strict', '--summary'
+
+# `out` is what the output ends with, and `said` all of standard error.
+Case = collections.namedtuple('Case', 'text options status out said')
+# Options change what is written or said, and --strict the status. A line at which the run ends isn't counted.
+WITH_OPTIONS = [
+    Case(LEFT, (), 0, LEFT, b''),
+    Case(LEFT, ('--denials',), 0, DENIALS, b''),
+    Case(LEFT, ('--leaks',), 0, LEFT, LEAKS),
+    Case(LEFT, ('--strict',), 5, LEFT, b''),
+    Case(LEFT, ('--summary',), 0, LEFT, SUMMARY),
+    Case(LEFT, ALL, 5, DENIALS, LEAKS + SUMMARY),
+    Case(LEFT + b'T1', ALL, 5, DENIALS, b'line 23: cut off\n' + LEAKS + SUMMARY),
+    Case(LEFT + b'T1 - GetEnv\r\n', ALL, 2, DENIALS, b'line 23: NotAscii\n' + SUMMARY),
+    Case(LEFT + b'T1 E1.1 GetVersion = deny 6 DeadReference\nT1\n', ALL, 1, DENIALS + b'differs at line 23\n', SUMMARY),
+    Case(LEFT + b'T0 met 2 1 = O21\n', ALL, 1, DENIALS + b'differs at line 23\n', SUMMARY),
+    Case(LEFT + b'T2 ends = x @ y\n', ALL, 1, DENIALS + b'impossible at line 23: T2 ends\n', SUMMARY),
+    Case(b'', ('--denials',), 0, b'', b''), Case(b'', ALL, 0, b'', NO_CALLS),
+    Case(b'#', ALL, 0, b'', b'line 1: cut off\n' + NO_CALLS),
+    Case(b'#\n# x\nT1 begins\n', ('--denials', '--strict'), 0, b'', b''),
+    Case(b'T1 - GetEnv\nT1 begins\n', ('--denials', '--strict'), 0, b'', b''),
+    Case(b'T1 - ExceptionCheck\n', ('--strict',), 5, b'T1 - ExceptionCheck = deny 2 Detached\n', b''),
+    Case(b'T1 - ExceptionCheck = passed\n', ('--strict',), 1, b'differs at line 1\n', b''),
+    Case(b'\n', ('--leaks', '--strict'), 2, b'', b'line 1: NoThread\n'),
+]
+
+
+def ended_otherwise(before, line, said):
+    """The case of a line at which the run ends, behind what was told before and in front of another line."""
+    number = before.count(b'\n') + 1
+    return Case(before + line + b'\nT1 begins\n', (), 1, b'%s at line %d%s\n' % (said[0], number, said[1]), b'')
 
 
 def cases():
-    """Yields each record with what is said of its last line."""
+    """Yields each record with how it ends."""
     for fault, lines in FAULTY.items():
         for line in lines:
-            yield line + b'\n', b'line 1: %s\n' % fault.encode()
-            yield b'# first\n' + line + b'\nT1 begins\n', b'line 2: %s\n' % fault.encode()
+            yield Case(line + b'\n', (), 2, b'', b'line 1: %s\n' % fault.encode())
+            yield Case(b'# first\n' + line + b'\nT1 begins\n', (), 2, b'# first\n', b'line 2: %s\n' % fault.encode())
     for before, line in IMPOSSIBLE:
         for behind in b'', b' = O1 @ a = note', b' @ note':
-            said = b'impossible at line %d: %s\n' % (before.count(b'\n') + 1, line)
-            yield before + line + behind + b'\nT1 begins\n', said
-    for before, line in DIFFERENT:
-        yield before + line + b'\nT1 begins\n', b'differs at line %d\n' % (before.count(b'\n') + 1)
-    for text in ANSWERED + RIGHT:
-        yield text, b''
-    for text in CUT:
-        yield text, b'line %d: cut off\n' % (text.count(b'\n') + 1)
-    for text in CUT_AND_LONG:
-        yield text, b'line %d: LineTooLong\n' % (text.count(b'\n') + 1)
+            yield ended_otherwise(before, line + behind, (b'impossible', b': ' + line))
+    yield from (ended_otherwise(before, line, (b'differs', b'')) for before, line in DIFFERENT)
+    yield from (Case(text, (), 0, b'', b'') for text in ANSWERED)
+    yield from (Case(text, (), 0, text, b'') for text in RIGHT)
+    yield from WITH_OPTIONS
+    for texts, status, what in (CUT, 0, b'cut off'), (CUT_AND_LONG, 2, b'LineTooLong'):
+        yield from (Case(text, (), status, b'', b'line %d: %s\n' % (text.count(b'\n') + 1, what)) for text in texts)

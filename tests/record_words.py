@@ -176,7 +176,8 @@ def listed(text):
 
 
 def name(text):
-    return only_if(1 <= len(text) <= 255, text)
+    """A name at which an event would end is spelt otherwise, as `?`."""
+    return only_if(1 <= len(text) <= 255 and text not in ('=', '@'), text)
 
 
 def met_class(text):
@@ -216,11 +217,14 @@ def read_all(readers, words):
     return [read(word) for read, word in zip(readers, words)]
 
 
-def read_fact(fields):
+def read_fact(fields, setup):
     readers = FACTS[fields[1]]
     if fields[1] == 'gone':
         readers = readers * max(1, len(fields) - 2)
-    return Fact(int(fields[0][1:]), fields[1], read_all(readers, fields[2:]))
+    operands = read_all(readers, fields[2:])
+    # A class that no setup states is met as one of the core's own kinds, so its number is no spelling.
+    only_if(fields[1] != 'met' or operands[0] in OWN_KINDS or setup.has_class(operands[0]), None)
+    return Fact(int(fields[0][1:]), fields[1], operands)
 
 
 def read_question(fields):
