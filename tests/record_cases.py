@@ -1,8 +1,8 @@
-"""Records by hand, under examples/setup.toml, and how each ends, as docs/FORMATS.md says it ("A record").
+"""Records by hand, most under examples/setup.toml, and how each ends, as docs/FORMATS.md says it ("A record").
 
 In each a line is faulty, says what can't be, or has another answer than the core's, or the last one is cut off; or all
-is answered. There are 18 classes: 15 and 16 with a native method each, 17 throwable. The first object that is met is
-O18."""
+is answered. examples/setup.toml has 18 classes: 15 and 16 with a native method each, 17 throwable. So the first object
+that is met is O18."""
 import collections
 
 MOST = 65_536
@@ -138,6 +138,7 @@ ANSWERED = [
     b'T1 begins @ a = b @ c\n', b'# \xff\x00\r\t = @ \n', b'T1 begins = E1.1 @ \xff\x00 @ = \n', b'T65535 begins\n',
     b'T1 - FindClass null\nT1 - FindClass -\nT1 - FindClass == = deny 2 Detached\nT1 - FindClass @! @ note\n',
     b'T1 - FindClass ?\nT1 - FindClass # = deny 2 Detached\nT1 - FindClass @@ = deny 2 Detached @  @ \n',
+    b'T1 - FindClass ~!\n',
     b'T1 E1.18446744073709551615 NewLocalRef L65535.18446744073709551615\n',
     b'T1 begins\nT1 lent ints O0 null 4294967295\nT1 - BufferRead B1.1 2147483647\n',
     b'T0 met 8 4294967295\nT0 length O18 4294967295\nT0 met doubles 0\nT9 gone O19 O18\n',
@@ -357,6 +358,7 @@ T1 E1.1 SetIntField L1.4 id -2147483648 = passed
 T1 E1.1 SetBooleanField L1.4 id 2 = deny 12 BadArgument
 T1 E1.1 SetByteField L1.4 id -129 = deny 12 BadArgument
 T1 E1.1 SetCharField L1.4 id 65535 = passed
+T1 E1.1 SetCharField L1.4 id 65536 = deny 12 BadArgument
 T1 E1.1 SetCharField L1.4 id -1 = deny 12 BadArgument
 T1 E1.1 SetShortField L1.4 id 32768 = deny 12 BadArgument
 T1 E1.1 SetLongField L1.4 id -9223372036854775808 = passed
@@ -606,8 +608,8 @@ most at once: references 0, objects 0, buffers 0
 """
 ALL = '--denials', '--leaks', '--strict', '--summary'
 
-# `out` is what the output ends with, and `said` all of standard error.
-Case = collections.namedtuple('Case', 'text options status out said')
+# `out` is what the output ends with, and `said` all of standard error. The setup is one of examples/, or None.
+Case = collections.namedtuple('Case', 'text options status out said setup', defaults=('setup.toml',))
 # Options change what is written or said, and --strict the status. A line at which the run ends isn't counted.
 WITH_OPTIONS = [
     Case(LEFT, (), 0, LEFT, b''),
@@ -629,6 +631,43 @@ WITH_OPTIONS = [
     Case(b'T1 - ExceptionCheck = passed\n', ('--strict',), 1, b'differs at line 1\n', b''),
     Case(b'\n', ('--leaks', '--strict'), 2, b'', b'line 1: NoThread\n'),
 ]
+# Under examples/grants.toml app may register and link, and lib may load.
+GRANTED = b"""T1 begins = E1.1
+T1 got local O15 = L1.1
+T1 got local O16 = L1.2
+T1 got local O14 = L1.3
+T1 E1.1 LoadLibrary 15 x = deny 16 NoNativeAccess
+T1 E1.1 LoadLibrary 16 x = passed
+T1 E1.1 LoadLibrary 17 x = deny 16 NoNativeAccess
+T1 E1.1 LoadLibrary 14 x = passed
+T1 E1.1 RegisterNatives L1.1 1 = passed
+T1 E1.1 RegisterNatives L1.2 1 = deny 16 NoNativeAccess
+T1 E1.1 RegisterNatives L1.3 1 = passed
+T0 linked 15 1
+T0 linked 16 1
+T1 E1.1 NativeEnter 15 1 = passed
+T1 E1.1 NativeEnter 16 1 = deny 16 NoNativeAccess
+"""
+# Without a setup there are 15 classes.
+NO_SETUP = b"""T0 met 14 0 = O15
+T1 begins = E1.1
+T1 got local O15 = L1.1
+T1 E1.1 Throw L1.1 = passed
+T1 E1.1 LoadLibrary 14 x = passed
+T1 E1.1 LoadLibrary 15 x = deny 12 BadArgument
+T1 E1.1 NativeEnter 0 1 = deny 17 NotLinked
+T1 E1.1 NativeEnter 15 1 = deny 12 BadArgument
+T0 warned 0
+T0 unlinked 14
+"""
+OF_SETUPS = [
+    Case(GRANTED, (), 0, GRANTED, b'', 'grants.toml'),
+    Case(NO_SETUP, (), 0, NO_SETUP, b'', None),
+    Case(b'T0 met 15 0\n', (), 2, b'', b'line 1: BadOperand\n', None),
+    Case(b'T0 warned 1\n', (), 1, b'impossible at line 1: T0 warned 1\n', b'', None),
+    Case(b'T0 unlinked 15\n', (), 1, b'impossible at line 1: T0 unlinked 15\n', b'', None),
+    Case(b'T0 linked 0 1\n', (), 1, b'impossible at line 1: T0 linked 0 1\n', b'', None),
+]
 
 
 def ended_otherwise(before, line, said):
@@ -649,6 +688,6 @@ def cases():
     yield from (ended_otherwise(before, line, (b'differs', b'')) for before, line in DIFFERENT)
     yield from (Case(text, (), 0, b'', b'') for text in ANSWERED)
     yield from (Case(text, (), 0, text, b'') for text in RIGHT)
-    yield from WITH_OPTIONS
+    yield from WITH_OPTIONS + OF_SETUPS
     for texts, status, what in (CUT, 0, b'cut off'), (CUT_AND_LONG, 2, b'LineTooLong'):
         yield from (Case(text, (), status, b'', b'line %d: %s\n' % (text.count(b'\n') + 1, what)) for text in texts)
