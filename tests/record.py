@@ -232,7 +232,7 @@ class Machine:
         # Class and length of each object that was met and isn't gone.
         self.objects = {}
         self.next_object = self.setup.count
-        self.linked, self.warned = set(), set()
+        self.linked = set()
         self.bounds = {'Capacity': MOST_INT, 'Length': MOST_INT, 'Count': MOST_INT}
 
     def ask(self, fields):
@@ -459,10 +459,8 @@ class Machine:
         self.linked = {it for it in self.linked if it[0] != number}
 
     def told_warned(self, t, module):
-        """No rule speaks of warnings."""
-        if module >= len(self.setup.modules):
-            return IMPOSSIBLE
-        self.warned.add(module)
+        """No rule speaks of warnings, so none is kept."""
+        return None if module < len(self.setup.modules) else IMPOSSIBLE
 
     def told_local(self, t, number, o):
         found = self.names(t, ('L', t, number))
