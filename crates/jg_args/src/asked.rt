@@ -26,6 +26,8 @@ pub enum Task<'a> {
     Check,
     /// Tests the journal text on standard input.
     Verify,
+    /// Answers the record on standard input.
+    Watch,
     /// Plays the scripts of a file, the lines of each thread by a thread of its own. `-` is standard input.
     Play(&'a str),
     /// Writes the setup of a file as a text of version 2.
@@ -47,6 +49,8 @@ pub struct Asked<'a> {
     /// How often a worker tries to enter a busy monitor: 1 to 1,000,000, and 1,000 where none is
     /// given.
     pub turns: u32,
+    /// Whether of a record only denied questions are written.
+    pub denials: bool,
     /// Whether what is left at the end is listed.
     pub leaks: bool,
     /// Whether calls and denials are counted at the end.

@@ -99,6 +99,22 @@ fn verify_command<'a>(alloc: Global) -> Result<Command<'a>, AllocError> {
     with_options(alloc, command)
 }
 
+fn denials_arg<'a>(alloc: Global) -> Arg<'a> {
+    Arg::new(alloc, "denials")
+        .long("denials")
+        .action(ArgAction::SetTrue)
+        .help("writes denied questions alone, with their notes")
+}
+
+fn watch_command<'a>(alloc: Global) -> Result<Command<'a>, AllocError> {
+    Command::new(alloc, "watch")
+        .about("answers the record on standard input with what a core answers to it")
+        .after_help(STATUSES)
+        .arg(setup_arg(alloc))?
+        .arg(denials_arg(alloc))?
+        .arg(strict_arg(alloc))
+}
+
 fn play_command<'a>(alloc: Global) -> Result<Command<'a>, AllocError> {
     let command = Command::new(alloc, "play")
         .about("plays the scripts of FILE, the lines of each thread by a thread of its own")
@@ -120,7 +136,7 @@ fn own_options<'a>(alloc: Global) -> Result<Command<'a>, AllocError> {
         .about("A guard for the Java Native Interface. Without a command it is `check`.")
         .after_help(STATUSES)
         .version(VERSION)
-        .override_usage("jg [check] [OPTIONS] | jg verify|play|migrate ..")
+        .override_usage("jg [check] [OPTIONS] | jg verify|play|watch|migrate ..")
         .bin_name("jg")?;
     with_options(alloc, command)?.arg(leaks_arg(alloc))
 }
@@ -131,6 +147,7 @@ fn command<'a>(alloc: Global) -> Result<Command<'a>, AllocError> {
         .subcommand(check_command(alloc)?)?
         .subcommand(verify_command(alloc)?)?
         .subcommand(play_command(alloc)?)?
+        .subcommand(watch_command(alloc)?)?
         .subcommand(migrate_command(alloc)?)
 }
 
@@ -175,6 +192,7 @@ fn make_asked<'a>(task: Task<'a>, matches: &ArgMatches<'a>) -> Result<Asked<'a>,
         explain: number(matches, "explain", 0, 0)?,
         strict: matches.get_flag("strict"),
         turns: number(matches, "turns", 1, DEFAULT_TURNS)?,
+        denials: matches.get_flag("denials"),
         leaks: matches.get_flag("leaks"),
         summary: matches.get_flag("summary"),
     })
@@ -219,6 +237,7 @@ pub fn read_words<'a>(alloc: Global, words: &'a [&'a str]) -> Result<Asked<'a>, 
             }
             match name {
                 "verify" => make_asked(Task::Verify, inner),
+                "watch" => make_asked(Task::Watch, inner),
                 "play" => match inner.get_str("file") {
                     Some(file) => make_asked(Task::Play(file), inner),
                     None => Err(ArgsFault::Refused),

@@ -127,6 +127,15 @@ impl<A: Allocator + Copy> Core<A> {
     }
 }
 
+impl<A: Allocator> Core<A> {
+    /// The setup that it was made with.
+    pub fn setup(&self) -> &Setup
+        ensures { result.now ≡ self.now.setup }
+    {
+        &self.setup
+    }
+}
+
 impl<A: Allocator + Clone> Core<A> {
     /// The first rule that the call would break now, made by this thread with this environment; `None` where it
     /// breaks none. A question changes nothing. Ask when the call begins.

@@ -9,3 +9,4 @@ pub mod Workers
 pub mod FromStart
 pub mod Telling
 pub mod Reports
+pub mod Records

@@ -13,15 +13,18 @@ use Rattle.jg_script.specs.declared.replay.Verdict.{Verdict}
 use Rattle.jg_script.specs.declared.replay.Verdict.TheVariants as verdict
 use Rattle.jg_script.specs.Checked.{Checks, HoldsFaulty}
 use Rattle.jg_script.specs.Replayed.{ReplaysJournal, verdict_of}
+use Rattle.jg_watch.specs.declared.ending.Stop.TheVariants as watch
+use Rattle.jg_watch.specs.declared.watch.Shown.{Shown}
 use Rattle.jg_program.specs.declared.program.Job.{Job}
-use Rattle.jg_program.specs.declared.program.Job.TheVariants.{Check, Verify}
+use Rattle.jg_program.specs.declared.program.Job.TheVariants.{Check, Verify, Watch}
 use Rattle.jg_program.specs.declared.reporting.Reporting.{Reporting}
 use Rattle.jg_program.specs.declared.stop.ProgramEnd.{ProgramEnd}
 use Rattle.jg_program.specs.declared.stop.Status.{Status}
 use Rattle.jg_program.specs.declared.stop.Status.TheVariants.{Done, Differs}
 use Rattle.jg_program.specs.declared.stop.ProgramStop.{ProgramStop}
-use Rattle.jg_program.specs.declared.stop.ProgramStop.TheVariants.{Arguments, Setup, SetupRead, Run, Leaks, Summary, Explain, Mismatch, Worker}
+use Rattle.jg_program.specs.declared.stop.ProgramStop.TheVariants.{Arguments, Setup, SetupRead, Run, Record, Leaks, Summary, Explain, Mismatch, Worker}
 use Rattle.jg_program.specs.About.{IsAboutJournal, IsAboutScript, IsAboutSetup}
+use Rattle.jg_program.specs.Recorded.{EndsRecord}
 use Rattle.jg_program.specs.Reported.{EndsQuietly, EndsTelling, Reports, is_explained}
 use Rattle.jg_program.specs.StatedBy.{base_setup, IsStated, IsRefused}
 
@@ -87,6 +90,8 @@ abbrev pub Ends : Job → Reporting → StatedSetup → Option (List ℕ) → Op
     → Option (List ℕ) → ℕ → ProgramEnd → Type 0
 Ends Check r setup input input' bytes bytes' limit ending = EndsScript r setup input input' bytes bytes' limit ending
 Ends Verify r setup input input' bytes bytes' limit ending = EndsJournal r setup input input' bytes bytes' limit ending
+Ends (Watch shown) r setup input input' bytes bytes' limit ending =
+    EndsRecord r.strict setup shown input input' bytes bytes' ending
 
 -- the same under the setup where none is given, or memory ran out before that was read
 abbrev pub EndsClosed : Job → Reporting → Option (List ℕ) → Option (List ℕ) → Option (List ℕ) → Option (List ℕ) → ℕ
@@ -114,6 +119,11 @@ IsHandedOn holds_nothing failed (Err (Run (Script line fault))) = holds_nothing
 IsHandedOn holds_nothing failed (Err (Run (Limit line))) = holds_nothing
 IsHandedOn holds_nothing failed (Err (Run (NoMemory line))) = holds_nothing
 IsHandedOn holds_nothing failed (Err (Run (Read line))) = holds_nothing
+IsHandedOn holds_nothing failed (Err (Record (watch.Write line))) = failed ≡ true
+IsHandedOn holds_nothing failed (Err (Record (watch.Faulty line fault))) = holds_nothing
+IsHandedOn holds_nothing failed (Err (Record (watch.Limit line))) = holds_nothing
+IsHandedOn holds_nothing failed (Err (Record (watch.NoMemory line))) = holds_nothing
+IsHandedOn holds_nothing failed (Err (Record (watch.Read line))) = holds_nothing
 -- nothing was written
 IsHandedOn holds_nothing failed (Err (Setup fault)) = Unit {0}
 IsHandedOn holds_nothing failed (Err SetupRead) = Unit {0}

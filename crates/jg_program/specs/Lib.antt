@@ -6,3 +6,4 @@ pub mod Reported
 pub mod Summary
 pub mod Migrated
 pub mod Statuses
+pub mod Recorded

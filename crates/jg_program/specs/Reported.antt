@@ -1,5 +1,6 @@
 -- What is told beside the journal: the status, explanations, and what is left behind.
 use Rattle.std.specs.Prelude.{ℕ, ◌≡◌, ◌⊎◌, nat_lt, Bool, true, false, if◌then◌else◌, List, [], ◌++◌, codes, string_bytes, Result, Ok, Err}
+use Rattle.std.specs.Fmt.{decimal}
 use Rattle.std.specs.List.{list_any}
 use Rattle.std.specs.Option.{is_some}
 use Rattle.jg_words.specs.declared.buffer.BufId.{BufId}
@@ -15,7 +16,7 @@ use Rattle.jg_script.specs.Leaks.{leaks_text}
 use Rattle.jg_program.specs.declared.reporting.Reporting.{Reporting}
 use Rattle.jg_program.specs.declared.stop.ProgramEnd.{ProgramEnd}
 use Rattle.jg_program.specs.declared.stop.Said.{Said}
-use Rattle.jg_program.specs.declared.stop.Said.TheVariants.{Text, Short, NoMemory}
+use Rattle.jg_program.specs.declared.stop.Said.TheVariants.{Text, Short, NoMemory, CutOff}
 use Rattle.jg_program.specs.declared.stop.Status.{Status}
 use Rattle.jg_program.specs.declared.stop.Status.TheVariants.{Done, Denied}
 use Rattle.jg_program.specs.declared.stop.ProgramStop.{ProgramStop}
@@ -26,6 +27,7 @@ abbrev pub said_text : Said → List ℕ
 said_text (Text text) = string_bytes text
 said_text (Short text) = string_bytes text ++ codes "summary: no memory\n"
 said_text NoMemory = codes "explain: no memory\n"
+said_text (CutOff line) = codes "line " ++ decimal line ++ codes ": cut off\n"
 
 -- some call was denied
 abbrev pub any_denied : List Entry → Bool

@@ -23,7 +23,7 @@ use std::alloc::Global;
 use std::io;
 use std::io::BufRead;
 
-fn write_number<W: io::Write>(out: &mut Watched<W>, n: u64) -> Result<(), DeviceFailed>
+pub fn write_number<W: io::Write>(out: &mut Watched<W>, n: u64) -> Result<(), DeviceFailed>
     ensures written { OnOk result (Appends (W.contents out.old.device) (W.contents out.new.device) (decimal n)) }
     ensures failed { OnErr result (out.new.failed ≡ true) }
 {

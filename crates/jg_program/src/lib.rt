@@ -8,6 +8,7 @@ mod journal;
 mod migrating;
 mod playing;
 mod program;
+mod recording;
 mod reporting;
 mod setup_file;
 mod stop;

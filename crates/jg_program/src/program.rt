@@ -10,6 +10,7 @@ use crate::files::Files;
 use crate::journal::test_journal;
 use crate::migrating::migrate;
 use crate::playing::{play_file, script_stop_of};
+use crate::recording::answer_record;
 use crate::reporting::{Reporting, report};
 use crate::setup_file::{closed_setup, read_setup, stop_of};
 use crate::stop::{ProgramEnd, ProgramStop, Status, quietly, tell_ending};
@@ -17,6 +18,7 @@ use jg_args::{ArgsFault, Asked, Task, help_text, read_words};
 use jg_guard::Guard;
 use jg_policy::{Setup, SetupFault};
 use jg_script::{HandsOn, RunFault, Watched, check_lines};
+use jg_watch::Shown;
 use std::alloc::Global;
 use std::io::{BufRead, Read, Write};
 use std::mem::forget;
@@ -33,6 +35,8 @@ pub enum Job {
     Check,
     /// They are a journal, which is tested.
     Verify,
+    /// They are a record, which is answered, and of which so much is shown.
+    Watch(Shown),
 }
 
 /// Answers the lines of a script, by a guard that has taken no call; `line` is room for one of them, and
@@ -108,6 +112,7 @@ fn work<R: BufRead, W: HandsOn>(
     match job {
         Job::Check => answer_script(alloc, reporting, setup, limit, reader, out),
         Job::Verify => test_journal(alloc, reporting, setup, limit, reader, out),
+        Job::Watch(shown) => answer_record(alloc, reporting.strict, shown, setup, reader, out),
     }
 }
 
@@ -274,6 +279,14 @@ fn serve_migration<S: Files, W: HandsOn + Drop>(
     }
 }
 
+fn shown_of(asked: Asked<'_>) -> Shown {
+    if asked.denials {
+        Shown::Denials
+    } else {
+        Shown::All
+    }
+}
+
 fn reporting_of(asked: Asked<'_>) -> Reporting {
     Reporting {
         explain: asked.explain,
@@ -298,6 +311,7 @@ pub fn run<T: Threads + Wait + Sync, S: Files, R: BufRead + Drop, W: HandsOn + D
         Ok(asked) => match asked.task {
             Task::Check => serve(alloc, Job::Check, asked, files, reader, out),
             Task::Verify => serve(alloc, Job::Verify, asked, files, reader, out),
+            Task::Watch => serve(alloc, Job::Watch(shown_of(asked)), asked, files, reader, out),
             Task::Play(path) => serve_play(rt, alloc, path, asked, files, reader, out),
             Task::Migrate(path) => serve_migration(alloc, path, files, out),
         },

@@ -3,7 +3,7 @@
 ghost use Rattle.std.specs.Prelude.{◌≡◌, [], Err, IfOk, OnErr, string_bytes};
 ghost use Rattle.jg_program.specs.declared.stop.Said.TheVariants.{NoMemory};
 ghost use Rattle.jg_program.specs.Reported.{said_text};
-ghost use Rattle.jg_program.specs.Statuses.{ended_status, status_of, status_of_words, status_of_setup, status_of_run};
+ghost use Rattle.jg_program.specs.Statuses.{ended_status, status_of, status_of_record, status_of_run, status_of_setup, status_of_words};
 
 use jg_args::ArgsFault;
 use jg_policy::SetupFault;
@@ -18,7 +18,7 @@ pub enum Status {
     /// All was done.
     Done = 0,
     /// The journal that was tested is none of a legal history; or after a play, journal and receipts
-    /// differ.
+    /// differ; or a record tells another answer than the core's, or what can't be.
     Differs = 1,
     /// The script, the setup or the arguments are faulty.
     Faulty = 2,
@@ -43,6 +43,9 @@ pub enum ProgramStop {
     SetupRead,
     #[error("{0}")]
     Run(RunFault),
+    /// A record isn't answered to its end.
+    #[error("{0}")]
+    Record(jg_watch::Stop),
     /// Memory ran out for what is left behind, after the script was answered.
     #[error("leaks: no memory")]
     Leaks,
@@ -77,6 +80,7 @@ impl ProgramStop {
             ProgramStop::Setup(fault) => status_of_setup(fault),
             ProgramStop::SetupRead => Status::Device,
             ProgramStop::Run(fault) => status_of_run(fault),
+            ProgramStop::Record(stop) => status_of_record(stop),
             ProgramStop::Leaks => Status::Exhausted,
             ProgramStop::Summary => Status::Exhausted,
             ProgramStop::Explain => Status::Exhausted,
@@ -123,6 +127,16 @@ fn status_of_run(fault: RunFault) -> Status
     }
 }
 
+fn status_of_record(stop: jg_watch::Stop) -> Status
+    ensures { result ≡ status_of_record stop }
+{
+    match stop {
+        jg_watch::Stop::Faulty { .. } => Status::Faulty,
+        jg_watch::Stop::Limit { .. } | jg_watch::Stop::NoMemory { .. } => Status::Exhausted,
+        jg_watch::Stop::Read { .. } | jg_watch::Stop::Write { .. } => Status::Device,
+    }
+}
+
 /// What is said on standard error, behind the line that says why the program ends, if it has one.
 #[derive(Debug, Drop)]
 pub enum Said {
@@ -131,6 +145,8 @@ pub enum Said {
     Short(String),
     /// Memory ran out for it.
     NoMemory,
+    /// The last line of a record has no line feed.
+    CutOff { line: u64 },
 }
 
 /// How the program ends: with this status, or for this reason; and what is said then.
@@ -193,6 +209,9 @@ pub fn tell_ending<E: Write>(ending: ProgramEnd, err: &mut E) -> Status
         }
         Said::NoMemory => {
             let _ = writeln!(err, "{}", ProgramStop::Explain);
+        }
+        Said::CutOff { line } => {
+            let _ = writeln!(err, "line {line}: cut off");
         }
     }
     status

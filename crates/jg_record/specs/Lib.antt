@@ -4,3 +4,4 @@ pub mod Operands
 pub mod Events
 pub mod Faults
 pub mod Pieces
+pub mod Replies

@@ -7,6 +7,7 @@ mod fault;
 mod operands;
 mod parts;
 mod read;
+mod reply;
 mod verb;
 mod word;
 
@@ -14,3 +15,4 @@ pub use event::{Event, Lists};
 pub use fault::RecordFault;
 pub use parts::{Parts, cut_line};
 pub use read::read_event;
+pub use reply::{Reply, push_answer};

@@ -11,6 +11,7 @@ const DEFAULTS: Asked<'static> = Asked {
     explain: 0,
     strict: false,
     turns: 1000,
+    denials: false,
     leaks: false,
     summary: false,
 };
@@ -20,7 +21,7 @@ const STATUSES: &str =
     4 reading or writing failed, 5 done, and a call was denied (with --strict).";
 
 /// Words, and what they ask for.
-const READ: [(&[&str], Asked<'static>); 13] = [
+const READ: [(&[&str], Asked<'static>); 15] = [
     (&[], DEFAULTS),
     (&["check"], DEFAULTS),
     (
@@ -98,6 +99,23 @@ const READ: [(&[&str], Asked<'static>); 13] = [
         },
     ),
     (
+        &["watch"],
+        Asked {
+            task: Task::Watch,
+            ..DEFAULTS
+        },
+    ),
+    (
+        &["watch", "--strict", "--denials", "--setup", "app.toml"],
+        Asked {
+            task: Task::Watch,
+            setup: Some("app.toml"),
+            strict: true,
+            denials: true,
+            ..DEFAULTS
+        },
+    ),
+    (
         &["migrate", "--setup", "app.toml"],
         Asked {
             task: Task::Migrate("app.toml"),
@@ -123,7 +141,7 @@ fn words_are_read(rt: HostRuntime) {
 }
 
 /// Words that ask for nothing.
-const REFUSED: [&[&str]; 35] = [
+const REFUSED: [&[&str]; 38] = [
     &["fly"],
     &["help", "fly"],
     &["--fly"],
@@ -159,6 +177,9 @@ const REFUSED: [&[&str]; 35] = [
     &["--strict=1"],
     &["--strict", "play", "two"],
     &["migrate", "--setup", "app.toml", "--strict"],
+    &["--denials"],
+    &["watch", "--limit", "1"],
+    &["watch", "--denials", "--denials"],
 ];
 
 /// Whether this is answered to the words.
@@ -228,7 +249,7 @@ fn the_refused_word_is_found(rt: HostRuntime) -> Result<(), Fail> {
     Ok(())
 }
 
-const USAGE: &str = "Usage: jg [check] [OPTIONS] | jg verify|play|migrate ..";
+const USAGE: &str = "Usage: jg [check] [OPTIONS] | jg verify|play|watch|migrate ..";
 
 /// Words that ask for a text, and a part of it.
 const TEXTS: [(&[&str], &str); 20] = [

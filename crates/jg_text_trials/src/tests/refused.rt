@@ -118,6 +118,7 @@ const DEFAULTS: Asked<'static> = Asked {
     explain: 0,
     strict: false,
     turns: 1000,
+    denials: false,
     leaks: false,
     summary: false,
 };

@@ -1,0 +1,4 @@
+pub mod Told
+pub mod Lines
+pub mod Ends
+pub mod Steps
