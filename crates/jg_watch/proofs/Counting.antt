@@ -1,5 +1,5 @@
 -- One reply more, and how many lines have each number then.
-use Rattle.std.proofs.Common.{◌≡◌, ◌+◌, ◌-◌, ◌<◌, ◌≤◌, ◌^◌, ◌∙◌, ℕ, Bool, true, false, if◌then◌else◌, List, [], ◌∷◌, length, refl, ap, sym, subst, arith, replicate, zero, suc, Option, Some, None}
+use Rattle.std.proofs.Common.{◌≡◌, ◌+◌, ◌-◌, ◌<◌, ◌^◌, ◌∙◌, ℕ, Bool, true, false, if◌then◌else◌, List, [], ◌∷◌, length, refl, ap, sym, subst, arith, replicate, zero, suc, Option, Some, None}
 use Rattle.std.specs.Prelude.{◌==◌, slice_index_or, slice_set}
 use Rattle.std.proofs.lemmas.Bool.Decides.{nat_tests}
 use Rattle.std.proofs.lemmas.List.{get_or-set_same, get_or-set_other, length-set}
@@ -32,9 +32,11 @@ inside Nothing = tt
 
 one_more : (lines : List Answered) (l : Answered) (tally new : List ℕ) (m : Option ℕ) → reply_number l.reply ≡ m → IsInside m → IsTally lines tally
     → new ≡ counted_at m tally → IsTally (l ∷ lines) new
-one_more lines l tally new None number small old now =
-    (ap length now ∙ old.0, λ k. ap (λ (t : List ℕ). slice_index_or t k 0) now ∙ old.1 k
-    ∙ sym (ap (λ (m : Option ℕ). if is_number k m then tallied k lines + 1 else tallied k lines) number))
+one_more lines l tally new None number small old now = (
+  ap length now ∙ old.0,
+  λ k. ap (λ (t : List ℕ). slice_index_or t k 0) now ∙ old.1 k
+      ∙ sym (ap (λ (m : Option ℕ). if is_number k m then tallied k lines + 1 else tallied k lines) number),
+)
 one_more lines l tally new (Some n) number small old now =
     (ap length now ∙ length-set _ _ _ ∙ old.0, λ k. ap (λ (t : List ℕ). slice_index_or t k 0) now ∙ by k (n == k) refl)
   where

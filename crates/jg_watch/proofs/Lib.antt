@@ -1,4 +1,3 @@
 pub mod Counting
-pub mod Telling
 pub mod Lasting
 pub mod Answering

@@ -3,7 +3,6 @@ use Rattle.std.specs.Prelude.{◌≡◌, ◌<◌, ◌≤◌, ◌+◌, ◌^◌, �
 use Rattle.std.specs.Io.KnownBytes.{Appends, Consumes, IsAtEnd, Keeps}
 use Rattle.jg_policy.specs.Stated.{StatedSetup}
 use Rattle.jg_core.specs.Facts.{made_in}
-use Rattle.jg_core.specs.Kernel.{CoreStands}
 use Rattle.jg_lines.specs.Devices.{IsOneLine, TakesFront}
 use Rattle.jg_record.specs.declared.fault.RecordFault.{RecordFault}
 use Rattle.jg_record.specs.declared.fault.RecordFault.TheVariants.{LineTooLong}

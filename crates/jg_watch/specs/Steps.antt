@@ -9,7 +9,6 @@ use Rattle.jg_core.specs.declared.kernel.Untold.TheVariants as untold
 use Rattle.jg_questions.specs.declared.argument.Argument.{Argument}
 use Rattle.jg_record.specs.declared.event.Event.{Event}
 use Rattle.jg_record.specs.declared.reply.Reply.{Reply}
-use Rattle.jg_watch.specs.declared.ending.Ended.{Ended}
 use Rattle.jg_watch.specs.declared.ending.Stop.{Stop}
 use Rattle.jg_watch.specs.declared.ending.Stop.TheVariants.{NoMemory, Read, Write}
 use Rattle.jg_watch.specs.declared.line.Step.{Step}

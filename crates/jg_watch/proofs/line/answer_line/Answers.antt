@@ -1,5 +1,4 @@
-use Rattle.std.proofs.Common.{◌≡◌, ◌∙◌, List, ℕ, Ok, Err, ap, refl, sym, true, false}
-use Rattle.std.specs.Option.{option_copied}
+use Rattle.std.proofs.Common.{◌∙◌, Ok, Err, ap, refl, sym, true, false}
 use Rattle.std.proofs.KnownBytes.{Keeps-refl}
 use Rattle.jg_watch.specs.Told.{Watching}
 use Rattle.jg_watch.proofs.Answering.{comment_line, line_unread, replied_line, reply_unread, says_line}
