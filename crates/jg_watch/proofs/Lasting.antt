@@ -1,7 +1,7 @@
 -- How the lines that were answered, and the next, make the whole.
-use Rattle.std.proofs.Common.{◌≡◌, ◌+◌, ◌∙◌, ℕ, List, [], ◌∷◌, length, Option, Result, Ok, ap, arith, refl, subst, sym}
+use Rattle.std.proofs.Common.{◌≡◌, ◌+◌, ◌∙◌, ℕ, List, ◌∷◌, length, Option, Result, Ok, ap, arith, subst, sym}
 use Rattle.std.specs.Io.KnownBytes.{Appends, Consumes, Keeps}
-use Rattle.std.proofs.KnownBytes.{Appends-kept, Appends-nil, Appends-trans, Consumes-nil, Consumes-trans}
+use Rattle.std.proofs.KnownBytes.{Appends-kept, Appends-trans, Consumes-trans}
 use Rattle.jg_policy.specs.Stated.{StatedSetup}
 use Rattle.jg_core.specs.Kernel.{CoreStands, CoreState}
 use Rattle.jg_record.specs.declared.reply.Reply.{Reply}
@@ -12,7 +12,7 @@ use Rattle.jg_watch.specs.declared.watch.Shown.{Shown}
 use Rattle.jg_watch.specs.Ends.{EndsAt, Watches}
 use Rattle.jg_watch.specs.Lines.{Answered, AreAnswered, IsAnswered, IsTally, reply_number, text_of, written_of}
 use Rattle.jg_watch.specs.Steps.{AnswersNext, counted_at}
-use Rattle.jg_watch.specs.Told.{Stands, Told, Watching, nothing_told}
+use Rattle.jg_watch.specs.Told.{Stands, Told, Watching}
 use Rattle.jg_watch.proofs.Counting.{counts}
 
 -- what is known before line number n: the lines before it were answered, and their replies counted
@@ -73,18 +73,4 @@ ended s read shown input rest rest' bytes before before' n watch tally line resu
   counted = subst (IsTally h.lines) (sym same) h.counted;
   ends = subst (λ (m : ℕ). EndsAt s shown h.told rest rest' line before before' m result) h.number
       (subst (λ (r : StatedSetup). EndsAt r shown h.told rest rest' line before before' n result) is ends);
-}
-
--- nothing was read yet
-pub begins : (s : StatedSetup) (shown : Shown) (input bytes : Option (List ℕ)) (watch : Watching) → Stands watch nothing_told → IsTally [] watch.tally
-    → HasWatched s shown input input bytes bytes 1 watch
-begins s shown input bytes watch stands counted = record {
-  lines = [];
-  told = nothing_told;
-  answered = refl;
-  stands = stands;
-  read = Consumes-nil input;
-  written = Appends-nil bytes;
-  counted = counted;
-  number = refl;
 }
