@@ -3,7 +3,7 @@ use Rattle.std.proofs.Common.{◌≡◌, ap, inl, inr, ℕ, Bool, true, false, L
 use Rattle.std.proofs.lemmas.Bool.{false≢true}
 use Rattle.std.proofs.KnownBytes.{Keeps-refl}
 use Rattle.jg_program.specs.declared.stop.ProgramStop.{ProgramStop}
-use Rattle.jg_program.specs.declared.stop.ProgramStop.TheVariants.{Arguments, Setup, SetupRead, Run, Leaks, Summary, Explain, Mismatch, Worker}
+use Rattle.jg_program.specs.declared.stop.ProgramStop.TheVariants.{Arguments, Setup, SetupRead, Run, Record, Leaks, Summary, Explain, Mismatch, Worker}
 use Rattle.jg_program.specs.StatedBy.{IsRefused}
 use Rattle.jg_program.specs.Ended.{IsHandedOn}
 use Rattle.jg_program.specs.Migrated.{Migrates}
@@ -18,6 +18,7 @@ is_of_setup Summary = false
 is_of_setup Explain = false
 is_of_setup (Mismatch thread place) = false
 is_of_setup (Worker stop) = false
+is_of_setup (Record stop) = false
 
 refused_by_setup : (known : Option (List ℕ)) (told : ℕ) (stop : ProgramStop) → IsRefused known told stop → is_of_setup stop ≡ true
 unfolding is_of_setup
@@ -38,6 +39,7 @@ migrates_refused known told bytes Summary refused = absurd (false≢true (refuse
 migrates_refused known told bytes Explain refused = absurd (false≢true (refused_by_setup known told Explain refused))
 migrates_refused known told bytes (Mismatch thread place) refused = absurd (false≢true (refused_by_setup known told (Mismatch thread place) refused))
 migrates_refused known told bytes (Worker stop) refused = absurd (false≢true (refused_by_setup known told (Worker stop) refused))
+migrates_refused known told bytes (Record stop) refused = absurd (false≢true (refused_by_setup known told (Record stop) refused))
 
 -- nothing was written by then
 pub refused_on : (S : Type 0) (holds_nothing : Type 0) (failed : Bool) (known : Option (List ℕ)) (told : ℕ) (stop : ProgramStop) → IsRefused known told stop
@@ -52,3 +54,4 @@ refused_on S holds_nothing failed known told Summary refused = absurd (false≢t
 refused_on S holds_nothing failed known told Explain refused = absurd (false≢true (refused_by_setup known told Explain refused))
 refused_on S holds_nothing failed known told (Mismatch thread place) refused = absurd (false≢true (refused_by_setup known told (Mismatch thread place) refused))
 refused_on S holds_nothing failed known told (Worker stop) refused = absurd (false≢true (refused_by_setup known told (Worker stop) refused))
+refused_on S holds_nothing failed known told (Record stop) refused = absurd (false≢true (refused_by_setup known told (Record stop) refused))

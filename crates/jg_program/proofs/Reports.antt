@@ -9,7 +9,8 @@ use Rattle.jg_program.specs.declared.reporting.Reporting.{Reporting}
 use Rattle.jg_program.specs.declared.stop.ProgramEnd.{ProgramEnd}
 use Rattle.jg_program.specs.declared.stop.Status.{Status}
 use Rattle.jg_program.specs.declared.stop.ProgramStop.{ProgramStop}
-use Rattle.jg_program.specs.declared.stop.ProgramStop.TheVariants.{Arguments, Setup, SetupRead, Run, Leaks, Summary, Explain, Mismatch, Worker}
+use Rattle.jg_watch.specs.declared.ending.Stop.TheVariants as watch
+use Rattle.jg_program.specs.declared.stop.ProgramStop.TheVariants.{Arguments, Setup, SetupRead, Run, Record, Leaks, Summary, Explain, Mismatch, Worker}
 use Rattle.jg_program.specs.About.{IsAboutJournal, IsAboutScript}
 use Rattle.jg_program.specs.Ended.{AnswersLines, EndsJournal, EndsScript, IsHandedOn, TestsLines, status_told}
 use Rattle.jg_program.specs.Reported.{IsToldIf, Reports, Tells, TellsNothing, is_explained}
@@ -80,3 +81,8 @@ on_err A B holds_nothing failed Summary on = on
 on_err A B holds_nothing failed Explain on = on
 on_err A B holds_nothing failed (Mismatch thread place) on = on
 on_err A B holds_nothing failed (Worker stop) on = on
+on_err A B holds_nothing failed (Record (watch.Write line)) on = on
+on_err A B holds_nothing failed (Record (watch.Faulty line fault)) on = on
+on_err A B holds_nothing failed (Record (watch.Limit line)) on = on
+on_err A B holds_nothing failed (Record (watch.NoMemory line)) on = on
+on_err A B holds_nothing failed (Record (watch.Read line)) on = on

@@ -7,7 +7,7 @@ use Rattle.jg_script.specs.declared.run_fault.RunFault.TheVariants.{Write}
 use Rattle.jg_program.specs.declared.stop.Status.{Status}
 use Rattle.jg_program.specs.declared.stop.Status.TheVariants.{Done}
 use Rattle.jg_program.specs.declared.stop.ProgramStop.{ProgramStop}
-use Rattle.jg_program.specs.declared.stop.ProgramStop.TheVariants.{Arguments, Setup, SetupRead, Run, Leaks, Summary, Explain, Mismatch, Worker}
+use Rattle.jg_program.specs.declared.stop.ProgramStop.TheVariants.{Arguments, Setup, SetupRead, Run, Record, Leaks, Summary, Explain, Mismatch, Worker}
 use Rattle.jg_program.specs.StatedBy.{IsStated, IsRefused}
 
 -- a text that states this setup was written
@@ -29,3 +29,4 @@ Migrates known told bytes bytes' (Err Summary) = ⊥
 Migrates known told bytes bytes' (Err Explain) = ⊥
 Migrates known told bytes bytes' (Err (Mismatch thread place)) = ⊥
 Migrates known told bytes bytes' (Err (Worker stop)) = ⊥
+Migrates known told bytes bytes' (Err (Record stop)) = ⊥

@@ -22,7 +22,7 @@ use Rattle.jg_program.specs.declared.stop.ProgramEnd.{ProgramEnd}
 use Rattle.jg_program.specs.declared.stop.Status.{Status}
 use Rattle.jg_program.specs.declared.stop.Status.TheVariants.{Done}
 use Rattle.jg_program.specs.declared.stop.ProgramStop.{ProgramStop}
-use Rattle.jg_program.specs.declared.stop.ProgramStop.TheVariants.{Arguments, Setup, SetupRead, Run, Leaks, Summary, Explain, Mismatch, Worker}
+use Rattle.jg_program.specs.declared.stop.ProgramStop.TheVariants.{Arguments, Setup, SetupRead, Run, Record, Leaks, Summary, Explain, Mismatch, Worker}
 use Rattle.jg_program.specs.About.{IsAboutScript}
 use Rattle.jg_program.specs.Reported.{EndsQuietly, EndsTelling, Reports, is_explained}
 
@@ -55,6 +55,7 @@ HandsOut bytes bytes' guard (Err Summary) = ⊥
 HandsOut bytes bytes' guard (Err Explain) = ⊥
 HandsOut bytes bytes' guard (Err (Mismatch thread place)) = ⊥
 HandsOut bytes bytes' guard (Err (Worker stop)) = ⊥
+HandsOut bytes bytes' guard (Err (Record stop)) = ⊥
 
 -- a difference between receipts and the guard's journal is told, of this thread at this place, and the journal written
 abbrev pub TellsDifference : Tid → ℕ → State → Option (List ℕ) → Option (List ℕ) → Result Status ProgramStop → Type 0
@@ -84,6 +85,7 @@ SettlesBy guard workers bytes bytes' (Err (Arguments fault)) = ⊥
 SettlesBy guard workers bytes bytes' (Err Leaks) = ⊥
 SettlesBy guard workers bytes bytes' (Err Summary) = ⊥
 SettlesBy guard workers bytes bytes' (Err Explain) = ⊥
+SettlesBy guard workers bytes bytes' (Err (Record stop)) = ⊥
 
 -- they ended by this, and what is told of the guard's journal was told
 abbrev pub Settles : Reporting → List Work → Option (List ℕ) → Option (List ℕ) → ProgramEnd → Type 0
