@@ -105,13 +105,13 @@ fn is_refused_buffer<A: Allocator + Clone, S: Store>(
     }
 }
 
-fn is_up_to(most: i32, n: i32) -> bool
+pub fn is_up_to(most: i32, n: i32) -> bool
     ensures { result ≡ is_within (pos 0) most n }
 {
     0 <= n && n <= most
 }
 
-fn is_outside(n: i32, info: Option<Info>) -> bool
+pub fn is_outside(n: i32, info: Option<Info>) -> bool
     ensures { result ≡ is_outside_of n info }
 {
     match info {
@@ -120,7 +120,7 @@ fn is_outside(n: i32, info: Option<Info>) -> bool
     }
 }
 
-fn is_wrong_item<A: Allocator + Clone, S: Store>(
+pub fn is_wrong_item<A: Allocator + Clone, S: Store>(
     view: &View<'_, A, S>,
     n: i64,
     info: Option<Info>,
@@ -137,7 +137,7 @@ fn is_wrong_item<A: Allocator + Clone, S: Store>(
     }
 }
 
-fn is_item_value(item: ItemType, n: i64) -> bool
+pub fn is_item_value(item: ItemType, n: i64) -> bool
     ensures { result ≡ rules.is_item_value item n }
 {
     match item {
@@ -179,7 +179,7 @@ fn is_wrong_value<A: Allocator + Clone, S: Store>(
 }
 
 /// Whether the setup states no class of that number.
-fn is_unstated(setup: &Setup, class: Option<u32>) -> bool
+pub fn is_unstated(setup: &Setup, class: Option<u32>) -> bool
     ensures { result ≡ is_none (rules.stated setup.now class) }
 {
     match class {
