@@ -1,5 +1,5 @@
 -- Of which classes objects are, by what was met.
-use Rattle.std.proofs.Common.{ℕ, ◌≡◌, ◌<◌, ◌++◌, Bool, List, [], ◌∷◌, Option, Some, None, arith}
+use Rattle.std.proofs.Common.{ℕ, List, [], ◌∷◌, Option, Some, None, arith}
 use Rattle.std.specs.List.{AllByRecursion}
 use Rattle.jg_words.specs.declared.object.ObjId.{ObjId}
 use Rattle.jg_words.specs.declared.reference.Kind.{Kind}

@@ -1,5 +1,5 @@
 -- A fact raises each count by one at the most, and one that makes nothing raises none.
-use Rattle.std.proofs.Common.{ℕ, ◌≡◌, ◌+◌, ◌-◌, ◌≤◌, Bool, true, false, List, [], ◌∷◌, Option, Some, None, refl, ◌∙◌, arith, if◌then◌else◌}
+use Rattle.std.proofs.Common.{ℕ, ◌≡◌, ◌+◌, ◌≤◌, Bool, true, false, List, [], ◌∷◌, Option, Some, None, refl, arith, if◌then◌else◌}
 use Rattle.std.specs.Prelude.{◌==◌, ◌&&◌}
 use Rattle.std.specs.Option.{is_some}
 use Rattle.jg_words.specs.declared.object.ObjId.{ObjId}
@@ -10,9 +10,7 @@ use Rattle.jg_words.specs.declared.reference.Kind.TheVariants.{Local, Global, We
 use Rattle.jg_lists.specs.Acts.{Event, by, acts_of, how_many}
 use Rattle.jg_threads.specs.History as threads
 use Rattle.jg_locals.specs.History as locals
-use Rattle.jg_globals.specs.History as globals
 use Rattle.jg_monitors.specs.History as monitors
-use Rattle.jg_heap.specs.History as heap
 use Rattle.jg_rules.specs.Parts.{Parts}
 use Rattle.jg_core.specs.declared.fact.Fact.{Fact}
 use Rattle.jg_core.specs.declared.fact.Fact.TheVariants.{Begin, End, Enter, Leave, Push, Pop, Ensure, Raise, Calm, Hand, Lost, Lend, Back, Own, Free, Meet, Gone, Link, Unlink, Warn, Checked}

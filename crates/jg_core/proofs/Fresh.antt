@@ -1,5 +1,5 @@
 -- No reference is handed out twice, and none that ended is live again.
-use Rattle.std.proofs.Common.{ℕ, ◌≡◌, ◌+◌, ◌≤◌, ◌<◌, true, List, [], ◌∷◌, ◌++◌, Some, None, inl, inr, refl, sym, ◌∙◌, subst, arith}
+use Rattle.std.proofs.Common.{ℕ, ◌≡◌, ◌+◌, ◌<◌, true, List, [], ◌∷◌, ◌++◌, Some, None, inl, inr, refl, sym, ◌∙◌, subst, arith}
 use Rattle.std.specs.Prelude.{◌==◌}
 use Rattle.jg_words.specs.declared.thread.Tid.{Tid}
 use Rattle.jg_words.specs.declared.reference.Ref.{Ref}
@@ -16,7 +16,7 @@ use Rattle.jg_rules.specs.Names.{next_ref}
 use Rattle.jg_laws.proofs.Kept.{AtLeast, Below, GlobalsBelow, next_more, next_same}
 use Rattle.jg_laws.proofs.Fresh.{Counted, Gone as NotLive, own_gone, target_object, kind_target, Ended as NoTarget, kind_below, no_reference, one_reference, not_next}
 use Rattle.jg_core.specs.declared.fact.Fact.{Fact}
-use Rattle.jg_core.specs.declared.fact.Fact.TheVariants.{Leave, Pop, Calm, Hand}
+use Rattle.jg_core.specs.declared.fact.Fact.TheVariants.{Leave, Pop, Hand}
 use Rattle.jg_core.specs.Facts.{handed_on, parts_of, can_be, History}
 use Rattle.jg_core.specs.Laws.{handed_out, WasHandedOut, ReferencesCounted, NoReferenceTwice, NoReferenceRevived}
 use Rattle.jg_core.proofs.Each.{each_fact, each_told, each_later, before, keeps_at_least, keeps_below, keeps_globals_below, keeps_gone, keeps_ended}

@@ -7,3 +7,4 @@ pub mod Here
 pub mod Due
 pub mod Going
 pub mod Tied
+pub mod Answered

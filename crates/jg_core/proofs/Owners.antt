@@ -1,6 +1,6 @@
 -- What facts do to monitors was allowed at its time, so that none has two owners.
-use Rattle.std.proofs.Common.{ℕ, ◌≡◌, true, List, [], ◌∷◌, ◌++◌, Option, Some, None, refl, ap, eqb-true}
-use Rattle.std.specs.Prelude.{◌==◌, ◌&&◌}
+use Rattle.std.proofs.Common.{ℕ, ◌≡◌, true, List, [], ◌∷◌, Option, Some, None, refl, ap, eqb-true}
+use Rattle.std.specs.Prelude.{◌&&◌}
 use Rattle.jg_words.specs.declared.object.ObjId.{ObjId}
 use Rattle.jg_words.specs.declared.reference.Ref.{Ref}
 use Rattle.jg_words.specs.declared.reference.Ref.TheVariants.{Null, To}

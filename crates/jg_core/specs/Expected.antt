@@ -1,6 +1,6 @@
 -- What comes of a question that breaks no rule, by the row of its function: what is to be told once the machine says
 -- what it answered. It is found when the question is asked, since an operand may end before the function returns.
-use Rattle.std.specs.Prelude.{ℕ, ℤ, if◌then◌else◌, List, ◌∷◌, Option, Some, None}
+use Rattle.std.specs.Prelude.{ℕ, ℤ, if◌then◌else◌, List, Option, Some, None}
 use Rattle.std.specs.Option.{option_map}
 use Rattle.jg_words.specs.declared.thread.Tid.{Tid}
 use Rattle.jg_words.specs.declared.object.ObjId.{ObjId}

@@ -19,7 +19,7 @@ use crate::kernel::{Core, Untold};
 use crate::says::{Given, Says};
 use jg_functions::row_of;
 use jg_objects::Objects;
-use jg_questions::{Argument, Bounds, culprit, first_broken, first_reference, suits};
+use jg_questions::{Argument, Bounds, Verdict, culprit, first_reference, verdict_on};
 use jg_rules::{View, object_named};
 use jg_words::{EnvId, ObjId, Rule, Tid};
 use std::alloc::Allocator;
@@ -109,21 +109,17 @@ impl<A: Allocator + Clone> Core<A> {
         let view = self.tables.view(&self.setup);
         match row_of(usize::from(function)) {
             None => Answer::NoFunction,
-            Some(row) => {
-                if !suits(row.takes, arguments) {
-                    return Answer::Misfit;
-                }
-                match first_broken(&view, bounds, tid, env, row, arguments) {
-                    Some(rule) => Answer::Denied {
-                        rule,
-                        operand: culprit(&view, bounds, tid, rule, row.takes, arguments),
-                    },
-                    None => Answer::Passed(Ticket {
-                        tid,
-                        expected: expected_of(&view, tid, row, arguments),
-                    }),
-                }
-            }
+            Some(row) => match verdict_on(&view, bounds, tid, env, row, arguments) {
+                Verdict::Misfit => Answer::Misfit,
+                Verdict::Broken(rule) => Answer::Denied {
+                    rule,
+                    operand: culprit(&view, bounds, tid, rule, row.takes, arguments),
+                },
+                Verdict::Passed(named) => Answer::Passed(Ticket {
+                    tid,
+                    expected: expected_of(&view, tid, row, named, arguments),
+                }),
+            },
         }
     }
 

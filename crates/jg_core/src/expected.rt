@@ -4,6 +4,8 @@ ghost use Rattle.std.specs.Prelude.{◌≡◌};
 ghost use Rattle.std.specs.Option.{option_map};
 ghost use Rattle.jg_functions.specs.Columns.{columns};
 ghost use Rattle.jg_objects.specs.Standing.{Tells};
+ghost use Rattle.jg_questions.specs.Asked.{first_reference as first_reference_of};
+ghost use Rattle.jg_rules.specs.Names.{names, object_in as object_of};
 ghost use Rattle.jg_rules.specs.Parts.{Parts};
 ghost use Rattle.jg_rules.specs.View.{ViewTells};
 ghost use Rattle.jg_core.specs.declared.fact.Fact.TheVariants.{Free, Own, Raise};
@@ -20,7 +22,7 @@ use jg_buffers::Family;
 use jg_functions::{Effect, Row, Section};
 use jg_objects::Objects;
 use jg_questions::{Argument, first_buffer, first_number, first_reference, native_by_name};
-use jg_rules::{View, class_meant, object_named};
+use jg_rules::{Named, View, class_meant};
 use jg_words::{BufId, Kind, ObjId, Ref, Tid};
 use std::alloc::Allocator;
 
@@ -129,25 +131,37 @@ fn via_for(family: Family, reference: Ref) -> Ref
     }
 }
 
-/// What is expected of the function of this row, with these operands, as the tables are now.
+/// The object among what a reference can name.
+fn object_in(named: Named) -> Option<ObjId>
+    ensures { option_map (λ o. o.0) result ≡ object_of named }
+{
+    match named {
+        Named::Nothing => None,
+        Named::Null => None,
+        Named::Object(object) => Some(object),
+    }
+}
+
+/// What is expected of the function of this row, with these operands, as the tables are now; the first reference among
+/// them names this.
 pub fn expected_of<A: Allocator + Clone>(
     view: &View<'_, A, Objects<A>>,
     tid: Tid,
     row: &Row,
+    named: Named,
     arguments: &[Argument],
 ) -> Expected
-    ensures { (p : Parts) → ViewTells Tells view.now p → result
-        ≡ spec.expected_of view.now.setup.now p tid (columns row.now) row.now.effect arguments.now }
+    ensures { (p : Parts) → ViewTells Tells view.now p → named ≡ names p tid.0 (first_reference_of arguments.now)
+        → result ≡ spec.expected_of view.now.setup.now p tid (columns row.now) row.now.effect arguments.now }
 {
-    let reference = first_reference(arguments);
     match row.effect {
         Effect::Nothing => nothing_done(row.section),
         Effect::Hands(kind) => Expected::Handed(kind),
-        Effect::Ends(_) => Expected::Done(losing(reference)),
+        Effect::Ends(_) => Expected::Done(losing(first_reference(arguments))),
         Effect::Lends(family) => Expected::Lent {
             family,
-            object: object_named(view, tid, reference),
-            via: via_for(family, reference),
+            object: object_in(named),
+            via: via_for(family, first_reference(arguments)),
         },
         Effect::GivesBack => {
             Expected::Done(back(first_number(arguments), first_buffer(arguments)))
@@ -161,20 +175,24 @@ pub fn expected_of<A: Allocator + Clone>(
             let room = natural(first_number(arguments));
             Expected::Done(Some(Fact::Ensure { tid, room }))
         }
-        Effect::Raises => raised(tid, object_named(view, tid, reference)),
+        Effect::Raises => raised(tid, object_in(named)),
         Effect::Calms => Expected::Done(Some(Fact::Calm(tid))),
-        Effect::Owns => owned(tid, object_named(view, tid, reference)),
-        Effect::Frees => freed(tid, object_named(view, tid, reference)),
+        Effect::Owns => owned(tid, object_in(named)),
+        Effect::Frees => freed(tid, object_in(named)),
         Effect::Attaches => { Expected::Attached(attaching(view.threads.is_attached(tid), tid)) }
         Effect::Detaches => Expected::Quiet(detaching(view.threads.is_attached(tid), tid)),
         Effect::Enters => Expected::Quiet(Some(Fact::Enter(tid))),
         Effect::Leaves => Expected::Left,
         Effect::Loads => Expected::Done(None),
         Effect::Links => Expected::Done(linking(
-            class_meant(view, tid, reference),
+            class_meant(view, tid, first_reference(arguments)),
             native_by_name(arguments),
         )),
-        Effect::Unlinks => Expected::Done(unlinking(class_meant(view, tid, reference))),
+        Effect::Unlinks => Expected::Done(unlinking(class_meant(
+            view,
+            tid,
+            first_reference(arguments),
+        ))),
         Effect::Collects => Expected::Never,
     }
 }

@@ -1,6 +1,6 @@
 -- The verdict on a call's question is the verdict on the call, rule by rule.
-use Rattle.std.proofs.Common.{◌≡◌, ◌∙◌, ◌<◌, ◌+◌, ℕ, ℤ, Bool, true, false, List, [], ◌∷◌, Option, Some, None, refl, ap, arith, if◌then◌else◌}
-use Rattle.std.specs.Prelude.{◌&&◌, ◌||◌, ◌==◌, not}
+use Rattle.std.proofs.Common.{◌≡◌, ◌∙◌, ℕ, ℤ, Bool, true, false, List, [], ◌∷◌, Option, Some, None, refl, ap, arith}
+use Rattle.std.specs.Prelude.{◌&&◌, ◌||◌, not}
 use Rattle.std.specs.List.{list_any, find}
 use Rattle.std.specs.Option.{is_some, is_none}
 use Rattle.std.proofs.Math.Bool.{or-false}
@@ -24,7 +24,7 @@ use Rattle.jg_words.specs.Call.{fun_of}
 use Rattle.jg_heap.specs.Reading.{decoded}
 use Rattle.jg_buffers.specs.declared.info.Info.{Info}
 use Rattle.jg_policy.specs.declared.access.Operation.TheVariants.{Load, Link}
-use Rattle.jg_policy.specs.Stated.{StatedSetup, class_count}
+use Rattle.jg_policy.specs.Stated.{StatedSetup}
 use Rattle.jg_policy.specs.Classes.{class_named}
 use Rattle.jg_rules.specs.declared.named.Named.{Named}
 use Rattle.jg_rules.specs.declared.named.Named.TheVariants.{Nothing, Null as NamesNull, Object}
@@ -46,7 +46,7 @@ use Rattle.jg_questions.specs.Asked.{paired, judged, first_reference, first_buff
 use Rattle.jg_questions.specs.declared.kinds.OwnKind.{OwnKind}
 use Rattle.jg_questions.specs.declared.kinds.OwnKind.TheVariants as own
 use Rattle.jg_questions.specs.Kinds.{is_kind, is_own, own_class}
-use Rattle.jg_questions.specs.Broken.{verdict, broken, is_collection, wrong_kind, is_wrong_kind, is_unfit, is_wrong_buffer, is_out_of_bounds, is_wrong_item, buffer_meant, pinned, not_owner, bad_frame, no_access, not_linked, stated}
+use Rattle.jg_questions.specs.Broken.{broken, is_collection, wrong_kind, is_wrong_kind, is_unfit, is_wrong_buffer, is_out_of_bounds, is_wrong_item, buffer_meant, pinned, not_owner, bad_frame, no_access, not_linked}
 use Rattle.jg_questions.specs.Written.{AreStated, JudgedAsWritten, arguments_of, row_for, written_bounds}
 use Rattle.jg_questions.proofs.Rows.{takes_of, effect_of, IsRow, row_is}
 use Rattle.jg_questions.proofs.Stated.{stated_named}
@@ -183,7 +183,7 @@ agrees s p t (Vm (NativeEnter class method signature)) all = record {
   pins = refl;
   owner = refl;
   frame = refl;
-  argument = or-false _;
+  argument = or-false _ ∙ ap is_none (stated_named s class);
   access = ap (refuses s Link) (stated_named s class);
   linked = ap (λ found. not (is_linked p found (native_meant s (class_named s class) method signature))) (stated_named s class);
 }
@@ -216,7 +216,7 @@ agrees s p t (Vm (LoadLibrary class library)) all = record {
   owner = refl;
   frame = refl;
   linked = refl;
-  argument = or-false _;
+  argument = or-false _ ∙ ap is_none (stated_named s class);
   access = ap (refuses s Load) (stated_named s class);
 }
 agrees s p t (Vm (RegisterNatives class method signature)) all = record {

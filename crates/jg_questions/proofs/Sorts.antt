@@ -1,6 +1,6 @@
 -- One operand that suits leaves the others to be looked at, and the operands of a call suit its function.
-use Rattle.std.proofs.Common.{◌≡◌, ◌∙◌, ℕ, true, false, List, ◌∷◌, refl, ap, subst, sym}
-use Rattle.std.specs.Prelude.{◌&&◌, if◌then◌else◌}
+use Rattle.std.proofs.Common.{◌≡◌, ◌∙◌, ℕ, true, List, ◌∷◌, refl, ap, subst, sym}
+use Rattle.std.specs.Prelude.{if◌then◌else◌}
 use Rattle.jg_words.specs.declared.call.Call.{Call}
 use Rattle.jg_words.specs.declared.call.Call.TheVariants.{Vm, Refs, Frames, Exceptions, Objects, Strings, Arrays, Monitors, Buffers}
 use Rattle.jg_words.specs.declared.call.vm.VmCall.TheVariants.{AttachCurrentThread, DetachCurrentThread, GetEnv, NativeEnter, NativeLeave, LoadLibrary, RegisterNatives, UnregisterNatives, Collect}
@@ -22,28 +22,13 @@ use Rattle.jg_questions.specs.Suits.{suits, suits_one}
 use Rattle.jg_questions.specs.Written.{CallsSuit, arguments_of}
 use Rattle.jg_questions.proofs.Rows.{takes_of, row_is}
 
-one_suits : (takes : Takes) (x : Argument) (wanted more : List Takes) (rest later : List Argument)
+pub one_suits : (takes : Takes) (x : Argument) (wanted more : List Takes) (rest later : List Argument)
     → wanted ≡ takes ∷ more → rest ≡ x ∷ later → suits_one takes x ≡ true
     → suits (if is_last takes then takes ∷ more else more) later ≡ suits wanted rest
 one_suits takes x wanted more rest later wanted_is rest_is suited =
     subst (λ r. suits (if is_last takes then takes ∷ more else more) later ≡ suits wanted r) (sym rest_is)
     (subst (λ w. suits (if is_last takes then takes ∷ more else more) later ≡ suits w (x ∷ later)) (sym wanted_is)
     (sym (rw (suited) refl)))
-
-pub another_suits : (takes : Takes) (x : Argument) (wanted more : List Takes) (rest later : List Argument)
-    → wanted ≡ takes ∷ more → rest ≡ x ∷ later → suits_one takes x ≡ true → is_last takes ≡ false
-    → suits more later ≡ suits wanted rest
-another_suits takes x wanted more rest later wanted_is rest_is suited last =
-    subst (λ b. suits (if b then takes ∷ more else more) later ≡ suits wanted rest) last
-    (one_suits takes x wanted more rest later wanted_is rest_is suited)
-
-pub argument_suits : (takes : Takes) (x : Argument) (wanted more : List Takes) (rest later : List Argument)
-    → wanted ≡ takes ∷ more → rest ≡ x ∷ later → suits_one takes x ≡ true → is_last takes ≡ true
-    → suits wanted later ≡ suits wanted rest
-argument_suits takes x wanted more rest later wanted_is rest_is suited last =
-    subst (λ w. suits w later ≡ suits wanted rest) (sym wanted_is)
-    (subst (λ b. suits (if b then takes ∷ more else more) later ≡ suits wanted rest) last
-    (one_suits takes x wanted more rest later wanted_is rest_is suited))
 
 suited : (s : StatedSetup) (p : Parts) (t : ℕ) (call : Call) → suits (takes_of (fun_of call)) (arguments_of s p t call) ≡ true
 suited s p t (Vm AttachCurrentThread) = refl

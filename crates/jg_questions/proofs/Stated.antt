@@ -1,5 +1,5 @@
 -- The number of a class that the setup states is taken as it is.
-use Rattle.std.proofs.Common.{◌≡◌, ◌<◌, ℕ, List, Option, Some, None, refl, if◌then◌else◌}
+use Rattle.std.proofs.Common.{◌≡◌, ◌<◌, ℕ, List, Option, Some, None, refl}
 use Rattle.std.proofs.lemmas.Bool.{lt-ltb}
 use Rattle.jg_policy.specs.Stated.{StatedSetup, class_count}
 use Rattle.jg_policy.specs.Classes.{class_named}

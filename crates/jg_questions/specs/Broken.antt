@@ -1,5 +1,5 @@
 -- The rules, by the row of the function that is asked for: each as its own definition, and the first that is broken.
-use Rattle.std.specs.Prelude.{ℕ, ℤ, pos, ◌==◌, ◌&&◌, ◌||◌, Bool, true, false, not, if◌then◌else◌, nat_lt, int_lt, List, ◌∷◌, slice_get, option_and_then, Option, Some, None}
+use Rattle.std.specs.Prelude.{ℕ, ℤ, pos, ◌==◌, ◌&&◌, ◌||◌, Bool, true, false, not, if◌then◌else◌, nat_lt, int_lt, List, slice_get, option_and_then, Option, Some, None}
 use Rattle.std.specs.List.{list_any, find}
 use Rattle.std.specs.Option.{is_some, is_none}
 use Rattle.jg_words.specs.declared.thread.EnvId.{EnvId}
@@ -151,12 +151,16 @@ is_wrong_value s p info Item v = is_wrong_item s p v info
 is_wrong_value s p info (Value item) v = not (is_item_value item v)
 is_wrong_value s p info takes v = false
 
+abbrev pub stated : StatedSetup → Option ℕ → Option ℕ
+stated s None = None
+stated s (Some class) = if nat_lt class (class_count s) then Some class else None
+
 -- an operand that isn't: a list with an item that isn't of its type, or the name of a class that the setup doesn't state
 abbrev pub is_out_of_bounds : Bounds → StatedSetup → Parts → Option Info → Takes → Argument → Bool
 is_out_of_bounds bounds s p info takes (Number n) = is_wrong_number bounds info takes n
 is_out_of_bounds bounds s p info takes (ValueOf v) = is_wrong_value s p info takes v
 is_out_of_bounds bounds s p info takes (ListOf count fits) = not fits
-is_out_of_bounds bounds s p info takes (Class class) = is_none class
+is_out_of_bounds bounds s p info takes (Class class) = is_none (stated s class)
 is_out_of_bounds bounds s p info takes x = false
 
 -- 12, as `bad_argument`, under these bounds
@@ -182,10 +186,6 @@ bad_frame p t Detaches = nat_lt 0 (depth p t)
 bad_frame p t Leaves = depth p t == 0
 bad_frame p t Pops = open_frames p t == 0
 bad_frame p t effect = false
-
-abbrev pub stated : StatedSetup → Option ℕ → Option ℕ
-stated s None = None
-stated s (Some class) = if nat_lt class (class_count s) then Some class else None
 
 -- the class of the setup that an operand names, if the setup has so many
 abbrev pub class_in : StatedSetup → Argument → Option ℕ

@@ -1,6 +1,7 @@
 //! Which of rules 5, 6 and 8 to 12 the operands of a question break, each rule for itself.
 
 ghost use Rattle.std.specs.Prelude.{◌≡◌, pos};
+ghost use Rattle.std.specs.Option.{is_none};
 ghost use Rattle.jg_rules.specs.Parts.{Parts};
 ghost use Rattle.jg_rules.specs.View.{ViewTells};
 ghost use Rattle.jg_rules.specs.Numbers.{is_within};
@@ -14,6 +15,7 @@ use crate::kinds::is_kind;
 use crate::suiting::is_last;
 use jg_buffers::Info;
 use jg_functions::{ObjectKind, Takes};
+use jg_policy::Setup;
 use jg_rules::{
     Named, Store, View, fits, is_foreign_local, is_mode, is_readable, is_releasable, is_writable,
     item_type, look_up,
@@ -103,13 +105,13 @@ fn is_refused_buffer<A: Allocator + Clone, S: Store>(
     }
 }
 
-fn is_up_to(most: i32, n: i32) -> bool
+pub fn is_up_to(most: i32, n: i32) -> bool
     ensures { result ≡ is_within (pos 0) most n }
 {
     0 <= n && n <= most
 }
 
-fn is_outside(n: i32, info: Option<Info>) -> bool
+pub fn is_outside(n: i32, info: Option<Info>) -> bool
     ensures { result ≡ is_outside_of n info }
 {
     match info {
@@ -118,7 +120,7 @@ fn is_outside(n: i32, info: Option<Info>) -> bool
     }
 }
 
-fn is_wrong_item<A: Allocator + Clone, S: Store>(
+pub fn is_wrong_item<A: Allocator + Clone, S: Store>(
     view: &View<'_, A, S>,
     n: i64,
     info: Option<Info>,
@@ -135,7 +137,7 @@ fn is_wrong_item<A: Allocator + Clone, S: Store>(
     }
 }
 
-fn is_item_value(item: ItemType, n: i64) -> bool
+pub fn is_item_value(item: ItemType, n: i64) -> bool
     ensures { result ≡ rules.is_item_value item n }
 {
     match item {
@@ -176,6 +178,16 @@ fn is_wrong_value<A: Allocator + Clone, S: Store>(
     }
 }
 
+/// Whether the setup states no class of that number.
+pub fn is_unstated(setup: &Setup, class: Option<u32>) -> bool
+    ensures { result ≡ is_none (rules.stated setup.now class) }
+{
+    match class {
+        None => true,
+        Some(class) => class >= setup.class_count(),
+    }
+}
+
 fn is_out_of_bounds<A: Allocator + Clone, S: Store>(
     view: &View<'_, A, S>,
     bounds: Bounds,
@@ -190,7 +202,7 @@ fn is_out_of_bounds<A: Allocator + Clone, S: Store>(
         Argument::Number(n) => is_wrong_number(bounds, info, takes, n),
         Argument::Value(value) => is_wrong_value(view, info, takes, value),
         Argument::List { fits, .. } => !fits,
-        Argument::Class(class) => class.is_none(),
+        Argument::Class(class) => is_unstated(view.setup, class),
         _ => false,
     }
 }

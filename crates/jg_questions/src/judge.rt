@@ -32,7 +32,7 @@ fn is_collection(effect: Effect) -> bool
     }
 }
 
-fn is_wrong_thread(tid: Tid, env: Option<EnvId>, row: &Row) -> bool
+pub fn is_wrong_thread(tid: Tid, env: Option<EnvId>, row: &Row) -> bool
     ensures { result ≡ rules.wrong_thread tid.0 env (columns row.now) }
 {
     match env {
@@ -41,7 +41,7 @@ fn is_wrong_thread(tid: Tid, env: Option<EnvId>, row: &Row) -> bool
     }
 }
 
-fn is_detached<A: Allocator + Clone, S: Store>(
+pub fn is_detached<A: Allocator + Clone, S: Store>(
     view: &View<'_, A, S>,
     tid: Tid,
     env: Option<EnvId>,
@@ -81,7 +81,7 @@ fn passes_pending(passes: Passes) -> bool
     }
 }
 
-fn is_in_critical<A: Allocator + Clone, S: Store>(
+pub fn is_in_critical<A: Allocator + Clone, S: Store>(
     view: &View<'_, A, S>,
     tid: Tid,
     row: &Row,
@@ -91,7 +91,7 @@ fn is_in_critical<A: Allocator + Clone, S: Store>(
     !passes_in_critical(row.passes) && view.buffers.in_critical(tid)
 }
 
-fn is_while_pending<A: Allocator + Clone, S: Store>(
+pub fn is_while_pending<A: Allocator + Clone, S: Store>(
     view: &View<'_, A, S>,
     tid: Tid,
     row: &Row,
@@ -101,7 +101,7 @@ fn is_while_pending<A: Allocator + Clone, S: Store>(
     view.threads.pending(tid).is_some() && !passes_pending(row.passes)
 }
 
-fn is_wrong_kind(effect: Effect, reference: Ref) -> bool
+pub fn is_wrong_kind(effect: Effect, reference: Ref) -> bool
     ensures { result ≡ rules.wrong_kind effect reference }
 {
     match effect {
@@ -273,7 +273,7 @@ fn judge_operands(faults: Faults, is_wrong_kind: bool) -> Option<Rule>
 }
 
 /// The first of rules 13 to 17.
-fn judge_effect<A: Allocator + Clone, S: Store>(
+pub fn judge_effect<A: Allocator + Clone, S: Store>(
     view: &View<'_, A, S>,
     tid: Tid,
     effect: Effect,

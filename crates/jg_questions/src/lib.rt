@@ -9,6 +9,8 @@ mod firsts;
 mod judge;
 mod kinds;
 mod promises;
+mod question;
+mod sound;
 mod suiting;
 
 pub use argument::{Argument, Bounds};
@@ -17,4 +19,5 @@ pub use firsts::{first_buffer, first_number, first_reference, native_by_name};
 pub use judge::first_broken;
 pub use kinds::{OwnKind, is_class};
 pub use promises::{calls_suit, judged_as_written};
+pub use question::{Verdict, verdict_on};
 pub use suiting::{are_none, is_last, suits};

@@ -55,7 +55,7 @@ fn takes_value(takes: Takes) -> bool
     }
 }
 
-fn takes_id(takes: Takes) -> bool
+pub fn takes_id(takes: Takes) -> bool
     ensures { result ≡ spec.takes_id takes }
 {
     match takes {
@@ -68,7 +68,7 @@ fn takes_id(takes: Takes) -> bool
     }
 }
 
-fn takes_class(takes: Takes) -> bool
+pub fn takes_class(takes: Takes) -> bool
     ensures { result ≡ spec.takes_class takes }
 {
     match takes {
@@ -77,7 +77,7 @@ fn takes_class(takes: Takes) -> bool
     }
 }
 
-fn takes_native(takes: Takes) -> bool
+pub fn takes_native(takes: Takes) -> bool
     ensures { result ≡ spec.takes_native takes }
 {
     match takes {
@@ -86,7 +86,7 @@ fn takes_native(takes: Takes) -> bool
     }
 }
 
-fn takes_name(takes: Takes) -> bool
+pub fn takes_name(takes: Takes) -> bool
     ensures { result ≡ spec.takes_name takes }
 {
     match takes {
@@ -95,7 +95,7 @@ fn takes_name(takes: Takes) -> bool
     }
 }
 
-fn takes_list(takes: Takes) -> bool
+pub fn takes_list(takes: Takes) -> bool
     ensures { result ≡ spec.takes_list takes }
 {
     match takes {

@@ -1,6 +1,6 @@
 //! The operands of questions: such as break no rule, and such as break one.
 
-use super::world::{MAIN, NAMED, OTHER, T, TOOL, buffers_of, handed};
+use super::world::{MAIN, NAMED, OTHER, T, TOOL, UNSTATED, buffers_of, handed};
 use jg_buffers::Family;
 use jg_functions::{Effect, ObjectKind, Row, Takes};
 use jg_questions::Argument;
@@ -255,7 +255,7 @@ fn out_of_bounds(take: Takes) -> &'static [Argument] {
         Takes::Mode | Takes::Place => &[Argument::Number(-1), Argument::Number(3)],
         Takes::Item => out_of_type(ItemType::Of(Primitive::Int)),
         Takes::Value(item) => out_of_type(item),
-        Takes::ClassName => &[Argument::Class(None)],
+        Takes::ClassName => &[Argument::Class(None), Argument::Class(Some(UNSTATED))],
         Takes::Items(_) | Takes::Utf8 => &[Argument::List {
             count: 2,
             fits: false,

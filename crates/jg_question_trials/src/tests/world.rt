@@ -32,6 +32,9 @@ pub(super) const MAIN: u32 = 15;
 
 pub(super) const TOOL: u32 = 16;
 
+/// The least number that no class of the setup has.
+pub(super) const UNSTATED: u32 = 17;
+
 /// The thread that asks. It is in a native method, and has pushed a frame.
 pub(super) const T: Tid = Tid(1);
 

@@ -1,4 +1,4 @@
-use Rattle.std.proofs.Common.{rules, ◌≡◌, ◌+◌, ◌∙◌, drop, sym, slice_index_or, arith}
+use Rattle.std.proofs.Common.{rules, ◌+◌, ◌∙◌, drop, sym, slice_index_or, arith}
 use Rattle.std.specs.Option.{option_map}
 use Rattle.std.proofs.lemmas.List.{at_drop_more, at_drop_all}
 use Rattle.jg_words.specs.declared.object.ObjId.{ObjId}

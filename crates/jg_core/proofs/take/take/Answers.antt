@@ -1,4 +1,3 @@
-use Rattle.std.specs.Prelude.{◌==◌}
 use Rattle.jg_core.proofs.Due.{has_frame, can_push}
 use Rattle.jg_core.proofs.take.take.Goals as goal
 

@@ -1,4 +1,4 @@
-use Rattle.std.proofs.Common.{rules, ◌≡◌, ◌<◌, ◌≤◌, ◌^◌, ◌+◌, true, false, List, ◌∷◌, refl, ◌∙◌, if◌then◌else◌}
+use Rattle.std.proofs.Common.{rules, ◌≡◌, ◌+◌, true, false, List, ◌∷◌, refl, ◌∙◌}
 use Rattle.jg_core.specs.declared.fact.Fact.{Fact}
 use Rattle.jg_core.specs.Facts.{parts_of, can_be, makes}
 use Rattle.jg_core.specs.Tables.{rows_of}

@@ -1,0 +1,51 @@
+-- What one pass finds of a question that breaks no rule, and what a question comes to.
+use Rattle.std.specs.Prelude.{ℕ, ◌≡◌, true, if◌then◌else◌, List, [], ◌∷◌, Option, Some, None}
+use Rattle.std.specs.Option.{option_or}
+use Rattle.jg_words.specs.declared.thread.EnvId.{EnvId}
+use Rattle.jg_words.specs.declared.rule.Rule.{Rule}
+use Rattle.jg_policy.specs.Stated.{StatedSetup}
+use Rattle.jg_rules.specs.declared.named.Named.{Named}
+use Rattle.jg_rules.specs.Parts.{Parts}
+use Rattle.jg_rules.specs.Names.{names}
+use Rattle.jg_functions.specs.Columns.{Columns}
+use Rattle.jg_functions.specs.declared.row.Takes.{Takes}
+use Rattle.jg_questions.specs.declared.argument.Argument.{Argument}
+use Rattle.jg_questions.specs.declared.argument.Argument.TheVariants.{Reference}
+use Rattle.jg_questions.specs.declared.argument.Bounds.{Bounds}
+use Rattle.jg_questions.specs.declared.faults.Beside.{Beside}
+use Rattle.jg_questions.specs.declared.question.Verdict.{Verdict}
+use Rattle.jg_questions.specs.declared.question.Verdict.TheVariants.{Misfit, Broken, Passed}
+use Rattle.jg_questions.specs.Asked.{paired, first_reference, first_buffer}
+use Rattle.jg_questions.specs.Broken.{buffer_meant, verdict}
+use Rattle.jg_questions.specs.Faults.{faults_in, no_faults}
+use Rattle.jg_questions.specs.Suits.{suits}
+
+-- what the operands are judged beside
+abbrev pub beside_of : Bounds → Parts → List Argument → Beside
+beside_of bounds p xs = record { bounds = bounds; via = first_reference xs; info = buffer_meant p (first_buffer xs) }
+
+-- what an operand names, if it is a reference
+abbrev pub named_in : Parts → ℕ → Argument → Option Named
+named_in p t (Reference r) = Some (names p t r)
+named_in p t x = None
+
+-- what the first reference names, if there is one
+abbrev pub first_named : Parts → ℕ → List Argument → Option Named
+first_named p t [] = None
+first_named p t (x ∷ xs) = option_or (named_in p t x) (first_named p t xs)
+
+-- the operands suit their function, none breaks a rule, and the first reference names this
+pub record AreSound (bounds : Bounds) (s : StatedSetup) (p : Parts) (t : ℕ) (takes : List Takes) (xs : List Argument)
+    (named : Named) : Type 0 where
+  pub suit : suits takes xs ≡ true
+  pub sound : faults_in s p t (beside_of bounds p xs) (paired takes xs) ≡ no_faults
+  pub names : named ≡ names p t (first_reference xs)
+
+abbrev pub by_rule : Named → Option Rule → Verdict
+by_rule named None = Passed named
+by_rule named (Some rule) = Broken rule
+
+-- what a question for the function of this row comes to, with these operands
+abbrev pub verdict_on : Bounds → StatedSetup → Parts → ℕ → Option EnvId → Columns → List Argument → Verdict
+verdict_on bounds s p t env row xs =
+    if suits row.takes xs then by_rule (names p t (first_reference xs)) (verdict bounds s p t env row xs) else Misfit
