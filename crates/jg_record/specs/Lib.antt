@@ -4,3 +4,6 @@ pub mod Operands
 pub mod Events
 pub mod Faults
 pub mod Pieces
+pub mod Replies
+pub mod Texts
+pub mod Writing

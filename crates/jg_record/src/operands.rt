@@ -37,7 +37,7 @@ pub enum Sort {
 }
 
 /// How an operand is spelt, by what the row says of it.
-fn sort_of(takes: Takes) -> Sort
+pub fn sort_of(takes: Takes) -> Sort
     ensures { result ≡ spec.sort_of takes }
 {
     match takes {
