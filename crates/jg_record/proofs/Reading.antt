@@ -31,7 +31,7 @@ many = refl
 row_below : (place : ℕ) (row : Columns) → slice_get functions place ≡ Some row → place < 243
 row_below place row at = omega (arith, slice_get_within functions place row at, many)
 
-name_of_row : (place : ℕ) (row : Columns) → slice_get functions place ≡ Some row → name_at place ≡ row.name
+pub name_of_row : (place : ℕ) (row : Columns) → slice_get functions place ≡ Some row → name_at place ≡ row.name
 name_of_row place row at = ap (λ (found : Option Columns). unwrap_or (option_map (λ r. r.name) found) []) at
 
 -- the name's place is that of one row alone

@@ -221,7 +221,7 @@ fn push_met(
 ) -> Result<(), AllocError>
     ensures written { OnOk result (string_bytes out.new ≡ appended (string_bytes out.old)
         (codes "met" ∷ texts.class_word setup.now class ∷ decimal length ∷ [])) }
-    ensures fits { OnOk result (length < 2 ^ 32) }
+    ensures fits { OnOk result ((class < 2 ^ 32) × (length < 2 ^ 32)) }
 {
     push::word(out, "met")?;
     push_class(out, setup, class)?;

@@ -8,7 +8,7 @@ use std::alloc::Global;
 use std::test::Fail;
 
 /// Texts that are no events, and the first fault of each.
-const FAULTY: [(&str, RecordFault); 48] = [
+const FAULTY: [(&str, RecordFault); 50] = [
     ("", NoThread),
     ("enters", NoThread),
     ("T65536 enters", NoThread),
@@ -36,6 +36,8 @@ const FAULTY: [(&str, RecordFault); 48] = [
     ("T1 E1.1 NewString !", BadOperand),
     ("T1 E1.1 NativeEnter 4294967296 1", BadOperand),
     ("T1 E1.1 FindClass ", BadOperand),
+    ("T1 E1.1 FindClass =", BadOperand),
+    ("T1 E1.1 FindClass @", BadOperand),
     ("T1 E1.1 BufferRead L1.1 0", BadOperand),
     ("T1 enters 1", WrongCount),
     ("T1 enters ", WrongCount),
