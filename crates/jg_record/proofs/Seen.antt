@@ -1,6 +1,6 @@
 -- Each word that is written has bytes from 0x21 to 0x7E.
-use Rattle.std.proofs.Common.{◌≡◌, ◌<◌, ◌≤◌, ◌+◌, ◌^◌, ◌∷◌, ◌++◌, ℕ, ℤ, Bool, true, false, List, [], Option, Some, None, All, FitsSigned, w32, w64, refl, ap, arith}
-use Rattle.std.specs.Prelude.{nat_lt, ◌&&◌, slice_get, map, codes}
+use Rattle.std.proofs.Common.{◌≡◌, ◌<◌, ◌^◌, ◌∷◌, ℕ, ℤ, Bool, true, false, List, [], Option, Some, None, FitsSigned, w32, refl, arith}
+use Rattle.std.specs.Prelude.{zero, suc, nat_lt, ◌&&◌, slice_get, map, codes}
 use Rattle.std.specs.Int.{IsInRange}
 use Rattle.std.specs.Fmt.{decimal, signed_decimal}
 use Rattle.std.specs.List.{list_all, AllByRecursion}
@@ -46,7 +46,7 @@ known bs h = All-from_recursion (λ b. IsInRange 33 126 b) bs (by_test bs h)
 -- the names of functions
 row_seen : (rows : List Columns) (place : ℕ) (row : Columns) → list_all (λ (r : Columns). list_all is_seen r.name) rows ≡ true → slice_get rows place ≡ Some row → list_all is_seen row.name ≡ true
 row_seen [] place row h at = cc
-row_seen (r ∷ rows) 0 row h at =
+row_seen (r ∷ rows) zero row h at =
     let parts = and_parts (list_all is_seen r.name) (list_all (λ (r : Columns). list_all is_seen r.name) rows) h in
     let same : r ≡ row = cc in
     rw same at parts.0

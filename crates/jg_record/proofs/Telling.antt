@@ -1,8 +1,8 @@
 -- The words that are written of a fact tell it, and what is told has words.
-use Rattle.std.proofs.Common.{◌≡◌, ◌≢◌, ◌∙◌, ◌==◌, ◌<◌, ◌≤◌, ◌+◌, ◌-◌, ◌^◌, ◌∷◌, ℕ, Bool, true, false, not, List, [], length, map, codes, if◌then◌else◌, refl, sym, ap, subst, arith, inl, inr}
-use Rattle.std.specs.Prelude.{Some, nat_le, nat_lt, zero, suc}
+use Rattle.std.proofs.Common.{◌≡◌, ◌∙◌, ◌==◌, ◌<◌, ◌≤◌, ◌+◌, ◌-◌, ◌^◌, ◌∷◌, ℕ, Bool, true, false, not, List, [], length, codes, if◌then◌else◌, refl, ap, arith, inl, inr}
+use Rattle.std.specs.Prelude.{Some, nat_lt, zero, suc}
 use Rattle.std.specs.List.{AllByRecursion, list_all}
-use Rattle.std.specs.Fmt.{decimal, signed_decimal}
+use Rattle.std.specs.Fmt.{decimal}
 use Rattle.std.proofs.lemmas.Bool.Decides.{nat_tests}
 use Rattle.jg_words.specs.declared.thread.Tid.{Tid}
 use Rattle.jg_words.specs.declared.object.ObjId.{ObjId}
@@ -74,12 +74,12 @@ record IsOwnWord (place : ℕ) : Type 0 where
   pub seen : IsVisible (own_word place)
 
 own_meant : (place : ℕ) → place ≤ 5 → IsOwnWord place
-own_meant 0 below = record { kind = own.Object; named = refl; is = refl; seen = known (codes "object") refl }
-own_meant 1 below = record { kind = own.Throwable; named = refl; is = refl; seen = known (codes "throwable") refl }
-own_meant 2 below = record { kind = own.Class; named = refl; is = refl; seen = known (codes "class") refl }
-own_meant 3 below = record { kind = own.ClassOfArrays; named = refl; is = refl; seen = known (codes "array-class") refl }
-own_meant 4 below = record { kind = own.Floats; named = refl; is = refl; seen = known (codes "floats") refl }
-own_meant 5 below = record { kind = own.Doubles; named = refl; is = refl; seen = known (codes "doubles") refl }
+own_meant zero below = record { kind = own.Object; named = refl; is = refl; seen = known (codes "object") refl }
+own_meant (suc zero) below = record { kind = own.Throwable; named = refl; is = refl; seen = known (codes "throwable") refl }
+own_meant (suc (suc zero)) below = record { kind = own.Class; named = refl; is = refl; seen = known (codes "class") refl }
+own_meant (suc (suc (suc zero))) below = record { kind = own.ClassOfArrays; named = refl; is = refl; seen = known (codes "array-class") refl }
+own_meant (suc (suc (suc (suc zero)))) below = record { kind = own.Floats; named = refl; is = refl; seen = known (codes "floats") refl }
+own_meant (suc (suc (suc (suc (suc zero))))) below = record { kind = own.Doubles; named = refl; is = refl; seen = known (codes "doubles") refl }
 own_meant (suc (suc (suc (suc (suc (suc n)))))) below = absurd (omega (arith, below))
 
 record IsClassWord (s : StatedSetup) (word : List ℕ) (class : ℕ) : Type 0 where
@@ -152,7 +152,7 @@ told s by (fact.Checked (checked.Length o n)) gone has fits =
 
 -- ---- and back
 
-pub has_told : StatedSetup → Event → List ObjId → Bool
+abbrev pub has_told : StatedSetup → Event → List ObjId → Bool
 has_told s (Question t env place) gone = false
 has_told s (Fact f) gone = is_told s f
 has_told s Gone gone = not (length gone == 0)

@@ -1,15 +1,15 @@
 -- What is written is a text of the event, and what has no such words has no text.
-use Rattle.std.proofs.Common.{◌≡◌, ◌≢◌, ◌∙◌, ◌==◌, ◌<◌, ◌≤◌, ◌+◌, ◌∷◌, ◌++◌, ℕ, Bool, true, false, not, List, [], length, map, codes, Option, Some, None, refl, sym, ap, subst, arith, inl, inr, append_assoc}
+use Rattle.std.proofs.Common.{◌≡◌, ◌∙◌, ◌==◌, ◌+◌, ◌∷◌, ◌++◌, ℕ, true, false, not, List, [], length, take, map, codes, Option, Some, None, refl, sym, ap, arith, inl, inr, append_assoc, length-append}
 use Rattle.std.specs.Prelude.{slice_get, slice_index}
 use Rattle.std.specs.List.{AllByRecursion}
-use Rattle.std.specs.Fmt.{signed_decimal}
+use Rattle.std.specs.Fmt.{decimal, signed_decimal}
+use Rattle.std.specs.String.Boundary.{IsSplitPoint}
 use Rattle.std.proofs.lemmas.Bool.Decides.{nat_tests}
 use Rattle.jg_words.specs.declared.thread.Tid.{Tid}
 use Rattle.jg_words.specs.declared.thread.EnvId.{EnvId}
 use Rattle.jg_words.specs.declared.object.ObjId.{ObjId}
 use Rattle.jg_policy.specs.Stated.{StatedSetup}
 use Rattle.jg_text.specs.Words.{tid_text, env_text, FitsTid}
-use Rattle.jg_text.specs.Faults.{fields}
 use Rattle.jg_text.specs.Pieces.{after_spaces}
 use Rattle.jg_text.proofs.Laws.{IsVisible, seen_tid, seen_env}
 use Rattle.jg_functions.specs.ByName.{name_at}
@@ -20,9 +20,9 @@ use Rattle.jg_questions.specs.declared.argument.Bounds.{Bounds as BoundsOf}
 use Rattle.jg_record.specs.declared.event.Event.{Event}
 use Rattle.jg_record.specs.declared.event.Event.TheVariants.{Question, Fact, Gone, Bounds}
 use Rattle.jg_record.specs.declared.verb.Verb.TheVariants as verb
-use Rattle.jg_record.specs.Words.{object_text}
-use Rattle.jg_record.specs.Events.{SpellsEvent, SpellsQuestion}
-use Rattle.jg_record.specs.Texts.{argument_text, appended, event_words, has_text, suits_row, FitsEvent, FitsArgument}
+use Rattle.jg_record.specs.Words.{object_text, FitsObject}
+use Rattle.jg_record.specs.Events.{SpellsEvent}
+use Rattle.jg_record.specs.Texts.{argument_text, appended, event_words, has_text, suits_row, FitsEvent}
 use Rattle.jg_record.specs.Writing.{IsTextOf, teller}
 use Rattle.jg_record.proofs.Reading.{name_of_row}
 use Rattle.jg_record.proofs.Appending.{appended_is, fields_after, printable_after}
@@ -41,12 +41,18 @@ told_text s by t words e xs gone teller_is fits as_told =
     let seen = seen_tid t fits in
     let split = fields_after (tid_text t) words seen as_told.seen in
     record {
-      spelt = inr (t, as_told.v, as_told.rest, record {
-        tid = fits;
-        word = as_told.word;
-        verb = as_told.named;
-        split = split ∙ ap (λ ws. tid_text t ∷ ws) as_told.split;
-      }, as_told.tells);
+      spelt = inr (
+        t,
+        as_told.v,
+        as_told.rest,
+        record {
+          tid = fits;
+          word = as_told.word;
+          verb = as_told.named;
+          split = split ∙ ap (λ ws. tid_text t ∷ ws) as_told.split;
+        },
+        as_told.tells,
+      );
       told = ap (λ fs. slice_get fs 0) split ∙ ap (λ u. Some (tid_text u)) (sym teller_is);
       printable = printable_after (tid_text t) words seen as_told.seen;
     }
@@ -59,20 +65,29 @@ question_text s by t env place xs gone (Some row) at suits fits_tid fits =
     let tid_seen = seen_tid t fits_tid in
     let named = name_of_row place row at in
     let name_seen : IsVisible (name_at place) = rw named (seen_name place row at) in
-    let seen = (seen_env env fits.0, (name_seen, seen_arguments xs fits.1)) in
+    let seen : AllByRecursion IsVisible (env_text env ∷ name_at place ∷ map argument_text xs) = (seen_env env fits.0, (name_seen, seen_arguments xs fits.1)) in
     let split = fields_after (tid_text t) (env_text env ∷ name_at place ∷ map argument_text xs) tid_seen seen in
     record {
-      spelt = inl (t, env, place, row, map argument_text xs, record {
-        fits_tid = fits_tid;
-        fits_env = fits.0;
-        at = at;
-        split = split ∙ ap (λ (n : List ℕ). tid_text t ∷ env_text env ∷ n ∷ map argument_text xs) named;
-      }, asks_of row.takes xs suits fits.1, refl);
+      spelt = inl (
+        t,
+        env,
+        place,
+        row,
+        map argument_text xs,
+        record {
+          fits_tid = fits_tid;
+          fits_env = fits.0;
+          at = at;
+          split = split ∙ ap (λ (n : List ℕ). tid_text t ∷ env_text env ∷ n ∷ map argument_text xs) named;
+        },
+        asks_of row.takes xs suits fits.1,
+        refl,
+      );
       told = ap (λ fs. slice_get fs 0) split;
       printable = printable_after (tid_text t) (env_text env ∷ name_at place ∷ map argument_text xs) tid_seen seen;
     }
 
-gone_told : (s : StatedSetup) (t : Tid) (gone : List ObjId) → not (length gone == 0) ≡ true → AllByRecursion (λ (o : ObjId). o.0 < 2 ^ 64) gone → ToldAs s (codes "gone" ∷ map object_text gone) t Gone gone
+gone_told : (s : StatedSetup) (t : Tid) (gone : List ObjId) → not (length gone == 0) ≡ true → AllByRecursion FitsObject gone → ToldAs s (codes "gone" ∷ map object_text gone) t Gone gone
 gone_told s t gone some fits =
     spoken s t Gone gone verb.Gone (codes "gone") (map object_text gone) refl refl (seen_objects gone fits) ((fits, grind (arith, nat_tests, some), refl), refl)
 
@@ -108,5 +123,39 @@ no_text s e xs gone none text spelt = let has = has_of s text e xs gone spelt in
 
 -- ---- behind what stands there
 
-pub behind : (old new : List ℕ) (t : Tid) (words : List (List ℕ)) → new ≡ appended (old ++ tid_text t) words → new ≡ old ++ text_of t words
-behind old new t words is = is ∙ appended_is (old ++ tid_text t) words ∙ append_assoc old (tid_text t) (after_spaces words)
+-- a text of the event, which begins with `T`, was appended
+pub record WritesText (s : StatedSetup) (by : Tid) (e : Event) (xs : List Argument) (gone : List ObjId) (old new : List ℕ) : Type 0 where
+  pub tail : List ℕ
+  pub is : new ≡ old ++ 84 ∷ tail
+  pub of : IsTextOf s by e xs gone (84 ∷ tail)
+  pub long : length new ≡ length old + length (84 ∷ tail)
+
+pub writes : (s : StatedSetup) (by : Tid) (e : Event) (xs : List Argument) (gone : List ObjId) (old new : List ℕ) → has_text s e xs gone ≡ true → FitsTid (teller by e) × FitsEvent e xs gone
+    → new ≡ appended (old ++ tid_text (teller by e)) (event_words s e xs gone) → WritesText s by e xs gone old new
+writes s by e xs gone old new has fits written =
+    let text = text_of (teller by e) (event_words s e xs gone) in
+    let is : new ≡ old ++ text = written ∙ appended_is (old ++ tid_text (teller by e)) (event_words s e xs gone) ∙ append_assoc old (tid_text (teller by e)) (after_spaces (event_words s e xs gone)) in
+    record {
+      tail = decimal (teller by e).0 ++ after_spaces (event_words s e xs gone);
+      is = is;
+      of = event_text s by e xs gone has fits.0 fits.1;
+      long = ap length is ∙ length-append old text;
+    }
+
+behind : (old tail : List ℕ) (b : ℕ) → slice_index (old ++ b ∷ tail) (length old) ≡ b
+behind [] tail b = refl
+behind (x ∷ old) tail b = behind old tail b
+
+-- the text can be cut off again
+pub cut_place : (old new tail : List ℕ) (n : ℕ) → new ≡ old ++ 84 ∷ tail → n ≡ length old → IsSplitPoint new n
+cut_place old new tail n is at = rw (is, at) (
+  omega (arith, length-append old (84 ∷ tail)),
+  λ some within high. let byte = behind old tail 84 in absurd (omega (arith, byte, high)),
+)
+
+front : (old tail : List ℕ) → take (length old) (old ++ tail) ≡ old
+front [] tail = refl
+front (x ∷ old) tail = ap (λ bs. x ∷ bs) (front old tail)
+
+pub cut_off : (old new tail : List ℕ) (n : ℕ) → new ≡ old ++ 84 ∷ tail → n ≡ length old → take n new ≡ old
+cut_off old new tail n is at = rw (is, at) (front old (84 ∷ tail))

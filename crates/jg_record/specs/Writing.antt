@@ -1,5 +1,5 @@
 -- What is written of an event, and which events have no text.
-use Rattle.std.specs.Prelude.{◌≡◌, ◌<◌, ◌≤◌, ◌++◌, ℕ, List, length, slice_get, Option, Some, All}
+use Rattle.std.specs.Prelude.{◌≡◌, ◌<◌, ◌≤◌, ◌++◌, ℕ, List, length, slice_get, Some, All}
 use Rattle.std.specs.Int.{IsInRange}
 use Rattle.jg_words.specs.declared.thread.Tid.{Tid}
 use Rattle.jg_words.specs.declared.object.ObjId.{ObjId}
@@ -12,7 +12,7 @@ use Rattle.jg_core.specs.declared.fact.Fact.TheVariants as fact
 use Rattle.jg_core.specs.declared.fact.Checked.{Checked}
 use Rattle.jg_core.specs.declared.fact.Checked.TheVariants as checked
 use Rattle.jg_record.specs.declared.event.Event.{Event}
-use Rattle.jg_record.specs.declared.event.Event.TheVariants.{Question, Fact, Gone, Bounds}
+use Rattle.jg_record.specs.declared.event.Event.TheVariants.{Question, Fact}
 use Rattle.jg_record.specs.declared.unwritten.Unwritten.{Unwritten}
 use Rattle.jg_record.specs.declared.unwritten.Unwritten.TheVariants.{NoText, TooLong, NoMemory}
 use Rattle.jg_record.specs.Events.{SpellsEvent}

@@ -77,11 +77,7 @@ fn push_list(out: &mut String, count: u64, fits: bool) -> Result<(), AllocError>
     ensures fits { OnOk result (count < 2 ^ 64) }
 {
     push::number(out, count)?;
-    if fits {
-        Ok(())
-    } else {
-        out.push('!')
-    }
+    if fits { Ok(()) } else { out.push('!') }
 }
 
 /// Writes a space and the operand.

@@ -213,12 +213,7 @@ fn push_gave(out: &mut String, buffer: BufId) -> Result<(), AllocError>
 }
 
 /// Writes that an object was met.
-fn push_met(
-    out: &mut String,
-    setup: &Setup,
-    class: u32,
-    length: u32,
-) -> Result<(), AllocError>
+fn push_met(out: &mut String, setup: &Setup, class: u32, length: u32) -> Result<(), AllocError>
     ensures written { OnOk result (string_bytes out.new ≡ appended (string_bytes out.old)
         (codes "met" ∷ texts.class_word setup.now class ∷ decimal length ∷ [])) }
     ensures fits { OnOk result ((class < 2 ^ 32) × (length < 2 ^ 32)) }

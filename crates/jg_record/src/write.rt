@@ -100,11 +100,11 @@ pub fn push_event(
     if !has_text(setup, event, lists) {
         return Err(Unwritten::NoText);
     }
-    let start = out.len();
+    let start = out.as_str().len();
     let Ok(()) = push_text(out, setup, by, event, lists) else {
         return Err(Unwritten::NoMemory);
     };
-    if out.len() - start > MAX_LINE {
+    if out.as_str().len() - start > MAX_LINE {
         out.truncate(start);
         return Err(Unwritten::TooLong);
     }

@@ -1,7 +1,9 @@
 //! Faulty events: each fault, and of two faults the first.
 
 use super::{no_lists, read_setup};
-use crate::RecordFault::{self, BadOperand, NoEvent, NoThread, NotAscii, UnknownFunction, WrongCount};
+use crate::RecordFault::{
+    self, BadOperand, NoEvent, NoThread, NotAscii, UnknownFunction, WrongCount,
+};
 use crate::read_event;
 use jg_policy::Setup;
 use std::alloc::Global;
@@ -30,7 +32,10 @@ const FAULTY: [(&str, RecordFault); 50] = [
     ("T1 E1.1 CallVoidMethodA L1.1 ID", BadOperand),
     ("T1 E1.1 DeleteLocalRef O1", BadOperand),
     ("T1 E1.1 PushLocalFrame 2147483648", BadOperand),
-    ("T1 E1.1 GetIntArrayRegion L1.1 9223372036854775808 0", BadOperand),
+    (
+        "T1 E1.1 GetIntArrayRegion L1.1 9223372036854775808 0",
+        BadOperand,
+    ),
     ("T1 E1.1 NewString 1!!", BadOperand),
     ("T1 E1.1 NewString -1", BadOperand),
     ("T1 E1.1 NewString !", BadOperand),
@@ -72,7 +77,11 @@ fn first_other(alloc: Global, setup: &Setup) -> Option<&'static str> {
 }
 
 /// The fault of a text of so many bytes, none of which a line may have.
-fn fault_of_length(alloc: Global, setup: &Setup, length: usize) -> Result<Option<RecordFault>, Fail> {
+fn fault_of_length(
+    alloc: Global,
+    setup: &Setup,
+    length: usize,
+) -> Result<Option<RecordFault>, Fail> {
     let mut lists = no_lists(alloc);
     let mut text = Vec::new(alloc);
     text.resize(length, 0x7F)?;
@@ -85,7 +94,13 @@ fn the_first_fault_is_named(rt: HostRuntime) -> Result<(), Fail> {
         return Err(Fail::from("setup"));
     };
     assert_eq!(rt; first_other(rt.alloc(), &setup), None);
-    assert_eq!(rt; fault_of_length(rt.alloc(), &setup, 65_537)?, Some(RecordFault::LineTooLong));
-    assert_eq!(rt; fault_of_length(rt.alloc(), &setup, 65_536)?, Some(NotAscii));
+    assert_eq!(rt;
+        fault_of_length(rt.alloc(), &setup, 65_537)?,
+        Some(RecordFault::LineTooLong)
+    );
+    assert_eq!(rt;
+        fault_of_length(rt.alloc(), &setup, 65_536)?,
+        Some(NotAscii)
+    );
     Ok(())
 }

@@ -79,7 +79,13 @@ const LINES: [&str; 67] = [
 ];
 
 /// Whether the text is written back so, as told by thread 7.
-fn is_written_back(alloc: Global, setup: &Setup, lists: &mut Lists, text: &str, back: &str) -> Result<bool, Fail> {
+fn is_written_back(
+    alloc: Global,
+    setup: &Setup,
+    lists: &mut Lists,
+    text: &str,
+    back: &str,
+) -> Result<bool, Fail> {
     let Ok(event) = read_event(setup, text.as_bytes(), lists) else {
         return Ok(false);
     };

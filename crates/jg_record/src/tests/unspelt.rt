@@ -49,7 +49,11 @@ fn first_other(alloc: Global, setup: &Setup) -> Result<Option<usize>, AllocError
     let cases = [
         (question("NoFunction"), None, Err(NoText)),
         (question("GetVersion"), None, Ok("T1 - GetVersion")),
-        (question("GetVersion"), Some(Argument::Number(1)), Err(NoText)),
+        (
+            question("GetVersion"),
+            Some(Argument::Number(1)),
+            Err(NoText),
+        ),
         (number, None, Err(NoText)),
         (number, Some(Argument::Reference(Ref::Null)), Err(NoText)),
         (number, Some(Argument::Value(2_147_483_647)), Err(NoText)),
@@ -79,7 +83,11 @@ fn first_other(alloc: Global, setup: &Setup) -> Result<Option<usize>, AllocError
 }
 
 /// What becomes of so many objects that are gone, each of 22 bytes.
-fn told_of_gone(alloc: Global, setup: &Setup, count: usize) -> Result<Result<(), Unwritten>, AllocError> {
+fn told_of_gone(
+    alloc: Global,
+    setup: &Setup,
+    count: usize,
+) -> Result<Result<(), Unwritten>, AllocError> {
     let mut lists = no_lists(alloc);
     for _ in 0..count {
         lists.objects.push(ObjId(u64::MAX))?;
