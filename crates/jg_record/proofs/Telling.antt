@@ -41,8 +41,8 @@ pub record ToldAs (s : StatedSetup) (words : List (List ℕ)) (t : Tid) (e : Eve
   pub tells : Tells s v t rest e gone
   pub seen : AllByRecursion IsVisible words
 
-pub spoken : (s : StatedSetup) (t : Tid) (e : Event) (gone : List ObjId) (v : Verb) (word : List ℕ) (rest : List (List ℕ)) → verb_named word ≡ Some v → list_all is_seen word ≡ true → AllByRecursion IsVisible rest
-    → Tells s v t rest e gone → ToldAs s (word ∷ rest) t e gone
+pub spoken : (s : StatedSetup) (t : Tid) (e : Event) (gone : List ObjId) (v : Verb) (word : List ℕ) (rest : List (List ℕ)) → verb_named word ≡ Some v → list_all is_seen word ≡ true
+    → AllByRecursion IsVisible rest → Tells s v t rest e gone → ToldAs s (word ∷ rest) t e gone
 spoken s t e gone v word rest named seen others tells = record { v = v; word = word; rest = rest; split = refl; named = named; tells = tells; seen = (known word seen, others) }
 
 -- ---- words of kinds, families and classes

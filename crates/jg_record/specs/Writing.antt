@@ -46,7 +46,8 @@ teller by (Fact f) = teller_of by f
 teller by e = by
 
 -- the text is that of the event, with its thread or this one, and has no byte that a reader refuses
-pub record IsTextOf (s : StatedSetup) (by : Tid) (e : Event) (xs : List Argument) (gone : List ObjId) (text : List ℕ) : Type 0 where
+pub record IsTextOf (s : StatedSetup) (by : Tid) (e : Event) (xs : List Argument) (gone : List ObjId) (text : List ℕ)
+    : Type 0 where
   pub spelt : SpellsEvent s text e xs gone
   pub told : slice_get (fields text) 0 ≡ Some (tid_text (teller by e))
   pub printable : All (λ b. IsInRange 32 126 b) text

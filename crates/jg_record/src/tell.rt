@@ -125,7 +125,8 @@ fn own_word(place: u32) -> &'static str
 
 /// Writes a space and the word for the class.
 fn push_class(out: &mut String, setup: &Setup, class: u32) -> Result<(), AllocError>
-    ensures { OnOk result (string_bytes out.new ≡ appended (string_bytes out.old) (texts.class_word setup.now class ∷ [])) }
+    ensures { OnOk result (string_bytes out.new
+        ≡ appended (string_bytes out.old) (texts.class_word setup.now class ∷ [])) }
 {
     let count = setup.class_count();
     if class < count {
@@ -137,7 +138,8 @@ fn push_class(out: &mut String, setup: &Setup, class: u32) -> Result<(), AllocEr
 
 /// Writes the fact's word and the object that was kept.
 fn with_kept(out: &mut String, word: &str, kept: Option<ObjId>) -> Result<(), AllocError>
-    ensures written { OnOk result (string_bytes out.new ≡ appended (string_bytes out.old) (word.now ∷ kept_text kept ∷ [])) }
+    ensures written { OnOk result (string_bytes out.new
+        ≡ appended (string_bytes out.old) (word.now ∷ kept_text kept ∷ [])) }
     ensures fits { OnOk result (FitsKept kept) }
 {
     push::word(out, word)?;
@@ -146,7 +148,8 @@ fn with_kept(out: &mut String, word: &str, kept: Option<ObjId>) -> Result<(), Al
 
 /// Writes the fact's word and the object.
 fn with_object(out: &mut String, word: &str, object: ObjId) -> Result<(), AllocError>
-    ensures written { OnOk result (string_bytes out.new ≡ appended (string_bytes out.old) (word.now ∷ object_text object ∷ [])) }
+    ensures written { OnOk result (string_bytes out.new
+        ≡ appended (string_bytes out.old) (word.now ∷ object_text object ∷ [])) }
     ensures fits { OnOk result (FitsObject object) }
 {
     push::word(out, word)?;
@@ -155,7 +158,8 @@ fn with_object(out: &mut String, word: &str, object: ObjId) -> Result<(), AllocE
 
 /// Writes the fact's word and the number.
 fn with_natural(out: &mut String, word: &str, n: u32) -> Result<(), AllocError>
-    ensures written { OnOk result (string_bytes out.new ≡ appended (string_bytes out.old) (word.now ∷ decimal n ∷ [])) }
+    ensures written { OnOk result (string_bytes out.new
+        ≡ appended (string_bytes out.old) (word.now ∷ decimal n ∷ [])) }
     ensures fits { OnOk result (n < 2 ^ 32) }
 {
     push::word(out, word)?;

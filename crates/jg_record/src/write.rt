@@ -80,10 +80,10 @@ fn push_text(
     push_words(out, setup, event, lists)
 }
 
-/// Writes the text of an event, as [`read_event`](crate::read_event) reads it: no answer, no note and no line feed. The
-/// operands of a question and the objects that are gone stand in the lists; a name is written as `?`. Of a fact that is
-/// no thread's the text says that this thread told it. Where it isn't written, the string is as it was, but where memory
-/// ran out: then a part may stand in it.
+/// Writes the text of an event behind what the string holds, as [`read_event`](crate::read_event) reads it: no answer,
+/// no note and no line feed. The operands of a question and the objects that are gone are those of the lists. A name is
+/// written as `?`. What is no thread's own is told by the thread that is handed in. At `NoText` and `TooLong` the string
+/// is as it was; at `NoMemory` a part of the text may stand in it.
 pub fn push_event(
     out: &mut String,
     setup: &Setup,
