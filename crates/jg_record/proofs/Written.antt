@@ -23,7 +23,7 @@ use Rattle.jg_record.specs.declared.verb.Verb.TheVariants as verb
 use Rattle.jg_record.specs.Words.{object_text, FitsObject}
 use Rattle.jg_record.specs.Events.{SpellsEvent}
 use Rattle.jg_record.specs.Texts.{argument_text, appended, event_words, has_text, suits_row, FitsEvent}
-use Rattle.jg_record.specs.Writing.{IsTextOf, teller}
+use Rattle.jg_record.specs.Writing.{IsTextOf, AppendsText, teller}
 use Rattle.jg_record.proofs.Reading.{name_of_row}
 use Rattle.jg_record.proofs.Appending.{appended_is, fields_after, printable_after}
 use Rattle.jg_record.proofs.Seen.{seen_name, seen_arguments, seen_objects, seen_small}
@@ -123,24 +123,18 @@ no_text s e xs gone none text spelt = let has = has_of s text e xs gone spelt in
 
 -- ---- behind what stands there
 
--- a text of the event, which begins with `T`, was appended
-pub record WritesText (s : StatedSetup) (by : Tid) (e : Event) (xs : List Argument) (gone : List ObjId) (old new : List ℕ) : Type 0 where
-  pub tail : List ℕ
-  pub is : new ≡ old ++ 84 ∷ tail
-  pub of : IsTextOf s by e xs gone (84 ∷ tail)
-  pub long : length new ≡ length old + length (84 ∷ tail)
+pub writes : (s : StatedSetup) (by : Tid) (e : Event) (xs : List Argument) (gone : List ObjId) (old first new : List ℕ) → has_text s e xs gone ≡ true → FitsTid (teller by e)
+    → FitsEvent e xs gone → first ≡ old ++ tid_text (teller by e) → new ≡ appended first (event_words s e xs gone) → AppendsText s by e xs gone old new
+writes s by e xs gone old first new has fits_tid fits tid written = record {
+  tail = decimal (teller by e).0 ++ after_spaces (event_words s e xs gone);
+  is = event_text s by e xs gone has fits_tid fits;
+  appended = written ∙ appended_is first (event_words s e xs gone) ∙ ap (λ bs. bs ++ after_spaces (event_words s e xs gone)) tid
+      ∙ append_assoc old (tid_text (teller by e)) (after_spaces (event_words s e xs gone));
+}
 
-pub writes : (s : StatedSetup) (by : Tid) (e : Event) (xs : List Argument) (gone : List ObjId) (old new : List ℕ) → has_text s e xs gone ≡ true → FitsTid (teller by e) × FitsEvent e xs gone
-    → new ≡ appended (old ++ tid_text (teller by e)) (event_words s e xs gone) → WritesText s by e xs gone old new
-writes s by e xs gone old new has fits written =
-    let text = text_of (teller by e) (event_words s e xs gone) in
-    let is : new ≡ old ++ text = written ∙ appended_is (old ++ tid_text (teller by e)) (event_words s e xs gone) ∙ append_assoc old (tid_text (teller by e)) (after_spaces (event_words s e xs gone)) in
-    record {
-      tail = decimal (teller by e).0 ++ after_spaces (event_words s e xs gone);
-      is = is;
-      of = event_text s by e xs gone has fits.0 fits.1;
-      long = ap length is ∙ length-append old text;
-    }
+-- it is as long as the string has grown
+pub longer : (s : StatedSetup) (by : Tid) (e : Event) (xs : List Argument) (gone : List ObjId) (old new : List ℕ) (h : AppendsText s by e xs gone old new) → length new ≡ length old + length (84 ∷ h.tail)
+longer s by e xs gone old new h = ap length h.appended ∙ length-append old (84 ∷ h.tail)
 
 behind : (old tail : List ℕ) (b : ℕ) → slice_index (old ++ b ∷ tail) (length old) ≡ b
 behind [] tail b = refl

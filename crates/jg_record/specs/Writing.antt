@@ -1,5 +1,5 @@
 -- What is written of an event, and which events have no text.
-use Rattle.std.specs.Prelude.{◌≡◌, ◌<◌, ◌≤◌, ◌++◌, ℕ, List, length, slice_get, Some, All}
+use Rattle.std.specs.Prelude.{◌≡◌, ◌<◌, ◌≤◌, ◌++◌, ◌∷◌, ℕ, List, length, slice_get, Some, All}
 use Rattle.std.specs.Int.{IsInRange}
 use Rattle.jg_words.specs.declared.thread.Tid.{Tid}
 use Rattle.jg_words.specs.declared.object.ObjId.{ObjId}
@@ -52,7 +52,14 @@ pub record IsTextOf (s : StatedSetup) (by : Tid) (e : Event) (xs : List Argument
   pub told : slice_get (fields text) 0 ≡ Some (tid_text (teller by e))
   pub printable : All (λ b. IsInRange 32 126 b) text
 
--- such a text was appended, of at most 65,536 bytes
+-- such a text was appended, which begins with `T`
+pub record AppendsText (s : StatedSetup) (by : Tid) (e : Event) (xs : List Argument) (gone : List ObjId) (old new : List ℕ)
+    : Type 0 where
+  pub tail : List ℕ
+  pub is : IsTextOf s by e xs gone (84 ∷ tail)
+  pub appended : new ≡ old ++ 84 ∷ tail
+
+-- one was, of at most 65,536 bytes
 abbrev pub IsWritten : StatedSetup → Tid → Event → List Argument → List ObjId → List ℕ → List ℕ → Type 0
 IsWritten s by e xs gone old new =
     (text : List ℕ) × (length text ≤ 65536) × IsTextOf s by e xs gone text × (new ≡ old ++ text)

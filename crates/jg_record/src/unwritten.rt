@@ -6,7 +6,8 @@ use thiserror::Error;
 #[derive(Clone, Copy, Debug, PartialEq, Eq, Error)]
 pub enum Unwritten {
     /// No text spells it: its function isn't in the table or doesn't take these operands, its class is neither one of
-    /// the setup nor of a kind that can be met, or it says that no object, or a single one, is gone.
+    /// the setup nor of a kind that can be met, or no object is gone. Of a single object that is gone
+    /// [`Event::Gone`](crate::Event::Gone) tells, and not a fact.
     #[error("NoText")]
     NoText,
     /// Its text has more than 65,536 bytes.

@@ -1,12 +1,11 @@
 //! An event of a record, written.
 
-ghost use Rattle.std.specs.Prelude.{◌≡◌, ◌≢◌, ◌++◌, IfErr, OnOk, string_bytes};
-ghost use Rattle.jg_text.specs.Words.{FitsTid, tid_text};
+ghost use Rattle.std.specs.Prelude.{◌≡◌, ◌≢◌, IfErr, OnOk, string_bytes, true};
 ghost use Rattle.jg_record.specs.Texts as texts;
 ghost use Rattle.jg_record.specs.Texts.{FitsEvent, appended, event_words};
 ghost use Rattle.jg_record.specs.declared.unwritten.Unwritten.TheVariants.{NoMemory};
 ghost use Rattle.jg_record.specs.Writing as writing;
-ghost use Rattle.jg_record.specs.Writing.{IsUnwritten, IsWritten};
+ghost use Rattle.jg_record.specs.Writing.{AppendsText, IsUnwritten, IsWritten};
 
 use crate::ask::{push_question, suits_row};
 use crate::event::{Event, Lists};
@@ -62,7 +61,7 @@ fn push_words(
     }
 }
 
-/// Writes the event's thread and its words.
+/// Writes the text of an event that has one.
 fn push_text(
     out: &mut String,
     setup: &Setup,
@@ -70,14 +69,13 @@ fn push_text(
     event: &Event,
     lists: &Lists,
 ) -> Result<(), AllocError>
-    ensures written { OnOk result (string_bytes out.new
-        ≡ appended (string_bytes out.old ++ tid_text (writing.teller by event.now))
-        (event_words setup.now event.now lists.now.arguments.items lists.now.objects.items)) }
-    ensures fits { OnOk result (FitsTid (writing.teller by event.now)
-        × FitsEvent event.now lists.now.arguments.items lists.now.objects.items) }
+    requires { texts.has_text setup.now event.now lists.now.arguments.items lists.now.objects.items ≡ true }
+    ensures { OnOk result (AppendsText setup.now by event.now lists.now.arguments.items lists.now.objects.items
+        (string_bytes out.old) (string_bytes out.new)) }
 {
     push_tid(out, teller(by, event))?;
-    push_words(out, setup, event, lists)
+    push_words(out, setup, event, lists)?;
+    Ok(())
 }
 
 /// Writes the text of an event behind what the string holds, as [`read_event`](crate::read_event) reads it: no answer,
