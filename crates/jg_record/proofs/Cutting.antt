@@ -10,7 +10,8 @@ use Rattle.jg_record.specs.Parts.{IsApart, IsMarkAt, NoMark, IsFirstMark, CutsAt
 pub here : (mark : ℕ) (text : List ℕ) (from k : ℕ) → Passes (is_byte mark) (drop from text) k → slice_index text (from + k) ≡ mark
 here mark text from k passes = sym (get_or-drop from text k 0) ∙ eqb-true (slice_index (drop from text) k) mark passes
 
-before_or : (mark : ℕ) (text : List ℕ) (from k j : ℕ) (b : Bool) → nat_lt j from ≡ b → NoMark mark text from → Nowhere (Passes (is_byte mark) (drop from text)) 0 k → j < from + k → ¬ IsMarkAt mark text j
+before_or : (mark : ℕ) (text : List ℕ) (from k j : ℕ) (b : Bool) → nat_lt j from ≡ b → NoMark mark text from → Nowhere (Passes (is_byte mark) (drop from text)) 0 k → j < from + k
+    → ¬ IsMarkAt mark text j
 before_or mark text from k j true low old none lt = old j (grind (arith, nat_tests, low))
 before_or mark text from k j false high old none lt = λ mark_at.
     let past : from ≤ j = grind (arith, nat_tests, high) in

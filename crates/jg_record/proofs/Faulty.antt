@@ -203,7 +203,8 @@ module _ (s : StatedSetup) (text : List ℕ) (plain : IsPlain text) where
       fault = (
         λ t' env' place' row' words' asks xs asks'. absurd (no_question t' env' place' row' words' asks),
         λ t' v' words' told' e gone tells. let same = one_verb t' v' words' told' in
-            none e gone (subst (λ (u : Tid). Tells s v u words e gone) same.0 (subst (λ (w : Verb). Tells s w t' words e gone) same.1 (subst (λ (ws : List (List ℕ)). Tells s v' t' ws e gone) same.2 tells))),
+            none e gone (subst (λ (u : Tid). Tells s v u words e gone) same.0
+            (subst (λ (w : Verb). Tells s w t' words e gone) same.1 (subst (λ (ws : List (List ℕ)). Tells s v' t' ws e gone) same.2 tells))),
       );
       first = spoken_whole count;
     }

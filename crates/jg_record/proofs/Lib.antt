@@ -4,3 +4,8 @@ pub mod Faulty
 pub mod Told
 pub mod Going
 pub mod Reading
+pub mod Appending
+pub mod Seen
+pub mod Telling
+pub mod Sorting
+pub mod Written

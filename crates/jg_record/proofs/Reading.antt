@@ -31,7 +31,7 @@ many = refl
 row_below : (place : ℕ) (row : Columns) → slice_get functions place ≡ Some row → place < 243
 row_below place row at = omega (arith, slice_get_within functions place row at, many)
 
-name_of_row : (place : ℕ) (row : Columns) → slice_get functions place ≡ Some row → name_at place ≡ row.name
+pub name_of_row : (place : ℕ) (row : Columns) → slice_get functions place ≡ Some row → name_at place ≡ row.name
 name_of_row place row at = ap (λ (found : Option Columns). unwrap_or (option_map (λ r. r.name) found) []) at
 
 -- the name's place is that of one row alone
@@ -124,8 +124,8 @@ module _ (s : StatedSetup) (text : List ℕ) (plain : IsPlain text) where
 
 -- ---- events
 
-pub question_spelt : (s : StatedSetup) (text : List ℕ) (r : Result Event RecordFault) (t : Tid) (env : Option EnvId) (words : List (List ℕ)) (xs : List Argument) (gone : List ObjId) → FitsTid t → FitsEnv env
-    → fields text ≡ tid_text t ∷ env_text env ∷ words → IfOk r (λ e. AsksBehind t env words e xs) → IfOk r (λ e. SpellsEvent s text e xs gone)
+pub question_spelt : (s : StatedSetup) (text : List ℕ) (r : Result Event RecordFault) (t : Tid) (env : Option EnvId) (words : List (List ℕ)) (xs : List Argument) (gone : List ObjId) → FitsTid t
+    → FitsEnv env → fields text ≡ tid_text t ∷ env_text env ∷ words → IfOk r (λ e. AsksBehind t env words e xs) → IfOk r (λ e. SpellsEvent s text e xs gone)
 question_spelt s text (Ok e) t env words xs gone fits fits_env split (place, row, rest, h, is, asks) =
     inl (t, env, place, row, rest, record { fits_tid = fits; fits_env = fits_env; at = h.at; split = split ∙ ap (λ (ws : List (List ℕ)). tid_text t ∷ env_text env ∷ ws) h.split }, asks, is)
 question_spelt s text (Err f) t env words xs gone fits fits_env split spelt = spelt

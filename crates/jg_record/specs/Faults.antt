@@ -35,13 +35,13 @@ HasFault UnknownFunction s text =
     × ((place : ℕ) → place < 243 → slice_get (fields text) 2 ≢ Some (name_at place))
 -- the fields after it are more or fewer than the function's operands, or than the words of the fact
 HasFault WrongCount s text =
-    ((t : Tid) (env : Option EnvId) (place : ℕ) (row : Columns) (words : List (List ℕ)) → AsksFor text t env place row words
-    → is_count row.takes (length words) ≡ false)
+    ((t : Tid) (env : Option EnvId) (place : ℕ) (row : Columns) (words : List (List ℕ))
+    → AsksFor text t env place row words → is_count row.takes (length words) ≡ false)
     × ((t : Tid) (v : Verb) (words : List (List ℕ)) → TellsOf text t v words → is_told_count v (length words) ≡ false)
 -- one of them spells no operand of the kind that stands there
 HasFault BadOperand s text =
-    ((t : Tid) (env : Option EnvId) (place : ℕ) (row : Columns) (words : List (List ℕ)) → AsksFor text t env place row words
-    → (xs : List Argument) → ¬ Asks row.takes words xs)
+    ((t : Tid) (env : Option EnvId) (place : ℕ) (row : Columns) (words : List (List ℕ))
+    → AsksFor text t env place row words → (xs : List Argument) → ¬ Asks row.takes words xs)
     × ((t : Tid) (v : Verb) (words : List (List ℕ)) → TellsOf text t v words
     → (e : Event) (gone : List ObjId) → ¬ Tells s v t words e gone)
 HasFault NoMemory s text = ⊥

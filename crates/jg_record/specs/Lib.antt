@@ -5,3 +5,5 @@ pub mod Events
 pub mod Faults
 pub mod Pieces
 pub mod Replies
+pub mod Texts
+pub mod Writing

@@ -1,8 +1,9 @@
 -- How the operands of a question are spelt, by what the row of its function says of each.
-use Rattle.std.specs.Prelude.{◌≡◌, ◌<◌, ◌^◌, ◌==◌, ◌+◌, ℕ, ℤ, Bool, true, List, [], ◌∷◌, length, nat_le, Option, if◌then◌else◌, FitsSigned, ◌⊎◌}
+use Rattle.std.specs.Prelude.{◌≡◌, ◌<◌, ◌^◌, ◌==◌, ◌+◌, ◌||◌, ℕ, ℤ, Bool, true, false, List, [], ◌∷◌, length, nat_le, codes, Option, if◌then◌else◌, FitsSigned, ◌⊎◌}
 use Rattle.std.specs.Int.{w32, w64}
 use Rattle.std.specs.Fmt.{signed_decimal}
 use Rattle.std.specs.List.{list_any}
+use Rattle.std.specs.Str.{bytes_eq}
 use Rattle.jg_words.specs.Name.{IsName}
 use Rattle.jg_words.specs.declared.buffer.BufId.{BufId}
 use Rattle.jg_words.specs.declared.reference.Ref.{Ref}
@@ -45,6 +46,10 @@ sort_of takes.Name = Name
 sort_of (takes.Items item) = ListOf
 sort_of takes.Utf8 = ListOf
 
+-- the word is a mark of a line, which would end an event
+abbrev pub is_mark : List ℕ → Bool
+is_mark word = bytes_eq word (codes "=") || bytes_eq word (codes "@")
+
 -- the word spells the operand; a number that no rule bounds has 32 bits where it can
 abbrev pub Spells : Sort → List ℕ → Argument → Type 0
 Spells Reference word x = (r : Ref) × FitsRef r × (word ≡ ref_text r) × (x ≡ argument.Reference r)
@@ -57,7 +62,7 @@ Spells Id word x = (fits : Bool) × (word ≡ id_text fits) × (x ≡ argument.I
 Spells Class word x = (class : Option ℕ) × FitsStated class × (word ≡ stated_text class) × (x ≡ argument.Class class)
 Spells Native word x =
     (native : Option ℕ) × FitsStated native × (word ≡ stated_text native) × (x ≡ argument.Native native)
-Spells Name word x = IsName word × (x ≡ argument.Name)
+Spells Name word x = IsName word × (is_mark word ≡ false) × (x ≡ argument.Name)
 Spells ListOf word x =
     (count : ℕ) × (fits : Bool) × (count < 2 ^ 64) × (word ≡ list_text count fits) × (x ≡ argument.List count fits)
 

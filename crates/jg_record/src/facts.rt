@@ -66,8 +66,10 @@ fn two(rest: Option<&[u8]>) -> Option<(&[u8], &[u8])>
 
 /// The object that the one word left spells, or none.
 fn one_kept(rest: Option<&[u8]>) -> Option<Option<ObjId>>
-    ensures some { IfSome result (λ kept. FitsKept kept × (rest_fields (option_copied rest.entry) ≡ kept_text kept ∷ [])) }
-    ensures none { IfNone result ((kept : Option ObjIdOf) → FitsKept kept → rest_fields (option_copied rest.entry) ≢ kept_text kept ∷ []) }
+    ensures some { IfSome result (λ kept. FitsKept kept
+        × (rest_fields (option_copied rest.entry) ≡ kept_text kept ∷ [])) }
+    ensures none { IfNone result ((kept : Option ObjIdOf) → FitsKept kept
+        → rest_fields (option_copied rest.entry) ≢ kept_text kept ∷ []) }
 {
     let word = one(rest)?;
     read_kept(word)
@@ -85,7 +87,8 @@ fn one_natural(rest: Option<&[u8]>) -> Option<u32>
 /// The object that it spells.
 fn one_object(rest: Option<&[u8]>) -> Option<ObjId>
     ensures some { IfSome result (λ o. FitsObject o × (rest_fields (option_copied rest.entry) ≡ object_text o ∷ [])) }
-    ensures none { IfNone result ((o : ObjIdOf) → FitsObject o → rest_fields (option_copied rest.entry) ≢ object_text o ∷ []) }
+    ensures none { IfNone result ((o : ObjIdOf) → FitsObject o
+        → rest_fields (option_copied rest.entry) ≢ object_text o ∷ []) }
 {
     let word = one(rest)?;
     read_object(word)
@@ -103,7 +106,8 @@ fn one_reference(rest: Option<&[u8]>) -> Option<Ref>
 /// The buffer that it spells.
 fn one_buffer(rest: Option<&[u8]>) -> Option<BufId>
     ensures some { IfSome result (λ b. FitsBuf b × (rest_fields (option_copied rest.entry) ≡ buf_text b ∷ [])) }
-    ensures none { IfNone result ((b : BufIdOf) → FitsBuf b → rest_fields (option_copied rest.entry) ≢ buf_text b ∷ []) }
+    ensures none { IfNone result ((b : BufIdOf) → FitsBuf b
+        → rest_fields (option_copied rest.entry) ≢ buf_text b ∷ []) }
 {
     let word = one(rest)?;
     read_buf(word)
@@ -126,7 +130,8 @@ fn handed(tid: Tid, rest: Option<&[u8]>) -> Option<Fact>
 /// The fact that the native method of the class is linked, whose numbers they spell.
 fn linked(rest: Option<&[u8]>) -> Option<Fact>
     ensures some { IfSome result (λ x. (class : ℕ) × (class < 2 ^ 32) × (native : ℕ) × (native < 2 ^ 32)
-        × (rest_fields (option_copied rest.entry) ≡ decimal class ∷ decimal native ∷ []) × (x ≡ facts.Link class native)) }
+        × (rest_fields (option_copied rest.entry) ≡ decimal class ∷ decimal native ∷ [])
+        × (x ≡ facts.Link class native)) }
     ensures none { IfNone result ((a b : ℕ) → a < 2 ^ 32 → b < 2 ^ 32
         → rest_fields (option_copied rest.entry) ≢ decimal a ∷ decimal b ∷ []) }
 {
@@ -139,7 +144,8 @@ fn linked(rest: Option<&[u8]>) -> Option<Fact>
 /// The check of the thread's local reference whose number they spell, with the object, or none.
 fn local(tid: Tid, rest: Option<&[u8]>) -> Option<Fact>
     ensures some { IfSome result (λ x. (n : ℕ) × (n < 2 ^ 64) × (kept : Option ObjIdOf) × FitsKept kept
-        × (rest_fields (option_copied rest.entry) ≡ decimal n ∷ kept_text kept ∷ []) × (x ≡ facts.Checked (checked.Local tid n kept))) }
+        × (rest_fields (option_copied rest.entry) ≡ decimal n ∷ kept_text kept ∷ [])
+        × (x ≡ facts.Checked (checked.Local tid n kept))) }
     ensures none { IfNone result ((n : ℕ) (kept : Option ObjIdOf) → n < 2 ^ 64 → FitsKept kept
         → rest_fields (option_copied rest.entry) ≢ decimal n ∷ kept_text kept ∷ []) }
 {
@@ -152,7 +158,8 @@ fn local(tid: Tid, rest: Option<&[u8]>) -> Option<Fact>
 /// The check of the length of the object that they spell.
 fn length(rest: Option<&[u8]>) -> Option<Fact>
     ensures some { IfSome result (λ x. (o : ObjIdOf) × FitsObject o × (n : ℕ) × (n < 2 ^ 32)
-        × (rest_fields (option_copied rest.entry) ≡ object_text o ∷ decimal n ∷ []) × (x ≡ facts.Checked (checked.Length o n))) }
+        × (rest_fields (option_copied rest.entry) ≡ object_text o ∷ decimal n ∷ [])
+        × (x ≡ facts.Checked (checked.Length o n))) }
     ensures none { IfNone result ((o : ObjIdOf) (n : ℕ) → FitsObject o → n < 2 ^ 32
         → rest_fields (option_copied rest.entry) ≢ object_text o ∷ decimal n ∷ []) }
 {
@@ -180,7 +187,8 @@ fn class_meant(setup: &Setup, word: &[u8]) -> Option<u32>
 /// The fact that an object of the class and the length that the two words left spell was met.
 fn met(setup: &Setup, rest: Option<&[u8]>) -> Option<Fact>
     ensures some { IfSome result (λ x. (word : List ℕ) × (class : ℕ) × MeansClass setup.now word class
-        × (n : ℕ) × (n < 2 ^ 32) × (rest_fields (option_copied rest.entry) ≡ word ∷ decimal n ∷ []) × (x ≡ facts.Meet class n)) }
+        × (n : ℕ) × (n < 2 ^ 32) × (rest_fields (option_copied rest.entry) ≡ word ∷ decimal n ∷ [])
+        × (x ≡ facts.Meet class n)) }
     ensures none { IfNone result ((word : List ℕ) (class n : ℕ) → MeansClass setup.now word class → n < 2 ^ 32
         → rest_fields (option_copied rest.entry) ≢ word ∷ decimal n ∷ []) }
 {
@@ -219,7 +227,8 @@ fn lent(tid: Tid, rest: Option<&[u8]>) -> Option<Fact>
 
 /// The bounds that the three words left spell.
 fn bounds(rest: Option<&[u8]>) -> Option<Bounds>
-    ensures some { IfSome result (λ b. rest_fields (option_copied rest.entry) ≡ signed_decimal b.capacity ∷ signed_decimal b.length ∷ signed_decimal b.items ∷ []) }
+    ensures some { IfSome result (λ b. rest_fields (option_copied rest.entry)
+        ≡ signed_decimal b.capacity ∷ signed_decimal b.length ∷ signed_decimal b.items ∷ []) }
     ensures none { IfNone result ((a b c : ℤ) → FitsSigned w32 a → FitsSigned w32 b → FitsSigned w32 c
         → rest_fields (option_copied rest.entry) ≢ signed_decimal a ∷ signed_decimal b ∷ signed_decimal c ∷ []) }
 {

@@ -37,7 +37,7 @@ pub enum Sort {
 }
 
 /// How an operand is spelt, by what the row says of it.
-fn sort_of(takes: Takes) -> Sort
+pub fn sort_of(takes: Takes) -> Sort
     ensures { result ≡ spec.sort_of takes }
 {
     match takes {
@@ -180,11 +180,18 @@ fn is_name(word: &[u8]) -> bool
     word.len() >= 1 && word.len() <= MAX_NAME && word.iter().all(|b| *b >= 0x21 && *b <= 0x7E)
 }
 
+/// Whether the word is a mark of a line, which would end an event.
+fn is_mark(word: &[u8]) -> bool
+    ensures { result ≡ spec.is_mark word.now }
+{
+    word == b"=".as_slice() || word == b"@".as_slice()
+}
+
 fn name(word: &[u8]) -> Option<Argument>
     ensures some { IfSome result (Spells sort.Name word.now) }
     ensures none { IfNone result ((x : ArgumentOf) → ¬ Spells sort.Name word.now x) }
 {
-    if is_name(word) {
+    if is_name(word) && !is_mark(word) {
         Some(Argument::Name)
     } else {
         None

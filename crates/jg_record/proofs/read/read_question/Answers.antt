@@ -53,5 +53,6 @@ returns-in-Err-2 c =
     record {
       ok = tt;
       err = rw c.in-Some.is (question_fault _ c.in-Some-place_of.function (columns c.in-Some-row_of.row.now) (rest_fields (option_copied c.cut.result.1)) c.in-Err.field-0
-          (has_row _ _ c.cut.result.0.now c.in-Some-place_of.function (columns c.in-Some-row_of.row.now) split c.in-Some-place_of.ensures.some c.in-Some-place_of.ensures.one at) count c.in-Err.ensures.err);
+          (has_row _ _ c.cut.result.0.now c.in-Some-place_of.function (columns c.in-Some-row_of.row.now) split c.in-Some-place_of.ensures.some
+          c.in-Some-place_of.ensures.one at) count c.in-Err.ensures.err);
     }
