@@ -11,7 +11,7 @@ use Rattle.jg_shell.specs.Finish.{IsWrongReceipt, IsUntoldEntry}
 use Rattle.jg_shell.specs.Work.{Work}
 use Rattle.jg_program.specs.declared.stop.Status.{Status}
 use Rattle.jg_program.specs.declared.stop.ProgramStop.{ProgramStop}
-use Rattle.jg_program.specs.declared.stop.ProgramStop.TheVariants.{Arguments, Setup, SetupRead, Run, Leaks, Summary, Explain, Mismatch, Worker}
+use Rattle.jg_program.specs.declared.stop.ProgramStop.TheVariants.{Arguments, Setup, SetupRead, Run, Record, Leaks, Summary, Explain, Mismatch, Worker}
 use Rattle.jg_program.specs.declared.reporting.Reporting.{Reporting}
 use Rattle.jg_program.specs.declared.stop.ProgramEnd.{ProgramEnd}
 use Rattle.jg_program.specs.Plays.{HandsOut, Settles, SettlesBy, TellsDifference}
@@ -29,6 +29,7 @@ unwritten tid at guard bytes bytes' Summary handed = absurd handed
 unwritten tid at guard bytes bytes' Explain handed = absurd handed
 unwritten tid at guard bytes bytes' (Mismatch thread place) handed = absurd handed
 unwritten tid at guard bytes bytes' (Worker other) handed = absurd handed
+unwritten tid at guard bytes bytes' (Record other) handed = absurd handed
 
 -- the difference is a true one
 settled : (workers : List Work) (tid : Tid) (at : ℕ) (guard : State) (bytes bytes' : Option (List ℕ)) (result : Result Status ProgramStop)
@@ -42,6 +43,7 @@ settled workers tid at guard bytes bytes' (Err Leaks) differs told = absurd told
 settled workers tid at guard bytes bytes' (Err Summary) differs told = absurd told
 settled workers tid at guard bytes bytes' (Err Explain) differs told = absurd told
 settled workers tid at guard bytes bytes' (Err (Worker other)) differs told = absurd told
+settled workers tid at guard bytes bytes' (Err (Record other)) differs told = absurd told
 settled workers tid at guard bytes bytes' (Err (Mismatch thread place)) differs told =
     (tid, told.0, subst (λ (p : ℕ). IsWrongReceipt guard.journal workers tid p ⊎ IsUntoldEntry guard.journal workers tid p) (sym told.1) differs, told.2)
 
