@@ -478,21 +478,6 @@ class Machine:
 
     # ---- what is left
 
-    def references(self):
-        """All that didn't end, by their makers and then by their numbers. A cleared weak one is among them."""
-        frames = ((t, frame) for t, it in self.threads.items() for frames in it.activations for frame in frames)
-        return sorted([*self.globals, *(('L', t, n) for t, frame in frames for n in frame)], key=lambda it: it[1:])
-
-    def leaks(self):
-        """Yields the lines of `--leaks`."""
-        yield from (f'leak {letter}{t}.{n}' for letter, t, n in self.references())
-        yield from (f'leak B{t}.{n}' for t, n in sorted(self.buffers))
-        yield from (f'leak M{o} T{t} {count}' for o, (t, count) in sorted(self.owners.items()))
-
-    def sizes(self):
-        """How many references, objects that are no class objects, and buffers there are."""
-        return len(self.references()), len(self.objects), len(self.buffers)
-
 
 # ---- a record
 
@@ -515,8 +500,7 @@ class Watch:
     def __init__(self, setup=None, options=()):
         self.machine, self.options = Machine(setup), options
         self.lines, self.status, self.fault = 0, None, ''
-        # How often a question was answered by what, and the most that there was of each size after a line.
-        self.answers, self.most = collections.Counter(), (0, 0, 0)
+        self.has_denied = False
 
     def take(self, line):
         """What is written on standard output of the next line, which has a line feed."""
@@ -540,7 +524,7 @@ class Watch:
         if told not in (None, answer):
             self.status = OTHERWISE
             return b'differs at line %d\n' % self.lines
-        self.count(answer)
+        self.has_denied = self.has_denied or is_denial(answer)
         if '--denials' in self.options and not is_denial(answer):
             return b''
         parts = (b'', event), (b' = ', answer), (b' @ ', note)
@@ -554,37 +538,15 @@ class Watch:
         answer = self.machine.tell(fields) if is_fact(fields) else self.machine.ask(fields)
         return answer and answer.encode()
 
-    def count(self, answer):
-        """Counts what was answered. A line at which the run ends is none of it."""
-        if answer == b'passed' or is_denial(answer):
-            self.answers[answer.decode()] += 1
-        if '--summary' in self.options:
-            self.most = tuple(map(max, self.most, self.machine.sizes()))
-
     def end(self, rest=b''):
         """The status and what is said, where nothing follows but this rest, which has no line feed. A rest that is too
         long is known to be so before its end."""
         status, said = self.status, self.fault
         if status is None:
             is_long = len(rest) > MOST_BYTES
-            status = FAULTY if is_long else DENIED if '--strict' in self.options and self.denied() else ANSWERED
+            status = FAULTY if is_long else DENIED if '--strict' in self.options and self.has_denied else ANSWERED
             said = f'line {self.lines + 1}: {"LineTooLong" if is_long else "cut off"}\n' if rest else ''
-        if '--leaks' in self.options and status in (ANSWERED, DENIED):
-            said += ''.join(f'{line}\n' for line in self.machine.leaks())
-        if '--summary' in self.options:
-            said += ''.join(f'{line}\n' for line in self.summary())
         return status, said.encode()
-
-    def denied(self):
-        return self.answers.total() - self.answers['passed']
-
-    def summary(self):
-        """Yields the lines of `--summary`. Those of calls are of questions; what there was is looked at after each
-        line."""
-        yield f'calls {self.answers.total()}, passed {self.answers["passed"]}, denied {self.denied()}'
-        denials = (f'deny {number} {name}' for number, name in enumerate(RULES, 1))
-        yield from (f'{it} {self.answers[it]}' for it in denials if self.answers[it])
-        yield 'most at once: references {}, objects {}, buffers {}'.format(*self.most)
 
 
 def watch(text, setup=None, options=()):
