@@ -1,5 +1,5 @@
 -- What the text states that stands for no setup.
-use Rattle.std.proofs.Common.{◌≡◌, ◌≢◌, ◌∙◌, ◌⊎◌, inl, inr, ◌<◌, ℕ, Bool, List, [], nat_eq, Some, Result, Ok, Err, IfOk, IfErr, codes, pos, refl, sym, ap, subst}
+use Rattle.std.proofs.Common.{◌≡◌, ◌≢◌, ◌∙◌, ◌⊎◌, inl, inr, ℕ, Bool, List, [], nat_eq, Some, Result, Ok, Err, IfOk, IfErr, codes, pos, refl, sym, ap, subst}
 use Rattle.std.proofs.lemmas.Bool.{false≢true}
 use Rattle.std.proofs.lemmas.Option.{same_Some}
 use Rattle.toml.specs.Data.{Members, no_members, member, integer, string}

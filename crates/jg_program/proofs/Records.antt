@@ -28,9 +28,11 @@ pub impossible_said : {E : Type 0} (a b c d e f : Option (List ℕ)) (number : �
     → end ≡ ended.Impossible number → AreParts line event told noted → Appends a b (codes "impossible at line ") → Appends b c (decimal number) → Appends c d (codes ": ")
     → Appends d e event → OnOk r (Appends e f (10 ∷ [])) → OnOk r ((said : List ℕ) × IsEndText end line said × Appends a f said)
 impossible_said a b c d e f number end line event told noted (Ok done) is parts first second third fourth last =
-    subst (λ (x : Ended). (said : List ℕ) × IsEndText x line said × Appends a f said) (sym is)
-    (codes "impossible at line " ++ decimal number ++ codes ": " ++ event ++ 10 ∷ [], (event, told, noted, parts, refl),
-    Appends-trans a e f _ _ (Appends-trans a d e _ _ (Appends-trans a c d _ _ (Appends-trans a b c _ _ first second) third) fourth) last)
+    subst (λ (x : Ended). (said : List ℕ) × IsEndText x line said × Appends a f said) (sym is) (
+      codes "impossible at line " ++ decimal number ++ codes ": " ++ event ++ 10 ∷ [],
+      (event, told, noted, parts, refl),
+      Appends-trans a e f _ _ (Appends-trans a d e _ _ (Appends-trans a c d _ _ (Appends-trans a b c _ _ first second) third) fourth) last,
+    )
 impossible_said a b c d e f number end line event told noted (Err fault) is parts first second third fourth last = tt
 
 -- the record ended so, and what is written of that was written, or couldn't be
@@ -39,9 +41,13 @@ pub ended_answered : (s : StatedSetup) (shown : Shown) (input input' : Option (L
     → OnOk wrote ((said : List ℕ) × IsEndText end text said × Appends mid after said) → IfOk wrote (λ same. same ≡ end) → IfErr wrote (λ stop. (stop ≡ Record (Write number)) × F)
     → written ≡ wrote → Keeps after bytes' → AnswersRecord s shown input input' line bytes bytes' tally written
 ended_answered s shown input input' line text bytes mid after bytes' tally answered end (Ok same) written number F watches is read (said, text_is, appends) same_is failed written_is kept =
-    subst (AnswersRecord s shown input input' line bytes bytes' tally) (sym written_is)
-    (mid, said, subst (Watches s shown input input' line bytes mid tally) (is ∙ ap (λ (e : Ended). Ok e) (sym same_is)) watches,
-    subst (λ (e : Ended). IsEndText e line said) (sym same_is) (subst (λ (l : List ℕ). IsEndText end l said) read text_is), Appends-kept _ _ _ _ appends kept)
+    subst (AnswersRecord s shown input input' line bytes bytes' tally) (sym written_is) (
+      mid,
+      said,
+      subst (Watches s shown input input' line bytes mid tally) (is ∙ ap (λ (e : Ended). Ok e) (sym same_is)) watches,
+      subst (λ (e : Ended). IsEndText e line said) (sym same_is) (subst (λ (l : List ℕ). IsEndText end l said) read text_is),
+      Appends-kept _ _ _ _ appends kept,
+    )
 ended_answered s shown input input' line text bytes mid after bytes' tally answered end (Err stop) written number F watches is read said same_is failed written_is kept =
     subst (AnswersRecord s shown input input' line bytes bytes' tally) (sym written_is) (Write number, failed.0, inr (number, refl))
 

@@ -14,7 +14,6 @@ use Rattle.jg_script.specs.declared.replay.Verdict.TheVariants as verdict
 use Rattle.jg_script.specs.Checked.{Checks, HoldsFaulty}
 use Rattle.jg_script.specs.Replayed.{ReplaysJournal, verdict_of}
 use Rattle.jg_watch.specs.declared.ending.Stop.TheVariants as watch
-use Rattle.jg_watch.specs.declared.watch.Shown.{Shown}
 use Rattle.jg_program.specs.declared.program.Job.{Job}
 use Rattle.jg_program.specs.declared.program.Job.TheVariants.{Check, Verify, Watch}
 use Rattle.jg_program.specs.declared.reporting.Reporting.{Reporting}

@@ -311,7 +311,14 @@ pub fn run<T: Threads + Wait + Sync, S: Files, R: BufRead + Drop, W: HandsOn + D
         Ok(asked) => match asked.task {
             Task::Check => serve(alloc, Job::Check, asked, files, reader, out),
             Task::Verify => serve(alloc, Job::Verify, asked, files, reader, out),
-            Task::Watch => serve(alloc, Job::Watch(shown_of(asked)), asked, files, reader, out),
+            Task::Watch => serve(
+                alloc,
+                Job::Watch(shown_of(asked)),
+                asked,
+                files,
+                reader,
+                out,
+            ),
             Task::Play(path) => serve_play(rt, alloc, path, asked, files, reader, out),
             Task::Migrate(path) => serve_migration(alloc, path, files, out),
         },

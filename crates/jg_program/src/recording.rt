@@ -21,11 +21,7 @@ use std::alloc::Global;
 use std::io::{BufRead, Write};
 
 /// Writes at which line the record ended, and why.
-fn write_end<W: Write>(
-    out: &mut Watched<W>,
-    ended: Ended,
-    text: &[u8],
-) -> Result<(), DeviceFailed>
+fn write_end<W: Write>(out: &mut Watched<W>, ended: Ended, text: &[u8]) -> Result<(), DeviceFailed>
     ensures written { OnOk result ((said : List ℕ) × IsEndText ended text.now said
         × Appends (W.contents out.old.device) (W.contents out.new.device) said) }
     ensures failed { OnErr result (out.new.failed ≡ true) }
@@ -96,7 +92,9 @@ fn answer_lines<R: BufRead, W: HandsOn>(
     };
     match out.flush() {
         Ok(()) => written,
-        Err(_) => Err(ProgramStop::Record(Stop::Write { line: line_of(answered) })),
+        Err(_) => Err(ProgramStop::Record(Stop::Write {
+            line: line_of(answered),
+        })),
     }
 }
 

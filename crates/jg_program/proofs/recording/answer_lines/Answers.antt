@@ -5,11 +5,11 @@ use Rattle.jg_program.proofs.recording.answer_lines.Goals as goal
 pub returns-in-Ok-flush-clause-answers : goal.returns-in-Ok-flush-clause-answers
 returns-in-Ok-flush-clause-answers g c =
     elim c.match-answered.branch [
-      in-Ok w ↦
-        ended_answered _ c.args.shown _ _ _ w.deref.result.now _ _ _ _ _ c.watch_lines-answered.result w.in-Ok.ended w.write_ended-written.result c.match-answered.written _ _
-        c.watch_lines-answered.ensures.watches w.in-Ok.is w.deref.ensures.value w.write_ended-written.ensures.written w.write_ended-written.ensures.same w.write_ended-written.ensures.failed
-        w.written-is (rw w.out-is at c.in-Ok-flush.ensures.kept)
-    | in-Err w ↦
-        stopped_answered _ c.args.shown _ _ _ _ _ _ _ c.watch_lines-answered.result w.in-Err.stop c.match-answered.written c.watch_lines-answered.ensures.watches w.in-Err.is w.written-is
-        (rw w.out-is at c.in-Ok-flush.ensures.kept)
+      | in-Ok w ↦
+          ended_answered _ c.args.shown _ _ _ w.deref.result.now _ _ _ _ _ c.watch_lines-answered.result w.in-Ok.ended w.write_ended-written.result c.match-answered.written _ _
+          c.watch_lines-answered.ensures.watches w.in-Ok.is w.deref.ensures.value w.write_ended-written.ensures.written w.write_ended-written.ensures.same w.write_ended-written.ensures.failed
+          w.written-is (rw w.out-is at c.in-Ok-flush.ensures.kept)
+      | in-Err w ↦
+          stopped_answered _ c.args.shown _ _ _ _ _ _ _ c.watch_lines-answered.result w.in-Err.stop c.match-answered.written c.watch_lines-answered.ensures.watches w.in-Err.is w.written-is
+          (rw w.out-is at c.in-Ok-flush.ensures.kept)
     ]
