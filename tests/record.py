@@ -11,7 +11,7 @@ import collections
 import sys
 
 from ends import End, RULES
-from record_words import Fault, SPELT, Setup, fits, is_fact, read_fact, read_question
+from record_words import Fault, HELPS, SENTENCES, SPELT, Setup, fits, is_fact, read_fact, read_question
 
 MOST_BYTES, MOST_INT = 65_536, 2**31 - 1
 IMPOSSIBLE = 'impossible'
@@ -36,14 +36,23 @@ IS_BUFFER = 'Buffer', 'Readable', 'Writable'
 
 # ---- the rules (docs/RULES.md): whether the question q breaks the rule, after the facts that the machine m was told
 
-# An operand that rules 5 to 9 speak of: what it must name, and whether it may be null.
-Judged = collections.namedtuple('Judged', 'reference nullable wanted')
+def by_operand(breaks):
+    """A rule that one operand alone breaks: whether any does. `breaks` says it of the operand `value`, of which the
+    table says what the function takes there."""
+    def judge(m, q):
+        return any(breaks(m, q, takes, value) for takes, value in q.operands)
+    judge.breaks = breaks
+    return judge
 
 
-def judged(q):
-    """The references among the operands, left to right, but for GetObjectRefType's."""
-    return [Judged(value, takes[0] in ('Nullable', 'Arguments'), takes)
-            for takes, value in q.operands if takes[0] not in SPELT and takes[0] != 'Unjudged']
+def is_judged(takes):
+    """It is a reference, but not GetObjectRefType's."""
+    return takes[0] not in SPELT and takes[0] != 'Unjudged'
+
+
+def is_wanted(takes):
+    """It must name an object."""
+    return is_judged(takes) and takes[0] not in ('Nullable', 'Arguments')
 
 
 def first_reference(q):
@@ -71,14 +80,16 @@ def pending(m, q):
     return q.row.passes not in ('Pending', 'Both') and m.thread(q.thread).pending is not None
 
 
-def foreign_local(m, q):
+@by_operand
+def foreign_local(m, q, takes, value):
     """5: a local reference that another thread was handed."""
-    return any(it.reference and it.reference[0] == 'L' and it.reference[1] != q.thread for it in judged(q))
+    return is_judged(takes) and value is not None and value[0] == 'L' and value[1] != q.thread
 
 
-def dead_reference(m, q):
+@by_operand
+def dead_reference(m, q, takes, value):
     """6: a reference that was never made or has ended."""
-    return any(m.names(q.thread, it.reference) == NOTHING for it in judged(q))
+    return is_judged(takes) and m.names(q.thread, value) == NOTHING
 
 
 def wrong_ref_kind(m, q):
@@ -87,25 +98,29 @@ def wrong_ref_kind(m, q):
     return q.row.effect[0] == 'Ends' and it is not None and it[0] != q.row.effect[1][0]
 
 
-def null_reference(m, q):
+@by_operand
+def null_reference(m, q, takes, value):
     """8: null, or a weak reference whose object is gone, where an object is wanted."""
-    return any(not it.nullable and m.names(q.thread, it.reference) == NULL for it in judged(q))
+    return is_wanted(takes) and m.names(q.thread, value) == NULL
 
 
-def wrong_type(m, q):
+@by_operand
+def wrong_type(m, q, takes, value):
     """9: an object that isn't of the declared type."""
-    objects = [(it, m.names(q.thread, it.reference)) for it in judged(q) if not it.nullable]
-    return any(o not in (NOTHING, NULL) and not m.is_of(o, *it.wanted) for it, o in objects)
+    o = m.names(q.thread, value) if is_wanted(takes) else NOTHING
+    return o not in (NOTHING, NULL) and not m.is_of(o, *takes)
 
 
-def bad_field(m, q):
+@by_operand
+def bad_field(m, q, takes, value):
     """10: an ID that doesn't fit, be it of a field or of a method."""
-    return any(SPELT.get(takes[0]) is fits and not value for takes, value in q.operands)
+    return SPELT.get(takes[0]) is fits and not value
 
 
-def bad_buffer(m, q):
+@by_operand
+def bad_buffer(m, q, takes, value):
     """11: a buffer that isn't open, or may not be used so."""
-    return any(takes[0] in IS_BUFFER and is_refused(m, q, takes, value) for takes, value in q.operands)
+    return takes[0] in IS_BUFFER and is_refused(m, q, takes, value)
 
 
 def is_refused(m, q, takes, buffer):
@@ -119,10 +134,11 @@ def is_refused(m, q, takes, buffer):
     return takes[0] == 'Writable' and it.family in OF_STRINGS
 
 
-def bad_argument(m, q):
+@by_operand
+def bad_argument(m, q, takes, value):
     """12: a number, a name or a list that the function doesn't take, by the bounds that were told last."""
     buffer = next((m.buffers.get(value) for takes, value in q.operands if takes[0] in IS_BUFFER), None)
-    return any(is_wrong(m, buffer, takes, value) for takes, value in q.operands)
+    return is_wrong(m, buffer, takes, value)
 
 
 def is_wrong(m, buffer, takes, value):
@@ -201,6 +217,18 @@ def not_linked(m, q):
 
 JUDGES = [wrong_thread, detached, in_critical, pending, foreign_local, dead_reference, wrong_ref_kind, null_reference,
           wrong_type, bad_field, bad_buffer, bad_argument, pinned, not_owner, bad_frame, no_native_access, not_linked]
+# The places of the operands that the other rules speak of: what is deleted, whose monitor is given back, the class that
+# uses native code, and its native method.
+SPOKEN_OF = {wrong_ref_kind: 0, pinned: 0, not_owner: 0, no_native_access: 0, not_linked: 1}
+
+
+def culprit(m, q, judge):
+    """The place of the operand that breaks the rule, or None."""
+    if judge in SPOKEN_OF:
+        return SPOKEN_OF[judge]
+    breaks = getattr(judge, 'breaks', lambda *_: False)
+    return next((place for place, it in enumerate(q.operands) if breaks(m, q, *it)), None)
+
 
 # ---- the machine
 
@@ -234,12 +262,17 @@ class Machine:
         self.next_object = self.setup.count
         self.linked = set()
         self.bounds = {'Capacity': MOST_INT, 'Length': MOST_INT, 'Count': MOST_INT}
+        # The operand by which the last question was denied, as its line spells it.
+        self.culprit = None
 
     def ask(self, fields):
-        """The answer to a question: `passed`, or the first rule that it breaks."""
+        """The answer to a question: `passed`, or the first rule that it breaks, for whose explanation the operand is
+        kept that breaks it."""
         question = read_question(fields)
         for number, judge in enumerate(JUDGES, 1):
             if judge(self, question):
+                place = culprit(self, question, judge)
+                self.culprit = None if place is None else fields[3 + place]
                 return f'deny {number} {RULES[number - 1]}'
         return 'passed'
 
@@ -478,6 +511,17 @@ class Machine:
 
     # ---- what is left
 
+    def references(self):
+        """All that didn't end, by their makers and then by their numbers. A cleared weak one is among them."""
+        frames = ((t, frame) for t, it in self.threads.items() for frames in it.activations for frame in frames)
+        return sorted([*self.globals, *(('L', t, n) for t, frame in frames for n in frame)], key=lambda it: it[1:])
+
+    def leaks(self):
+        """Yields the lines of `--leaks`."""
+        yield from (f'leak {letter}{t}.{n}' for letter, t, n in self.references())
+        yield from (f'leak B{t}.{n}' for t, n in sorted(self.buffers))
+        yield from (f'leak M{o} T{t} {count}' for o, (t, count) in sorted(self.owners.items()))
+
 
 # ---- a record
 
@@ -500,7 +544,10 @@ class Watch:
     def __init__(self, setup=None, options=()):
         self.machine, self.options = Machine(setup), options
         self.lines, self.status, self.fault = 0, None, ''
-        self.has_denied = False
+        # How often a question was answered by what, how many denials are explained, and their explanations.
+        self.answers = collections.Counter()
+        self.most = next((int(it.split('=')[1]) for it in options if it.startswith('--explain=')), 0)
+        self.explained = ''
 
     def take(self, line):
         """What is written on standard output of the next line, which has a line feed."""
@@ -524,7 +571,7 @@ class Watch:
         if told not in (None, answer):
             self.status = OTHERWISE
             return b'differs at line %d\n' % self.lines
-        self.has_denied = self.has_denied or is_denial(answer)
+        self.count(answer)
         if '--denials' in self.options and not is_denial(answer):
             return b''
         parts = (b'', event), (b' = ', answer), (b' @ ', note)
@@ -538,15 +585,41 @@ class Watch:
         answer = self.machine.tell(fields) if is_fact(fields) else self.machine.ask(fields)
         return answer and answer.encode()
 
+    def count(self, answer):
+        """Counts and explains what was answered. A line at which the run ends is none of it."""
+        if is_denial(answer) and self.denied() < self.most:
+            self.explained += self.explanation(answer.decode())
+        if answer == b'passed' or is_denial(answer):
+            self.answers[answer.decode()] += 1
+
+    def explanation(self, answer):
+        rule = answer.split()[2]
+        subject = f' of {self.machine.culprit}' if self.machine.culprit is not None else ''
+        return f'line {self.lines}: {answer}{subject}\n  rule: {SENTENCES[rule]}\n  help: {HELPS[rule]}\n'
+
     def end(self, rest=b''):
         """The status and what is said, where nothing follows but this rest, which has no line feed. A rest that is too
         long is known to be so before its end."""
         status, said = self.status, self.fault
         if status is None:
             is_long = len(rest) > MOST_BYTES
-            status = FAULTY if is_long else DENIED if '--strict' in self.options and self.has_denied else ANSWERED
+            status = FAULTY if is_long else DENIED if '--strict' in self.options and self.denied() else ANSWERED
             said = f'line {self.lines + 1}: {"LineTooLong" if is_long else "cut off"}\n' if rest else ''
+        said += self.explained
+        if '--leaks' in self.options and status in (ANSWERED, DENIED):
+            said += ''.join(f'{line}\n' for line in self.machine.leaks())
+        if '--summary' in self.options:
+            said += ''.join(f'{line}\n' for line in self.summary())
         return status, said.encode()
+
+    def denied(self):
+        return self.answers.total() - self.answers['passed']
+
+    def summary(self):
+        """Yields the lines of `--summary`. Those of calls are of questions."""
+        yield f'calls {self.answers.total()}, passed {self.answers["passed"]}, denied {self.denied()}'
+        denials = (f'deny {number} {name}' for number, name in enumerate(RULES, 1))
+        yield from (f'{it} {self.answers[it]}' for it in denials if self.answers[it])
 
 
 def watch(text, setup=None, options=()):

@@ -582,28 +582,62 @@ T2 E2.1 GetArrayLength G2.1 = deny 3 InCritical
 T1 E1.1 GetObjectClass L1.3 = deny 6 DeadReference @\x20
 T1 E1.1 GetObjectClass L1.3 = deny 6 DeadReference
 """
-ALL = '--denials', '--strict'
+LEAKS = b"""leak L1.1
+leak W1.2
+leak G2.1
+leak L10.1
+leak B1.1
+leak M9 T10 1
+leak M18 T1 2
+"""
+# What is left at the end of tests/record.txt.
+LEFT_BY_HAND = b"""leak W1.31
+leak G1.32
+leak L2.3
+leak B1.7
+leak M36 T2 2
+"""
+SUMMARY = b"""calls 5, passed 1, denied 4
+deny 3 InCritical 1
+deny 6 DeadReference 2
+deny 8 NullReference 1
+"""
+NO_CALLS = b'calls 0, passed 0, denied 0\n'
+EXPLAINED = b"""line 18: deny 8 NullReference of W1.2
+  rule: an object is wanted where null or a cleared weak reference is handed in (JNI Specification, chapter 4, the \
+function's parameters)
+  help: test for null, and make a weak reference strong before it is used
+line 19: deny 3 InCritical
+  rule: inside a critical region no other JNI function may be called (JNI Specification, chapter 4, \
+GetPrimitiveArrayCritical, GetStringCritical)
+  help: release the critical buffer before this call
+"""
+ALL = '--denials', '--explain=2', '--leaks', '--strict', '--summary'
 
 # `out` is what the output ends with, and `said` all of standard error. The setup is one of examples/, or None.
 Case = collections.namedtuple('Case', 'text options status out said setup', defaults=('setup.toml',))
-# Options change what is written, and --strict the status.
+# Options change what is written or said, and --strict the status. A line at which the run ends isn't counted.
 WITH_OPTIONS = [
     Case(LEFT, (), 0, LEFT, b''),
     Case(LEFT, ('--denials',), 0, DENIALS, b''),
+    Case(LEFT, ('--leaks',), 0, LEFT, LEAKS),
     Case(LEFT, ('--strict',), 5, LEFT, b''),
-    Case(LEFT, ALL, 5, DENIALS, b''),
-    Case(LEFT + b'T1', ALL, 5, DENIALS, b'line 23: cut off\n'),
-    Case(LEFT + b'T1 - GetEnv\r\n', ALL, 2, DENIALS, b'line 23: NotAscii\n'),
-    Case(LEFT + b'T1 E1.1 GetVersion = deny 6 DeadReference\nT1\n', ALL, 1, DENIALS + b'differs at line 23\n', b''),
-    Case(LEFT + b'T0 met 2 1 = O21\n', ALL, 1, DENIALS + b'differs at line 23\n', b''),
-    Case(LEFT + b'T2 ends = x @ y\n', ALL, 1, DENIALS + b'impossible at line 23: T2 ends\n', b''),
-    Case(b'', ('--denials',), 0, b'', b''), Case(b'', ALL, 0, b'', b''),
-    Case(b'#', ALL, 0, b'', b'line 1: cut off\n'),
+    Case(LEFT, ('--explain=2',), 0, LEFT, EXPLAINED), Case(LEFT, ('--explain=0',), 0, LEFT, b''),
+    Case(LEFT, ('--summary',), 0, LEFT, SUMMARY),
+    Case(LEFT, ALL, 5, DENIALS, EXPLAINED + LEAKS + SUMMARY),
+    Case(LEFT + b'T1', ALL, 5, DENIALS, b'line 23: cut off\n' + EXPLAINED + LEAKS + SUMMARY),
+    Case(LEFT + b'T1 - GetEnv\r\n', ALL, 2, DENIALS, b'line 23: NotAscii\n' + EXPLAINED + SUMMARY),
+    Case(LEFT + b'T1 E1.1 GetVersion = deny 6 DeadReference\nT1\n', ALL, 1, DENIALS + b'differs at line 23\n',
+         EXPLAINED + SUMMARY),
+    Case(LEFT + b'T0 met 2 1 = O21\n', ALL, 1, DENIALS + b'differs at line 23\n', EXPLAINED + SUMMARY),
+    Case(LEFT + b'T2 ends = x @ y\n', ALL, 1, DENIALS + b'impossible at line 23: T2 ends\n', EXPLAINED + SUMMARY),
+    Case(b'', ('--denials',), 0, b'', b''), Case(b'', ALL, 0, b'', NO_CALLS),
+    Case(b'#', ALL, 0, b'', b'line 1: cut off\n' + NO_CALLS),
     Case(b'#\n# x\nT1 begins\n', ('--denials', '--strict'), 0, b'', b''),
     Case(b'T1 - GetEnv\nT1 begins\n', ('--denials', '--strict'), 0, b'', b''),
     Case(b'T1 - ExceptionCheck\n', ('--strict',), 5, b'T1 - ExceptionCheck = deny 2 Detached\n', b''),
     Case(b'T1 - ExceptionCheck = passed\n', ('--strict',), 1, b'differs at line 1\n', b''),
-    Case(b'\n', ('--denials', '--strict'), 2, b'', b'line 1: NoThread\n'),
+    Case(b'\n', ('--leaks', '--strict'), 2, b'', b'line 1: NoThread\n'),
 ]
 # Under examples/grants.toml app may register and link, and lib may load.
 GRANTED = b"""T1 begins = E1.1

@@ -1,5 +1,5 @@
 """How the lines of a record are spelt (docs/FORMATS.md, "A record"), and what the model of tests/record.py reads: the
-table of functions, from crates/jg_functions/specs/Table.antt, and setups."""
+table of functions, from crates/jg_functions/specs/Table.antt, what rules say, and setups."""
 import collections
 import os
 import re
@@ -56,6 +56,17 @@ def read_table():
 
 
 FUNCTIONS = read_table()
+
+# ---- what rules say
+
+
+def read_sentences(word):
+    """What crates/jg_telling/specs/Sentences.antt says of each rule by that word."""
+    with open(f'{TOP}/crates/jg_telling/specs/Sentences.antt', encoding='utf-8') as file:
+        return dict(re.findall(word + r' (\w+) =\s+codes "(.*)"', file.read()))
+
+
+SENTENCES, HELPS = read_sentences('sentence_of'), read_sentences('help_of')
 
 # ---- setups
 

@@ -106,13 +106,23 @@ fn denials_arg<'a>(alloc: Global) -> Arg<'a> {
         .help("writes denied questions alone, with their notes")
 }
 
+fn counts_arg<'a>(alloc: Global) -> Arg<'a> {
+    Arg::new(alloc, "summary")
+        .long("summary")
+        .action(ArgAction::SetTrue)
+        .help("counts questions and denials on standard error")
+}
+
 fn watch_command<'a>(alloc: Global) -> Result<Command<'a>, AllocError> {
     Command::new(alloc, "watch")
         .about("answers the record on standard input with what a core answers to it")
         .after_help(STATUSES)
         .arg(setup_arg(alloc))?
         .arg(denials_arg(alloc))?
-        .arg(strict_arg(alloc))
+        .arg(explain_arg(alloc))?
+        .arg(strict_arg(alloc))?
+        .arg(counts_arg(alloc))?
+        .arg(leaks_arg(alloc))
 }
 
 fn play_command<'a>(alloc: Global) -> Result<Command<'a>, AllocError> {

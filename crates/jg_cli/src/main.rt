@@ -1,11 +1,13 @@
 //! The program `jg`: under a setup, it answers a script on standard input with its journal on standard output, tests a
-//! journal, or plays the scripts of several threads.
+//! journal, plays the scripts of several threads, or answers a record.
 #![tactic(auto)]
 
 #[cfg(test)]
 mod explain_tests;
 #[cfg(test)]
 mod play_tests;
+#[cfg(test)]
+mod record_tests;
 #[cfg(test)]
 mod setup_tests;
 #[cfg(test)]

@@ -65,8 +65,8 @@ pub record Returned (old new : CoreState) (ticket : Ticket) (says : Says) (out :
   pub stands : (w : List Fact) → CoreStands old w → CoreStands new (told_on fact w)
   pub answers : (w : List Fact) → CoreStands old w → out ≡ given_for (parts_of w) ticket fact
 
--- why nothing was taken: as of a call, exactly where no machine says so, or what it implies can't be; else exactly where
--- that makes something and the core is full; else where it makes something, for which memory ran out
+-- why nothing was taken: as of a call, exactly where no machine says so, or what it implies can't be; else exactly
+-- where that makes something and the core is full; else where it makes something, for which memory ran out
 pub record RefusesReturn (c : CoreState) (ticket : Ticket) (says : Says) (why : Untold) : Type 0 where
   pub impossible : (w : List Fact) → CoreStands c w
       → (why ≡ Impossible) ↔ (can_imply c.setup (parts_of w) (told ticket.tid ticket.expected says) ≡ false)
@@ -125,4 +125,5 @@ abbrev pub AskedAsCalls : Type 0
 AskedAsCalls = (s : StatedSetup) (p : Parts) (t : Tid) (env : Option EnvId) (call : Call) (place : ℕ) → AreStated s p
     → slice_get functions place ≡ Some (row_for (fun_of call))
     → asked written_bounds s p t env place (arguments_of s p t.0 call)
-    ≡ by_verdict written_bounds s p t (row_for (fun_of call)) (arguments_of s p t.0 call) (call_verdict s p t.0 env call)
+    ≡ by_verdict written_bounds s p t (row_for (fun_of call)) (arguments_of s p t.0 call)
+    (call_verdict s p t.0 env call)

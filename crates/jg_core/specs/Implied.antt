@@ -197,7 +197,8 @@ abbrev pub giving_back : ℤ → BufId → Option Fact
 giving_back mode b = if is_commit mode then None else Some (Back b)
 
 abbrev pub buffers_implied : Parts → Tid → BuffersCall → Says → Option (Option Fact)
-buffers_implied p t (GetArrayElements element r) says = lending t (Elements (Of element)) (object_named p t.0 r) Null says
+buffers_implied p t (GetArrayElements element r) says =
+    lending t (Elements (Of element)) (object_named p t.0 r) Null says
 buffers_implied p t (ReleaseArrayElements element r b mode) says = doing t (Some (giving_back mode b)) says
 buffers_implied p t (GetStringChars r) says = lending t Chars (object_named p t.0 r) Null says
 buffers_implied p t (ReleaseStringChars r b) says = doing t (Some (Some (Back b))) says

@@ -73,7 +73,8 @@ pub enum Fact {
         object: ObjId,
     },
     /// There is an object that wasn't told of: the next, of this class, and of so many characters or items. The class
-    /// goes by its number in the setup, or is that of a kind ([`OwnKind`](jg_questions::OwnKind)) whose class the setup doesn't state.
+    /// goes by its number in the setup, or is that of a kind ([`OwnKind`](jg_questions::OwnKind)) whose class the setup
+    /// doesn't state.
     Meet {
         class: u32,
         length: u32,

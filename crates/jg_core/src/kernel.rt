@@ -12,6 +12,7 @@ ghost use Rattle.jg_core.specs.declared.fact.Fact.TheVariants.{Begin, Hand, Leav
 ghost use Rattle.jg_core.specs.Facts.{first_held, parts_of};
 ghost use Rattle.jg_core.specs.Kernel.{broken, CoreStands, Keeps, Took, TookAll, Stayed, Refuses};
 ghost use Rattle.jg_core.specs.Laws.{handed_out};
+ghost use Rattle.jg_leaks.specs.Left.{AreLeft};
 
 use crate::fact::Fact;
 use crate::gone::{StillHeld, let_all_go};
@@ -21,6 +22,7 @@ use crate::take::take;
 use jg_buffers::{Buffers, Family};
 use jg_causes::place_meant;
 use jg_globals::Globals;
+use jg_leaks::{Leaks, list_left};
 use jg_locals::Locals;
 use jg_monitors::Monitors;
 use jg_objects::Objects;
@@ -29,7 +31,7 @@ use jg_questions::OwnKind;
 use jg_rules::first_broken;
 use jg_threads::Threads;
 use jg_words::{BufId, Call, EnvId, Kind, ObjId, Ref, Rule, Tid};
-use std::alloc::{Allocator, Global};
+use std::alloc::{AllocError, Allocator, Global};
 use std::marker::Model;
 
 /// How many facts that make something a core may be told.
@@ -137,6 +139,15 @@ impl<A: Allocator> Core<A> {
 }
 
 impl<A: Allocator + Clone> Core<A> {
+    /// What is left as the core is now: the references that live, the buffers that are open and the monitors that are
+    /// owned, each once, in order. Takes time and memory by how many these are. Fails only for want of memory.
+    pub fn leaks(&self) -> Result<Leaks<A>, AllocError>
+        ensures { IfOk result (λ left. (w : List Fact) → CoreStands self.now w
+            → AreLeft (parts_of w) left.refs.items left.buffers.items left.monitors.items) }
+    {
+        Ok(list_left(&self.tables.alloc, &self.tables.view(&self.setup))?)
+    }
+
     /// The first rule that the call would break now, made by this thread with this environment; `None` where it
     /// breaks none. A question changes nothing. Ask when the call begins.
     pub fn judge(&self, tid: Tid, env: Option<EnvId>, call: &Call) -> Option<Rule>

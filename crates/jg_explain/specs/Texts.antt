@@ -1,9 +1,7 @@
 -- What is told of a denial, as text: its line, of which operand, in which way the call broke the rule, since when, what
 -- the rule says, and what helps.
 use Rattle.std.specs.Prelude.{ℕ, ◌+◌, Bool, true, false, List, [], ◌∷◌, ◌++◌, codes, flat_map, reverse, slice_get, take, Option, Some, None}
-use Rattle.std.specs.Fmt.{decimal}
 use Rattle.jg_words.specs.declared.rule.Rule.{Rule}
-use Rattle.jg_words.specs.Rule.{number_of, name_of}
 use Rattle.jg_words.specs.Entry.{Entry}
 use Rattle.jg_policy.specs.Stated.{StatedSetup}
 use Rattle.jg_text.specs.Words.{buf_text}
@@ -13,7 +11,7 @@ use Rattle.jg_causes.specs.declared.condition.Condition.{Condition}
 use Rattle.jg_causes.specs.declared.condition.Condition.TheVariants.{IsOpen}
 use Rattle.jg_telling.specs.Breaches.{breach_text, subject_text}
 use Rattle.jg_telling.specs.Moments.{begun_text, ended_text, moment_text}
-use Rattle.jg_telling.specs.Sentences.{sentence_of, help_of}
+use Rattle.jg_telling.specs.Sentences.{denial_text, rule_text}
 use Rattle.jg_explain.specs.declared.watching.Watch.{Watch}
 use Rattle.jg_explain.specs.Explained.{Cause, causes, all_known}
 
@@ -63,21 +61,14 @@ abbrev pub watch_text : List Entry → Breach → Watch → List ℕ
 watch_text journal breach w =
     since_text journal (lead_text breach w.condition) w.condition w.holds w.turns.latest w.turns.earlier
 
--- `line 5: deny 6 DeadReference`
-abbrev pub denial_text : ℕ → Rule → List ℕ
-denial_text place rule =
-    codes "line " ++ decimal (place + 1) ++ codes ": deny " ++ decimal (number_of rule) ++ 32 ∷ name_of rule
-
 abbrev pub found_text : StatedSetup → Breach → Entry → List ℕ
 found_text s breach x = subject_text breach ++ codes ": " ++ breach_text s x.tid x.call breach ++ 10 ∷ []
-
-abbrev pub rule_text : Rule → List ℕ
-rule_text rule = codes "  rule: " ++ sentence_of rule ++ codes "\n  help: " ++ help_of rule ++ codes "\n"
 
 abbrev pub told_text : StatedSetup → List Entry → ℕ → Rule → Breach → List Watch → Option Entry → List ℕ
 told_text s journal place rule breach watches None = []
 told_text s journal place rule breach watches (Some x) =
-    denial_text place rule ++ found_text s breach x ++ flat_map (watch_text journal breach) watches ++ rule_text rule
+    denial_text (place + 1) rule ++ found_text s breach x ++ flat_map (watch_text journal breach) watches
+    ++ rule_text rule
 
 -- of the entry at that place
 abbrev pub explanation_text : StatedSetup → List Entry → ℕ → Rule → Breach → List Watch → List ℕ

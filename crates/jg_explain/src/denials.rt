@@ -3,7 +3,7 @@
 ghost use Rattle.std.specs.Prelude.{◌≡◌, ◌≤◌, ◌++◌, Some, flat_map, length, map, reverse, slice_get, take, OnOk, IfOk};
 ghost use Rattle.jg_explain.specs.Explained.{AreWithin, IsFront, causes, causes_at, causes_of, denial_of, unknown, watches_of};
 
-use crate::replaying::step;
+use crate::replaying::replay_entry;
 use crate::watching::Watch;
 use jg_causes::{Breach, Condition, Turns, breach_of, conditions_of};
 use jg_guard::{Guard, NoMemory};
@@ -133,7 +133,7 @@ pub(crate) fn denials_of<A: Allocator + Clone, B: Allocator + Clone>(
             return Ok(found);
         }
         push_if_denied(guard, again, &mut found, alloc, at)?;
-        step(guard, again, at)?;
+        replay_entry(guard, again, at)?;
     }
     Ok(found)
 }

@@ -6,7 +6,7 @@ ghost use Rattle.jg_explain.specs.Texts.{explanations_text};
 
 use crate::denials::{Denials, denials_of, push_if_denied};
 use crate::following::watch_each;
-use crate::replaying::{new_guard, step};
+use crate::replaying::{replay_entry, replaying_guard};
 use crate::texts::push_explanations;
 use crate::watching::{Watch, watch_until};
 use jg_causes::Breach;
@@ -34,7 +34,7 @@ fn go_to<A: Allocator + Clone, B: Allocator + Clone>(
     ensures { OnOk result (IsFront guard.now again.new end) }
 {
     for at in 0..end {
-        step(guard, again, at)?;
+        replay_entry(guard, again, at)?;
     }
     Ok(())
 }
@@ -52,7 +52,7 @@ fn denial_at<A: Allocator + Clone>(
     ensures watches { IfOk result (λ found. found.watches.items
         ≡ flat_map watches_of (cause_at guard.now.setup guard.now.journal place)) }
 {
-    let mut again = new_guard(guard, alloc)?;
+    let mut again = replaying_guard(guard, alloc)?;
     go_to(guard, &mut again, place)?;
     let mut found = Denials {
         denials: Vec::new(alloc),
@@ -82,7 +82,7 @@ pub fn explain<A: Allocator + Clone>(
     let Some(denial) = denials.get(0) else {
         return Ok(None);
     };
-    let mut again = new_guard(guard, alloc)?;
+    let mut again = replaying_guard(guard, alloc)?;
     watch_until(guard, &mut again, &mut watches, place)?;
     Ok(Some(Explanation {
         rule: denial.rule,
@@ -103,7 +103,7 @@ pub fn explain_first<A: Allocator + Clone>(
     ensures { IfOk result (λ text. string_bytes text
         ≡ explanations_text guard.now.setup guard.now.journal most) }
 {
-    let mut again = new_guard(guard, alloc)?;
+    let mut again = replaying_guard(guard, alloc)?;
     let Denials { denials, watches } = denials_of(guard, &mut again, alloc, most)?;
     let end = again.journal_len();
     drop(again);

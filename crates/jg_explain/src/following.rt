@@ -14,7 +14,7 @@ ghost use Rattle.jg_explain.specs.Explained.{IsFront};
 ghost use Rattle.jg_explain.specs.Followed.{IsFollowed, comes_once as comes_but_once};
 ghost use Rattle.jg_explain.specs.Watched.{watched};
 
-use crate::replaying::{new_guard, step};
+use crate::replaying::{replay_entry, replaying_guard};
 use crate::steady::{Steady, ask_steady, begin_steady, find_steady};
 use crate::suspects::Suspects;
 use crate::traces::{Seen, Trace, conclude, see_each, trace_each, untraced};
@@ -128,7 +128,7 @@ fn follow_one<A: Allocator + Clone, B: Allocator + Clone>(
     ) else {
         return Err(NoMemory);
     };
-    step(guard, again, at)?;
+    replay_entry(guard, again, at)?;
     trace_each(again, &mut following.traces, &following.seen, at);
     ask_steady(again, &mut following.steady, entry, at);
     Ok(())
@@ -241,13 +241,13 @@ pub(crate) fn watch_each<A: Allocator + Clone>(
     ensures { IfOk result (λ found. found.items
         ≡ map (watched guard.now.setup guard.now.journal end) watches.items) }
 {
-    let mut again = new_guard(guard, alloc)?;
+    let mut again = replaying_guard(guard, alloc)?;
     if let Some(found) = follow(guard, &mut again, &watches, end, alloc)? {
         return Ok(found);
     }
     drop(again);
     let mut watches = watches;
-    let mut again = new_guard(guard, alloc)?;
+    let mut again = replaying_guard(guard, alloc)?;
     watch_until(guard, &mut again, &mut watches, end)?;
     Ok(watches)
 }

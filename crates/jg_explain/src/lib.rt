@@ -18,4 +18,5 @@ mod watching;
 pub use denials::Denial;
 pub use explaining::{Explanation, explain, explain_first};
 pub use left::explain_leaks;
+pub use replaying::{replay_entry, replaying_guard};
 pub use watching::{Watch, watch_all};

@@ -20,8 +20,8 @@ fn copy_of(setup: &Setup, alloc: Global) -> Result<Setup, NoMemory>
     }
 }
 
-/// A guard of the same setup, which has made no call yet.
-pub(crate) fn new_guard<A: Allocator + Clone>(
+/// A guard of the same setup and limit, which has made no call yet.
+pub fn replaying_guard<A: Allocator + Clone>(
     guard: &Guard<A>,
     alloc: Global,
 ) -> Result<Guard, NoMemory>
@@ -34,8 +34,8 @@ pub(crate) fn new_guard<A: Allocator + Clone>(
     }
 }
 
-/// Makes the call of the entry at that place again.
-pub(crate) fn step<A: Allocator + Clone, B: Allocator + Clone>(
+/// Makes the call of the entry at that place, from 0, again, by a guard that made those of the entries before it.
+pub fn replay_entry<A: Allocator + Clone, B: Allocator + Clone>(
     guard: &Guard<A>,
     again: &mut Guard<B>,
     place: usize,

@@ -9,9 +9,9 @@ use crate::watching::Watch;
 use jg_causes::{Breach, Condition, Turns};
 use jg_guard::Guard;
 use jg_policy::Setup;
-use jg_telling::{begun, ended, help, push_breach, push_moment, push_subject, sentence};
-use jg_text::{push_buf, push_number};
-use jg_words::{Entry, Rule};
+use jg_telling::{begun, ended, push_breach, push_denial, push_moment, push_rule, push_subject};
+use jg_text::push_buf;
+use jg_words::Entry;
 use std::alloc::{AllocError, Allocator};
 
 fn push_at<A: Allocator + Clone>(
@@ -187,18 +187,6 @@ fn push_watches<A: Allocator + Clone>(
     Ok(())
 }
 
-fn push_denial(out: &mut String, place: usize, rule: Rule) -> Result<(), AllocError>
-    requires { place + 1 < 2 ^ 64 }
-    ensures { OnOk result (string_bytes out.new ≡ string_bytes out.old ++ texts.denial_text place rule) }
-{
-    out.push_str("line ")?;
-    push_number(out, place as u64 + 1)?;
-    out.push_str(": deny ")?;
-    push_number(out, u64::from(rule.number()))?;
-    out.push_str(" ")?;
-    out.push_str(rule.name())
-}
-
 fn push_found(
     out: &mut String,
     setup: &Setup,
@@ -211,16 +199,6 @@ fn push_found(
     push_subject(out, breach)?;
     out.push_str(": ")?;
     push_breach(out, setup, entry.tid(), entry.call(), breach)?;
-    out.push_str("\n")
-}
-
-fn push_rule(out: &mut String, rule: Rule) -> Result<(), AllocError>
-    ensures { OnOk result (string_bytes out.new ≡ string_bytes out.old ++ texts.rule_text rule) }
-{
-    out.push_str("  rule: ")?;
-    out.push_str(sentence(rule))?;
-    out.push_str("\n  help: ")?;
-    out.push_str(help(rule))?;
     out.push_str("\n")
 }
 
@@ -241,7 +219,7 @@ fn push_explanation<A: Allocator + Clone>(
             if denial.place >= length {
                 unreachable!()
             }
-            push_denial(out, denial.place, denial.rule)?;
+            push_denial(out, denial.place as u64 + 1, denial.rule)?;
             push_found(out, guard.view().setup, denial.breach, entry)?;
             push_watches(out, guard, denial.breach, watches)?;
             push_rule(out, denial.rule)

@@ -4,7 +4,7 @@ ghost use Rattle.std.specs.Prelude.{◌≡◌, ◌≤◌, length, map, OnOk};
 ghost use Rattle.jg_explain.specs.Explained.{IsFront, after};
 ghost use Rattle.jg_explain.specs.Watched.{watched, begun_with, asked_at};
 
-use crate::replaying::step;
+use crate::replaying::replay_entry;
 use jg_causes::{Condition, Turns, holds, turn};
 use jg_guard::{Guard, NoMemory};
 use std::alloc::Allocator;
@@ -87,7 +87,7 @@ pub(crate) fn watch_until<A: Allocator + Clone, B: Allocator + Clone>(
 {
     begin_each(again, watches);
     for at in 0..end {
-        step(guard, again, at)?;
+        replay_entry(guard, again, at)?;
         ask_each(again, watches, at);
     }
     Ok(())

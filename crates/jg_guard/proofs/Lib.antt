@@ -7,7 +7,6 @@ pub mod Fields
 pub mod Slots
 pub mod Linking
 pub mod Collecting
-pub mod Listing
 pub mod Counting
 pub mod Most
 pub mod Tallies

@@ -14,14 +14,16 @@ use Rattle.jg_policy.specs.Stated.{StatedSetup}
 use Rattle.jg_policy.specs.Stated.{class_count}
 use Rattle.jg_buffers.specs.History.{same_ref, is_same}
 use Rattle.jg_heap.specs.History.{gone_at, others_in_being}
-use Rattle.jg_guard.specs.Left.{is_left}
+use Rattle.jg_leaks.specs.Left.{is_left}
 use Rattle.jg_rules.specs.Parts.{Parts}
 use Rattle.jg_rules.specs.Effects.{parts}
 use Rattle.jg_rules.specs.Parts.{TableRows, TablesStand}
 use Rattle.jg_guard.specs.declared.peaks.Peaks.{Peaks}
 use Rattle.jg_guard.specs.Peaks.{ArePeaks, CountsBuffers, CountsObjects, CountsRefs, IsMost, IsNow, raised}
 use Rattle.jg_guard.proofs.Counting.{as_long}
-use Rattle.jg_guard.proofs.Listing.{all_listed, buffers_listed, refs_of}
+use Rattle.jg_rules.specs.Parts.{HeapTells}
+use Rattle.jg_rules.proofs.Holders.{holders_stand}
+use Rattle.jg_leaks.proofs.Once.{all_listed, buffers_listed, refs_of}
 use Rattle.std.proofs.lemmas.List.{length-append, length-map}
 use Rattle.jg_lists.specs.Acts.{once_if}
 use Rattle.jg_locals.specs.Rows.{local_ref}
@@ -157,7 +159,7 @@ counted_refs s rows p stands n is =
     let a = length-map rows.locals.locals local_ref in
     let b = length-map rows.globals.strong strong_ref in
     let c = length-map rows.globals.weak weak_ref in
-    (refs_of rows, all_listed s rows p stands, omega (arith, all, others, a, b, c, is))
+    (refs_of rows, all_listed rows p (holders_stand HeapTells s rows p stands), omega (arith, all, others, a, b, c, is))
 
 pub counted_buffers : (s : StatedSetup) (rows : TableRows) (p : Parts) → TablesStand s rows p → (n : ℕ) → n ≡ length rows.buffers.lent → CountsBuffers p n
-counted_buffers s rows p stands n is = (map name_of rows.buffers.lent, buffers_listed s rows p stands, length-map rows.buffers.lent name_of ∙ sym is)
+counted_buffers s rows p stands n is = (map name_of rows.buffers.lent, buffers_listed rows p (holders_stand HeapTells s rows p stands), length-map rows.buffers.lent name_of ∙ sym is)

@@ -8,7 +8,7 @@ use Rattle.jg_heap.specs.History.{others_in_being}
 use Rattle.jg_rules.specs.Parts.{Parts}
 use Rattle.jg_rules.specs.Effects.{parts}
 use Rattle.jg_guard.specs.declared.peaks.Peaks.{Peaks}
-use Rattle.jg_guard.specs.Left.{ListsRefs, ListsBuffers}
+use Rattle.jg_leaks.specs.Left.{ListsRefs, ListsBuffers}
 
 -- so many references live: local, global and weak ones, of all threads
 abbrev pub CountsRefs : Parts → ℕ → Type 0

@@ -11,12 +11,11 @@ ghost use Rattle.jg_guard.specs.Guard.{Takes, Unchanged};
 ghost use Rattle.jg_guard.specs.Places.{TouchesByLiveReference, TouchesWhatIsThere, LiveIsThere, PinsLive, OwnersAreOne, ReferenceIsNew, DeadStaysDead, LegalWithoutDenied};
 ghost use Rattle.jg_guard.specs.Peaks.{ArePeaks};
 ghost use Rattle.jg_guard.specs.Tally.{denied_in, passed_in};
-ghost use Rattle.jg_guard.specs.Left.{ListsRefs, RefsAscend, ListsBuffers, BuffersAscend, ListsMonitors};
+ghost use Rattle.jg_leaks.specs.Left.{ListsRefs, RefsAscend, ListsBuffers, BuffersAscend, ListsMonitors};
 ghost use Rattle.jg_monitors.specs.Rows.{Ascends};
 
 use crate::answer::answer_to;
 use crate::collect::{Findings, find_held_for};
-use crate::leaks::{Leaks, list_buffers, list_refs};
 use crate::peaks::{Peaks, counted, raised};
 use crate::perform::perform;
 use crate::settle::is_noticed;
@@ -26,6 +25,7 @@ use jg_blocks::Blocks;
 use jg_buffers::Buffers;
 use jg_globals::Globals;
 use jg_heap::Heap;
+use jg_leaks::{Leaks, list_left};
 use jg_locals::Locals;
 use jg_monitors::Monitors;
 use jg_policy::{Links, Setup};
@@ -350,12 +350,7 @@ impl<A: Allocator + Clone> Guard<A> {
             left.monitors.items) }
         ensures monitors_ascend { IfOk result (λ left. Ascends left.monitors.items) }
     {
-        let alloc = self.tables.alloc.clone()?;
-        Ok(Leaks {
-            refs: list_refs(&self.tables)?,
-            buffers: list_buffers(&self.tables)?,
-            monitors: self.tables.monitors.list(alloc)?,
-        })
+        Ok(list_left(&self.tables.alloc, &self.view())?)
     }
 }
 

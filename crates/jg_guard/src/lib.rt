@@ -6,7 +6,6 @@ mod answer;
 mod collect;
 mod groups;
 mod guard;
-mod leaks;
 mod peaks;
 mod perform;
 mod region;
@@ -15,6 +14,6 @@ mod tables;
 mod tally;
 
 pub use guard::{Guard, NoMemory, Refusal};
+pub use jg_leaks::Leaks;
 pub use jg_monitors::OwnedMonitor;
-pub use leaks::Leaks;
 pub use peaks::Peaks;

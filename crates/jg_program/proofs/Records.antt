@@ -1,5 +1,6 @@
 -- What is written and said of a record that ended.
-use Rattle.std.proofs.Common.{◌≡◌, ◌∙◌, ◌++◌, ℕ, Bool, List, [], ◌∷◌, Option, Result, Ok, Err, OnOk, IfOk, IfErr, ap, codes, inl, inr, refl, subst, sym}
+use Rattle.std.proofs.Common.{◌≡◌, ◌<◌, ◌∙◌, ◌++◌, ℕ, Bool, List, [], ◌∷◌, Option, Some, None, Result, Ok, Err, OnOk, IfOk, IfErr, ap, codes, inl, inr, refl, subst, sym}
+use Rattle.std.proofs.lemmas.Option.{none-some}
 use Rattle.std.proofs.KnownBytes.{Appends-kept, Appends-trans}
 use Rattle.std.specs.Fmt.{decimal}
 use Rattle.std.specs.Io.KnownBytes.{Appends, Keeps}
@@ -11,11 +12,16 @@ use Rattle.jg_watch.specs.declared.ending.Stop.{Stop}
 use Rattle.jg_watch.specs.declared.ending.Stop.TheVariants.{Write}
 use Rattle.jg_watch.specs.declared.watch.Shown.{Shown}
 use Rattle.jg_watch.specs.Ends.{Watches}
+use Rattle.jg_watch.specs.Explained.{AreExplained, Explaining}
+use Rattle.jg_watch.specs.Told.{Watching}
+use Rattle.jg_program.specs.declared.reporting.Reporting.{Reporting}
 use Rattle.jg_program.specs.declared.stop.ProgramEnd.{ProgramEnd}
 use Rattle.jg_program.specs.declared.stop.ProgramStop.{ProgramStop}
 use Rattle.jg_program.specs.declared.stop.ProgramStop.TheVariants.{Record}
-use Rattle.jg_program.specs.Recorded.{AnswersRecord, EndsRecord, IsEndText}
-use Rattle.jg_program.specs.Reported.{said_text}
+use Rattle.jg_program.specs.declared.stop.Status.{Status}
+use Rattle.jg_program.specs.Ended.{IsHandedOn}
+use Rattle.jg_program.specs.Recorded.{AnswersRecord, EndsRecord, EndsWith, IsEndText}
+use Rattle.jg_program.proofs.Reports.{on_err}
 
 pub differs_said : {E : Type 0} (a b c d : Option (List ℕ)) (number : ℕ) (end : Ended) (line : List ℕ) (r : Result (Unit {0}) E) → end ≡ ended.Differs number
     → Appends a b (codes "differs at line ") → Appends b c (decimal number) → OnOk r (Appends c d (10 ∷ [])) → OnOk r ((said : List ℕ) × IsEndText end line said × Appends a d said)
@@ -36,30 +42,64 @@ impossible_said a b c d e f number end line event told noted (Ok done) is parts 
 impossible_said a b c d e f number end line event told noted (Err fault) is parts first second third fourth last = tt
 
 -- the record ended so, and what is written of that was written, or couldn't be
-pub ended_answered : (s : StatedSetup) (shown : Shown) (input input' : Option (List ℕ)) (line text : List ℕ) (bytes mid after bytes' : Option (List ℕ)) (tally : List ℕ)
-    (answered : Result Ended Stop) (end : Ended) (wrote written : Result Ended ProgramStop) (number : ℕ) (F : Type 0) → Watches s shown input input' line bytes mid tally answered → answered ≡ Ok end → text ≡ line
+pub ended_answered : (s : StatedSetup) (shown : Shown) (input input' : Option (List ℕ)) (line text : List ℕ) (bytes mid after bytes' : Option (List ℕ)) (new : Watching) (explained : Explaining)
+    (answered : Result Ended Stop) (end : Ended) (wrote written : Result Ended ProgramStop) (number : ℕ) (F : Type 0)
+    → Watches s shown input input' line bytes mid new explained answered → answered ≡ Ok end → text ≡ line
     → OnOk wrote ((said : List ℕ) × IsEndText end text said × Appends mid after said) → IfOk wrote (λ same. same ≡ end) → IfErr wrote (λ stop. (stop ≡ Record (Write number)) × F)
-    → written ≡ wrote → Keeps after bytes' → AnswersRecord s shown input input' line bytes bytes' tally written
-ended_answered s shown input input' line text bytes mid after bytes' tally answered end (Ok same) written number F watches is read (said, text_is, appends) same_is failed written_is kept =
-    subst (AnswersRecord s shown input input' line bytes bytes' tally) (sym written_is) (
+    → written ≡ wrote → Keeps after bytes' → AnswersRecord s shown input input' line bytes bytes' new explained written
+ended_answered s shown input input' line text bytes mid after bytes' new explained answered end (Ok same) written number F watches is read (said, text_is, appends) same_is failed written_is kept =
+    subst (AnswersRecord s shown input input' line bytes bytes' new explained) (sym written_is) (
       mid,
       said,
-      subst (Watches s shown input input' line bytes mid tally) (is ∙ ap (λ (e : Ended). Ok e) (sym same_is)) watches,
+      subst (Watches s shown input input' line bytes mid new explained) (is ∙ ap (λ (e : Ended). Ok e) (sym same_is)) watches,
       subst (λ (e : Ended). IsEndText e line said) (sym same_is) (subst (λ (l : List ℕ). IsEndText end l said) read text_is),
       Appends-kept _ _ _ _ appends kept,
     )
-ended_answered s shown input input' line text bytes mid after bytes' tally answered end (Err stop) written number F watches is read said same_is failed written_is kept =
-    subst (AnswersRecord s shown input input' line bytes bytes' tally) (sym written_is) (Write number, failed.0, inr (number, refl))
+ended_answered s shown input input' line text bytes mid after bytes' new explained answered end (Err stop) written number F watches is read said same_is failed written_is kept =
+    subst (AnswersRecord s shown input input' line bytes bytes' new explained) (sym written_is) (Write number, failed.0, inr (number, refl))
 
 -- it was stopped
-pub stopped_answered : (s : StatedSetup) (shown : Shown) (input input' : Option (List ℕ)) (line : List ℕ) (bytes mid bytes' : Option (List ℕ)) (tally : List ℕ) (answered : Result Ended Stop)
-    (stop : Stop) (written : Result Ended ProgramStop) → Watches s shown input input' line bytes mid tally answered → answered ≡ Err stop → written ≡ Err (Record stop) → Keeps mid bytes'
-    → AnswersRecord s shown input input' line bytes bytes' tally written
-stopped_answered s shown input input' line bytes mid bytes' tally answered stop written watches is written_is kept =
-    subst (AnswersRecord s shown input input' line bytes bytes' tally) (sym written_is)
-    (stop, refl, inl (mid, subst (Watches s shown input input' line bytes mid tally) is watches, kept))
+pub stopped_answered : (s : StatedSetup) (shown : Shown) (input input' : Option (List ℕ)) (line : List ℕ) (bytes mid bytes' : Option (List ℕ)) (new : Watching) (explained : Explaining)
+    (answered : Result Ended Stop) (stop : Stop) (written : Result Ended ProgramStop)
+    → Watches s shown input input' line bytes mid new explained answered → answered ≡ Err stop → written ≡ Err (Record stop) → Keeps mid bytes'
+    → AnswersRecord s shown input input' line bytes bytes' new explained written
+stopped_answered s shown input input' line bytes mid bytes' new explained answered stop written watches is written_is kept =
+    subst (AnswersRecord s shown input input' line bytes bytes' new explained) (sym written_is)
+    (stop, refl, inl (mid, subst (Watches s shown input input' line bytes mid new explained) is watches, kept))
 
-pub ends_stopped : (strict : Bool) (s stated : StatedSetup) (shown : Shown) (input input' bytes bytes' : Option (List ℕ)) (line tally : List ℕ) (stop : ProgramStop) (ending : ProgramEnd) → stated ≡ s
-    → AnswersRecord stated shown input input' line bytes bytes' tally (Err stop) → ending.ended ≡ Err stop → said_text ending.said ≡ [] → EndsRecord strict s shown input input' bytes bytes' ending
-ends_stopped strict s stated shown input input' bytes bytes' line tally stop ending same answers ended said =
-    (line, tally, Err stop, subst (λ (r : StatedSetup). AnswersRecord r shown input input' line bytes bytes' tally (Err stop)) same answers, (ended, said))
+-- an explanation is lost where one was asked for
+pub asked_for : (s : StatedSetup) (shown : Shown) (input input' : Option (List ℕ)) (line : List ℕ) (bytes mid : Option (List ℕ)) (new : Watching) (explained : Explaining) (most : ℕ)
+    (answered : Result Ended Stop)
+    → Watches s shown input input' line bytes mid new explained answered → explained.most ≡ most → explained.text ≡ None → 0 < most
+asked_for s shown input input' line bytes mid new explained most answered watches same lost = by watches.explained
+  where
+    by : AreExplained watches.lines explained → 0 < most
+    by (inl (none, some)) = subst (λ n. 0 < n) same some
+    by (inr had) = absurd (none-some _ (sym lost ∙ had))
+
+-- what is said on standard error writes nothing to the writer
+pub said_on : (holds_nothing : Type 0) (failed : Bool) (r : Reporting) (new : Watching) (explained : Option (List ℕ)) (result : Result Ended ProgramStop) (ending : ProgramEnd)
+    → EndsWith r new explained result ending → IsHandedOn {S = Ended} holds_nothing failed result → IsHandedOn {S = Status} holds_nothing failed ending.ended
+said_on holds_nothing failed r new (Some text) (Ok ended) ending (inl done) on = subst (λ (e : Result Status ProgramStop). IsHandedOn holds_nothing failed e) (sym done.0) on
+said_on holds_nothing failed r new (Some text) (Ok ended) ending (inr (inl left)) on = subst (λ (e : Result Status ProgramStop). IsHandedOn holds_nothing failed e) (sym left.0) on
+said_on holds_nothing failed r new (Some text) (Ok ended) ending (inr (inr short)) on = subst (λ (e : Result Status ProgramStop). IsHandedOn holds_nothing failed e) (sym short.0) on
+said_on holds_nothing failed r new (Some text) (Err stop) ending told on =
+    subst (λ (e : Result Status ProgramStop). IsHandedOn holds_nothing failed e) (sym told.0) (on_err Ended Status holds_nothing failed stop on)
+said_on holds_nothing failed r new None (Ok ended) ending lost on = subst (λ (e : Result Status ProgramStop). IsHandedOn holds_nothing failed e) (sym lost.1.0) on
+said_on holds_nothing failed r new None (Err stop) ending lost on =
+    subst (λ (e : Result Status ProgramStop). IsHandedOn holds_nothing failed e) (sym lost.1.0) (on_err Ended Status holds_nothing failed stop on)
+
+-- the record under this setup
+pub ends_record : (r : Reporting) (s stated : StatedSetup) (shown : Shown) (input input' bytes bytes' : Option (List ℕ)) (line : List ℕ) (new : Watching) (explained : Explaining) (said : Option (List ℕ))
+    (result : Result Ended ProgramStop) (ending : ProgramEnd)
+    → stated ≡ s → AnswersRecord stated shown input input' line bytes bytes' new explained result → explained.most ≡ r.explain → said ≡ explained.text → EndsWith r new said result ending
+    → EndsRecord r s shown input input' bytes bytes' ending
+ends_record r s stated shown input input' bytes bytes' line new explained said result ending same answers most is ends = (
+  line,
+  new,
+  explained,
+  result,
+  subst (λ (z : StatedSetup). AnswersRecord z shown input input' line bytes bytes' new explained result) same answers,
+  most,
+  subst (λ (t : Option (List ℕ)). EndsWith r new t result ending) is ends,
+)

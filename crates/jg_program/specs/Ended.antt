@@ -90,7 +90,7 @@ abbrev pub Ends : Job → Reporting → StatedSetup → Option (List ℕ) → Op
 Ends Check r setup input input' bytes bytes' limit ending = EndsScript r setup input input' bytes bytes' limit ending
 Ends Verify r setup input input' bytes bytes' limit ending = EndsJournal r setup input input' bytes bytes' limit ending
 Ends (Watch shown) r setup input input' bytes bytes' limit ending =
-    EndsRecord r.strict setup shown input input' bytes bytes' ending
+    EndsRecord r setup shown input input' bytes bytes' ending
 
 -- the same under the setup where none is given, or memory ran out before that was read
 abbrev pub EndsClosed : Job → Reporting → Option (List ℕ) → Option (List ℕ) → Option (List ℕ) → Option (List ℕ) → ℕ

@@ -9,7 +9,7 @@ use Rattle.jg_words.specs.Entry.{Entry, rule_in}
 use Rattle.jg_policy.specs.Stated.{StatedSetup}
 use Rattle.jg_monitors.specs.declared.owned_monitor.OwnedMonitor.{OwnedMonitor}
 use Rattle.jg_rules.specs.Effects.{parts}
-use Rattle.jg_guard.specs.Left.{AreLeft}
+use Rattle.jg_leaks.specs.Left.{AreLeft}
 use Rattle.jg_explain.specs.Left.{all_left_text}
 use Rattle.jg_explain.specs.Texts.{explanations_text}
 use Rattle.jg_script.specs.Leaks.{leaks_text}
@@ -27,7 +27,7 @@ abbrev pub said_text : Said → List ℕ
 said_text (Text text) = string_bytes text
 said_text (Short text) = string_bytes text ++ codes "summary: no memory\n"
 said_text NoMemory = codes "explain: no memory\n"
-said_text (CutOff line) = codes "line " ++ decimal line ++ codes ": cut off\n"
+said_text (CutOff line text) = codes "line " ++ decimal line ++ codes ": cut off\n" ++ string_bytes text
 
 -- some call was denied
 abbrev pub any_denied : List Entry → Bool

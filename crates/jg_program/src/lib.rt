@@ -8,6 +8,7 @@ mod journal;
 mod migrating;
 mod playing;
 mod program;
+mod record_report;
 mod recording;
 mod reporting;
 mod setup_file;

@@ -112,7 +112,7 @@ fn work<R: BufRead, W: HandsOn>(
     match job {
         Job::Check => answer_script(alloc, reporting, setup, limit, reader, out),
         Job::Verify => test_journal(alloc, reporting, setup, limit, reader, out),
-        Job::Watch(shown) => answer_record(alloc, reporting.strict, shown, setup, reader, out),
+        Job::Watch(shown) => answer_record(alloc, reporting, shown, setup, reader, out),
     }
 }
 

@@ -1,6 +1,6 @@
 //! A record is answered, and it is said how it ended.
 
-ghost use Rattle.std.specs.Prelude.{◌≡◌, [], true, IfErr, IfOk, List, OnErr, OnOk, ℕ};
+ghost use Rattle.std.specs.Prelude.{◌≡◌, ◌<◌, [], true, IfErr, IfOk, List, None, OnErr, OnOk, Some, ℕ};
 ghost use Rattle.std.specs.Io.KnownBytes.{Appends};
 ghost use Rattle.jg_watch.specs.declared.ending.Stop.TheVariants.{Write};
 ghost use Rattle.jg_watch.specs.Ends.{ended_line};
@@ -8,15 +8,16 @@ ghost use Rattle.jg_watch.specs.Lines.{IsTally};
 ghost use Rattle.jg_watch.specs.Told.{Stands, nothing_told};
 ghost use Rattle.jg_program.specs.declared.stop.ProgramStop.TheVariants.{Record};
 ghost use Rattle.jg_program.specs.Ended.{IsHandedOn};
-ghost use Rattle.jg_program.specs.Recorded.{AnswersRecord, EndsRecord, IsEndText, end_said, end_status};
-ghost use Rattle.jg_program.specs.Reported.{said_text};
+ghost use Rattle.jg_program.specs.Recorded.{AnswersRecord, EndsRecord, IsEndText};
 
 use crate::journal::write_number;
-use crate::stop::{ProgramEnd, ProgramStop, Said, Status, quietly};
+use crate::record_report::report_record;
+use crate::reporting::Reporting;
+use crate::stop::{ProgramEnd, ProgramStop};
 use jg_policy::Setup;
 use jg_record::cut_line;
 use jg_script::{DeviceFailed, HandsOn, Watched, write_text};
-use jg_watch::{Ended, Shown, Stop, Watch, watch_lines};
+use jg_watch::{Ended, Explanations, Shown, Stop, Watch, watch_lines};
 use std::alloc::Global;
 use std::io::{BufRead, Write};
 
@@ -77,15 +78,20 @@ fn answer_lines<R: BufRead, W: HandsOn>(
     reader: &mut Watched<R>,
     out: &mut Watched<W>,
     text: &mut Vec<u8>,
+    explanations: &mut Explanations,
 ) -> Result<Ended, ProgramStop>
     requires new { Stands watch.old nothing_told }
     requires none { IsTally [] watch.old.tally }
+    requires denied { watch.old.denied ≡ 0 }
+    requires explained { explanations.old.text ≡ Some [] }
     ensures answers { AnswersRecord watch.old.core.setup shown (R.remaining reader.old.device)
         (R.remaining reader.new.device) text.new.items (W.contents out.old.device) (W.contents out.new.device)
-        watch.new.tally result }
+        watch.new explanations.new result }
+    ensures most { explanations.new.most ≡ explanations.old.most }
+    ensures lost { explanations.new.text ≡ None → 0 < explanations.old.most }
     ensures handed_on { IsHandedOn (W.holds_nothing out.new.device) out.new.failed result }
 {
-    let answered = watch_lines(alloc, watch, shown, reader, out, text);
+    let answered = watch_lines(alloc, watch, shown, reader, out, text, explanations);
     let written = match answered {
         Ok(ended) => write_ended(out, ended, text),
         Err(stop) => Err(ProgramStop::Record(stop)),
@@ -98,51 +104,30 @@ fn answer_lines<R: BufRead, W: HandsOn>(
     }
 }
 
-/// A line that differs or can't be is told by the status, and where that is asked for, a denied question.
-fn status_of(strict: bool, watch: &Watch, ended: Ended) -> Status
-    ensures { result ≡ end_status strict watch.now.tally ended }
-{
-    match ended {
-        Ended::Differs { .. } | Ended::Impossible { .. } => Status::Differs,
-        Ended::All { .. } | Ended::CutOff { .. } => {
-            if strict && watch.has_denied() {
-                Status::Denied
-            } else {
-                Status::Done
-            }
-        }
-    }
-}
-
-fn said_of(alloc: Global, ended: Ended) -> Said
-    ensures { said_text result ≡ end_said ended }
-{
-    match ended {
-        Ended::CutOff { line } => Said::CutOff { line },
-        _ => Said::Text(String::new(alloc)),
-    }
-}
-
 /// Answers the record that the reader holds, under this setup, and says how it ended.
 pub fn answer_record<R: BufRead, W: HandsOn>(
     alloc: Global,
-    strict: bool,
+    reporting: Reporting,
     shown: Shown,
     setup: Setup,
     reader: &mut Watched<R>,
     out: &mut Watched<W>,
 ) -> ProgramEnd
-    ensures ends { EndsRecord strict setup shown (R.remaining reader.old.device) (R.remaining reader.new.device)
+    ensures ends { EndsRecord reporting setup shown (R.remaining reader.old.device) (R.remaining reader.new.device)
         (W.contents out.old.device) (W.contents out.new.device) result }
     ensures handed_on { IsHandedOn (W.holds_nothing out.new.device) out.new.failed result.ended }
 {
     let mut watch = Watch::new(alloc, setup);
     let mut text = Vec::new(alloc);
-    match answer_lines(alloc, &mut watch, shown, reader, out, &mut text) {
-        Ok(ended) => ProgramEnd {
-            ended: Ok(status_of(strict, &watch, ended)),
-            said: said_of(alloc, ended),
-        },
-        Err(stop) => quietly(alloc, Err(stop)),
-    }
+    let mut explanations = Explanations::new(alloc, reporting.explain);
+    let ended = answer_lines(
+        alloc,
+        &mut watch,
+        shown,
+        reader,
+        out,
+        &mut text,
+        &mut explanations,
+    );
+    report_record(alloc, reporting, &watch, explanations.into_text(), ended)
 }

@@ -102,7 +102,7 @@ fn push_leaks(
     }
 }
 
-fn ending_with(ended: Result<Status, ProgramStop>, text: String) -> ProgramEnd
+pub(crate) fn ending_with(ended: Result<Status, ProgramStop>, text: String) -> ProgramEnd
     ensures ended { result.ended ≡ ended }
     ensures said { said_text result.said ≡ string_bytes text }
 {
@@ -113,7 +113,7 @@ fn ending_with(ended: Result<Status, ProgramStop>, text: String) -> ProgramEnd
 }
 
 /// Ends where memory ran out for what is explained.
-fn tell_nothing(alloc: Global, ended: Result<Status, ProgramStop>) -> ProgramEnd
+pub(crate) fn tell_nothing(alloc: Global, ended: Result<Status, ProgramStop>) -> ProgramEnd
     ensures { TellsNothing ended result }
 {
     match ended {
@@ -183,7 +183,7 @@ fn report_done(
     }
 }
 
-fn ending_short(stop: ProgramStop, text: String) -> ProgramEnd
+pub(crate) fn ending_short(stop: ProgramStop, text: String) -> ProgramEnd
     ensures ended { result.ended ≡ Err stop }
     ensures said { said_text result.said ≡ string_bytes text ++ codes "summary: no memory\n" }
 {

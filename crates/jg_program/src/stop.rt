@@ -145,8 +145,8 @@ pub enum Said {
     Short(String),
     /// Memory ran out for it.
     NoMemory,
-    /// The last line of a record has no line feed.
-    CutOff { line: u64 },
+    /// The last line of a record has no line feed; and what is said behind that.
+    CutOff { line: u64, text: String },
 }
 
 /// How the program ends: with this status, or for this reason; and what is said then.
@@ -210,8 +210,9 @@ pub fn tell_ending<E: Write>(ending: ProgramEnd, err: &mut E) -> Status
         Said::NoMemory => {
             let _ = writeln!(err, "{}", ProgramStop::Explain);
         }
-        Said::CutOff { line } => {
+        Said::CutOff { line, text } => {
             let _ = writeln!(err, "line {line}: cut off");
+            let _ = err.write_all(text.as_bytes());
         }
     }
     status

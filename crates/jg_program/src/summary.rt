@@ -2,11 +2,12 @@
 
 ghost use Rattle.std.specs.Prelude.{◌≡◌, ◌++◌, ◌∷◌, [], codes, flat_map, OnOk, string_bytes};
 ghost use Rattle.std.specs.Fmt.{decimal};
-ghost use Rattle.jg_program.specs.Summary.{AddsSummary, calls_line, peaks_line, rule_line};
+ghost use Rattle.jg_program.specs.Summary.{AddsSummary, calls_line, counts_line, deny_line, peaks_line, questions_line, record_summary, rule_line, watched_line};
 
 use itoa::Buffer;
 use jg_guard::{Guard, Peaks};
 use jg_text::push_number;
+use jg_watch::Watch;
 use jg_words::Rule;
 use std::alloc::AllocError;
 
@@ -31,25 +32,31 @@ const RULES: [Rule; 17] = [
     Rule::NotLinked,
 ];
 
+/// How many calls or questions there were, and how many of them passed and were denied.
+fn push_counts(out: &mut String, calls: u128, passed: u64, denied: u64) -> Result<(), AllocError>
+    ensures { OnOk result (string_bytes out.new ≡ string_bytes out.old ++ counts_line calls passed denied) }
+{
+    out.push_str("calls ")?;
+    push_count(out, calls)?;
+    out.push_str(", passed ")?;
+    push_number(out, passed)?;
+    out.push_str(", denied ")?;
+    push_number(out, denied)?;
+    out.push_str("\n")
+}
+
 fn push_calls(out: &mut String, guard: &Guard) -> Result<(), AllocError>
     ensures { OnOk result (string_bytes out.new ≡ string_bytes out.old ++ calls_line guard.now.journal) }
 {
     let calls = guard.journal_len() as u64;
     let passed = u64::from(guard.passed());
-    out.push_str("calls ")?;
-    push_number(out, calls)?;
-    out.push_str(", passed ")?;
-    push_number(out, passed)?;
-    out.push_str(", denied ")?;
-    push_number(out, calls.saturating_sub(passed))?;
-    out.push_str("\n")
+    push_counts(out, u128::from(calls), passed, calls.saturating_sub(passed))
 }
 
-/// A line of the rule, if it denied a call.
-fn push_rule(out: &mut String, guard: &Guard, rule: Rule) -> Result<(), AllocError>
-    ensures { OnOk result (string_bytes out.new ≡ string_bytes out.old ++ rule_line guard.now.journal rule) }
+/// A line of the rule, if it denied a call or a question.
+fn push_rule(out: &mut String, rule: Rule, denied: u64) -> Result<(), AllocError>
+    ensures { OnOk result (string_bytes out.new ≡ string_bytes out.old ++ deny_line rule denied) }
 {
-    let denied = guard.denied_by(rule);
     if denied == 0 {
         return Ok(());
     }
@@ -58,7 +65,7 @@ fn push_rule(out: &mut String, guard: &Guard, rule: Rule) -> Result<(), AllocErr
     out.push_str(" ")?;
     out.push_str(rule.name())?;
     out.push_str(" ")?;
-    push_number(out, u64::from(denied))?;
+    push_number(out, denied)?;
     out.push_str("\n")
 }
 
@@ -67,7 +74,7 @@ fn push_rules(out: &mut String, guard: &Guard, rules: &[Rule]) -> Result<(), All
         ≡ string_bytes out.old ++ flat_map (rule_line guard.now.journal) rules.now) }
 {
     for rule in rules {
-        push_rule(out, guard, *rule)?;
+        push_rule(out, *rule, u64::from(guard.denied_by(*rule)))?;
     }
     Ok(())
 }
@@ -114,4 +121,30 @@ pub fn push_summary(out: &mut String, guard: &Guard) -> Result<(), AllocError>
     push_calls(out, guard)?;
     push_rules(out, guard, &RULES)?;
     push_peaks(out, guard.peaks())
+}
+
+fn push_questions(out: &mut String, watch: &Watch) -> Result<(), AllocError>
+    ensures { OnOk result (string_bytes out.new ≡ string_bytes out.old ++ questions_line watch.now) }
+{
+    let (passed, denied) = (watch.passed(), watch.denied());
+    push_counts(out, u128::from(passed) + u128::from(denied), passed, denied)
+}
+
+fn push_watched(out: &mut String, watch: &Watch, rules: &[Rule]) -> Result<(), AllocError>
+    ensures { OnOk result (string_bytes out.new
+        ≡ string_bytes out.old ++ flat_map (watched_line watch.now) rules.now) }
+{
+    for rule in rules {
+        push_rule(out, *rule, watch.denied_by(*rule))?;
+    }
+    Ok(())
+}
+
+/// Adds how many questions of a record passed and were denied, and a line for each rule that denied some. Fails only
+/// for want of memory.
+pub fn push_record_summary(out: &mut String, watch: &Watch) -> Result<(), AllocError>
+    ensures { OnOk result (string_bytes out.new ≡ string_bytes out.old ++ record_summary watch.now) }
+{
+    push_questions(out, watch)?;
+    push_watched(out, watch, &RULES)
 }

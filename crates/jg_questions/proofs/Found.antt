@@ -61,7 +61,8 @@ one_more s p t beside faults found more all takes x wanted later_takes rest late
     (subst (λ r. either faults (faults_in s p t beside (paired wanted r)) ≡ all) rest_is so_far) in
     ap (λ f. either f left) more_is ∙ (either_assoc faults found left ∙ (ap (λ f. either faults (either f left)) found_is ∙ now))
 
-pub one_more_of_others : (s : StatedSetup) (p : Parts) (t : ℕ) (beside : Beside) (faults found more all : Faults) (takes : Takes) (x : Argument) (wanted later_takes : List Takes) (rest later : List Argument)
+pub one_more_of_others : (s : StatedSetup) (p : Parts) (t : ℕ) (beside : Beside) (faults found more all : Faults) (takes : Takes) (x : Argument) (wanted later_takes : List Takes)
+    (rest later : List Argument)
     → wanted ≡ takes ∷ later_takes → rest ≡ x ∷ later → more ≡ either faults found → found ≡ faults_of s p t beside takes x
     → either faults (faults_in s p t beside (paired wanted rest)) ≡ all → is_last takes ≡ false
     → either more (faults_in s p t beside (paired later_takes later)) ≡ all
@@ -69,7 +70,8 @@ one_more_of_others s p t beside faults found more all takes x wanted later_takes
     subst (λ b. either more (faults_in s p t beside (paired (if b then takes ∷ later_takes else later_takes) later)) ≡ all) last
     (one_more s p t beside faults found more all takes x wanted later_takes rest later wanted_is rest_is more_is found_is so_far)
 
-pub one_more_argument : (s : StatedSetup) (p : Parts) (t : ℕ) (beside : Beside) (faults found more all : Faults) (takes : Takes) (x : Argument) (wanted later_takes : List Takes) (rest later : List Argument)
+pub one_more_argument : (s : StatedSetup) (p : Parts) (t : ℕ) (beside : Beside) (faults found more all : Faults) (takes : Takes) (x : Argument) (wanted later_takes : List Takes)
+    (rest later : List Argument)
     → wanted ≡ takes ∷ later_takes → rest ≡ x ∷ later → more ≡ either faults found → found ≡ faults_of s p t beside takes x
     → either faults (faults_in s p t beside (paired wanted rest)) ≡ all → is_last takes ≡ true
     → either more (faults_in s p t beside (paired wanted later)) ≡ all

@@ -38,21 +38,24 @@ nested false false false false false false false false later = refl
 pub after_four : (bounds : Bounds) (s : StatedSetup) (p : Parts) (t : ℕ) (env : Option EnvId) (row : Columns) (xs : List Argument)
     → wrong_thread t env row ≡ false → detached p t env row ≡ false → in_critical p t row ≡ false → while_pending p t row ≡ false
     → verdict bounds s p t env row xs
-    ≡ first_there (of_operands (faults_in s p t (record { bounds = bounds; via = first_reference xs; info = buffer_meant p (first_buffer xs) }) (paired row.takes xs)) (wrong_kind row.effect (first_reference xs)))
-    (of_effect s p t row.effect (first_reference xs) xs)
+    ≡ first_there (of_operands (faults_in s p t (record { bounds = bounds; via = first_reference xs; info = buffer_meant p (first_buffer xs) }) (paired row.takes xs))
+    (wrong_kind row.effect (first_reference xs))) (of_effect s p t row.effect (first_reference xs) xs)
 after_four bounds s p t env row xs own attached outside calm =
     let beside : Beside = record { bounds = bounds; via = first_reference xs; info = buffer_meant p (first_buffer xs) } in
     let f = told s p t beside (paired row.takes xs) in
     rw (own, attached, outside, calm)
-    (nested f.foreign_local f.dead_reference (wrong_kind row.effect (first_reference xs)) f.null_reference f.wrong_type f.bad_field f.bad_buffer f.bad_argument (of_effect s p t row.effect (first_reference xs) xs)
-    ∙ ap (λ (x : Faults). first_there (of_operands x (wrong_kind row.effect (first_reference xs))) (of_effect s p t row.effect (first_reference xs) xs)) (sym (each_found s p t beside (paired row.takes xs))))
+    (nested f.foreign_local f.dead_reference (wrong_kind row.effect (first_reference xs)) f.null_reference f.wrong_type f.bad_field f.bad_buffer f.bad_argument
+    (of_effect s p t row.effect (first_reference xs) xs)
+    ∙ ap (λ (x : Faults). first_there (of_operands x (wrong_kind row.effect (first_reference xs))) (of_effect s p t row.effect (first_reference xs) xs))
+    (sym (each_found s p t beside (paired row.takes xs))))
 
 -- what was found with the first reference and its buffer
 pub found_by : (bounds : Bounds) (s : StatedSetup) (p : Parts) (t : ℕ) (row : Columns) (xs : List Argument) (via : Ref) (info : Option Info) (faults : Faults) (wrong : Bool) (given : Option Rule)
     → via ≡ first_reference xs → info ≡ buffer_meant p (first_buffer xs)
     → faults ≡ faults_in s p t (record { bounds = bounds; via = via; info = info }) (paired row.takes xs)
     → wrong ≡ wrong_kind row.effect via → given ≡ of_operands faults wrong
-    → given ≡ of_operands (faults_in s p t (record { bounds = bounds; via = first_reference xs; info = buffer_meant p (first_buffer xs) }) (paired row.takes xs)) (wrong_kind row.effect (first_reference xs))
+    → given ≡ of_operands (faults_in s p t (record { bounds = bounds; via = first_reference xs; info = buffer_meant p (first_buffer xs) }) (paired row.takes xs))
+    (wrong_kind row.effect (first_reference xs))
 found_by bounds s p t row xs via info faults wrong given same_via same_info are is_wrong is =
     is ∙ (ap (λ f. of_operands f wrong) are
     ∙ (ap (of_operands (faults_in s p t (record { bounds = bounds; via = via; info = info }) (paired row.takes xs))) is_wrong

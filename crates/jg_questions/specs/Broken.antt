@@ -155,7 +155,8 @@ abbrev pub stated : StatedSetup → Option ℕ → Option ℕ
 stated s None = None
 stated s (Some class) = if nat_lt class (class_count s) then Some class else None
 
--- an operand that isn't: a list with an item that isn't of its type, or the name of a class that the setup doesn't state
+-- an operand that isn't: a list with an item that isn't of its type, or the name of a class that the setup doesn't
+-- state
 abbrev pub is_out_of_bounds : Bounds → StatedSetup → Parts → Option Info → Takes → Argument → Bool
 is_out_of_bounds bounds s p info takes (Number n) = is_wrong_number bounds info takes n
 is_out_of_bounds bounds s p info takes (ValueOf v) = is_wrong_value s p info takes v

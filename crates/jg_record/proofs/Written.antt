@@ -133,7 +133,8 @@ writes s by e xs gone old first new has fits_tid fits tid written = record {
 }
 
 -- it is as long as the string has grown
-pub longer : (s : StatedSetup) (by : Tid) (e : Event) (xs : List Argument) (gone : List ObjId) (old new : List ℕ) (h : AppendsText s by e xs gone old new) → length new ≡ length old + length (84 ∷ h.tail)
+pub longer : (s : StatedSetup) (by : Tid) (e : Event) (xs : List Argument) (gone : List ObjId) (old new : List ℕ) (h : AppendsText s by e xs gone old new)
+    → length new ≡ length old + length (84 ∷ h.tail)
 longer s by e xs gone old new h = ap length h.appended ∙ length-append old (84 ∷ h.tail)
 
 behind : (old tail : List ℕ) (b : ℕ) → slice_index (old ++ b ∷ tail) (length old) ≡ b

@@ -53,8 +53,8 @@ pub record IsTextOf (s : StatedSetup) (by : Tid) (e : Event) (xs : List Argument
   pub printable : All (λ b. IsInRange 32 126 b) text
 
 -- such a text was appended, which begins with `T`
-pub record AppendsText (s : StatedSetup) (by : Tid) (e : Event) (xs : List Argument) (gone : List ObjId) (old new : List ℕ)
-    : Type 0 where
+pub record AppendsText (s : StatedSetup) (by : Tid) (e : Event) (xs : List Argument) (gone : List ObjId)
+    (old new : List ℕ) : Type 0 where
   pub tail : List ℕ
   pub is : IsTextOf s by e xs gone (84 ∷ tail)
   pub appended : new ≡ old ++ 84 ∷ tail

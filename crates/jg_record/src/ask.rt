@@ -80,8 +80,8 @@ fn push_list(out: &mut String, count: u64, fits: bool) -> Result<(), AllocError>
     if fits { Ok(()) } else { out.push('!') }
 }
 
-/// Writes a space and the operand.
-fn push_argument(out: &mut String, argument: Argument) -> Result<(), AllocError>
+/// Adds a space and the operand, as a question spells it.
+pub fn push_argument(out: &mut String, argument: Argument) -> Result<(), AllocError>
     ensures written { OnOk result (string_bytes out.new ≡ string_bytes out.old ++ 32 ∷ argument_text argument) }
     ensures fits { OnOk result (FitsArgument argument) }
 {

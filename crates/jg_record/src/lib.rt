@@ -16,6 +16,7 @@ mod verb;
 mod word;
 mod write;
 
+pub use ask::push_argument;
 pub use event::{Event, Lists};
 pub use fault::RecordFault;
 pub use parts::{Parts, cut_line};

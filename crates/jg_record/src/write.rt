@@ -80,8 +80,8 @@ fn push_text(
 
 /// Writes the text of an event behind what the string holds, as [`read_event`](crate::read_event) reads it: no answer,
 /// no note and no line feed. The operands of a question and the objects that are gone are those of the lists. A name is
-/// written as `?`. What is no thread's own is told by the thread that is handed in. At `NoText` and `TooLong` the string
-/// is as it was; at `NoMemory` a part of the text may stand in it.
+/// written as `?`. What is no thread's own is told by the thread that is handed in. At `NoText` and `TooLong` the
+/// string is as it was; at `NoMemory` a part of the text may stand in it.
 pub fn push_event(
     out: &mut String,
     setup: &Setup,

@@ -12,5 +12,5 @@ mod words;
 
 pub use breaches::{push_breach, push_subject};
 pub use moments::{begun, ended, push_moment};
-pub use sentences::{help, sentence};
+pub use sentences::{help, push_denial, push_rule, sentence};
 pub use words::push_quoted;

@@ -1,6 +1,6 @@
 -- What the steps of answering a line say of the line.
 use Rattle.std.proofs.Common.{◌≡◌, ◌++◌, ℕ, Bool, true, false, List, [], ◌∷◌, Option, Result, Ok, Err, ap, if◌then◌else◌, inl, inr, refl, subst, sym, ◌∙◌}
-use Rattle.std.specs.Io.KnownBytes.{Consumes}
+use Rattle.std.specs.Io.KnownBytes.{Appends, Consumes}
 use Rattle.jg_lines.specs.Devices.{IsOneLine}
 use Rattle.jg_policy.specs.Stated.{StatedSetup}
 use Rattle.jg_words.specs.declared.object.ObjId.{ObjId}
@@ -10,16 +10,18 @@ use Rattle.jg_record.specs.Events.{SpellsEvent}
 use Rattle.jg_record.specs.Parts.{AreParts}
 use Rattle.jg_record.specs.declared.reply.Reply.{Reply}
 use Rattle.jg_record.specs.declared.reply.Reply.TheVariants.{Nothing}
-use Rattle.jg_watch.specs.declared.ending.Ended.TheVariants.{Differs}
+use Rattle.jg_watch.specs.declared.ending.Ended.{Ended}
+use Rattle.jg_watch.specs.declared.ending.Ended.TheVariants.{All, CutOff, Differs, Impossible}
 use Rattle.jg_watch.specs.declared.ending.Stop.{Stop}
 use Rattle.jg_watch.specs.declared.ending.Stop.TheVariants.{Faulty, Limit, NoMemory, Read, Write}
+use Rattle.jg_watch.specs.declared.event.Replied.{Replied}
 use Rattle.jg_watch.specs.declared.line.Step.{Step}
 use Rattle.jg_watch.specs.declared.line.Step.TheVariants as step
 use Rattle.jg_watch.specs.declared.watch.Shown.{Shown}
-use Rattle.jg_watch.specs.Ends.{ReaderFails}
-use Rattle.jg_watch.specs.Lines.{Agrees, IsReplied, Said, Says, answer_of, comment_text, is_comment, is_shown, line_text, shown_text}
-use Rattle.jg_watch.specs.Steps.{AnswersLine, AnswersNext, IsNoRead, WritesLine, WritesReply}
-use Rattle.jg_watch.specs.Told.{Stands, Told, Watching, after}
+use Rattle.jg_watch.specs.Ends.{IsWhole, ReaderFails, StopsAt}
+use Rattle.jg_watch.specs.Lines.{Agrees, Said, Says, answer_of, comment_text, is_comment, is_shown, line_text, shown_text}
+use Rattle.jg_watch.specs.Steps.{AnswersLine, AnswersNext, IsNoRead, Replies, WritesLine, WritesReply, answered, unasked}
+use Rattle.jg_watch.specs.Told.{Stands, Told, Watching, after, can_be_told, operand_denied, replied}
 
 -- what a line says, by its parts
 abbrev pub said : List ℕ → Option (List ℕ) → Option (List ℕ) → Event → List Argument → List ObjId → Said
@@ -67,45 +69,85 @@ reads_on old new (Err (Limit number)) unread same = same
 reads_on old new (Err (Read number)) unread same = absurd unread
 
 -- what the line does, by whether its answer agrees
-abbrev step_by : ℕ → Reply → Result Bool Stop → Result Step Stop
-step_by n reply (Ok true) = Ok (step.Answered reply)
-step_by n reply (Ok false) = Ok (step.Ended (Differs n))
-step_by n reply (Err stop) = Err stop
+abbrev step_by : ℕ → Replied → Result Bool Stop → Result Step Stop
+step_by n x (Ok true) = Ok (step.Answered x)
+step_by n x (Ok false) = Ok (step.Ended (Differs n))
+step_by n x (Err stop) = Err stop
 
-pub replied_line : (s : StatedSetup) (shown : Shown) (told : Told) (new : Watching) (line : List ℕ) (bytes bytes' : Option (List ℕ)) (n : ℕ) (x : Said) (reply : Reply)
-    (result : Result Bool Stop) → Says s line x → IsReplied s told x reply → Stands new (after x.says x.gone told)
-    → WritesReply x.answer reply (shown_text shown x.event x.note reply) bytes bytes' n result → AnswersLine s shown told new line bytes bytes' n (step_by n reply result)
-replied_line s shown told new line bytes bytes' n x reply (Ok true) says replied stands (agrees, written) =
-    (shown_text shown x.event x.note reply, after x.says x.gone told, inr (x, says, replied, agrees, refl, refl), stands, written)
-replied_line s shown told new line bytes bytes' n x reply (Ok false) says replied stands (differs, kept) = ((x, reply, says, replied, differs), kept, refl)
-replied_line s shown told new line bytes bytes' n x reply (Err (NoMemory number)) says replied stands wrote = wrote
-replied_line s shown told new line bytes bytes' n x reply (Err (Write number)) says replied stands (agrees, front, is) =
-    ((reply, shown_text shown x.event x.note reply, after x.says x.gone told, inr (x, says, replied, agrees, refl, refl), front), is)
-replied_line s shown told new line bytes bytes' n x reply (Err (Faulty number fault)) says replied stands wrote = absurd wrote
-replied_line s shown told new line bytes bytes' n x reply (Err (Limit number)) says replied stands wrote = absurd wrote
-replied_line s shown told new line bytes bytes' n x reply (Err (Read number)) says replied stands wrote = absurd wrote
+pub replied_line : (s : StatedSetup) (shown : Shown) (told : Told) (old new : Watching) (line : List ℕ) (bytes bytes' : Option (List ℕ)) (n : ℕ) (x : Said) (r : Replied)
+    (result : Result Bool Stop) → old.core.setup ≡ s → Says s line x → Stands old told → Replies old new x.says x.operands x.gone r
+    → WritesReply x.answer r.reply (shown_text shown x.event x.note r.reply) bytes bytes' n result → AnswersLine s shown told new line bytes bytes' n (step_by n r result)
+replied_line s shown told old new line bytes bytes' n x r result same says stands replies wrote = by result wrote
+  where
+    can : can_be_told s told x.says x.gone ≡ true
+    can = subst (λ (z : StatedSetup). can_be_told z told x.says x.gone ≡ true) same (replies.can told stands)
+
+    is : r.reply ≡ replied s told x.says x.operands
+    is = subst (λ (z : StatedSetup). r.reply ≡ replied z told x.says x.operands) same (replies.is told stands)
+
+    operand : r.operand ≡ operand_denied s told x.says x.operands
+    operand = subst (λ (z : StatedSetup). r.operand ≡ operand_denied z told x.says x.operands) same (replies.operand told stands)
+
+    now : Stands new (after x.says x.gone told)
+    now = replies.stands told stands
+
+    by : (result : Result Bool Stop) → WritesReply x.answer r.reply (shown_text shown x.event x.note r.reply) bytes bytes' n result
+        → AnswersLine s shown told new line bytes bytes' n (step_by n r result)
+    by (Ok true) (agrees, written) =
+        (shown_text shown x.event x.note r.reply, after x.says x.gone told, inr (x, says, record { can = can; is = is }, agrees, operand, refl, refl), now, written)
+    by (Ok false) (differs, kept) = ((x, r.reply, says, record { can = can; is = is }, differs), kept, refl)
+    by (Err (NoMemory number)) wrote = wrote
+    by (Err (Write number)) (agrees, front, is_n) = (
+      (
+        answered line r (shown_text shown x.event x.note r.reply),
+        after x.says x.gone told,
+        refl,
+        inr (x, says, record { can = can; is = is }, agrees, operand, refl, refl),
+        front,
+      ),
+      is_n,
+    )
+    by (Err (Faulty number fault)) wrote = absurd wrote
+    by (Err (Limit number)) wrote = absurd wrote
+    by (Err (Read number)) wrote = absurd wrote
 
 -- the same of a comment
 abbrev step_of : Result (Unit {0}) Stop → Result Step Stop
-step_of (Ok done) = Ok (step.Answered Nothing)
+step_of (Ok done) = Ok (step.Answered (unasked Nothing))
 step_of (Err stop) = Err stop
 
 pub comment_line : (s : StatedSetup) (shown : Shown) (told : Told) (new : Watching) (line : List ℕ) (bytes bytes' : Option (List ℕ)) (n : ℕ) (result : Result (Unit {0}) Stop)
     → is_comment line ≡ true → Stands new told → WritesLine (comment_text shown line) bytes bytes' n result → AnswersLine s shown told new line bytes bytes' n (step_of result)
-comment_line s shown told new line bytes bytes' n (Ok done) comment stands written = (comment_text shown line, told, inl (comment, refl, refl, refl), stands, written)
+comment_line s shown told new line bytes bytes' n (Ok done) comment stands written = (comment_text shown line, told, inl (comment, refl, refl, refl, refl), stands, written)
 comment_line s shown told new line bytes bytes' n (Err (NoMemory number)) comment stands wrote = wrote
 comment_line s shown told new line bytes bytes' n (Err (Write number)) comment stands (front, is) =
-    ((Nothing, comment_text shown line, told, inl (comment, refl, refl, refl), front), is)
+    ((answered line (unasked Nothing) (comment_text shown line), told, refl, inl (comment, refl, refl, refl, refl), front), is)
 comment_line s shown told new line bytes bytes' n (Err (Faulty number fault)) comment stands wrote = absurd wrote
 comment_line s shown told new line bytes bytes' n (Err (Limit number)) comment stands wrote = absurd wrote
 comment_line s shown told new line bytes bytes' n (Err (Read number)) comment stands wrote = absurd wrote
+
+pub comment_answered : (s : StatedSetup) (shown : Shown) (told : Told) (new : Watching) (line : List ℕ) (bytes bytes' : Option (List ℕ)) (n : ℕ) (x : Replied)
+    → is_comment line ≡ true → Stands new told → Appends bytes bytes' (comment_text shown line) → x ≡ unasked Nothing
+    → AnswersLine s shown told new line bytes bytes' n (Ok (step.Answered x))
+comment_answered s shown told new line bytes bytes' n x comment stands written is =
+    subst (λ (y : Replied). AnswersLine s shown told new line bytes bytes' n (Ok (step.Answered y))) (sym is)
+    (comment_line s shown told new line bytes bytes' n (Ok tt) comment stands written)
+
+-- no line ends a record as its end does
+line_whole : (s : StatedSetup) (shown : Shown) (told : Told) (new : Watching) (line : List ℕ) (bytes bytes' : Option (List ℕ)) (n : ℕ) (ended : Ended)
+    → StopsAt s shown told line bytes bytes' n (Ok ended) → IsWhole new told (Ok ended)
+line_whole s shown told new line bytes bytes' n (All lines) stops = absurd stops
+line_whole s shown told new line bytes bytes' n (CutOff number) stops = absurd stops
+line_whole s shown told new line bytes bytes' n (Differs number) stops = tt
+line_whole s shown told new line bytes bytes' n (Impossible number) stops = tt
 
 -- a line that was read whole is the next
 pub next_line : (s : StatedSetup) (shown : Shown) (told : Told) (new : Watching) (input input' : Option (List ℕ)) (line : List ℕ) (bytes bytes' : Option (List ℕ)) (n : ℕ)
     (result : Result Step Stop) → IsOneLine line → Consumes input input' (line ++ 10 ∷ []) → AnswersLine s shown told new line bytes bytes' n result
     → AnswersNext s shown told new input input' line bytes bytes' n result
 next_line s shown told new input input' line bytes bytes' n (Ok (step.Answered reply)) one taken answers = (taken, answers)
-next_line s shown told new input input' line bytes bytes' n (Ok (step.Ended ended)) one taken stops = inl (one, taken, stops)
+next_line s shown told new input input' line bytes bytes' n (Ok (step.Ended ended)) one taken stops =
+    (inl (one, taken, stops), line_whole s shown told new line bytes bytes' n ended stops)
 next_line s shown told new input input' line bytes bytes' n (Err stop) one taken stops = inl (one, taken, stops)
 
 -- what is shown of an answered line

@@ -7,7 +7,7 @@ use Rattle.jg_lists.proofs.Lists.{how_many-most}
 use Rattle.jg_words.proofs.Common.{rule_number}
 use Rattle.jg_record.specs.declared.reply.Reply.{Reply}
 use Rattle.jg_record.specs.declared.reply.Reply.TheVariants.{Passed, Denied, Environment, Reference, Buffer, Object, Nothing}
-use Rattle.jg_watch.specs.Lines.{Answered, IsTally, is_number, reply_number, tallied}
+use Rattle.jg_watch.specs.Lines.{Answered, IsTally, denials_in, is_denial, is_number, reply_number, tallied}
 use Rattle.jg_watch.specs.Steps.{counted_at}
 
 -- no count is greater than the lines are many
@@ -15,6 +15,11 @@ pub fits : (lines : List Answered) (tally : List ℕ) (k : ℕ) → IsTally line
 fits lines tally k is room =
     let some = how_many-most (λ (l : Answered). is_number k (reply_number l.reply)) lines in
     omega (arith, is.1 k, some, room)
+
+pub denied_fits : (lines : List Answered) (denied : ℕ) → denied ≡ denials_in lines → length lines + 1 < 2 ^ 64 → denied < 2 ^ 64 - 1
+denied_fits lines denied is room =
+    let some = how_many-most (λ (l : Answered). is_denial l.reply) lines in
+    omega (arith, is, some, room)
 
 -- the number is one of the list's
 abbrev IsInside : Option ℕ → Type 0

@@ -1,22 +1,25 @@
 -- How the lines that were answered, and the next, make the whole.
-use Rattle.std.proofs.Common.{◌≡◌, ◌+◌, ◌∙◌, ℕ, List, ◌∷◌, length, Option, Result, Ok, ap, arith, subst, sym}
+use Rattle.std.proofs.Common.{◌≡◌, ◌<◌, ◌+◌, ◌++◌, ◌∙◌, ◌⊎◌, ℕ, List, [], ◌∷◌, length, Option, Some, None, Result, Ok, ap, arith, inl, inr, if◌then◌else◌, refl, subst, sym}
+use Rattle.std.specs.Prelude.{nat_lt}
+use Rattle.std.proofs.lemmas.Option.{none-some, same_Some}
 use Rattle.std.specs.Io.KnownBytes.{Appends, Consumes, Keeps}
-use Rattle.std.proofs.KnownBytes.{Appends-kept, Appends-trans, Consumes-trans}
+use Rattle.std.proofs.KnownBytes.{Appends-kept, Appends-nil, Appends-trans, Consumes-nil, Consumes-trans}
 use Rattle.jg_policy.specs.Stated.{StatedSetup}
 use Rattle.jg_core.specs.Kernel.{CoreStands, CoreState}
-use Rattle.jg_record.specs.declared.reply.Reply.{Reply}
 use Rattle.jg_watch.specs.declared.ending.Ended.{Ended}
 use Rattle.jg_watch.specs.declared.ending.Stop.{Stop}
+use Rattle.jg_watch.specs.declared.event.Replied.{Replied}
 use Rattle.jg_watch.specs.declared.line.Step.TheVariants as step
 use Rattle.jg_watch.specs.declared.watch.Shown.{Shown}
-use Rattle.jg_watch.specs.Ends.{EndsAt, Watches}
-use Rattle.jg_watch.specs.Lines.{Answered, AreAnswered, IsAnswered, IsTally, reply_number, text_of, written_of}
-use Rattle.jg_watch.specs.Steps.{AnswersNext, counted_at}
-use Rattle.jg_watch.specs.Told.{Stands, Told, Watching}
+use Rattle.jg_watch.specs.Ends.{EndsAt, IsWhole, Watches}
+use Rattle.jg_watch.specs.Explained.{AreExplained, Explaining, explanation, explanations}
+use Rattle.jg_watch.specs.Lines.{Answered, AreAnswered, IsAnswered, IsTally, denials_in, reply_number, text_of, written_of}
+use Rattle.jg_watch.specs.Steps.{Adds, AnswersNext, answered, counted_at, denied_after}
+use Rattle.jg_watch.specs.Told.{Stands, Told, Watching, nothing_told}
 use Rattle.jg_watch.proofs.Counting.{counts}
 
--- what is known before line number n: the lines before it were answered, and their replies counted
-pub record HasWatched (s : StatedSetup) (shown : Shown) (input rest bytes before : Option (List ℕ)) (n : ℕ) (watch : Watching) : Type 0 where
+-- what is known before line number n: the lines before it were answered, their replies counted, and the first denials explained
+pub record HasWatched (s : StatedSetup) (shown : Shown) (input rest bytes before : Option (List ℕ)) (n : ℕ) (watch : Watching) (told_of : Explaining) : Type 0 where
   pub lines : List Answered
   pub told : Told
   pub answered : AreAnswered s shown lines told
@@ -24,12 +27,30 @@ pub record HasWatched (s : StatedSetup) (shown : Shown) (input rest bytes before
   pub read : Consumes input rest (text_of lines)
   pub written : Appends bytes before (written_of lines)
   pub counted : IsTally lines watch.tally
+  pub denied : watch.denied ≡ denials_in lines
+  pub explained : AreExplained lines told_of
   pub number : n ≡ length lines + 1
 
+-- nothing yet
+pub begins : (s : StatedSetup) (shown : Shown) (input bytes : Option (List ℕ)) (watch : Watching) (told_of : Explaining) → Stands watch nothing_told → IsTally [] watch.tally → watch.denied ≡ 0
+    → told_of.text ≡ Some [] → HasWatched s shown input input bytes bytes 1 watch told_of
+begins s shown input bytes watch told_of stands none denied text = record {
+  lines = [];
+  told = nothing_told;
+  answered = refl;
+  stands = stands;
+  read = Consumes-nil _;
+  written = Appends-nil _;
+  counted = none;
+  denied = denied;
+  explained = inr text;
+  number = refl;
+}
+
 -- what is held back may be handed on
-pub still : (s : StatedSetup) (shown : Shown) (input rest bytes before before' : Option (List ℕ)) (n : ℕ) (watch : Watching) → HasWatched s shown input rest bytes before n watch
-    → Keeps before before' → HasWatched s shown input rest bytes before' n watch
-still s shown input rest bytes before before' n watch h kept = record {
+pub still : (s : StatedSetup) (shown : Shown) (input rest bytes before before' : Option (List ℕ)) (n : ℕ) (watch : Watching) (told_of : Explaining)
+    → HasWatched s shown input rest bytes before n watch told_of → Keeps before before' → HasWatched s shown input rest bytes before' n watch told_of
+still s shown input rest bytes before before' n watch told_of h kept = record {
   lines = h.lines;
   told = h.told;
   answered = h.answered;
@@ -37,16 +58,39 @@ still s shown input rest bytes before before' n watch h kept = record {
   read = h.read;
   written = Appends-kept _ _ _ _ h.written kept;
   counted = h.counted;
+  denied = h.denied;
+  explained = h.explained;
   number = h.number;
 }
 
+-- one line more was explained, if it is one of the first denials
+explains_on : (lines : List Answered) (l : Answered) (old new : Explaining) (text : List ℕ) → AreExplained lines old → Adds old new text
+    → text ≡ (if nat_lt (denials_in lines) old.most then explanation (length lines + 1) l.reply l.operand else []) → AreExplained (l ∷ lines) new
+explains_on lines l old new text (inl (lost, some)) adds is = inl (by adds.text, subst (λ n. 0 < n) (sym adds.most) some)
+  where
+    by : ((new.text ≡ None) × ((old.text ≡ None) ⊎ (0 < old.most))) ⊎ ((so_far : List ℕ) × (old.text ≡ Some so_far) × (new.text ≡ Some (so_far ++ text))) → new.text ≡ None
+    by (inl now) = now.0
+    by (inr (so_far, had, now)) = absurd (none-some so_far (sym lost ∙ had))
+explains_on lines l old new text (inr had) adds is = by adds.text
+  where
+    by : ((new.text ≡ None) × ((old.text ≡ None) ⊎ (0 < old.most))) ⊎ ((so_far : List ℕ) × (old.text ≡ Some so_far) × (new.text ≡ Some (so_far ++ text)))
+        → AreExplained (l ∷ lines) new
+    by (inl (lost, inl none)) = absurd (none-some _ (sym none ∙ had))
+    by (inl (lost, inr some)) = inl (lost, subst (λ n. 0 < n) (sym adds.most) some)
+    by (inr (so_far, was, now)) =
+        inr (now ∙ ap Some (ap (λ it. it ++ text) (same_Some _ _ (sym was ∙ had)) ∙ ap (λ it. explanations old.most lines ++ it) is) ∙ ap (λ n. Some (explanations n (l ∷ lines))) (sym adds.most))
+
 -- one line more was answered
-pub goes_on : (s read : StatedSetup) (shown : Shown) (input rest rest' bytes before before' : Option (List ℕ)) (n : ℕ) (watch next new : Watching) (line : List ℕ) (reply : Reply)
-    → (h : HasWatched s shown input rest bytes before n watch) → read ≡ s → AnswersNext read shown h.told next rest rest' line before before' n (Ok (step.Answered reply))
-    → next.tally ≡ watch.tally → new.tally ≡ counted_at (reply_number reply) next.tally → new.core ≡ next.core → new.bounds ≡ next.bounds
-    → HasWatched s shown input rest' bytes before' (n + 1) new
-goes_on s read shown input rest rest' bytes before before' n watch next new line reply h same (taken, (out, told, is, stands, written)) tally counted core bounds =
-    let l : Answered = record { line = line; reply = reply; out = out } in
+pub goes_on : (s read : StatedSetup) (shown : Shown) (input rest rest' bytes before before' : Option (List ℕ)) (n : ℕ) (watch next new : Watching) (told_of now_told : Explaining)
+    (line : List ℕ) (x : Replied)
+    → (h : HasWatched s shown input rest bytes before n watch told_of) → read ≡ s → AnswersNext read shown h.told next rest rest' line before before' n (Ok (step.Answered x))
+    → next.tally ≡ watch.tally → next.denied ≡ watch.denied
+    → Adds told_of now_told (if nat_lt next.denied told_of.most then explanation n x.reply x.operand else [])
+    → new.tally ≡ counted_at (reply_number x.reply) next.tally → new.denied ≡ denied_after x.reply next.denied → new.core ≡ next.core → new.bounds ≡ next.bounds
+    → HasWatched s shown input rest' bytes before' (n + 1) new now_told
+goes_on s read shown input rest rest' bytes before before' n watch next new told_of now_told line x h same (taken, (out, told, is, stands, written)) tally denials adds counted denied core bounds =
+    let l : Answered = answered line x out in
+    let so_many : next.denied ≡ denials_in h.lines = denials ∙ h.denied in
     record {
       lines = l ∷ h.lines;
       told = told;
@@ -54,15 +98,20 @@ goes_on s read shown input rest rest' bytes before before' n watch next new line
       stands = record { core = subst (λ (c : CoreState). CoreStands c told.facts) (sym core) stands.core; bounds = bounds ∙ stands.bounds };
       read = Consumes-trans _ _ _ _ _ h.read taken;
       written = Appends-trans _ _ _ _ _ h.written written;
-      counted = counts h.lines l watch.tally new.tally h.counted (counted ∙ ap (counted_at (reply_number reply)) tally);
+      counted = counts h.lines l watch.tally new.tally h.counted (counted ∙ ap (counted_at (reply_number x.reply)) tally);
+      denied = denied ∙ ap (denied_after x.reply) so_many;
+      explained = explains_on h.lines l told_of now_told _ h.explained adds
+          (ap (λ k. if nat_lt k told_of.most then explanation n x.reply x.operand else []) so_many
+          ∙ ap (λ k. if nat_lt (denials_in h.lines) told_of.most then explanation k x.reply x.operand else []) h.number);
       number = omega (arith, h.number);
     }
 
 -- the record ended there
-pub ended : (s read : StatedSetup) (shown : Shown) (input rest rest' bytes before before' : Option (List ℕ)) (n : ℕ) (watch : Watching) (tally line : List ℕ) (result : Result Ended Stop)
-    → (h : HasWatched s shown input rest bytes before n watch) → read ≡ s → tally ≡ watch.tally → EndsAt read shown h.told rest rest' line before before' n result
-    → Watches s shown input rest' line bytes before' tally result
-ended s read shown input rest rest' bytes before before' n watch tally line result h is same ends = record {
+pub ended_at : (s read : StatedSetup) (shown : Shown) (input rest rest' bytes before before' : Option (List ℕ)) (n : ℕ) (watch new : Watching) (told_of : Explaining) (line : List ℕ)
+    (result : Result Ended Stop)
+    → (h : HasWatched s shown input rest bytes before n watch told_of) → read ≡ s → new.tally ≡ watch.tally → new.denied ≡ watch.denied
+    → EndsAt read shown h.told rest rest' line before before' n result → IsWhole new h.told result → Watches s shown input rest' line bytes before' new told_of result
+ended_at s read shown input rest rest' bytes before before' n watch new told_of line result h is same denied ends whole = record {
   lines = h.lines;
   told = h.told;
   answered = h.answered;
@@ -71,6 +120,9 @@ ended s read shown input rest rest' bytes before before' n watch tally line resu
   before = before;
   written = h.written;
   counted = subst (IsTally h.lines) (sym same) h.counted;
+  denied = denied ∙ h.denied;
+  explained = h.explained;
+  stands = whole;
   ends = subst (λ (m : ℕ). EndsAt s shown h.told rest rest' line before before' m result) h.number
       (subst (λ (r : StatedSetup). EndsAt r shown h.told rest rest' line before before' n result) is ends);
 }

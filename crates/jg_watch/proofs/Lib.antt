@@ -1,3 +1,5 @@
 pub mod Counting
 pub mod Lasting
 pub mod Answering
+pub mod Suiting
+pub mod Explaining

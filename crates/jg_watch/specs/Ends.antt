@@ -14,8 +14,9 @@ use Rattle.jg_watch.specs.declared.ending.Ended.TheVariants.{All, CutOff, Differ
 use Rattle.jg_watch.specs.declared.ending.Stop.{Stop}
 use Rattle.jg_watch.specs.declared.ending.Stop.TheVariants.{Faulty, Limit, NoMemory, Read, Write}
 use Rattle.jg_watch.specs.declared.watch.Shown.{Shown}
-use Rattle.jg_watch.specs.Told.{Told, can_be_told}
-use Rattle.jg_watch.specs.Lines.{Agrees, Answered, AreAnswered, IsAnswered, IsReplied, IsTally, Said, Says, is_comment, text_of, written_of}
+use Rattle.jg_watch.specs.Told.{Stands, Told, Watching, can_be_told}
+use Rattle.jg_watch.specs.Lines.{Agrees, Answered, AreAnswered, IsAnswered, IsReplied, IsTally, Said, Says, denials_in, is_comment, text_of, written_of}
+use Rattle.jg_watch.specs.Explained.{AreExplained, Explaining}
 
 -- the line can't be: its event is of a fact that can't be after what was told
 abbrev pub CannotBe : StatedSetup → Told → List ℕ → Type 0
@@ -29,7 +30,8 @@ IsDifferent s told line =
 -- its event has this fault before all others
 abbrev pub IsFaulty : StatedSetup → List ℕ → RecordFault → Type 0
 IsFaulty s line fault = (is_comment line ≡ false)
-    × ((event : List ℕ) × (answer note : Option (List ℕ)) × AreParts line event answer note × IsFirstFault s event fault)
+    × ((event : List ℕ) × (answer note : Option (List ℕ)) × AreParts line event answer note
+    × IsFirstFault s event fault)
 
 -- why line number n isn't answered, which was read, and what was written of it
 abbrev pub StopsAt : StatedSetup → Shown → Told → List ℕ → Option (List ℕ) → Option (List ℕ) → ℕ
@@ -44,8 +46,8 @@ StopsAt s shown told line bytes bytes' n (Err (Limit number)) =
     (made_in told.facts ≡ 2 ^ 60) × Keeps bytes bytes' × (number ≡ n)
 StopsAt s shown told line bytes bytes' n (Err (NoMemory number)) = Keeps bytes bytes' × (number ≡ n)
 StopsAt s shown told line bytes bytes' n (Err (Write number)) =
-    ((reply : Reply) × (out : List ℕ) × (told' : Told)
-    × IsAnswered s shown told (record { line = line; reply = reply; out = out }) told' × ((k : ℕ) × (k < length out) × Appends bytes bytes' (take k out))) × (number ≡ n)
+    ((l : Answered) × (told' : Told) × (l.line ≡ line) × IsAnswered s shown told l told'
+    × ((k : ℕ) × (k < length l.out) × Appends bytes bytes' (take k l.out))) × (number ≡ n)
 StopsAt s shown told line bytes bytes' n result = ⊥
 
 -- how it ends in the place of line number n; `line` is what was read of a last line or of one that is too long
@@ -76,10 +78,17 @@ EndsAt s shown told input input' line bytes bytes' n result =
     (IsOneLine line × Consumes input input' (line ++ 10 ∷ []) × StopsAt s shown told line bytes bytes' n result)
     ⊎ EndsBefore input input' line bytes bytes' n result
 
--- these lines were read first and answered, what is written of them was written, their replies were counted, and then
--- it ended so
+-- what watched a record to its end stands for what was told
+abbrev pub IsWhole : Watching → Told → Result Ended Stop → Type 0
+IsWhole new told (Ok (All lines)) = Stands new told
+IsWhole new told (Ok (CutOff line)) = Stands new told
+IsWhole new told result = Unit {0}
+
+-- these lines were read first and answered, what is written of them was written, their replies were counted, the first
+-- denied questions explained, and then it ended so
 pub record Watches (s : StatedSetup) (shown : Shown) (input input' : Option (List ℕ)) (line : List ℕ)
-    (bytes bytes' : Option (List ℕ)) (tally : List ℕ) (result : Result Ended Stop) : Type 0 where
+    (bytes bytes' : Option (List ℕ)) (new : Watching) (explaining : Explaining) (result : Result Ended Stop)
+    : Type 0 where
   pub lines : List Answered
   pub told : Told
   pub answered : AreAnswered s shown lines told
@@ -87,7 +96,10 @@ pub record Watches (s : StatedSetup) (shown : Shown) (input input' : Option (Lis
   pub read : Consumes input rest (text_of lines)
   pub before : Option (List ℕ)
   pub written : Appends bytes before (written_of lines)
-  pub counted : IsTally lines tally
+  pub counted : IsTally lines new.tally
+  pub denied : new.denied ≡ denials_in lines
+  pub explained : AreExplained lines explaining
+  pub stands : IsWhole new told result
   pub ends : EndsAt s shown told rest input' line before bytes' (length lines + 1) result
 
 -- the reader failed where the answer is `Read`, and nowhere else

@@ -1,4 +1,6 @@
 pub mod Told
 pub mod Lines
 pub mod Ends
+pub mod Explained
 pub mod Steps
+pub mod Laws

@@ -15,7 +15,7 @@ use Rattle.jg_record.specs.Parts.{AreParts}
 use Rattle.jg_record.specs.Replies.{reply_text}
 use Rattle.jg_watch.specs.declared.watch.Shown.{Shown}
 use Rattle.jg_watch.specs.declared.watch.Shown.TheVariants.{All, Denials}
-use Rattle.jg_watch.specs.Told.{Told, after, can_be_told, nothing_told, replied}
+use Rattle.jg_watch.specs.Told.{Told, after, can_be_told, nothing_told, operand_denied, replied}
 
 -- ---- a line
 
@@ -81,18 +81,21 @@ pub record IsReplied (s : StatedSetup) (told : Told) (x : Said) (reply : Reply) 
   pub can : can_be_told s told x.says x.gone ≡ true
   pub is : reply ≡ replied s told x.says x.operands
 
--- a line, what it was answered, and what is written of it
+-- a line, what it was answered, by which operand a question was denied, and what is written of the line
 pub record Answered : Type 0 where
   pub line : List ℕ
   pub reply : Reply
+  pub operand : Option Argument
   pub out : List ℕ
 
 -- what a line says is told, and it is answered
 abbrev pub IsAnswered : StatedSetup → Shown → Told → Answered → Told → Type 0
 IsAnswered s shown told l told' =
-    ((is_comment l.line ≡ true) × (l.reply ≡ Nothing) × (told' ≡ told) × (l.out ≡ comment_text shown l.line))
+    ((is_comment l.line ≡ true) × (l.reply ≡ Nothing) × (l.operand ≡ None) × (told' ≡ told)
+    × (l.out ≡ comment_text shown l.line))
     ⊎ ((x : Said) × Says s l.line x × IsReplied s told x l.reply × Agrees x.answer l.reply
-    × (told' ≡ after x.says x.gone told) × (l.out ≡ shown_text shown x.event x.note l.reply))
+    × (l.operand ≡ operand_denied s told x.says x.operands) × (told' ≡ after x.says x.gone told)
+    × (l.out ≡ shown_text shown x.event x.note l.reply))
 
 -- these lines, the newest first, were answered one after the other, and told this
 abbrev pub AreAnswered : StatedSetup → Shown → List Answered → Told → Type 0
@@ -130,6 +133,10 @@ passed_in lines = tallied 0 lines
 
 abbrev pub denied_in : Rule → List Answered → ℕ
 denied_in rule lines = tallied (number_of rule) lines
+
+-- how many questions were denied
+abbrev pub denials_in : List Answered → ℕ
+denials_in lines = how_many (λ l. is_denial l.reply) lines
 
 -- the list has it of each number
 abbrev pub IsTally : List Answered → List ℕ → Type 0

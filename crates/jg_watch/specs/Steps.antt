@@ -1,5 +1,5 @@
 -- What the steps of answering a line say to one another. No public contract stands on this.
-use Rattle.std.specs.Prelude.{◌≡◌, ◌<◌, ◌+◌, ◌^◌, ◌++◌, ℕ, Bool, true, false, List, [], ◌∷◌, length, slice_index_or, slice_set, take, Option, Some, None, Result, Ok, Err}
+use Rattle.std.specs.Prelude.{◌≡◌, ◌<◌, ◌+◌, ◌^◌, ◌++◌, ◌⊎◌, ℕ, Bool, true, false, if◌then◌else◌, List, [], ◌∷◌, length, slice_index_or, slice_set, take, Option, Some, None, Result, Ok, Err}
 use Rattle.std.specs.Io.KnownBytes.{Appends, Consumes, Keeps}
 use Rattle.jg_words.specs.declared.object.ObjId.{ObjId}
 use Rattle.jg_policy.specs.Stated.{StatedSetup}
@@ -13,22 +13,31 @@ use Rattle.jg_watch.specs.declared.ending.Stop.{Stop}
 use Rattle.jg_watch.specs.declared.ending.Stop.TheVariants.{NoMemory, Read, Write}
 use Rattle.jg_watch.specs.declared.line.Step.{Step}
 use Rattle.jg_watch.specs.declared.line.Step.TheVariants as step
+use Rattle.jg_watch.specs.declared.event.Replied.{Replied}
 use Rattle.jg_watch.specs.declared.watch.Shown.{Shown}
-use Rattle.jg_watch.specs.Told.{Told, Stands, Watching, after, can_be_told, replied}
-use Rattle.jg_watch.specs.Lines.{Agrees, IsAnswered}
-use Rattle.jg_watch.specs.Ends.{EndsAt, StopsAt}
+use Rattle.jg_watch.specs.Told.{Told, Stands, Watching, after, can_be_told, operand_denied, replied}
+use Rattle.jg_watch.specs.Lines.{Agrees, Answered, IsAnswered, is_denial}
+use Rattle.jg_watch.specs.Ends.{EndsAt, IsWhole, StopsAt}
+use Rattle.jg_watch.specs.Explained.{Explaining}
+
+-- the reply to what is no question
+abbrev pub unasked : Reply → Replied
+unasked reply = record { reply = reply; operand = None }
 
 -- an event was asked or told, and answered
-pub record Replies (old new : Watching) (e : Event) (xs : List Argument) (gone : List ObjId) (reply : Reply) : Type 0 where
+pub record Replies (old new : Watching) (e : Event) (xs : List Argument) (gone : List ObjId) (x : Replied)
+    : Type 0 where
   pub setup : new.core.setup ≡ old.core.setup
   pub can : (told : Told) → Stands old told → can_be_told old.core.setup told e gone ≡ true
-  pub is : (told : Told) → Stands old told → reply ≡ replied old.core.setup told e xs
+  pub is : (told : Told) → Stands old told → x.reply ≡ replied old.core.setup told e xs
+  pub operand : (told : Told) → Stands old told → x.operand ≡ operand_denied old.core.setup told e xs
   pub stands : (told : Told) → Stands old told → Stands new (after e gone told)
 
 -- it was refused
 pub record Refused (old new : Watching) (e : Event) (gone : List ObjId) (why : Untold) : Type 0 where
   pub setup : new.core.setup ≡ old.core.setup
-  pub impossible : why ≡ untold.Impossible → (told : Told) → Stands old told → can_be_told old.core.setup told e gone ≡ false
+  pub impossible : why ≡ untold.Impossible → (told : Told) → Stands old told
+      → can_be_told old.core.setup told e gone ≡ false
   pub full : why ≡ untold.Full → (told : Told) → Stands old told → made_in told.facts ≡ 2 ^ 60
 
 -- the text of line number n was written, or a front of it; or memory ran out before
@@ -49,12 +58,15 @@ WritesReply told reply text bytes bytes' n (Err (Write number)) = Agrees told re
     × ((k : ℕ) × (k < length text) × Appends bytes bytes' (take k text)) × (number ≡ n)
 WritesReply told reply text bytes bytes' n result = ⊥
 
+-- the line was answered so, and that is written of it
+abbrev pub answered : List ℕ → Replied → List ℕ → Answered
+answered line x out = record { line = line; reply = x.reply; operand = x.operand; out = out }
+
 -- line number n was answered, or the record ends at it
 abbrev pub AnswersLine : StatedSetup → Shown → Told → Watching → List ℕ → Option (List ℕ) → Option (List ℕ)
     → ℕ → Result Step Stop → Type 0
-AnswersLine s shown told new line bytes bytes' n (Ok (step.Answered reply)) =
-    (out : List ℕ) × (told' : Told)
-    × IsAnswered s shown told (record { line = line; reply = reply; out = out }) told'
+AnswersLine s shown told new line bytes bytes' n (Ok (step.Answered x)) =
+    (out : List ℕ) × (told' : Told) × IsAnswered s shown told (answered line x out) told'
     × Stands new told' × Appends bytes bytes' out
 AnswersLine s shown told new line bytes bytes' n (Ok (step.Ended ended)) =
     StopsAt s shown told line bytes bytes' n (Ok ended)
@@ -68,12 +80,11 @@ IsNoRead result = Unit {0}
 -- the next line, whose number is n, was read and answered, or the record ends there
 abbrev pub AnswersNext : StatedSetup → Shown → Told → Watching → Option (List ℕ) → Option (List ℕ) → List ℕ
     → Option (List ℕ) → Option (List ℕ) → ℕ → Result Step Stop → Type 0
-AnswersNext s shown told new input input' line bytes bytes' n (Ok (step.Answered reply)) =
+AnswersNext s shown told new input input' line bytes bytes' n (Ok (step.Answered x)) =
     Consumes input input' (line ++ 10 ∷ []) × ((out : List ℕ) × (told' : Told)
-    × IsAnswered s shown told (record { line = line; reply = reply; out = out }) told'
-    × Stands new told' × Appends bytes bytes' out)
+    × IsAnswered s shown told (answered line x out) told' × Stands new told' × Appends bytes bytes' out)
 AnswersNext s shown told new input input' line bytes bytes' n (Ok (step.Ended ended)) =
-    EndsAt s shown told input input' line bytes bytes' n (Ok ended)
+    EndsAt s shown told input input' line bytes bytes' n (Ok ended) × IsWhole new told (Ok ended)
 AnswersNext s shown told new input input' line bytes bytes' n (Err stop) =
     EndsAt s shown told input input' line bytes bytes' n (Err stop)
 
@@ -81,3 +92,12 @@ AnswersNext s shown told new input input' line bytes bytes' n (Err stop) =
 abbrev pub counted_at : Option ℕ → List ℕ → List ℕ
 counted_at None tally = tally
 counted_at (Some k) tally = slice_set tally k (slice_index_or tally k 0 + 1)
+
+abbrev pub denied_after : Reply → ℕ → ℕ
+denied_after reply denied = if is_denial reply then denied + 1 else denied
+
+-- the text was added to the explanations, or memory ran out for it or before
+pub record Adds (old new : Explaining) (more : List ℕ) : Type 0 where
+  pub most : new.most ≡ old.most
+  pub text : ((new.text ≡ None) × ((old.text ≡ None) ⊎ (0 < old.most)))
+      ⊎ ((so_far : List ℕ) × (old.text ≡ Some so_far) × (new.text ≡ Some (so_far ++ more)))

@@ -1,5 +1,5 @@
 -- What a record told a core before a line, and what an event of the line is answered then.
-use Rattle.std.specs.Prelude.{◌≡◌, ℕ, pos, List, [], ◌∷◌, Bool, true, Option, Some, None}
+use Rattle.std.specs.Prelude.{◌≡◌, ℕ, pos, List, [], ◌∷◌, Bool, true, Option, Some, None, slice_get}
 use Rattle.std.specs.Option.{is_none}
 use Rattle.jg_words.specs.declared.object.ObjId.{ObjId}
 use Rattle.jg_words.specs.declared.reference.Ref.{Ref}
@@ -33,12 +33,13 @@ nothing_told = record {
   bounds = record { capacity = pos 2147483647; length = pos 2147483647; items = pos 2147483647 };
 }
 
--- what contracts see of what watches: its core, the bounds by which it judges questions, and how many questions
--- passed and were denied by each rule
+-- what contracts see of what watches: its core, the bounds by which it judges questions, how many questions passed and
+-- were denied by each rule, and how many were denied
 pub record Watching : Type 0 where
   pub core : CoreState
   pub bounds : Bounds
   pub tally : List ℕ
+  pub denied : ℕ
 
 -- it stands for what was told
 pub record Stands (x : Watching) (told : Told) : Type 0 where
@@ -59,7 +60,7 @@ after (event.Fact fact) gone told = record told { facts = fact ∷ told.facts }
 after event.Gone gone told = record told { facts = all_gone gone told.facts }
 after (event.Bounds bounds) gone told = record told { bounds = bounds }
 
--- what a question is answered; none that a line spells is of no function or has a misfit
+-- what a question is answered; none that a line spells is of no function or has a misfit (`SpeltIsJudged` of Laws)
 abbrev pub reply_of : Answer → Reply
 reply_of (answer.Passed ticket) = Passed
 reply_of (answer.Denied rule operand) = Denied rule
@@ -85,3 +86,14 @@ replied s told (event.Question t env function) xs =
 replied s told (event.Fact fact) xs = named s told.facts fact
 replied s told event.Gone xs = Nothing
 replied s told (event.Bounds bounds) xs = Nothing
+
+-- the operand that breaks the rule, where one does
+abbrev pub operand_of : Answer → List Argument → Option Argument
+operand_of (answer.Denied rule (Some place)) xs = slice_get xs place
+operand_of x xs = None
+
+-- that of a denied question
+abbrev pub operand_denied : StatedSetup → Told → Event → List Argument → Option Argument
+operand_denied s told (event.Question t env function) xs =
+    operand_of (asked told.bounds s (parts_of told.facts) t env function xs) xs
+operand_denied s told e xs = None

@@ -1,15 +1,45 @@
 //! An event is asked or told.
 
 ghost use Rattle.std.specs.Prelude.{◌≡◌, IfOk, IfErr};
-ghost use Rattle.jg_watch.specs.Steps.{Refused, Replies};
-ghost use Rattle.jg_watch.specs.Told.{reply_of};
+ghost use Rattle.jg_watch.specs.Steps.{Refused, Replies, unasked};
+ghost use Rattle.jg_watch.specs.Told.{operand_of, reply_of};
 
 use crate::tell::tell;
 use crate::watch::Watch;
 use jg_core::{Answer, Core, Untold};
+use jg_questions::Argument;
 use jg_record::{Event, Lists, Reply};
 use jg_words::ObjId;
 use std::alloc::Allocator;
+
+/// What an event was answered, and the operand by which a question was denied, where one breaks the rule.
+#[derive(Clone, Copy, Debug, PartialEq, Eq)]
+pub struct Replied {
+    pub reply: Reply,
+    pub operand: Option<Argument>,
+}
+
+/// The reply to what is no question.
+pub fn unasked(reply: Reply) -> Replied
+    ensures { result ≡ unasked reply }
+{
+    Replied {
+        reply,
+        operand: None,
+    }
+}
+
+fn operand_of(answer: Answer, arguments: &[Argument]) -> Option<Argument>
+    ensures { result ≡ operand_of answer arguments.now }
+{
+    match answer {
+        Answer::Denied {
+            operand: Some(place),
+            ..
+        } => arguments.get(place).copied(),
+        _ => None,
+    }
+}
 
 fn reply_of(answer: Answer) -> Reply
     ensures { result ≡ reply_of answer }
@@ -26,10 +56,11 @@ pub fn answer_event<A: Allocator + Copy>(
     watch: &mut Watch<A>,
     event: Event,
     lists: &Lists,
-) -> Result<Reply, Untold>
+) -> Result<Replied, Untold>
     ensures replies { IfOk result (Replies watch.old watch.new event lists.now.arguments.items
         lists.now.objects.items) }
     ensures tally { watch.new.tally ≡ watch.old.tally }
+    ensures denied { watch.new.denied ≡ watch.old.denied }
     ensures refused { IfErr result (Refused watch.old watch.new event lists.now.objects.items) }
 {
     match event {
@@ -37,16 +68,22 @@ pub fn answer_event<A: Allocator + Copy>(
             let answer = watch
                 .core
                 .ask(watch.bounds, tid, env, function, &lists.arguments);
-            Ok(reply_of(answer))
+            Ok(Replied {
+                reply: reply_of(answer),
+                operand: operand_of(answer, &lists.arguments),
+            })
         }
-        Event::Fact(fact) => tell(&mut watch.core, fact),
+        Event::Fact(fact) => match tell(&mut watch.core, fact) {
+            Ok(reply) => Ok(unasked(reply)),
+            Err(why) => Err(why),
+        },
         Event::Gone => match watch.core.gone(&lists.objects) {
-            Ok(()) => Ok(Reply::Nothing),
+            Ok(()) => Ok(unasked(Reply::Nothing)),
             Err(_) => Err(Untold::Impossible),
         },
         Event::Bounds(bounds) => {
             watch.bounds = bounds;
-            Ok(Reply::Nothing)
+            Ok(unasked(Reply::Nothing))
         }
     }
 }

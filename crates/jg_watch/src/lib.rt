@@ -3,11 +3,15 @@
 
 mod ending;
 mod event;
+mod explanations;
 mod line;
+mod promises;
 mod run;
 mod tell;
 mod watch;
 
 pub use ending::{Ended, Stop};
+pub use explanations::Explanations;
+pub use promises::spelt_is_judged;
 pub use run::watch_lines;
 pub use watch::{Shown, Watch};

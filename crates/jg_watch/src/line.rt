@@ -9,7 +9,7 @@ ghost use Rattle.jg_watch.specs.Steps.{AnswersLine, IsNoRead, WritesLine, Writes
 ghost use Rattle.jg_watch.specs.Told.{Stands, Told};
 
 use crate::ending::{Ended, Stop};
-use crate::event::answer_event;
+use crate::event::{Replied, answer_event, unasked};
 use crate::watch::{Shown, Watch};
 use jg_core::Untold;
 use jg_lines::{Watched, write_text};
@@ -17,7 +17,8 @@ use jg_record::{Lists, Parts, RecordFault, Reply, cut_line, push_answer, read_ev
 use std::alloc::{AllocError, Allocator, Global};
 use std::io::Write;
 
-/// Room for what is read and written of a line.
+/// Room for what is read and written of a line. It goes from line to line, so that a line asks for no memory that an
+/// earlier one had.
 #[derive(Drop)]
 pub struct Room {
     lists: Lists,
@@ -26,6 +27,7 @@ pub struct Room {
 }
 
 impl Room {
+    /// Room that takes no memory yet.
     pub fn new(alloc: Global) -> Room {
         Room {
             lists: Lists {
@@ -72,7 +74,8 @@ fn answer_of(reply: Reply, text: &[u8]) -> Option<&[u8]>
 
 /// Whether the line tells no answer, or this one.
 fn agrees(told: Option<&[u8]>, answer: Option<&[u8]>) -> bool
-    ensures { IsTrue result ↔ ((option_copied told.entry ≡ None) ⊎ (option_copied told.entry ≡ option_copied answer.entry)) }
+    ensures { IsTrue result
+        ↔ ((option_copied told.entry ≡ None) ⊎ (option_copied told.entry ≡ option_copied answer.entry)) }
 {
     match (told, answer) {
         (None, _) => true,
@@ -99,7 +102,8 @@ fn make_line(
     answer: Option<&[u8]>,
     note: Option<&[u8]>,
 ) -> Result<(), AllocError>
-    ensures { OnOk result (out.new.items ≡ line_text event.now (option_copied answer.entry) (option_copied note.entry)) }
+    ensures { OnOk result (out.new.items
+        ≡ line_text event.now (option_copied answer.entry) (option_copied note.entry)) }
 {
     out.clear();
     out.extend_from_slice(event)?;
@@ -130,8 +134,8 @@ fn write_line<W: Write>(writer: &mut Watched<W>, text: &[u8], line: u64) -> Resu
     }
 }
 
-/// Compares the reply with the answer that line number `line` tells, and writes what is shown of the line; `false` where
-/// the line tells another answer, and nothing is written.
+/// Compares the reply with the answer that line number `line` tells, and writes what is shown of the line; `false`
+/// where the line tells another answer, and nothing is written.
 fn write_reply<W: Write>(
     writer: &mut Watched<W>,
     shown: Shown,
@@ -190,7 +194,7 @@ fn write_comment<W: Write>(
 #[derive(Clone, Copy, Debug, PartialEq, Eq)]
 pub enum Step {
     /// It was answered so; a comment is answered nothing.
-    Answered(Reply),
+    Answered(Replied),
     /// The record ends there.
     Ended(Ended),
 }
@@ -208,12 +212,13 @@ pub fn answer_line<A: Allocator + Copy, W: Write>(
         text.now (W.contents writer.old.device) (W.contents writer.new.device) line result }
     ensures setup { watch.new.core.setup ≡ watch.old.core.setup }
     ensures tally { watch.new.tally ≡ watch.old.tally }
+    ensures denied { watch.new.denied ≡ watch.old.denied }
     ensures unread { IsNoRead result }
     ensures device { WriterFails writer.old.failed writer.new.failed result }
 {
     if is_comment(text) {
         return match write_comment(writer, shown, text, room, line) {
-            Ok(()) => Ok(Step::Answered(Reply::Nothing)),
+            Ok(()) => Ok(Step::Answered(unasked(Reply::Nothing))),
             Err(stop) => Err(stop),
         };
     }
@@ -223,14 +228,14 @@ pub fn answer_line<A: Allocator + Copy, W: Write>(
         Err(RecordFault::NoMemory) => return Err(Stop::NoMemory { line }),
         Err(fault) => return Err(Stop::Faulty { line, fault }),
     };
-    let reply = match answer_event(watch, event, &room.lists) {
-        Ok(reply) => reply,
+    let answered = match answer_event(watch, event, &room.lists) {
+        Ok(answered) => answered,
         Err(Untold::Impossible) => return Ok(Step::Ended(Ended::Impossible { line })),
         Err(Untold::Full) => return Err(Stop::Limit { line }),
         Err(Untold::NoMemory) => return Err(Stop::NoMemory { line }),
     };
-    match write_reply(writer, shown, parts, reply, room, line) {
-        Ok(true) => Ok(Step::Answered(reply)),
+    match write_reply(writer, shown, parts, answered.reply, room, line) {
+        Ok(true) => Ok(Step::Answered(answered)),
         Ok(false) => Ok(Step::Ended(Ended::Differs { line })),
         Err(stop) => Err(stop),
     }

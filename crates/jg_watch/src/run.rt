@@ -1,12 +1,13 @@
 //! A record is answered line by line.
 
-ghost use Rattle.std.specs.Prelude.{◌≡◌, ◌<◌, []};
+ghost use Rattle.std.specs.Prelude.{◌≡◌, ◌<◌, [], Some};
 ghost use Rattle.jg_watch.specs.Ends.{ReaderFails, Watches, WriterFails};
 ghost use Rattle.jg_watch.specs.Lines.{IsTally};
 ghost use Rattle.jg_watch.specs.Steps.{AnswersNext};
 ghost use Rattle.jg_watch.specs.Told.{Stands, Told, nothing_told};
 
 use crate::ending::{Ended, Stop};
+use crate::explanations::Explanations;
 use crate::line::{Room, Step, answer_line};
 use crate::watch::{Shown, Watch};
 use jg_lines::{LineFault, Taken, Watched, hand_over, next_line};
@@ -30,6 +31,7 @@ fn answer_next<A: Allocator + Copy, R: BufRead, W: Write>(
         (W.contents writer.old.device) (W.contents writer.new.device) line result }
     ensures setup { watch.new.core.setup ≡ watch.old.core.setup }
     ensures tally { watch.new.tally ≡ watch.old.tally }
+    ensures denied { watch.new.denied ≡ watch.old.denied }
     ensures reader { ReaderFails reader.old.failed reader.new.failed result }
     ensures writer { WriterFails writer.old.failed writer.new.failed result }
 {
@@ -50,10 +52,11 @@ fn answer_next<A: Allocator + Copy, R: BufRead, W: Write>(
 }
 
 /// Answers the lines of a record: each is asked or told the core and written with its answer, before the next is read.
-/// The watch was told nothing before. `text` is room for a line: what it held is lost. At the end it holds the line that
-/// the record ended at, without its line feed, where it ended at one. What was written before stays written, and what
-/// the core was told stays told. `Read` and `Write` come only where the device failed, which is then marked so;
-/// `NoMemory` may come at any line.
+/// The watch was told nothing before, and nothing was explained; where memory runs out for an explanation, the record
+/// is answered all the same. `text` is room for a line: what it held is lost. At the end it holds the line that the
+/// record ended at, without its line feed, where it ended at one. What was written before stays written, and what the
+/// core was told stays told. `Read` and `Write` come only where the device failed, which is then marked so; `NoMemory`
+/// may come at any line.
 pub fn watch_lines<A: Allocator + Copy, R: BufRead, W: Write>(
     alloc: Global,
     watch: &mut Watch<A>,
@@ -61,12 +64,16 @@ pub fn watch_lines<A: Allocator + Copy, R: BufRead, W: Write>(
     reader: &mut Watched<R>,
     writer: &mut Watched<W>,
     text: &mut Vec<u8>,
+    explanations: &mut Explanations,
 ) -> Result<Ended, Stop>
     requires new { Stands watch.old nothing_told }
     requires none { IsTally [] watch.old.tally }
+    requires denied { watch.old.denied ≡ 0 }
+    requires explained { explanations.old.text ≡ Some [] }
     ensures watches { Watches watch.old.core.setup shown (R.remaining reader.old.device)
         (R.remaining reader.new.device) text.new.items (W.contents writer.old.device)
-        (W.contents writer.new.device) watch.new.tally result }
+        (W.contents writer.new.device) watch.new explanations.new result }
+    ensures most { explanations.new.most ≡ explanations.old.most }
     ensures setup { watch.new.core.setup ≡ watch.old.core.setup }
     ensures reader { ReaderFails reader.old.failed reader.new.failed result }
     ensures writer { WriterFails writer.old.failed writer.new.failed result }
@@ -75,7 +82,10 @@ pub fn watch_lines<A: Allocator + Copy, R: BufRead, W: Write>(
     for line in 1..u64::MAX {
         hand_over(reader, writer);
         match answer_next(watch, shown, reader, writer, text, &mut room, line) {
-            Ok(Step::Answered(reply)) => watch.count(reply),
+            Ok(Step::Answered(replied)) => {
+                explanations.note(watch.denied(), line, replied);
+                watch.count(replied.reply);
+            }
             Ok(Step::Ended(ended)) => return Ok(ended),
             Err(stop) => return Err(stop),
         }

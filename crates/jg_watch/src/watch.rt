@@ -1,17 +1,20 @@
 //! What watches a record.
 
-ghost use Rattle.std.specs.Prelude.{◌≡◌, ◌<◌, ◌-◌, ◌^◌, ℕ, [], nat_lt, slice_index_or};
+ghost use Rattle.std.specs.Prelude.{◌≡◌, ◌<◌, ◌-◌, ◌^◌, ℕ, [], IfOk, nat_lt, slice_index_or};
 ghost use Rattle.jg_words.specs.Rule.{number_of};
+ghost use Rattle.jg_core.specs.Facts.{parts_of};
+ghost use Rattle.jg_leaks.specs.Left.{AreLeft};
 ghost use Rattle.jg_watch.specs.Lines.{IsTally, any_denied, reply_number};
-ghost use Rattle.jg_watch.specs.Steps.{counted_at};
-ghost use Rattle.jg_watch.specs.Told.{Stands, nothing_told};
+ghost use Rattle.jg_watch.specs.Steps.{counted_at, denied_after};
+ghost use Rattle.jg_watch.specs.Told.{Stands, Told, nothing_told};
 
 use jg_core::Core;
+use jg_leaks::Leaks;
 use jg_policy::Setup;
 use jg_questions::Bounds;
 use jg_record::Reply;
 use jg_words::Rule;
-use std::alloc::{Allocator, Global};
+use std::alloc::{AllocError, Allocator, Global};
 use std::marker::Model;
 
 /// What is written of a record.
@@ -31,6 +34,7 @@ pub struct Watch<A: Allocator = Global> {
     pub(crate) core: Core<A>,
     pub(crate) bounds: Bounds,
     tally: Tally,
+    denied: u64,
 }
 
 impl<A: Allocator> Drop for Watch<A> {
@@ -39,6 +43,7 @@ impl<A: Allocator> Drop for Watch<A> {
             core: _core,
             bounds: _,
             tally: _,
+            denied: _,
         } = self;
     }
 }
@@ -48,7 +53,7 @@ impl<A: Allocator> Model for Watch<A> {
 
     ghost Value = { Watching };
 
-    ghost view = { λ w. record { core = w.core; bounds = w.bounds; tally = w.tally } };
+    ghost view = { λ w. record { core = w.core; bounds = w.bounds; tally = w.tally; denied = w.denied } };
 }
 
 impl<A: Allocator + Copy> Watch<A> {
@@ -57,6 +62,7 @@ impl<A: Allocator + Copy> Watch<A> {
         ensures setup { result.core.setup ≡ setup }
         ensures stands { Stands result nothing_told }
         ensures tally { IsTally [] result.tally }
+        ensures denied { result.denied ≡ 0 }
     {
         Watch {
             core: Core::new(alloc, setup),
@@ -66,11 +72,12 @@ impl<A: Allocator + Copy> Watch<A> {
                 items: i32::MAX,
             },
             tally: [0; 18],
+            denied: 0,
         }
     }
 }
 
-fn is_some(count: u64) -> bool
+fn is_any(count: u64) -> bool
     ensures { result ≡ nat_lt 0 count }
 {
     count > 0
@@ -91,25 +98,47 @@ impl<A: Allocator> Watch<A> {
         self.tally[rule.number() as usize]
     }
 
+    /// How many questions were denied.
+    pub fn denied(&self) -> u64
+        ensures { result ≡ self.now.denied }
+    {
+        self.denied
+    }
+
     /// Whether some question was denied.
     pub fn has_denied(&self) -> bool
         ensures { result ≡ any_denied self.now.tally }
     {
         let (_, denied) = self.tally.split_at(1);
-        denied.iter().any(|count| is_some(*count))
+        denied.iter().any(|count| is_any(*count))
     }
 
     /// Counts the reply, if it is a question's.
     pub(crate) fn count(&mut self, reply: Reply)
-        requires { (k : ℕ) → slice_index_or self.old.tally k 0 < 2 ^ 64 - 1 }
+        requires tally { (k : ℕ) → slice_index_or self.old.tally k 0 < 2 ^ 64 - 1 }
+        requires denied { self.old.denied < 2 ^ 64 - 1 }
         ensures tally { self.new.tally ≡ counted_at (reply_number reply) self.old.tally }
+        ensures denied { self.new.denied ≡ denied_after reply self.old.denied }
         ensures core { self.new.core ≡ self.old.core }
         ensures bounds { self.new.bounds ≡ self.old.bounds }
     {
         match reply {
             Reply::Passed => self.tally[0] += 1,
-            Reply::Denied(rule) => self.tally[rule.number() as usize] += 1,
+            Reply::Denied(rule) => {
+                self.tally[rule.number() as usize] += 1;
+                self.denied += 1;
+            }
             _ => {}
         }
+    }
+}
+
+impl<A: Allocator + Clone> Watch<A> {
+    /// What is left behind, as [`Core::leaks`] lists it. Fails only for want of memory.
+    pub fn leaks(&self) -> Result<Leaks<A>, AllocError>
+        ensures { IfOk result (λ left. (told : Told) → Stands self.now told
+            → AreLeft (parts_of told.facts) left.refs.items left.buffers.items left.monitors.items) }
+    {
+        Ok(self.core.leaks()?)
     }
 }

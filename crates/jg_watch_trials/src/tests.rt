@@ -1,11 +1,12 @@
 //! Records that are watched under the closed setup.
 
 mod devices;
+mod explained;
 mod records;
 
 use jg_lines::Watched;
 use jg_policy::Setup;
-use jg_watch::{Ended, Shown, Stop, Watch, watch_lines};
+use jg_watch::{Ended, Explanations, Shown, Stop, Watch, watch_lines};
 use std::alloc::Global;
 use std::io::{BufRead, Write};
 use std::test::Fail;
@@ -31,8 +32,16 @@ fn watch_anew<R: BufRead, W: Write>(
     writer: &mut Watched<W>,
 ) -> Result<(Result<Ended, Stop>, u64), Fail> {
     let mut watch = Watch::new(alloc, Setup::read(alloc, CLOSED)?);
-    let mut text = Vec::new(alloc);
-    let result = watch_lines(alloc, &mut watch, shown, reader, writer, &mut text);
+    let (mut text, mut explanations) = (Vec::new(alloc), Explanations::new(alloc, 0));
+    let result = watch_lines(
+        alloc,
+        &mut watch,
+        shown,
+        reader,
+        writer,
+        &mut text,
+        &mut explanations,
+    );
     Ok((result, watch.passed()))
 }
 

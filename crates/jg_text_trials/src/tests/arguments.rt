@@ -21,7 +21,7 @@ const STATUSES: &str =
     4 reading or writing failed, 5 done, and a call was denied (with --strict).";
 
 /// Words, and what they ask for.
-const READ: [(&[&str], Asked<'static>); 15] = [
+const READ: [(&[&str], Asked<'static>); 16] = [
     (&[], DEFAULTS),
     (&["check"], DEFAULTS),
     (
@@ -102,6 +102,16 @@ const READ: [(&[&str], Asked<'static>); 15] = [
         &["watch"],
         Asked {
             task: Task::Watch,
+            ..DEFAULTS
+        },
+    ),
+    (
+        &["watch", "--explain", "3", "--leaks", "--summary"],
+        Asked {
+            task: Task::Watch,
+            explain: 3,
+            leaks: true,
+            summary: true,
             ..DEFAULTS
         },
     ),

@@ -24,5 +24,9 @@ returns-then-as_str-start-gt-MAX_LINE-clause-kept c = λ _. c.truncate.ensures.b
 
 pub returns-clause-written : goal.returns-clause-written
 returns-clause-written c =
-    let long = longer _ _ _ _ _ _ _ c.in-Ok.ensures in
-    (84 ∷ c.in-Ok.ensures.tail, omega (arith, long, ap length c.as_str-start.ensures.value, ap length c.as_str.ensures.value, c.if-as_str-start-gt-MAX_LINE.false), c.in-Ok.ensures.is, c.in-Ok.ensures.appended)
+    let long = longer _ _ _ _ _ _ _ c.in-Ok.ensures in (
+      84 ∷ c.in-Ok.ensures.tail,
+      omega (arith, long, ap length c.as_str-start.ensures.value, ap length c.as_str.ensures.value, c.if-as_str-start-gt-MAX_LINE.false),
+      c.in-Ok.ensures.is,
+      c.in-Ok.ensures.appended,
+    )

@@ -1,35 +1,53 @@
-use Rattle.std.proofs.Common.{◌<◌, ◌-◌, ◌^◌, ◌∙◌, ℕ, List, Ok, Err, ap, arith, subst, sym}
+use Rattle.std.proofs.Common.{◌<◌, ◌-◌, ◌^◌, ◌∙◌, ℕ, List, Ok, Err, ap, arith, refl, subst, sym}
 use Rattle.jg_core.specs.Kernel.{CoreState}
 use Rattle.std.specs.Prelude.{slice_index_or}
-use Rattle.jg_watch.proofs.Counting.{fits}
-use Rattle.jg_watch.proofs.Lasting.{ended, goes_on, still}
+use Rattle.jg_watch.proofs.Counting.{denied_fits, fits}
+use Rattle.jg_watch.proofs.Lasting.{begins, ended_at, goes_on, still}
 use Rattle.jg_watch.proofs.run.watch_lines.Goals as goal
 
-pub count-requires : goal.count-requires
-count-requires g c k =
+pub loop-line-init : goal.loop-line-init
+loop-line-init g c = record {
+  watched = begins _ c.args.shown _ _ _ _ c.requires.new c.requires.none c.requires.denied c.requires.explained;
+  setup = refl;
+  most = refl;
+  reads = refl;
+  writes = refl;
+}
+
+pub count-requires-clause-tally : goal.count-requires-clause-tally
+count-requires-clause-tally g c k =
     let h = c.loop-line.invariant.watched in
     subst (λ (t : List ℕ). slice_index_or t k 0 < 2 ^ 64 - 1) (sym c.answer_next.ensures.tally) (fits h.lines _ k h.counted (omega (arith, h.number, c.loop-line-test.true, c.loop-line.auto.line-end)))
+
+pub count-requires-clause-denied : goal.count-requires-clause-denied
+count-requires-clause-denied g c =
+    let h = c.loop-line.invariant.watched in
+    denied_fits h.lines _ (c.answer_next.ensures.denied ∙ h.denied) (omega (arith, h.number, c.loop-line-test.true, c.loop-line.auto.line-end))
 
 pub returns-in-Ok-Ended-clause-watches : goal.returns-in-Ok-Ended-clause-watches
 returns-in-Ok-Ended-clause-watches g c =
     let inv = c.loop-line.invariant in
-    let h = still _ c.args.shown _ _ _ _ _ _ _ inv.watched c.hand_over.ensures.kept in
-    ended _ _ c.args.shown _ _ _ _ _ _ _ c.loop-line.watch _ _ (Ok c.in-Ok-Ended.ended) h inv.setup c.answer_next.ensures.tally (rw c.in-Ok-Ended.field-0-is at (c.in-Ok-Ended.ensures.answers h.told h.stands))
+    let h = still _ c.args.shown _ _ _ _ _ _ _ _ inv.watched c.hand_over.ensures.kept in
+    let ends = rw c.in-Ok-Ended.field-0-is at (c.in-Ok-Ended.ensures.answers h.told h.stands) in
+    ended_at _ _ c.args.shown _ _ _ _ _ _ _ c.loop-line.watch _ _ _ (Ok c.in-Ok-Ended.ended) h inv.setup c.answer_next.ensures.tally c.answer_next.ensures.denied ends.0 ends.1
 
 pub returns-in-Err-clause-watches : goal.returns-in-Err-clause-watches
 returns-in-Err-clause-watches g c =
     let inv = c.loop-line.invariant in
-    let h = still _ c.args.shown _ _ _ _ _ _ _ inv.watched c.hand_over.ensures.kept in
-    ended _ _ c.args.shown _ _ _ _ _ _ _ c.loop-line.watch _ _ (Err c.in-Err.stop) h inv.setup c.answer_next.ensures.tally (c.in-Err.ensures.answers h.told h.stands)
+    let h = still _ c.args.shown _ _ _ _ _ _ _ _ inv.watched c.hand_over.ensures.kept in
+    ended_at _ _ c.args.shown _ _ _ _ _ _ _ c.loop-line.watch _ _ _ (Err c.in-Err.stop) h inv.setup c.answer_next.ensures.tally c.answer_next.ensures.denied
+    (c.in-Err.ensures.answers h.told h.stands) tt
 
 pub loop-line-preserved : goal.loop-line-preserved
 loop-line-preserved g c =
     let inv = c.loop-line.invariant in
-    let h = still _ c.args.shown _ _ _ _ _ _ _ inv.watched c.hand_over.ensures.kept in
+    let h = still _ c.args.shown _ _ _ _ _ _ _ _ inv.watched c.hand_over.ensures.kept in
+    let answers = rw c.in-Ok-Answered.field-0-is at (c.in-Ok-Answered.ensures.answers h.told h.stands) in
     record {
-      watched = goes_on _ _ c.args.shown _ _ _ _ _ _ _ c.loop-line.watch c.answer_next.new.watch _ _ c.in-Ok-Answered.reply h inv.setup (rw c.in-Ok-Answered.field-0-is at (c.in-Ok-Answered.ensures.answers h.told h.stands)) c.answer_next.ensures.tally
-          c.count.ensures.tally c.count.ensures.core c.count.ensures.bounds;
+      watched = goes_on _ _ c.args.shown _ _ _ _ _ _ _ c.loop-line.watch c.answer_next.new.watch _ _ _ _ c.in-Ok-Answered.replied h inv.setup answers c.answer_next.ensures.tally
+          c.answer_next.ensures.denied (rw c.denied.ensures at c.note.ensures) c.count.ensures.tally c.count.ensures.denied c.count.ensures.core c.count.ensures.bounds;
       setup = ap (λ (x : CoreState). x.setup) c.count.ensures.core ∙ c.answer_next.ensures.setup ∙ inv.setup;
+      most = c.note.ensures.most ∙ inv.most;
       reads = c.in-Ok-Answered.ensures.reader ∙ inv.reads;
       writes = c.in-Ok-Answered.ensures.writer ∙ (c.hand_over.ensures.failed ∙ inv.writes);
     }

@@ -8,7 +8,6 @@ use Rattle.jg_words.specs.declared.reference.Ref.{Ref}
 use Rattle.jg_words.specs.declared.reference.Ref.TheVariants.{Null, To}
 use Rattle.jg_words.specs.declared.reference.Kind.TheVariants.{Local, Global, Weak}
 use Rattle.jg_words.specs.declared.buffer.BufId.{BufId}
-use Rattle.jg_policy.specs.Stated.{StatedSetup}
 use Rattle.jg_policy.proofs.Counting.{how_many-reordered}
 use Rattle.jg_locals.specs.History as locals
 use Rattle.jg_locals.specs.Rows.{is_local, local_ref}
@@ -24,8 +23,8 @@ use Rattle.jg_monitors.specs.History as monitors
 use Rattle.jg_monitors.specs.Rows.{is_of, owned_monitor}
 use Rattle.jg_monitors.specs.declared.owned_monitor.OwnedMonitor.{OwnedMonitor}
 use Rattle.jg_monitors.specs.Standing as monitor_standing
-use Rattle.jg_rules.specs.Parts.{Parts, TableRows, TablesStand}
-use Rattle.jg_guard.specs.Left.{ListsRefs, ListsBuffers, ListsMonitors, monitor_owned}
+use Rattle.jg_rules.specs.Parts.{HoldersStand, Parts, RowsBeside}
+use Rattle.jg_leaks.specs.Left.{ListsRefs, ListsBuffers, ListsMonitors, monitor_owned}
 
 -- ---- counting
 
@@ -70,10 +69,10 @@ weak_rows_once m n None = refl
 weak_rows_once m n (Some t) = refl
 
 -- the names of all rows, each table's in its order
-abbrev pub refs_of : TableRows → List Ref
+abbrev pub refs_of : {Store : Type 0} → RowsBeside Store → List Ref
 refs_of rows = map local_ref rows.locals.locals ++ (map strong_ref rows.globals.strong ++ map weak_ref rows.globals.weak)
 
-module _ (s : StatedSetup) (rows : TableRows) (p : Parts) (stands : TablesStand s rows p) where
+module _ {Store : Type 0} (rows : RowsBeside Store) (p : Parts) (stands : HoldersStand rows p) where
   in_three : (r : Ref) (k i j : ℕ) → how_many (λ row. same_ref (local_ref row) r) rows.locals.locals ≡ k
       → how_many (λ row. same_ref (strong_ref row) r) rows.globals.strong ≡ i
       → how_many (λ row. same_ref (weak_ref row) r) rows.globals.weak ≡ j
