@@ -28,6 +28,8 @@ pub enum Task<'a> {
     Verify,
     /// Answers the record on standard input.
     Watch,
+    /// Writes the record of the journal on standard input.
+    Facts,
     /// Plays the scripts of a file, the lines of each thread by a thread of its own. `-` is standard input.
     Play(&'a str),
     /// Writes the setup of a file as a text of version 2.

@@ -125,6 +125,14 @@ fn watch_command<'a>(alloc: Global) -> Result<Command<'a>, AllocError> {
         .arg(leaks_arg(alloc))
 }
 
+fn facts_command<'a>(alloc: Global) -> Result<Command<'a>, AllocError> {
+    Command::new(alloc, "facts")
+        .about("writes the record of the journal on standard input")
+        .after_help(STATUSES)
+        .arg(setup_arg(alloc))?
+        .arg(limit_arg(alloc))
+}
+
 fn play_command<'a>(alloc: Global) -> Result<Command<'a>, AllocError> {
     let command = Command::new(alloc, "play")
         .about("plays the scripts of FILE, the lines of each thread by a thread of its own")
@@ -146,7 +154,7 @@ fn own_options<'a>(alloc: Global) -> Result<Command<'a>, AllocError> {
         .about("A guard for the Java Native Interface. Without a command it is `check`.")
         .after_help(STATUSES)
         .version(VERSION)
-        .override_usage("jg [check] [OPTIONS] | jg verify|play|watch|migrate ..")
+        .override_usage("jg [check] [OPTIONS] | jg verify|play|watch|facts|migrate ..")
         .bin_name("jg")?;
     with_options(alloc, command)?.arg(leaks_arg(alloc))
 }
@@ -158,6 +166,7 @@ fn command<'a>(alloc: Global) -> Result<Command<'a>, AllocError> {
         .subcommand(verify_command(alloc)?)?
         .subcommand(play_command(alloc)?)?
         .subcommand(watch_command(alloc)?)?
+        .subcommand(facts_command(alloc)?)?
         .subcommand(migrate_command(alloc)?)
 }
 
@@ -248,6 +257,7 @@ pub fn read_words<'a>(alloc: Global, words: &'a [&'a str]) -> Result<Asked<'a>, 
             match name {
                 "verify" => make_asked(Task::Verify, inner),
                 "watch" => make_asked(Task::Watch, inner),
+                "facts" => make_asked(Task::Facts, inner),
                 "play" => match inner.get_str("file") {
                     Some(file) => make_asked(Task::Play(file), inner),
                     None => Err(ArgsFault::Refused),

@@ -675,7 +675,7 @@ fn the_help_goes_to_the_output(rt: HostRuntime) -> Result<(), Fail> {
     let texts: [(&[&str], &str); 4] = [
         (
             &["--help"],
-            "Usage: jg [check] [OPTIONS] | jg verify|play|watch|migrate ..",
+            "Usage: jg [check] [OPTIONS] | jg verify|play|watch|facts|migrate ..",
         ),
         (&["check", "--help"], "Usage: jg check [OPTIONS]"),
         (&["help", "check"], "Usage: jg check [OPTIONS]"),

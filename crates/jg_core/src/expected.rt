@@ -14,12 +14,13 @@ ghost use Rattle.jg_core.specs.Expected as spec;
 use crate::fact::Fact;
 use crate::implied::{
     attaching, detaching, doing, done_only, giving_back, handing, leaving, lending, linking,
-    losing, natural, popping, unlinking,
+    losing, popping, unlinking,
 };
 use crate::possible::is_critical;
 use crate::says::Says;
 use jg_buffers::Family;
 use jg_functions::{Effect, Row, Section};
+use jg_heap::natural;
 use jg_objects::Objects;
 use jg_questions::{Argument, first_buffer, first_number, first_reference, native_by_name};
 use jg_rules::{Named, View, class_meant};

@@ -2,7 +2,6 @@
 
 ghost use Rattle.std.specs.Prelude.{◌≡◌, ℕ, Some, None};
 ghost use Rattle.std.specs.Option.{option_map};
-ghost use Rattle.jg_heap.specs.Reading as reading;
 ghost use Rattle.jg_objects.specs.Standing.{Tells};
 ghost use Rattle.jg_rules.specs.Names as names_of;
 ghost use Rattle.jg_rules.specs.Parts.{Parts};
@@ -16,6 +15,7 @@ ghost use Rattle.jg_core.specs.Implied as spec;
 use crate::fact::Fact;
 use crate::says::{Given, Says};
 use jg_buffers::Family;
+use jg_heap::natural;
 use jg_objects::Objects;
 use jg_rules::{View, class_meant, native_meant, object_named};
 use jg_words::{
@@ -256,13 +256,6 @@ fn refs_implied(tid: Tid, call: &RefsCall, says: Says) -> Option<Option<Fact>>
         RefsCall::IsSameObject { .. } => doing(tid, Some(None), says),
         RefsCall::GetObjectRefType { .. } => doing(tid, Some(None), says),
     }
-}
-
-/// The number that an operand gives; 0 for one below 0.
-pub(crate) fn natural(n: i32) -> u32
-    ensures { result ≡ reading.natural n }
-{
-    if n < 0 { 0 } else { n as u32 }
 }
 
 fn frames_implied(tid: Tid, call: &FramesCall, says: Says) -> Option<Option<Fact>>

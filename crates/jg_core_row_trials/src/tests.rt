@@ -1,5 +1,6 @@
 //! Each row's calls are made by a guard, and a core is asked and told beside it.
 
+mod retold;
 mod rows;
 mod telling;
 
@@ -8,6 +9,7 @@ use jg_guard::Guard;
 use jg_policy::Setup;
 use jg_row_trials::setups::{CLOSED, GRANTS, TWO_MODULES};
 use jg_text::read_begun;
+use retold::is_retold;
 use rows::{
     ALL_TYPES, ALLOWED, BUFFER_ITEMS, BUFFERS, DENIED, GRANTED, GRANTED_OR_WARNED, OBJECTS,
     OF_ALL_TYPES, REFERENCES, RELEASES, Row, THREADS, WARNED,
@@ -66,20 +68,22 @@ fn difference_in(
 /// The same of a new guard and a new core.
 fn difference_under(
     alloc: Global,
-    under: Under,
+    setup: &str,
     text: &str,
 ) -> Result<Option<(usize, &'static str)>, Fail> {
-    let setup = text_of(alloc, under)?;
-    let mut core = Core::new(alloc, Setup::read(alloc, &setup)?);
-    let mut guard = Guard::new(alloc, alloc, Setup::read(alloc, &setup)?, 100)?;
+    let mut core = Core::new(alloc, Setup::read(alloc, setup)?);
+    let mut guard = Guard::new(alloc, alloc, Setup::read(alloc, setup)?, 100)?;
     difference_in(&mut guard, &mut core, alloc, text)
 }
 
-/// The core is as the guard is after each call of the rows.
+/// The core is as the guard is after each call of the rows, and so are the answers to the rows' records.
 fn are_alike(rt: &impl Abort, alloc: Global, under: Under, rows: &[Row]) -> Result<(), Fail> {
+    let setup = text_of(alloc, under)?;
     for (name, text) in rows {
-        let difference = difference_under(alloc, under, text)?;
+        let difference = difference_under(alloc, &setup, text)?;
         assert_eq!(rt; difference, None, "in {name}");
+        let is_alike = is_retold(alloc, &setup, text)?;
+        assert!(rt; is_alike, "the record of {name}");
     }
     Ok(())
 }

@@ -2,13 +2,12 @@
 
 ghost use Rattle.std.specs.Prelude.{◌≡◌, ◌++◌, not, length, OnOk};
 ghost use Rattle.std.specs.List.{list_all};
-ghost use Rattle.std.specs.Option.{is_some, option_map};
+ghost use Rattle.std.specs.Option.{is_some};
 ghost use Rattle.jg_words.specs.declared.object.Primitive.TheVariants.{Char};
 ghost use Rattle.jg_heap.specs.Reading.{decoded};
 ghost use Rattle.jg_rules.specs.Numbers.{is_value_of};
 ghost use Rattle.jg_rules.specs.Parts.{Parts};
-ghost use Rattle.jg_rules.specs.Rules as rules_of;
-ghost use Rattle.jg_rules.specs.Rules.{field_of_another, is_stated_as};
+ghost use Rattle.jg_rules.specs.Rules.{field_of_another};
 ghost use Rattle.jg_rules.specs.View.{ViewStands};
 ghost use Rattle.jg_questions.specs.declared.argument.Argument.TheVariants.{Id, List as ListOf, Native};
 ghost use Rattle.jg_questions.specs.Written as written;
@@ -19,7 +18,7 @@ use Argument::{Buffer, Class, Number, Reference, Value};
 use Arguments::{Empty, One, Three, Two};
 use jg_heap::is_mutf8;
 use jg_questions::Argument;
-use jg_rules::{Named, View, class_meant, class_of, fits, is_field_of_type, look_up, native_meant};
+use jg_rules::{View, all_fit, class_meant, is_field_of_another, native_meant};
 use jg_words::{
     ArraysCall, BuffersCall, Call, ExceptionsCall, FieldId, FramesCall, Items, MonitorsCall, Name,
     ObjectsCall, Primitive, Ref, RefsCall, StringsCall, Tid, VmCall,
@@ -119,28 +118,6 @@ fn exceptions_arguments(call: &ExceptionsCall) -> Arguments
     }
 }
 
-/// Whether the setup states the field, and it is of the wanted type.
-fn is_stated(wanted: Option<Primitive>, signature: Option<&str>) -> bool
-    ensures { result ≡ is_stated_as wanted (option_map (λ t. t.now) signature.entry) }
-{
-    match signature {
-        None => false,
-        Some(signature) => is_field_of_type(wanted, signature),
-    }
-}
-
-/// Whether the object that the reference names, if it names one, is of that class.
-fn is_of_class<A: Allocator + Clone>(view: &View<'_, A>, class: u32, named: Named) -> bool
-    ensures { (p : Parts) → ViewStands view.now p
-        → result ≡ rules_of.is_of_class view.now.setup.now p class named }
-{
-    match named {
-        Named::Nothing => true,
-        Named::Null => true,
-        Named::Object(object) => class_of(view, object) == class,
-    }
-}
-
 /// The ID of a field, which fits where it is a field of the object's class and of the wanted type.
 fn field_id<A: Allocator + Clone>(
     view: &View<'_, A>,
@@ -152,10 +129,8 @@ fn field_id<A: Allocator + Clone>(
     ensures { (p : Parts) → ViewStands view.now p
         → result ≡ Id (not (field_of_another view.now.setup.now p tid.0 wanted object field)) }
 {
-    let is_right_type = is_stated(wanted, view.setup.field_type(field));
-    let is_right_class = is_of_class(view, field.class, look_up(view, tid, object));
     Argument::Id {
-        fits: is_right_type && is_right_class,
+        fits: !is_field_of_another(view, tid, wanted, object, field),
     }
 }
 
@@ -209,13 +184,6 @@ fn objects_arguments<A: Allocator + Clone>(
     }
 }
 
-/// Whether each item is of the type.
-fn are_of(element: Primitive, items: &[i64]) -> bool
-    ensures { result ≡ list_all (is_value_of element) items.now }
-{
-    items.iter().all(|item| fits(element, *item))
-}
-
 /// A list of items, which fits where each is of the type.
 fn items_of(element: Primitive, items: &Items) -> Argument
     ensures { result ≡ ListOf (length items.now) (list_all (is_value_of element) items.now) }
@@ -223,7 +191,7 @@ fn items_of(element: Primitive, items: &Items) -> Argument
     let items = items.as_slice();
     Argument::List {
         count: items.len() as u64,
-        fits: are_of(element, items),
+        fits: all_fit(element, items),
     }
 }
 

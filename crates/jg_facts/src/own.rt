@@ -18,7 +18,7 @@ ghost use Rattle.jg_facts.specs.Foreseen.{DoesOwn};
 
 use jg_buffers::Family;
 use jg_core::Fact;
-use jg_heap::{from_mutf8_items, mutf8_len};
+use jg_heap::{from_mutf8_items, mutf8_len, natural};
 use jg_policy::Setup;
 use jg_rules::{View, class_meant, length_of, native_meant, the_object, units_of};
 use jg_words::{
@@ -50,13 +50,6 @@ fn narrow(number: u64) -> Result<u32, AllocError>
         Ok(narrowed) => Ok(narrowed),
         Err(_) => Err(AllocError),
     }
-}
-
-/// The number that an operand gives; 0 for one below 0.
-fn natural(n: i32) -> u32
-    ensures { result ≡ reading.natural n }
-{
-    if n < 0 { 0 } else { n as u32 }
 }
 
 fn beginning(is_attached: bool, tid: Tid) -> Option<Fact>

@@ -1,18 +1,10 @@
 //! Regions of strings and arrays, and numbers of operands as sizes and places.
 
 ghost use Rattle.std.specs.Prelude.{◌≡◌, ◌≤◌, ◌<◌, length, map, pos, take, drop, IfOk};
-ghost use Rattle.jg_heap.specs.Reading as reading;
 ghost use Rattle.jg_rules.specs.Answers as answers;
 
 use jg_words::Items;
 use std::alloc::{AllocError, Global};
-
-/// The number, 0 below 0.
-pub(crate) fn natural(number: i32) -> u32
-    ensures { result ≡ reading.natural number }
-{
-    if number < 0 { 0 } else { number as u32 }
-}
 
 /// Whether the region isn't within so many items.
 pub(crate) fn is_outside(start: i32, count: i64, whole: usize) -> bool

@@ -10,3 +10,4 @@ pub mod FromStart
 pub mod Telling
 pub mod Reports
 pub mod Records
+pub mod Retold

@@ -21,14 +21,14 @@ use Rattle.jg_program.specs.declared.stop.ProgramStop.TheVariants.{Record}
 use Rattle.jg_program.specs.declared.stop.Status.{Status}
 use Rattle.jg_program.specs.Ended.{IsHandedOn}
 use Rattle.jg_program.specs.Recorded.{AnswersRecord, EndsRecord, EndsWith, IsEndText}
+use Rattle.jg_program.specs.Verdicts.{difference_text}
 use Rattle.jg_program.proofs.Reports.{on_err}
 
-pub differs_said : {E : Type 0} (a b c d : Option (List ℕ)) (number : ℕ) (end : Ended) (line : List ℕ) (r : Result (Unit {0}) E) → end ≡ ended.Differs number
-    → Appends a b (codes "differs at line ") → Appends b c (decimal number) → OnOk r (Appends c d (10 ∷ [])) → OnOk r ((said : List ℕ) × IsEndText end line said × Appends a d said)
-differs_said a b c d number end line (Ok done) is first second last =
-    subst (λ (e : Ended). (said : List ℕ) × IsEndText e line said × Appends a d said) (sym is)
-    (codes "differs at line " ++ decimal number ++ 10 ∷ [], refl, Appends-trans a c d _ _ (Appends-trans a b c _ _ first second) last)
-differs_said a b c d number end line (Err fault) is first second last = tt
+pub differs_said : {E : Type 0} (bytes bytes' : Option (List ℕ)) (number : ℕ) (end : Ended) (line : List ℕ) (r : Result (Unit {0}) E) → end ≡ ended.Differs number
+    → OnOk r (Appends bytes bytes' (difference_text number)) → OnOk r ((said : List ℕ) × IsEndText end line said × Appends bytes bytes' said)
+differs_said bytes bytes' number end line (Ok done) is appends =
+    subst (λ (e : Ended). (said : List ℕ) × IsEndText e line said × Appends bytes bytes' said) (sym is) (difference_text number, refl, appends)
+differs_said bytes bytes' number end line (Err fault) is appends = tt
 
 pub impossible_said : {E : Type 0} (a b c d e f : Option (List ℕ)) (number : ℕ) (end : Ended) (line event : List ℕ) (told noted : Option (List ℕ)) (r : Result (Unit {0}) E)
     → end ≡ ended.Impossible number → AreParts line event told noted → Appends a b (codes "impossible at line ") → Appends b c (decimal number) → Appends c d (codes ": ")

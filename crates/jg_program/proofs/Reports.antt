@@ -12,7 +12,8 @@ use Rattle.jg_program.specs.declared.stop.ProgramStop.{ProgramStop}
 use Rattle.jg_watch.specs.declared.ending.Stop.TheVariants as watch
 use Rattle.jg_program.specs.declared.stop.ProgramStop.TheVariants.{Arguments, Setup, SetupRead, Run, Record, Leaks, Summary, Explain, Mismatch, Worker}
 use Rattle.jg_program.specs.About.{IsAboutJournal, IsAboutScript}
-use Rattle.jg_program.specs.Ended.{AnswersLines, EndsJournal, EndsScript, IsHandedOn, TestsLines, status_told}
+use Rattle.jg_program.specs.Ended.{AnswersLines, EndsJournal, EndsScript, IsHandedOn, TestsLines}
+use Rattle.jg_program.specs.Verdicts.{status_told}
 use Rattle.jg_program.specs.Reported.{IsToldIf, Reports, Tells, TellsNothing, is_explained}
 
 -- what is told comes first, where all else is told

@@ -1,4 +1,4 @@
--- What is said of a journal that differs is written in three parts.
+-- Where a journal or a record differs is written in three parts.
 use Rattle.std.proofs.Common.{◌≡◌, subst, sym, refl, ℕ, Bool, true, List, [], ◌∷◌, Option, Result, Ok, Err, OnOk, IfOk, IfErr, codes}
 use Rattle.std.proofs.KnownBytes.{Appends-trans, Appends-kept}
 use Rattle.std.specs.Fmt.{decimal}
@@ -6,22 +6,18 @@ use Rattle.std.specs.Io.KnownBytes.{Appends, Keeps}
 use Rattle.jg_policy.specs.Stated.{StatedSetup}
 use Rattle.jg_policy.specs.Findings.{States}
 use Rattle.jg_script.specs.declared.run_fault.RunFault.TheVariants.{Write}
-use Rattle.jg_script.specs.declared.replay.Verdict.{Verdict}
-use Rattle.jg_script.specs.declared.replay.Verdict.TheVariants as verdict
 use Rattle.jg_program.specs.declared.stop.Status.{Status}
 use Rattle.jg_program.specs.declared.stop.Status.TheVariants.{Done}
 use Rattle.jg_program.specs.declared.stop.ProgramStop.{ProgramStop}
 use Rattle.jg_program.specs.declared.stop.ProgramStop.TheVariants.{Run}
 use Rattle.jg_program.specs.StatedBy.{IsStated}
-use Rattle.jg_program.specs.Ended.{verdict_text}
+use Rattle.jg_program.specs.Verdicts.{difference_text}
 use Rattle.jg_program.specs.Migrated.{Migrates}
 
-pub differs_written : {E : Type 0} (a b c d : Option (List ℕ)) (line : ℕ) (v : Verdict) (r : Result (Unit {0}) E)
-    → v ≡ verdict.Differs line → Appends a b (codes "differs at line ") → Appends b c (decimal line)
-    → OnOk r (Appends c d (10 ∷ [])) → OnOk r (Appends a d (verdict_text v))
-differs_written a b c d line v (Ok done) is first number last =
-    subst (λ (x : Verdict). Appends a d (verdict_text x)) (sym is) (Appends-trans a c d _ _ (Appends-trans a b c _ _ first number) last)
-differs_written a b c d line v (Err fault) is first number last = tt
+pub difference_written : {E : Type 0} (a b c d : Option (List ℕ)) (line : ℕ) (r : Result (Unit {0}) E)
+    → Appends a b (codes "differs at line ") → Appends b c (decimal line) → OnOk r (Appends c d (10 ∷ [])) → OnOk r (Appends a d (difference_text line))
+difference_written a b c d line (Ok done) first number last = Appends-trans a c d _ _ (Appends-trans a b c _ _ first number) last
+difference_written a b c d line (Err fault) first number last = tt
 
 -- the text of the setup that a file states was said, or couldn't be
 pub migrates_said : (known : Option (List ℕ)) (told : ℕ) (bytes mid bytes' : Option (List ℕ)) (setup : StatedSetup) (text : List ℕ) (failed : Bool) (said : Result Status ProgramStop)

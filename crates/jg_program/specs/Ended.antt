@@ -15,7 +15,7 @@ use Rattle.jg_script.specs.Checked.{Checks, HoldsFaulty}
 use Rattle.jg_script.specs.Replayed.{ReplaysJournal, verdict_of}
 use Rattle.jg_watch.specs.declared.ending.Stop.TheVariants as watch
 use Rattle.jg_program.specs.declared.program.Job.{Job}
-use Rattle.jg_program.specs.declared.program.Job.TheVariants.{Check, Verify, Watch}
+use Rattle.jg_program.specs.declared.program.Job.TheVariants.{Check, Verify, Watch, Facts}
 use Rattle.jg_program.specs.declared.reporting.Reporting.{Reporting}
 use Rattle.jg_program.specs.declared.stop.ProgramEnd.{ProgramEnd}
 use Rattle.jg_program.specs.declared.stop.Status.{Status}
@@ -25,6 +25,8 @@ use Rattle.jg_program.specs.declared.stop.ProgramStop.TheVariants.{Arguments, Se
 use Rattle.jg_program.specs.About.{IsAboutJournal, IsAboutScript, IsAboutSetup}
 use Rattle.jg_program.specs.Recorded.{EndsRecord}
 use Rattle.jg_program.specs.Reported.{EndsQuietly, EndsTelling, Reports, is_explained}
+use Rattle.jg_program.specs.Retold.{EndsFacts}
+use Rattle.jg_program.specs.Verdicts.{status_told, verdict_text}
 use Rattle.jg_program.specs.StatedBy.{base_setup, IsStated, IsRefused}
 
 -- how the lines of a script were answered, of which the guard has this journal then, and what that did to the bytes of
@@ -49,15 +51,6 @@ EndsScript r setup input input' bytes bytes' limit ending =
     × Reports (IsAboutScript line result) r setup h result ending))
     ⊎ (EndsQuietly (Setup NoRoom) ending × Keeps input input' × Keeps bytes bytes')
 
--- what is said of a journal
-abbrev pub verdict_text : Verdict → List ℕ
-verdict_text verdict.Legal = codes "legal" ++ 10 ∷ []
-verdict_text (verdict.Differs line) = codes "differs at line " ++ decimal line ++ 10 ∷ []
-
-abbrev pub verdict_status : Verdict → Status
-verdict_status verdict.Legal = Done
-verdict_status (verdict.Differs line) = Differs
-
 -- how the lines of a journal were tested under this setup, of which the guard has this journal then; of the lines this
 -- one was read last
 abbrev pub TestsLines : Option (List ℕ) → Option (List ℕ) → Option (List ℕ) → Option (List ℕ) → StatedSetup → ℕ
@@ -68,10 +61,6 @@ TestsLines input input' bytes bytes' setup limit h line (Ok told) =
 -- the test ended so, and nothing was written; or what is to be said couldn't be written or handed on
 TestsLines input input' bytes bytes' setup limit h line (Err stop) = (fault : RunFault) × (stop ≡ Run fault)
     × ((ReplaysJournal input input' setup limit h line (Err fault) × Keeps bytes bytes') ⊎ (fault ≡ Write 1))
-
-abbrev pub status_told : Result Replayed ProgramStop → Result Status ProgramStop
-status_told (Ok told) = Ok (verdict_status (verdict_of told))
-status_told (Err stop) = Err stop
 
 -- how the test of a journal under this setup ended: with a legal history, of which is told what is asked for; or no
 -- guard could be made, or what was written before couldn't be handed on then, and nothing was read or written
@@ -91,6 +80,7 @@ Ends Check r setup input input' bytes bytes' limit ending = EndsScript r setup i
 Ends Verify r setup input input' bytes bytes' limit ending = EndsJournal r setup input input' bytes bytes' limit ending
 Ends (Watch shown) r setup input input' bytes bytes' limit ending =
     EndsRecord r setup shown input input' bytes bytes' ending
+Ends Facts r setup input input' bytes bytes' limit ending = EndsFacts setup input input' bytes bytes' limit ending
 
 -- the same under the setup where none is given, or memory ran out before that was read
 abbrev pub EndsClosed : Job → Reporting → Option (List ℕ) → Option (List ℕ) → Option (List ℕ) → Option (List ℕ) → ℕ

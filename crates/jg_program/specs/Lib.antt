@@ -3,6 +3,8 @@ pub mod Ended
 pub mod StatedBy
 pub mod Plays
 pub mod Reported
+pub mod Retold
+pub mod Verdicts
 pub mod Summary
 pub mod Migrated
 pub mod Statuses

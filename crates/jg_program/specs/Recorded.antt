@@ -27,12 +27,13 @@ use Rattle.jg_program.specs.declared.stop.Status.{Status}
 use Rattle.jg_program.specs.declared.stop.Status.TheVariants as status
 use Rattle.jg_program.specs.Reported.{TellsNothing, is_explained, said_text}
 use Rattle.jg_program.specs.Summary.{record_summary}
+use Rattle.jg_program.specs.Verdicts.{difference_text}
 
 -- what is written behind the answers, where the record ended at this line
 abbrev pub IsEndText : Ended → List ℕ → List ℕ → Type 0
 IsEndText (All lines) line text = text ≡ []
 IsEndText (CutOff number) line text = text ≡ []
-IsEndText (Differs number) line text = text ≡ codes "differs at line " ++ decimal number ++ 10 ∷ []
+IsEndText (Differs number) line text = text ≡ difference_text number
 IsEndText (Impossible number) line text = (event : List ℕ) × (answer note : Option (List ℕ))
     × AreParts line event answer note
     × (text ≡ codes "impossible at line " ++ decimal number ++ codes ": " ++ event ++ 10 ∷ [])

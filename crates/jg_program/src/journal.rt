@@ -7,7 +7,8 @@ ghost use Rattle.jg_rules.specs.Legal.{Legal};
 ghost use Rattle.jg_script.specs.declared.run_fault.RunFault.TheVariants.{NoMemory, Write};
 ghost use Rattle.jg_program.specs.declared.stop.ProgramStop.{ProgramStop as StopOf};
 ghost use Rattle.jg_program.specs.declared.stop.ProgramStop.TheVariants.{Run};
-ghost use Rattle.jg_program.specs.Ended.{EndsJournal, IsHandedOn, TestsLines, verdict_status, verdict_text};
+ghost use Rattle.jg_program.specs.Ended.{EndsJournal, IsHandedOn, TestsLines};
+ghost use Rattle.jg_program.specs.Verdicts.{difference_text, verdict_status, verdict_text};
 ghost use Rattle.jg_program.specs.Reported.{EndsQuietly};
 
 use crate::about::About;
@@ -31,6 +32,17 @@ pub fn write_number<W: io::Write>(out: &mut Watched<W>, n: u64) -> Result<(), De
     write_text(out, digits.format(n).as_bytes())
 }
 
+/// Writes at which line a journal, or a record, differs.
+pub fn write_difference<W: io::Write>(out: &mut Watched<W>, line: u64) -> Result<(), DeviceFailed>
+    ensures written { OnOk result (Appends (W.contents out.old.device) (W.contents out.new.device)
+        (difference_text line)) }
+    ensures failed { OnErr result (out.new.failed ≡ true) }
+{
+    write_text(out, b"differs at line ")?;
+    write_number(out, line)?;
+    write_text(out, b"\n")
+}
+
 /// Writes what a journal is.
 fn write_verdict<W: io::Write>(out: &mut Watched<W>, verdict: Verdict) -> Result<(), DeviceFailed>
     ensures written { OnOk result (Appends (W.contents out.old.device) (W.contents out.new.device)
@@ -39,15 +51,11 @@ fn write_verdict<W: io::Write>(out: &mut Watched<W>, verdict: Verdict) -> Result
 {
     match verdict {
         Verdict::Legal => write_text(out, b"legal\n"),
-        Verdict::Differs(line) => {
-            write_text(out, b"differs at line ")?;
-            write_number(out, line)?;
-            write_text(out, b"\n")
-        }
+        Verdict::Differs(line) => write_difference(out, line),
     }
 }
 
-fn status_of(verdict: Verdict) -> Status
+pub fn status_of(verdict: Verdict) -> Status
     ensures { result ≡ verdict_status verdict }
 {
     match verdict {
@@ -100,7 +108,7 @@ fn test_lines<R: BufRead, W: HandsOn>(
 }
 
 /// Ends where memory ran out for the guard.
-fn end_without_guard<W: HandsOn>(alloc: Global, out: &mut Watched<W>) -> ProgramEnd
+pub fn end_without_guard<W: HandsOn>(alloc: Global, out: &mut Watched<W>) -> ProgramEnd
     ensures ends { (stop : StopOf) × ((stop ≡ Run (NoMemory 1)) ⊎ (stop ≡ Run (Write 1))) × EndsQuietly stop result }
     ensures kept { Keeps (W.contents out.old.device) (W.contents out.new.device) }
     ensures handed_on { IsHandedOn (W.holds_nothing out.new.device) out.new.failed result.ended }

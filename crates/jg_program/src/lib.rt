@@ -11,6 +11,7 @@ mod program;
 mod record_report;
 mod recording;
 mod reporting;
+mod retelling;
 mod setup_file;
 mod stop;
 mod summary;

@@ -12,6 +12,7 @@ use crate::migrating::migrate;
 use crate::playing::{play_file, script_stop_of};
 use crate::recording::answer_record;
 use crate::reporting::{Reporting, report};
+use crate::retelling::retell_record;
 use crate::setup_file::{closed_setup, read_setup, stop_of};
 use crate::stop::{ProgramEnd, ProgramStop, Status, quietly, tell_ending};
 use jg_args::{ArgsFault, Asked, Task, help_text, read_words};
@@ -37,6 +38,8 @@ pub enum Job {
     Verify,
     /// They are a record, which is answered, and of which so much is shown.
     Watch(Shown),
+    /// They are a journal, whose record is written.
+    Facts,
 }
 
 /// Answers the lines of a script, by a guard that has taken no call; `line` is room for one of them, and
@@ -113,6 +116,7 @@ fn work<R: BufRead, W: HandsOn>(
         Job::Check => answer_script(alloc, reporting, setup, limit, reader, out),
         Job::Verify => test_journal(alloc, reporting, setup, limit, reader, out),
         Job::Watch(shown) => answer_record(alloc, reporting, shown, setup, reader, out),
+        Job::Facts => retell_record(alloc, setup, limit, reader, out),
     }
 }
 
@@ -319,6 +323,7 @@ pub fn run<T: Threads + Wait + Sync, S: Files, R: BufRead + Drop, W: HandsOn + D
                 reader,
                 out,
             ),
+            Task::Facts => serve(alloc, Job::Facts, asked, files, reader, out),
             Task::Play(path) => serve_play(rt, alloc, path, asked, files, reader, out),
             Task::Migrate(path) => serve_migration(alloc, path, files, out),
         },

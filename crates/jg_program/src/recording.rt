@@ -10,7 +10,7 @@ ghost use Rattle.jg_program.specs.declared.stop.ProgramStop.TheVariants.{Record}
 ghost use Rattle.jg_program.specs.Ended.{IsHandedOn};
 ghost use Rattle.jg_program.specs.Recorded.{AnswersRecord, EndsRecord, IsEndText};
 
-use crate::journal::write_number;
+use crate::journal::{write_difference, write_number};
 use crate::record_report::report_record;
 use crate::reporting::Reporting;
 use crate::stop::{ProgramEnd, ProgramStop};
@@ -29,11 +29,7 @@ fn write_end<W: Write>(out: &mut Watched<W>, ended: Ended, text: &[u8]) -> Resul
 {
     match ended {
         Ended::All { .. } | Ended::CutOff { .. } => Ok(()),
-        Ended::Differs { line } => {
-            write_text(out, b"differs at line ")?;
-            write_number(out, line)?;
-            write_text(out, b"\n")
-        }
+        Ended::Differs { line } => write_difference(out, line),
         Ended::Impossible { line } => {
             write_text(out, b"impossible at line ")?;
             write_number(out, line)?;

@@ -20,9 +20,9 @@ pub use buffer::{
 };
 pub use holding::{is_root, mark_roots};
 pub use judge::{
-    first_broken, fits, is_field_of_type, is_foreign_local, is_mode, is_not_the_owner,
-    is_object_of, is_of_another_kind, is_of_machine, is_readable, is_releasable, is_writable,
-    is_wrong_caller, is_wrong_object,
+    all_fit, first_broken, fits, is_field_of_another, is_field_of_type, is_foreign_local, is_mode,
+    is_not_the_owner, is_object_of, is_of_another_kind, is_of_machine, is_readable, is_releasable,
+    is_writable, is_wrong_caller, is_wrong_object,
 };
 pub use named::{Named, class_meant, field_meant, look_up, native_meant, object_named, the_object};
 pub use object::{class_of, field_of, items_of, length_of, slot_of, slot_place_of, units_of};

@@ -16,11 +16,10 @@ ghost use Rattle.jg_guard.specs.Cleaning.{cleans_up};
 ghost use Rattle.jg_guard.specs.Tables.{rows_of, IsDue, IsEffective, KeepsRoom};
 ghost use Rattle.jg_guard.specs.Settled.{buffers_on, heap_on};
 
-use crate::region::natural;
 use crate::settle::plain;
 use crate::tables::Tables;
 use jg_buffers::Family;
-use jg_heap::{Slot, to_mutf8};
+use jg_heap::{Slot, natural, to_mutf8};
 use jg_policy::Setup;
 use jg_rules::{Answer, View, buffer_named, slot_of, the_object, units_of};
 use jg_words::{BufId, BuffersCall, ItemType, ObjId, Primitive, Ref, Tid, Value};

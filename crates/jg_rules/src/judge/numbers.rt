@@ -32,7 +32,7 @@ pub fn fits(element: Primitive, item: i64) -> bool
 }
 
 /// Whether an array of these items can hold all the numbers.
-pub(crate) fn all_fit(element: Primitive, items: &[i64]) -> bool
+pub fn all_fit(element: Primitive, items: &[i64]) -> bool
     ensures { result ≡ list_all (is_value_of element) items.now }
 {
     items.iter().all(|item| fits(element, *item))

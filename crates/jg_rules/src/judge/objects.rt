@@ -66,7 +66,9 @@ fn is_of_class<A: Allocator + Clone, S: Store>(
     }
 }
 
-fn judge_field<A: Allocator + Clone, S: Store>(
+/// Whether the ID isn't one of a field of the object's class and of the wanted type, as the setup states it. No class is
+/// asked for where the reference names no object.
+pub fn is_field_of_another<A: Allocator + Clone, S: Store>(
     view: &View<'_, A, S>,
     tid: Tid,
     wanted: Option<Primitive>,
@@ -99,18 +101,18 @@ pub(crate) fn judge_objects<A: Allocator + Clone, S: Store>(
             primitive,
             object,
             field,
-        } => judge_field(view, tid, Some(*primitive), *object, *field),
+        } => is_field_of_another(view, tid, Some(*primitive), *object, *field),
         ObjectsCall::GetObjectField { object, field } => {
-            judge_field(view, tid, None, *object, *field)
+            is_field_of_another(view, tid, None, *object, *field)
         }
         ObjectsCall::SetField {
             primitive,
             object,
             field,
             ..
-        } => judge_field(view, tid, Some(*primitive), *object, *field),
+        } => is_field_of_another(view, tid, Some(*primitive), *object, *field),
         ObjectsCall::SetObjectField { object, field, .. } => {
-            judge_field(view, tid, None, *object, *field)
+            is_field_of_another(view, tid, None, *object, *field)
         }
     };
     if is_bad_field {

@@ -21,7 +21,7 @@ const STATUSES: &str =
     4 reading or writing failed, 5 done, and a call was denied (with --strict).";
 
 /// Words, and what they ask for.
-const READ: [(&[&str], Asked<'static>); 16] = [
+const READ: [(&[&str], Asked<'static>); 17] = [
     (&[], DEFAULTS),
     (&["check"], DEFAULTS),
     (
@@ -106,6 +106,15 @@ const READ: [(&[&str], Asked<'static>); 16] = [
         },
     ),
     (
+        &["facts", "--setup", "app.toml", "--limit", "7"],
+        Asked {
+            task: Task::Facts,
+            setup: Some("app.toml"),
+            limit: 7,
+            ..DEFAULTS
+        },
+    ),
+    (
         &["watch", "--explain", "3", "--leaks", "--summary"],
         Asked {
             task: Task::Watch,
@@ -151,7 +160,7 @@ fn words_are_read(rt: HostRuntime) {
 }
 
 /// Words that ask for nothing.
-const REFUSED: [&[&str]; 38] = [
+const REFUSED: [&[&str]; 39] = [
     &["fly"],
     &["help", "fly"],
     &["--fly"],
@@ -190,6 +199,7 @@ const REFUSED: [&[&str]; 38] = [
     &["--denials"],
     &["watch", "--limit", "1"],
     &["watch", "--denials", "--denials"],
+    &["facts", "--strict"],
 ];
 
 /// Whether this is answered to the words.
@@ -259,7 +269,7 @@ fn the_refused_word_is_found(rt: HostRuntime) -> Result<(), Fail> {
     Ok(())
 }
 
-const USAGE: &str = "Usage: jg [check] [OPTIONS] | jg verify|play|watch|migrate ..";
+const USAGE: &str = "Usage: jg [check] [OPTIONS] | jg verify|play|watch|facts|migrate ..";
 
 /// Words that ask for a text, and a part of it.
 const TEXTS: [(&[&str], &str); 20] = [
