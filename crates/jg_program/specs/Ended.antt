@@ -1,6 +1,5 @@
 -- How the program ended with a script or a journal, and what it did with the bytes.
-use Rattle.std.specs.Prelude.{ℕ, Bool, true, List, ◌∷◌, ◌++◌, [], length, codes, Option, Result, Ok, Err, ◌⊎◌, ◌≡◌}
-use Rattle.std.specs.Fmt.{decimal}
+use Rattle.std.specs.Prelude.{ℕ, Bool, true, List, length, Option, Result, Ok, Err, ◌⊎◌, ◌≡◌}
 use Rattle.std.specs.Io.KnownBytes.{Keeps, Appends}
 use Rattle.jg_words.specs.Entry.{Entry}
 use Rattle.jg_policy.specs.declared.fault.SetupFault.TheVariants.{NoMemory as NoRoom}
@@ -9,8 +8,6 @@ use Rattle.jg_rules.specs.Legal.{Legal}
 use Rattle.jg_script.specs.declared.run_fault.RunFault.{RunFault}
 use Rattle.jg_script.specs.declared.run_fault.RunFault.TheVariants.{Script, Limit, NoMemory, Read, Write}
 use Rattle.jg_script.specs.declared.replay.Replayed.{Replayed}
-use Rattle.jg_script.specs.declared.replay.Verdict.{Verdict}
-use Rattle.jg_script.specs.declared.replay.Verdict.TheVariants as verdict
 use Rattle.jg_script.specs.Checked.{Checks, HoldsFaulty}
 use Rattle.jg_script.specs.Replayed.{ReplaysJournal, verdict_of}
 use Rattle.jg_watch.specs.declared.ending.Stop.TheVariants as watch
@@ -19,7 +16,7 @@ use Rattle.jg_program.specs.declared.program.Job.TheVariants.{Check, Verify, Wat
 use Rattle.jg_program.specs.declared.reporting.Reporting.{Reporting}
 use Rattle.jg_program.specs.declared.stop.ProgramEnd.{ProgramEnd}
 use Rattle.jg_program.specs.declared.stop.Status.{Status}
-use Rattle.jg_program.specs.declared.stop.Status.TheVariants.{Done, Differs}
+use Rattle.jg_program.specs.declared.stop.Status.TheVariants.{Done}
 use Rattle.jg_program.specs.declared.stop.ProgramStop.{ProgramStop}
 use Rattle.jg_program.specs.declared.stop.ProgramStop.TheVariants.{Arguments, Setup, SetupRead, Run, Record, Leaks, Summary, Explain, Mismatch, Worker}
 use Rattle.jg_program.specs.About.{IsAboutJournal, IsAboutScript, IsAboutSetup}

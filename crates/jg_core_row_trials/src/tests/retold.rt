@@ -11,19 +11,19 @@ use std::test::Fail;
 
 /// What a journal was read as, and its record.
 #[derive(Drop)]
-struct Retold {
+struct Retelling {
     read: Result<Replayed, RunFault>,
     record: Vec<u8>,
 }
 
-fn retold(alloc: Global, setup: &str, limit: u32, journal: &[u8]) -> Result<Retold, Fail> {
+fn retold(alloc: Global, setup: &str, limit: u32, journal: &[u8]) -> Result<Retelling, Fail> {
     let mut guard = Guard::new(alloc, alloc, Setup::read(alloc, setup)?, limit)?;
     let (mut reader, mut writer) = (Watched::new(journal), Watched::new(Vec::new(alloc)));
     let mut text = Vec::new(alloc);
     let Ok(read) = retell_journal(alloc, &mut guard, &mut reader, &mut writer, &mut text) else {
         return Err(Fail::from("not retold"));
     };
-    Ok(Retold {
+    Ok(Retelling {
         read,
         record: writer.into_inner(),
     })
