@@ -8,4 +8,4 @@ mod words;
 
 pub use asked::{ArgsFault, Asked, MAX_NUMBER, Task};
 pub use refused::refused_word;
-pub use words::{VERSION, help_text, read_words};
+pub use words::{help_text, read_words};

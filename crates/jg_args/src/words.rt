@@ -5,12 +5,10 @@ ghost use Rattle.std.specs.Prelude.{◌≤◌, IfOk};
 use crate::asked::{ArgsFault, Asked, MAX_NUMBER, Task};
 use clap::error::ErrorKind;
 use clap::{Arg, ArgAction, ArgMatches, Command, value_parser};
+use jg_version::VERSION;
 use std::alloc::{AllocError, Global};
 
 const DEFAULT_TURNS: u32 = 1000;
-
-/// The program's version.
-pub const VERSION: &str = "0.2.0";
 
 const STATUSES: &str =
     "Exit status: 0 done, 1 the journal differs, 2 faulty script, setup or arguments, 3 limit met or no memory, \

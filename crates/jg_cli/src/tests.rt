@@ -1,9 +1,9 @@
 //! Tests of `run`: the status, the text and what is said, for each end; and what all tests of the program share.
 
-use jg_args::VERSION;
 use jg_policy::SetupFault;
 use jg_program::{Files, ProgramStop, Status, run, tell};
 use jg_script::{Faulty, HandsOn, RunFault};
+use jg_version::VERSION;
 use std::alloc::Global;
 use std::io;
 use std::io::{BufRead, BufReader, BufWriter, ErrorKind, Read, Write};

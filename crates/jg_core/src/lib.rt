@@ -16,7 +16,7 @@ mod tables;
 mod take;
 
 pub use asking::{Answer, Ended, Ticket};
-pub use expected::Expected;
+pub use expected::{Expected, told};
 pub use fact::{Checked, Fact};
 pub use gone::{Holder, StillHeld};
 pub use kernel::{Broken, Core, Untold};

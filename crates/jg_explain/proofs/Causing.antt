@@ -12,22 +12,25 @@ use Rattle.jg_causes.specs.declared.condition.Condition.{Condition}
 use Rattle.jg_explain.specs.declared.denials.Denial.{Denial}
 use Rattle.jg_explain.specs.declared.watching.Watch.{Watch}
 use Rattle.jg_guard.specs.Guard.{State}
-use Rattle.jg_explain.specs.Explained.{AreWithin, Cause, IsFront, all_known, causes, causes_at, causes_of, denial_of, known, turns_before, unknown, was, watches_of}
+use Rattle.jg_explain.specs.Explained.{AreWithin, Cause, IsFront, all_known, cause_at, causes, causes_at, causes_of, denial_of, known, turns_before, unknown, was, watches_of}
 use Rattle.jg_explain.specs.Watched.{watched}
 
--- with one entry more, of which a guard that has gone over those before it tells
+-- with one entry more
+pub causes_next : (s : StatedSetup) (h : List Entry) (n : ℕ) → n < length h → causes s (oldest (n + 1) h) ≡ causes s (oldest n h) ++ cause_at s h n
+causes_next s h n below =
+    elim (slice_get_cases (reverse h) n).1 [
+      | inl found ↦ ap (causes s) (oldest_more h n found.0 found.2) ∙ ap (λ x. causes s (oldest n h) ++ causes_at s (oldest n h) x) (sym found.2)
+      | inr past ↦ absurd (omega (arith, past.0, below, length-reverse h))
+    ]
+
+-- the same where a guard that has gone over those before it tells of it
 causes_more : (whole again : State) (n : ℕ) → n < length whole.journal → IsFront whole again n
     → causes whole.setup (oldest (n + 1) whole.journal) ≡ causes whole.setup (oldest n whole.journal) ++ causes_at again.setup again.journal (slice_get (reverse whole.journal) n)
 causes_more whole again n below front =
     let at = slice_get (reverse whole.journal) n in
     let told : causes_at again.setup again.journal at ≡ causes_at whole.setup (oldest n whole.journal) at =
     ap (λ s. causes_at s again.journal at) front.setup ∙ ap (λ h. causes_at whole.setup h at) front.journal in
-    elim (slice_get_cases (reverse whole.journal) n).1 [
-      | inl found ↦ ap (causes whole.setup) (oldest_more whole.journal n found.0 found.2)
-          ∙ ap (λ x. causes whole.setup (oldest n whole.journal) ++ causes_at whole.setup (oldest n whole.journal) x) (sym found.2)
-          ∙ ap (λ cs. causes whole.setup (oldest n whole.journal) ++ cs) (sym told)
-      | inr past ↦ absurd (omega (arith, past.0, below, length-reverse whole.journal))
-    ]
+    causes_next whole.setup whole.journal n below ∙ ap (λ cs. causes whole.setup (oldest n whole.journal) ++ cs) (sym told)
 
 -- what is kept of them, with what is kept of that one behind it
 pub kept_more : {X : Type 0} (f : List Cause → List X) (whole again : State) (n : ℕ) (old new : List X) → ((cs ds : List Cause) → f (cs ++ ds) ≡ f cs ++ f ds)
@@ -90,7 +93,7 @@ when_enough s h n most kept below are few many =
     let long = ap length are ∙ length-map (causes s (oldest n h)) denial_of in
     enough s h n most below (omega (arith, long, few, many))
 
-oldest_all : (h : List Entry) (n : ℕ) → length h ≤ n → oldest n h ≡ h
+pub oldest_all : (h : List Entry) (n : ℕ) → length h ≤ n → oldest n h ≡ h
 oldest_all h n all = ap reverse (take_all n (reverse h) (omega (arith, all, length-reverse h))) ∙ reverse-reverse h
 
 pub all_of_them : (s : StatedSetup) (h : List Entry) (n most : ℕ) → length h ≤ n → length (causes s (oldest n h)) ≤ most → take most (causes s h) ≡ causes s (oldest n h)

@@ -7,6 +7,7 @@ pub mod Followed
 pub mod Fronts
 pub mod Giving
 pub mod Leaving
+pub mod Newest
 pub mod Objects
 pub mod Once
 pub mod Onces

@@ -16,7 +16,7 @@ of_entry : (s : StatedSetup) (h : List Entry) (found : Option Entry) → AreWith
 of_entry s h None = tt
 of_entry s h (Some x) = newest_within s h x (rule_in x.outcome)
 
-cause_within : (s : StatedSetup) (h : List Entry) (place : ℕ) → place ≤ length h → AreWithin place (cause_at s h place)
+pub cause_within : (s : StatedSetup) (h : List Entry) (place : ℕ) → place ≤ length h → AreWithin place (cause_at s h place)
 cause_within s h place below = subst (λ n. AreWithin n (cause_at s h place)) (length-oldest h place below) (of_entry s (oldest place h) (slice_get (reverse h) place))
 
 module _ (s : StatedSetup) (h : List Entry) (place : ℕ) (ds : List Denial) (d : Denial) (ws items : List Watch) where

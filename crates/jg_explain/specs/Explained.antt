@@ -1,6 +1,6 @@
 -- Why the calls of a journal were denied. A journal has its newest entry first; an entry's place is the number of
 -- entries before it.
-use Rattle.std.specs.Prelude.{ℕ, ◌≡◌, ◌≤◌, Bool, false, List, [], ◌∷◌, ◌++◌, length, map, take, reverse, slice_get, Option, Some, None}
+use Rattle.std.specs.Prelude.{ℕ, ◌≡◌, ◌≤◌, Bool, true, false, List, [], ◌∷◌, ◌++◌, length, map, take, reverse, slice_get, Option, Some, None}
 use Rattle.jg_words.specs.declared.rule.Rule.{Rule}
 use Rattle.jg_words.specs.Entry.{Entry, rule_in}
 use Rattle.jg_policy.specs.Stated.{StatedSetup}
@@ -76,6 +76,17 @@ abbrev pub IsExplained : StatedSetup → List Entry → ℕ → Option Explanati
 IsExplained s journal place None = cause_at s journal place ≡ []
 IsExplained s journal place (Some e) = (c : Cause) × (cause_at s journal place ≡ c ∷ []) × (e.rule ≡ c.rule)
     × (e.breach ≡ c.breach) × (e.watches.items ≡ all_known s journal c)
+
+-- one cause if so, and none if not
+abbrev pub IsOneIf : Bool → List Cause → Type 0
+IsOneIf true cs = (c : Cause) × (cs ≡ c ∷ [])
+IsOneIf false cs = cs ≡ []
+
+-- the place of the newest denied entry: its cause stands last, behind those of the entries before it
+abbrev pub IsNewestAt : StatedSetup → List Entry → Option ℕ → Type 0
+IsNewestAt s journal None = causes s journal ≡ []
+IsNewestAt s journal (Some place) = (c : Cause) × (cause_at s journal place ≡ c ∷ [])
+    × (causes s journal ≡ causes s (as_it_was place journal) ++ c ∷ [])
 
 -- the guard has gone over so many entries of the other one's journal again
 pub record IsFront (whole again : State) (n : ℕ) : Type 0 where

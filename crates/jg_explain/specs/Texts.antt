@@ -1,6 +1,7 @@
 -- What is told of a denial, as text: its line, of which operand, in which way the call broke the rule, since when, what
 -- the rule says, and what helps.
-use Rattle.std.specs.Prelude.{ℕ, ◌+◌, Bool, true, false, List, [], ◌∷◌, ◌++◌, codes, flat_map, reverse, slice_get, take, Option, Some, None}
+use Rattle.std.specs.Prelude.{ℕ, ◌≡◌, ◌+◌, Bool, true, false, List, [], ◌∷◌, ◌++◌, codes, flat_map, reverse, slice_get, take, Option, Some, None, String, string_bytes}
+use Rattle.std.specs.declared.alloc.Global.{Global}
 use Rattle.jg_words.specs.declared.rule.Rule.{Rule}
 use Rattle.jg_words.specs.Entry.{Entry}
 use Rattle.jg_policy.specs.Stated.{StatedSetup}
@@ -81,3 +82,9 @@ cause_text s journal c = explanation_text s journal c.place c.rule c.breach (all
 -- the explanations of the first n denials
 abbrev pub explanations_text : StatedSetup → List Entry → ℕ → List ℕ
 explanations_text s journal n = flat_map (cause_text s journal) (take n (causes s journal))
+
+-- the explanation of the newest denial, whose cause is the last; none where no call was denied
+abbrev pub IsNewestTold : StatedSetup → List Entry → Option (String Global) → Type 0
+IsNewestTold s journal None = causes s journal ≡ []
+IsNewestTold s journal (Some text) = (older : List Cause) × (c : Cause) × (causes s journal ≡ older ++ c ∷ [])
+    × (string_bytes text ≡ cause_text s journal c)

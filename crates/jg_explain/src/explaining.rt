@@ -1,8 +1,8 @@
-//! Why calls of a journal were denied: of one call, and of the first ones as text.
+//! Why calls of a journal were denied: of one call, and of the first ones and of the newest one as text.
 
-ghost use Rattle.std.specs.Prelude.{◌≡◌, ◌≤◌, IfOk, OnOk, flat_map, length, map, string_bytes};
-ghost use Rattle.jg_explain.specs.Explained.{IsExplained, IsFront, cause_at, denial_of, watches_of};
-ghost use Rattle.jg_explain.specs.Texts.{explanations_text};
+ghost use Rattle.std.specs.Prelude.{◌≡◌, ◌<◌, ◌≤◌, IfOk, IfSome, OnOk, flat_map, length, map, string_bytes};
+ghost use Rattle.jg_explain.specs.Explained.{IsExplained, IsFront, IsNewestAt, IsOneIf, cause_at, denial_of, watches_of};
+ghost use Rattle.jg_explain.specs.Texts.{IsNewestTold, explanations_text};
 
 use crate::denials::{Denials, denials_of, push_if_denied};
 use crate::following::watch_each;
@@ -111,6 +111,53 @@ pub fn explain_first<A: Allocator + Clone>(
     let mut text = String::new(alloc);
     match push_explanations(&mut text, guard, &denials, &watches) {
         Ok(()) => Ok(text),
+        Err(_) => Err(NoMemory),
+    }
+}
+
+/// Whether the call at that place was denied.
+fn is_denied<A: Allocator + Clone>(guard: &Guard<A>, place: usize) -> bool
+    ensures { IsOneIf result (cause_at guard.now.setup guard.now.journal place) }
+{
+    let Some(entry) = guard.journal_entry(place) else {
+        return false;
+    };
+    match entry.rule() {
+        None => false,
+        Some(_) => true,
+    }
+}
+
+/// The place of the newest call that was denied; none where no call was.
+fn newest_denied<A: Allocator + Clone>(guard: &Guard<A>) -> Option<usize>
+    ensures below { IfSome result (λ place. place < length guard.now.journal) }
+    ensures newest { IsNewestAt guard.now.setup guard.now.journal result }
+{
+    for place in (0..guard.journal_len()).rev() {
+        if is_denied(guard, place) {
+            return Some(place);
+        }
+    }
+    None
+}
+
+/// Why the newest call of the guard's journal that was denied was denied: one explanation, in the form
+/// that `docs/EXPLAINING.md` describes; none where no call was denied. The journal's calls are made
+/// again, by guards of the same setup, up to this denial and no further. Fails only for want of memory.
+pub fn explain_newest<A: Allocator + Clone>(
+    guard: &Guard<A>,
+    alloc: Global,
+) -> Result<Option<String>, NoMemory>
+    ensures { IfOk result (IsNewestTold guard.now.setup guard.now.journal) }
+{
+    let Some(place) = newest_denied(guard) else {
+        return Ok(None);
+    };
+    let Denials { denials, watches } = denial_at(guard, alloc, place)?;
+    let watches = watch_each(guard, watches, place, alloc)?;
+    let mut text = String::new(alloc);
+    match push_explanations(&mut text, guard, &denials, &watches) {
+        Ok(()) => Ok(Some(text)),
         Err(_) => Err(NoMemory),
     }
 }

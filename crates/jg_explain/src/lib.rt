@@ -16,7 +16,7 @@ mod traces;
 mod watching;
 
 pub use denials::Denial;
-pub use explaining::{Explanation, explain, explain_first};
+pub use explaining::{Explanation, explain, explain_first, explain_newest};
 pub use left::explain_leaks;
 pub use replaying::{replay_entry, replaying_guard};
 pub use watching::{Watch, watch_all};

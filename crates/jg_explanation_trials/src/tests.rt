@@ -3,7 +3,7 @@
 mod rows;
 mod whole;
 
-use jg_explain::{explain, explain_first, explain_leaks};
+use jg_explain::{explain, explain_first, explain_leaks, explain_newest};
 use jg_guard::Guard;
 use jg_policy::Setup;
 use jg_script::read_call;
@@ -182,5 +182,71 @@ fn one_is_explained(rt: HostRuntime) -> Result<(), Fail> {
     assert!(rt; dead == Some((Rule::DeadReference, 1, Some(14))));
     assert!(rt; null == Some((Rule::NullReference, 0, None)));
     assert!(rt; past == None);
+    Ok(())
+}
+
+/// Calls, with how many of them are denied.
+const DENIALS: [(&str, &str, usize); 6] = [
+    ("no call", "", 0),
+    (
+        "calls that pass",
+        "T1 - AttachCurrentThread\nT1 - DetachCurrentThread\n",
+        0,
+    ),
+    (
+        "a denial at first",
+        "T1 - ExceptionCheck\nT1 - AttachCurrentThread\n",
+        1,
+    ),
+    (
+        "a denial at last",
+        "T1 - AttachCurrentThread
+T1 E1.1 GetArrayLength null
+T1 E1.1 NewString [72]
+T1 E1.1 DeleteLocalRef L1.1
+T1 E1.1 GetStringLength L1.1
+",
+        2,
+    ),
+    (
+        "calls that pass behind denials",
+        "T1 - AttachCurrentThread
+T1 E1.1 NewString [72]
+T1 E1.1 DeleteLocalRef L1.1
+T1 E1.1 GetStringLength L1.1
+T1 E1.1 GetArrayLength null
+T1 E1.1 NewString [72]
+T1 - DetachCurrentThread
+",
+        2,
+    ),
+    ("each rule", EXAMPLE, 17),
+];
+
+/// Whether what is told of the newest denial of these calls, behind what is told of the others, makes all
+/// that is told of them; where there is none, whether nothing is.
+fn newest_is_last(alloc: Global, script: &str, denials: usize) -> Result<bool, Fail> {
+    let guard = guard_of(alloc, script)?;
+    let Ok(newest) = explain_newest(&guard, alloc) else {
+        return Err(Fail::from("memory ran out"));
+    };
+    let all = told_of(alloc, script, 1000)?;
+    let Some(newest) = newest else {
+        return Ok(denials == 0 && all.as_str() == "");
+    };
+    if denials == 0 {
+        return Ok(false);
+    }
+    let mut told = told_of(alloc, script, denials - 1)?;
+    told.push_str(newest.as_str())?;
+    Ok(told.as_str() == all.as_str())
+}
+
+#[test]
+fn the_newest_is_told_of(rt: HostRuntime) -> Result<(), Fail> {
+    for (name, script, denials) in DENIALS {
+        let is_right = newest_is_last(rt.alloc(), script, denials)?;
+        assert!(rt; is_right, "in {name}");
+    }
     Ok(())
 }

@@ -4,7 +4,7 @@ ghost use Rattle.std.specs.Prelude.{◌≡◌, IfOk, IfErr};
 ghost use Rattle.jg_watch.specs.Steps.{Refused, Replies, unasked};
 ghost use Rattle.jg_watch.specs.Told.{operand_of, reply_of};
 
-use crate::tell::tell;
+use crate::telling::tell;
 use crate::watch::Watch;
 use jg_core::{Answer, Core, Untold};
 use jg_questions::Argument;

@@ -7,11 +7,12 @@ mod explanations;
 mod line;
 mod promises;
 mod run;
-mod tell;
+mod telling;
 mod watch;
 
 pub use ending::{Ended, Stop};
 pub use explanations::Explanations;
 pub use promises::spelt_is_judged;
 pub use run::watch_lines;
+pub use telling::tell;
 pub use watch::{Shown, Watch};

@@ -1,6 +1,7 @@
 //! Tests of the command line: words, what they ask for, which are refused, and the texts of the help.
 
-use jg_args::{ArgsFault, Asked, Task, VERSION, help_text, read_words, refused_word};
+use jg_args::{ArgsFault, Asked, Task, help_text, read_words, refused_word};
+use jg_version::VERSION;
 use std::alloc::{AllocError, Global};
 use std::test::Fail;
 

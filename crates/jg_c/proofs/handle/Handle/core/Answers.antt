@@ -1,0 +1,14 @@
+use Rattle.std.proofs.Common.{Some, None, Option, ◌≡◌, ◌∙◌, refl, sym, ap, subst}
+use Rattle.std.specs.Option.{MatchOption}
+use Rattle.jg_c.specs.declared.session.Session.{Session}
+use Rattle.jg_c.specs.Sessions.{core_of}
+use Rattle.jg_c.proofs.handle.Handle.core.Goals as goal
+
+pub returns-in-Some : goal.returns-in-Some
+returns-in-Some c = let there = sym c.slot.ensures.value ∙ c.in-Some.ensures.value in (
+  (refl, λ w old is. ap Some (c.own_core.follows.holds w old (ap core_of (sym there) ∙ is)), ap Some c.own_core.follows.holds-at-none ∙ sym there),
+  record {
+    writes_back = tt;
+    value = subst (λ (v : Option Session). MatchOption c.own_core.result (core_of v ≡ None) (λ a. core_of v ≡ Some a.now)) (sym there) c.own_core.ensures.value;
+  },
+)

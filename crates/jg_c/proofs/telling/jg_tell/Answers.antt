@@ -1,0 +1,16 @@
+use Rattle.std.proofs.Common.{rules, ◌≡◌, to_z, of_z, w32}
+use Rattle.jg_c.proofs.Holding.{stepped}
+use Rattle.jg_c.proofs.telling.jg_tell.Goals as goal
+
+pub returns-in-Some-clause-tells : goal.returns-in-Some-clause-tells
+returns-in-Some-clause-tells c =
+    let plain : to_z w32 (of_z w32 c.tell_numbers.result) ≡ c.tell_numbers.result = search rules in
+    rw plain (stepped _ _ _ _ _ c.in-Some.ensures.value (c.core.follows.holds _ _ c.in-Some.ensures.value) c.tell_numbers.ensures.tells)
+
+pub returns-in-Some-clause-stayed : goal.returns-in-Some-clause-stayed
+returns-in-Some-clause-stayed c =
+    let plain : to_z w32 (of_z w32 c.tell_numbers.result) ≡ c.tell_numbers.result = search rules in
+    rw plain (λ n. stepped _ _ _ _ _ c.in-Some.ensures.value (c.core.follows.holds _ _ c.in-Some.ensures.value) (c.tell_numbers.ensures.stayed n))
+
+pub returns-in-Some-clause-bounds : goal.returns-in-Some-clause-bounds
+returns-in-Some-clause-bounds c = stepped _ _ _ _ _ c.in-Some.ensures.value (c.core.follows.holds _ _ c.in-Some.ensures.value) c.tell_numbers.ensures.bounds

@@ -1,0 +1,17 @@
+pub mod Errors
+pub mod Lending
+pub mod Values
+pub mod Operands
+pub mod Facts
+pub mod Tickets
+pub mod Given
+pub mod Cores
+pub mod Sessions
+pub mod Opened
+pub mod Questions
+pub mod Telling
+pub mod Lines
+pub mod Names
+pub mod Guards
+pub mod Texts
+pub mod ErrorNames

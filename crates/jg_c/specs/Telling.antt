@@ -1,0 +1,92 @@
+-- What a core is told by numbers.
+use Rattle.std.specs.Prelude.{ℕ, ℤ, pos, ◌≡◌, ◌⊎◌, List, Option, Some, None, map}
+use Rattle.jg_words.specs.declared.object.ObjId.{ObjId}
+use Rattle.jg_core.specs.declared.fact.Fact.{Fact}
+use Rattle.jg_core.specs.declared.asking.Ticket.{Ticket}
+use Rattle.jg_core.specs.declared.kernel.Untold.{Untold}
+use Rattle.jg_core.specs.declared.says.Given.{Given}
+use Rattle.jg_core.specs.declared.says.Says.{Says}
+use Rattle.jg_core.specs.Asking.{Returned, RefusesReturn}
+use Rattle.jg_core.specs.Expected.{told}
+use Rattle.jg_core.specs.Facts.{first_held, parts_of}
+use Rattle.jg_core.specs.Kernel.{CoreStands, Refuses, Took, TookAll}
+use Rattle.jg_record.specs.declared.reply.Reply.{Reply}
+use Rattle.jg_record.specs.declared.reply.Reply.TheVariants.{Environment, Reference, Buffer, Object}
+use Rattle.jg_c.specs.declared.value.JgValue.{JgValue}
+use Rattle.jg_c.specs.Cores.{CoreHeld}
+use Rattle.jg_c.specs.declared.fact.JgFact.{JgFact}
+use Rattle.jg_c.specs.Errors as errors
+use Rattle.jg_c.specs.Facts.{fact_of}
+use Rattle.jg_c.specs.Given.{nothing, of_given}
+use Rattle.jg_watch.specs.Told.{named}
+use Rattle.jg_c.specs.Values.{of_buffer, of_environment, of_object, of_reference}
+
+-- ---- a fact
+
+-- the name of what was handed out
+abbrev pub of_reply : Reply → JgValue
+of_reply (Environment e) = of_environment e
+of_reply (Reference r) = of_reference r
+of_reply (Buffer b) = of_buffer b
+of_reply (Object o) = of_object o
+of_reply reply = nothing
+
+-- the fact was taken, and that is the name of what it handed out
+pub record TakesFact (old new : CoreHeld) (fact : Fact) (given : JgValue) : Type 0 where
+  pub took : Took old.core new.core fact
+  pub name : (w : List Fact) → CoreStands old.core w → given ≡ of_reply (named old.core.setup w fact)
+
+abbrev pub TellsFact : CoreHeld → CoreHeld → Fact → JgValue → ℤ → Type 0
+TellsFact old new fact given n =
+    ((n ≡ errors.done) × TakesFact old new fact given)
+    ⊎ ((why : Untold) × (n ≡ errors.of_untold why) × Refuses old.core fact why)
+
+-- numbers that state no fact are refused
+abbrev pub Tells : CoreHeld → CoreHeld → Option Fact → JgValue → ℤ → Type 0
+Tells old new None given n = n ≡ errors.bad_fact
+Tells old new (Some fact) given n = TellsFact old new fact given n
+
+-- ---- a call that returned
+
+abbrev pub Returns : CoreHeld → CoreHeld → Ticket → Says → JgValue → ℤ → Type 0
+Returns old new ticket says given n =
+    ((n ≡ errors.done) × ((out : Given) × Returned old.core new.core ticket says out × (given ≡ of_given out)))
+    ⊎ ((why : Untold) × (n ≡ errors.of_untold why) × RefusesReturn old.core ticket says why)
+
+abbrev pub ReturnsBy : CoreHeld → CoreHeld → Ticket → Option Says → JgValue → ℤ → Type 0
+ReturnsBy old new ticket None given n = n ≡ errors.bad_value
+ReturnsBy old new ticket (Some says) given n = Returns old new ticket says given n
+
+-- numbers that are no ticket, or say nothing, are refused
+abbrev pub Did : CoreHeld → CoreHeld → Option Ticket → Option Says → JgValue → ℤ → Type 0
+Did old new None says given n = n ≡ errors.bad_ticket
+Did old new (Some ticket) says given n = ReturnsBy old new ticket says given n
+
+-- ---- the fact of a call that returned
+
+-- it is written, or there is none, or no machine says so
+abbrev pub WritesTold : Option (Option Fact) → JgFact → JgFact → ℤ → Type 0
+WritesTold None old new n = (n ≡ errors.impossible) × (new ≡ old)
+WritesTold (Some None) old new n = (n ≡ errors.done) × (new ≡ old)
+WritesTold (Some (Some fact)) old new n = (n ≡ pos 1) × (fact_of new ≡ Some fact)
+
+abbrev pub IsToldBy : Ticket → Option Says → JgFact → JgFact → ℤ → Type 0
+IsToldBy ticket None old new n = (n ≡ errors.bad_value) × (new ≡ old)
+IsToldBy ticket (Some says) old new n = WritesTold (told ticket.tid ticket.expected says) old new n
+
+abbrev pub IsTold : Option Ticket → Option Says → JgFact → JgFact → ℤ → Type 0
+IsTold None says old new n = (n ≡ errors.bad_ticket) × (new ≡ old)
+IsTold (Some ticket) says old new n = IsToldBy ticket says old new n
+
+-- ---- what is gone
+
+abbrev pub objects_of : List ℕ → List ObjId
+objects_of ns = map (λ n. record { 0 = n }) ns
+
+-- all are gone, or the first that can't be is told
+abbrev pub LetsGo : CoreHeld → CoreHeld → List ℕ → ℕ → ℤ → Type 0
+LetsGo old new ns held n =
+    ((n ≡ errors.done) × TookAll old.core new.core (objects_of ns)
+    × ((w : List Fact) → CoreStands old.core w → first_held old.core.setup (parts_of w) (objects_of ns) ≡ None))
+    ⊎ ((n ≡ errors.impossible)
+    × ((w : List Fact) → CoreStands old.core w → first_held old.core.setup (parts_of w) (objects_of ns) ≡ Some held))

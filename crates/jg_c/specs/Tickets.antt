@@ -1,0 +1,36 @@
+-- Tickets as C keeps them.
+use Rattle.std.specs.Prelude.{ℕ, Option, Some, None, if◌then◌else◌, nat_eq}
+use Rattle.std.specs.Option.{option_map, option_and_then}
+use Rattle.jg_buffers.specs.declared.family.Family.{Family}
+use Rattle.jg_core.specs.declared.asking.Ticket.{Ticket}
+use Rattle.jg_core.specs.declared.expected.Expected.{Expected}
+use Rattle.jg_core.specs.declared.expected.Expected.TheVariants as expected
+use Rattle.jg_c.specs.declared.fact.JgFact.{JgFact}
+use Rattle.jg_c.specs.declared.ticket.JgTicket.{JgTicket}
+use Rattle.jg_c.specs.Facts.{fact_of, family_of}
+use Rattle.jg_c.specs.Values.{kind_of, object_of, reference_of, thread_of}
+
+-- a buffer of this family is lent
+abbrev pub lent : JgFact → Family → Option Expected
+lent f family = option_and_then (λ o. option_map (λ via. expected.Lent family o via) (reference_of f.name)) (object_of f.object)
+
+-- what comes of a call, by its number and what it is of
+abbrev pub expected_of : ℕ → JgFact → Option Expected
+expected_of n f =
+    if nat_eq n 0 then Some (expected.Done None)
+    else if nat_eq n 1 then option_map (λ fact. expected.Done (Some fact)) (fact_of f)
+    else if nat_eq n 2 then Some expected.Undone
+    else if nat_eq n 3 then Some (expected.Quiet None)
+    else if nat_eq n 4 then option_map (λ fact. expected.Quiet (Some fact)) (fact_of f)
+    else if nat_eq n 5 then Some (expected.Attached None)
+    else if nat_eq n 6 then option_map (λ fact. expected.Attached (Some fact)) (fact_of f)
+    else if nat_eq n 7 then option_map (λ kind. expected.Handed kind) (kind_of f.first)
+    else if nat_eq n 8 then option_and_then (lent f) (family_of f.first)
+    else if nat_eq n 9 then Some expected.Left
+    else if nat_eq n 10 then Some expected.Popped
+    else if nat_eq n 11 then Some expected.Never
+    else None
+
+-- the ticket that the numbers state, if they state one
+abbrev pub ticket_of : JgTicket → Option Ticket
+ticket_of t = option_and_then (λ tid. option_map (λ e. record { tid = tid; expected = e }) (expected_of t.expected t.fact)) (thread_of t.thread)

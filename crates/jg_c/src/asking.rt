@@ -1,0 +1,162 @@
+//! A core is asked.
+
+ghost use Rattle.std.specs.Prelude.{◌≡◌, ◌≢◌, ◌↔◌, None, false};
+ghost use Rattle.jg_core.specs.Asking.{is_passed};
+ghost use Rattle.jg_core.specs.Kernel.{Stayed};
+ghost use Rattle.jg_c.specs.Errors as errors;
+ghost use Rattle.jg_c.specs.Given.{of_given};
+ghost use Rattle.jg_c.specs.Questions.{Asks, Ends, EndsBy, IsAnswered, question_of};
+ghost use Rattle.jg_c.specs.Sessions.{Of, Steps, core_of};
+
+use crate::error::{CLOSED, DONE, of_untold};
+use crate::given::of_given;
+use crate::handle::Handle;
+use crate::question::{Head, read_question};
+use crate::session::CoreSession;
+use crate::value::JgValue;
+use crate::verdict::{JgVerdict, write_answer};
+use jg_core::{Core, Ended};
+use jg_questions::{Argument, Bounds};
+
+fn ask(
+    asked: &mut CoreSession,
+    thread: u32,
+    env: &JgValue,
+    function: u32,
+    operands: &[JgValue],
+    verdict: &mut JgVerdict,
+) -> i32
+    ensures asks { result ≢ errors.no_memory
+        → Asks asked.old (question_of thread env.now function operands.now) verdict.new result }
+    ensures kept { result ≢ errors.done → verdict.new ≡ verdict.old }
+    ensures numbers { result ≢ errors.closed }
+    ensures same { asked.new ≡ asked.old }
+{
+    match read_question(thread, env, function, operands, &mut asked.room.arguments) {
+        Ok(head) => {
+            let answer = asked.core.ask(
+                asked.bounds,
+                head.tid,
+                head.env,
+                head.function,
+                asked.room.arguments.as_slice(),
+            );
+            write_answer(answer, verdict)
+        }
+        Err(why) => why,
+    }
+}
+
+/// Whether the thread, with this environment, may now call the function of this number with these operands. It changes
+/// nothing, but where it answers 0 it writes the verdict. It takes memory only where it has more operands than any
+/// question before.
+#[unsafe(no_mangle)]
+pub extern "C" fn jg_ask(
+    core: &mut Handle,
+    thread: u32,
+    env: &JgValue,
+    function: u32,
+    operands: &[JgValue],
+    verdict: &mut JgVerdict,
+) -> i32
+    ensures closed { (result ≡ errors.closed) ↔ (core_of core.old.value ≡ None) }
+    ensures asks { result ≢ errors.no_memory → Of (core_of core.old.value)
+        (λ a. Asks a (question_of thread env.now function operands.now) verdict.new result) }
+    ensures kept { result ≢ errors.done → verdict.new ≡ verdict.old }
+    ensures same { core.new.value ≡ core.old.value }
+{
+    match core.core() {
+        Some(asked) => ask(asked, thread, env, function, operands, verdict),
+        None => CLOSED,
+    }
+}
+
+/// Writes how the question of a call that ends something was answered, and what it hands out.
+fn write_ended(ended: Ended, verdict: &mut JgVerdict, given: &mut JgValue) -> i32
+    ensures is { IsAnswered ended.answer verdict.new result }
+    ensures given { result ≡ errors.done → given.new ≡ of_given ended.given }
+    ensures kept { result ≢ errors.done → verdict.new ≡ verdict.old × given.new ≡ given.old }
+    ensures passed { result ≢ errors.done → is_passed ended.answer ≡ false }
+    ensures numbers { (result ≢ errors.closed) × (result ≢ errors.no_memory) }
+{
+    let number = write_answer(ended.answer, verdict);
+    if number == DONE {
+        *given = of_given(ended.given);
+    }
+    number
+}
+
+fn end_read(
+    core: &mut Core,
+    bounds: Bounds,
+    head: Head,
+    arguments: &[Argument],
+    verdict: &mut JgVerdict,
+    given: &mut JgValue,
+) -> i32
+    ensures ends { EndsBy core.old core.new bounds head arguments.now verdict.new given.new result }
+    ensures kept { result ≢ errors.done → verdict.new ≡ verdict.old × given.new ≡ given.old }
+    ensures numbers { result ≢ errors.closed }
+    ensures stayed { result ≢ errors.done → Stayed core.old core.new }
+{
+    match core.ending(bounds, head.tid, head.env, head.function, arguments) {
+        Ok(ended) => write_ended(ended, verdict, given),
+        Err(why) => of_untold(why),
+    }
+}
+
+fn end(
+    asked: &mut CoreSession,
+    thread: u32,
+    env: &JgValue,
+    function: u32,
+    operands: &[JgValue],
+    verdict: &mut JgVerdict,
+    given: &mut JgValue,
+) -> i32
+    ensures ends { result ≢ errors.no_memory → Ends asked.old asked.new
+        (question_of thread env.now function operands.now) verdict.new given.new result }
+    ensures kept { result ≢ errors.done → verdict.new ≡ verdict.old × given.new ≡ given.old }
+    ensures numbers { result ≢ errors.closed }
+    ensures stayed { result ≢ errors.done → Stayed asked.old.core asked.new.core }
+    ensures bounds { asked.new.bounds ≡ asked.old.bounds }
+{
+    match read_question(thread, env, function, operands, &mut asked.room.arguments) {
+        Ok(head) => end_read(
+            &mut asked.core,
+            asked.bounds,
+            head,
+            asked.room.arguments.as_slice(),
+            verdict,
+            given,
+        ),
+        Err(why) => why,
+    }
+}
+
+/// Asks, and where no rule is broken takes at once what the call ends, before the machine ends it. The name of what it
+/// hands out is written to `given`.
+#[unsafe(no_mangle)]
+pub extern "C" fn jg_ending(
+    core: &mut Handle,
+    thread: u32,
+    env: &JgValue,
+    function: u32,
+    operands: &[JgValue],
+    verdict: &mut JgVerdict,
+    given: &mut JgValue,
+) -> i32
+    ensures closed { (result ≡ errors.closed) ↔ (core_of core.old.value ≡ None) }
+    ensures ends { result ≢ errors.no_memory → Steps (core_of core.old.value) (core_of core.new.value)
+        (λ old new. Ends old new (question_of thread env.now function operands.now) verdict.new given.new result) }
+    ensures kept { result ≢ errors.done → verdict.new ≡ verdict.old × given.new ≡ given.old }
+    ensures stayed { result ≢ errors.done → Steps (core_of core.old.value) (core_of core.new.value)
+        (λ old new. Stayed old.core new.core) }
+    ensures bounds { Steps (core_of core.old.value) (core_of core.new.value) (λ old new. new.bounds ≡ old.bounds) }
+    ensures same { core_of core.old.value ≡ None → core.new.value ≡ core.old.value }
+{
+    match core.core() {
+        Some(asked) => { end(asked, thread, env, function, operands, verdict, given) }
+        None => CLOSED,
+    }
+}

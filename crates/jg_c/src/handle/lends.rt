@@ -1,0 +1,71 @@
+//! What a handle lends to be written.
+
+ghost use Rattle.std.specs.Prelude.{◌≡◌, Option, Some, None};
+ghost use Rattle.std.specs.Option.{MatchOption};
+ghost use Rattle.std.specs.Borrow.{sem};
+ghost use Rattle.jg_c.specs.Lending.{LendsCore, LendsGuard, LendsOwnCore, LendsOwnGuard, LendsSlot};
+ghost use Rattle.jg_c.specs.Sessions.{core_of, guard_of};
+
+use super::Handle;
+use crate::session::{CoreSession, GuardSession, Session};
+use jg_slot::Slot;
+
+impl Handle {
+    /// The same pointer as a slot, which a caller can take from, put into and borrow.
+    pub(crate) fn slot(&mut self) -> &mut Slot<Session>
+        ensures* writes_back { sem 𝓛 (LendsSlot self.entry result) }
+        ensures value { result.now.value ≡ self.old.value }
+    {
+        let at: *mut Handle = self;
+        let slot = unsafe { &mut *(at as *mut Slot<Session>) };
+        slot
+    }
+
+    /// The core that it holds, if it holds one.
+    pub(crate) fn core(&mut self) -> Option<&mut CoreSession>
+        ensures* writes_back { sem 𝓛 (LendsCore self.entry result) }
+        ensures value { MatchOption result (core_of self.old.value ≡ None)
+            (λ a. core_of self.old.value ≡ Some a.now) }
+    {
+        match self.slot().get_mut() {
+            Some(session) => own_core(session),
+            None => None,
+        }
+    }
+
+    /// The guard that it holds, if it holds one.
+    pub(crate) fn guard(&mut self) -> Option<&mut GuardSession>
+        ensures* writes_back { sem 𝓛 (LendsGuard self.entry result) }
+        ensures value { MatchOption result (guard_of self.old.value ≡ None)
+            (λ g. guard_of self.old.value ≡ Some g.now) }
+    {
+        match self.slot().get_mut() {
+            Some(session) => own_guard(session),
+            None => None,
+        }
+    }
+}
+
+/// The core that the session is, if it is one.
+fn own_core(session: &mut Session) -> Option<&mut CoreSession>
+    ensures* writes_back { sem 𝓛 (LendsOwnCore session.entry result) }
+    ensures value { MatchOption result (core_of (Some session.old) ≡ None)
+        (λ a. core_of (Some session.old) ≡ Some a.now) }
+{
+    match session {
+        Session::Core(asked) => Some(asked),
+        Session::Guard(_) => None,
+    }
+}
+
+/// The guard that the session is, if it is one.
+fn own_guard(session: &mut Session) -> Option<&mut GuardSession>
+    ensures* writes_back { sem 𝓛 (LendsOwnGuard session.entry result) }
+    ensures value { MatchOption result (guard_of (Some session.old) ≡ None)
+        (λ g. guard_of (Some session.old) ≡ Some g.now) }
+{
+    match session {
+        Session::Core(_) => None,
+        Session::Guard(kept) => Some(kept),
+    }
+}

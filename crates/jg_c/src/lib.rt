@@ -1,0 +1,33 @@
+//! The core and the guard for C.
+#![tactic(auto)]
+
+mod asking;
+mod copying;
+mod error;
+mod error_name;
+mod fact;
+mod given;
+mod going;
+mod guard;
+mod handle;
+mod leaks;
+mod lines;
+mod names;
+mod opening;
+mod operand;
+mod question;
+mod session;
+mod telling;
+mod texts;
+mod ticket;
+mod told;
+mod value;
+mod verdict;
+
+pub use fact::JgFact;
+pub use handle::Handle;
+pub use opening::JgBounds;
+pub use session::{CoreSession, Session};
+pub use ticket::JgTicket;
+pub use value::JgValue;
+pub use verdict::JgVerdict;

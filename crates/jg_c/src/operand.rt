@@ -1,0 +1,83 @@
+//! The operands of a question, as C holds them.
+
+ghost use Rattle.std.specs.Prelude.{◌≡◌};
+ghost use Rattle.jg_c.specs.Operands as operands;
+
+use crate::value::JgValue;
+use jg_questions::Argument;
+
+const NULL: u32 = 1;
+
+const WEAK: u32 = 4;
+
+const BUFFER: u32 = 5;
+
+const NUMBER: u32 = 8;
+
+const VALUE: u32 = 9;
+
+const ID: u32 = 10;
+
+const CLASS: u32 = 11;
+
+const NATIVE: u32 = 12;
+
+const NAME: u32 = 13;
+
+const LIST: u32 = 14;
+
+/// Whether it fits or is stated: 1 where it does, 0 where not.
+fn flag_of(detail: u32) -> Option<bool>
+    ensures { result ≡ operands.flag_of detail }
+{
+    match detail {
+        0 => Some(false),
+        1 => Some(true),
+        _ => None,
+    }
+}
+
+/// The number of a class or of a native method, or none where the setup states no such one.
+fn stated_of(detail: u32, number: u64) -> Option<Option<u32>>
+    ensures { result ≡ operands.stated_of detail number }
+{
+    if !flag_of(detail)? {
+        return Some(None);
+    }
+    match u32::try_from(number) {
+        Ok(number) => Some(Some(number)),
+        Err(_) => None,
+    }
+}
+
+fn number_of(number: u64) -> Option<i32>
+    ensures { result ≡ operands.number_of number }
+{
+    match i32::try_from(number.cast_signed()) {
+        Ok(number) => Some(number),
+        Err(_) => None,
+    }
+}
+
+/// The operand that the value is, if it is one.
+pub(crate) fn operand_of(value: JgValue) -> Option<Argument>
+    ensures { result ≡ operands.operand_of value }
+{
+    match value.kind {
+        NULL..=WEAK => Some(Argument::Reference(value.reference()?)),
+        BUFFER => Some(Argument::Buffer(value.buffer()?)),
+        NUMBER => Some(Argument::Number(number_of(value.number)?)),
+        VALUE => Some(Argument::Value(value.number.cast_signed())),
+        ID => Some(Argument::Id {
+            fits: flag_of(value.detail)?,
+        }),
+        CLASS => Some(Argument::Class(stated_of(value.detail, value.number)?)),
+        NATIVE => Some(Argument::Native(stated_of(value.detail, value.number)?)),
+        NAME => Some(Argument::Name),
+        LIST => Some(Argument::List {
+            count: value.number,
+            fits: flag_of(value.detail)?,
+        }),
+        _ => None,
+    }
+}

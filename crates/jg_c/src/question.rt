@@ -1,0 +1,78 @@
+//! Questions as numbers.
+
+ghost use Rattle.std.specs.Prelude.{◌≡◌, ◌≢◌, Some, None, Ok, Err, IfOk, IfErr};
+ghost use Rattle.jg_c.specs.Errors as errors;
+ghost use Rattle.jg_c.specs.Questions.{operands_of, place_of, question_of};
+
+use crate::error::{BAD_THREAD, BAD_VALUE, NO_FUNCTION, NO_MEMORY};
+use crate::operand::operand_of;
+use crate::value::{JgValue, thread_of};
+use jg_questions::Argument;
+use jg_words::{EnvId, Tid};
+
+/// A question but for its operands: the thread, its environment, and the function's place in the table.
+#[derive(Clone, Copy)]
+pub(crate) struct Head {
+    pub(crate) tid: Tid,
+    pub(crate) env: Option<EnvId>,
+    pub(crate) function: u16,
+}
+
+/// Reads the operands into the list, or answers why there are none.
+fn read_operands(values: &[JgValue], arguments: &mut Vec<Argument>) -> Result<(), i32>
+    ensures ok { IfOk result (λ done. operands_of values.now ≡ Some arguments.new.items) }
+    ensures err { IfErr result (λ n. n ≢ errors.no_memory → (n ≡ errors.bad_value) × (operands_of values.now ≡ None)) }
+    ensures numbers { IfErr result (λ n. (n ≢ errors.closed) × (n ≢ errors.done)) }
+{
+    arguments.clear();
+    let mut rest = values;
+    while let Some((value, later)) = rest.split_first() {
+        let Some(argument) = operand_of(*value) else {
+            return Err(BAD_VALUE);
+        };
+        let Ok(()) = arguments.push(argument) else {
+            return Err(NO_MEMORY);
+        };
+        rest = later;
+    }
+    Ok(())
+}
+
+/// The place in the table.
+fn place_of(function: u32) -> Option<u16>
+    ensures { result ≡ place_of function }
+{
+    match u16::try_from(function) {
+        Ok(place) => Some(place),
+        Err(_) => None,
+    }
+}
+
+/// Reads a question, its operands into the list, or answers why the numbers state none.
+pub(crate) fn read_question(
+    thread: u32,
+    env: &JgValue,
+    function: u32,
+    operands: &[JgValue],
+    arguments: &mut Vec<Argument>,
+) -> Result<Head, i32>
+    ensures ok { IfOk result (λ head. question_of thread env.now function operands.now
+        ≡ Ok (head, arguments.new.items)) }
+    ensures err { IfErr result (λ n. n ≢ errors.no_memory
+        → question_of thread env.now function operands.now ≡ Err n) }
+    ensures numbers { IfErr result (λ n. (n ≢ errors.closed) × (n ≢ errors.done)) }
+{
+    let Some(tid) = thread_of(thread) else {
+        return Err(BAD_THREAD);
+    };
+    let Some(env) = env.environment() else {
+        return Err(BAD_VALUE);
+    };
+    match read_operands(operands, arguments) {
+        Ok(()) => match place_of(function) {
+            Some(function) => Ok(Head { tid, env, function }),
+            None => Err(NO_FUNCTION),
+        },
+        Err(why) => Err(why),
+    }
+}

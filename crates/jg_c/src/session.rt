@@ -1,0 +1,60 @@
+//! What a handle stands for.
+
+use jg_core::Core;
+use jg_guard::Guard;
+use jg_questions::Bounds;
+use jg_record::Lists;
+use std::marker::Model;
+
+/// A core, and the bounds by which it judges. Contracts see both.
+pub struct CoreSession {
+    pub(crate) core: Core,
+    pub(crate) bounds: Bounds,
+    /// Room for operands and for objects that are gone, kept so that a question takes no memory once it has been as
+    /// long.
+    pub(crate) room: Lists,
+}
+
+impl Drop for CoreSession {
+    fn drop(self) {
+        let CoreSession {
+            core: _core,
+            bounds: _,
+            room: _room,
+        } = self;
+    }
+}
+
+impl Model for CoreSession {
+    ghost use Rattle.jg_c.specs.Cores.{CoreHeld};
+
+    ghost Value = { CoreHeld };
+
+    ghost view = { λ a. record { core = a.core; bounds = a.bounds } };
+}
+
+/// A guard. Contracts see it.
+pub struct GuardSession {
+    pub(crate) guard: Guard,
+}
+
+impl Drop for GuardSession {
+    fn drop(self) {
+        let GuardSession { guard: _guard } = self;
+    }
+}
+
+impl Model for GuardSession {
+    ghost use Rattle.jg_guard.specs.Guard.{State};
+
+    ghost Value = { State };
+
+    ghost view = { λ k. k.guard };
+}
+
+/// What a handle stands for.
+#[derive(Drop)]
+pub enum Session {
+    Core(CoreSession),
+    Guard(GuardSession),
+}

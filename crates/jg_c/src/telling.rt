@@ -1,0 +1,171 @@
+//! A core is told.
+
+ghost use Rattle.std.specs.Prelude.{◌≡◌, ◌≢◌, ◌↔◌, None, Some};
+ghost use Rattle.jg_core.specs.Expected.{told as told_of};
+ghost use Rattle.jg_core.specs.Kernel.{Stayed};
+ghost use Rattle.jg_c.specs.Errors as errors;
+ghost use Rattle.jg_c.specs.Facts as facts;
+ghost use Rattle.jg_c.specs.Given as givens;
+ghost use Rattle.jg_c.specs.Sessions.{Steps, core_of};
+ghost use Rattle.jg_c.specs.Telling as specs;
+ghost use Rattle.jg_c.specs.Tickets as tickets;
+
+use crate::error::{BAD_FACT, BAD_TICKET, BAD_VALUE, CLOSED, DONE, IMPOSSIBLE, of_untold};
+use crate::fact::{JgFact, fact_of};
+use crate::given::{of_given, says_of};
+use crate::handle::Handle;
+use crate::session::CoreSession;
+use crate::ticket::{JgTicket, ticket_of};
+use crate::told::of_fact;
+use crate::value::{JgValue, of_buffer, of_environment, of_object, of_reference};
+use jg_core::{Fact, Says, Ticket, told};
+use jg_record::Reply;
+use jg_watch::tell;
+
+/// What `jg_told` answers where it wrote a fact.
+const WRITTEN: i32 = 1;
+
+/// The name of what was handed out.
+fn of_reply(reply: Reply) -> JgValue
+    ensures { result ≡ specs.of_reply reply }
+{
+    match reply {
+        Reply::Environment(env) => of_environment(env),
+        Reply::Reference(reference) => of_reference(reference),
+        Reply::Buffer(buffer) => of_buffer(buffer),
+        Reply::Object(object) => of_object(object),
+        Reply::Passed | Reply::Denied(_) | Reply::Nothing => JgValue::NOTHING,
+    }
+}
+
+fn tell_fact(asked: &mut CoreSession, fact: Fact, given: &mut JgValue) -> i32
+    ensures tells { specs.TellsFact asked.old asked.new fact given.new result }
+    ensures kept { result ≢ errors.done → given.new ≡ given.old }
+    ensures numbers { result ≢ errors.closed }
+    ensures stayed { result ≢ errors.done → Stayed asked.old.core asked.new.core }
+    ensures bounds { asked.new.bounds ≡ asked.old.bounds }
+{
+    match tell(&mut asked.core, fact) {
+        Ok(reply) => {
+            *given = of_reply(reply);
+            DONE
+        }
+        Err(why) => of_untold(why),
+    }
+}
+
+fn tell_numbers(asked: &mut CoreSession, fact: &JgFact, given: &mut JgValue) -> i32
+    ensures tells { specs.Tells asked.old asked.new (facts.fact_of fact.now) given.new result }
+    ensures kept { result ≢ errors.done → given.new ≡ given.old }
+    ensures numbers { result ≢ errors.closed }
+    ensures stayed { result ≢ errors.done → Stayed asked.old.core asked.new.core }
+    ensures bounds { asked.new.bounds ≡ asked.old.bounds }
+{
+    match fact_of(fact) {
+        Some(fact) => tell_fact(asked, fact, given),
+        None => BAD_FACT,
+    }
+}
+
+/// Takes a fact, and writes the name of what it hands out to `given`.
+#[unsafe(no_mangle)]
+pub extern "C" fn jg_tell(core: &mut Handle, fact: &JgFact, given: &mut JgValue) -> i32
+    ensures closed { (result ≡ errors.closed) ↔ (core_of core.old.value ≡ None) }
+    ensures tells { Steps (core_of core.old.value) (core_of core.new.value)
+        (λ old new. specs.Tells old new (facts.fact_of fact.now) given.new result) }
+    ensures kept { result ≢ errors.done → given.new ≡ given.old }
+    ensures stayed { result ≢ errors.done → Steps (core_of core.old.value) (core_of core.new.value)
+        (λ old new. Stayed old.core new.core) }
+    ensures bounds { Steps (core_of core.old.value) (core_of core.new.value) (λ old new. new.bounds ≡ old.bounds) }
+    ensures same { core_of core.old.value ≡ None → core.new.value ≡ core.old.value }
+{
+    match core.core() {
+        Some(asked) => tell_numbers(asked, fact, given),
+        None => CLOSED,
+    }
+}
+
+fn take_return(asked: &mut CoreSession, ticket: Ticket, says: Says, given: &mut JgValue) -> i32
+    ensures returns { specs.Returns asked.old asked.new ticket says given.new result }
+    ensures kept { result ≢ errors.done → given.new ≡ given.old }
+    ensures numbers { result ≢ errors.closed }
+    ensures stayed { result ≢ errors.done → Stayed asked.old.core asked.new.core }
+    ensures bounds { asked.new.bounds ≡ asked.old.bounds }
+{
+    match asked.core.returned(ticket, says) {
+        Ok(out) => {
+            *given = of_given(out);
+            DONE
+        }
+        Err(why) => of_untold(why),
+    }
+}
+
+fn did(asked: &mut CoreSession, ticket: &JgTicket, says: &JgValue, given: &mut JgValue) -> i32
+    ensures did { specs.Did asked.old asked.new (tickets.ticket_of ticket.now) (givens.says_of says.now) given.new
+        result }
+    ensures kept { result ≢ errors.done → given.new ≡ given.old }
+    ensures numbers { result ≢ errors.closed }
+    ensures stayed { result ≢ errors.done → Stayed asked.old.core asked.new.core }
+    ensures bounds { asked.new.bounds ≡ asked.old.bounds }
+{
+    match ticket_of(ticket) {
+        Some(ticket) => match says_of(says) {
+            Some(says) => take_return(asked, ticket, says, given),
+            None => BAD_VALUE,
+        },
+        None => BAD_TICKET,
+    }
+}
+
+fn told_by(ticket: Ticket, says: Says, fact: &mut JgFact) -> i32
+    ensures { specs.WritesTold (told_of ticket.tid ticket.expected says) fact.old fact.new result }
+{
+    match told(ticket.tid, ticket.expected, says) {
+        None => IMPOSSIBLE,
+        Some(None) => DONE,
+        Some(Some(told)) => {
+            *fact = of_fact(told);
+            WRITTEN
+        }
+    }
+}
+
+/// Writes the fact that `jg_did` takes of this ticket and of what the machine says, and answers 1; or 0 where it takes
+/// none.
+#[unsafe(no_mangle)]
+pub extern "C" fn jg_told(ticket: &JgTicket, says: &JgValue, fact: &mut JgFact) -> i32
+    ensures { specs.IsTold (tickets.ticket_of ticket.now) (givens.says_of says.now) fact.old fact.new result }
+{
+    match ticket_of(ticket) {
+        Some(ticket) => match says_of(says) {
+            Some(says) => told_by(ticket, says, fact),
+            None => BAD_VALUE,
+        },
+        None => BAD_TICKET,
+    }
+}
+
+/// Takes what a passed call implies that returned, by what the machine says of it. The name of what it handed out is
+/// written to `given`.
+#[unsafe(no_mangle)]
+pub extern "C" fn jg_did(
+    core: &mut Handle,
+    ticket: &JgTicket,
+    says: &JgValue,
+    given: &mut JgValue,
+) -> i32
+    ensures closed { (result ≡ errors.closed) ↔ (core_of core.old.value ≡ None) }
+    ensures did { Steps (core_of core.old.value) (core_of core.new.value)
+        (λ old new. specs.Did old new (tickets.ticket_of ticket.now) (givens.says_of says.now) given.new result) }
+    ensures kept { result ≢ errors.done → given.new ≡ given.old }
+    ensures stayed { result ≢ errors.done → Steps (core_of core.old.value) (core_of core.new.value)
+        (λ old new. Stayed old.core new.core) }
+    ensures bounds { Steps (core_of core.old.value) (core_of core.new.value) (λ old new. new.bounds ≡ old.bounds) }
+    ensures same { core_of core.old.value ≡ None → core.new.value ≡ core.old.value }
+{
+    match core.core() {
+        Some(asked) => did(asked, ticket, says, given),
+        None => CLOSED,
+    }
+}

@@ -1,0 +1,165 @@
+//! The numbers of facts.
+
+ghost use Rattle.std.specs.Prelude.{◌≡◌, Some};
+ghost use Rattle.jg_c.specs.Facts as facts;
+ghost use Rattle.jg_c.specs.Values as values;
+
+use crate::fact::JgFact;
+use crate::value::{JgValue, number_of, of_buffer, of_object, of_reference};
+use jg_buffers::Family;
+use jg_core::{Checked, Fact};
+use jg_words::{ItemType, ObjId, Primitive, Tid};
+
+/// The numbers of a fact that are the thread's; those that it hasn't are 0.
+fn of_thread(word: u32, tid: Tid) -> JgFact
+    ensures { result ≡ facts.of_thread word tid.0 }
+{
+    JgFact {
+        word,
+        thread: u32::from(tid.0),
+        name: JgValue::NOTHING,
+        object: JgValue::NULL,
+        first: 0,
+        second: 0,
+    }
+}
+
+/// The same of a fact on classes.
+fn of_class(word: u32, first: u32, second: u32) -> JgFact
+    ensures { result ≡ record (facts.of_thread word 0) { first = first; second = second } }
+{
+    JgFact {
+        first,
+        second,
+        ..of_thread(word, Tid(0))
+    }
+}
+
+/// The name of an object, or `NULL` for none.
+pub(crate) fn of_kept(object: Option<ObjId>) -> JgValue
+    ensures { values.object_of result ≡ Some object }
+{
+    match object {
+        None => JgValue::NULL,
+        Some(object) => of_object(object),
+    }
+}
+
+/// The number of a family of buffers.
+pub(crate) fn of_family(family: Family) -> u32
+    ensures { facts.family_of result ≡ Some family }
+{
+    match family {
+        Family::Elements(ItemType::Of(Primitive::Boolean)) => 0,
+        Family::Elements(ItemType::Of(Primitive::Byte)) => 1,
+        Family::Elements(ItemType::Of(Primitive::Char)) => 2,
+        Family::Elements(ItemType::Of(Primitive::Short)) => 3,
+        Family::Elements(ItemType::Of(Primitive::Int)) => 4,
+        Family::Elements(ItemType::Of(Primitive::Long)) => 5,
+        Family::Elements(ItemType::Float) => 6,
+        Family::Elements(ItemType::Double) => 7,
+        Family::Chars => 8,
+        Family::UtfChars => 9,
+        Family::ArrayCritical => 10,
+        Family::StringCritical => 11,
+    }
+}
+
+fn of_checked(checked: Checked) -> JgFact
+    ensures { facts.fact_of result ≡ Some (facts.checked_as checked) }
+{
+    match checked {
+        Checked::Local { tid, n, object } => JgFact {
+            name: JgValue {
+                number: n,
+                ..JgValue::NOTHING
+            },
+            object: of_kept(object),
+            ..of_thread(21, tid)
+        },
+        Checked::Pending { tid, object } => JgFact {
+            object: of_kept(object),
+            ..of_thread(22, tid)
+        },
+        Checked::Length { object, length } => JgFact {
+            object: of_object(object),
+            second: length,
+            ..of_thread(23, Tid(0))
+        },
+    }
+}
+
+/// The numbers of a fact of a session, of a native method or of a frame, or of an object, a class or a module.
+pub(crate) fn of_fact(fact: Fact) -> JgFact
+    ensures { facts.fact_of result ≡ Some fact }
+{
+    match fact {
+        Fact::Begin(tid) => of_thread(1, tid),
+        Fact::End(tid) => of_thread(2, tid),
+        Fact::Enter(tid) => of_thread(3, tid),
+        Fact::Leave { tid, kept } => JgFact {
+            object: of_kept(kept),
+            ..of_thread(4, tid)
+        },
+        Fact::Push { tid, room } => JgFact {
+            first: room,
+            ..of_thread(5, tid)
+        },
+        Fact::Pop { tid, kept } => JgFact {
+            object: of_kept(kept),
+            ..of_thread(6, tid)
+        },
+        Fact::Ensure { tid, room } => JgFact {
+            first: room,
+            ..of_thread(7, tid)
+        },
+        Fact::Raise { tid, object } => JgFact {
+            object: of_object(object),
+            ..of_thread(8, tid)
+        },
+        Fact::Calm(tid) => of_thread(9, tid),
+        Fact::Hand { tid, kind, object } => JgFact {
+            object: of_object(object),
+            first: number_of(kind),
+            ..of_thread(10, tid)
+        },
+        Fact::Lost(reference) => JgFact {
+            name: of_reference(reference),
+            ..of_thread(11, Tid(0))
+        },
+        Fact::Lend {
+            tid,
+            family,
+            object,
+            via,
+            length,
+        } => JgFact {
+            name: of_reference(via),
+            object: of_object(object),
+            first: of_family(family),
+            second: length,
+            ..of_thread(12, tid)
+        },
+        Fact::Back(buffer) => JgFact {
+            name: of_buffer(buffer),
+            ..of_thread(13, Tid(0))
+        },
+        Fact::Own { tid, object } => JgFact {
+            object: of_object(object),
+            ..of_thread(14, tid)
+        },
+        Fact::Free { tid, object } => JgFact {
+            object: of_object(object),
+            ..of_thread(15, tid)
+        },
+        Fact::Meet { class, length } => of_class(16, class, length),
+        Fact::Gone(object) => JgFact {
+            object: of_object(object),
+            ..of_thread(17, Tid(0))
+        },
+        Fact::Link { class, native } => of_class(18, class, native),
+        Fact::Unlink(class) => of_class(19, class, 0),
+        Fact::Warn(module) => of_class(20, module, 0),
+        Fact::Checked(checked) => of_checked(checked),
+    }
+}

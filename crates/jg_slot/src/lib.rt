@@ -1,0 +1,7 @@
+//! A box, or nothing, as one pointer, in which C can keep it.
+#![tactic(auto)]
+
+mod parts;
+mod slot;
+
+pub use slot::Slot;

@@ -1,0 +1,946 @@
+/*
+ * jg.h: the guard `jg` for C (C99) and C++ (C++11).
+ *
+ * There are two kinds of handles.
+ *
+ * - A core (`jg_core`) stands in front of a virtual machine that answers by itself. It is asked whether a thread may
+ *   make a call now (`jg_ask`, `jg_ending`), and is told what the machine did (`jg_did`, `jg_tell`, `jg_gone`). It
+ *   keeps no journal; its memory follows what is live.
+ * - A guard (`jg_guard`) answers scripts, as the program `jg` does: a line of a script in, its line of the journal out
+ *   (`jg_call_line`). It keeps the journal.
+ *
+ * Handles. A handle that is all zeros is closed, so begin with `jg_core core = { NULL };`. Opening fills it, and
+ * closing makes it all zeros again. A handle holds memory until it is closed. Hand its address to each call, and don't
+ * copy it: a copy isn't closed with it. Handles are independent of each other, and a name that one gave means nothing
+ * to another.
+ *
+ * Threads. One call at a time may use a handle. Any thread may make it, and several do so under a lock of your own: a
+ * mutex for each handle, held for each call, and never while the machine itself works. Two handles may be used at once.
+ * No call waits for anything or starts a thread. Don't call from a signal handler: most calls take memory. The number
+ * `thread` of a call is the machine's thread that is spoken of. It needn't be the one that makes the call.
+ *
+ * Answers. Each call answers a number: 0 or more where it did what stands there, below 0 (JG_CLOSED and so on) where it
+ * did nothing. A call that answers an error changes nothing, so it may be made again after JG_NO_MEMORY; a verdict or a
+ * name that it would write stays as it was. JG_UNWRITTEN alone comes of a call that was made. The numbers answered that
+ * are no errors are lengths in bytes, numbers of rules and classes, or 0. Test with `< 0`: an `if (!jg_call_line(..))`
+ * takes an error for an answer.
+ *
+ * Pointers. Nothing is allocated for the caller, and no pointer is kept once a call has returned: buffers may stand on
+ * the stack. What a call writes may not lie in what it reads. A pointer that is null is answered by JG_NULL_POINTER,
+ * but for an array or a text whose count, size or room is 0. This header has these tests, and the library has none: see
+ * "tests for null". Where JG_NO_CHECKS is defined before the header is included, no pointer may be null.
+ *
+ * Texts. They are bytes with a length and without a NUL behind them: what is handed in may lack one, and none is
+ * written. `jg_bytes("..")` is the address of a C string's bytes. A call that writes a text writes its first `room`
+ * bytes, and answers how long the whole is; where that is more than `room`, call again with more room. Print such a
+ * text with `printf("%.*s", (int)length, text)` or `fwrite`.
+ *
+ * The last part of this file makes values and facts, so that no field need be filled by hand. docs/EMBEDDING.md has the
+ * way into this, docs/RULES.md the rules, docs/FORMATS.md the texts.
+ */
+#ifndef JG_H
+#define JG_H
+
+#include <stddef.h>
+#include <stdint.h>
+
+#ifdef __cplusplus
+extern "C" {
+#endif
+
+/* The version of this header, which `jg_core_open` and `jg_guard_open` compare with the library's. Hand it in as is. */
+#define JG_VERSION 1
+
+/* ---- errors ---- */
+
+enum {
+    JG_CLOSED = -1,        /* the handle is closed */
+    JG_IS_OPEN = -2,       /* the handle is open already: close it first, else its memory would be lost */
+    JG_BAD_VERSION = -3,   /* the library is of another version than this header */
+    JG_NO_MEMORY = -4,     /* memory ran out */
+    JG_BAD_THREAD = -5,    /* a thread's number is above 65,535 */
+    JG_BAD_VALUE = -6,     /* a value isn't of a kind that may stand there, or its numbers are out of range */
+    JG_NO_FUNCTION = -7,   /* the table has no function of that number */
+    JG_MISFIT = -8,        /* the operands aren't as many as the function's, or not of their sorts (jg_functions.h) */
+    JG_BAD_FACT = -9,      /* the numbers state no fact */
+    JG_IMPOSSIBLE = -10,   /* the fact can't be: what was told before it says so. It is a mistake of who tells, never of
+                              native code */
+    JG_FULL = -11,         /* 2^60 facts made something */
+    JG_BAD_TICKET = -12,   /* the ticket is none: no question that passed wrote it */
+    JG_LIMIT = -13,        /* the journal has as many entries as it may */
+    JG_NO_TEXT = -14,      /* a line has no text, or is too long */
+    JG_NO_RULE = -15,      /* there is no rule of that number, or no denial to explain */
+    JG_UNWRITTEN = -16,    /* the call was made and journaled, and memory ran out for its line */
+    JG_NO_NAME = -17,      /* the setup states no class or native method of that name */
+    JG_NULL_POINTER = -18, /* a pointer is null that may not be */
+
+    /* faults of a setup text: docs/FORMATS.md, "The setup text" */
+    JG_NOT_TOML = -32,
+    JG_SETUP_VERSION = -33,
+    JG_UNKNOWN_KEY = -34,
+    JG_MISSING = -35,
+    JG_BAD_TYPE = -36,
+    JG_BAD_MODE = -37,
+    JG_BAD_NAME = -38,
+    JG_DUPLICATE = -39,
+    JG_TOO_MANY = -40,
+
+    /* faults of a line of a script: docs/FORMATS.md, "Faults of a line" */
+    JG_LINE_TOO_LONG = -64,
+    JG_NOT_ASCII = -65,
+    JG_NO_THREAD = -66,
+    JG_NO_ENV = -67,
+    JG_UNKNOWN_FUNCTION = -68,
+    JG_WRONG_COUNT = -69,
+    JG_BAD_OPERAND = -70
+};
+
+/* ---- values ---- */
+
+/*
+ * A name (of a reference, a buffer, an environment, an object), an operand of a question, or what a machine says of a
+ * call. `detail` and `number` are 0 where nothing else is said. Names are plain numbers: copy and keep them as you
+ * like. Two names are the same where all three fields are. Threads are numbered from 0 to 65,535; 0 is the machine
+ * itself.
+ */
+typedef struct jg_value {
+    uint32_t kind;
+    uint32_t detail;
+    uint64_t number;
+} jg_value;
+
+enum {
+    JG_NOTHING = 0,     /* nothing: no environment, no answer */
+    JG_NULL = 1,        /* NULL */
+    JG_LOCAL = 2,       /* a local reference: detail its maker, the thread it was handed to; number its number */
+    JG_GLOBAL = 3,      /* a global one: the same */
+    JG_WEAK = 4,        /* a weak global one: the same */
+    JG_BUFFER = 5,      /* a buffer: detail the thread that it was lent to, number its number */
+    JG_ENVIRONMENT = 6, /* an environment: detail its thread, number its session */
+    JG_OBJECT = 7,      /* an object: number its number */
+    JG_NUMBER = 8,      /* a number that a rule bounds: number a jint, sign-extended to 64 bits (-1 is UINT64_MAX) */
+    JG_ANY_NUMBER = 9,  /* a value or any number: number its 64 bits, sign-extended; of float and double as they are */
+    JG_ID = 10,         /* the ID of a field or a method: detail 1 if it fits the object and the function, else 0 */
+    JG_CLASS = 11,      /* a class's name: detail 1 and number its number in the setup, or detail 0 if it states none */
+    JG_NATIVE = 12,     /* a native method: detail 1 and number its number in its class, from 1, or detail 0 */
+    JG_NAME = 13,       /* a name of which no rule speaks */
+    JG_LIST = 14,       /* a list: number how many items it has, detail 1 if each is of its type, else 0 */
+    JG_ITEMS = 15,      /* what a machine says: it lent a buffer of so many items: number, of 32 bits */
+    JG_THREW = 16       /* what a machine says: it threw the object of this number */
+};
+
+/*
+ * Classes. Those of the setup have the numbers that docs/FORMATS.md says: 0 to 14 are the base classes, and those of
+ * the text follow from 15 on, in its order (jg_class_named). A class object of the setup has its class's number as an
+ * object's, and is there from the start. An object of a class that the setup doesn't state is met as one of these
+ * kinds, each of which has the number of a class too (jg_class_of).
+ */
+enum {
+    JG_KIND_OBJECT = 0,      /* of none of the kinds below */
+    JG_KIND_THROWABLE = 1,   /* it can be thrown */
+    JG_KIND_CLASS = 2,       /* a class object, of a class that is no array's */
+    JG_KIND_ARRAY_CLASS = 3, /* a class object, of an array's class */
+    JG_KIND_FLOATS = 4,      /* an array of float */
+    JG_KIND_DOUBLES = 5      /* an array of double */
+};
+
+/* ---- facts ---- */
+
+/*
+ * What a machine says is so: docs/FORMATS.md, "A fact", whose words these are. Tell them by the functions at the end of
+ * this file (jg_begins and so on), or make them by jg_fact_of. Fields that a fact doesn't have aren't read.
+ */
+typedef struct jg_fact {
+    uint32_t word;   /* which fact: JG_BEGINS and so on */
+    uint32_t thread; /* the thread that it is of; of JG_LOST, JG_GAVE, JG_MET, JG_GONE, JG_LINKED, JG_UNLINKED,
+                        JG_WARNED and JG_IS_LENGTH who tells it, be it 0 */
+    jg_value name;   /* LOST: the reference; LENT: the reference that a critical buffer was asked for by, else JG_NULL;
+                        GAVE: the buffer; IS_LOCAL: the local's number, whose kind and detail aren't read */
+    jg_value object; /* JG_OBJECT; in LEAVES, POPPED, IS_LOCAL and IS_PENDING JG_NULL for none */
+    uint32_t first;  /* PUSHED, ENSURED: a room; GOT: JG_LOCAL, JG_GLOBAL or JG_WEAK; LENT: a family; MET, LINKED,
+                        UNLINKED: a class; WARNED: a module */
+    uint32_t second; /* LENT, MET, IS_LENGTH: a length in items; LINKED: a native method of the class, from 1 */
+} jg_fact;
+
+enum {
+    JG_BEGINS = 1, JG_ENDS, JG_ENTERS, JG_LEAVES, JG_PUSHED, JG_POPPED, JG_ENSURED, JG_RAISED, JG_CALMED, JG_GOT,
+    JG_LOST, JG_LENT, JG_GAVE, JG_OWNS, JG_FREED, JG_MET, JG_GONE, JG_LINKED, JG_UNLINKED, JG_WARNED,
+    JG_IS_LOCAL, JG_IS_PENDING, JG_IS_LENGTH
+};
+
+/*
+ * Families of buffers: those of the eight Get<Type>ArrayElements, of GetStringChars, GetStringUTFChars,
+ * GetPrimitiveArrayCritical and GetStringCritical.
+ */
+enum {
+    JG_BOOLEANS = 0, JG_BYTES, JG_CHARS, JG_SHORTS, JG_INTS, JG_LONGS, JG_FLOATS, JG_DOUBLES, JG_STRING, JG_UTF,
+    JG_CRITICAL, JG_CRITICAL_STRING
+};
+
+/* ---- questions ---- */
+
+/*
+ * What comes of a call that passed, kept until the machine has answered: it holds no memory, so it may be copied, and
+ * dropped where nothing is to be told. Only the library reads its fields.
+ */
+typedef struct jg_ticket {
+    uint32_t expected;
+    uint32_t thread;
+    jg_fact fact;
+} jg_ticket;
+
+/* What a question is answered. */
+typedef struct jg_verdict {
+    uint32_t rule;    /* 0 where it breaks no rule, else the number of the first that it breaks, 1 to 17 */
+    uint32_t operand; /* of a broken rule: the operand that breaks it, counted from 1, or 0 where none does */
+    jg_ticket ticket; /* of a call that passed, for jg_did; else it is none, which jg_did answers by JG_BAD_TICKET */
+} jg_verdict;
+
+/*
+ * By which numbers rule 12 judges. A real machine bounds nothing: then each is INT32_MAX (jg_no_bounds). They stay as
+ * they were opened with.
+ */
+typedef struct jg_bounds {
+    int32_t capacity; /* how many local references a frame may have room for */
+    int32_t length;   /* how many items an array may have */
+    int32_t items;    /* how many items of a region may be read */
+} jg_bounds;
+
+/* ---- the core ---- */
+
+typedef struct jg_core {
+    void *at;
+} jg_core;
+
+/*
+ * Opens a closed handle on a core that was told nothing, under the setup that the text states (docs/FORMATS.md, "The
+ * setup text"; `size` bytes of UTF-8). `version` is JG_VERSION. 0, or JG_IS_OPEN, JG_BAD_VERSION, JG_NO_MEMORY, or a
+ * fault of the setup text; the handle is as it was then.
+ */
+int32_t jg_core_open(const uint8_t *text, size_t size, const jg_bounds *bounds, uint32_t version, jg_core *core);
+
+/* Lets all go that the core holds; it is closed then, and may be opened again. 0, or JG_CLOSED. */
+int32_t jg_core_close(jg_core *core);
+
+/*
+ * Whether the thread, with this environment (JG_ENVIRONMENT, or JG_NOTHING for none), may now call the function of this
+ * number (jg_functions.h) with these operands. Ask when the call begins; it changes nothing. 0, and the verdict is
+ * written, also where a rule is broken; else JG_CLOSED, JG_BAD_THREAD, JG_BAD_VALUE, JG_NO_FUNCTION, JG_MISFIT,
+ * JG_NO_MEMORY. The operands are read into a room that is kept, so memory runs out only for a question that has more of
+ * them than any before.
+ *
+ * Where the verdict's rule is 0, let the machine make the call, and then tell what came of it: by jg_did with the
+ * verdict's ticket, or by the facts themselves. Where it isn't, the call isn't made, and nothing is told. The ticket is
+ * none then.
+ */
+int32_t jg_ask(jg_core *core, uint32_t thread, const jg_value *env, uint32_t function, const jg_value *operands,
+               size_t count, jg_verdict *verdict);
+
+/*
+ * Asks, and where no rule is broken takes at once what the call ends, before the machine ends it: for deletions,
+ * releases, PopLocalFrame, MonitorExit, ExceptionClear, UnregisterNatives and NativeLeave. So of two threads that
+ * delete one reference at once the second is denied. The name of what it hands out is written to `given` (JG_NOTHING
+ * where it hands out nothing): the local that PopLocalFrame or NativeLeave keeps its operand's object by. Where Java
+ * called the native method nothing is kept: then ask NativeLeave by jg_ask, and tell jg_leaves with jg_null(). Don't
+ * call jg_did after it: the verdict's ticket is for jg_told alone. As jg_ask; and JG_IMPOSSIBLE, JG_FULL. Of a function
+ * that hands out something else a passed question is JG_IMPOSSIBLE.
+ */
+int32_t jg_ending(jg_core *core, uint32_t thread, const jg_value *env, uint32_t function, const jg_value *operands,
+                  size_t count, jg_verdict *verdict, jg_value *given);
+
+/*
+ * Tells what came of a passed call once it has returned, by what the machine says of it: JG_NOTHING it was done,
+ * JG_NULL it answered NULL, JG_OBJECT it answered a reference to this object, JG_ITEMS it lent a buffer of so many
+ * items, JG_THREW it threw this object. An object must have been met before (jg_met). The name of what the call handed
+ * out is written to `given`: a reference, a buffer, after AttachCurrentThread an environment, else JG_NOTHING. 0, or
+ * JG_CLOSED, JG_BAD_TICKET, JG_BAD_VALUE, JG_IMPOSSIBLE (also where no machine says this of such a call), JG_FULL,
+ * JG_NO_MEMORY.
+ */
+int32_t jg_did(jg_core *core, const jg_ticket *ticket, const jg_value *says, jg_value *given);
+
+/*
+ * The fact that jg_did tells of this ticket and of what the machine says, so that jg_fact_line can write its line of a
+ * record. It needs no handle, changes nothing, and may be called by several threads at once. 1, and `fact` is written;
+ * 0 where nothing is told; else JG_BAD_TICKET, JG_BAD_VALUE, JG_IMPOSSIBLE (no machine says this of such a call).
+ * Whether the fact can be, jg_did alone says. The thread of a fact of which it says who tells it is 0.
+ *
+ * The fact that jg_ending told is that of the verdict's ticket with JG_NOTHING; but of PopLocalFrame and NativeLeave
+ * with the object that the first operand named, or with JG_NULL where it named none.
+ */
+int32_t jg_told(const jg_ticket *ticket, const jg_value *says, jg_fact *fact);
+
+/*
+ * Takes a fact, and writes the name of what it hands out to `given`. Tell what ends something before the machine ends
+ * it, and what begins something after. 0, or JG_CLOSED, JG_BAD_FACT, JG_IMPOSSIBLE, JG_FULL, JG_NO_MEMORY.
+ */
+int32_t jg_tell(jg_core *core, const jg_fact *fact, jg_value *given);
+
+/*
+ * Takes that the collector let these objects go, by their numbers: all of them, or none and JG_IMPOSSIBLE; then the
+ * place of the first that can't be gone is written to `held`, counted from 0. Weak references to them are cleared. 0,
+ * or JG_CLOSED, JG_IMPOSSIBLE, JG_NO_MEMORY. Memory runs out only for more objects than were ever told at once.
+ */
+int32_t jg_gone(jg_core *core, const uint64_t *objects, size_t count, uint64_t *held);
+
+/*
+ * Lines of a record (docs/FORMATS.md, "A record"), without line feed and without the core's answer. They change
+ * nothing. `jg watch` judges such a text again. A name of which no rule speaks is written as `?`. Each answers how long
+ * the line is, in bytes; `line` gets its first `room` bytes, and JG_LINE bytes hold each. Else JG_CLOSED, JG_NO_MEMORY;
+ * of a question JG_BAD_THREAD, JG_BAD_VALUE, JG_NO_FUNCTION; of a fact JG_BAD_FACT. JG_NO_TEXT: the function isn't in
+ * the table or takes other operands, no object can be of the class, or the line would be too long.
+ */
+int64_t jg_question_line(jg_core *core, uint32_t thread, const jg_value *env, uint32_t function,
+                         const jg_value *operands, size_t count, uint8_t *line, size_t room);
+int64_t jg_fact_line(jg_core *core, const jg_fact *fact, uint8_t *line, size_t room);
+
+/*
+ * The line of objects that are gone at once, by their numbers, told by this thread, which may be 0; as jg_fact_line,
+ * and JG_BAD_THREAD. No object at all has no text.
+ */
+int64_t jg_gone_line(jg_core *core, uint32_t thread, const uint64_t *objects, size_t count, uint8_t *line,
+                     size_t room);
+
+/* The line that tells the bounds by which the core judges; as jg_fact_line. It stands before the first question. */
+int64_t jg_bounds_line(jg_core *core, uint8_t *line, size_t room);
+
+/*
+ * What is left behind by all that was told, a line each, as `jg watch --leaks` lists it: references, then buffers, then
+ * monitors. How long the text is, 0 where nothing is left, of which `text` gets the first `room` bytes; else JG_CLOSED,
+ * JG_NO_MEMORY.
+ */
+int64_t jg_core_leaks(jg_core *core, uint8_t *text, size_t room);
+
+/*
+ * The number of the setup's class of this name, which is `size` bytes as JNI spells it: java/lang/String. Else
+ * JG_CLOSED, JG_NO_NAME, JG_NO_MEMORY.
+ */
+int64_t jg_class_named(jg_core *core, const uint8_t *name, size_t size);
+
+/*
+ * The number, from 1, of the native method of the class of this number that has this name and this type, as run and
+ * ()V. Else JG_CLOSED, JG_NO_NAME, also where the setup states no such class, JG_NO_MEMORY.
+ */
+int64_t jg_native_named(jg_core *core, uint32_t class_number, const uint8_t *name, size_t size, const uint8_t *type,
+                        size_t type_size);
+
+/*
+ * The number of the class of objects of this kind (JG_KIND_OBJECT and so on), for objects of classes that the setup
+ * doesn't state. Else JG_CLOSED, JG_BAD_VALUE.
+ */
+int64_t jg_class_of(jg_core *core, uint32_t kind);
+
+/* ---- the guard ---- */
+
+typedef struct jg_guard {
+    void *at;
+} jg_guard;
+
+/* Opens a closed handle on a guard with an empty journal of at most `limit` entries; as jg_core_open. */
+int32_t jg_guard_open(const uint8_t *text, size_t size, uint32_t limit, uint32_t version, jg_guard *guard);
+
+/* Lets all go that the guard holds; it is closed then, and may be opened again. 0, or JG_CLOSED. */
+int32_t jg_guard_close(jg_guard *guard);
+
+/*
+ * Answers a line of a script, without its line feed: judges, does and journals its call. How long the entry's line of
+ * the journal is, with its line feed, of which `entry` gets the first `room` bytes: JG_LINE bytes hold each. The call
+ * is journaled also where the room is too small. Else JG_CLOSED, a fault of the line, JG_LIMIT, JG_NO_MEMORY; then the
+ * line is no entry. JG_UNWRITTEN: it is one, and memory ran out for its text; jg_newest_line writes it later.
+ */
+int64_t jg_call_line(jg_guard *guard, const uint8_t *line, size_t size, uint8_t *entry, size_t room);
+
+/*
+ * Writes the line of the journal's newest entry again, as jg_call_line does. How long it is, 0 where the journal is
+ * empty; else JG_CLOSED, JG_NO_MEMORY.
+ */
+int64_t jg_newest_line(jg_guard *guard, uint8_t *entry, size_t room);
+
+/* The most bytes that a line of a journal has, with its line feed. A line of a record has no more. */
+#define JG_LINE 65537
+
+/*
+ * The number of the first rule that the line's call would break now, 0 for none; nothing is done or journaled. Else
+ * JG_CLOSED, a fault of the line, JG_NO_MEMORY.
+ */
+int32_t jg_judge_line(jg_guard *guard, const uint8_t *line, size_t size);
+
+/* What the journal leaves behind, as `jg --leaks` lists it; as jg_core_leaks. */
+int64_t jg_guard_leaks(jg_guard *guard, uint8_t *text, size_t room);
+
+/*
+ * Why the newest denied call was denied, as `jg --explain` says it (docs/EXPLAINING.md); as jg_core_leaks, and
+ * JG_NO_RULE where none was.
+ */
+int64_t jg_guard_explain(jg_guard *guard, uint8_t *text, size_t room);
+
+/* ---- texts ---- */
+
+/* These need no handle, and may be called by several threads at once. */
+
+/* The version of jg, such as 0.2.0. How long it is, as above. */
+int64_t jg_version(uint8_t *text, size_t room);
+
+/*
+ * The name of the rule, what it demands, and what helps where it is broken: for 1 to 17, else JG_NO_RULE. A name is
+ * short, such as `DeadReference`. The other texts are a sentence each, without a line feed, as `jg --explain` says them
+ * behind `rule:` and `help:`.
+ */
+int64_t jg_rule_name(uint32_t rule, uint8_t *text, size_t room);
+int64_t jg_rule_text(uint32_t rule, uint8_t *text, size_t room);
+int64_t jg_help_text(uint32_t rule, uint8_t *text, size_t room);
+
+/*
+ * The name of the error of this number, as it stands above without JG_: BAD_TICKET. JG_BAD_VALUE where no error has
+ * that number.
+ */
+int64_t jg_error_name(int32_t number, uint8_t *text, size_t room);
+
+#ifdef __cplusplus
+}
+#endif
+
+/* ---- tests for null ---- */
+
+/*
+ * The library takes each pointer as it is. So each call above has a function here that answers JG_NULL_POINTER where a
+ * pointer is null that may not be, and else makes the call. An array or a text of nothing may be null. These functions
+ * have the plain names from here on: `jg_ask` is `jg_checked_ask`.
+ */
+#ifndef JG_NO_CHECKS
+
+static inline int32_t jg_checked_core_open(const uint8_t *text, size_t size, const jg_bounds *bounds, uint32_t version,
+                                           jg_core *core) {
+    const uint8_t none = 0;
+    if ((!text && size) || !bounds || !core) {
+        return JG_NULL_POINTER;
+    }
+    return jg_core_open(text ? text : &none, size, bounds, version, core);
+}
+
+static inline int32_t jg_checked_core_close(jg_core *core) {
+    if (!core) {
+        return JG_NULL_POINTER;
+    }
+    return jg_core_close(core);
+}
+
+static inline int32_t jg_checked_ask(jg_core *core, uint32_t thread, const jg_value *env, uint32_t function,
+                                     const jg_value *operands, size_t count, jg_verdict *verdict) {
+    const jg_value none = {0, 0, 0};
+    if (!core || !env || (!operands && count) || !verdict) {
+        return JG_NULL_POINTER;
+    }
+    return jg_ask(core, thread, env, function, operands ? operands : &none, count, verdict);
+}
+
+static inline int32_t jg_checked_ending(jg_core *core, uint32_t thread, const jg_value *env, uint32_t function,
+                                        const jg_value *operands, size_t count, jg_verdict *verdict,
+                                        jg_value *given) {
+    const jg_value none = {0, 0, 0};
+    if (!core || !env || (!operands && count) || !verdict || !given) {
+        return JG_NULL_POINTER;
+    }
+    return jg_ending(core, thread, env, function, operands ? operands : &none, count, verdict, given);
+}
+
+static inline int32_t jg_checked_did(jg_core *core, const jg_ticket *ticket, const jg_value *says, jg_value *given) {
+    if (!core || !ticket || !says || !given) {
+        return JG_NULL_POINTER;
+    }
+    return jg_did(core, ticket, says, given);
+}
+
+static inline int32_t jg_checked_told(const jg_ticket *ticket, const jg_value *says, jg_fact *fact) {
+    if (!ticket || !says || !fact) {
+        return JG_NULL_POINTER;
+    }
+    return jg_told(ticket, says, fact);
+}
+
+static inline int32_t jg_checked_tell(jg_core *core, const jg_fact *fact, jg_value *given) {
+    if (!core || !fact || !given) {
+        return JG_NULL_POINTER;
+    }
+    return jg_tell(core, fact, given);
+}
+
+static inline int32_t jg_checked_gone(jg_core *core, const uint64_t *objects, size_t count, uint64_t *held) {
+    const uint64_t none = 0;
+    if (!core || (!objects && count) || !held) {
+        return JG_NULL_POINTER;
+    }
+    return jg_gone(core, objects ? objects : &none, count, held);
+}
+
+static inline int64_t jg_checked_question_line(jg_core *core, uint32_t thread, const jg_value *env, uint32_t function,
+                                               const jg_value *operands, size_t count, uint8_t *line, size_t room) {
+    const jg_value none = {0, 0, 0};
+    uint8_t nowhere = 0;
+    if (!core || !env || (!operands && count) || (!line && room)) {
+        return JG_NULL_POINTER;
+    }
+    return jg_question_line(core, thread, env, function, operands ? operands : &none, count, line ? line : &nowhere,
+                            room);
+}
+
+static inline int64_t jg_checked_fact_line(jg_core *core, const jg_fact *fact, uint8_t *line, size_t room) {
+    uint8_t nowhere = 0;
+    if (!core || !fact || (!line && room)) {
+        return JG_NULL_POINTER;
+    }
+    return jg_fact_line(core, fact, line ? line : &nowhere, room);
+}
+
+static inline int64_t jg_checked_gone_line(jg_core *core, uint32_t thread, const uint64_t *objects, size_t count,
+                                           uint8_t *line, size_t room) {
+    const uint64_t none = 0;
+    uint8_t nowhere = 0;
+    if (!core || (!objects && count) || (!line && room)) {
+        return JG_NULL_POINTER;
+    }
+    return jg_gone_line(core, thread, objects ? objects : &none, count, line ? line : &nowhere, room);
+}
+
+static inline int64_t jg_checked_bounds_line(jg_core *core, uint8_t *line, size_t room) {
+    uint8_t nowhere = 0;
+    if (!core || (!line && room)) {
+        return JG_NULL_POINTER;
+    }
+    return jg_bounds_line(core, line ? line : &nowhere, room);
+}
+
+static inline int64_t jg_checked_core_leaks(jg_core *core, uint8_t *text, size_t room) {
+    uint8_t nowhere = 0;
+    if (!core || (!text && room)) {
+        return JG_NULL_POINTER;
+    }
+    return jg_core_leaks(core, text ? text : &nowhere, room);
+}
+
+static inline int64_t jg_checked_class_named(jg_core *core, const uint8_t *name, size_t size) {
+    const uint8_t none = 0;
+    if (!core || (!name && size)) {
+        return JG_NULL_POINTER;
+    }
+    return jg_class_named(core, name ? name : &none, size);
+}
+
+static inline int64_t jg_checked_native_named(jg_core *core, uint32_t class_number, const uint8_t *name, size_t size,
+                                              const uint8_t *type, size_t type_size) {
+    const uint8_t none = 0;
+    if (!core || (!name && size) || (!type && type_size)) {
+        return JG_NULL_POINTER;
+    }
+    return jg_native_named(core, class_number, name ? name : &none, size, type ? type : &none, type_size);
+}
+
+static inline int64_t jg_checked_class_of(jg_core *core, uint32_t kind) {
+    if (!core) {
+        return JG_NULL_POINTER;
+    }
+    return jg_class_of(core, kind);
+}
+
+static inline int32_t jg_checked_guard_open(const uint8_t *text, size_t size, uint32_t limit, uint32_t version,
+                                            jg_guard *guard) {
+    const uint8_t none = 0;
+    if ((!text && size) || !guard) {
+        return JG_NULL_POINTER;
+    }
+    return jg_guard_open(text ? text : &none, size, limit, version, guard);
+}
+
+static inline int32_t jg_checked_guard_close(jg_guard *guard) {
+    if (!guard) {
+        return JG_NULL_POINTER;
+    }
+    return jg_guard_close(guard);
+}
+
+static inline int64_t jg_checked_call_line(jg_guard *guard, const uint8_t *line, size_t size, uint8_t *entry,
+                                           size_t room) {
+    const uint8_t none = 0;
+    uint8_t nowhere = 0;
+    if (!guard || (!line && size) || (!entry && room)) {
+        return JG_NULL_POINTER;
+    }
+    return jg_call_line(guard, line ? line : &none, size, entry ? entry : &nowhere, room);
+}
+
+static inline int64_t jg_checked_newest_line(jg_guard *guard, uint8_t *entry, size_t room) {
+    uint8_t nowhere = 0;
+    if (!guard || (!entry && room)) {
+        return JG_NULL_POINTER;
+    }
+    return jg_newest_line(guard, entry ? entry : &nowhere, room);
+}
+
+static inline int32_t jg_checked_judge_line(jg_guard *guard, const uint8_t *line, size_t size) {
+    const uint8_t none = 0;
+    if (!guard || (!line && size)) {
+        return JG_NULL_POINTER;
+    }
+    return jg_judge_line(guard, line ? line : &none, size);
+}
+
+static inline int64_t jg_checked_guard_leaks(jg_guard *guard, uint8_t *text, size_t room) {
+    uint8_t nowhere = 0;
+    if (!guard || (!text && room)) {
+        return JG_NULL_POINTER;
+    }
+    return jg_guard_leaks(guard, text ? text : &nowhere, room);
+}
+
+static inline int64_t jg_checked_guard_explain(jg_guard *guard, uint8_t *text, size_t room) {
+    uint8_t nowhere = 0;
+    if (!guard || (!text && room)) {
+        return JG_NULL_POINTER;
+    }
+    return jg_guard_explain(guard, text ? text : &nowhere, room);
+}
+
+static inline int64_t jg_checked_version(uint8_t *text, size_t room) {
+    uint8_t nowhere = 0;
+    if (!text && room) {
+        return JG_NULL_POINTER;
+    }
+    return jg_version(text ? text : &nowhere, room);
+}
+
+static inline int64_t jg_checked_rule_name(uint32_t rule, uint8_t *text, size_t room) {
+    uint8_t nowhere = 0;
+    if (!text && room) {
+        return JG_NULL_POINTER;
+    }
+    return jg_rule_name(rule, text ? text : &nowhere, room);
+}
+
+static inline int64_t jg_checked_rule_text(uint32_t rule, uint8_t *text, size_t room) {
+    uint8_t nowhere = 0;
+    if (!text && room) {
+        return JG_NULL_POINTER;
+    }
+    return jg_rule_text(rule, text ? text : &nowhere, room);
+}
+
+static inline int64_t jg_checked_help_text(uint32_t rule, uint8_t *text, size_t room) {
+    uint8_t nowhere = 0;
+    if (!text && room) {
+        return JG_NULL_POINTER;
+    }
+    return jg_help_text(rule, text ? text : &nowhere, room);
+}
+
+static inline int64_t jg_checked_error_name(int32_t number, uint8_t *text, size_t room) {
+    uint8_t nowhere = 0;
+    if (!text && room) {
+        return JG_NULL_POINTER;
+    }
+    return jg_error_name(number, text ? text : &nowhere, room);
+}
+
+#define jg_core_open jg_checked_core_open
+#define jg_core_close jg_checked_core_close
+#define jg_ask jg_checked_ask
+#define jg_ending jg_checked_ending
+#define jg_did jg_checked_did
+#define jg_told jg_checked_told
+#define jg_tell jg_checked_tell
+#define jg_gone jg_checked_gone
+#define jg_question_line jg_checked_question_line
+#define jg_fact_line jg_checked_fact_line
+#define jg_gone_line jg_checked_gone_line
+#define jg_bounds_line jg_checked_bounds_line
+#define jg_core_leaks jg_checked_core_leaks
+#define jg_class_named jg_checked_class_named
+#define jg_native_named jg_checked_native_named
+#define jg_class_of jg_checked_class_of
+#define jg_guard_open jg_checked_guard_open
+#define jg_guard_close jg_checked_guard_close
+#define jg_call_line jg_checked_call_line
+#define jg_newest_line jg_checked_newest_line
+#define jg_judge_line jg_checked_judge_line
+#define jg_guard_leaks jg_checked_guard_leaks
+#define jg_guard_explain jg_checked_guard_explain
+#define jg_version jg_checked_version
+#define jg_rule_name jg_checked_rule_name
+#define jg_rule_text jg_checked_rule_text
+#define jg_help_text jg_checked_help_text
+#define jg_error_name jg_checked_error_name
+
+#endif
+
+/* ---- making values ---- */
+
+/* The bytes of a C string, for calls that take a text; their size is `strlen(text)`. */
+static inline const uint8_t *jg_bytes(const char *text) {
+    return (const uint8_t *)text;
+}
+
+/* The bounds of a real machine: none. */
+static inline jg_bounds jg_no_bounds(void) {
+    jg_bounds bounds;
+    bounds.capacity = INT32_MAX;
+    bounds.length = INT32_MAX;
+    bounds.items = INT32_MAX;
+    return bounds;
+}
+
+/* A value of these fields. The functions below say which values there are. */
+static inline jg_value jg_value_of(uint32_t kind, uint32_t detail, uint64_t number) {
+    jg_value value;
+    value.kind = kind;
+    value.detail = detail;
+    value.number = number;
+    return value;
+}
+
+/* No environment; or what a machine says: the call was done. */
+static inline jg_value jg_nothing(void) {
+    return jg_value_of(JG_NOTHING, 0, 0);
+}
+
+/* NULL: no reference, no object; or what a machine says: the call answered NULL. */
+static inline jg_value jg_null(void) {
+    return jg_value_of(JG_NULL, 0, 0);
+}
+
+/* The local reference that the thread `maker` was handed as its reference of this number: L1.2 is jg_local(1, 2). */
+static inline jg_value jg_local(uint32_t maker, uint64_t number) {
+    return jg_value_of(JG_LOCAL, maker, number);
+}
+
+static inline jg_value jg_global(uint32_t maker, uint64_t number) {
+    return jg_value_of(JG_GLOBAL, maker, number);
+}
+
+static inline jg_value jg_weak(uint32_t maker, uint64_t number) {
+    return jg_value_of(JG_WEAK, maker, number);
+}
+
+/* The buffer that the thread `maker` was lent as its buffer of this number: B1.2 is jg_buffer(1, 2). */
+static inline jg_value jg_buffer(uint32_t maker, uint64_t number) {
+    return jg_value_of(JG_BUFFER, maker, number);
+}
+
+/* The environment of the thread's session of this number, counted from 1: E1.2 is jg_environment(1, 2). */
+static inline jg_value jg_environment(uint32_t thread, uint64_t session) {
+    return jg_value_of(JG_ENVIRONMENT, thread, session);
+}
+
+/* The object of this number; the class object of a class that the setup states has its class's. */
+static inline jg_value jg_object(uint64_t number) {
+    return jg_value_of(JG_OBJECT, 0, number);
+}
+
+/* A number that a rule bounds: a capacity, a length, a count, a mode, an index of a buffer. */
+static inline jg_value jg_number(int32_t number) {
+    int64_t wide = number;
+    return jg_value_of(JG_NUMBER, 0, (uint64_t)wide);
+}
+
+/* Any other number, or a value of a field or an item; of a float and a double its bits. */
+static inline jg_value jg_any_number(int64_t number) {
+    return jg_value_of(JG_ANY_NUMBER, 0, (uint64_t)number);
+}
+
+/* The ID of a field or a method: whether it fits (not 0) the object, the function's type, and static or not. */
+static inline jg_value jg_id(int fits) {
+    return jg_value_of(JG_ID, fits != 0, 0);
+}
+
+/* The name of the class of this number; and of a class that the setup doesn't state. */
+static inline jg_value jg_class(uint32_t number) {
+    return jg_value_of(JG_CLASS, 1, number);
+}
+
+static inline jg_value jg_no_class(void) {
+    return jg_value_of(JG_CLASS, 0, 0);
+}
+
+/* The native method of this number in its class, counted from 1; and one that the setup doesn't state. */
+static inline jg_value jg_native(uint32_t number) {
+    return jg_value_of(JG_NATIVE, 1, number);
+}
+
+static inline jg_value jg_no_native(void) {
+    return jg_value_of(JG_NATIVE, 0, 0);
+}
+
+/* A name of which no rule speaks, whatever it is. */
+static inline jg_value jg_name(void) {
+    return jg_value_of(JG_NAME, 0, 0);
+}
+
+/* A list of so many items, and whether each is of its type (not 0). Of a text in modified UTF-8: whether it is one. */
+static inline jg_value jg_list(uint64_t count, int fits) {
+    return jg_value_of(JG_LIST, fits != 0, count);
+}
+
+/* What a machine says: it lent a buffer of so many items; it threw this object. */
+static inline jg_value jg_items(uint32_t count) {
+    return jg_value_of(JG_ITEMS, 0, count);
+}
+
+static inline jg_value jg_threw(jg_value object) {
+    return jg_value_of(JG_THREW, 0, object.number);
+}
+
+/* Whether two names are the same. */
+static inline int jg_is_same(jg_value one, jg_value other) {
+    return one.kind == other.kind && one.detail == other.detail && one.number == other.number;
+}
+
+/* ---- telling facts ---- */
+
+/* A fact of these fields; where it doesn't have one, hand in jg_nothing() or 0. */
+static inline jg_fact jg_fact_of(uint32_t word, uint32_t thread, jg_value name, jg_value object, uint32_t first,
+                                 uint32_t second) {
+    jg_fact fact;
+    fact.word = word;
+    fact.thread = thread;
+    fact.name = name;
+    fact.object = object;
+    fact.first = first;
+    fact.second = second;
+    return fact;
+}
+
+/* Tells a fact. `given` may be null here and below: then the name isn't wanted. */
+static inline int32_t jg_tell_of(jg_core *core, jg_fact fact, jg_value *given) {
+    jg_value unwanted;
+    return jg_tell(core, &fact, given ? given : &unwanted);
+}
+
+/*
+ * A function for each fact. Each answers as jg_tell does. `thread` is a number from 1 to 65,535, and where it only says
+ * who tells it, 0 too. Objects, references and buffers are the values that the core gave.
+ */
+
+/* A session of the thread begins: it has none. `env` gets its environment. */
+static inline int32_t jg_begins(jg_core *core, uint32_t thread, jg_value *env) {
+    return jg_tell_of(core, jg_fact_of(JG_BEGINS, thread, jg_nothing(), jg_null(), 0, 0), env);
+}
+
+/* The thread's session ends, with all that is open in it. */
+static inline int32_t jg_ends(jg_core *core, uint32_t thread) {
+    return jg_tell_of(core, jg_fact_of(JG_ENDS, thread, jg_nothing(), jg_null(), 0, 0), NULL);
+}
+
+/* The thread enters a native method, with nothing pending. What it is handed is told after that, by jg_got. */
+static inline int32_t jg_enters(jg_core *core, uint32_t thread) {
+    return jg_tell_of(core, jg_fact_of(JG_ENTERS, thread, jg_nothing(), jg_null(), 0, 0), NULL);
+}
+
+/*
+ * It leaves the method, whose frames and locals end, and nothing is pending. `kept` is jg_null() where Java called the
+ * method. Else it is the object that the thread's own native code is handed, of which `local` gets the reference.
+ */
+static inline int32_t jg_leaves(jg_core *core, uint32_t thread, jg_value kept, jg_value *local) {
+    return jg_tell_of(core, jg_fact_of(JG_LEAVES, thread, jg_nothing(), kept, 0, 0), local);
+}
+
+/* It pushed a frame with room for so many local references. */
+static inline int32_t jg_pushed(jg_core *core, uint32_t thread, uint32_t room) {
+    return jg_tell_of(core, jg_fact_of(JG_PUSHED, thread, jg_nothing(), jg_null(), room, 0), NULL);
+}
+
+/* It popped a frame, whose locals end, and kept the object or jg_null(). `local` gets the reference to what it kept. */
+static inline int32_t jg_popped(jg_core *core, uint32_t thread, jg_value kept, jg_value *local) {
+    return jg_tell_of(core, jg_fact_of(JG_POPPED, thread, jg_nothing(), kept, 0, 0), local);
+}
+
+/* Its newest frame has room for so many more. */
+static inline int32_t jg_ensured(jg_core *core, uint32_t thread, uint32_t room) {
+    return jg_tell_of(core, jg_fact_of(JG_ENSURED, thread, jg_nothing(), jg_null(), room, 0), NULL);
+}
+
+/* The object is pending in the thread as its exception; nothing is. */
+static inline int32_t jg_raised(jg_core *core, uint32_t thread, jg_value object) {
+    return jg_tell_of(core, jg_fact_of(JG_RAISED, thread, jg_nothing(), object, 0, 0), NULL);
+}
+
+static inline int32_t jg_calmed(jg_core *core, uint32_t thread) {
+    return jg_tell_of(core, jg_fact_of(JG_CALMED, thread, jg_nothing(), jg_null(), 0, 0), NULL);
+}
+
+/* The thread was handed a reference to the object: `kind` is JG_LOCAL, JG_GLOBAL or JG_WEAK. */
+static inline int32_t jg_got(jg_core *core, uint32_t thread, uint32_t kind, jg_value object, jg_value *reference) {
+    return jg_tell_of(core, jg_fact_of(JG_GOT, thread, jg_nothing(), object, kind, 0), reference);
+}
+
+/* The reference ended. */
+static inline int32_t jg_lost(jg_core *core, uint32_t thread, jg_value reference) {
+    return jg_tell_of(core, jg_fact_of(JG_LOST, thread, reference, jg_null(), 0, 0), NULL);
+}
+
+/*
+ * The thread was lent a buffer of the object, of so many items, by a function of the family (JG_BOOLEANS and so on).
+ * `by` is the reference that a critical buffer was asked for by, and of the other families jg_null().
+ */
+static inline int32_t jg_lent(jg_core *core, uint32_t thread, uint32_t family, jg_value object, jg_value by,
+                              uint32_t length, jg_value *buffer) {
+    return jg_tell_of(core, jg_fact_of(JG_LENT, thread, by, object, family, length), buffer);
+}
+
+/* The buffer was given back. */
+static inline int32_t jg_gave(jg_core *core, uint32_t thread, jg_value buffer) {
+    return jg_tell_of(core, jg_fact_of(JG_GAVE, thread, buffer, jg_null(), 0, 0), NULL);
+}
+
+/* The thread entered the object's monitor once more; it exited it once. */
+static inline int32_t jg_owns(jg_core *core, uint32_t thread, jg_value object) {
+    return jg_tell_of(core, jg_fact_of(JG_OWNS, thread, jg_nothing(), object, 0, 0), NULL);
+}
+
+static inline int32_t jg_freed(jg_core *core, uint32_t thread, jg_value object) {
+    return jg_tell_of(core, jg_fact_of(JG_FREED, thread, jg_nothing(), object, 0, 0), NULL);
+}
+
+/*
+ * There is a next object, of the class (jg_class_named, jg_class_of) and so long: an array in items, a string
+ * in UTF-16 units, another 0. `object` gets its name: keep it beside the machine's object.
+ */
+static inline int32_t jg_met(jg_core *core, uint32_t thread, uint32_t class_number, uint32_t length,
+                             jg_value *object) {
+    return jg_tell_of(core, jg_fact_of(JG_MET, thread, jg_nothing(), jg_null(), class_number, length), object);
+}
+
+/* The collector let one object go. Of several at once, and of which one can't be, jg_gone tells. */
+static inline int32_t jg_gone_one(jg_core *core, uint32_t thread, jg_value object) {
+    return jg_tell_of(core, jg_fact_of(JG_GONE, thread, jg_nothing(), object, 0, 0), NULL);
+}
+
+/* The native method of the class is linked, by their numbers in the setup; none of the class is. */
+static inline int32_t jg_linked(jg_core *core, uint32_t thread, uint32_t class_number, uint32_t native) {
+    return jg_tell_of(core, jg_fact_of(JG_LINKED, thread, jg_nothing(), jg_null(), class_number, native), NULL);
+}
+
+static inline int32_t jg_unlinked(jg_core *core, uint32_t thread, uint32_t class_number) {
+    return jg_tell_of(core, jg_fact_of(JG_UNLINKED, thread, jg_nothing(), jg_null(), class_number, 0), NULL);
+}
+
+/* The module of this number was warned of. */
+static inline int32_t jg_warned(jg_core *core, uint32_t thread, uint32_t module_number) {
+    return jg_tell_of(core, jg_fact_of(JG_WARNED, thread, jg_nothing(), jg_null(), module_number, 0), NULL);
+}
+
+/*
+ * What the machine answered where the core knows it: the thread's local reference of this number names the object, or
+ * jg_null() for none; this object is pending in the thread, or jg_null(); the object is so long. They change nothing,
+ * and are JG_IMPOSSIBLE where the core was told otherwise: so a mistake in what is told is found at its first wrong
+ * answer.
+ */
+static inline int32_t jg_is_local(jg_core *core, uint32_t thread, uint64_t number, jg_value object) {
+    return jg_tell_of(core, jg_fact_of(JG_IS_LOCAL, thread, jg_local(thread, number), object, 0, 0), NULL);
+}
+
+static inline int32_t jg_is_pending(jg_core *core, uint32_t thread, jg_value object) {
+    return jg_tell_of(core, jg_fact_of(JG_IS_PENDING, thread, jg_nothing(), object, 0, 0), NULL);
+}
+
+static inline int32_t jg_is_length(jg_core *core, uint32_t thread, jg_value object, uint32_t length) {
+    return jg_tell_of(core, jg_fact_of(JG_IS_LENGTH, thread, jg_nothing(), object, 0, length), NULL);
+}
+
+#endif

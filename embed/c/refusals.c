@@ -1,0 +1,497 @@
+/*
+ * refusals.c: what the library refuses. Each call that is handed something bad must answer its error, and change
+ * nothing: what it would write stays as it was, and so does all that the core and the guard know.
+ */
+#include "jg_functions.h"
+#include "texts.h"
+
+static const char SETUP[] = BASE_SETUP "[[class]]\nname = \"app/Main\"\nmodule = \"app\"\n"
+                                       "natives = [{ name = \"run\", type = \"()V\" }]\n";
+
+enum { THREAD = 1, ROOM = 256, FILLER = 0xA5, DEAD_REFERENCE = 6 };
+
+/* How many calls were refused, and how many of them otherwise than they must be. */
+static int refusals, wrong;
+
+/* What the calls may write. It is filled before each, and must stay so. */
+static struct {
+    jg_verdict verdict;
+    jg_value given;
+    jg_fact fact;
+    uint64_t held;
+    uint8_t text[ROOM];
+} out, filled;
+
+static void fill(void) {
+    memset(&out, FILLER, sizeof out);
+    memset(&filled, FILLER, sizeof filled);
+}
+
+static void expect(const char *call, int64_t error, int64_t answer) {
+    refusals++;
+    if (answer != error || memcmp(&out, &filled, sizeof out) != 0) {
+        printf("%s: %ld, not %ld%s\n", call, (long)answer, (long)error,
+               memcmp(&out, &filled, sizeof out) ? ", and something is written" : "");
+        wrong++;
+    }
+    fill();
+}
+
+/* The call must be refused by this error; it must be done, and answer this. */
+#define REFUSED(error, call) expect(#call, error, call)
+#define DONE(answer, call) \
+    do { \
+        int64_t found = (call); \
+        if (found != (answer)) { \
+            printf("%s: %ld, not %ld\n", #call, (long)found, (long)(answer)); \
+            wrong++; \
+        } \
+        fill(); \
+    } while (0)
+
+/* ---- a core that knows something ---- */
+
+/* The core, the thread's environment, an object that nothing holds, a string, and a local reference to that. */
+typedef struct known {
+    jg_core core;
+    jg_value env;
+    jg_value free;
+    jg_value object;
+    jg_value local;
+} known;
+
+static void open_known(known *k) {
+    const jg_bounds bounds = jg_no_bounds();
+    memset(k, 0, sizeof *k);
+    DONE(0, jg_core_open(jg_bytes(SETUP), sizeof SETUP - 1, &bounds, JG_VERSION, &k->core));
+    DONE(0, jg_begins(&k->core, THREAD, &k->env));
+    DONE(0, jg_met(&k->core, THREAD, 2, 0, &k->free));
+    DONE(0, jg_met(&k->core, THREAD, 2, 5, &k->object));
+    DONE(0, jg_got(&k->core, THREAD, JG_LOCAL, k->object, &k->local));
+}
+
+/* All that was told is as it was, and the next names are those that follow. Then closes it. */
+static void close_known(known *k) {
+    static const char LEFT[] = "leak L1.1\n";
+    jg_value next;
+    DONE((int64_t)(sizeof LEFT - 1), jg_core_leaks(&k->core, out.text, sizeof out.text));
+    DONE(0, jg_is_local(&k->core, THREAD, 1, k->object));
+    DONE(0, jg_is_pending(&k->core, THREAD, jg_null()));
+    DONE(0, jg_is_length(&k->core, THREAD, k->object, 5));
+    DONE(0, jg_met(&k->core, THREAD, 2, 0, &next));
+    DONE((int64_t)k->object.number + 1, (int64_t)next.number);
+    DONE(0, jg_got(&k->core, THREAD, JG_LOCAL, next, &next));
+    DONE(2, (int64_t)next.number);
+    DONE(0, jg_core_close(&k->core));
+    REFUSED(JG_CLOSED, jg_core_close(&k->core));
+}
+
+/* ---- handles ---- */
+
+static void refuse_closed_core(void) {
+    const jg_value env = jg_environment(THREAD, 1), operand = jg_null();
+    const jg_fact fact = jg_fact_of(JG_BEGINS, THREAD, jg_nothing(), jg_null(), 0, 0);
+    const uint64_t object = 15;
+    jg_core core = {NULL};
+    jg_ticket ticket;
+    memset(&ticket, 0, sizeof ticket);
+    REFUSED(JG_CLOSED, jg_core_close(&core));
+    REFUSED(JG_CLOSED, jg_ask(&core, THREAD, &env, JG_FN_NewLocalRef, &operand, 1, &out.verdict));
+    REFUSED(JG_CLOSED, jg_ending(&core, THREAD, &env, JG_FN_DeleteLocalRef, &operand, 1, &out.verdict, &out.given));
+    REFUSED(JG_CLOSED, jg_did(&core, &ticket, &operand, &out.given));
+    REFUSED(JG_CLOSED, jg_tell(&core, &fact, &out.given));
+    REFUSED(JG_CLOSED, jg_gone(&core, &object, 1, &out.held));
+    REFUSED(JG_CLOSED, jg_question_line(&core, THREAD, &env, JG_FN_NewLocalRef, &operand, 1, out.text, ROOM));
+    REFUSED(JG_CLOSED, jg_fact_line(&core, &fact, out.text, ROOM));
+    REFUSED(JG_CLOSED, jg_gone_line(&core, THREAD, &object, 1, out.text, ROOM));
+    REFUSED(JG_CLOSED, jg_bounds_line(&core, out.text, ROOM));
+    REFUSED(JG_CLOSED, jg_core_leaks(&core, out.text, ROOM));
+    REFUSED(JG_CLOSED, jg_class_named(&core, jg_bytes("app/Main"), 8));
+    REFUSED(JG_CLOSED, jg_native_named(&core, 15, jg_bytes("run"), 3, jg_bytes("()V"), 3));
+    REFUSED(JG_CLOSED, jg_class_of(&core, JG_KIND_OBJECT));
+    DONE(1, core.at == NULL);
+}
+
+static void refuse_closed_guard(void) {
+    jg_guard guard = {NULL};
+    REFUSED(JG_CLOSED, jg_guard_close(&guard));
+    REFUSED(JG_CLOSED, jg_call_line(&guard, jg_bytes("T1 - GetEnv"), 11, out.text, ROOM));
+    REFUSED(JG_CLOSED, jg_newest_line(&guard, out.text, ROOM));
+    REFUSED(JG_CLOSED, jg_judge_line(&guard, jg_bytes("T1 - GetEnv"), 11));
+    REFUSED(JG_CLOSED, jg_guard_leaks(&guard, out.text, ROOM));
+    REFUSED(JG_CLOSED, jg_guard_explain(&guard, out.text, ROOM));
+    DONE(1, guard.at == NULL);
+}
+
+/* ---- openings ---- */
+
+static const struct {
+    int32_t error;
+    const char *text;
+} FAULTY_SETUPS[] = {
+    {JG_NOT_TOML, "version"},
+    {JG_MISSING, ""},
+    {JG_SETUP_VERSION, "version = 3\nillegal_native_access = \"deny\"\n"},
+    {JG_UNKNOWN_KEY, BASE_SETUP "colour = 1\n"},
+    {JG_BAD_TYPE, "version = \"1\"\nillegal_native_access = \"deny\"\n"},
+    {JG_BAD_MODE, "version = 1\nillegal_native_access = \"no\"\n"},
+    {JG_BAD_NAME, BASE_SETUP "[[class]]\nname = \"app.Main\"\nmodule = \"app\"\n"},
+    {JG_DUPLICATE, BASE_SETUP "[[class]]\nname = \"java/lang/String\"\nmodule = \"app\"\n"},
+};
+
+static void refuse_setups(void) {
+    const jg_bounds bounds = jg_no_bounds();
+    jg_core core = {NULL};
+    jg_guard guard = {NULL};
+    for (size_t at = 0; at < sizeof FAULTY_SETUPS / sizeof *FAULTY_SETUPS; at++) {
+        const uint8_t *text = jg_bytes(FAULTY_SETUPS[at].text);
+        size_t size = strlen(FAULTY_SETUPS[at].text);
+        REFUSED(FAULTY_SETUPS[at].error, jg_core_open(text, size, &bounds, JG_VERSION, &core));
+        REFUSED(FAULTY_SETUPS[at].error, jg_guard_open(text, size, 1, JG_VERSION, &guard));
+    }
+    REFUSED(JG_MISSING, jg_core_open(NULL, 0, &bounds, JG_VERSION, &core));
+    REFUSED(JG_MISSING, jg_guard_open(NULL, 0, 1, JG_VERSION, &guard));
+    DONE(1, core.at == NULL && guard.at == NULL);
+}
+
+/* A setup that enables one module more than it may. */
+static void refuse_many(void) {
+    static char text[8192] = BASE_SETUP "enable_native_access = [";
+    const jg_bounds bounds = jg_no_bounds();
+    size_t size = strlen(text);
+    jg_core core = {NULL};
+    for (int at = 0; at <= 1000; at++) {
+        memcpy(text + size, "\"a\",", 4);
+        size += 4;
+    }
+    memcpy(text + size, "]\n", 2);
+    REFUSED(JG_TOO_MANY, jg_core_open(jg_bytes(text), size + 2, &bounds, JG_VERSION, &core));
+    DONE(1, core.at == NULL);
+}
+
+static void refuse_openings(known *k) {
+    const jg_bounds bounds = jg_no_bounds();
+    const void *at = k->core.at;
+    jg_core core = {NULL};
+    jg_guard guard = {NULL};
+    REFUSED(JG_IS_OPEN, jg_core_open(jg_bytes(SETUP), sizeof SETUP - 1, &bounds, JG_VERSION, &k->core));
+    REFUSED(JG_BAD_VERSION, jg_core_open(jg_bytes(SETUP), sizeof SETUP - 1, &bounds, JG_VERSION + 1, &core));
+    REFUSED(JG_BAD_VERSION, jg_core_open(jg_bytes(SETUP), sizeof SETUP - 1, &bounds, 0, &core));
+    REFUSED(JG_BAD_VERSION, jg_guard_open(jg_bytes(SETUP), sizeof SETUP - 1, 1, JG_VERSION + 1, &guard));
+    DONE(1, k->core.at == at && core.at == NULL && guard.at == NULL);
+}
+
+/* ---- questions ---- */
+
+static void refuse_heads(known *k) {
+    static const uint32_t KINDS[] = {JG_NULL, JG_LOCAL, JG_OBJECT, JG_NUMBER, JG_THREW, JG_THREW + 1, UINT32_MAX};
+    const jg_value *env = &k->env, *local = &k->local, far = jg_environment(65536, 1);
+    REFUSED(JG_BAD_THREAD, jg_ask(&k->core, 65536, env, JG_FN_NewLocalRef, local, 1, &out.verdict));
+    REFUSED(JG_BAD_THREAD, jg_ask(&k->core, UINT32_MAX, env, JG_FN_NewLocalRef, local, 1, &out.verdict));
+    REFUSED(JG_BAD_VALUE, jg_ask(&k->core, THREAD, &far, JG_FN_NewLocalRef, local, 1, &out.verdict));
+    for (size_t at = 0; at < sizeof KINDS / sizeof *KINDS; at++) {
+        const jg_value none = jg_value_of(KINDS[at], 0, 0);
+        REFUSED(JG_BAD_VALUE, jg_ask(&k->core, THREAD, &none, JG_FN_NewLocalRef, local, 1, &out.verdict));
+    }
+    REFUSED(JG_NO_FUNCTION, jg_ask(&k->core, THREAD, env, JG_FUNCTIONS, local, 1, &out.verdict));
+    REFUSED(JG_NO_FUNCTION, jg_ask(&k->core, THREAD, env, 65536 + JG_FN_NewLocalRef, local, 1, &out.verdict));
+    REFUSED(JG_NO_FUNCTION, jg_ending(&k->core, THREAD, env, UINT32_MAX, local, 1, &out.verdict, &out.given));
+}
+
+static void refuse_operands(known *k) {
+    static const uint32_t KINDS[] = {JG_NOTHING, JG_ENVIRONMENT, JG_OBJECT, JG_ITEMS, JG_THREW, 17, UINT32_MAX};
+    const jg_value *env = &k->env, far = jg_local(65536, 1), number = jg_number(1);
+    jg_value two[2];
+    two[0] = two[1] = k->local;
+    REFUSED(JG_MISFIT, jg_ask(&k->core, THREAD, env, JG_FN_DeleteLocalRef, two, 2, &out.verdict));
+    REFUSED(JG_MISFIT, jg_ask(&k->core, THREAD, env, JG_FN_DeleteLocalRef, two, 0, &out.verdict));
+    REFUSED(JG_MISFIT, jg_ask(&k->core, THREAD, env, JG_FN_DeleteLocalRef, NULL, 0, &out.verdict));
+    REFUSED(JG_MISFIT, jg_ask(&k->core, THREAD, env, JG_FN_DeleteLocalRef, &number, 1, &out.verdict));
+    REFUSED(JG_MISFIT, jg_ending(&k->core, THREAD, env, JG_FN_DeleteLocalRef, two, 2, &out.verdict, &out.given));
+    REFUSED(JG_NO_TEXT, jg_question_line(&k->core, THREAD, env, JG_FN_DeleteLocalRef, two, 2, out.text, ROOM));
+    REFUSED(JG_NO_TEXT, jg_question_line(&k->core, THREAD, env, JG_FN_DeleteLocalRef, &number, 1, out.text, ROOM));
+    REFUSED(JG_NO_TEXT, jg_question_line(&k->core, THREAD, env, JG_FUNCTIONS, two, 1, out.text, ROOM));
+    REFUSED(JG_BAD_VALUE, jg_ask(&k->core, THREAD, env, JG_FN_DeleteLocalRef, &far, 1, &out.verdict));
+    for (size_t at = 0; at < sizeof KINDS / sizeof *KINDS; at++) {
+        const jg_value other = jg_value_of(KINDS[at], 0, 0);
+        REFUSED(JG_BAD_VALUE, jg_ask(&k->core, THREAD, env, JG_FN_DeleteLocalRef, &other, 1, &out.verdict));
+        REFUSED(JG_BAD_VALUE,
+                jg_ending(&k->core, THREAD, env, JG_FN_DeleteLocalRef, &other, 1, &out.verdict, &out.given));
+        REFUSED(JG_BAD_VALUE,
+                jg_question_line(&k->core, THREAD, env, JG_FN_DeleteLocalRef, &other, 1, out.text, ROOM));
+    }
+}
+
+/* ---- what came of calls ---- */
+
+static void refuse_tickets(known *k) {
+    const jg_value nothing = jg_nothing(), dead = jg_local(THREAD, 99);
+    jg_verdict verdict;
+    DONE(0, jg_ask(&k->core, THREAD, &k->env, JG_FN_DeleteLocalRef, &dead, 1, &verdict));
+    DONE(DEAD_REFERENCE, (int64_t)verdict.rule);
+    REFUSED(JG_BAD_TICKET, jg_did(&k->core, &verdict.ticket, &nothing, &out.given));
+    REFUSED(JG_BAD_TICKET, jg_told(&verdict.ticket, &nothing, &out.fact));
+    DONE(0, jg_ending(&k->core, THREAD, &k->env, JG_FN_DeleteLocalRef, &dead, 1, &verdict, &out.given));
+    REFUSED(JG_BAD_TICKET, jg_told(&verdict.ticket, &nothing, &out.fact));
+}
+
+static void refuse_answers(known *k) {
+    static const uint32_t KINDS[] = {JG_LOCAL, JG_BUFFER, JG_ENVIRONMENT, JG_NUMBER, JG_LIST, JG_THREW + 1, UINT32_MAX};
+    const jg_value many = jg_value_of(JG_ITEMS, 0, (uint64_t)UINT32_MAX + 1), nothing = jg_nothing();
+    jg_verdict verdict;
+    DONE(0, jg_ask(&k->core, THREAD, &k->env, JG_FN_DeleteLocalRef, &k->local, 1, &verdict));
+    for (size_t at = 0; at < sizeof KINDS / sizeof *KINDS; at++) {
+        const jg_value other = jg_value_of(KINDS[at], 0, 0);
+        REFUSED(JG_BAD_VALUE, jg_did(&k->core, &verdict.ticket, &other, &out.given));
+        REFUSED(JG_BAD_VALUE, jg_told(&verdict.ticket, &other, &out.fact));
+    }
+    REFUSED(JG_BAD_VALUE, jg_did(&k->core, &verdict.ticket, &many, &out.given));
+    REFUSED(JG_IMPOSSIBLE, jg_did(&k->core, &verdict.ticket, &k->object, &out.given));
+    REFUSED(JG_IMPOSSIBLE, jg_told(&verdict.ticket, &k->object, &out.fact));
+    DONE(0, jg_ask(&k->core, THREAD, &k->env, JG_FN_GetStringLength, &k->local, 1, &verdict));
+    /* Nothing is told of it, and nothing is written. */
+    REFUSED(0, jg_told(&verdict.ticket, &nothing, &out.fact));
+}
+
+/* ---- facts ---- */
+
+static void refuse_facts(known *k) {
+    const jg_value none = jg_nothing(), null = jg_null(), far = jg_value_of(JG_LOCAL, 65536, 1);
+    const jg_fact facts[] = {
+        jg_fact_of(0, THREAD, none, null, 0, 0),
+        jg_fact_of(JG_IS_LENGTH + 1, THREAD, none, null, 0, 0),
+        jg_fact_of(UINT32_MAX, THREAD, none, null, 0, 0),
+        jg_fact_of(JG_BEGINS, 65536, none, null, 0, 0),
+        jg_fact_of(JG_GOT, THREAD, none, k->object, JG_NULL, 0),
+        jg_fact_of(JG_GOT, THREAD, none, null, JG_LOCAL, 0),
+        jg_fact_of(JG_LENT, THREAD, null, k->object, JG_CRITICAL_STRING + 1, 0),
+        jg_fact_of(JG_LOST, THREAD, jg_number(1), null, 0, 0),
+        jg_fact_of(JG_LOST, THREAD, far, null, 0, 0),
+        jg_fact_of(JG_GAVE, THREAD, k->local, null, 0, 0),
+        jg_fact_of(JG_LEAVES, THREAD, none, none, 0, 0),
+        jg_fact_of(JG_RAISED, THREAD, none, k->local, 0, 0),
+    };
+    for (size_t at = 0; at < sizeof facts / sizeof *facts; at++) {
+        REFUSED(JG_BAD_FACT, jg_tell(&k->core, &facts[at], &out.given));
+        REFUSED(JG_BAD_FACT, jg_fact_line(&k->core, &facts[at], out.text, ROOM));
+    }
+}
+
+static void refuse_impossible(known *k) {
+    const uint64_t objects[] = {k->free.number, k->object.number}, unknown = 1000;
+    uint64_t held = 9;
+    REFUSED(JG_IMPOSSIBLE, jg_begins(&k->core, THREAD, &out.given));
+    REFUSED(JG_IMPOSSIBLE, jg_ends(&k->core, THREAD + 1));
+    REFUSED(JG_IMPOSSIBLE, jg_lost(&k->core, THREAD, jg_local(THREAD, 2)));
+    REFUSED(JG_IMPOSSIBLE, jg_gave(&k->core, THREAD, jg_buffer(THREAD, 1)));
+    REFUSED(JG_IMPOSSIBLE, jg_got(&k->core, THREAD, JG_GLOBAL, jg_object(1000), &out.given));
+    REFUSED(JG_IMPOSSIBLE, jg_is_length(&k->core, THREAD, k->object, 6));
+    DONE(JG_IMPOSSIBLE, jg_gone(&k->core, objects, 2, &held));
+    DONE(1, (int64_t)held);
+    DONE(JG_IMPOSSIBLE, jg_gone(&k->core, &unknown, 1, &held));
+    DONE(0, (int64_t)held);
+    DONE(0, jg_gone(&k->core, NULL, 0, &held));
+    DONE(0, jg_is_length(&k->core, THREAD, k->free, 0));
+    REFUSED(JG_BAD_THREAD, jg_gone_line(&k->core, 65536, objects, 2, out.text, ROOM));
+    REFUSED(JG_NO_TEXT, jg_gone_line(&k->core, THREAD, objects, 0, out.text, ROOM));
+    REFUSED(JG_NO_TEXT, jg_gone_line(&k->core, THREAD, NULL, 0, out.text, ROOM));
+}
+
+/* ---- names of the setup ---- */
+
+static void refuse_names(known *k) {
+    DONE(0, jg_class_named(&k->core, jg_bytes("java/lang/Object"), 16));
+    DONE(15, jg_class_named(&k->core, jg_bytes("app/Main"), 8));
+    DONE(1, jg_native_named(&k->core, 15, jg_bytes("run"), 3, jg_bytes("()V"), 3));
+    DONE(16 + JG_KIND_DOUBLES, jg_class_of(&k->core, JG_KIND_DOUBLES));
+    REFUSED(JG_NO_NAME, jg_class_named(&k->core, jg_bytes("app/Main"), 7));
+    REFUSED(JG_NO_NAME, jg_class_named(&k->core, jg_bytes("app.Main"), 8));
+    REFUSED(JG_NO_NAME, jg_class_named(&k->core, NULL, 0));
+    REFUSED(JG_NO_NAME, jg_native_named(&k->core, 15, jg_bytes("run"), 2, jg_bytes("()V"), 3));
+    REFUSED(JG_NO_NAME, jg_native_named(&k->core, 15, jg_bytes("run"), 3, jg_bytes("()V"), 2));
+    REFUSED(JG_NO_NAME, jg_native_named(&k->core, 15, jg_bytes("run()V"), 6, NULL, 0));
+    REFUSED(JG_NO_NAME, jg_native_named(&k->core, 0, jg_bytes("run"), 3, jg_bytes("()V"), 3));
+    REFUSED(JG_NO_NAME, jg_native_named(&k->core, 16, jg_bytes("run"), 3, jg_bytes("()V"), 3));
+    REFUSED(JG_NO_NAME, jg_native_named(&k->core, UINT32_MAX, NULL, 0, NULL, 0));
+    REFUSED(JG_BAD_VALUE, jg_class_of(&k->core, JG_KIND_DOUBLES + 1));
+    REFUSED(JG_BAD_VALUE, jg_class_of(&k->core, UINT32_MAX));
+}
+
+/* ---- null pointers ---- */
+
+static void refuse_null_in_questions(known *k) {
+    const jg_value *env = &k->env, *local = &k->local;
+    REFUSED(JG_NULL_POINTER, jg_ask(NULL, THREAD, env, JG_FN_NewLocalRef, local, 1, &out.verdict));
+    REFUSED(JG_NULL_POINTER, jg_ask(&k->core, THREAD, NULL, JG_FN_NewLocalRef, local, 1, &out.verdict));
+    REFUSED(JG_NULL_POINTER, jg_ask(&k->core, THREAD, env, JG_FN_NewLocalRef, NULL, 1, &out.verdict));
+    REFUSED(JG_NULL_POINTER, jg_ask(&k->core, THREAD, env, JG_FN_NewLocalRef, local, 1, NULL));
+    REFUSED(JG_NULL_POINTER, jg_ending(NULL, THREAD, env, JG_FN_DeleteLocalRef, local, 1, &out.verdict, &out.given));
+    REFUSED(JG_NULL_POINTER,
+            jg_ending(&k->core, THREAD, NULL, JG_FN_DeleteLocalRef, local, 1, &out.verdict, &out.given));
+    REFUSED(JG_NULL_POINTER, jg_ending(&k->core, THREAD, env, JG_FN_DeleteLocalRef, NULL, 1, &out.verdict, &out.given));
+    REFUSED(JG_NULL_POINTER, jg_ending(&k->core, THREAD, env, JG_FN_DeleteLocalRef, local, 1, NULL, &out.given));
+    REFUSED(JG_NULL_POINTER, jg_ending(&k->core, THREAD, env, JG_FN_DeleteLocalRef, local, 1, &out.verdict, NULL));
+    REFUSED(JG_NULL_POINTER, jg_question_line(NULL, THREAD, env, JG_FN_NewLocalRef, local, 1, out.text, ROOM));
+    REFUSED(JG_NULL_POINTER, jg_question_line(&k->core, THREAD, NULL, JG_FN_NewLocalRef, local, 1, out.text, ROOM));
+    REFUSED(JG_NULL_POINTER, jg_question_line(&k->core, THREAD, env, JG_FN_NewLocalRef, NULL, 1, out.text, ROOM));
+    REFUSED(JG_NULL_POINTER, jg_question_line(&k->core, THREAD, env, JG_FN_NewLocalRef, local, 1, NULL, ROOM));
+    DONE(18, jg_question_line(&k->core, THREAD, env, JG_FN_GetVersion, NULL, 0, NULL, 0));
+}
+
+static void refuse_null_in_facts(known *k) {
+    const jg_value nothing = jg_nothing();
+    const jg_fact fact = jg_fact_of(JG_ENTERS, THREAD, nothing, jg_null(), 0, 0);
+    const uint64_t object = k->object.number;
+    jg_verdict verdict;
+    DONE(0, jg_ask(&k->core, THREAD, &k->env, JG_FN_DeleteLocalRef, &k->local, 1, &verdict));
+    REFUSED(JG_NULL_POINTER, jg_did(NULL, &verdict.ticket, &nothing, &out.given));
+    REFUSED(JG_NULL_POINTER, jg_did(&k->core, NULL, &nothing, &out.given));
+    REFUSED(JG_NULL_POINTER, jg_did(&k->core, &verdict.ticket, NULL, &out.given));
+    REFUSED(JG_NULL_POINTER, jg_did(&k->core, &verdict.ticket, &nothing, NULL));
+    REFUSED(JG_NULL_POINTER, jg_told(NULL, &nothing, &out.fact));
+    REFUSED(JG_NULL_POINTER, jg_told(&verdict.ticket, NULL, &out.fact));
+    REFUSED(JG_NULL_POINTER, jg_told(&verdict.ticket, &nothing, NULL));
+    REFUSED(JG_NULL_POINTER, jg_tell(NULL, &fact, &out.given));
+    REFUSED(JG_NULL_POINTER, jg_tell(&k->core, NULL, &out.given));
+    REFUSED(JG_NULL_POINTER, jg_tell(&k->core, &fact, NULL));
+    REFUSED(JG_NULL_POINTER, jg_gone(NULL, &object, 1, &out.held));
+    REFUSED(JG_NULL_POINTER, jg_gone(&k->core, NULL, 1, &out.held));
+    REFUSED(JG_NULL_POINTER, jg_gone(&k->core, &object, 1, NULL));
+    REFUSED(JG_NULL_POINTER, jg_enters(NULL, THREAD));
+}
+
+static void refuse_null_in_texts(known *k) {
+    const jg_fact fact = jg_fact_of(JG_ENTERS, THREAD, jg_nothing(), jg_null(), 0, 0);
+    const uint64_t object = k->object.number;
+    REFUSED(JG_NULL_POINTER, jg_fact_line(NULL, &fact, out.text, ROOM));
+    REFUSED(JG_NULL_POINTER, jg_fact_line(&k->core, NULL, out.text, ROOM));
+    REFUSED(JG_NULL_POINTER, jg_fact_line(&k->core, &fact, NULL, 1));
+    REFUSED(JG_NULL_POINTER, jg_gone_line(NULL, THREAD, &object, 1, out.text, ROOM));
+    REFUSED(JG_NULL_POINTER, jg_gone_line(&k->core, THREAD, NULL, 1, out.text, ROOM));
+    REFUSED(JG_NULL_POINTER, jg_gone_line(&k->core, THREAD, &object, 1, NULL, 1));
+    REFUSED(JG_NULL_POINTER, jg_bounds_line(NULL, out.text, ROOM));
+    REFUSED(JG_NULL_POINTER, jg_bounds_line(&k->core, NULL, 1));
+    REFUSED(JG_NULL_POINTER, jg_core_leaks(NULL, out.text, ROOM));
+    REFUSED(JG_NULL_POINTER, jg_core_leaks(&k->core, NULL, 1));
+    REFUSED(JG_NULL_POINTER, jg_class_named(NULL, jg_bytes("app/Main"), 8));
+    REFUSED(JG_NULL_POINTER, jg_class_named(&k->core, NULL, 8));
+    REFUSED(JG_NULL_POINTER, jg_native_named(NULL, 15, jg_bytes("run"), 3, jg_bytes("()V"), 3));
+    REFUSED(JG_NULL_POINTER, jg_native_named(&k->core, 15, NULL, 3, jg_bytes("()V"), 3));
+    REFUSED(JG_NULL_POINTER, jg_native_named(&k->core, 15, jg_bytes("run"), 3, NULL, 3));
+    REFUSED(JG_NULL_POINTER, jg_class_of(NULL, JG_KIND_OBJECT));
+    DONE(9, jg_fact_line(&k->core, &fact, NULL, 0));
+    DONE(10, jg_core_leaks(&k->core, NULL, 0));
+}
+
+static void refuse_null_in_openings(void) {
+    const jg_bounds bounds = jg_no_bounds();
+    jg_core core = {NULL};
+    jg_guard guard = {NULL};
+    REFUSED(JG_NULL_POINTER, jg_core_open(NULL, 1, &bounds, JG_VERSION, &core));
+    REFUSED(JG_NULL_POINTER, jg_core_open(jg_bytes(SETUP), sizeof SETUP - 1, NULL, JG_VERSION, &core));
+    REFUSED(JG_NULL_POINTER, jg_core_open(jg_bytes(SETUP), sizeof SETUP - 1, &bounds, JG_VERSION, NULL));
+    REFUSED(JG_NULL_POINTER, jg_core_close(NULL));
+    REFUSED(JG_NULL_POINTER, jg_guard_open(NULL, 1, 1, JG_VERSION, &guard));
+    REFUSED(JG_NULL_POINTER, jg_guard_open(jg_bytes(SETUP), sizeof SETUP - 1, 1, JG_VERSION, NULL));
+    REFUSED(JG_NULL_POINTER, jg_guard_close(NULL));
+    REFUSED(JG_NULL_POINTER, jg_version(NULL, 1));
+    REFUSED(JG_NULL_POINTER, jg_rule_name(1, NULL, 1));
+    REFUSED(JG_NULL_POINTER, jg_rule_text(1, NULL, 1));
+    REFUSED(JG_NULL_POINTER, jg_help_text(1, NULL, 1));
+    REFUSED(JG_NULL_POINTER, jg_error_name(JG_CLOSED, NULL, 1));
+    DONE(1, jg_version(NULL, 0) > 0 && jg_rule_text(1, NULL, 0) > 0 && jg_help_text(1, NULL, 0) > 0);
+    DONE(11, jg_rule_name(1, NULL, 0));
+    DONE(6, jg_error_name(JG_CLOSED, NULL, 0));
+}
+
+/* ---- the guard ---- */
+
+static const struct {
+    int32_t error;
+    const char *line;
+} FAULTY_LINES[] = {
+    {JG_NOT_ASCII, "T1 - GetEnv\r"},     {JG_NO_THREAD, ""},
+    {JG_NO_ENV, "T1"},                   {JG_UNKNOWN_FUNCTION, "T1 - Fly"},
+    {JG_WRONG_COUNT, "T1 - GetEnv 1"},   {JG_BAD_OPERAND, "T1 E1.1 NewLocalRef 7"},
+};
+
+static void refuse_lines(jg_guard *guard) {
+    static uint8_t spaces[JG_LINE];
+    memset(spaces, ' ', sizeof spaces);
+    for (size_t at = 0; at < sizeof FAULTY_LINES / sizeof *FAULTY_LINES; at++) {
+        const uint8_t *line = jg_bytes(FAULTY_LINES[at].line);
+        size_t size = strlen(FAULTY_LINES[at].line);
+        REFUSED(FAULTY_LINES[at].error, jg_call_line(guard, line, size, out.text, ROOM));
+        REFUSED(FAULTY_LINES[at].error, jg_judge_line(guard, line, size));
+    }
+    REFUSED(JG_LINE_TOO_LONG, jg_call_line(guard, spaces, sizeof spaces, out.text, ROOM));
+    REFUSED(JG_LINE_TOO_LONG, jg_judge_line(guard, spaces, sizeof spaces));
+    REFUSED(JG_NO_THREAD, jg_call_line(guard, NULL, 0, out.text, ROOM));
+    REFUSED(JG_NULL_POINTER, jg_call_line(NULL, jg_bytes("x"), 1, out.text, ROOM));
+    REFUSED(JG_NULL_POINTER, jg_call_line(guard, NULL, 1, out.text, ROOM));
+    REFUSED(JG_NULL_POINTER, jg_call_line(guard, jg_bytes("x"), 1, NULL, ROOM));
+    REFUSED(JG_NULL_POINTER, jg_judge_line(NULL, jg_bytes("x"), 1));
+    REFUSED(JG_NULL_POINTER, jg_judge_line(guard, NULL, 1));
+}
+
+static void refuse_guard(void) {
+    static const char LINE[] = "T1 - AttachCurrentThread";
+    jg_guard guard = {NULL};
+    DONE(0, jg_guard_open(jg_bytes(SETUP), sizeof SETUP - 1, 1, JG_VERSION, &guard));
+    REFUSED(JG_IS_OPEN, jg_guard_open(jg_bytes(SETUP), sizeof SETUP - 1, 1, JG_VERSION, &guard));
+    refuse_lines(&guard);
+    DONE(0, jg_newest_line(&guard, out.text, ROOM));
+    REFUSED(JG_NO_RULE, jg_guard_explain(&guard, out.text, ROOM));
+    REFUSED(JG_NULL_POINTER, jg_newest_line(NULL, out.text, ROOM));
+    REFUSED(JG_NULL_POINTER, jg_newest_line(&guard, NULL, 1));
+    REFUSED(JG_NULL_POINTER, jg_guard_leaks(NULL, out.text, ROOM));
+    REFUSED(JG_NULL_POINTER, jg_guard_leaks(&guard, NULL, 1));
+    REFUSED(JG_NULL_POINTER, jg_guard_explain(NULL, out.text, ROOM));
+    REFUSED(JG_NULL_POINTER, jg_guard_explain(&guard, NULL, 1));
+    DONE(32, jg_call_line(&guard, jg_bytes(LINE), sizeof LINE - 1, NULL, 0));
+    REFUSED(JG_LIMIT, jg_call_line(&guard, jg_bytes("T1 - GetEnv"), 11, out.text, ROOM));
+    DONE(32, jg_newest_line(&guard, NULL, 0));
+    DONE(0, jg_guard_leaks(&guard, NULL, 0));
+    DONE(0, jg_guard_close(&guard));
+    REFUSED(JG_CLOSED, jg_guard_close(&guard));
+}
+
+static void refuse_numbers(void) {
+    static const int32_t NONE[] = {0, 1, -19, -71, INT32_MIN, INT32_MAX};
+    static const uint32_t NO_RULES[] = {0, 18, UINT32_MAX};
+    for (size_t at = 0; at < sizeof NONE / sizeof *NONE; at++) {
+        REFUSED(JG_BAD_VALUE, jg_error_name(NONE[at], out.text, ROOM));
+    }
+    for (size_t at = 0; at < sizeof NO_RULES / sizeof *NO_RULES; at++) {
+        REFUSED(JG_NO_RULE, jg_rule_name(NO_RULES[at], out.text, ROOM));
+        REFUSED(JG_NO_RULE, jg_rule_text(NO_RULES[at], out.text, ROOM));
+        REFUSED(JG_NO_RULE, jg_help_text(NO_RULES[at], out.text, ROOM));
+    }
+}
+
+int main(void) {
+    known k;
+    fill();
+    open_known(&k);
+    refuse_openings(&k);
+    refuse_heads(&k);
+    refuse_operands(&k);
+    refuse_tickets(&k);
+    refuse_answers(&k);
+    refuse_facts(&k);
+    refuse_impossible(&k);
+    refuse_names(&k);
+    refuse_null_in_questions(&k);
+    refuse_null_in_facts(&k);
+    refuse_null_in_texts(&k);
+    close_known(&k);
+    refuse_closed_core();
+    refuse_closed_guard();
+    refuse_setups();
+    refuse_many();
+    refuse_null_in_openings();
+    refuse_guard();
+    refuse_numbers();
+    printf("%d refusals, %d wrong\n", refusals, wrong);
+    return wrong != 0;
+}

@@ -1,0 +1,463 @@
+//! The core, in front of a machine that answers by itself.
+
+use crate::error::{answered, found, Error, NO_NAME};
+use crate::fact::{Fact, Family, ObjectKind};
+use crate::ffi::{self, JgBounds, JgCore, JgFact, JgTicket, JgValue, JgVerdict};
+use crate::functions::Function;
+use crate::rule::Rule;
+use crate::text;
+use crate::value::{Buffer, Environment, Given, Kind, Object, Reference, Says, Value, NONE};
+use std::ptr::null_mut;
+
+/// By which numbers rule 12 judges.
+#[derive(Clone, Copy, Debug, PartialEq, Eq)]
+pub struct Bounds {
+    /// How many local references a frame may have room for.
+    pub capacity: i32,
+    /// How many items an array may have.
+    pub length: i32,
+    /// How many items of a region may be read.
+    pub items: i32,
+}
+
+impl Bounds {
+    /// Those of a real machine, which bounds nothing.
+    pub const NONE: Bounds = Bounds {
+        capacity: i32::MAX,
+        length: i32::MAX,
+        items: i32::MAX,
+    };
+}
+
+/// What comes of a call that passed, kept until the machine has answered ([`Core::did`]).
+#[derive(Clone, Copy, Debug, PartialEq, Eq)]
+pub struct Ticket(JgTicket);
+
+impl Ticket {
+    /// The fact that [`Core::did`] tells of this ticket and of what the machine says, so that [`Core::fact_line`] can
+    /// write its line of a record; `None` where nothing is told.
+    ///
+    /// The fact that [`Core::ending`] told is that of the verdict's ticket with [`Says::Done`]; but of `PopLocalFrame`
+    /// and `NativeLeave` with the object that the first operand named, or with [`Says::Null`] where it named none.
+    pub fn told(&self, says: Says) -> Result<Option<Fact>, Error> {
+        let (says, mut fact) = (says.value(), UNTOLD);
+        // SAFETY: the pointers are those of values.
+        let answer = unsafe { ffi::jg_told(&self.0, &says, &mut fact) };
+        match answered(answer.into())? {
+            0 => Ok(None),
+            _ => Fact::of(fact)
+                .map(Some)
+                .ok_or(Error::Unknown(answer.into())),
+        }
+    }
+}
+
+/// What a question is answered.
+#[derive(Clone, Copy, Debug, PartialEq, Eq)]
+pub enum Verdict {
+    /// It breaks no rule: let the machine make the call, and then tell what came of it.
+    Passed(Ticket),
+    /// It breaks this rule first: the call isn't made.
+    Denied {
+        /// The rule.
+        rule: Rule,
+        /// The place of the operand that breaks it, counted from 0, where one does.
+        operand: Option<usize>,
+    },
+}
+
+impl Verdict {
+    fn of(verdict: JgVerdict) -> Result<Verdict, Error> {
+        if verdict.rule == 0 {
+            return Ok(Verdict::Passed(Ticket(verdict.ticket)));
+        }
+        let rule = Rule::of_number(verdict.rule).ok_or(Error::Unknown(verdict.rule.into()))?;
+        let operand = usize::try_from(verdict.operand).ok();
+        Ok(Verdict::Denied {
+            rule,
+            operand: operand.and_then(|it| it.checked_sub(1)),
+        })
+    }
+
+    /// The rule that is broken, if one is.
+    pub fn rule(&self) -> Option<Rule> {
+        match self {
+            Verdict::Passed(_) => None,
+            Verdict::Denied { rule, .. } => Some(*rule),
+        }
+    }
+}
+
+/// What the library writes a fact into.
+const UNTOLD: JgFact = JgFact {
+    word: 0,
+    thread: 0,
+    name: NONE,
+    object: NONE,
+    first: 0,
+    second: 0,
+};
+
+/// What the library writes a verdict into.
+const UNASKED: JgVerdict = JgVerdict {
+    rule: 0,
+    operand: 0,
+    ticket: JgTicket {
+        expected: 0,
+        thread: 0,
+        fact: UNTOLD,
+    },
+};
+
+/// A core: it is asked whether a call may be made now, and told what the machine did.
+///
+/// It may be moved to another thread. Several threads share one behind a lock, as a `Mutex<Core>`. Hold it for each
+/// call, and never while the machine makes one.
+///
+/// ```
+/// fn needs_send<T: Send>() {}
+/// needs_send::<jg::Core>();
+/// ```
+///
+/// ```compile_fail
+/// fn needs_sync<T: Sync>() {}
+/// needs_sync::<jg::Core>();
+/// ```
+#[derive(Debug)]
+pub struct Core {
+    handle: JgCore,
+}
+
+// SAFETY: a handle may be used by any thread, by one call at a time; `&mut self` sees to that. The pointer in it keeps
+// `Core` from being `Sync`.
+unsafe impl Send for Core {}
+
+fn env_value(env: Option<Environment>) -> JgValue {
+    env.map_or(NONE, Environment::value)
+}
+
+/// The operands, as C has them.
+fn first_of(operands: &[Value]) -> *const JgValue {
+    // `Value` is a transparent `JgValue`.
+    operands.as_ptr().cast()
+}
+
+/// The numbers of the objects, as C has them.
+fn numbers_of(objects: &[Object]) -> *const u64 {
+    // `Object` is a transparent `u64`.
+    objects.as_ptr().cast()
+}
+
+impl Core {
+    /// A core that was told nothing, under the setup that the text states.
+    pub fn open(setup: &str, bounds: Bounds) -> Result<Core, Error> {
+        let mut handle = JgCore { at: null_mut() };
+        let bounds = JgBounds {
+            capacity: bounds.capacity,
+            length: bounds.length,
+            items: bounds.items,
+        };
+        // SAFETY: the text is as long as is said, and the handle is closed.
+        let answer = unsafe {
+            ffi::jg_core_open(
+                setup.as_ptr(),
+                setup.len(),
+                &bounds,
+                ffi::JG_VERSION,
+                &mut handle,
+            )
+        };
+        answered(answer.into())?;
+        Ok(Core { handle })
+    }
+
+    /// Whether the thread, with this environment, may now call the function with these operands. Ask when the call
+    /// begins. A question changes nothing.
+    pub fn ask(
+        &mut self,
+        thread: u16,
+        env: Option<Environment>,
+        function: Function,
+        operands: &[Value],
+    ) -> Result<Verdict, Error> {
+        let mut verdict = UNASKED;
+        let env = env_value(env);
+        // SAFETY: the handle is open, nobody else uses it, and the operands are as many as is said.
+        let answer = unsafe {
+            ffi::jg_ask(
+                &mut self.handle,
+                thread.into(),
+                &env,
+                function.number(),
+                first_of(operands),
+                operands.len(),
+                &mut verdict,
+            )
+        };
+        answered(answer.into())?;
+        Verdict::of(verdict)
+    }
+
+    /// Asks, and where no rule is broken takes at once what the call ends: for deletions, releases, `PopLocalFrame`,
+    /// `MonitorExit`, `ExceptionClear`, `UnregisterNatives` and `NativeLeave`. Call it before the machine ends it, and
+    /// don't call [`Core::did`] after it. Beside the verdict it answers the name of what is handed out.
+    pub fn ending(
+        &mut self,
+        thread: u16,
+        env: Option<Environment>,
+        function: Function,
+        operands: &[Value],
+    ) -> Result<(Verdict, Given), Error> {
+        let (mut verdict, mut given) = (UNASKED, NONE);
+        let env = env_value(env);
+        // SAFETY: as for `ask`.
+        let answer = unsafe {
+            ffi::jg_ending(
+                &mut self.handle,
+                thread.into(),
+                &env,
+                function.number(),
+                first_of(operands),
+                operands.len(),
+                &mut verdict,
+                &mut given,
+            )
+        };
+        answered(answer.into())?;
+        Ok((Verdict::of(verdict)?, Given::of(given)))
+    }
+
+    /// Tells what came of a passed call once it has returned, by what the machine says of it. Answers the name of what
+    /// it handed out.
+    pub fn did(&mut self, ticket: &Ticket, says: Says) -> Result<Given, Error> {
+        let (says, mut given) = (says.value(), NONE);
+        // SAFETY: the handle is open, and nobody else uses it.
+        let answer = unsafe { ffi::jg_did(&mut self.handle, &ticket.0, &says, &mut given) };
+        answered(answer.into())?;
+        Ok(Given::of(given))
+    }
+
+    /// Takes a fact. Answers the name of what it hands out. Tell what ends something before the machine ends it, and
+    /// what begins something after.
+    pub fn tell(&mut self, fact: Fact) -> Result<Given, Error> {
+        let (fact, mut given) = (fact.numbers(), NONE);
+        // SAFETY: the handle is open, and nobody else uses it.
+        let answer = unsafe { ffi::jg_tell(&mut self.handle, &fact, &mut given) };
+        answered(answer.into())?;
+        Ok(Given::of(given))
+    }
+
+    /// Takes that the collector let these objects go: all of them, or none and [`Error::StillHeld`].
+    pub fn gone(&mut self, objects: &[Object]) -> Result<(), Error> {
+        let mut held = 0;
+        // SAFETY: the handle is open, nobody else uses it, and the objects are as many as is said.
+        let answer = unsafe {
+            ffi::jg_gone(
+                &mut self.handle,
+                numbers_of(objects),
+                objects.len(),
+                &mut held,
+            )
+        };
+        match answered(answer.into()) {
+            Err(Error::Impossible) => {
+                Err(Error::StillHeld(usize::try_from(held).unwrap_or_default()))
+            }
+            other => other.map(|_| ()),
+        }
+    }
+
+    /// The line of a record that asks this, without line feed and without the core's answer.
+    pub fn question_line(
+        &mut self,
+        thread: u16,
+        env: Option<Environment>,
+        function: Function,
+        operands: &[Value],
+    ) -> Result<String, Error> {
+        let env = env_value(env);
+        // SAFETY: as for `ask`, and the room is as long as is said.
+        text::whole(|line, room| unsafe {
+            ffi::jg_question_line(
+                &mut self.handle,
+                thread.into(),
+                &env,
+                function.number(),
+                first_of(operands),
+                operands.len(),
+                line,
+                room,
+            )
+        })
+    }
+
+    /// The line of a record that tells this fact.
+    pub fn fact_line(&mut self, fact: Fact) -> Result<String, Error> {
+        let fact = fact.numbers();
+        // SAFETY: the handle is open, nobody else uses it, and the room is as long as is said.
+        text::whole(|line, room| unsafe { ffi::jg_fact_line(&mut self.handle, &fact, line, room) })
+    }
+
+    /// The line of a record that tells that these objects are gone, by this thread, which may be 0.
+    pub fn gone_line(&mut self, thread: u16, objects: &[Object]) -> Result<String, Error> {
+        // SAFETY: the handle is open, nobody else uses it, and objects and room are as many as is said.
+        text::whole(|line, room| unsafe {
+            ffi::jg_gone_line(
+                &mut self.handle,
+                thread.into(),
+                numbers_of(objects),
+                objects.len(),
+                line,
+                room,
+            )
+        })
+    }
+
+    /// The line of a record that tells the bounds; it stands before the first question.
+    pub fn bounds_line(&mut self) -> Result<String, Error> {
+        // SAFETY: as above.
+        text::whole(|line, room| unsafe { ffi::jg_bounds_line(&mut self.handle, line, room) })
+    }
+
+    /// What is left behind by all that was told, a line each, as `jg watch --leaks` lists it.
+    pub fn leaks(&mut self) -> Result<String, Error> {
+        // SAFETY: as above.
+        text::whole(|bytes, room| unsafe { ffi::jg_core_leaks(&mut self.handle, bytes, room) })
+    }
+}
+
+/// Numbers of classes and native methods, as the setup has them.
+impl Core {
+    /// The number of the setup's class of this name, as `java/lang/String`, if it states one.
+    pub fn class_named(&mut self, name: &str) -> Result<Option<u32>, Error> {
+        // SAFETY: the handle is open, nobody else uses it, and the name is as long as is said.
+        let answer = unsafe { ffi::jg_class_named(&mut self.handle, name.as_ptr(), name.len()) };
+        found(answer, NO_NAME)
+    }
+
+    /// The number, from 1, of the native method of the class that has this name and this type, as `run` and `()V`, if
+    /// the setup states one.
+    pub fn native_named(
+        &mut self,
+        class: u32,
+        name: &str,
+        signature: &str,
+    ) -> Result<Option<u32>, Error> {
+        // SAFETY: the handle is open, nobody else uses it, and both texts are as long as is said.
+        let answer = unsafe {
+            ffi::jg_native_named(
+                &mut self.handle,
+                class,
+                name.as_ptr(),
+                name.len(),
+                signature.as_ptr(),
+                signature.len(),
+            )
+        };
+        found(answer, NO_NAME)
+    }
+
+    /// The number of the class of objects of this kind, for those of classes that the setup doesn't state.
+    pub fn class_of(&mut self, kind: ObjectKind) -> Result<u32, Error> {
+        // SAFETY: the handle is open, and nobody else uses it.
+        let answer = unsafe { ffi::jg_class_of(&mut self.handle, kind as u32) };
+        u32::try_from(answered(answer)?).map_err(|_| Error::Unknown(answer))
+    }
+}
+
+/// What another name than the fact's would be.
+fn unknown<T>(given: Given) -> Result<T, Error> {
+    debug_assert!(false, "the core gave {given:?}");
+    Err(Error::Unknown(0))
+}
+
+fn kept_by(given: Given) -> Result<Option<Reference>, Error> {
+    match given {
+        Given::Nothing => Ok(None),
+        Given::Reference(reference) => Ok(Some(reference)),
+        _ => unknown(given),
+    }
+}
+
+/// Facts that hand out something, each with the name that it gives.
+impl Core {
+    /// A session of the thread begins: its environment.
+    pub fn begins(&mut self, thread: u16) -> Result<Environment, Error> {
+        match self.tell(Fact::Begins { thread })? {
+            Given::Environment(env) => Ok(env),
+            given => unknown(given),
+        }
+    }
+
+    /// There is a next object, of the class and so long: its number.
+    pub fn met(&mut self, thread: u16, class: u32, length: u32) -> Result<Object, Error> {
+        match self.tell(Fact::Met {
+            thread,
+            class,
+            length,
+        })? {
+            Given::Object(object) => Ok(object),
+            given => unknown(given),
+        }
+    }
+
+    /// The thread was handed a reference to the object: its name.
+    pub fn got(&mut self, thread: u16, kind: Kind, object: Object) -> Result<Reference, Error> {
+        match self.tell(Fact::Got {
+            thread,
+            kind,
+            object,
+        })? {
+            Given::Reference(reference) => Ok(reference),
+            given => unknown(given),
+        }
+    }
+
+    /// The thread was lent a buffer of the object, of so many items: its name. `by` is the reference that a critical
+    /// one was asked for by, and `NULL` of the other families.
+    pub fn lent(
+        &mut self,
+        thread: u16,
+        family: Family,
+        object: Object,
+        by: Reference,
+        length: u32,
+    ) -> Result<Buffer, Error> {
+        let fact = Fact::Lent {
+            thread,
+            family,
+            object,
+            by,
+            length,
+        };
+        match self.tell(fact)? {
+            Given::Buffer(buffer) => Ok(buffer),
+            given => unknown(given),
+        }
+    }
+
+    /// The thread left a native method: the reference by which it was handed the object that is kept, if one is.
+    pub fn leaves(
+        &mut self,
+        thread: u16,
+        kept: Option<Object>,
+    ) -> Result<Option<Reference>, Error> {
+        kept_by(self.tell(Fact::Leaves { thread, kept })?)
+    }
+
+    /// The thread popped a frame: the reference by which it was handed the object that is kept, if one is.
+    pub fn popped(
+        &mut self,
+        thread: u16,
+        kept: Option<Object>,
+    ) -> Result<Option<Reference>, Error> {
+        kept_by(self.tell(Fact::Popped { thread, kept })?)
+    }
+}
+
+impl Drop for Core {
+    fn drop(&mut self) {
+        // SAFETY: the handle is open, and isn't used any more.
+        unsafe { ffi::jg_core_close(&mut self.handle) };
+    }
+}

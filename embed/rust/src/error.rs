@@ -1,0 +1,227 @@
+//! Why a call did nothing.
+
+use crate::ffi;
+use crate::text;
+use std::error;
+use std::fmt;
+
+/// What is wrong with a setup text (docs/FORMATS.md, "Faults").
+#[derive(Clone, Copy, Debug, PartialEq, Eq)]
+pub enum SetupFault {
+    /// The text is no TOML document.
+    NotToml,
+    /// The version is neither 1 nor 2.
+    BadVersion,
+    /// A key isn't among those that may stand there.
+    UnknownKey,
+    /// A required key is missing.
+    Missing,
+    /// A value is of another type than its key asks for.
+    BadType,
+    /// A mode or an operation is none of its three.
+    BadMode,
+    /// A name or a type isn't spelt as it must be.
+    BadName,
+    /// Two classes, fields or native methods are the same.
+    Duplicate,
+    /// A limit is passed.
+    TooMany,
+}
+
+/// What is wrong with a line of a script (docs/FORMATS.md, "Faults of a line").
+#[derive(Clone, Copy, Debug, PartialEq, Eq)]
+pub enum LineFault {
+    /// It has more than 65,536 bytes.
+    LineTooLong,
+    /// A byte is outside 0x20 to 0x7E.
+    NotAscii,
+    /// The first field is no thread.
+    NoThread,
+    /// The second field is no environment.
+    NoEnv,
+    /// The third field is no function's name.
+    UnknownFunction,
+    /// There are more or fewer operands than the function takes.
+    WrongCount,
+    /// An operand is no spelling of its kind.
+    BadOperand,
+}
+
+/// Why a call did nothing.
+#[derive(Clone, Copy, Debug, PartialEq, Eq)]
+pub enum Error {
+    /// The library is of another version than this crate.
+    BadVersion,
+    /// Memory ran out. The call may be made again.
+    NoMemory,
+    /// A value isn't of a kind that may stand there, or its numbers are out of range.
+    BadValue,
+    /// The operands aren't as many as the function's, or not of their sorts.
+    Misfit,
+    /// The numbers state no fact.
+    BadFact,
+    /// The fact can't be: what was told before it says so. It is a mistake of who tells, never of native code.
+    Impossible,
+    /// The object at this place of the list, counted from 0, can't be gone.
+    StillHeld(usize),
+    /// 2^60 facts made something.
+    Full,
+    /// The ticket is none.
+    BadTicket,
+    /// The journal has as many entries as it may.
+    Limit,
+    /// A line has no text, or is too long.
+    NoText,
+    /// The call was made and journaled, and memory ran out for its line.
+    Unwritten,
+    /// A setup text is faulty.
+    Setup(SetupFault),
+    /// A line of a script is faulty.
+    Line(LineFault),
+    /// An answer that this crate doesn't know.
+    Unknown(i64),
+}
+
+/// The error of each answer below 0.
+const ERRORS: [(i64, Error); 27] = [
+    (-3, Error::BadVersion),
+    (-4, Error::NoMemory),
+    (-6, Error::BadValue),
+    (-8, Error::Misfit),
+    (-9, Error::BadFact),
+    (IMPOSSIBLE, Error::Impossible),
+    (-11, Error::Full),
+    (-12, Error::BadTicket),
+    (-13, Error::Limit),
+    (-14, Error::NoText),
+    (-16, Error::Unwritten),
+    (-32, Error::Setup(SetupFault::NotToml)),
+    (-33, Error::Setup(SetupFault::BadVersion)),
+    (-34, Error::Setup(SetupFault::UnknownKey)),
+    (-35, Error::Setup(SetupFault::Missing)),
+    (-36, Error::Setup(SetupFault::BadType)),
+    (-37, Error::Setup(SetupFault::BadMode)),
+    (-38, Error::Setup(SetupFault::BadName)),
+    (-39, Error::Setup(SetupFault::Duplicate)),
+    (-40, Error::Setup(SetupFault::TooMany)),
+    (-64, Error::Line(LineFault::LineTooLong)),
+    (-65, Error::Line(LineFault::NotAscii)),
+    (-66, Error::Line(LineFault::NoThread)),
+    (-67, Error::Line(LineFault::NoEnv)),
+    (-68, Error::Line(LineFault::UnknownFunction)),
+    (-69, Error::Line(LineFault::WrongCount)),
+    (-70, Error::Line(LineFault::BadOperand)),
+];
+
+/// `JG_NO_RULE`, which says that there is nothing to explain.
+pub(crate) const NO_RULE: i64 = -15;
+
+/// `JG_NO_NAME`, which says that the setup states no such class or native method.
+pub(crate) const NO_NAME: i64 = -17;
+
+/// `JG_IMPOSSIBLE`.
+const IMPOSSIBLE: i64 = -10;
+
+impl Error {
+    fn of(answer: i64) -> Error {
+        ERRORS
+            .iter()
+            .find(|(number, _)| *number == answer)
+            .map_or(Error::Unknown(answer), |(_, error)| *error)
+    }
+
+    /// Its number in `jg.h`.
+    pub fn number(&self) -> i64 {
+        let found = ERRORS.iter().find(|(_, error)| error == self);
+        match (self, found) {
+            (_, Some((number, _))) => *number,
+            (Error::Unknown(answer), None) => *answer,
+            _ => IMPOSSIBLE,
+        }
+    }
+
+    /// Its name in `jg.h`, without `JG_`, as `BAD_TICKET`. An unknown error has none.
+    pub fn name(&self) -> Option<String> {
+        let number = i32::try_from(self.number()).ok()?;
+        // SAFETY: the room is as long as is said.
+        text::whole(|bytes, room| unsafe { ffi::jg_error_name(number, bytes, room) }).ok()
+    }
+}
+
+/// What a call of the library answered, where that is no error.
+pub(crate) fn answered(answer: i64) -> Result<usize, Error> {
+    usize::try_from(answer).map_err(|_| Error::of(answer))
+}
+
+/// The number that a call of the library answered; `None` where that is `none`.
+pub(crate) fn found(answer: i64, none: i64) -> Result<Option<u32>, Error> {
+    if answer == none {
+        return Ok(None);
+    }
+    u32::try_from(answer)
+        .map(Some)
+        .map_err(|_| Error::of(answer))
+}
+
+impl fmt::Display for Error {
+    fn fmt(&self, out: &mut fmt::Formatter<'_>) -> fmt::Result {
+        match self {
+            Error::BadVersion => out.write_str("the library is of another version"),
+            Error::NoMemory => out.write_str("no memory"),
+            Error::BadValue => out.write_str("a value may not stand there"),
+            Error::Misfit => out.write_str("the operands aren't the function's"),
+            Error::BadFact => out.write_str("the numbers state no fact"),
+            Error::Impossible => out.write_str("the fact can't be"),
+            Error::StillHeld(place) => write!(out, "object {place} of the list can't be gone"),
+            Error::Full => out.write_str("2^60 facts made something"),
+            Error::BadTicket => out.write_str("the ticket is none"),
+            Error::Limit => out.write_str("limit"),
+            Error::NoText => out.write_str("the line has no text"),
+            Error::Unwritten => {
+                out.write_str("the call was made, and there is no memory for its line")
+            }
+            Error::Setup(fault) => write!(out, "setup: {fault:?}"),
+            Error::Line(fault) => write!(out, "line: {fault:?}"),
+            Error::Unknown(answer) => write!(out, "the library answers {answer}"),
+        }
+    }
+}
+
+impl error::Error for Error {}
+
+#[cfg(test)]
+mod tests {
+    use super::*;
+
+    #[test]
+    fn each_error_has_a_number_and_a_text() {
+        for (number, error) in ERRORS {
+            assert_eq!(answered(number), Err(error));
+            assert_eq!(error.number(), number);
+            assert!(!error.to_string().is_empty());
+        }
+    }
+
+    #[test]
+    fn each_error_has_a_name() {
+        for (_, error) in ERRORS {
+            assert!(error.name().is_some(), "{error}");
+        }
+        assert_eq!(Error::BadTicket.name().as_deref(), Some("BAD_TICKET"));
+        assert_eq!(Error::StillHeld(1).name().as_deref(), Some("IMPOSSIBLE"));
+        assert_eq!(Error::Unknown(-31).name(), None);
+    }
+
+    #[test]
+    fn what_is_not_found_is_none() {
+        assert_eq!(found(NO_NAME, NO_NAME), Ok(None));
+        assert_eq!(found(15, NO_NAME), Ok(Some(15)));
+        assert_eq!(found(-4, NO_NAME), Err(Error::NoMemory));
+    }
+
+    #[test]
+    fn another_answer_is_unknown() {
+        assert_eq!(answered(-31), Err(Error::Unknown(-31)));
+        assert_eq!(answered(7), Ok(7));
+    }
+}

@@ -1,0 +1,84 @@
+//! The guard `jg` for Rust: a proved judge of calls of the Java Native Interface.
+//!
+//! - A [`Core`] stands in front of a virtual machine that answers by itself. It is asked whether a thread may make a
+//!   call now, and is told what the machine did.
+//! - A [`Guard`] answers scripts, as the program `jg` does: a line of a script in, its line of the journal out.
+//!
+//! The crate is a thin cover of `libjg.a`, which `./jg --lib` builds. What is proved is the library; this cover is
+//! tested.
+//!
+//! ```
+//! use jg::{Bounds, Core, Function, Kind, Rule, Says, Value, Verdict};
+//!
+//! const STRING: u32 = 2;
+//!
+//! let mut core = Core::open("version = 1\nillegal_native_access = \"deny\"\n", Bounds::NONE)?;
+//! let env = core.begins(1)?;
+//!
+//! // The machine made a string, and thread 1 was handed a local reference to it.
+//! let object = core.met(1, STRING, 2)?;
+//! let local = core.got(1, Kind::Local, object)?;
+//! assert_eq!(local.to_string(), "L1.1");
+//!
+//! // A question before each call. What ends something is told with it.
+//! let length = core.ask(1, Some(env), Function::GetStringLength, &[local.into()])?;
+//! assert!(matches!(length, Verdict::Passed(_)));
+//! core.ending(1, Some(env), Function::DeleteLocalRef, &[local.into()])?;
+//! let again = core.ask(1, Some(env), Function::GetStringLength, &[local.into()])?;
+//! assert_eq!(again.rule(), Some(Rule::DeadReference));
+//! # Ok::<(), jg::Error>(())
+//! ```
+
+#![deny(missing_docs)]
+#![deny(unsafe_op_in_unsafe_fn)]
+
+mod core;
+mod error;
+mod fact;
+mod ffi;
+mod functions;
+mod guard;
+mod outcome;
+mod rule;
+mod text;
+mod value;
+
+pub use crate::core::{Bounds, Core, Ticket, Verdict};
+pub use crate::error::{Error, LineFault, SetupFault};
+pub use crate::fact::{Fact, Family, ObjectKind};
+pub use crate::functions::Function;
+pub use crate::guard::Guard;
+pub use crate::outcome::{Entry, Outcome};
+pub use crate::rule::Rule;
+pub use crate::value::{Buffer, Environment, Given, Kind, Object, Reference, Says, Value};
+
+use std::fmt;
+
+impl Function {
+    /// Its number in the table.
+    pub const fn number(self) -> u32 {
+        self as u32
+    }
+
+    /// Its name, as the JNI Specification has it.
+    pub const fn name(self) -> &'static str {
+        functions::NAMES[self as usize]
+    }
+
+    /// The function of that name.
+    pub fn of_name(name: &str) -> Option<Function> {
+        Function::ALL.into_iter().find(|it| it.name() == name)
+    }
+}
+
+impl fmt::Display for Function {
+    fn fmt(&self, out: &mut fmt::Formatter<'_>) -> fmt::Result {
+        out.write_str(self.name())
+    }
+}
+
+/// The version of the library, as `jg --version` prints it.
+pub fn version() -> Result<String, Error> {
+    // SAFETY: the room is as long as is said.
+    text::whole(|bytes, room| unsafe { ffi::jg_version(bytes, room) })
+}

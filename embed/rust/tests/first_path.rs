@@ -1,0 +1,306 @@
+//! The first path, by text and by facts.
+
+use jg::{
+    Bounds, Core, Environment, Error, Fact, Family, Function, Given, Guard, Kind, LineFault,
+    Object, ObjectKind, Outcome, Reference, Rule, Says, SetupFault, Ticket, Value, Verdict,
+};
+use std::sync::{Mutex, MutexGuard};
+
+const SETUP: &str = "version = 1\nillegal_native_access = \"deny\"\n";
+const NATIVES: &str = "version = 1
+illegal_native_access = \"deny\"
+[[class]]
+name = \"app/Main\"
+module = \"app\"
+natives = [{ name = \"run\", type = \"()V\" }]
+";
+const STRING: u32 = 2;
+const INTS: u32 = 8;
+
+const FIRST_PATH: [(&str, &str); 6] = [
+    ("T1 - AttachCurrentThread", "E1.1"),
+    ("T1 E1.1 NewString [72,105]", "L1.1"),
+    ("T1 E1.1 GetStringLength L1.1", "2"),
+    ("T1 E1.1 DeleteLocalRef L1.1", "ok"),
+    ("T1 E1.1 GetStringLength L1.1", "deny 6 DeadReference"),
+    ("T1 - DetachCurrentThread", "ok"),
+];
+
+#[test]
+fn a_guard_answers_the_first_path() -> Result<(), Error> {
+    let mut guard = Guard::open(SETUP, 6)?;
+    assert_eq!(guard.explain()?, None);
+    assert_eq!(guard.newest_line()?, "");
+    for (line, outcome) in FIRST_PATH {
+        let rule = guard.judge_line(line)?;
+        assert_eq!(guard.call_line(line)?, format!("{line} = {outcome}\n"));
+        assert_eq!(rule.is_some(), outcome.starts_with("deny"));
+    }
+    let why = guard.explain()?.expect("a call was denied");
+    assert!(
+        why.starts_with("line 5: deny 6 DeadReference of L1.1"),
+        "{why}"
+    );
+    assert_eq!(guard.leaks()?, "");
+    assert_eq!(guard.call_line("T1 - GetEnv"), Err(Error::Limit));
+    assert_eq!(guard.newest_line()?, "T1 - DetachCurrentThread = ok\n");
+    Ok(())
+}
+
+#[test]
+fn a_guard_tells_outcomes() -> Result<(), Error> {
+    let mut guard = Guard::open(SETUP, 6)?;
+    let outcomes = FIRST_PATH
+        .into_iter()
+        .map(|(line, _)| Ok(guard.call(line)?.outcome))
+        .collect::<Result<Vec<Outcome>, Error>>()?;
+    let local = Reference::local(1, 1);
+    let (thread, session) = (1, 1);
+    assert_eq!(
+        outcomes,
+        [
+            Outcome::Environment(Environment { thread, session }),
+            Outcome::Reference(local),
+            Outcome::Number(2),
+            Outcome::Done,
+            Outcome::Denied(Rule::DeadReference),
+            Outcome::Done,
+        ]
+    );
+    Ok(())
+}
+
+#[test]
+fn a_faulty_line_and_a_faulty_setup_are_refused() -> Result<(), Error> {
+    let mut guard = Guard::open(SETUP, 10)?;
+    let fly = guard.call_line("T1 - Fly");
+    assert_eq!(fly, Err(Error::Line(LineFault::UnknownFunction)));
+    let faulty = Guard::open("version", 10).err();
+    assert_eq!(faulty, Some(Error::Setup(SetupFault::NotToml)));
+    Ok(())
+}
+
+#[test]
+fn a_core_is_told_the_first_path() -> Result<(), Error> {
+    let mut core = Core::open(SETUP, Bounds::NONE)?;
+    let Verdict::Passed(attach) = core.ask(1, None, Function::AttachCurrentThread, &[])? else {
+        panic!("an attachment is denied");
+    };
+    let Given::Environment(env) = core.did(&attach, Says::Done)? else {
+        panic!("no environment is given");
+    };
+    let list = [Value::list(2, true)];
+    let Verdict::Passed(ticket) = core.ask(1, Some(env), Function::NewString, &list)? else {
+        panic!("a string is denied");
+    };
+    let object = core.met(1, STRING, 2)?;
+    let Given::Reference(local) = core.did(&ticket, Says::Object(object))? else {
+        panic!("no reference is given");
+    };
+    assert_eq!(
+        (env.to_string(), local.to_string()),
+        ("E1.1".into(), "L1.1".into())
+    );
+    assert_eq!(
+        told_line(&mut core, &ticket, Says::Object(object))?,
+        "T1 got local O15"
+    );
+    let (deleted, _) = core.ending(1, Some(env), Function::DeleteLocalRef, &[local.into()])?;
+    let Verdict::Passed(ticket) = deleted else {
+        panic!("a deletion is denied");
+    };
+    let line = told_line(&mut core, &ticket, Says::Done)?;
+    assert!(line.ends_with(" lost L1.1"), "{line}");
+    let again = core.ask(1, Some(env), Function::GetStringLength, &[local.into()])?;
+    let (rule, operand) = (Rule::DeadReference, Some(0));
+    assert_eq!(again, Verdict::Denied { rule, operand });
+    assert_eq!(core.gone_line(0, &[object])?, "T0 gone O15");
+    core.gone(&[object])?;
+    assert_eq!(core.gone(&[object]), Err(Error::StillHeld(0)));
+    assert_eq!(core.leaks()?, "");
+    Ok(())
+}
+
+/// The line of a record of the fact that is told by the ticket.
+fn told_line(core: &mut Core, ticket: &Ticket, says: Says) -> Result<String, Error> {
+    let fact = ticket.told(says)?.expect("a fact is told");
+    core.fact_line(fact)
+}
+
+#[test]
+fn the_text_of_embedding_md_is_right() -> Result<(), Error> {
+    let setup = "version = 1\nillegal_native_access = \"deny\"\n";
+    let mut core = Core::open(setup, Bounds::NONE)?;
+    let env = core.begins(1)?;
+    let string = core.met(1, 2, 5)?;
+    let local = core.got(1, Kind::Local, string)?;
+    core.ending(1, Some(env), Function::DeleteLocalRef, &[local.into()])?;
+    let verdict = core.ask(1, Some(env), Function::GetStringLength, &[local.into()])?;
+    assert_eq!(verdict.rule(), Some(Rule::DeadReference));
+    Ok(())
+}
+
+#[test]
+fn a_ticket_holds_what_the_operand_named() -> Result<(), Error> {
+    let mut core = Core::open(SETUP, Bounds::NONE)?;
+    let env = core.begins(1)?;
+    let object = core.met(1, STRING, 2)?;
+    let local = core.got(1, Kind::Local, object)?;
+    let enter = core.ask(1, Some(env), Function::MonitorEnter, &[local.into()])?;
+    let Verdict::Passed(ticket) = enter else {
+        panic!("an entry is denied");
+    };
+    // While the machine waits for the monitor, a callee ends the reference.
+    core.ending(1, Some(env), Function::DeleteLocalRef, &[local.into()])?;
+    let thread = 1;
+    assert_eq!(
+        ticket.told(Says::Done)?,
+        Some(Fact::Owns { thread, object })
+    );
+    assert_eq!(core.did(&ticket, Says::Done)?, Given::Nothing);
+    assert_eq!(core.leaks()?, format!("leak M{} T1 1\n", object.0));
+    Ok(())
+}
+
+#[test]
+fn threads_share_a_core_by_a_mutex() -> Result<(), Error> {
+    let core = Mutex::new(Core::open(SETUP, Bounds::NONE)?);
+    let object = lock(&core).met(0, STRING, 2)?;
+    lock(&core).begins(9)?;
+    let global = lock(&core).got(9, Kind::Global, object)?;
+    let deletes = |thread| -> Result<Option<Rule>, Error> {
+        let env = Some(lock(&core).begins(thread)?);
+        let ended = lock(&core).ending(thread, env, Function::DeleteGlobalRef, &[global.into()])?;
+        Ok(ended.0.rule())
+    };
+    let mut rules = std::thread::scope(|scope| {
+        let begun = [1, 2, 3, 4].map(|thread| scope.spawn(move || deletes(thread)));
+        begun.map(|it| it.join().expect("a thread ends"))
+    });
+    rules.sort_by_key(|it| it.as_ref().is_ok_and(Option::is_some));
+    let denied = Ok(Some(Rule::DeadReference));
+    assert_eq!(rules, [Ok(None), denied, denied, denied]);
+    Ok(())
+}
+
+fn lock(core: &Mutex<Core>) -> MutexGuard<'_, Core> {
+    core.lock().expect("no thread panics")
+}
+
+#[test]
+fn what_no_machine_says_is_refused_and_no_fact_is_none() -> Result<(), Error> {
+    let mut core = Core::open(SETUP, Bounds::NONE)?;
+    let env = core.begins(1)?;
+    let Verdict::Passed(ticket) = core.ask(1, Some(env), Function::ExceptionCheck, &[])? else {
+        panic!("a check is denied");
+    };
+    assert_eq!(ticket.told(Says::Done)?, None);
+    assert_eq!(
+        ticket.told(Says::Object(Object(15))),
+        Err(Error::Impossible)
+    );
+    Ok(())
+}
+
+#[test]
+fn classes_and_native_methods_have_numbers() -> Result<(), Error> {
+    let mut core = Core::open(NATIVES, Bounds::NONE)?;
+    assert_eq!(core.class_named("java/lang/String")?, Some(STRING));
+    assert_eq!(core.class_named("app/Main")?, Some(15));
+    assert_eq!(core.class_named("app.Main")?, None);
+    assert_eq!(core.native_named(15, "run", "()V")?, Some(1));
+    assert_eq!(core.native_named(15, "run()V", "")?, None);
+    assert_eq!(core.class_of(ObjectKind::Object)?, 16);
+    Ok(())
+}
+
+#[test]
+fn a_core_writes_lines_of_a_record() -> Result<(), Error> {
+    let mut core = Core::open(SETUP, Bounds::NONE)?;
+    assert_eq!(
+        core.bounds_line()?,
+        "T0 bounds 2147483647 2147483647 2147483647"
+    );
+    let env = core.begins(7)?;
+    let object = core.met(0, STRING, 5)?;
+    let kind = Kind::Global;
+    let got = Fact::Got {
+        thread: 7,
+        kind,
+        object,
+    };
+    assert_eq!(core.fact_line(got)?, format!("T7 got global {object}"));
+    let global = core.got(7, kind, object)?;
+    let line = core.question_line(7, Some(env), Function::GetStringLength, &[global.into()])?;
+    assert_eq!(line, "T7 E7.1 GetStringLength G7.1");
+    assert_eq!(core.leaks()?, "leak G7.1\n");
+    Ok(())
+}
+
+#[test]
+fn a_fact_that_can_t_be_is_refused() -> Result<(), Error> {
+    let mut core = Core::open(SETUP, Bounds::NONE)?;
+    assert_eq!(core.tell(Fact::Ends { thread: 1 }), Err(Error::Impossible));
+    core.begins(1)?;
+    assert_eq!(core.begins(1), Err(Error::Impossible));
+    let few = core.ask(1, None, Function::GetStringLength, &[]);
+    assert_eq!(few, Err(Error::Misfit));
+    Ok(())
+}
+
+#[test]
+fn facts_give_names() -> Result<(), Error> {
+    let mut core = Core::open(SETUP, Bounds::NONE)?;
+    core.begins(1)?;
+    let array = core.met(1, INTS, 9)?;
+    let local = core.got(1, Kind::Local, array)?;
+    let buffer = core.lent(1, Family::Critical, array, local, 9)?;
+    assert_eq!(core.leaks()?, "leak L1.1\nleak B1.1\n");
+    core.tell(Fact::Gave { thread: 1, buffer })?;
+    core.tell(Fact::Enters { thread: 1 })?;
+    core.tell(Fact::Pushed { thread: 1, room: 4 })?;
+    let kept = core.popped(1, Some(array))?.map(|it| it.to_string());
+    assert_eq!(kept.as_deref(), Some("L1.2"));
+    assert_eq!(core.leaves(1, None)?, None);
+    let floats = core.class_of(ObjectKind::Floats)?;
+    let float = core.met(1, floats, 3)?;
+    core.tell(Fact::IsLength {
+        thread: 1,
+        object: float,
+        length: 3,
+    })?;
+    Ok(())
+}
+
+#[test]
+fn a_core_goes_to_another_thread() -> Result<(), Error> {
+    let mut core = Core::open(SETUP, Bounds::NONE)?;
+    core.begins(1)?;
+    let joined = std::thread::spawn(move || core.begins(2)).join();
+    assert_eq!(joined.expect("the thread ends")?.to_string(), "E2.1");
+    Ok(())
+}
+
+#[test]
+fn rules_have_the_names_of_the_library() -> Result<(), Error> {
+    for (number, rule) in (1..).zip(Rule::ALL) {
+        assert_eq!(
+            (rule.number(), Rule::of_number(number)),
+            (number, Some(rule))
+        );
+        assert_eq!(rule.to_string(), format!("{number} {}", rule.name()?));
+        assert!(!rule.text()?.is_empty() && !rule.help()?.is_empty());
+    }
+    assert_eq!(Rule::of_number(18), None);
+    Ok(())
+}
+
+#[test]
+fn functions_have_names_and_numbers() {
+    for (number, function) in (0..).zip(Function::ALL) {
+        assert_eq!(function.number(), number);
+        assert_eq!(Function::of_name(function.name()), Some(function));
+    }
+    assert_eq!(Function::GetVersion.number(), 0);
+    assert_eq!(Function::of_name("Fly"), None);
+}
