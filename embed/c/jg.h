@@ -118,8 +118,9 @@ enum {
     JG_BUFFER = 5,      /* a buffer: detail the thread that it was lent to, number its number */
     JG_ENVIRONMENT = 6, /* an environment: detail its thread, number its session */
     JG_OBJECT = 7,      /* an object: number its number */
-    JG_NUMBER = 8,      /* a number that a rule bounds: number a jint, sign-extended to 64 bits (-1 is UINT64_MAX) */
-    JG_ANY_NUMBER = 9,  /* a value or any number: number its 64 bits, sign-extended; of float and double as they are */
+    JG_NUMBER = 8,      /* a number of 32 bits: number a jint, sign-extended to 64 bits (-1 is UINT64_MAX) */
+    JG_WIDE = 9,        /* a value of a field or an item, or a number beyond 32 bits: number its 64 bits, sign-extended;
+                           of float and double as they are */
     JG_ID = 10,         /* the ID of a field or a method: detail 1 if it fits the object and the function, else 0 */
     JG_CLASS = 11,      /* a class's name: detail 1 and number its number in the setup, or detail 0 if it states none */
     JG_NATIVE = 12,     /* a native method: detail 1 and number its number in its class, from 1, or detail 0 */
@@ -739,9 +740,15 @@ static inline jg_value jg_number(int32_t number) {
     return jg_value_of(JG_NUMBER, 0, (uint64_t)wide);
 }
 
-/* Any other number, or a value of a field or an item; of a float and a double its bits. */
+/* Any other number: a JNI version, an index, a length of a direct buffer. */
 static inline jg_value jg_any_number(int64_t number) {
-    return jg_value_of(JG_ANY_NUMBER, 0, (uint64_t)number);
+    int is_narrow = INT32_MIN <= number && number <= INT32_MAX;
+    return jg_value_of(is_narrow ? JG_NUMBER : JG_WIDE, 0, (uint64_t)number);
+}
+
+/* A value of a field or an item; of a float and a double its bits. */
+static inline jg_value jg_item(int64_t bits) {
+    return jg_value_of(JG_WIDE, 0, (uint64_t)bits);
 }
 
 /* The ID of a field or a method: whether it fits (not 0) the object, the function's type, and static or not. */

@@ -265,7 +265,8 @@ enum {
  *   *  any number of references: the same for each
  *   b  a buffer: jg_buffer
  *   n  a number that a rule bounds: jg_number
- *   v  any number, or a value: jg_any_number
+ *   j  any other number: jg_any_number
+ *   v  a value of a field or an item: jg_item
  *   i  the ID of a field or a method: jg_id
  *   c  the name of a class: jg_class or jg_no_class
  *   m  a native method: jg_native or jg_no_native
@@ -443,14 +444,14 @@ enum {
     FN(GetStringUTFLengthAsLong, 167, "r") \
     FN(GetStringUTFChars, 168, "r") \
     FN(ReleaseStringUTFChars, 169, "rb") \
-    FN(GetStringRegion, 170, "rvn") \
-    FN(GetStringUTFRegion, 171, "rvn") \
+    FN(GetStringRegion, 170, "rjn") \
+    FN(GetStringUTFRegion, 171, "rjn") \
     FN(GetStringCritical, 172, "r") \
     FN(ReleaseStringCritical, 173, "rb") \
     FN(GetArrayLength, 174, "r") \
     FN(NewObjectArray, 175, "nrr") \
-    FN(GetObjectArrayElement, 176, "rv") \
-    FN(SetObjectArrayElement, 177, "rvr") \
+    FN(GetObjectArrayElement, 176, "rj") \
+    FN(SetObjectArrayElement, 177, "rjr") \
     FN(NewBooleanArray, 178, "n") \
     FN(NewByteArray, 179, "n") \
     FN(NewCharArray, 180, "n") \
@@ -475,35 +476,35 @@ enum {
     FN(ReleaseLongArrayElements, 199, "rbn") \
     FN(ReleaseFloatArrayElements, 200, "rbn") \
     FN(ReleaseDoubleArrayElements, 201, "rbn") \
-    FN(GetBooleanArrayRegion, 202, "rvn") \
-    FN(GetByteArrayRegion, 203, "rvn") \
-    FN(GetCharArrayRegion, 204, "rvn") \
-    FN(GetShortArrayRegion, 205, "rvn") \
-    FN(GetIntArrayRegion, 206, "rvn") \
-    FN(GetLongArrayRegion, 207, "rvn") \
-    FN(GetFloatArrayRegion, 208, "rvn") \
-    FN(GetDoubleArrayRegion, 209, "rvn") \
-    FN(SetBooleanArrayRegion, 210, "rvl") \
-    FN(SetByteArrayRegion, 211, "rvl") \
-    FN(SetCharArrayRegion, 212, "rvl") \
-    FN(SetShortArrayRegion, 213, "rvl") \
-    FN(SetIntArrayRegion, 214, "rvl") \
-    FN(SetLongArrayRegion, 215, "rvl") \
-    FN(SetFloatArrayRegion, 216, "rvl") \
-    FN(SetDoubleArrayRegion, 217, "rvl") \
+    FN(GetBooleanArrayRegion, 202, "rjn") \
+    FN(GetByteArrayRegion, 203, "rjn") \
+    FN(GetCharArrayRegion, 204, "rjn") \
+    FN(GetShortArrayRegion, 205, "rjn") \
+    FN(GetIntArrayRegion, 206, "rjn") \
+    FN(GetLongArrayRegion, 207, "rjn") \
+    FN(GetFloatArrayRegion, 208, "rjn") \
+    FN(GetDoubleArrayRegion, 209, "rjn") \
+    FN(SetBooleanArrayRegion, 210, "rjl") \
+    FN(SetByteArrayRegion, 211, "rjl") \
+    FN(SetCharArrayRegion, 212, "rjl") \
+    FN(SetShortArrayRegion, 213, "rjl") \
+    FN(SetIntArrayRegion, 214, "rjl") \
+    FN(SetLongArrayRegion, 215, "rjl") \
+    FN(SetFloatArrayRegion, 216, "rjl") \
+    FN(SetDoubleArrayRegion, 217, "rjl") \
     FN(GetPrimitiveArrayCritical, 218, "r") \
     FN(ReleasePrimitiveArrayCritical, 219, "rbn") \
     FN(RegisterNatives, 220, "rm") \
     FN(UnregisterNatives, 221, "r") \
     FN(MonitorEnter, 222, "r") \
     FN(MonitorExit, 223, "r") \
-    FN(NewDirectByteBuffer, 224, "v") \
+    FN(NewDirectByteBuffer, 224, "j") \
     FN(GetDirectBufferAddress, 225, "r") \
     FN(GetDirectBufferCapacity, 226, "r") \
     FN(FromReflectedMethod, 227, "r") \
     FN(FromReflectedField, 228, "r") \
-    FN(ToReflectedMethod, 229, "riv") \
-    FN(ToReflectedField, 230, "riv") \
+    FN(ToReflectedMethod, 229, "rij") \
+    FN(ToReflectedField, 230, "rij") \
     FN(GetJavaVM, 231, "") \
     FN(DestroyJavaVM, 232, "") \
     FN(AttachCurrentThread, 233, "") \

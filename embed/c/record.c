@@ -152,8 +152,10 @@ static jg_value operand(const record_line *line, char *field, char sort) {
         return named(line, field, JG_BUFFER);
     case 'n':
         return jg_number((int32_t)signed_number(field));
-    case 'v':
+    case 'j':
         return jg_any_number(signed_number(field));
+    case 'v':
+        return jg_item(signed_number(field));
     case 'i':
         return jg_id(strcmp(field, "id") == 0);
     case 'c':

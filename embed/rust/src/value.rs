@@ -12,7 +12,7 @@ const BUFFER: u32 = 5;
 const ENVIRONMENT: u32 = 6;
 const OBJECT: u32 = 7;
 const NUMBER: u32 = 8;
-const ANY_NUMBER: u32 = 9;
+const WIDE: u32 = 9;
 const ID: u32 = 10;
 const CLASS: u32 = 11;
 const NATIVE: u32 = 12;
@@ -228,9 +228,15 @@ impl Value {
         Value(value(NUMBER, 0, number as i64 as u64))
     }
 
-    /// Any other number, or a value of a field or an item; of a float and a double its bits.
+    /// Any other number: a JNI version, an index, a length of a direct buffer.
     pub const fn any_number(number: i64) -> Value {
-        Value(value(ANY_NUMBER, 0, number as u64))
+        let is_narrow = i32::MIN as i64 <= number && number <= i32::MAX as i64;
+        Value(value(if is_narrow { NUMBER } else { WIDE }, 0, number as u64))
+    }
+
+    /// A value of a field or an item; of a float and a double its bits.
+    pub const fn item(bits: i64) -> Value {
+        Value(value(WIDE, 0, bits as u64))
     }
 
     /// The ID of a field or a method: whether it fits the object, the function's type, and static or not.
@@ -343,6 +349,8 @@ mod tests {
         assert_eq!(Value::number(-1).0.number, u64::MAX);
         assert_eq!(Value::number(i32::MAX).0.number, 2_147_483_647);
         assert_eq!(Value::any_number(i64::MIN).0.number, 1 << 63);
+        assert_eq!(Value::any_number(-1), Value::number(-1));
+        assert_ne!(Value::item(-1), Value::number(-1));
     }
 
     #[test]
