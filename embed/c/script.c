@@ -54,7 +54,7 @@ static int64_t call(jg_guard *guard, const char *line, size_t size, uint8_t *ent
     if (length == JG_UNWRITTEN) {
         return jg_newest_line(guard, entry, JG_LINE);
     }
-    if (length >= 0 && (jg_newest_line(guard, newest, sizeof newest) != length ||
+    if (length >= 0 && (must(jg_newest_line(guard, newest, sizeof newest)) != length ||
                         memcmp(newest, entry, (size_t)length) != 0)) {
         end_with(DIFFERS, "the newest line is another one");
     }
@@ -70,7 +70,7 @@ static int answer_lines(jg_guard *guard, const bytes_read *script, int explains)
         const char *end = (const char *)memchr(line, '\n', script->size - begun);
         size_t size = end ? (size_t)(end - line) : script->size - begun;
         int32_t rule = jg_judge_line(guard, jg_bytes(line), size);
-        int64_t length = call(guard, line, size, entry);
+        int64_t length = rule == JG_NO_MEMORY ? rule : call(guard, line, size, entry);
         number++;
         if (length < 0) {
             return say_fault(number, length);
