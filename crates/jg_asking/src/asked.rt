@@ -7,8 +7,10 @@ use jg_functions::place_of;
 use jg_guard::Guard;
 use jg_questions::{Argument, Bounds};
 use jg_words::{
-    BufId, BuffersCall, Call, FieldId, MonitorsCall, ObjectsCall, Primitive, RefsCall, StringsCall,
+    BufId, BuffersCall, Call, EnvId, FieldId, MonitorsCall, ObjectsCall, Primitive, RefsCall,
+    StringsCall, Tid,
 };
+use std::alloc::Global;
 
 /// Which call.
 #[derive(Clone, Copy)]
@@ -122,6 +124,52 @@ pub fn asked(core: &mut Core, kind: Kind, count: u64) -> Option<()> {
             ask_for(core, "ReleasePrimitiveArrayCritical", &release, count)
         }
     }
+}
+
+/// A question as it comes of native code: nothing of it is known beforehand.
+#[derive(Clone, Copy)]
+struct Question {
+    tid: Tid,
+    env: Option<EnvId>,
+    function: u16,
+    argument: Argument,
+}
+
+/// Asks the questions so many times over, and keeps the tickets of a round.
+fn ask_rounds(alloc: Global, core: &Core, questions: &[Question], rounds: u64) -> Option<()> {
+    let mut tickets = Vec::new(alloc);
+    for _ in 0..rounds {
+        tickets.clear();
+        for question in questions {
+            let &Question {
+                tid,
+                env,
+                function,
+                argument,
+            } = question;
+            let Answer::Passed(ticket) = core.ask(UNBOUNDED, tid, env, function, &[argument]) else {
+                return None;
+            };
+            tickets.push(ticket).ok()?;
+        }
+    }
+    Some(())
+}
+
+/// Asks for a string's length so many times, by two questions in turn, as a machine asks whose calls come from outside.
+pub fn asked_from_outside(alloc: Global, core: &mut Core, count: u64) -> Option<()> {
+    let function = place_of("GetStringLength".as_bytes())?;
+    let mut questions = Vec::new(alloc);
+    for _ in 0..2 {
+        let question = Question {
+            tid: THREAD,
+            env: ENV,
+            function,
+            argument: Argument::Reference(local(1)),
+        };
+        questions.push(question).ok()?;
+    }
+    ask_rounds(alloc, core, questions.as_slice(), count / 2)
 }
 
 /// Makes calls of that kind so many times. None is denied.

@@ -7,7 +7,7 @@ mod asked;
 mod prepared;
 mod told;
 
-use crate::asked::{Kind, asked, called, judged};
+use crate::asked::{Kind, asked, asked_from_outside, called, judged};
 use crate::prepared::{core_of, guard_of};
 use crate::told::{Pair, fill, let_go, pairs, sessions, strings};
 use std::env;
@@ -32,6 +32,11 @@ fn run(rt: &HostRuntime, what: &str, count: u64, live: u64) -> Option<()> {
             let mut core = core_of(alloc)?;
             fill(&mut core, live)?;
             asked(&mut core, Kind::named(kind)?, count)
+        }
+        "outside" => {
+            let mut core = core_of(alloc)?;
+            fill(&mut core, live)?;
+            asked_from_outside(alloc, &mut core, count)
         }
         "tell" => {
             let mut core = core_of(alloc)?;

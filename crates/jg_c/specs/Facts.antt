@@ -60,11 +60,19 @@ holding_fact f t =
 abbrev pub lent : JgFact → Tid → Family → ObjId → Option Fact
 lent f t family o = option_map (λ via. Lend t family o via f.second) (reference_of f.name)
 
+-- a reference was handed out
+abbrev pub hand_fact : JgFact → Tid → Option Fact
+hand_fact f t = option_and_then (λ kind. option_map (λ o. Hand t kind o) (thing_of f)) (kind_of f.first)
+
+-- a reference ended
+abbrev pub lost_fact : JgFact → Option Fact
+lost_fact f = option_map (λ r. Lost r) (reference_of f.name)
+
 -- of a reference or of a buffer
 abbrev pub name_fact : JgFact → Tid → Option Fact
 name_fact f t =
-    if nat_eq f.word 10 then option_and_then (λ kind. option_map (λ o. Hand t kind o) (thing_of f)) (kind_of f.first)
-    else if nat_eq f.word 11 then option_map (λ r. Lost r) (reference_of f.name)
+    if nat_eq f.word 10 then hand_fact f t
+    else if nat_eq f.word 11 then lost_fact f
     else if nat_eq f.word 12
     then option_and_then (λ family. option_and_then (λ o. lent f t family o) (thing_of f)) (family_of f.first)
     else if nat_eq f.word 13 then option_map (λ b. Back b) (buffer_of f.name)

@@ -18,6 +18,7 @@ use crate::verdict::{JgVerdict, write_answer};
 use jg_core::{Core, Ended};
 use jg_questions::{Argument, Bounds};
 
+#[inline(always)]
 fn ask(
     asked: &mut CoreSession,
     thread: u32,

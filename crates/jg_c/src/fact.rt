@@ -8,6 +8,12 @@ use jg_buffers::Family;
 use jg_core::{Checked, Fact};
 use jg_words::{ItemType, ObjId, Primitive, Tid};
 
+/// The word of a reference that was handed out.
+pub(crate) const HANDED: u32 = 10;
+
+/// The word of a reference that ended.
+pub(crate) const LOST: u32 = 11;
+
 /// A fact as C holds it. It is `jg_fact` in jg.h, which names the words and says which fields each has; the others are
 /// 0.
 #[repr(C)]
@@ -40,6 +46,7 @@ impl JgFact {
 }
 
 /// The family of buffers of this number.
+#[inline(always)]
 pub(crate) fn family_of(number: u32) -> Option<Family>
     ensures { result ≡ facts.family_of number }
 {
@@ -61,6 +68,7 @@ pub(crate) fn family_of(number: u32) -> Option<Family>
 }
 
 /// The object that it speaks of, where it must speak of one.
+#[inline(always)]
 fn thing_of(fact: &JgFact) -> Option<ObjId>
     ensures { result ≡ facts.thing_of fact.now }
 {
@@ -117,17 +125,33 @@ fn holding_fact(fact: &JgFact, tid: Tid) -> Option<Fact>
     }
 }
 
+/// A reference that was handed out.
+#[inline(always)]
+fn hand_fact(fact: &JgFact, tid: Tid) -> Option<Fact>
+    ensures { result ≡ facts.hand_fact fact.now tid }
+{
+    Some(Fact::Hand {
+        tid,
+        kind: kind_of(fact.first)?,
+        object: thing_of(fact)?,
+    })
+}
+
+/// A reference that ended.
+#[inline(always)]
+fn lost_fact(fact: &JgFact) -> Option<Fact>
+    ensures { result ≡ facts.lost_fact fact.now }
+{
+    Some(Fact::Lost(fact.name.reference()?))
+}
+
 /// A fact of a reference or of a buffer.
 fn name_fact(fact: &JgFact, tid: Tid) -> Option<Fact>
     ensures { result ≡ facts.name_fact fact.now tid }
 {
     match fact.word {
-        10 => Some(Fact::Hand {
-            tid,
-            kind: kind_of(fact.first)?,
-            object: thing_of(fact)?,
-        }),
-        11 => Some(Fact::Lost(fact.name.reference()?)),
+        HANDED => hand_fact(fact, tid),
+        LOST => lost_fact(fact),
         12 => Some(Fact::Lend {
             tid,
             family: family_of(fact.first)?,
@@ -180,6 +204,23 @@ fn checked_fact(fact: &JgFact, tid: Tid) -> Option<Checked>
         }),
         _ => None,
     }
+}
+
+/// As [`fact_of`], of numbers whose word is [`HANDED`].
+#[inline(always)]
+pub(crate) fn handed(fact: &JgFact) -> Option<Fact>
+    ensures { fact.now.word ≡ 10 → result ≡ facts.fact_of fact.now }
+{
+    hand_fact(fact, thread_of(fact.thread)?)
+}
+
+/// As [`fact_of`], of numbers whose word is [`LOST`].
+#[inline(always)]
+pub(crate) fn lost(fact: &JgFact) -> Option<Fact>
+    ensures { fact.now.word ≡ 11 → result ≡ facts.fact_of fact.now }
+{
+    let _tid = thread_of(fact.thread)?;
+    lost_fact(fact)
 }
 
 /// The fact that the numbers state, if they state one.

@@ -50,6 +50,7 @@ fn stated_of(detail: u32, number: u64) -> Option<Option<u32>>
     }
 }
 
+#[inline(always)]
 fn number_of(number: u64) -> Option<i32>
     ensures { result ≡ operands.number_of number }
 {
@@ -60,6 +61,7 @@ fn number_of(number: u64) -> Option<i32>
 }
 
 /// The operand that the value is, if it is one.
+#[inline(always)]
 pub(crate) fn operand_of(value: JgValue) -> Option<Argument>
     ensures { result ≡ operands.operand_of value }
 {

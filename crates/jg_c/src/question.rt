@@ -19,6 +19,7 @@ pub(crate) struct Head {
 }
 
 /// Reads the operands into the list, or answers why there are none.
+#[inline(always)]
 fn read_operands(values: &[JgValue], arguments: &mut Vec<Argument>) -> Result<(), i32>
     ensures ok { IfOk result (λ done. operands_of values.now ≡ Some arguments.new.items) }
     ensures err { IfErr result (λ n. n ≢ errors.no_memory → (n ≡ errors.bad_value) × (operands_of values.now ≡ None)) }
@@ -39,6 +40,7 @@ fn read_operands(values: &[JgValue], arguments: &mut Vec<Argument>) -> Result<()
 }
 
 /// The place in the table.
+#[inline(always)]
 fn place_of(function: u32) -> Option<u16>
     ensures { result ≡ place_of function }
 {
@@ -49,6 +51,7 @@ fn place_of(function: u32) -> Option<u16>
 }
 
 /// Reads a question, its operands into the list, or answers why the numbers state none.
+#[inline(always)]
 pub(crate) fn read_question(
     thread: u32,
     env: &JgValue,

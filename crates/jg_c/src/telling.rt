@@ -11,7 +11,7 @@ ghost use Rattle.jg_c.specs.Telling as specs;
 ghost use Rattle.jg_c.specs.Tickets as tickets;
 
 use crate::error::{BAD_FACT, BAD_TICKET, BAD_VALUE, CLOSED, DONE, IMPOSSIBLE, of_untold};
-use crate::fact::{JgFact, fact_of};
+use crate::fact::{HANDED, JgFact, LOST, fact_of, handed, lost};
 use crate::given::{of_given, says_of};
 use crate::handle::Handle;
 use crate::session::CoreSession;
@@ -26,6 +26,7 @@ use jg_watch::tell;
 const WRITTEN: i32 = 1;
 
 /// The name of what was handed out.
+#[inline(always)]
 fn of_reply(reply: Reply) -> JgValue
     ensures { result ≡ specs.of_reply reply }
 {
@@ -38,6 +39,7 @@ fn of_reply(reply: Reply) -> JgValue
     }
 }
 
+#[inline(always)]
 fn tell_fact(asked: &mut CoreSession, fact: Fact, given: &mut JgValue) -> i32
     ensures tells { specs.TellsFact asked.old asked.new fact given.new result }
     ensures kept { result ≢ errors.done → given.new ≡ given.old }
@@ -54,6 +56,22 @@ fn tell_fact(asked: &mut CoreSession, fact: Fact, given: &mut JgValue) -> i32
     }
 }
 
+/// Tells the fact, where the numbers stated one.
+#[inline(always)]
+fn tell_stated(asked: &mut CoreSession, fact: Option<Fact>, given: &mut JgValue) -> i32
+    ensures tells { specs.Tells asked.old asked.new fact given.new result }
+    ensures kept { result ≢ errors.done → given.new ≡ given.old }
+    ensures numbers { result ≢ errors.closed }
+    ensures stayed { result ≢ errors.done → Stayed asked.old.core asked.new.core }
+    ensures bounds { asked.new.bounds ≡ asked.old.bounds }
+{
+    match fact {
+        Some(fact) => tell_fact(asked, fact, given),
+        None => BAD_FACT,
+    }
+}
+
+/// Tells what the numbers state. What machines tell most often is told at once: its fact isn't built and taken apart.
 fn tell_numbers(asked: &mut CoreSession, fact: &JgFact, given: &mut JgValue) -> i32
     ensures tells { specs.Tells asked.old asked.new (facts.fact_of fact.now) given.new result }
     ensures kept { result ≢ errors.done → given.new ≡ given.old }
@@ -61,9 +79,10 @@ fn tell_numbers(asked: &mut CoreSession, fact: &JgFact, given: &mut JgValue) -> 
     ensures stayed { result ≢ errors.done → Stayed asked.old.core asked.new.core }
     ensures bounds { asked.new.bounds ≡ asked.old.bounds }
 {
-    match fact_of(fact) {
-        Some(fact) => tell_fact(asked, fact, given),
-        None => BAD_FACT,
+    match fact.word {
+        HANDED => tell_stated(asked, handed(fact), given),
+        LOST => tell_stated(asked, lost(fact), given),
+        _ => tell_stated(asked, fact_of(fact), given),
     }
 }
 
@@ -85,6 +104,7 @@ pub extern "C" fn jg_tell(core: &mut Handle, fact: &JgFact, given: &mut JgValue)
     }
 }
 
+#[inline(always)]
 fn take_return(asked: &mut CoreSession, ticket: Ticket, says: Says, given: &mut JgValue) -> i32
     ensures returns { specs.Returns asked.old asked.new ticket says given.new result }
     ensures kept { result ≢ errors.done → given.new ≡ given.old }
@@ -101,6 +121,7 @@ fn take_return(asked: &mut CoreSession, ticket: Ticket, says: Says, given: &mut 
     }
 }
 
+#[inline(always)]
 fn did(asked: &mut CoreSession, ticket: &JgTicket, says: &JgValue, given: &mut JgValue) -> i32
     ensures did { specs.Did asked.old asked.new (tickets.ticket_of ticket.now) (givens.says_of says.now) given.new
         result }

@@ -56,6 +56,7 @@ pub(crate) fn ticket_of(ticket: &JgTicket) -> Option<Ticket>
 }
 
 /// The numbers of a ticket.
+#[inline(always)]
 pub(crate) fn of_ticket(ticket: Ticket) -> JgTicket
     ensures { tickets.ticket_of result ≡ Some ticket }
 {

@@ -36,6 +36,7 @@ const ENVIRONMENT: u32 = 6;
 const OBJECT: u32 = 7;
 
 /// The thread of this number, of which there are 65,536.
+#[inline(always)]
 pub(crate) fn thread_of(number: u32) -> Option<Tid>
     ensures { result ≡ values.thread_of number }
 {
@@ -46,6 +47,7 @@ pub(crate) fn thread_of(number: u32) -> Option<Tid>
 }
 
 /// The kind of a reference, by the number of a value's kind.
+#[inline(always)]
 pub(crate) fn kind_of(number: u32) -> Option<Kind>
     ensures { result ≡ values.kind_of number }
 {
@@ -58,6 +60,7 @@ pub(crate) fn kind_of(number: u32) -> Option<Kind>
 }
 
 /// The number of the kind of a reference.
+#[inline(always)]
 pub(crate) fn number_of(kind: Kind) -> u32
     ensures is { result ≡ values.number_of kind }
     ensures back { values.kind_of result ≡ Some kind }
@@ -85,6 +88,7 @@ impl JgValue {
     };
 
     /// The reference that it names, if it names one; `NULL` is one.
+    #[inline(always)]
     pub(crate) fn reference(self) -> Option<Ref>
         ensures { result ≡ values.reference_of self }
     {
@@ -101,6 +105,7 @@ impl JgValue {
     }
 
     /// The buffer that it names, if it names one.
+    #[inline(always)]
     pub(crate) fn buffer(self) -> Option<BufId>
         ensures { result ≡ values.buffer_of self }
     {
@@ -115,6 +120,7 @@ impl JgValue {
     }
 
     /// The environment that it names, or none where it is nothing.
+    #[inline(always)]
     pub(crate) fn environment(self) -> Option<Option<EnvId>>
         ensures { result ≡ values.environment_of self }
     {
@@ -132,6 +138,7 @@ impl JgValue {
     }
 
     /// The object that it names, or none where it is `NULL`.
+    #[inline(always)]
     pub(crate) fn object(self) -> Option<Option<ObjId>>
         ensures { result ≡ values.object_of self }
     {
@@ -144,6 +151,7 @@ impl JgValue {
 }
 
 /// The name of a reference.
+#[inline(always)]
 pub(crate) fn of_reference(reference: Ref) -> JgValue
     ensures is { result ≡ values.of_reference reference }
     ensures back { values.reference_of result ≡ Some reference }
@@ -159,6 +167,7 @@ pub(crate) fn of_reference(reference: Ref) -> JgValue
 }
 
 /// The name of a buffer.
+#[inline(always)]
 pub(crate) fn of_buffer(buffer: BufId) -> JgValue
     ensures is { result ≡ values.of_buffer buffer }
     ensures back { values.buffer_of result ≡ Some buffer }
@@ -171,6 +180,7 @@ pub(crate) fn of_buffer(buffer: BufId) -> JgValue
 }
 
 /// The name of an environment.
+#[inline(always)]
 pub(crate) fn of_environment(env: EnvId) -> JgValue
     ensures { result ≡ values.of_environment env }
 {
@@ -182,6 +192,7 @@ pub(crate) fn of_environment(env: EnvId) -> JgValue
 }
 
 /// The name of an object.
+#[inline(always)]
 pub(crate) fn of_object(object: ObjId) -> JgValue
     ensures is { result ≡ values.of_object object }
     ensures back { values.object_of result ≡ Some (Some object) }

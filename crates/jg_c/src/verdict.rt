@@ -48,6 +48,7 @@ fn no_ticket() -> JgTicket
 }
 
 /// Writes the answer, where a rule was asked for, and answers its number.
+#[inline(always)]
 pub(crate) fn write_answer(answer: Answer, verdict: &mut JgVerdict) -> i32
     ensures is { IsAnswered answer verdict.new result }
     ensures kept { result ≢ errors.done → verdict.new ≡ verdict.old }

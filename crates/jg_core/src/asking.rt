@@ -95,6 +95,7 @@ fn given_for<A: Allocator + Clone>(
 impl<A: Allocator + Clone> Core<A> {
     /// Asks whether the thread, with this environment, may now call the function at this place of the table, with
     /// these operands. A question changes nothing. Ask when the call begins.
+    #[inline(always)]
     pub fn ask(
         &self,
         bounds: Bounds,

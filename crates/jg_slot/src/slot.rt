@@ -24,7 +24,7 @@ impl<T> Model for Slot<T> {
 
 impl<T> Slot<T> {
     /// A slot that holds nothing.
-    pub fn empty() -> Slot<T>
+    pub(crate) fn empty() -> Slot<T>
         ensures { result.value ≡ None }
     {
         Slot { at: null_mut() }
@@ -51,7 +51,7 @@ impl<T> Slot<T> {
     }
 
     /// A slot that holds the box.
-    pub fn of(value: Box<T>) -> Slot<T>
+    pub(crate) fn of(value: Box<T>) -> Slot<T>
     where
         T: Drop,
         ensures { result.value ≡ Some value.value }
@@ -60,7 +60,7 @@ impl<T> Slot<T> {
     }
 
     /// The box that it owns, if it owns one.
-    pub fn into_box(self, alloc: Global) -> Option<Box<T>>
+    pub(crate) fn into_box(self, alloc: Global) -> Option<Box<T>>
         ensures { MatchOption result (self.value ≡ None) (λ b. self.value ≡ Some b.value) }
     {
         match self.into_parts(alloc) {

@@ -11,6 +11,7 @@ use jg_record::Reply;
 use jg_words::Ref;
 use std::alloc::Allocator;
 
+#[inline(always)]
 fn reference_reply(reference: Option<Ref>) -> Reply
     ensures { result ≡ reference_reply reference }
 {
@@ -21,6 +22,7 @@ fn reference_reply(reference: Option<Ref>) -> Reply
 }
 
 /// Tells the core the fact, which hands out nothing.
+#[inline(always)]
 fn tell_only<A: Allocator + Clone>(core: &mut Core<A>, fact: Fact) -> Result<Reply, Untold>
     ensures took { OnOk result (Took core.old core.new fact) }
     ensures nothing { IfOk result (λ reply. reply ≡ Nothing) }
@@ -34,6 +36,7 @@ fn tell_only<A: Allocator + Clone>(core: &mut Core<A>, fact: Fact) -> Result<Rep
 }
 
 /// Tells the core the fact, and answers the name of what it hands out.
+#[inline(always)]
 pub fn tell<A: Allocator + Clone>(core: &mut Core<A>, fact: Fact) -> Result<Reply, Untold>
     ensures took { OnOk result (Took core.old core.new fact) }
     ensures reply { IfOk result (λ reply. (w : List FactOf) → CoreStands core.old w
