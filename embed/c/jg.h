@@ -396,6 +396,12 @@ int64_t jg_help_text(uint32_t rule, uint8_t *text, size_t room);
  */
 int64_t jg_error_name(int32_t number, uint8_t *text, size_t room);
 
+/*
+ * Whether the bytes are modified UTF-8 (JNI Specification, chapter 3), which NewStringUTF takes: 1 or 0, or
+ * JG_NO_MEMORY. The final 0 of a C string isn't one of them.
+ */
+int32_t jg_is_utf8(const uint8_t *text, size_t size);
+
 #ifdef __cplusplus
 }
 #endif
@@ -640,6 +646,14 @@ static inline int64_t jg_checked_error_name(int32_t number, uint8_t *text, size_
     return jg_error_name(number, text ? text : &nowhere, room);
 }
 
+static inline int32_t jg_checked_is_utf8(const uint8_t *text, size_t size) {
+    const uint8_t nowhere = 0;
+    if (!text && size) {
+        return JG_NULL_POINTER;
+    }
+    return jg_is_utf8(text ? text : &nowhere, size);
+}
+
 #define jg_core_open jg_checked_core_open
 #define jg_core_close jg_checked_core_close
 #define jg_ask jg_checked_ask
@@ -668,6 +682,7 @@ static inline int64_t jg_checked_error_name(int32_t number, uint8_t *text, size_
 #define jg_rule_text jg_checked_rule_text
 #define jg_help_text jg_checked_help_text
 #define jg_error_name jg_checked_error_name
+#define jg_is_utf8 jg_checked_is_utf8
 
 #endif
 

@@ -399,9 +399,28 @@ static void refuse_null_in_openings(void) {
     REFUSED(JG_NULL_POINTER, jg_rule_text(1, NULL, 1));
     REFUSED(JG_NULL_POINTER, jg_help_text(1, NULL, 1));
     REFUSED(JG_NULL_POINTER, jg_error_name(JG_CLOSED, NULL, 1));
+    REFUSED(JG_NULL_POINTER, jg_is_utf8(NULL, 1));
     DONE(1, jg_version(NULL, 0) > 0 && jg_rule_text(1, NULL, 0) > 0 && jg_help_text(1, NULL, 0) > 0);
     DONE(11, jg_rule_name(1, NULL, 0));
     DONE(6, jg_error_name(JG_CLOSED, NULL, 0));
+    DONE(1, jg_is_utf8(NULL, 0));
+}
+
+/* Bytes that are modified UTF-8, and others: a 0, overlong forms, what is cut short, a form of four bytes. */
+static void test_utf8(void) {
+    static const char *const TEXTS[] = {
+        "a", "\x7F", "\xC0\x80", "\xC2\x80", "\xE0\xA0\x80", "\xED\xA0\x80\xED\xB0\x80",
+    };
+    static const char *const OTHERS[] = {
+        "\x80", "\xC1\x81", "\xC2", "\xE0\x9F\xBF", "\xE0\xA0", "\xF0\x90\x80\x80", "\xFF",
+    };
+    for (size_t at = 0; at < sizeof TEXTS / sizeof *TEXTS; at++) {
+        DONE(1, jg_is_utf8(jg_bytes(TEXTS[at]), strlen(TEXTS[at])));
+    }
+    for (size_t at = 0; at < sizeof OTHERS / sizeof *OTHERS; at++) {
+        DONE(0, jg_is_utf8(jg_bytes(OTHERS[at]), strlen(OTHERS[at])));
+    }
+    DONE(0, jg_is_utf8(jg_bytes("a\0b"), 3));
 }
 
 /* ---- the guard ---- */
@@ -492,6 +511,7 @@ int main(void) {
     refuse_null_in_openings();
     refuse_guard();
     refuse_numbers();
+    test_utf8();
     printf("%d refusals, %d wrong\n", refusals, wrong);
     return wrong != 0;
 }

@@ -21,6 +21,7 @@ mod telling;
 mod texts;
 mod ticket;
 mod told;
+mod utf8;
 mod value;
 mod verdict;
 

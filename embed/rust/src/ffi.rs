@@ -160,6 +160,7 @@ extern "C" {
     pub fn jg_rule_text(rule: u32, text: *mut u8, room: usize) -> i64;
     pub fn jg_help_text(rule: u32, text: *mut u8, room: usize) -> i64;
     pub fn jg_error_name(number: i32, text: *mut u8, room: usize) -> i64;
+    pub fn jg_is_utf8(text: *const u8, size: usize) -> i32;
 }
 
 #[cfg(test)]

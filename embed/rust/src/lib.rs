@@ -82,3 +82,12 @@ pub fn version() -> Result<String, Error> {
     // SAFETY: the room is as long as is said.
     text::whole(|bytes, room| unsafe { ffi::jg_version(bytes, room) })
 }
+
+/// Whether the bytes are modified UTF-8 (JNI Specification, chapter 3), which NewStringUTF takes. Fails only for want of
+/// memory.
+pub fn is_utf8(text: impl AsRef<[u8]>) -> Result<bool, Error> {
+    let text = text.as_ref();
+    // SAFETY: the text is as long as is said.
+    let answer = unsafe { ffi::jg_is_utf8(text.as_ptr(), text.len()) };
+    Ok(error::answered(i64::from(answer))? == 1)
+}

@@ -296,6 +296,17 @@ fn rules_have_the_names_of_the_library() -> Result<(), Error> {
 }
 
 #[test]
+fn modified_utf8_is_told_from_other_bytes() -> Result<(), Error> {
+    for text in ["", "text", "\u{80}", "\u{FFFF}"] {
+        assert!(jg::is_utf8(text)?, "{text:?}");
+    }
+    for bytes in [b"\0".as_slice(), b"\xC1\x81", b"\xE0\xA0", "\u{10000}".as_bytes()] {
+        assert!(!jg::is_utf8(bytes)?, "{bytes:?}");
+    }
+    Ok(())
+}
+
+#[test]
 fn functions_have_names_and_numbers() {
     for (number, function) in (0..).zip(Function::ALL) {
         assert_eq!(function.number(), number);
