@@ -1,0 +1,57 @@
+/*
+ * agent.h: what all files of the agent share: the machine's interfaces, and a few helpers.
+ *
+ * The agent stands between native libraries and HotSpot. A wrapper stands in each slot of the function table (gen.py,
+ * table.c). It asks the core of libjg whether the call may be made (calls.c), has the machine make it, and tells what
+ * came of it. What the core knows by names the machine knows by handles and addresses: names.c, objects.c, ids.c and
+ * buffers.c map one to the other.
+ *
+ * Locks, in the order in which they are taken: the lock of meeting (objects.c), then the core's (core.c), then one of
+ * the small ones (names, buffers, IDs, sites), which are held for a few instructions. None is held while the machine
+ * makes a call of the library, and none but the lock of meeting while the agent calls the machine.
+ */
+#ifndef AGENT_H
+#define AGENT_H
+
+#define JG_NO_CHECKS
+#include "jg.h"
+#include "jg_functions.h"
+
+#include <jni.h>
+#include <jvmti.h>
+#include <stddef.h>
+#include <stdint.h>
+
+extern JavaVM *vm;
+extern jvmtiEnv *tool;
+
+/* The machine's own functions. They are called in place of the wrappers. */
+extern struct JNINativeInterface_ *machine;
+extern const struct JNIInvokeInterface_ *machine_invocation;
+
+/* Whether the agent was there before the first library: then no ID and no handle was handed out unseen. */
+extern int is_from_start;
+
+/* Whether the machine is between its start and its end, so that it may be asked about objects. */
+extern _Atomic int is_live;
+
+/* Memory that must be had: without it the agent says so and aborts. The first is filled with zeros. */
+void *must_make(size_t size);
+void *must_grow(void *items, size_t size);
+char *must_copy(const char *text);
+
+/* Makes room for one item more in an array of `count` items, of which `room` have a place. */
+#define MAKE_ROOM(items, count, room)                                                                                  \
+    do {                                                                                                               \
+        if ((count) == (room)) {                                                                                       \
+            (room) = (room) ? 2 * (room) : 16;                                                                         \
+            (items) = must_grow((items), (room) * sizeof *(items));                                                    \
+        }                                                                                                              \
+    } while (0)
+
+/* The address that a handle is. */
+static inline uintptr_t address_of(jobject handle) {
+    return (uintptr_t)handle;
+}
+
+#endif

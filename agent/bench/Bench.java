@@ -1,0 +1,72 @@
+import java.util.Arrays;
+import java.util.Locale;
+
+/** Times JNI calls: the median of so many samples, in nanoseconds a call. */
+public class Bench {
+    static {
+        System.loadLibrary("bench");
+    }
+
+    int number = 1;
+
+    static native double lengths(String text, int count);
+    static native double locals(String text, int count);
+    static native double fields(Bench object, int count);
+    static native double criticals(int[] array, int count);
+    static native void empty();
+
+    interface Sample {
+        double take(int count) throws Exception;
+    }
+
+    static double empties(int count) {
+        long begun = System.nanoTime();
+        for (int at = 0; at < count; at++) {
+            empty();
+        }
+        return (System.nanoTime() - begun) / (double) count;
+    }
+
+    /** GetStringLength by four threads at once: nanoseconds for each call of all. */
+    static double together(int count) throws Exception {
+        Thread[] threads = new Thread[4];
+        long begun = System.nanoTime();
+        for (int at = 0; at < threads.length; at++) {
+            String text = "text " + at;
+            threads[at] = new Thread(() -> lengths(text, count));
+            threads[at].start();
+        }
+        for (Thread thread : threads) {
+            thread.join();
+        }
+        return (System.nanoTime() - begun) / (4.0 * count);
+    }
+
+    static String only;
+
+    static void median(String name, int samples, int count, Sample sample) throws Exception {
+        if (only != null && !only.equals(name)) {
+            return;
+        }
+        double[] taken = new double[samples];
+        sample.take(count);
+        for (int at = 0; at < samples; at++) {
+            taken[at] = sample.take(count);
+        }
+        Arrays.sort(taken);
+        System.out.printf(Locale.ROOT, "%s %.1f%n", name, taken[samples / 2]);
+    }
+
+    public static void main(String[] words) throws Exception {
+        int samples = Integer.parseInt(words[0]), count = Integer.parseInt(words[1]);
+        only = words.length > 2 ? words[2] : null;
+        Bench object = new Bench();
+        int[] array = new int[16384];
+        median("GetStringLength", samples, count, n -> lengths("a text", n));
+        median("NewLocalRef+DeleteLocalRef", samples, count, n -> locals("a text", n));
+        median("GetIntField", samples, count, n -> fields(object, n));
+        median("critical-64KB", samples, Math.max(1, count / 20), n -> criticals(array, n));
+        median("empty-native", samples, count, n -> empties(n));
+        median("GetStringLength-by-4", samples, count, n -> together(n));
+    }
+}

@@ -1,0 +1,42 @@
+/*
+ * buffers.h: memory that the machine lends. Native code is handed a copy between two guard zones.
+ */
+#ifndef BUFFERS_H
+#define BUFFERS_H
+
+#include "agent.h"
+#include "calls.h"
+
+struct lent;
+
+/* The mode of a release by a function that has none. */
+enum { NO_MODE = INT32_MIN };
+
+/* A release, from its beginning until the machine has taken its memory back. */
+struct given_back {
+    struct lent *lent; /* NULL where the memory is the machine's own */
+    struct call *call; /* NULL where it isn't judged */
+    void *memory;      /* what the machine is given */
+    jint mode;
+    JNIEnv *env;
+    jobject object;
+};
+
+/* The machine lent `memory` of the operand, or NULL: what native code is handed in its place. */
+void *buffers_lend(struct call *call, void *memory, jboolean *is_copy);
+
+/* A release begins. Whether the machine shall make it, with the memory and the mode of `given`. */
+int buffers_give(struct given_back *given, struct call *call, JNIEnv *env, jobject object, const void *memory,
+                 jint mode);
+void buffers_gave(struct given_back *given);
+
+/* Where a buffer was lent, by which function, and where it was given back, or NULL. */
+void buffers_places(const struct lent *lent, const struct site **made, uint32_t *made_by, const struct site **given);
+
+/* The thread has ended: its critical buffers are closed. */
+void buffers_thread_ended(struct thread *thread);
+
+/* Looks at all copies for the last time, and calls the function for each that is open. */
+void buffers_end(void (*see)(const struct site *made, uint16_t made_by, jg_value name, void *with), void *with);
+
+#endif

@@ -1,0 +1,690 @@
+/*
+ * calls.c: a call of the function table, from its beginning until what came of it is told.
+ *
+ * A call is a question when it begins. What it ends is told in the same round, before the machine ends it; what it
+ * begins is told once the machine has answered. A denied call that is made all the same is told of by its rule.
+ */
+#include "calls.h"
+#include "core.h"
+#include "names.h"
+#include "objects.h"
+#include "options.h"
+#include "report.h"
+
+#include <stdlib.h>
+
+/* A name that the thread was never handed. */
+static jg_value never_made(const struct call *call) {
+    return jg_local(call->thread->number, UINT64_MAX);
+}
+
+/* ---- beginning ---- */
+
+void call_opens(struct call *call, uint32_t function, struct thread *thread, const struct site *site) {
+    memset(call, 0, offsetof(struct call, operands));
+    call->thread = thread;
+    call->site = site;
+    call->function = function;
+    call->row = &rows[function];
+    call->env_name = jg_nothing();
+    call->more = NULL;
+    call->first = call->last = (struct reference){NULL, jg_null(), NULL};
+    call->known.handle = 0;
+    call->made_count = 0;
+    call->texts[0] = call->texts[1] = NULL;
+    call->text_count = 0;
+    call->is_lost = 0;
+    call->lent = NULL;
+    call->verdict.rule = 0;
+    call->kept = jg_nothing();
+    call->reason = call->notice = call->notice_text = NULL;
+}
+
+int call_begins(struct call *call, uint32_t function, JNIEnv *env, uintptr_t at, uintptr_t frame) {
+    struct thread *thread = threads_self();
+    const struct site *site = sites_caller(thread, at, frame);
+    if (!site->is_judged || !is_live || !threads_is_numbered(thread)) {
+        thread->is_unsure = 1;
+        return 0;
+    }
+    if (!threads_is_caught_up(thread, env, frame)) {
+        threads_catch_up(thread, env, frame);
+    }
+    call_opens(call, function, thread, site);
+    call->env = env;
+    call->is_own_env = thread->is_attached && env == thread->env;
+    call->was_pending = thread->is_pending;
+    if (call->row->takes_env) {
+        call->env_name = threads_env_name(thread, env);
+    }
+    return 1;
+}
+
+void call_operand_of(struct call *call, jg_value operand, jobject handle) {
+    if (call->count == FEW_OPERANDS && call->more == NULL) {
+        call->more = must_make(sizeof *call->more);
+        memcpy(call->more->values, call->operands, sizeof call->operands);
+        memcpy(call->more->handles, call->handles, sizeof call->handles);
+    }
+    if (call->count < MOST_OPERANDS) {
+        (call->more ? call->more->values : call->operands)[call->count] = operand;
+        (call->more ? call->more->handles : call->handles)[call->count++] = handle;
+    }
+}
+
+void call_operand(struct call *call, jg_value operand) {
+    call_operand_of(call, operand, NULL);
+}
+
+const jg_value *call_operands(const struct call *call) {
+    return call->more ? call->more->values : call->operands;
+}
+
+jobject call_handle_of(const struct call *call, uint32_t operand) {
+    return operand > 0 && operand <= call->count ? (call->more ? call->more->handles : call->handles)[operand - 1]
+                                                 : NULL;
+}
+
+/* ---- references ---- */
+
+/* A slot that the machine has emptied, or has in its list of free ones. */
+static int is_free_slot(jobject handle) {
+    uintptr_t held;
+    memcpy(&held, (const void *)(address_of(handle) & ~(uintptr_t)3), sizeof held);
+    return held == 0 || (held & 1) != 0;
+}
+
+/* An argument of a native method is a place on the stack, which is the machine's word only while the method runs. */
+static int is_stale_argument(const struct thread *thread, uintptr_t handle) {
+    if (handle < thread->stack_low || handle >= thread->stack_high) {
+        return 0;
+    }
+    if (thread->depth == 0) {
+        /* In a machine that was running already, the method may have begun before the agent came. */
+        return is_from_start;
+    }
+    return thread->activations[thread->depth - 1].native->is_judged;
+}
+
+jobjectRefType call_kind(const struct call *call, jobject handle) {
+    if (!call->is_own_env || is_stale_argument(call->thread, address_of(handle))) {
+        return JNIInvalidRefType;
+    }
+    jobjectRefType kind = machine->GetObjectRefType(call->env, handle);
+    if ((kind == JNILocalRefType || kind == JNIGlobalRefType) && is_free_slot(handle)) {
+        return JNIInvalidRefType;
+    }
+    return kind;
+}
+
+static void tell_lost(const struct call *call, jg_value name) {
+    core_lock();
+    core_tell(jg_fact_of(JG_LOST, call->thread->number, name, jg_null(), 0, 0), NULL);
+    core_unlock();
+}
+
+/* Gives the handle its name. A live one that it had before can't be in being any longer. */
+static void put_name(struct call *call, jobject handle, jg_value name, struct object *object, uint16_t made_by) {
+    struct name before, made = {.handle = address_of(handle), .name = name, .object = object, .made = call->site};
+    made.made_by = made_by;
+    made.is_believed = made_by != MADE_UNSEEN && (name.kind != JG_LOCAL || call->thread->depth > 0);
+    if (name.kind == JG_LOCAL) {
+        made.frame = threads_add_local(call->thread, made.handle, name.number);
+    }
+    if (names_put(&made, &before)) {
+        tell_lost(call, before.name);
+    }
+}
+
+void call_names(struct call *call, jobject handle, jg_value name, struct object *object) {
+    put_name(call, handle, name, object, (uint16_t)call->function);
+}
+
+/* What is told of a reference that a library made which isn't judged: it is handed when a judged call first uses it. */
+static void adopt(struct call *call, struct reference *it, jobjectRefType kind) {
+    static const uint32_t KINDS[] = {
+        [JNILocalRefType] = JG_LOCAL, [JNIGlobalRefType] = JG_GLOBAL, [JNIWeakGlobalRefType] = JG_WEAK};
+    jg_value given = jg_nothing();
+    it->object = objects_of(call->env, it->handle);
+    if (it->object == NULL && kind != JNIWeakGlobalRefType) {
+        it->name = never_made(call);
+        return;
+    }
+    int is_cleared = it->object == NULL;
+    it->object = is_cleared ? objects_cleared() : objects_hold(it->object);
+    core_lock();
+    int32_t error = core_tell_of(jg_fact_of(JG_GOT, call->thread->number, jg_nothing(), jg_null(), KINDS[kind], 0),
+                                 it->object, &given);
+    core_unlock();
+    if (error < 0 || it->object->number == 0) {
+        call->is_lost = 1;
+    } else {
+        it->name = given;
+        put_name(call, it->handle, given, it->object, MADE_UNSEEN);
+        if (is_cleared) {
+            core_lock();
+            objects_tell_cleared(it->object);
+            core_unlock();
+        }
+    }
+    objects_drop(it->object);
+    it->object = is_cleared ? NULL : it->object;
+}
+
+void call_sees_global(jobject handle) {
+    struct name before, seen = {.handle = address_of(handle), .state = NAME_SEEN, .made_by = MADE_UNSEEN};
+    if (handle != NULL && is_live && names_put(&seen, &before)) {
+        core_lock();
+        core_tell(jg_fact_of(JG_LOST, 0, before.name, jg_null(), 0, 0), NULL);
+        core_unlock();
+    }
+}
+
+/*
+ * A handle that later machines mark as a global reference, and that none of them handed out or that was deleted. They
+ * die of the question what kind of reference it is.
+ */
+static int is_unseen_global(uintptr_t handle, const struct name *known) {
+    return (handle & 3) == 2 && is_from_start && (known == NULL || known->state == NAME_DEAD);
+}
+
+/* A handle that isn't believed: the machine is asked what it is now. */
+static void ask_machine(struct call *call, struct reference *it, const struct name *known) {
+    int is_dead = is_unseen_global(address_of(it->handle), known);
+    jobjectRefType kind = is_dead ? JNIInvalidRefType : call_kind(call, it->handle);
+    known = known != NULL && known->state == NAME_SEEN ? NULL : known;
+    int is_live_name = known != NULL && known->state == NAME_LIVE;
+    if (kind != JNIInvalidRefType) {
+        if (is_live_name && (kind == JNIWeakGlobalRefType || objects_of(call->env, it->handle) == known->object)) {
+            it->name = known->name;
+            it->object = known->object;
+            return;
+        }
+        adopt(call, it, kind);
+        return;
+    }
+    if (is_live_name) {
+        tell_lost(call, known->name);
+        names_end(known->handle, known->name.number, NAME_DEAD, known->made_by, NULL);
+    }
+    it->name = known ? known->name : never_made(call);
+}
+
+/* A weak reference is made a local one for the call: so its object can't go in the middle of it. */
+static void make_local(struct call *call, struct reference *it) {
+    jobject local = machine->NewLocalRef(call->env, it->handle);
+    if (local == NULL) {
+        core_lock();
+        objects_tell_cleared(it->object);
+        core_unlock();
+        it->object = NULL;
+    } else if (call->made_count < sizeof call->made / sizeof *call->made) {
+        call->made[call->made_count++] = local;
+        it->handle = local;
+    } else {
+        machine->DeleteLocalRef(call->env, local);
+    }
+}
+
+static int is_foreign(const struct call *call, const struct name *known) {
+    return known->name.kind == JG_LOCAL && known->name.detail != call->thread->number;
+}
+
+struct reference call_resolve(struct call *call, jobject handle, int wants_object) {
+    struct reference it = {handle, jg_null(), NULL};
+    struct name *known = &call->known;
+    if (handle == NULL) {
+        return it;
+    }
+    int is_known = names_find(address_of(handle), known);
+    if (is_known && known->state == NAME_HELD) {
+        it.name = known->name;
+    } else if (is_known && known->state == NAME_LIVE && (known->is_believed || !call->is_own_env)) {
+        it.name = known->name;
+        it.object = is_foreign(call, known) ? NULL : known->object;
+    } else if (call->is_own_env) {
+        ask_machine(call, &it, is_known ? known : NULL);
+        known->handle = 0;
+    } else {
+        it.name = is_known && known->state != NAME_SEEN ? known->name : never_made(call);
+    }
+    if (wants_object && it.name.kind == JG_WEAK && it.object != NULL && call->is_own_env) {
+        make_local(call, &it);
+    }
+    return it;
+}
+
+static jobject take_reference(struct call *call, jobject handle, int wants_object) {
+    struct reference it = call_resolve(call, handle, wants_object);
+    if (!call->has_first) {
+        call->has_first = 1;
+        call->first = it;
+    }
+    call->last = it;
+    call_operand_of(call, it.name, handle);
+    return it.handle;
+}
+
+jobject call_object(struct call *call, jobject handle) {
+    return take_reference(call, handle, 1);
+}
+
+jobject call_nullable(struct call *call, jobject handle) {
+    take_reference(call, handle, 0);
+    return handle;
+}
+
+void call_unjudged(struct call *call, jobject handle) {
+    struct name known;
+    jg_value name = handle ? never_made(call) : jg_null();
+    if (handle != NULL && names_find(address_of(handle), &known) && known.state != NAME_SEEN) {
+        name = known.name;
+    }
+    call_operand_of(call, name, handle);
+}
+
+/* ---- other operands ---- */
+
+void call_number(struct call *call, int32_t number) {
+    call_operand(call, jg_number(number));
+}
+
+void call_any(struct call *call, int64_t number) {
+    call_operand(call, jg_any_number(number));
+}
+
+void call_item(struct call *call, int64_t bits) {
+    call_operand(call, jg_item(bits));
+}
+
+/* Whether the text is modified UTF-8. Without memory for the test it is taken for it. */
+static int is_modified_utf8(const char *text) {
+    return jg_is_utf8(jg_bytes(text), strlen(text)) != 0;
+}
+
+static void notice(struct call *call, const char *name, const char *sentence) {
+    call->notice = name;
+    call->notice_text = sentence;
+}
+
+void call_name(struct call *call, const char *name) {
+    if (name != NULL && !is_modified_utf8(name)) {
+        notice(call, "NotUtf8", "a name or a message is no text in modified UTF-8");
+    }
+    if (call->text_count < MOST_NAMES) {
+        call->texts[call->text_count++] = name;
+    }
+    call_operand(call, jg_name());
+}
+
+void call_utf(struct call *call, const char *text) {
+    if (text == NULL) {
+        notice(call, "NullText", "the text is NULL");
+        call_operand(call, jg_list(0, 1));
+        return;
+    }
+    call_operand(call, jg_list(strlen(text), is_modified_utf8(text)));
+}
+
+void call_items(struct call *call, const void *items, int32_t count, char letter) {
+    const unsigned char *booleans = items;
+    int fits = 1;
+    for (int32_t at = 0; letter == 'Z' && booleans != NULL && at < count && fits; at++) {
+        fits = booleans[at] <= 1;
+    }
+    call_operand(call, jg_list(count > 0 ? (uint64_t)count : 0, fits));
+}
+
+/* ---- IDs and arguments ---- */
+
+static const char *const REASONS[] = {
+    [ID_UNKNOWN] = "the machine never handed out such an ID",
+    [ID_OTHER_CLASS] = "the ID is of a class that the object isn't an instance of",
+    [ID_OTHER_MEMBER] = "the ID is of a static member and the function isn't, or the other way round",
+    [ID_OTHER_TYPE] = "the field is of another type than the function",
+};
+
+void call_id(struct call *call, const void *id, enum subject subject, char letter, int is_static, int is_class) {
+    struct id_question question = {subject, letter, is_static, is_class, call->last.handle, call->last.object};
+    enum fit fit = ID_FITS;
+    if (call->last.object != NULL && call->is_own_env) {
+        fit = ids_fit(call->env, id, &question);
+    }
+    if ((fit == ID_UNKNOWN && !is_from_start) || (fit != ID_OTHER_RESULT && call->site->library->is_of_jdk)) {
+        /* The JDK's own libraries were handed IDs before there was a table to replace. */
+        fit = ID_FITS;
+    }
+    if (fit == ID_OTHER_RESULT) {
+        notice(call, "OtherResult", "the function is of another result type than the method");
+        fit = ID_FITS;
+    }
+    call->reason = REASONS[fit];
+    call_operand(call, jg_id(fit == ID_FITS));
+}
+
+static void take_argument(struct call *call, jobject handle) {
+    call_operand_of(call, call_resolve(call, handle, 0).name, handle);
+}
+
+void call_list(struct call *call, jmethodID method, va_list arguments) {
+    const char *letters = ids_arguments(method);
+    va_list rest;
+    va_copy(rest, arguments);
+    for (; letters != NULL && *letters != 0; letters++) {
+        switch (*letters) {
+        case 'L':
+            take_argument(call, va_arg(rest, jobject));
+            break;
+        case 'J':
+            (void)va_arg(rest, jlong);
+            break;
+        case 'F':
+        case 'D':
+            (void)va_arg(rest, jdouble);
+            break;
+        default:
+            (void)va_arg(rest, jint);
+        }
+    }
+    va_end(rest);
+}
+
+void call_values(struct call *call, jmethodID method, const jvalue *arguments) {
+    const char *letters = arguments ? ids_arguments(method) : NULL;
+    for (size_t at = 0; letters != NULL && letters[at] != 0; at++) {
+        if (letters[at] == 'L') {
+            take_argument(call, arguments[at].l);
+        }
+    }
+}
+
+/* ---- asking ---- */
+
+void call_drops(struct call *call) {
+    while (call->made_count > 0) {
+        machine->DeleteLocalRef(call->env, call->made[--call->made_count]);
+    }
+    free(call->more);
+    call->more = NULL;
+}
+
+/*
+ * The memo for such a question, or NULL: of calls that begin and end nothing. A record has each question, so then there
+ * is none.
+ */
+static struct memo *memo_of(const struct call *call) {
+    if (call->row->effect != EFFECT_NOTHING || call->is_ending || call->count > MEMO_OPERANDS || core_is_recorded()) {
+        return NULL;
+    }
+    uint64_t number = call->count > 0 ? call->operands[0].number : 0;
+    return &call->thread->memos[(number * 7 + call->function) % MEMOS];
+}
+
+/* Whether the memo is of the same question, and no fact was told since: then the core would let it pass again. */
+static int is_repeated(const struct call *call, const struct memo *memo) {
+    int is_same = memo->facts == core_facts && memo->function == call->function && memo->count == call->count &&
+                  jg_is_same(memo->env_name, call->env_name) && !objects_are_gone();
+    for (size_t at = 0; is_same && at < call->count; at++) {
+        is_same = jg_is_same(memo->operands[at], call->operands[at]);
+    }
+    return is_same;
+}
+
+static void remember(const struct call *call, struct memo *memo, uint64_t facts) {
+    memo->facts = facts;
+    memo->function = call->function;
+    memo->count = (uint32_t)call->count;
+    memo->env_name = call->env_name;
+    memcpy(memo->operands, call->operands, call->count * sizeof *call->operands);
+    memo->ticket = call->verdict.ticket;
+}
+
+struct question call_question(const struct call *call) {
+    return (struct question){.thread = call->thread->number,
+                             .function = call->function,
+                             .env = &call->env_name,
+                             .operands = call_operands(call),
+                             .count = call->count,
+                             .site = call->site,
+                             .names = call->texts};
+}
+
+/* Asks the core. Whether it answered. */
+static int ask(struct call *call) {
+    struct memo *memo = memo_of(call);
+    if (memo != NULL && is_repeated(call, memo)) {
+        call->verdict.rule = call->verdict.operand = 0;
+        call->verdict.ticket = memo->ticket;
+        call->thread->repeated++;
+        return 1;
+    }
+    struct question question = call_question(call);
+    const jg_value *kept = call->kept.kind == JG_NOTHING ? NULL : &call->kept;
+    core_lock();
+    if (objects_are_gone()) {
+        objects_tell_gone();
+    }
+    int32_t error = core_ask(&question, &call->verdict, call->is_ending ? &call->given : NULL, kept);
+    uint64_t facts = core_facts;
+    core_unlock();
+    if (memo != NULL && error == 0 && call->verdict.rule == 0) {
+        remember(call, memo, facts);
+    }
+    return error == 0;
+}
+
+int call_passes(struct call *call) {
+    if (call->is_lost || !ask(call)) {
+        core_count(&counts.unasked);
+        return 1;
+    }
+    call->is_asked = 1;
+    if (call->verdict.rule != 0) {
+        core_count(&counts.denied);
+        report_denial(call);
+        if (options.is_strict) {
+            call_drops(call);
+            return 0;
+        }
+    } else {
+        if (call->function == JG_FN_ThrowNew && call->is_own_env && call->first.object != NULL &&
+            !objects_are_throwable(call->env, call->first.handle)) {
+            notice(call, "NotThrowable", "the class is none of objects that can be thrown");
+        }
+        if (call->notice != NULL) {
+            report_notice(call);
+        }
+    }
+    return 1;
+}
+
+/* ---- telling ---- */
+
+/* The thread that facts of the call are of: its own, or that of the environment that it handed in. */
+static uint32_t told_thread(const struct call *call) {
+    return call->verdict.rule == 1 ? call->env_name.detail : call->thread->number;
+}
+
+/* The fact of a denied call that was made, as of a passed one. Whether there is one. */
+static int fact_of(const struct call *call, jg_value says, jg_fact *fact) {
+    uint32_t thread = told_thread(call);
+    *fact = jg_fact_of(0, thread, jg_nothing(), jg_null(), 0, 0);
+    if (says.kind == JG_THREW) {
+        *fact = jg_fact_of(JG_RAISED, thread, jg_nothing(), jg_object(says.number), 0, 0);
+        return 1;
+    }
+    switch (call->row->effect) {
+    case EFFECT_HANDS:
+        *fact = jg_fact_of(JG_GOT, thread, jg_nothing(), says, call->row->detail, 0);
+        return says.kind == JG_OBJECT;
+    case EFFECT_LENDS:
+        *fact = jg_fact_of(JG_LENT, thread, call->row->detail >= JG_CRITICAL ? call->first.name : jg_null(), jg_null(),
+                           call->row->detail, (uint32_t)says.number);
+        return says.kind == JG_ITEMS;
+    case EFFECT_RAISES:
+        fact->word = JG_RAISED;
+        return call->first.object != NULL;
+    case EFFECT_CALMS:
+        fact->word = JG_CALMED;
+        return 1;
+    case EFFECT_OWNS:
+        fact->word = JG_OWNS;
+        return call->first.object != NULL;
+    default:
+        return 0;
+    }
+}
+
+void call_checks_lost(struct call *call, const struct reference *operand) {
+    struct name known;
+    if (operand->name.kind < JG_LOCAL || operand->name.kind > JG_WEAK || !call->is_own_env ||
+        !names_find(address_of(operand->handle), &known) || known.state != NAME_LIVE) {
+        return;
+    }
+    if (call_kind(call, operand->handle) == JNIInvalidRefType && !is_foreign(call, &known)) {
+        tell_lost(call, known.name);
+        names_end(known.handle, known.name.number, NAME_DEAD, (uint16_t)call->function, call->site);
+    }
+}
+
+/* A denied call was made: what is told depends on the rule. */
+static void tell_denied(struct call *call, jg_value says, struct object *object, jg_value *given) {
+    uint32_t rule = call->verdict.rule;
+    jg_fact fact;
+    if (rule == 5 || rule == 7) {
+        call_checks_lost(call, &call->first);
+    }
+    if (rule == 2 || rule == 5 || rule == 6 || rule == 7 || (rule == 14 && says.kind != JG_THREW)) {
+        return;
+    }
+    if (fact_of(call, says, &fact)) {
+        core_lock();
+        if (object != NULL) {
+            core_tell_of(fact, object, given);
+        } else {
+            core_tell(fact, given);
+        }
+        core_unlock();
+    }
+}
+
+/* Whether the answer says that nothing was thrown. */
+static int says_done(const struct call *call, jg_value says) {
+    return (call->row->throws == THROWS_NEVER && !call->row->runs_java) ||
+           (call->row->throws == THROWS_NULL && (says.kind == JG_OBJECT || says.kind == JG_ITEMS));
+}
+
+/* The exception that the call threw, or NULL. It is pending now, and wasn't when the call began. */
+static struct object *thrown_by(struct call *call, jg_value says) {
+    if (says_done(call, says)) {
+        return NULL;
+    }
+    if (call->was_pending || !call->is_own_env) {
+        call->thread->is_unsure = 1;
+        return NULL;
+    }
+    if (!machine->ExceptionCheck(call->env)) {
+        return NULL;
+    }
+    jthrowable thrown = machine->ExceptionOccurred(call->env);
+    struct object *object = objects_of(call->env, thrown);
+    machine->DeleteLocalRef(call->env, thrown);
+    return object;
+}
+
+/* Whether the thread has an exception pending, as the core knows now. */
+static void note_pending(struct call *call, jg_value says) {
+    if (says.kind == JG_THREW || call->row->effect == EFFECT_RAISES) {
+        call->thread->is_pending = 1;
+    } else if (call->row->effect == EFFECT_CALMS) {
+        call->thread->is_pending = 0;
+    }
+}
+
+void call_says(struct call *call, jg_value says, struct object *object, jg_value *given) {
+    *given = jg_nothing();
+    if (!call->is_asked) {
+        return;
+    }
+    struct object *thrown = call->row->effect == EFFECT_RAISES ? NULL : thrown_by(call, says);
+    if (thrown != NULL) {
+        says = jg_threw(jg_object(thrown->number));
+        object = thrown;
+    }
+    if (call->verdict.rule != 0) {
+        tell_denied(call, says, object, given);
+    } else if (!call->is_ending && (call->row->effect != EFFECT_NOTHING || thrown != NULL)) {
+        core_lock();
+        core_did(&call->verdict.ticket, says, object, given);
+        core_unlock();
+    }
+    note_pending(call, says);
+}
+
+void call_checks_length(struct call *call, jsize length) {
+    const struct object *object = call->first.object;
+    if (!call->is_asked || call->verdict.rule != 0 || object == NULL || object->number < objects_of_setup()) {
+        return;
+    }
+    if ((uint32_t)length != object->length || core_is_recorded()) {
+        core_lock();
+        core_tell(jg_fact_of(JG_IS_LENGTH, call->thread->number, jg_nothing(), jg_object(object->number), 0,
+                             (uint32_t)length),
+                  NULL);
+        core_unlock();
+    }
+}
+
+void call_done(struct call *call) {
+    jg_value given;
+    call_says(call, jg_nothing(), call->first.object, &given);
+    call_drops(call);
+}
+
+void call_answers(struct call *call, jint answer) {
+    jg_value given;
+    if (answer < 0 && call->is_asked && (!call->is_own_env || !machine->ExceptionCheck(call->env))) {
+        /* The machine didn't do it. */
+        call_drops(call);
+        return;
+    }
+    call_says(call, jg_nothing(), call->first.object, &given);
+    call_drops(call);
+}
+
+/* Whether a result is to be doubted: a denied call's, or a method's that has no such result. */
+static int is_doubtful(const struct call *call) {
+    return call->verdict.rule != 0 || call->notice != NULL;
+}
+
+/* Whether the result names the operand's object, which needn't be asked then. */
+static int is_copy(const struct call *call) {
+    return call->verdict.rule == 0 && call->first.object != NULL && !call->first.object->is_gone &&
+           (call->function == JG_FN_NewLocalRef || call->function == JG_FN_NewGlobalRef ||
+            call->function == JG_FN_NewWeakGlobalRef);
+}
+
+jobject call_hands(struct call *call, jobject result) {
+    jg_value given = jg_nothing(), says = jg_null();
+    struct object *object = NULL;
+    int is_reference =
+        result != NULL && call->is_own_env && (!is_doubtful(call) || call_kind(call, result) != JNIInvalidRefType);
+    if (call->is_asked && is_reference) {
+        object = is_copy(call) ? call->first.object : objects_of(call->env, result);
+        if (object == NULL) {
+            core_count(&counts.unasked);
+            call_drops(call);
+            return result;
+        }
+        says = jg_object(object->number);
+    }
+    if (result == NULL) {
+        call->thread->is_unsure = 1;
+    }
+    call_says(call, says, object, &given);
+    if (given.kind >= JG_LOCAL && given.kind <= JG_WEAK) {
+        call_names(call, result, given, object);
+    }
+    call_drops(call);
+    return result;
+}

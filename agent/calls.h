@@ -1,0 +1,154 @@
+/*
+ * calls.h: a call of the function table, from its beginning until what came of it is told. The wrappers that gen.py
+ * writes are made of these functions:
+ *
+ *     struct call call;
+ *     if (!call_begins(&call, JG_FN_GetIntField, env, CALLER)) {
+ *         return machine->GetIntField(env, obj, fieldID);
+ *     }
+ *     obj = call_object(&call, obj);
+ *     call_id(&call, fieldID, ID_FIELD, 'I', 0, 0);
+ *     if (!call_passes(&call)) {
+ *         return 0;
+ *     }
+ *     jint result = machine->GetIntField(env, obj, fieldID);
+ *     call_done(&call);
+ *     return result;
+ */
+#ifndef CALLS_H
+#define CALLS_H
+
+#include "agent.h"
+#include "core.h"
+#include "ids.h"
+#include "names.h"
+#include "sites.h"
+#include "table.h"
+#include "threads.h"
+
+#include <stdarg.h>
+#include <string.h>
+
+enum { FEW_OPERANDS = 8, MOST_OPERANDS = 264 };
+
+/* Operands that are more than a few. */
+struct operands {
+    jg_value values[MOST_OPERANDS];
+    jobject handles[MOST_OPERANDS];
+};
+
+/* An operand that is a reference: what it is in the core and in the machine. */
+struct reference {
+    jobject handle;
+    jg_value name;
+    struct object *object; /* or NULL */
+};
+
+struct call {
+    struct thread *thread;
+    JNIEnv *env;
+    const struct row *row;
+    const struct site *site;
+    uint32_t function;
+    int is_own_env;  /* the environment is the thread's, so the machine can be asked by it */
+    int is_asked;    /* the core was asked; else it is passed on */
+    int is_ending;   /* what it ends is told when it is asked */
+    int was_pending; /* an exception was when it began */
+    int has_first;   /* an operand was a reference */
+    jg_value env_name;
+    size_t count;
+    jg_value operands[FEW_OPERANDS];
+    jobject handles[FEW_OPERANDS]; /* of those that are references; else NULL */
+    struct operands *more;         /* all of both, where there are more than a few */
+    struct reference first;        /* the first operand that is a reference */
+    struct reference last;         /* the last one but for arguments, which an ID is of */
+    struct name known; /* what was known of the newest reference that was looked up; no handle where nothing was */
+    jobject made[4];   /* locals that were made of weak references for this call */
+    size_t made_count;
+    int is_lost;                   /* an operand couldn't be named, by fault of the agent */
+    struct lent *lent;             /* the buffer that is released, or NULL */
+    const char *texts[MOST_NAMES]; /* the texts of operands that are names, as far as they are known */
+    size_t text_count;
+    jg_verdict verdict;
+    jg_value given;     /* what jg_ending handed out */
+    jg_value kept;      /* what PopLocalFrame and NativeLeave keep */
+    const char *reason; /* of an ID that doesn't fit: why, or NULL */
+    const char *notice; /* what breaks no rule and is told all the same: its name and a sentence, or NULL */
+    const char *notice_text;
+};
+
+/* Whether the call is judged. If not, the caller makes it and nothing more. */
+int call_begins(struct call *call, uint32_t function, JNIEnv *env, uintptr_t at, uintptr_t frame);
+
+/* A call of the agent's own finding, such as a store into a buffer: with this environment or none. */
+void call_opens(struct call *call, uint32_t function, struct thread *thread, const struct site *site);
+
+/* Operands, in the order of the table. Those that are references answer the handle that the machine is given. */
+jobject call_object(struct call *call, jobject handle);
+jobject call_nullable(struct call *call, jobject handle);
+void call_unjudged(struct call *call, jobject handle);
+void call_number(struct call *call, int32_t number);
+void call_any(struct call *call, int64_t number);
+void call_item(struct call *call, int64_t bits);
+void call_name(struct call *call, const char *name);
+void call_utf(struct call *call, const char *text);
+void call_items(struct call *call, const void *items, int32_t count, char letter);
+void call_id(struct call *call, const void *id, enum subject subject, char letter, int is_static, int is_class);
+void call_list(struct call *call, jmethodID method, va_list arguments);
+void call_values(struct call *call, jmethodID method, const jvalue *arguments);
+void call_operand(struct call *call, jg_value operand);
+
+/* The same, of a reference by this handle. */
+void call_operand_of(struct call *call, jg_value operand, jobject handle);
+
+/* The operands; and the handle of one, counted from 1, or NULL. */
+const jg_value *call_operands(const struct call *call);
+jobject call_handle_of(const struct call *call, uint32_t operand);
+
+/* What the core is asked. It is good as long as the call is. */
+struct question call_question(const struct call *call);
+
+/* Asks. Whether the machine shall make the call. */
+int call_passes(struct call *call);
+
+/* The machine has answered: what came of it is told. */
+void call_done(struct call *call);
+void call_answers(struct call *call, jint answer);
+jobject call_hands(struct call *call, jobject result);
+void call_says(struct call *call, jg_value says, struct object *object, jg_value *given);
+
+/* The machine said how long the object is: the core was told the same, else the mapping is wrong. */
+void call_checks_length(struct call *call, jsize length);
+
+/* The call isn't made, or wasn't made by this machine: what it took is given back. */
+void call_drops(struct call *call);
+
+/* Gives a handle its name: the reference was handed out by this call. */
+void call_names(struct call *call, jobject handle, jg_value name, struct object *object);
+
+/* The machine handed out a global reference, to whomever: a handle that it never did needn't be asked of it. */
+void call_sees_global(jobject handle);
+
+/* The name of a handle, and what it names. `wants_object` of an operand that may not be NULL. */
+struct reference call_resolve(struct call *call, jobject handle, int wants_object);
+
+/* What kind of reference the machine says that the handle is; JNIInvalidRefType where it isn't one to be used. */
+jobjectRefType call_kind(const struct call *call, jobject handle);
+
+/* The machine no longer calls the operand valid, after a call that was denied and made: its end is told. */
+void call_checks_lost(struct call *call, const struct reference *operand);
+
+/* The bits of a float and of a double, as a value of a question. */
+static inline int64_t bits_of_float(jfloat value) {
+    int32_t bits;
+    memcpy(&bits, &value, sizeof bits);
+    return bits;
+}
+
+static inline int64_t bits_of_double(jdouble value) {
+    int64_t bits;
+    memcpy(&bits, &value, sizeof bits);
+    return bits;
+}
+
+#endif

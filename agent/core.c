@@ -1,0 +1,348 @@
+/*
+ * core.c: the core of libjg under its one lock, and the record.
+ *
+ * The record is text that `jg watch` judges again (docs/FORMATS.md, "A record"). Its lines are gathered while the lock
+ * is held, and written by one write before the machine makes the call: so a crash loses no line.
+ */
+#include "core.h"
+#include "objects.h"
+#include "options.h"
+#include "sites.h"
+
+#include <errno.h>
+#include <fcntl.h>
+#include <pthread.h>
+#include <stdio.h>
+#include <stdlib.h>
+#include <string.h>
+#include <unistd.h>
+
+jg_core core = {NULL};
+struct counts counts;
+_Atomic uint64_t core_facts = 1;
+
+static pthread_mutex_t lock = PTHREAD_ADAPTIVE_MUTEX_INITIALIZER_NP;
+
+/* The setup without classes: its mode is of no weight, since no module but java.base is known. */
+static const char NO_SETUP[] = "version = 1\nillegal_native_access = \"deny\"\n";
+
+/* ---- the record ---- */
+
+static int record = -1;
+static char *lines;
+static size_t line_size, line_room;
+
+static void put(const char *text, size_t size) {
+    if (line_size + size > line_room) {
+        line_room = 2 * (line_room + size);
+        lines = must_grow(lines, line_room);
+    }
+    memcpy(lines + line_size, text, size);
+    line_size += size;
+}
+
+static void put_text(const char *text) {
+    put(text, strlen(text));
+}
+
+static void put_name(jg_value name) {
+    static const char LETTERS[] = "..LGWBEO";
+    char text[64];
+    if (name.kind == JG_OBJECT) {
+        snprintf(text, sizeof text, "O%llu", (unsigned long long)name.number);
+    } else {
+        snprintf(text, sizeof text, "%c%u.%llu", LETTERS[name.kind], (unsigned)name.detail,
+                 (unsigned long long)name.number);
+    }
+    put_text(text);
+}
+
+/* Writes what the library made of numbers: the text of a line, without its answer. */
+static void put_line(const uint8_t *made, int64_t length) {
+    if (length < 0) {
+        put_text("# a line that the library can't write");
+    } else {
+        put((const char *)made, (size_t)length);
+    }
+}
+
+/* Writes all that was gathered. A device that fails ends the record. */
+static void write_lines(void) {
+    size_t done = 0;
+    while (record >= 0 && done < line_size) {
+        ssize_t count = write(record, lines + done, line_size - done);
+        if (count < 0 && errno != EINTR) {
+            fprintf(stderr, "jg: the record can't be written: %s\n", strerror(errno));
+            close(record);
+            record = -1;
+        }
+        done += count > 0 ? (size_t)count : 0;
+    }
+    line_size = 0;
+}
+
+static uint8_t *line_of_library(void) {
+    static uint8_t *line;
+    if (line == NULL) {
+        line = must_make(JG_LINE);
+    }
+    return line;
+}
+
+/* Whether a record can have the name as a word (docs/FORMATS.md, "A question"). */
+static int is_word(const char *name) {
+    size_t size = 0;
+    while (name[size] > 0x20 && name[size] < 0x7F && name[size] != '=' && name[size] != '@' && size < 256) {
+        size++;
+    }
+    return size > 0 && size < 256 && name[size] == 0;
+}
+
+/* The library's text of the question, where each `?` stands for a name: that is put in its place. */
+static void put_question(const char *made, size_t size, const char *const *names) {
+    size_t done = 0, which = 0;
+    for (size_t at = 1; at < size && which < MOST_NAMES; at++) {
+        if (made[at] == '?' && made[at - 1] == ' ' && (at + 1 == size || made[at + 1] == ' ')) {
+            const char *name = names[which++];
+            put(made + done, at - done);
+            put_text(name != NULL && is_word(name) ? name : "?");
+            done = at + 1;
+        }
+    }
+    put(made + done, size - done);
+}
+
+static void record_question(const struct question *it, const jg_verdict *verdict) {
+    uint8_t *line = line_of_library();
+    char text[512];
+    uint8_t name[64];
+    int64_t size = jg_question_line(&core, it->thread, it->env, it->function, it->operands, it->count, line, JG_LINE);
+    if (size < 0) {
+        put_line(line, size);
+    } else {
+        put_question((const char *)line, (size_t)size, it->names);
+    }
+    if (verdict->rule == 0) {
+        put_text(" = passed");
+    } else {
+        int64_t length = jg_rule_name(verdict->rule, name, sizeof name);
+        snprintf(text, sizeof text, " = deny %u %.*s", (unsigned)verdict->rule, (int)length, (const char *)name);
+        put_text(text);
+    }
+    if (it->site != NULL) {
+        snprintf(text, sizeof text, " @ %s+0x%lx", it->site->library->name, (unsigned long)it->site->offset);
+        put_text(text);
+    }
+    put_text("\n");
+}
+
+static void record_fact(const jg_fact *fact, const jg_value *given) {
+    uint8_t *line = line_of_library();
+    put_line(line, jg_fact_line(&core, fact, line, JG_LINE));
+    if (given->kind != JG_NOTHING) {
+        put_text(" = ");
+        put_name(*given);
+    }
+    put_text("\n");
+}
+
+/* A fact that the core refused stands in the record as a comment. */
+static void record_refused(const jg_fact *fact, int32_t error) {
+    uint8_t *line = line_of_library();
+    put_text(error == JG_IMPOSSIBLE ? "# impossible " : "# refused ");
+    put_line(line, jg_fact_line(&core, fact, line, JG_LINE));
+    put_text("\n");
+}
+
+/* ---- opening ---- */
+
+static int open_record(void) {
+    if (options.record == NULL) {
+        return 0;
+    }
+    record = open(options.record, O_WRONLY | O_CREAT | O_TRUNC | O_APPEND | O_CLOEXEC, 0666);
+    if (record < 0) {
+        fprintf(stderr, "jg: %s can't be opened: %s\n", options.record, strerror(errno));
+        return -1;
+    }
+    put_text("# a record of the agent of jg; `jg watch` judges it again\n");
+    write_lines();
+    return 0;
+}
+
+int core_open(void) {
+    const jg_bounds bounds = jg_no_bounds();
+    size_t size = sizeof NO_SETUP - 1;
+    char *text = NULL;
+    if (options.setup != NULL && (text = read_file(options.setup, &size)) == NULL) {
+        return -1;
+    }
+    int32_t error = jg_core_open(jg_bytes(text ? text : NO_SETUP), size, &bounds, JG_VERSION, &core);
+    free(text);
+    if (error != 0) {
+        uint8_t name[64];
+        int64_t length = jg_error_name(error, name, sizeof name);
+        fprintf(stderr, "jg: %s: %.*s\n", options.setup ? options.setup : "the core", (int)(length < 0 ? 0 : length),
+                (const char *)name);
+        return -1;
+    }
+    return open_record();
+}
+
+void core_lock(void) {
+    pthread_mutex_lock(&lock);
+}
+
+void core_unlock(void) {
+    if (line_size > 0) {
+        write_lines();
+    }
+    pthread_mutex_unlock(&lock);
+}
+
+void core_count(uint64_t *count) {
+    __atomic_fetch_add(count, 1, __ATOMIC_RELAXED);
+}
+
+static int32_t counted(int32_t error) {
+    if (error < 0) {
+        core_count(error == JG_IMPOSSIBLE ? &counts.impossible : &counts.refused);
+    }
+    return error;
+}
+
+/* ---- questions ---- */
+
+/* The line of what jg_ending told. */
+static void record_ended(const jg_verdict *verdict, const jg_value *given, const jg_value *kept) {
+    jg_fact fact;
+    jg_value says = kept ? *kept : jg_nothing();
+    if (jg_told(&verdict->ticket, &says, &fact) == 1) {
+        record_fact(&fact, given);
+    }
+}
+
+int32_t core_ask(const struct question *it, jg_verdict *verdict, jg_value *given, const jg_value *kept) {
+    int32_t error = given ? jg_ending(&core, it->thread, it->env, it->function, it->operands, it->count, verdict, given)
+                          : jg_ask(&core, it->thread, it->env, it->function, it->operands, it->count, verdict);
+    core_facts += given != NULL;
+    if (error < 0) {
+        if (record >= 0) {
+            put_text("# not asked: ");
+            put_text(error == JG_IMPOSSIBLE ? "impossible\n" : "refused\n");
+        }
+        return counted(error);
+    }
+    counts.asked++;
+    if (record >= 0) {
+        record_question(it, verdict);
+        if (given != NULL && verdict->rule == 0) {
+            record_ended(verdict, given, kept);
+        }
+    }
+    return 0;
+}
+
+/* ---- facts ---- */
+
+/* Tells a fact without mending it. */
+static int32_t tell_once(const jg_fact *fact, jg_value *given) {
+    *given = jg_nothing();
+    int32_t error = jg_tell(&core, fact, given);
+    core_facts++;
+    if (record >= 0) {
+        if (error == 0) {
+            record_fact(fact, given);
+        } else {
+            record_refused(fact, error);
+        }
+    }
+    return counted(error);
+}
+
+/* What makes an impossible fact possible, where something does. Whether it was told. */
+static int mend(const jg_fact *fact) {
+    jg_value unwanted;
+    jg_fact before = jg_fact_of(JG_ENDS, fact->thread, jg_nothing(), jg_null(), 0, 0);
+    return fact->word == JG_BEGINS && tell_once(&before, &unwanted) == 0;
+}
+
+int32_t core_tell(jg_fact fact, jg_value *given) {
+    jg_value unwanted;
+    given = given ? given : &unwanted;
+    int32_t error = tell_once(&fact, given);
+    if (error == JG_IMPOSSIBLE && mend(&fact)) {
+        error = tell_once(&fact, given);
+    }
+    return error;
+}
+
+/* The owner that the core knows gives the monitor up. */
+static void free_all(struct object *object) {
+    jg_value unwanted;
+    while (object->owned > 0) {
+        jg_fact freed = jg_fact_of(JG_FREED, object->owner, jg_nothing(), jg_object(object->number), 0, 0);
+        object->owned--;
+        if (tell_once(&freed, &unwanted) < 0) {
+            object->owned = 0;
+        }
+    }
+}
+
+int32_t core_tell_of(jg_fact fact, struct object *object, jg_value *given) {
+    jg_value unwanted, number = jg_nothing();
+    given = given ? given : &unwanted;
+    fact.object = jg_object(object->number);
+    int32_t error = tell_once(&fact, given);
+    if (error != JG_IMPOSSIBLE) {
+        return error;
+    }
+    if (fact.word == JG_OWNS) {
+        free_all(object);
+    } else {
+        jg_fact met = jg_fact_of(JG_MET, 0, jg_nothing(), jg_null(), object->class_number, object->length);
+        if (object->number < objects_of_setup() || tell_once(&met, &number) < 0) {
+            return error;
+        }
+        object->number = number.number;
+        fact.object = number;
+    }
+    return tell_once(&fact, given);
+}
+
+int32_t core_did(const jg_ticket *ticket, jg_value says, struct object *object, jg_value *given) {
+    jg_fact fact;
+    *given = jg_nothing();
+    int32_t error = jg_did(&core, ticket, &says, given);
+    core_facts++;
+    if (error == 0 && record < 0) {
+        return 0;
+    }
+    int32_t is_told = jg_told(ticket, &says, &fact);
+    if (error == 0) {
+        if (is_told == 1) {
+            record_fact(&fact, given);
+        }
+        return 0;
+    }
+    if (is_told <= 0) {
+        return counted(is_told < 0 ? is_told : error);
+    }
+    /* The fact alone can be mended, and is told once more. */
+    return object ? core_tell_of(fact, object, given) : core_tell(fact, given);
+}
+
+int32_t core_gone(const uint64_t *objects, size_t count, uint64_t *held) {
+    int32_t error = jg_gone(&core, objects, count, held);
+    core_facts++;
+    if (error == 0 && record >= 0) {
+        uint8_t *line = line_of_library();
+        put_line(line, jg_gone_line(&core, 0, objects, count, line, JG_LINE));
+        put_text("\n");
+    }
+    return error;
+}
+
+int core_is_recorded(void) {
+    return record >= 0;
+}

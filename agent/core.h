@@ -1,0 +1,76 @@
+/*
+ * core.h: the core of libjg, under its one lock, and the record of what it was asked and told.
+ */
+#ifndef CORE_H
+#define CORE_H
+
+#include "agent.h"
+
+struct site;
+struct object;
+
+extern jg_core core;
+
+/* How many questions were asked and denied, and what was refused by fault of the agent. */
+struct counts {
+    uint64_t asked;
+    uint64_t denied;
+    uint64_t unasked;    /* calls that couldn't be asked about */
+    uint64_t impossible; /* facts that can't be, as the core says */
+    uint64_t refused;    /* other errors of the library, want of memory among them */
+    uint64_t unseen;     /* releases, pops and exits of what began before the agent came */
+};
+
+extern struct counts counts;
+
+/* Opens the core under the setup of the options, and the record. 0, or a negative number: it was said why. */
+int core_open(void);
+
+/* Between these stand the calls below, and jg_.. calls on `core`. What was recorded is written at the end. */
+void core_lock(void);
+void core_unlock(void);
+
+enum { MOST_NAMES = 2 };
+
+/* A question, and what the record says of it beside that: where it was asked, and its names in their order. */
+struct question {
+    uint32_t thread;
+    uint32_t function;
+    const jg_value *env;
+    const jg_value *operands;
+    size_t count;
+    const struct site *site;
+    const char *const *names; /* MOST_NAMES; NULL for one that isn't known */
+};
+
+/*
+ * Asks, and notes the question in the record. `given` is NULL for jg_ask, else jg_ending is called, whose fact is
+ * recorded as well: `kept` is what PopLocalFrame and NativeLeave keep, else NULL. 0, or an error, which was counted.
+ */
+int32_t core_ask(const struct question *question, jg_verdict *verdict, jg_value *given, const jg_value *kept);
+
+/*
+ * Tells what came of a passed call. 0, or an error, which was counted. `object` is the one that the fact is of, so that
+ * it can be met anew, or NULL.
+ */
+int32_t core_did(const jg_ticket *ticket, jg_value says, struct object *object, jg_value *given);
+
+/* Tells a fact. Where it can't be it is mended, told again, and counted. 0, or an error. `given` may be NULL. */
+int32_t core_tell(jg_fact fact, jg_value *given);
+
+/* Tells a fact of an object, which is met anew where the core says that it isn't there. */
+int32_t core_tell_of(jg_fact fact, struct object *object, jg_value *given);
+
+/* Tells that these objects are gone. 0, or JG_IMPOSSIBLE and the place of the first that is held. */
+int32_t core_gone(const uint64_t *objects, size_t count, uint64_t *held);
+
+/* Counts one more. It needs no lock. */
+void core_count(uint64_t *count);
+
+/* How many facts were told so far, or may have been. As long as it stays, the core answers a question as before. */
+extern _Atomic uint64_t core_facts;
+
+/* Whether there is a record. */
+int core_is_recorded(void);
+
+#endif

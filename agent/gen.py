@@ -1,0 +1,339 @@
+#!/usr/bin/env python3
+"""agent/gen.py JNI_H [--table FILE] > wrappers.c
+
+Writes the wrappers that stand in the function table of JNI: one for each function, by its prototype in JNI_H (jni.h of
+the JDK) and by its row in the table of crates/jg_functions, which says what its operands are and what comes of it. A
+function that JNI_H doesn't have, since it is of an older JDK, is written by NEWER. A few functions have wrappers that
+were written by hand (HAND): here they only get their place."""
+import argparse
+import collections
+import os
+import re
+import sys
+
+HERE = os.path.dirname(os.path.realpath(__file__))
+TABLE = os.path.join(os.path.dirname(HERE), 'crates', 'jg_functions', 'src', 'table.rt')
+
+Row = collections.namedtuple('Row', 'name since takes takes_env passes throws runs effect what')
+Function = collections.namedtuple('Function', 'name slot result parameters')
+
+# ---- the rows
+
+GROUP = re.compile(r'^const \w+: \[Row; (\d+)\] = rows! \{\n(.*?)^\};', re.M | re.S)
+SECTION = re.compile(r'^\w+ (true|false) \{\n(.*?)^\}', re.M | re.S)
+ROW = re.compile(r'^    (\w+) (\w+) \((.*)\) (\w+) (\w+) (\w+) => (\w+)(?:\((.*)\))?;$', re.M)
+OPERAND = re.compile(r'(\w+)(?:\(([^()]*(?:\([^()]*\))?[^()]*)\))?')
+
+
+def rows_of(path):
+    """The rows of the table, in its order."""
+    with open(path, encoding='utf-8') as file:
+        groups = GROUP.findall(file.read())
+    rows = []
+    for count, text in groups:
+        found = [Row(name, since, OPERAND.findall(takes), env == 'true', passes, throws, runs, effect, what)
+                 for env, lines in SECTION.findall(text)
+                 for name, since, takes, passes, throws, runs, effect, what in ROW.findall(lines)]
+        if len(found) != int(count):
+            sys.exit(f'{path}: {len(found)} rows were read where {count} are')
+        rows += found
+    return rows
+
+
+# ---- the prototypes
+
+STRUCT = re.compile(r'struct JNINativeInterface_ \{\n(.*?)^\};', re.M | re.S)
+MEMBER = re.compile(r'(?:void \*(reserved\d)|([\w ]+?\**) ?\(JNICALL \*(\w+)\)\s*\(([^;]*?)\));', re.S)
+# What newer machines have behind the end of an older jni.h.
+NEWER = [Function('IsVirtualThread', 234, 'jboolean', [('jobject', 'obj')]),
+         Function('GetStringUTFLengthAsLong', 235, 'jlong', [('jstring', 'str')])]
+
+
+def parameter(text):
+    """The type and the name of a parameter."""
+    text = ' '.join(text.split())
+    if text == '...':
+        return '...', ''
+    found = re.fullmatch(r'(.*?[ *])(\w+)', text)
+    return found[1].strip(), found[2]
+
+
+def functions_of(path):
+    """The functions of the header, each with its slot, then those that it lacks."""
+    with open(path, encoding='utf-8') as file:
+        text = re.sub(r'/\*.*?\*/|#.*?$', '', STRUCT.search(file.read())[1], flags=re.S | re.M)
+    found = []
+    for slot, (_, result, name, parameters) in enumerate(MEMBER.findall(text)):
+        if name:
+            rest = [parameter(it) for it in parameters.split(',')][1:]
+            found.append(Function(name, slot, ' '.join(result.split()), rest))
+    return found, [it for it in NEWER if it.slot > max(it.slot for it in found)]
+
+
+# ---- what a wrapper does
+
+# Written by hand, in the file of their subject.
+HAND = {'DeleteLocalRef', 'DeleteGlobalRef', 'DeleteWeakGlobalRef', 'GetObjectRefType', 'PushLocalFrame',
+        'PopLocalFrame', 'MonitorEnter', 'MonitorExit', 'RegisterNatives', 'UnregisterNatives', 'ExceptionClear'}
+# What hands out an ID or a global reference, also to a library that isn't judged: how the agent notes it.
+NOTES = {'GetFieldID': 'ids_note_field(env, {0}, result, {2}, 0)',
+         'GetStaticFieldID': 'ids_note_field(env, {0}, result, {2}, 1)',
+         'GetMethodID': 'ids_note_method(env, result)', 'GetStaticMethodID': 'ids_note_method(env, result)',
+         'NewGlobalRef': 'call_sees_global(result)',
+         'FromReflectedMethod': 'ids_note_method(env, result)',
+         'FromReflectedField': 'ids_note_reflected(env, {0}, result)'}
+TYPES = {'BOOLEAN': 'Z', 'BYTE': 'B', 'CHAR': 'C', 'SHORT': 'S', 'INT': 'I', 'LONG': 'J', 'FLOAT': 'F', 'DOUBLE': 'D'}
+NULLABLE = {'Nullable', 'Unjudged'}
+PLAIN = {'OBJECT', 'CLASS', 'PLAIN_CLASS', 'INSTANCE_CLASS', 'THROWABLE', 'STRING', 'ARRAY', 'PRIMITIVE_ARRAY',
+         'OBJECT_ARRAY', *(it + 'S' for it in TYPES)}
+FAMILIES = {f'Elements({item})': f'JG_{item}S' for item in TYPES} | {
+    'Chars': 'JG_STRING', 'UtfChars': 'JG_UTF', 'ArrayCritical': 'JG_CRITICAL', 'StringCritical': 'JG_CRITICAL_STRING'}
+EFFECTS = ['Nothing', 'Hands', 'Ends', 'Lends', 'GivesBack', 'Pushes', 'Pops', 'Ensures', 'Raises', 'Calms', 'Owns',
+           'Frees', 'Attaches', 'Detaches', 'Enters', 'Leaves', 'Loads', 'Links', 'Unlinks', 'Collects']
+
+
+def machine(function, is_newer):
+    """The machine's own function."""
+    if not is_newer:
+        return f'machine->{function.name}'
+    types = ', '.join(['JNIEnv *', *(kind for kind, _ in function.parameters)])
+    return f'(({function.result}(JNICALL *)({types}))machine_slot({function.slot}))'
+
+
+def declared(function):
+    """The head of the wrapper."""
+    parts = ['JNIEnv *env', *('...' if kind == '...' else f'{kind}{"" if kind.endswith("*") else " "}{name}'
+                              for kind, name in function.parameters)]
+    space = '' if function.result.endswith('*') else ' '
+    return f'static {function.result}{space}JNICALL wrapped_{function.name}({", ".join(parts)})'
+
+
+def value_of(kind, name):
+    """A value's bits, sign-extended; of float and double as they are."""
+    return {'jfloat': f'bits_of_float({name})', 'jdouble': f'bits_of_double({name})'}.get(kind, name)
+
+
+class Wrapper:
+    """The body of one wrapper, built operand by operand."""
+
+    def __init__(self, function, row, is_newer):
+        self.function, self.row, self.is_newer = function, row, is_newer
+        self.rest = list(function.parameters)
+        self.lines, self.id, self.list_form = [], None, False
+
+    def next(self):
+        """The next parameter that is an operand: `isCopy` and room for an answer are none."""
+        kind, name = self.rest.pop(0)
+        return self.next() if name == 'isCopy' or kind == 'void*' and name == 'address' else (kind, name)
+
+    def items(self, letter):
+        """A list has two parameters, an array and its length, in either order."""
+        one, other = self.next(), self.next()
+        array, count = (one, other) if '*' in one[0] else (other, one)
+        self.lines.append(f"call_items(&call, {array[1]}, {count[1]}, '{letter}');")
+
+    def reference(self, word):
+        _, name = self.next()
+        what = 'call_nullable' if word in NULLABLE else 'call_object'
+        self.lines.append(f'{name} = {what}(&call, {name});')
+
+    def identity(self, word, what):
+        """A field or a method, whose class is that of the operand before it."""
+        _, name = self.next()
+        member, letter = (what.split(', ') + ['Static', 'V'])[:2] if what else ('Any', 'V')
+        subject = {'Field': 'ID_FIELD', 'AnyField': 'ID_ANY', 'Method': 'ID_METHOD', 'Constructor': 'ID_CONSTRUCTOR',
+                   'AnyMethod': 'ID_ANY'}[word]
+        is_static = int(member == 'Static')
+        is_class = int(self.row.takes[0][0] != 'OBJECT' or len(self.row.takes) > 1 and self.row.takes[1][0] == 'CLASS')
+        self.lines.append(f"call_id(&call, {name}, {subject}, '{letter}', {is_static}, {is_class});")
+        self.id = name
+
+    def arguments(self):
+        kind, name = self.rest.pop(0)
+        if kind == 'const jvalue *':
+            self.lines.append(f'call_values(&call, {self.id}, {name});')
+        elif kind == 'va_list':
+            self.lines.append(f'call_list(&call, {self.id}, {name});')
+        else:
+            self.list_form = True
+            self.lines.append('va_start(arguments, methodID);')
+            self.lines.append(f'call_list(&call, {self.id}, arguments);')
+
+    def operand(self, word, what):
+        if word in PLAIN or word in NULLABLE:
+            self.reference(word)
+        elif word in ('Field', 'AnyField', 'Method', 'Constructor', 'AnyMethod'):
+            self.identity(word, what)
+        elif word == 'Arguments':
+            self.arguments()
+        elif word in ('Capacity', 'Length', 'Count', 'Mode'):
+            self.lines.append(f'call_number(&call, {self.next()[1]});')
+        elif word == 'Number':
+            self.lines.append(f'call_any(&call, {self.next()[1]});')
+        elif word == 'Value':
+            kind, name = self.next()
+            self.lines.append(f'call_item(&call, {value_of(kind, name)});')
+        elif word == 'Name':
+            self.lines.append(f'call_name(&call, {self.next()[1]});')
+        elif word == 'Utf8':
+            self.lines.append(f'call_utf(&call, {self.next()[1]});')
+        elif word == 'Items':
+            self.items(TYPES[what])
+        else:
+            sys.exit(f'{self.row.name}: no wrapper knows the operand {word}')
+
+    def made(self, form=''):
+        """The machine's call."""
+        names = [name if kind != '...' else 'arguments' for kind, name in self.function.parameters]
+        callee = machine(self.function, self.is_newer) + form
+        return f'{callee}({", ".join(["env", *names])})'
+
+    def noted(self):
+        note = NOTES.get(self.row.name)
+        return [note.format(*(name for _, name in self.function.parameters)) + ';'] if note else []
+
+    def untouched(self):
+        """The call of a library that isn't judged."""
+        result = self.function.result
+        if self.function.parameters[-1:] == [('...', '')]:
+            call = ['va_list arguments;', 'va_start(arguments, methodID);']
+            if result != 'void':
+                call += [f'{result} result = {self.made("V")};', 'va_end(arguments);', 'return result;']
+            else:
+                call += [f'{self.made("V")};', 'va_end(arguments);', 'return;']
+            return call
+        if self.noted():
+            return [f'{result} result = {self.made()};', *self.noted(), 'return result;']
+        return [f'{self.made()};', 'return;'] if result == 'void' else [f'return {self.made()};']
+
+    def returned(self):
+        """What is told once the machine has answered."""
+        result, effect = self.function.result, self.row.effect
+        if effect == 'Hands':
+            return ['return call_hands(&call, result);']
+        if effect == 'Lends':
+            return [f'return buffers_lend(&call, (void *)(uintptr_t)result, isCopy);']
+        if result == 'void':
+            return ['call_done(&call);']
+        if self.row.name in ('GetStringLength', 'GetArrayLength'):
+            return ['call_checks_length(&call, result);', 'call_done(&call);', 'return result;']
+        if self.row.throws == 'Negative':
+            return ['call_answers(&call, result);', 'return result;']
+        return ['call_done(&call);', 'return result;']
+
+    def refused(self):
+        """What is answered where the call isn't made."""
+        if self.function.result == 'void':
+            return 'return;'
+        negative = self.function.result == 'jint' and self.row.throws == 'Negative'
+        return 'return JNI_ERR;' if negative or self.row.name == 'GetJavaVM' else 'return 0;'
+
+    def body(self):
+        for word, what in self.row.takes:
+            self.operand(word, what)
+        form = 'V' if self.list_form else ''
+        result = self.function.result
+        yield 'struct call call;'
+        yield f'if (!call_begins(&call, JG_FN_{self.row.name}, env, CALLER)) {{'
+        yield from self.untouched()
+        yield '}'
+        if self.list_form:
+            yield 'va_list arguments;'
+        yield from self.lines
+        yield 'if (!call_passes(&call)) {'
+        if self.list_form:
+            yield 'va_end(arguments);'
+        yield self.refused()
+        yield '}'
+        yield f'{self.made(form)};' if result == 'void' else f'{result} result = {self.made(form)};'
+        if self.list_form:
+            yield 'va_end(arguments);'
+        yield from self.noted()
+        yield from self.returned()
+
+    def released(self):
+        """A release: the machine gets its own memory back, not the copy that was lent."""
+        names = [name for _, name in self.function.parameters]
+        mode = names[2] if len(names) > 2 else 'NO_MODE'
+        call = f'{machine(self.function, self.is_newer)}(env, {names[0]}, given.memory'
+        call += ', given.mode)' if len(names) > 2 else ')'
+        yield 'struct call call;'
+        yield 'struct given_back given;'
+        yield f'int is_judged = call_begins(&call, JG_FN_{self.row.name}, env, CALLER);'
+        yield 'if (is_judged) {'
+        yield f'{names[0]} = call_object(&call, {names[0]});'
+        yield '}'
+        yield f'if (buffers_give(&given, is_judged ? &call : 0, env, {names[0]}, {names[1]}, {mode})) {{'
+        yield f'{call};'
+        yield '}'
+        yield 'buffers_gave(&given);'
+
+    def text(self):
+        lines = self.released() if self.row.effect == 'GivesBack' else self.body()
+        depth, out = 1, [declared(self.function) + ' {']
+        for line in lines:
+            depth -= line.startswith('}')
+            out.append('    ' * depth + line)
+            depth += line.endswith('{')
+        return '\n'.join(out + ['}', ''])
+
+
+# ---- the file
+
+HEAD = '''/* agent/gen.py wrote this from jni.h and from the table of crates/jg_functions. */
+#include "calls.h"
+#include "buffers.h"
+#include "ids.h"
+#include "table.h"
+
+#include <stdarg.h>
+'''
+
+
+def detail(row):
+    """What an effect is of: a kind of references, or a family of buffers."""
+    if row.effect in ('Hands', 'Ends'):
+        return f'JG_{row.what.upper()}'
+    return FAMILIES[row.what] if row.effect == 'Lends' else '0'
+
+
+def described(row):
+    words = [f'"{row.name}"', f'EFFECT_{re.sub(r"(?<=[a-z])(?=[A-Z])", "_", row.effect).upper()}', detail(row),
+             f'THROWS_{row.throws.upper()}', str(int(row.runs == 'Java')), str(int(row.takes_env)),
+             str(int(row.passes in ('Pending', 'Both')))]
+    return '    {' + ', '.join(words) + '},'
+
+
+def main():
+    words = argparse.ArgumentParser(description=__doc__, formatter_class=argparse.RawDescriptionHelpFormatter)
+    words.add_argument('header')
+    words.add_argument('--table', default=TABLE)
+    given = words.parse_args()
+    rows = rows_of(given.table)
+    by_name = {row.name: row for row in rows}
+    old, newer = functions_of(given.header)
+    print(HEAD)
+    missing = []
+    for function in old + newer:
+        row = by_name.get(function.name)
+        if row is None:
+            missing.append(function.name)
+        elif function.name not in HAND:
+            print(Wrapper(function, row, function in newer).text())
+    if missing:
+        print(f'{given.header}: the table has no row of {", ".join(missing)}, which are passed on', file=sys.stderr)
+    print('/* The columns of the table that the agent goes by. */')
+    print('const struct row rows[JG_FUNCTIONS] = {')
+    print('\n'.join(map(described, rows)))
+    print('};\n')
+    print('/* Which wrapper stands in which slot. */')
+    print('const struct slot slots[] = {')
+    for function in old + newer:
+        if function.name in by_name:
+            print(f'    {{{function.slot}, (void (*)(void))wrapped_{function.name}}},')
+    print('};\n')
+    print('const size_t slot_count = sizeof slots / sizeof *slots;')
+
+
+if __name__ == '__main__':
+    main()

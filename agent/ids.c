@@ -1,0 +1,301 @@
+/*
+ * ids.c: the IDs of fields and methods that the machine handed out, and whether they fit.
+ *
+ * HotSpot's ID of an instance field is the field's offset, so several fields may bear one ID. Each known member has a
+ * struct here, which stays, so that it can be read without the lock: one whose class is gone is marked, and serves
+ * again for the next member of the same ID.
+ */
+#include "ids.h"
+#include "objects.h"
+
+#include <pthread.h>
+#include <stdlib.h>
+#include <string.h>
+
+struct member {
+    struct member *next; /* of the same place in the table */
+    const void *id;
+    jweak class;                         /* that declares it */
+    struct class_info *_Atomic declared; /* the same; NULL once it is gone */
+    struct member *of_class;             /* the next one that its class declares */
+    _Atomic uint64_t recent;             /* the serial number of a class for whose objects it was found to fit, or 0 */
+    char *arguments;
+    char type;
+    uint8_t is_static;
+    uint8_t is_method;
+    uint8_t is_constructor;
+};
+
+static pthread_mutex_t lock = PTHREAD_MUTEX_INITIALIZER;
+
+/* Lists of members, by their IDs. They are read without the lock, so nothing is taken out of them. */
+enum { LISTS = 1 << 16 };
+static struct member *_Atomic lists[LISTS];
+
+static struct member *_Atomic *list_of(const void *id) {
+    return &lists[(uintptr_t)id * 0x9E3779B97F4A7C15u >> 48];
+}
+
+/* ---- noting ---- */
+
+char *ids_letters(const char *signature, char *result) {
+    char *letters = must_make(strlen(signature) + 1);
+    size_t count = 0;
+    for (signature++; *signature != 0 && *signature != ')'; signature++) {
+        char letter = *signature == '[' ? 'L' : *signature;
+        while (*signature == '[') {
+            signature++;
+        }
+        if (*signature == 'L') {
+            signature += strcspn(signature, ";");
+        }
+        letters[count++] = letter;
+    }
+    *result = signature[0] == 0 ? 'V' : signature[1] == '[' ? 'L' : signature[1];
+    return letters;
+}
+
+/* The member of this ID, class and kind, or NULL. Under the lock. */
+static struct member *member_of(const void *id, const struct class_info *class, int is_static) {
+    for (struct member *it = *list_of(id); it != NULL; it = it->next) {
+        if (it->id == id && it->declared == class && it->is_static == is_static) {
+            return it;
+        }
+    }
+    return NULL;
+}
+
+/* A member of this ID whose class is gone, whose struct can serve again. Under the lock. */
+static struct member *unused_of(const void *id) {
+    struct member *it = *list_of(id);
+    while (it != NULL && (it->id != id || it->declared != NULL)) {
+        it = it->next;
+    }
+    return it;
+}
+
+/* Adds the member, unless it is known. Answers what is left over: its class or that of a member that is no more. */
+static jweak put(struct member *member, struct class_info *declared) {
+    if (member_of(member->id, declared, member->is_static) != NULL) {
+        free(member->arguments);
+        return member->class;
+    }
+    struct member *place = unused_of(member->id);
+    jweak unused = NULL;
+    if (place == NULL) {
+        struct member *_Atomic *list = list_of(member->id);
+        place = must_make(sizeof *place);
+        *place = *member;
+        place->next = *list;
+        *list = place;
+    } else {
+        unused = place->class;
+        free(place->arguments);
+        member->next = place->next;
+        *place = *member;
+    }
+    place->of_class = declared->members;
+    declared->members = place;
+    place->declared = declared;
+    return unused;
+}
+
+/* Adds the member of this class. It takes the arguments over. */
+static void add(JNIEnv *env, struct member member, jclass class) {
+    struct object *object = objects_of(env, class);
+    if (object == NULL || object->described == NULL) {
+        free(member.arguments);
+        return;
+    }
+    member.class = machine->NewWeakGlobalRef(env, class);
+    pthread_mutex_lock(&lock);
+    jweak unused = put(&member, object->described);
+    pthread_mutex_unlock(&lock);
+    if (unused != NULL) {
+        machine->DeleteWeakGlobalRef(env, unused);
+    }
+}
+
+/* Whether a method of this ID is known: then nothing need be noted. */
+static int is_noted(const void *id) {
+    pthread_mutex_lock(&lock);
+    struct member *it = *list_of(id);
+    while (it != NULL && (it->id != id || it->declared == NULL)) {
+        it = it->next;
+    }
+    pthread_mutex_unlock(&lock);
+    return it != NULL && it->is_method;
+}
+
+void ids_note_field(JNIEnv *env, jclass class, jfieldID field, const char *type, int is_static) {
+    jclass declaring = NULL;
+    if (field == NULL || !is_live || (*tool)->GetFieldDeclaringClass(tool, class, field, &declaring) != 0) {
+        return;
+    }
+    struct member member = {.id = field, .type = type[0] == '[' ? 'L' : type[0], .is_static = (uint8_t)is_static};
+    add(env, member, declaring);
+    machine->DeleteLocalRef(env, declaring);
+}
+
+void ids_note_method(JNIEnv *env, jmethodID method) {
+    char *name = NULL, *signature = NULL;
+    jint modifiers = 0;
+    jclass declaring = NULL;
+    if (method == NULL || !is_live || is_noted(method) ||
+        (*tool)->GetMethodDeclaringClass(tool, method, &declaring) != 0) {
+        return;
+    }
+    if ((*tool)->GetMethodName(tool, method, &name, &signature, NULL) == 0 &&
+        (*tool)->GetMethodModifiers(tool, method, &modifiers) == 0) {
+        struct member member = {.id = method, .is_method = 1, .is_static = (modifiers & 8) != 0};
+        member.arguments = ids_letters(signature, &member.type);
+        member.is_constructor = strcmp(name, "<init>") == 0;
+        add(env, member, declaring);
+    }
+    (*tool)->Deallocate(tool, (unsigned char *)name);
+    (*tool)->Deallocate(tool, (unsigned char *)signature);
+    machine->DeleteLocalRef(env, declaring);
+}
+
+/* The class that a java.lang.reflect.Field is of. */
+static jclass class_of_field(JNIEnv *env, jobject reflected) {
+    jclass class = machine->GetObjectClass(env, reflected);
+    jmethodID method = class ? machine->GetMethodID(env, class, "getDeclaringClass", "()Ljava/lang/Class;") : NULL;
+    jclass declaring = method ? machine->CallObjectMethod(env, reflected, method) : NULL;
+    machine->DeleteLocalRef(env, class);
+    return declaring;
+}
+
+void ids_note_reflected(JNIEnv *env, jobject reflected, jfieldID field) {
+    char *type = NULL;
+    jint modifiers = 0;
+    if (field == NULL || !is_live) {
+        return;
+    }
+    jclass class = class_of_field(env, reflected);
+    if (class != NULL && (*tool)->GetFieldName(tool, class, field, NULL, &type, NULL) == 0 &&
+        (*tool)->GetFieldModifiers(tool, class, field, &modifiers) == 0) {
+        ids_note_field(env, class, field, type, (modifiers & 8) != 0);
+    }
+    (*tool)->Deallocate(tool, (unsigned char *)type);
+    machine->DeleteLocalRef(env, class);
+}
+
+void ids_forget_class(struct class_info *class) {
+    pthread_mutex_lock(&lock);
+    for (struct member *it = class->members; it != NULL; it = it->of_class) {
+        it->declared = NULL;
+    }
+    class->members = NULL;
+    pthread_mutex_unlock(&lock);
+}
+
+/* ---- fitting ---- */
+
+/* Whether the operand is of the member's class: an instance of it, or a class that is the same or below. */
+static int is_of_class(JNIEnv *env, const struct member *member, const struct id_question *question) {
+    jclass declaring = machine->NewLocalRef(env, member->class);
+    int fits = 0;
+    if (declaring != NULL) {
+        if (question->subject == ID_CONSTRUCTOR) {
+            fits = machine->IsSameObject(env, question->handle, declaring);
+        } else if (question->is_class) {
+            fits = machine->IsAssignableFrom(env, question->handle, declaring);
+        } else {
+            fits = machine->IsInstanceOf(env, question->handle, declaring);
+        }
+        machine->DeleteLocalRef(env, declaring);
+    }
+    return fits;
+}
+
+/* The class that decides: the operand's own, or the one that the operand stands for. */
+static struct class_info *deciding(const struct id_question *question) {
+    if (question->object == NULL) {
+        return NULL;
+    }
+    return question->is_class ? question->object->described : question->object->class;
+}
+
+/* How well the member fits; the better, the less. */
+static enum fit fit_of(JNIEnv *env, struct member *member, const struct id_question *question) {
+    struct class_info *class = deciding(question);
+    int is_method = question->subject == ID_METHOD || question->subject == ID_CONSTRUCTOR;
+    if (question->subject != ID_ANY && member->is_method != is_method) {
+        return ID_UNKNOWN;
+    }
+    if (question->subject != ID_ANY && member->is_static != question->is_static) {
+        return ID_OTHER_MEMBER;
+    }
+    if (question->subject == ID_CONSTRUCTOR && !member->is_constructor) {
+        return ID_OTHER_MEMBER;
+    }
+    if (question->subject == ID_FIELD && member->type != question->letter) {
+        return ID_OTHER_TYPE;
+    }
+    if (class != NULL && member->recent != class->serial) {
+        if (!is_of_class(env, member, question)) {
+            return ID_OTHER_CLASS;
+        }
+        /* A constructor's class is compared exactly, so it isn't known by another question. */
+        member->recent = member->is_constructor ? 0 : class->serial;
+    }
+    return question->subject == ID_METHOD && member->type != question->letter ? ID_OTHER_RESULT : ID_FITS;
+}
+
+/* Of several members of one ID, which comes nearest is told. */
+static int rank(enum fit fit) {
+    static const int RANKS[] = {[ID_FITS] = 0,         [ID_OTHER_RESULT] = 1, [ID_OTHER_TYPE] = 2,
+                                [ID_OTHER_MEMBER] = 3, [ID_OTHER_CLASS] = 4,  [ID_UNKNOWN] = 5};
+    return RANKS[fit];
+}
+
+static enum fit best_of(JNIEnv *env, const void *id, const struct id_question *question) {
+    enum fit best = ID_UNKNOWN;
+    for (struct member *it = *list_of(id); it != NULL && best != ID_FITS; it = it->next) {
+        if (it->id == id && it->declared != NULL) {
+            enum fit found = fit_of(env, it, question);
+            best = rank(found) < rank(best) ? found : best;
+        }
+    }
+    return best;
+}
+
+/* Whether a member of this ID was found to fit such an operand and such a function before. */
+static int is_known_to_fit(const void *id, const struct id_question *question) {
+    const struct class_info *class = deciding(question);
+    int is_method = question->subject == ID_METHOD;
+    for (struct member *it = *list_of(id); it != NULL && class != NULL; it = it->next) {
+        if (it->id == id && it->recent == class->serial && it->is_method == is_method &&
+            it->is_static == question->is_static && it->type == question->letter) {
+            return question->subject == ID_METHOD || question->subject == ID_FIELD;
+        }
+    }
+    return 0;
+}
+
+enum fit ids_fit(JNIEnv *env, const void *id, const struct id_question *question) {
+    if (id == NULL) {
+        return ID_UNKNOWN;
+    }
+    return is_known_to_fit(id, question) ? ID_FITS : best_of(env, id, question);
+}
+
+static const struct member *any_of(const void *id) {
+    for (const struct member *it = *list_of(id); it != NULL; it = it->next) {
+        if (it->id == id && it->declared != NULL) {
+            return it;
+        }
+    }
+    return NULL;
+}
+
+const char *ids_arguments(const void *method) {
+    const struct member *found = any_of(method);
+    return found ? found->arguments : NULL;
+}
+
+char ids_type(const void *id) {
+    const struct member *found = any_of(id);
+    return found ? found->type : 0;
+}

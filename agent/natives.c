@@ -1,0 +1,460 @@
+/*
+ * natives.c: native methods. Round each stands a stub, which tells that the method begins and ends.
+ *
+ * What method it is is asked at its first run: methods that are bound early have no name yet. A method of a judged
+ * library is told at once, with its arguments. A method of another one is only noted: the core is told of it when
+ * judged code makes a call in it, as JNI_OnLoad does in the JDK's own method that loads a library.
+ */
+#include "natives.h"
+#include "calls.h"
+#include "core.h"
+#include "names.h"
+#include "objects.h"
+#include "options.h"
+#include "report.h"
+
+#include <pthread.h>
+#include <stdio.h>
+#include <stdlib.h>
+#include <string.h>
+#include <sys/mman.h>
+#include <unistd.h>
+
+/* What the stub does next: calls the function, if there is one, with so many words of the stack. */
+struct entry {
+    void (*function)(void);
+    uint64_t words;
+};
+
+struct entry jg_native_enters(struct native *native, const uint64_t *registers, uintptr_t frame);
+void jg_native_leaves(struct native *native, uint64_t *results, uintptr_t frame);
+
+/* Until a method's type is known so many words are copied: more arguments have none of the methods bound that early. */
+enum { LIKELY_WORDS = 16, LOADS = 1, UNLOADS = 2 };
+
+static pthread_mutex_t lock = PTHREAD_MUTEX_INITIALIZER;
+
+/* ---- stubs ---- */
+
+#if defined(__x86_64__)
+
+extern char jg_stub[] __attribute__((visibility("hidden")));
+
+enum { STUB_SIZE = 32, CHUNK_SIZE = 64 << 10 };
+
+/* Memory for stubs that is mapped twice, to be written and to be run. */
+static unsigned char *written, *run;
+static size_t chunk_used = CHUNK_SIZE;
+
+static int map_chunk(void) {
+    int file = memfd_create("jg stubs", MFD_CLOEXEC);
+    if (file < 0 || ftruncate(file, CHUNK_SIZE) != 0) {
+        return -1;
+    }
+    written = mmap(NULL, CHUNK_SIZE, PROT_READ | PROT_WRITE, MAP_SHARED, file, 0);
+    run = mmap(NULL, CHUNK_SIZE, PROT_READ | PROT_EXEC, MAP_SHARED, file, 0);
+    close(file);
+    chunk_used = 0;
+    return written == MAP_FAILED || run == MAP_FAILED ? -1 : 0;
+}
+
+/* A new stub, or NULL. Under the lock. */
+static void *make_stub(struct native *native) {
+    /* movabs $native, %r11; movabs $jg_stub, %r10; jmp *%r10 */
+    unsigned char code[STUB_SIZE] = {0x49, 0xBB, 0, 0, 0, 0, 0, 0, 0,    0,    0x49, 0xBA,
+                                     0,    0,    0, 0, 0, 0, 0, 0, 0x41, 0xFF, 0xE2};
+    const char *common = jg_stub;
+    if (chunk_used == CHUNK_SIZE && map_chunk() != 0) {
+        return NULL;
+    }
+    memcpy(code + 2, &native, sizeof native);
+    memcpy(code + 12, &common, sizeof common);
+    memcpy(written + chunk_used, code, sizeof code);
+    void *stub = run + chunk_used;
+    chunk_used += STUB_SIZE;
+    return stub;
+}
+
+#else
+
+/* No stub on this processor: native methods aren't seen, and their locals are asked at each use. */
+static void *make_stub(struct native *native) {
+    (void)native;
+    return NULL;
+}
+
+#endif
+
+/* The stubs that there are, by method and function: a method that is registered again has its own. */
+static struct bound {
+    jmethodID method;
+    void *address;
+    void *stub;
+} * bounds;
+static size_t bound_count, bound_room;
+
+static struct bound *bound_of(struct bound *in, size_t room, jmethodID method, const void *address) {
+    size_t at = ((uintptr_t)method * 31 + (uintptr_t)address) * 0x9E3779B97F4A7C15u >> 32 & (room - 1);
+    while (in[at].address != NULL && (in[at].method != method || in[at].address != address)) {
+        at = (at + 1) & (room - 1);
+    }
+    return &in[at];
+}
+
+static void grow_bounds(void) {
+    size_t room = bound_room ? 2 * bound_room : 1024;
+    struct bound *grown = must_make(room * sizeof *grown);
+    for (size_t at = 0; at < bound_room; at++) {
+        if (bounds[at].address != NULL) {
+            *bound_of(grown, room, bounds[at].method, bounds[at].address) = bounds[at];
+        }
+    }
+    free(bounds);
+    bounds = grown;
+    bound_room = room;
+}
+
+static void *stub_of(jmethodID method, void *address, const struct site *site) {
+    if (2 * (bound_count + 1) > bound_room) {
+        grow_bounds();
+    }
+    struct bound *bound = bound_of(bounds, bound_room, method, address);
+    if (bound->address == NULL) {
+        struct native *native = must_make(sizeof *native);
+        memcpy(&native->target, &address, sizeof address);
+        native->method = method;
+        native->site = site;
+        native->is_judged = (uint8_t)native->site->is_judged;
+        native->words = LIKELY_WORDS;
+        *bound = (struct bound){method, address, make_stub(native)};
+        bound_count++;
+    }
+    return bound->stub;
+}
+
+void JNICALL natives_bound(jvmtiEnv *of, JNIEnv *env, jthread thread, jmethodID method, void *address,
+                           void **replaced) {
+    (void)of;
+    (void)env;
+    (void)thread;
+    const struct site *site = sites_at((uintptr_t)address);
+    pthread_mutex_lock(&lock);
+    void *stub = stub_of(method, address, site);
+    pthread_mutex_unlock(&lock);
+    if (stub != NULL) {
+        *replaced = stub;
+    }
+}
+
+/* ---- what method it is ---- */
+
+/* Reads the method's type, and counts the words of arguments on the stack, behind six registers and eight. */
+static void read_type(struct native *native, const char *type) {
+    uint32_t integers = 2, floats = 0, words = 0;
+    native->types = ids_letters(type, &native->result);
+    for (const char *letter = native->types; *letter != 0; letter++) {
+        int is_float = *letter == 'F' || *letter == 'D';
+        words += is_float ? ++floats > 8 : ++integers > 6;
+    }
+    native->words = words;
+    native->count = (uint32_t)strlen(native->types);
+}
+
+static void note_label(struct native *native, const char *class, const char *name, const char *type) {
+    size_t room = strlen(class) + strlen(name) + strlen(type) + 2;
+    native->label = must_make(room);
+    int is_class = *class == 'L';
+    snprintf(native->label, room, "%.*s.%s%s", (int)strlen(class) - 2 * is_class, class + is_class, name, type);
+    if (strncmp(class, "Ljdk/internal/loader/", 21) == 0) {
+        native->loads = strncmp(name, "load", 4) == 0 ? LOADS : strncmp(name, "unload", 6) == 0 ? UNLOADS : 0;
+    }
+}
+
+static void describe(struct native *native, JNIEnv *env) {
+    char *name = NULL, *type = NULL, *class_name = NULL;
+    jclass class = NULL;
+    jint modifiers = 0;
+    if (machine == NULL || (*tool)->GetMethodName(tool, native->method, &name, &type, NULL) != 0 ||
+        (*tool)->GetMethodModifiers(tool, native->method, &modifiers) != 0 ||
+        (*tool)->GetMethodDeclaringClass(tool, native->method, &class) != 0) {
+        return;
+    }
+    (*tool)->GetClassSignature(tool, class, &class_name, NULL);
+    pthread_mutex_lock(&lock);
+    if (!native->is_described) {
+        native->is_static = (modifiers & 8) != 0;
+        read_type(native, type);
+        note_label(native, class_name ? class_name : "", name, type);
+        __atomic_store_n(&native->is_described, 1, __ATOMIC_RELEASE);
+    }
+    pthread_mutex_unlock(&lock);
+    (*tool)->Deallocate(tool, (unsigned char *)name);
+    (*tool)->Deallocate(tool, (unsigned char *)type);
+    (*tool)->Deallocate(tool, (unsigned char *)class_name);
+    machine->DeleteLocalRef(env, class);
+}
+
+/* ---- entering ---- */
+
+/* An argument that is a reference, and its object. */
+struct argument {
+    jobject handle;
+    struct object *object;
+};
+
+enum { MOST_ARGUMENTS = 256, FEW_ARGUMENTS = 8 };
+
+/* The receiver, or the class of a static method: the same at each call. */
+static struct object *receiver_of(struct native *native, JNIEnv *env, jobject handle) {
+    if (!native->is_static) {
+        return objects_of(env, handle);
+    }
+    if (native->class == NULL) {
+        native->class = objects_of(env, handle);
+    }
+    return native->class;
+}
+
+/* Finds the arguments that are references. How many there are. */
+static size_t find_arguments(struct native *native, const uint64_t *registers, uintptr_t frame,
+                             struct argument *found) {
+    const uint64_t *stack = (const uint64_t *)(frame + 16);
+    JNIEnv *env = (JNIEnv *)(uintptr_t)registers[0];
+    uint32_t integers = 2, floats = 0;
+    size_t count = 1;
+    found[0].handle = (jobject)(uintptr_t)registers[1];
+    found[0].object = receiver_of(native, env, found[0].handle);
+    for (const char *letter = native->types; letter != NULL && *letter != 0; letter++) {
+        if (*letter == 'F' || *letter == 'D') {
+            stack += ++floats > 8;
+            continue;
+        }
+        uint64_t value = integers < 6 ? registers[integers] : *stack;
+        stack += integers++ >= 6;
+        if (*letter == 'L' && value != 0) {
+            found[count].handle = (jobject)(uintptr_t)value;
+            found[count].object = objects_of(env, found[count].handle);
+            count++;
+        }
+    }
+    return count;
+}
+
+/* The method is handed a local reference to the argument. Between core_lock and core_unlock. */
+static void tell_argument(struct thread *thread, const struct argument *argument, const struct native *native) {
+    jg_value given = jg_nothing();
+    jg_fact got = jg_fact_of(JG_GOT, thread->number, jg_nothing(), jg_null(), JG_LOCAL, 0);
+    if (argument->object == NULL || core_tell_of(got, argument->object, &given) < 0) {
+        return;
+    }
+    struct name before, made = {.handle = address_of(argument->handle), .name = given, .object = argument->object};
+    made.made = native->site;
+    made.made_by = JG_FN_NativeEnter;
+    made.is_believed = 1;
+    made.frame = threads_add_local(thread, made.handle, given.number);
+    if (names_put(&made, &before)) {
+        core_tell(jg_fact_of(JG_LOST, thread->number, before.name, jg_null(), 0, 0), NULL);
+    }
+}
+
+/* A method of a judged library begins. */
+static void tell_entered(struct thread *thread, struct native *native, const uint64_t *registers, uintptr_t frame) {
+    struct argument few[FEW_ARGUMENTS], *arguments = few;
+    if (!threads_attach(thread)) {
+        return;
+    }
+    threads_own_again(thread);
+    if (native->count >= FEW_ARGUMENTS) {
+        arguments = must_make(MOST_ARGUMENTS * sizeof *arguments);
+    }
+    size_t count = find_arguments(native, registers, frame, arguments);
+    core_lock();
+    if (objects_are_gone()) {
+        objects_tell_gone();
+    }
+    threads_tell_enter(thread);
+    for (size_t at = 0; at < count; at++) {
+        tell_argument(thread, &arguments[at], native);
+    }
+    core_unlock();
+    if (arguments != few) {
+        free(arguments);
+    }
+}
+
+/* ---- loading of libraries ---- */
+
+/* The class that a library is loaded for: a field of the JDK's own object. */
+static struct object *loading_class(JNIEnv *env, jobject implementation) {
+    jclass class = implementation ? machine->GetObjectClass(env, implementation) : NULL;
+    jfieldID field = class ? machine->GetFieldID(env, class, "fromClass", "Ljava/lang/Class;") : NULL;
+    jobject from = field ? machine->GetObjectField(env, implementation, field) : NULL;
+    struct object *object = from ? objects_of(env, from) : NULL;
+    if (field == NULL) {
+        machine->ExceptionClear(env);
+    }
+    machine->DeleteLocalRef(env, from);
+    machine->DeleteLocalRef(env, class);
+    return object;
+}
+
+/* Asks whether the class may load a library (rule 16), where the setup states the class. Whether it is loaded. */
+static int may_load(struct thread *thread, const struct native *native, const uint64_t *registers) {
+    JNIEnv *env = (JNIEnv *)(uintptr_t)registers[0];
+    struct call call;
+    if (native->loads != LOADS || options.setup == NULL || !is_live || !threads_attach(thread) ||
+        machine->ExceptionCheck(env)) {
+        return 1;
+    }
+    struct object *class = loading_class(env, (jobject)(uintptr_t)registers[2]);
+    if (class == NULL || class->number >= objects_of_setup()) {
+        return 1;
+    }
+    call_opens(&call, JG_FN_LoadLibrary, thread, native->site);
+    call.env = env;
+    call.is_own_env = 1;
+    call.env_name = thread->env_name;
+    call_operand(&call, jg_class((uint32_t) class->number));
+    call_operand(&call, jg_name());
+    int passes = call_passes(&call);
+    call_drops(&call);
+    return passes;
+}
+
+struct entry jg_native_enters(struct native *native, const uint64_t *registers, uintptr_t frame) {
+    struct thread *thread = threads_self();
+    if (!__atomic_load_n(&native->is_described, __ATOMIC_ACQUIRE)) {
+        describe(native, (JNIEnv *)(uintptr_t)registers[0]);
+    }
+    threads_unwind(thread, frame);
+    if (native->loads == LOADS && !may_load(thread, native, registers)) {
+        threads_enter(thread, native, frame);
+        return (struct entry){NULL, 0};
+    }
+    threads_enter(thread, native, frame);
+    if (native->is_judged && is_live) {
+        tell_entered(thread, native, registers, frame);
+    }
+    return (struct entry){native->target, native->words};
+}
+
+/* ---- leaving ---- */
+
+/* Tells that the newest native method is left. Between core_lock and core_unlock. */
+static void tell_left(struct thread *thread) {
+    core_tell(jg_fact_of(JG_LEAVES, thread->number, jg_nothing(), jg_null(), 0, 0), NULL);
+}
+
+/*
+ * A judged method returns: asks whether it may return this, and tells that it is left, in one round. Where it may not
+ * and denied calls aren't made, it returns NULL.
+ */
+static void leave_judged(struct thread *thread, const struct native *native, uint64_t *result) {
+    struct call call;
+    call_opens(&call, JG_FN_NativeLeave, thread, native->site);
+    call.env = thread->env;
+    call.is_own_env = 1;
+    call.env_name = thread->env_name;
+    call_nullable(&call, native->result == 'L' ? (jobject)(uintptr_t)*result : NULL);
+    struct question question = call_question(&call);
+    core_lock();
+    if (objects_are_gone()) {
+        objects_tell_gone();
+    }
+    int32_t error = core_ask(&question, &call.verdict, NULL, NULL);
+    tell_left(thread);
+    core_unlock();
+    if (error == 0 && call.verdict.rule != 0) {
+        core_count(&counts.denied);
+        report_denial(&call);
+        *result = options.is_strict ? 0 : *result;
+    }
+    call_drops(&call);
+}
+
+void jg_native_leaves(struct native *native, uint64_t *results, uintptr_t frame) {
+    struct thread *thread = threads_self();
+    threads_unwind(thread, frame - 1);
+    if (thread->depth == 0 || thread->activations[thread->depth - 1].stack != frame) {
+        return;
+    }
+    if (thread->activations[thread->depth - 1].is_told && is_live) {
+        threads_own_again(thread);
+        if (native->is_judged) {
+            leave_judged(thread, native, results);
+        } else {
+            core_lock();
+            tell_left(thread);
+            core_unlock();
+        }
+    }
+    threads_leave(thread);
+    if (native->loads) {
+        sites_check_unloaded();
+    }
+}
+
+/* ---- registration ---- */
+
+/* The native method of this name and type, where the setup states it. */
+static jg_value native_named(const struct object *class, const JNINativeMethod *method) {
+    if (class == NULL || class->number >= objects_of_setup() || method->name == NULL || method->signature == NULL) {
+        return jg_no_native();
+    }
+    core_lock();
+    int64_t number = jg_native_named(&core, (uint32_t) class->number, jg_bytes(method->name), strlen(method->name),
+                                     jg_bytes(method->signature), strlen(method->signature));
+    core_unlock();
+    return number > 0 ? jg_native((uint32_t)number) : jg_no_native();
+}
+
+jint JNICALL wrapped_RegisterNatives(JNIEnv *env, jclass class, const JNINativeMethod *methods, jint count) {
+    struct call call;
+    jg_value given;
+    int is_judged = call_begins(&call, JG_FN_RegisterNatives, env, CALLER);
+    if (!is_judged || count <= 0 || methods == NULL) {
+        return machine->RegisterNatives(env, class, methods, count);
+    }
+    jg_ticket *tickets = must_make((size_t)count * sizeof *tickets);
+    jint asked = 0;
+    jobject handle = call_object(&call, class);
+    struct reference first = call.first;
+    for (; asked < count; asked++) {
+        /* A question for each method: the first that is denied decides. */
+        call.count = 0;
+        call_operand_of(&call, first.name, class);
+        call_operand(&call, native_named(first.object, &methods[asked]));
+        if (!call_passes(&call)) {
+            free(tickets);
+            return JNI_ERR;
+        }
+        if (!call.is_asked || call.verdict.rule != 0) {
+            break;
+        }
+        tickets[asked] = call.verdict.ticket;
+    }
+    jint answer = machine->RegisterNatives(env, handle, methods, count);
+    for (jint at = 0; answer == 0 && at < asked; at++) {
+        call.verdict.ticket = tickets[at];
+        call.verdict.rule = 0;
+        call_says(&call, jg_nothing(), NULL, &given);
+    }
+    free(tickets);
+    call_drops(&call);
+    return answer;
+}
+
+jint JNICALL wrapped_UnregisterNatives(JNIEnv *env, jclass class) {
+    struct call call;
+    if (!call_begins(&call, JG_FN_UnregisterNatives, env, CALLER)) {
+        return machine->UnregisterNatives(env, class);
+    }
+    class = call_object(&call, class);
+    call.is_ending = 1;
+    if (!call_passes(&call)) {
+        return JNI_ERR;
+    }
+    jint answer = machine->UnregisterNatives(env, class);
+    call_drops(&call);
+    return answer;
+}

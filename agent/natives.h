@@ -1,0 +1,33 @@
+/*
+ * natives.h: native methods. Round each stands a stub, which tells that the method begins and ends.
+ */
+#ifndef NATIVES_H
+#define NATIVES_H
+
+#include "agent.h"
+
+struct object;
+struct site;
+
+/* A native method's function, and its stub. */
+struct native {
+    void (*target)(void);
+    jmethodID method;
+    const struct site *site; /* the function's place */
+    char *label;             /* its class, name and type, once they are known */
+    char *types;             /* a letter for each argument; L is any reference */
+    uint32_t count;          /* how many arguments it has */
+    char result;
+    uint8_t is_judged;
+    uint8_t is_static;
+    uint8_t is_described;
+    struct object *class; /* of a static method: its class object, once it was seen */
+    uint8_t loads;        /* it loads or unloads libraries */
+    uint32_t words;       /* how many words of arguments stand on the stack */
+};
+
+/* The machine binds a native method: a stub takes its place. */
+void JNICALL natives_bound(jvmtiEnv *tool, JNIEnv *env, jthread thread, jmethodID method, void *address,
+                           void **replaced);
+
+#endif

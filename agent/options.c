@@ -1,0 +1,139 @@
+/*
+ * options.c: the words behind the agent's name.
+ */
+#include "options.h"
+#include "agent.h"
+#include "quarantine.h"
+
+#include <stdio.h>
+#include <stdlib.h>
+#include <string.h>
+
+struct options options = {.exit_code = -1, .quarantine = 256};
+_Atomic int64_t quarantine_bytes;
+
+enum kind { FLAG, NUMBER, TEXT };
+
+/* Each option: its word, what stands behind `=`, and what it does. */
+static const struct option {
+    const char *word;
+    const char *value;
+    enum kind kind;
+    size_t place;
+    const char *help;
+} OPTIONS[] = {
+    {"libs", "A:B", TEXT, offsetof(struct options, libraries),
+     "judge the calls of these libraries alone, such as demo or libdemo.so\n"
+     "                  (default: of all that aren't the JDK's own)"},
+    {"strict", NULL, FLAG, offsetof(struct options, is_strict),
+     "don't make a denied call; it answers NULL, 0 or JNI_ERR"},
+    {"fatal", NULL, FLAG, offsetof(struct options, is_fatal), "abort at the first denial"},
+    {"exitcode", "N", NUMBER, offsetof(struct options, exit_code), "end with status N if any call was denied"},
+    {"setup", "FILE", TEXT, offsetof(struct options, setup),
+     "classes with their modules and native access (docs/FORMATS.md)"},
+    {"suppress", "FILE", TEXT, offsetof(struct options, suppressed),
+     "don't tell what a line RULE FUNCTION LIBRARY of FILE names; * is any"},
+    {"log", "FILE", TEXT, offsetof(struct options, log), "write the report to FILE (default: standard error)"},
+    {"record", "FILE", TEXT, offsetof(struct options, record), "write a record that `jg watch` judges again"},
+    {"leaks", NULL, FLAG, offsetof(struct options, lists_leaks), "tell in the end what was never deleted or released"},
+    {"quarantine", "N", NUMBER, offsetof(struct options, quarantine),
+     "hold back N ended references of a thread (default: 256; 0: none)"},
+    {"wrap", "A:B", TEXT, offsetof(struct options, wrappers),
+     "functions that pass calls on: tell the caller's place instead"},
+};
+
+enum { OPTION_COUNT = sizeof OPTIONS / sizeof *OPTIONS };
+
+static void print_help(void) {
+    puts("java -agentpath:libjg_agent.so[=OPTION,OPTION,..] ..\n");
+    for (size_t at = 0; at < OPTION_COUNT; at++) {
+        char head[32];
+        snprintf(head, sizeof head, "%s%s%s", OPTIONS[at].word, OPTIONS[at].value ? "=" : "",
+                 OPTIONS[at].value ? OPTIONS[at].value : "");
+        printf("  %-15s %s\n", head, OPTIONS[at].help);
+    }
+    printf("  %-15s %s\n", "help", "print this and end");
+}
+
+static int refuse(const char *word, const char *why) {
+    fprintf(stderr, "jg: option %s: %s; -agentpath:..=help lists the options\n", word, why);
+    return JNI_EINVAL;
+}
+
+/* Takes the value of an option into its field. */
+static int take(const struct option *option, const char *word, const char *value) {
+    void *field = (char *)&options + option->place;
+    char *end;
+    if ((option->kind == FLAG) != (value == NULL)) {
+        return refuse(word, option->kind == FLAG ? "it takes no value" : "it needs a value");
+    }
+    switch (option->kind) {
+    case FLAG:
+        *(int *)field = 1;
+        return 0;
+    case NUMBER:
+        *(int *)field = (int)strtol(value, &end, 10);
+        return *value < '0' || *value > '9' || *end || strlen(value) > 6 ? refuse(word, "it needs a number") : 0;
+    default:
+        *(char **)field = must_copy(value);
+        return *value == 0 ? refuse(word, "it needs a value") : 0;
+    }
+}
+
+static int read_word(char *word) {
+    char *value = strchr(word, '=');
+    if (value != NULL) {
+        *value++ = 0;
+    }
+    if (strcmp(word, "help") == 0) {
+        print_help();
+        fflush(stdout);
+        exit(0);
+    }
+    for (size_t at = 0; at < OPTION_COUNT; at++) {
+        if (strcmp(word, OPTIONS[at].word) == 0) {
+            return take(&OPTIONS[at], word, value);
+        }
+    }
+    return refuse(word, "there is no such option");
+}
+
+int options_read(const char *words) {
+    char *text = must_copy(words ? words : ""), *rest = NULL;
+    int answer = 0;
+    for (char *word = strtok_r(text, ",", &rest); word != NULL && answer == 0; word = strtok_r(NULL, ",", &rest)) {
+        answer = read_word(word);
+    }
+    free(text);
+    return answer;
+}
+
+char *read_file(const char *path, size_t *size) {
+    FILE *file = fopen(path, "rb");
+    char *text = NULL;
+    size_t room = 0, got = 0;
+    if (file == NULL) {
+        fprintf(stderr, "jg: %s can't be opened\n", path);
+        return NULL;
+    }
+    do {
+        room = room ? 2 * room : 4096;
+        text = must_grow(text, room + 1);
+        got += fread(text + got, 1, room - got, file);
+    } while (got == room);
+    text[got] = 0;
+    fclose(file);
+    *size = got;
+    return text;
+}
+
+int is_listed(const char *list, const char *name, size_t size) {
+    while (list != NULL && *list != 0) {
+        size_t length = strcspn(list, ":");
+        if (length == size && strncmp(list, name, size) == 0) {
+            return 1;
+        }
+        list += length + (list[length] != 0);
+    }
+    return 0;
+}

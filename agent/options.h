@@ -1,0 +1,34 @@
+/*
+ * options.h: the words behind the agent's name, `-agentpath:libjg_agent.so=strict,log=FILE`.
+ */
+#ifndef OPTIONS_H
+#define OPTIONS_H
+
+#include <stddef.h>
+
+struct options {
+    int is_strict;   /* a denied call isn't made */
+    int is_fatal;    /* the first denial aborts */
+    int exit_code;   /* the status where anything was denied, or -1: the program's own */
+    int lists_leaks; /* tells what is left in the end */
+    int quarantine;  /* how many ended references of a kind are held back */
+    char *libraries; /* the judged libraries, with `:` between them, or NULL: all but the JDK's own */
+    char *wrappers;  /* names of functions that only pass a call on, with `:` between them, or NULL */
+    char *setup;     /* files, or NULL */
+    char *suppressed;
+    char *log;
+    char *record;
+};
+
+extern struct options options;
+
+/* Reads the words. 0, or the answer that the machine is given where they are refused or help was asked for. */
+int options_read(const char *words);
+
+/* Reads a whole file, with a NUL behind it; NULL where it can't be read, which was said then. */
+char *read_file(const char *path, size_t *size);
+
+/* Whether the name is one of a list with `:` between its items. */
+int is_listed(const char *list, const char *name, size_t size);
+
+#endif

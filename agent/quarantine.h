@@ -1,0 +1,26 @@
+/*
+ * quarantine.h: how much of what ended may be held back, so that its place isn't used again at once.
+ */
+#ifndef QUARANTINE_H
+#define QUARANTINE_H
+
+#include "options.h"
+
+#include <stdint.h>
+
+enum { QUARANTINE_BYTES = 16 << 20, QUARANTINE_BYTES_OF_ONE = 64 << 10 };
+
+/* The bytes of all that is held back: references, by the lengths of their objects, and copies of buffers. */
+extern _Atomic int64_t quarantine_bytes;
+
+/* Whether something of this size is held back at all. */
+static inline int quarantine_takes(uint64_t bytes) {
+    return options.quarantine > 0 && bytes <= QUARANTINE_BYTES_OF_ONE;
+}
+
+/* Whether something older has to go before this is held back. */
+static inline int quarantine_is_full(uint64_t bytes) {
+    return quarantine_bytes + (int64_t)bytes > QUARANTINE_BYTES;
+}
+
+#endif

@@ -1,0 +1,314 @@
+/*
+ * references.c: the wrappers of functions that end references, frames and exceptions, and what is held back of them.
+ *
+ * A reference that judged code deletes isn't deleted in the machine at once: so its slot isn't used again, and a later
+ * use of the dead reference is seen.
+ */
+#include "calls.h"
+#include "core.h"
+#include "names.h"
+#include "objects.h"
+#include "quarantine.h"
+
+#include <pthread.h>
+
+/* A global or weak reference that was held back. */
+struct held_global {
+    uintptr_t handle;
+    uint64_t number;
+    uint32_t bytes;
+    uint32_t kind;
+};
+
+static pthread_mutex_t lock = PTHREAD_MUTEX_INITIALIZER;
+static struct held_global *held; /* a ring */
+static size_t held_first, held_count;
+
+static uint32_t bytes_of(const struct object *object) {
+    if (object == NULL || object->class == NULL) {
+        return 0;
+    }
+    uint64_t bytes = (uint64_t)object->length * objects_item_size(object->class->shape);
+    return bytes > UINT32_MAX ? UINT32_MAX : (uint32_t)bytes;
+}
+
+static void delete_in_machine(JNIEnv *env, uint32_t kind, jobject handle) {
+    if (kind == JG_LOCAL) {
+        machine->DeleteLocalRef(env, handle);
+    } else if (kind == JG_GLOBAL) {
+        machine->DeleteGlobalRef(env, handle);
+    } else {
+        machine->DeleteWeakGlobalRef(env, handle);
+    }
+}
+
+/* Takes the one that was held back longest out of the ring, where that is too full for so many bytes more. */
+static int take_oldest(uint32_t bytes, struct held_global *oldest) {
+    pthread_mutex_lock(&lock);
+    int is_full = held_count == (size_t)options.quarantine || (held_count > 0 && quarantine_is_full(bytes));
+    if (is_full) {
+        *oldest = held[held_first];
+        held_first = (held_first + 1) % (size_t)options.quarantine;
+        held_count--;
+        quarantine_bytes -= oldest->bytes;
+    }
+    pthread_mutex_unlock(&lock);
+    return is_full;
+}
+
+/* Holds the reference back. Whether it did. */
+static int hold_global(JNIEnv *env, const struct held_global *global) {
+    struct held_global oldest;
+    if (!quarantine_takes(global->bytes)) {
+        return 0;
+    }
+    while (take_oldest(global->bytes, &oldest)) {
+        if (names_let_go(oldest.handle, oldest.number)) {
+            delete_in_machine(env, oldest.kind, (jobject)oldest.handle);
+        }
+    }
+    pthread_mutex_lock(&lock);
+    if (held == NULL) {
+        held = must_make((size_t)options.quarantine * sizeof *held);
+    }
+    int has_room = held_count < (size_t)options.quarantine;
+    if (has_room) {
+        held[(held_first + held_count++) % (size_t)options.quarantine] = *global;
+        quarantine_bytes += global->bytes;
+    }
+    pthread_mutex_unlock(&lock);
+    return has_room;
+}
+
+/* ---- deletions ---- */
+
+/* The deletion of a library that isn't judged: of a reference that has a name, its end is told. */
+static void delete_unjudged(JNIEnv *env, uint32_t kind, jobject handle, uint16_t function, uintptr_t at) {
+    struct name known;
+    int is_known = handle != NULL && names_find(address_of(handle), &known);
+    if (is_known && known.state == NAME_LIVE) {
+        core_lock();
+        core_tell(jg_fact_of(JG_LOST, 0, known.name, jg_null(), 0, 0), NULL);
+        core_unlock();
+        names_end(known.handle, known.name.number, NAME_DEAD, function, sites_at(at));
+    } else if (is_known && known.state == NAME_SEEN) {
+        names_forget(known.handle);
+    }
+    delete_in_machine(env, kind, handle);
+}
+
+/* The core took the end: the name is dead, and the machine is told at once or later. */
+static void end_reference(struct call *call, const struct name *known, uint32_t kind) {
+    uint32_t bytes = bytes_of(known->object);
+    uint64_t number = known->name.number;
+    /* It is marked before it stands in a ring, from which another thread may take it. */
+    if (!names_end(known->handle, number, NAME_HELD, (uint16_t)call->function, call->site)) {
+        return;
+    }
+    struct held_local local = {known->handle, number, known->frame, bytes};
+    struct held_global global = {known->handle, number, bytes, kind};
+    int is_held = kind == JG_LOCAL ? call->is_own_env && threads_hold_local(call->thread, call->env, &local)
+                                   : hold_global(call->env, &global);
+    if (!is_held && names_let_go(known->handle, number)) {
+        delete_in_machine(call->env, kind, (jobject)known->handle);
+    }
+}
+
+/* A denied deletion is made all the same, but not of what is held back: the machine didn't see the first. */
+static void delete_denied(struct call *call, uint32_t kind, jobject handle) {
+    struct name known;
+    int is_known = handle != NULL && names_find(address_of(handle), &known);
+    if (is_known && known.state == NAME_HELD) {
+        return;
+    }
+    uint32_t rule = call->verdict.rule;
+    if (is_known && known.state == NAME_LIVE && rule != 2 && rule != 5 && rule != 6 && rule != 7) {
+        core_lock();
+        core_tell(jg_fact_of(JG_LOST, call->thread->number, known.name, jg_null(), 0, 0), NULL);
+        core_unlock();
+        names_end(known.handle, known.name.number, NAME_DEAD, (uint16_t)call->function, call->site);
+    }
+    delete_in_machine(call->env, kind, handle);
+    if (rule == 5 || rule == 7) {
+        call_checks_lost(call, &call->first);
+    }
+}
+
+/* The name of the operand that is deleted. Whether it has one. */
+static int name_deleted(struct call *call, jobject handle) {
+    return call->known.handle == address_of(handle) || names_find(address_of(handle), &call->known);
+}
+
+static void delete_reference(JNIEnv *env, uint32_t function, jobject handle, uintptr_t at, uintptr_t frame) {
+    struct call call;
+    uint32_t kind = rows[function].detail;
+    if (!call_begins(&call, function, env, at, frame)) {
+        delete_unjudged(env, kind, handle, (uint16_t)function, at);
+        return;
+    }
+    call_nullable(&call, handle);
+    call.is_ending = 1;
+    if (!call_passes(&call)) {
+        return;
+    }
+    if (!call.is_asked || handle == NULL) {
+        delete_in_machine(env, kind, handle);
+    } else if (call.verdict.rule != 0) {
+        delete_denied(&call, kind, handle);
+    } else if (name_deleted(&call, handle)) {
+        end_reference(&call, &call.known, kind);
+    }
+    call_drops(&call);
+}
+
+void JNICALL wrapped_DeleteLocalRef(JNIEnv *env, jobject reference) {
+    delete_reference(env, JG_FN_DeleteLocalRef, reference, CALLER);
+}
+
+void JNICALL wrapped_DeleteGlobalRef(JNIEnv *env, jobject reference) {
+    delete_reference(env, JG_FN_DeleteGlobalRef, reference, CALLER);
+}
+
+void JNICALL wrapped_DeleteWeakGlobalRef(JNIEnv *env, jweak reference) {
+    delete_reference(env, JG_FN_DeleteWeakGlobalRef, reference, CALLER);
+}
+
+jobjectRefType JNICALL wrapped_GetObjectRefType(JNIEnv *env, jobject reference) {
+    struct call call;
+    struct name known;
+    if (!call_begins(&call, JG_FN_GetObjectRefType, env, CALLER)) {
+        return machine->GetObjectRefType(env, reference);
+    }
+    call_unjudged(&call, reference);
+    if (!call_passes(&call)) {
+        return JNIInvalidRefType;
+    }
+    call_drops(&call);
+    if (reference != NULL && names_find(address_of(reference), &known) && known.state == NAME_HELD) {
+        return JNIInvalidRefType;
+    }
+    return machine->GetObjectRefType(env, reference);
+}
+
+/* ---- frames ---- */
+
+/* Whether the newest native method isn't known to the core yet. */
+static int is_untold(const struct thread *thread) {
+    return thread->depth > 0 && !thread->activations[thread->depth - 1].is_told;
+}
+
+/* A library that isn't judged pushed a frame. */
+static void push_unjudged(void) {
+    struct thread *thread = threads_known();
+    if (thread != NULL && is_untold(thread)) {
+        thread->activations[thread->depth - 1].pushed++;
+    } else if (thread != NULL && thread->is_attached) {
+        core_lock();
+        core_tell(jg_fact_of(JG_PUSHED, thread->number, jg_nothing(), jg_null(), 16, 0), NULL);
+        core_unlock();
+        threads_push(thread);
+    }
+}
+
+jint JNICALL wrapped_PushLocalFrame(JNIEnv *env, jint capacity) {
+    struct call call;
+    jg_value given;
+    if (!call_begins(&call, JG_FN_PushLocalFrame, env, CALLER)) {
+        jint answer = machine->PushLocalFrame(env, capacity);
+        if (answer == 0) {
+            push_unjudged();
+        }
+        return answer;
+    }
+    call_number(&call, capacity);
+    if (!call_passes(&call)) {
+        return JNI_ERR;
+    }
+    jint answer = machine->PushLocalFrame(env, capacity);
+    if (answer != 0 || !call.is_asked) {
+        return answer;
+    }
+    if (call.verdict.rule == 0) {
+        call_says(&call, jg_nothing(), NULL, &given);
+        threads_push(call.thread);
+    } else if (call.is_own_env) {
+        push_unjudged();
+    }
+    return answer;
+}
+
+/* A frame that the core knows is popped, by a call that it wasn't asked of or that it denied. */
+static void tell_popped(struct thread *thread, uint16_t function, const struct site *site) {
+    core_lock();
+    core_tell(jg_fact_of(JG_POPPED, thread->number, jg_nothing(), jg_null(), 0, 0), NULL);
+    core_unlock();
+    threads_pop(thread, function, site);
+}
+
+static jobject pop_unjudged(JNIEnv *env, jobject result, uintptr_t at) {
+    struct thread *thread = threads_known();
+    if (thread != NULL && is_untold(thread)) {
+        struct activation *newest = &thread->activations[thread->depth - 1];
+        newest->pushed -= newest->pushed > 0;
+    } else if (thread != NULL && thread->is_attached && threads_has_pushed(thread)) {
+        tell_popped(thread, JG_FN_PopLocalFrame, sites_at(at));
+    }
+    return machine->PopLocalFrame(env, result);
+}
+
+/* The machine pops the frame, and what it answers has the name that the core gave. */
+static jobject pop_passed(struct call *call, jobject result) {
+    threads_pop(call->thread, JG_FN_PopLocalFrame, call->site);
+    jobject kept = machine->PopLocalFrame(call->env, result);
+    if (kept != NULL && call->given.kind == JG_LOCAL) {
+        call_names(call, kept, call->given, call->first.object);
+    }
+    return kept;
+}
+
+static jobject pop_denied(struct call *call, jobject result) {
+    if (call->verdict.rule != 2 && call->is_own_env && threads_has_pushed(call->thread)) {
+        tell_popped(call->thread, JG_FN_PopLocalFrame, call->site);
+    }
+    return machine->PopLocalFrame(call->env, result);
+}
+
+jobject JNICALL wrapped_PopLocalFrame(JNIEnv *env, jobject result) {
+    struct call call;
+    uintptr_t at = (uintptr_t)__builtin_return_address(0);
+    if (!call_begins(&call, JG_FN_PopLocalFrame, env, CALLER)) {
+        return pop_unjudged(env, result, at);
+    }
+    if (!is_from_start && call.thread->depth == 0 && !threads_has_pushed(call.thread)) {
+        core_count(&counts.unseen);
+        return machine->PopLocalFrame(env, result);
+    }
+    call_nullable(&call, result);
+    call.is_ending = 1;
+    call.kept = call.first.object ? jg_object(call.first.object->number) : jg_null();
+    objects_hold(call.first.object);
+    jobject kept = NULL;
+    if (call_passes(&call)) {
+        kept = call.is_asked && call.verdict.rule == 0 ? pop_passed(&call, result) : pop_denied(&call, result);
+        call_drops(&call);
+    }
+    objects_drop(call.first.object);
+    return kept;
+}
+
+/* ---- exceptions ---- */
+
+void JNICALL wrapped_ExceptionClear(JNIEnv *env) {
+    struct call call;
+    if (call_begins(&call, JG_FN_ExceptionClear, env, CALLER)) {
+        call.is_ending = 1;
+        if (!call_passes(&call)) {
+            return;
+        }
+        if (call.is_asked && call.verdict.rule == 0) {
+            call.thread->is_pending = 0;
+        }
+        call_drops(&call);
+    }
+    machine->ExceptionClear(env);
+}

@@ -1,0 +1,494 @@
+/*
+ * report.c: what the agent tells its user.
+ *
+ * A block for each rule, function and place. The first occurrence is told at once, before the machine makes the call,
+ * since that may end the program; later ones are counted. The counts and the lines of source files come at the end.
+ */
+#include "report.h"
+#include "buffers.h"
+#include "calls.h"
+#include "core.h"
+#include "monitors.h"
+#include "names.h"
+#include "options.h"
+#include "sites.h"
+
+#include <pthread.h>
+#include <stdarg.h>
+#include <stdio.h>
+#include <stdlib.h>
+#include <string.h>
+
+enum { MOST_FRAMES = 16 };
+
+struct block {
+    uint32_t rule; /* 0: a notice */
+    uint32_t function;
+    const struct site *site;
+    const char *notice;
+    uint64_t count;
+    int is_suppressed;
+};
+
+/* A line of the file of suppressions: a word may be `*`. */
+struct suppression {
+    char rule[32], function[64], library[128];
+};
+
+static pthread_mutex_t lock = PTHREAD_MUTEX_INITIALIZER;
+static FILE *output;
+static struct block *blocks;
+static size_t block_count, block_room;
+static size_t *places, place_room; /* a hash table of blocks: their numbers from 1 */
+static struct suppression *suppressions;
+static size_t suppression_count, suppression_room;
+static uint64_t told;
+
+void report_line(const char *format, ...) {
+    va_list arguments;
+    va_start(arguments, format);
+    fputs("jg: ", output ? output : stderr);
+    vfprintf(output ? output : stderr, format, arguments);
+    fputc('\n', output ? output : stderr);
+    va_end(arguments);
+}
+
+/* ---- suppressions ---- */
+
+static int read_suppressions(void) {
+    size_t size, number = 0;
+    char *text = read_file(options.suppressed, &size), *rest = NULL;
+    if (text == NULL) {
+        return -1;
+    }
+    for (char *line = strtok_r(text, "\n", &rest); line != NULL; line = strtok_r(NULL, "\n", &rest)) {
+        struct suppression it;
+        char more[2];
+        number++;
+        if (*line == '#' || strspn(line, " \t\r") == strlen(line)) {
+            continue;
+        }
+        if (sscanf(line, "%31s %63s %127s %1s", it.rule, it.function, it.library, more) != 3) {
+            fprintf(stderr, "jg: %s: `%s` isn't RULE FUNCTION LIBRARY\n", options.suppressed, line);
+            free(text);
+            return -1;
+        }
+        MAKE_ROOM(suppressions, suppression_count, suppression_room);
+        suppressions[suppression_count++] = it;
+    }
+    free(text);
+    return 0;
+}
+
+/* The rule's name, or the notice's. */
+static void name_of(const struct block *block, char *name, size_t room) {
+    uint8_t bytes[64];
+    int64_t length = block->rule ? jg_rule_name(block->rule, bytes, sizeof bytes) : 0;
+    if (block->rule != 0) {
+        snprintf(name, room, "%.*s", (int)(length < 0 ? 0 : length), (const char *)bytes);
+    } else {
+        snprintf(name, room, "%s", block->notice);
+    }
+}
+
+static int is_word(const char *word, const char *text) {
+    return strcmp(word, "*") == 0 || strcmp(word, text) == 0;
+}
+
+/* A library is named as libdemo.so, or as demo. */
+static int is_library(const char *word, const char *name) {
+    size_t size = strlen(word);
+    return is_word(word, name) ||
+           (strncmp(name, "lib", 3) == 0 && strncmp(name + 3, word, size) == 0 && name[3 + size] == '.');
+}
+
+static int is_suppressed(const struct block *block) {
+    char name[64], number[16];
+    name_of(block, name, sizeof name);
+    snprintf(number, sizeof number, "%u", (unsigned)block->rule);
+    for (size_t at = 0; at < suppression_count; at++) {
+        const struct suppression *it = &suppressions[at];
+        if ((is_word(it->rule, name) || (block->rule && is_word(it->rule, number))) &&
+            is_word(it->function, rows[block->function].name) && is_library(it->library, block->site->library->name)) {
+            return 1;
+        }
+    }
+    return 0;
+}
+
+int report_open(void) {
+    output = stderr;
+    if (options.log != NULL && (output = fopen(options.log, "w")) == NULL) {
+        output = stderr;
+        fprintf(stderr, "jg: %s can't be opened\n", options.log);
+        return -1;
+    }
+    return options.suppressed ? read_suppressions() : 0;
+}
+
+/* ---- blocks ---- */
+
+static size_t place_of(const struct block *of) {
+    size_t at = ((uintptr_t)of->site + of->function * 31u + of->rule) * 0x9E3779B97F4A7C15u >> 32 & (place_room - 1);
+    while (places[at] != 0) {
+        const struct block *it = &blocks[places[at] - 1];
+        if (it->rule == of->rule && it->function == of->function && it->site == of->site && it->notice == of->notice) {
+            break;
+        }
+        at = (at + 1) & (place_room - 1);
+    }
+    return at;
+}
+
+static void grow_places(void) {
+    place_room = place_room ? 2 * place_room : 256;
+    free(places);
+    places = must_make(place_room * sizeof *places);
+    for (size_t at = 0; at < block_count; at++) {
+        places[place_of(&blocks[at])] = at + 1;
+    }
+}
+
+/* Counts the occurrence. Whether it is the first, and to be told. Under the lock. */
+static int count(const struct block *of) {
+    if (2 * (block_count + 1) > place_room) {
+        grow_places();
+    }
+    size_t place = place_of(of);
+    int is_first = places[place] == 0;
+    if (is_first) {
+        MAKE_ROOM(blocks, block_count, block_room);
+        blocks[block_count] = *of;
+        blocks[block_count].is_suppressed = is_suppressed(of);
+        places[place] = ++block_count;
+    }
+    struct block *found = &blocks[places[place] - 1];
+    found->count++;
+    told += !found->is_suppressed && of->rule != 0;
+    return is_first && !found->is_suppressed;
+}
+
+/* ---- what stands in a block ---- */
+
+static void name_text(jg_value name, char *text, size_t room) {
+    static const char LETTERS[] = "..LGWB";
+    if (name.kind == JG_NULL) {
+        snprintf(text, room, "NULL");
+    } else if (name.kind < JG_LOCAL || name.kind > JG_BUFFER) {
+        snprintf(text, room, "what was handed in");
+    } else if (name.number == UINT64_MAX) {
+        snprintf(text, room, "a handle that this thread wasn't given");
+    } else {
+        snprintf(text, room, "%c%u.%llu", LETTERS[name.kind], (unsigned)name.detail, (unsigned long long)name.number);
+    }
+}
+
+/* The function that made or ended a reference, in words. */
+static const char *maker(uint32_t function) {
+    return function == JG_FN_NativeEnter ? "the call of the native method" : rows[function].name;
+}
+
+static const char *ender(uint32_t function) {
+    return function == JG_FN_NativeLeave ? "the return of the native method" : rows[function].name;
+}
+
+/* Where the buffer was lent that is released or was stored into, and where it was given back. */
+static void tell_buffer(const struct call *call) {
+    const struct site *made, *given;
+    uint32_t made_by;
+    char place[512];
+    if (call->lent == NULL) {
+        return;
+    }
+    buffers_places(call->lent, &made, &made_by, &given);
+    sites_describe(made, place, sizeof place);
+    report_line("  lent by %s at %s", rows[made_by].name, place);
+    if (given != NULL) {
+        sites_describe(given, place, sizeof place);
+        report_line("  given back at %s", place);
+    }
+}
+
+/* The operand that broke the rule, and where it was made and ended. */
+static void tell_operand(const struct call *call) {
+    char text[64], place[512];
+    struct name found;
+    if (call->verdict.operand == 0 || call->verdict.operand > call->count) {
+        return;
+    }
+    jg_value operand = call_operands(call)[call->verdict.operand - 1];
+    name_text(operand, text, sizeof text);
+    report_line("  operand %u: %s", (unsigned)call->verdict.operand, text);
+    if (operand.kind < JG_LOCAL || operand.kind > JG_WEAK || operand.number == UINT64_MAX) {
+        return;
+    }
+    if (!names_find(address_of(call_handle_of(call, call->verdict.operand)), &found) ||
+        !jg_is_same(found.name, operand)) {
+        report_line("  ended long ago");
+        return;
+    }
+    sites_describe(found.made, place, sizeof place);
+    if (found.made_by == MADE_UNSEEN) {
+        report_line("  made by code that isn't judged, and first used at %s", place);
+    } else {
+        report_line("  made by %s at %s", maker(found.made_by), place);
+    }
+    if (found.state != NAME_LIVE) {
+        sites_describe(found.ended, place, sizeof place);
+        report_line("  ended by %s at %s", found.ended ? ender(found.ended_by) : "something unseen", place);
+    }
+}
+
+static jint line_of(const jvmtiFrameInfo *frame) {
+    jvmtiLineNumberEntry *lines = NULL;
+    jint count = 0, line = -1;
+    if (frame->location < 0 || (*tool)->GetLineNumberTable(tool, frame->method, &count, &lines) != 0) {
+        return -1;
+    }
+    for (jint at = 0; at < count; at++) {
+        if (lines[at].start_location <= frame->location) {
+            line = lines[at].line_number;
+        }
+    }
+    (*tool)->Deallocate(tool, (unsigned char *)lines);
+    return line;
+}
+
+/* `Demo.main (Demo.java:13)` */
+static void tell_frame(JNIEnv *env, const jvmtiFrameInfo *frame) {
+    char *name = NULL, *signature = NULL, *source = NULL;
+    jclass class = NULL;
+    jint line = line_of(frame);
+    if ((*tool)->GetMethodName(tool, frame->method, &name, NULL, NULL) == 0 &&
+        (*tool)->GetMethodDeclaringClass(tool, frame->method, &class) == 0 &&
+        (*tool)->GetClassSignature(tool, class, &signature, NULL) == 0) {
+        (*tool)->GetSourceFileName(tool, class, &source);
+        int length = (int)strcspn(signature + 1, ";");
+        if (line >= 0) {
+            report_line("  java: %.*s.%s (%s:%d)", length, signature + 1, name, source ? source : "?", (int)line);
+        } else {
+            report_line("  java: %.*s.%s (%s)", length, signature + 1, name, frame->location < 0 ? "native" : "?");
+        }
+    }
+    (*tool)->Deallocate(tool, (unsigned char *)name);
+    (*tool)->Deallocate(tool, (unsigned char *)signature);
+    (*tool)->Deallocate(tool, (unsigned char *)source);
+    machine->DeleteLocalRef(env, class);
+}
+
+static void tell_frames(const struct call *call) {
+    jvmtiFrameInfo frames[MOST_FRAMES];
+    jint count = 0;
+    if (!is_live || !call->thread->is_attached ||
+        (*tool)->GetStackTrace(tool, NULL, 0, MOST_FRAMES, frames, &count) != 0) {
+        return;
+    }
+    for (jint at = 0; at < count; at++) {
+        tell_frame(call->thread->env, &frames[at]);
+    }
+}
+
+static void tell_text(const char *word, int64_t (*text_of)(uint32_t, uint8_t *, size_t), uint32_t rule) {
+    uint8_t text[1024];
+    int64_t length = text_of(rule, text, sizeof text);
+    if (length > 0 && length <= (int64_t)sizeof text) {
+        report_line("  %s: %.*s", word, (int)length, (const char *)text);
+    }
+}
+
+/* The name of the Java thread, in brackets; or nothing. */
+static void thread_name(const struct call *call, char *text, size_t room) {
+    jvmtiThreadInfo info;
+    *text = 0;
+    if (!is_live || !call->thread->is_attached || (*tool)->GetThreadInfo(tool, NULL, &info) != 0) {
+        return;
+    }
+    snprintf(text, room, " (%s)", info.name ? info.name : "");
+    (*tool)->Deallocate(tool, (unsigned char *)info.name);
+    machine->DeleteLocalRef(call->thread->env, info.thread_group);
+    machine->DeleteLocalRef(call->thread->env, info.context_class_loader);
+}
+
+/* What the block begins with. */
+static void head_of(const struct block *block, char *text, size_t room) {
+    char name[64], place[512];
+    name_of(block, name, sizeof name);
+    sites_describe(block->site, place, sizeof place);
+    if (block->rule != 0) {
+        snprintf(text, room, "deny %u %s: %s at %s", (unsigned)block->rule, name, rows[block->function].name, place);
+    } else {
+        snprintf(text, room, "notice %s: %s at %s", name, rows[block->function].name, place);
+    }
+}
+
+static void tell_block(const struct call *call, const struct block *block) {
+    char head[1024], name[128];
+    head_of(block, head, sizeof head);
+    thread_name(call, name, sizeof name);
+    report_line("%s, thread %u%s", head, (unsigned)call->thread->number, name);
+    if (block->rule != 0) {
+        tell_operand(call);
+        tell_buffer(call);
+        if (block->rule == 10 && call->reason != NULL) {
+            report_line("  %s", call->reason);
+        }
+    } else {
+        report_line("  %s", call->notice_text);
+    }
+    tell_frames(call);
+    if (block->rule != 0) {
+        tell_text("rule", jg_rule_text, block->rule);
+        tell_text("help", jg_help_text, block->rule);
+    }
+    fflush(output);
+}
+
+static void tell(const struct call *call, const struct block *block) {
+    pthread_mutex_lock(&lock);
+    int is_first = count(block);
+    pthread_mutex_unlock(&lock);
+    if (is_first) {
+        flockfile(output);
+        tell_block(call, block);
+        funlockfile(output);
+        if (options.is_fatal && block->rule != 0) {
+            abort();
+        }
+    }
+}
+
+void report_denial(const struct call *call) {
+    const struct block block = {.rule = call->verdict.rule, .function = call->function, .site = call->site};
+    tell(call, &block);
+}
+
+void report_notice(const struct call *call) {
+    const struct block block = {.function = call->function, .site = call->site, .notice = call->notice};
+    tell(call, &block);
+}
+
+/* ---- leaks ---- */
+
+struct leak {
+    const struct site *made;
+    uint32_t function;
+    uint32_t kind;
+    uint64_t count;
+};
+
+struct leaks {
+    struct leak *items;
+    size_t count, room;
+};
+
+static void add_leak(struct leaks *leaks, const struct leak *leak) {
+    for (size_t at = 0; at < leaks->count; at++) {
+        struct leak *it = &leaks->items[at];
+        if (it->made == leak->made && it->function == leak->function && it->kind == leak->kind) {
+            it->count += leak->count;
+            return;
+        }
+    }
+    MAKE_ROOM(leaks->items, leaks->count, leaks->room);
+    leaks->items[leaks->count++] = *leak;
+}
+
+static void see_global(const struct name *name, void *leaks) {
+    const struct leak leak = {name->made, name->made_by, name->name.kind, 1};
+    if (name->is_believed) {
+        add_leak(leaks, &leak);
+    }
+}
+
+static void see_buffer(const struct site *made, uint16_t made_by, jg_value name, void *leaks) {
+    const struct leak leak = {made, made_by, name.kind, 1};
+    add_leak(leaks, &leak);
+}
+
+/* The most come first; of as many those of one function stand together. */
+static int compare_leaks(const void *one, const void *other) {
+    const struct leak *a = one, *b = other;
+    if (a->count != b->count) {
+        return a->count < b->count ? 1 : -1;
+    }
+    return a->function != b->function ? (a->function < b->function ? -1 : 1)
+                                      : (a->made->at > b->made->at) - (a->made->at < b->made->at);
+}
+
+static void see_monitor(const struct site *made, uint64_t count, void *leaks) {
+    const struct leak leak = {made, JG_FN_MonitorEnter, JG_OBJECT, count};
+    add_leak(leaks, &leak);
+}
+
+static void tell_leaks(const struct leaks *leaks) {
+    static const char *const WORDS[] = {[JG_GLOBAL] = "global references",
+                                        [JG_WEAK] = "weak global references",
+                                        [JG_BUFFER] = "buffers",
+                                        [JG_OBJECT] = "monitors"};
+    char place[512], line[300];
+    if (leaks->count > 0) {
+        qsort(leaks->items, leaks->count, sizeof *leaks->items, compare_leaks);
+    }
+    for (size_t at = 0; at < leaks->count; at++) {
+        const struct leak *it = &leaks->items[at];
+        sites_describe(it->made, place, sizeof place);
+        sites_line(it->made, line, sizeof line);
+        report_line("leak: %llu %s of %s at %s%s", (unsigned long long)it->count, WORDS[it->kind],
+                    rows[it->function].name, place, line);
+    }
+}
+
+/* ---- the end ---- */
+
+static void tell_counts(void) {
+    char head[1024], line[300];
+    uint64_t suppressed = 0;
+    report_line("%llu calls judged, %llu denied", (unsigned long long)(counts.asked + threads_repeated()),
+                (unsigned long long)counts.denied);
+    for (size_t at = 0; at < block_count; at++) {
+        const struct block *block = &blocks[at];
+        if (block->is_suppressed) {
+            suppressed += block->count;
+            continue;
+        }
+        head_of(block, head, sizeof head);
+        sites_line(block->site, line, sizeof line);
+        report_line("  %s%s, %llu time%s", head, line, (unsigned long long)block->count, block->count > 1 ? "s" : "");
+    }
+    if (suppressed > 0) {
+        report_line("  suppressed: %llu", (unsigned long long)suppressed);
+    }
+}
+
+/* What wasn't the library's fault. */
+static void tell_own_faults(void) {
+    if (counts.unasked + counts.impossible + counts.refused > 0) {
+        report_line("the agent's own: %llu calls couldn't be judged, %llu facts were impossible, %llu were refused",
+                    (unsigned long long)counts.unasked, (unsigned long long)counts.impossible,
+                    (unsigned long long)counts.refused);
+    }
+    if (counts.unseen > 0) {
+        report_line("%llu calls ended what began before the agent came", (unsigned long long)counts.unseen);
+    }
+}
+
+int report_end(void) {
+    static int is_told;
+    struct leaks leaks = {NULL, 0, 0};
+    if (__atomic_exchange_n(&is_told, 1, __ATOMIC_ACQ_REL) != 0) {
+        return told > 0 ? options.exit_code : -1;
+    }
+    buffers_end(see_buffer, &leaks);
+    names_each_global(see_global, &leaks);
+    monitors_each_owned(see_monitor, &leaks);
+    flockfile(output);
+    if (options.lists_leaks) {
+        tell_leaks(&leaks);
+    }
+    tell_counts();
+    tell_own_faults();
+    fflush(output);
+    funlockfile(output);
+    free(leaks.items);
+    return told > 0 ? options.exit_code : -1;
+}

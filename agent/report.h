@@ -1,0 +1,28 @@
+/*
+ * report.h: what the agent tells its user.
+ */
+#ifndef REPORT_H
+#define REPORT_H
+
+#include "agent.h"
+
+struct call;
+struct name;
+struct site;
+
+/* Opens the log and reads what is suppressed. 0, or a negative number: it was said why. */
+int report_open(void);
+
+/* A call was denied: told at once where it is the first of its rule, function and place, else counted. */
+void report_denial(const struct call *call);
+
+/* The same of what breaks no rule of the seventeen: the call's notice. */
+void report_notice(const struct call *call);
+
+/* The leaks, the counts and the lines of all places; and how the program is to end, or -1: as it would. */
+int report_end(void);
+
+/* A line of the agent's, such as `jg: ..`. */
+void report_line(const char *format, ...) __attribute__((format(printf, 1, 2)));
+
+#endif

@@ -1,0 +1,302 @@
+/*
+ * sites.c: places in native code, the libraries that they are in, and whose calls are judged.
+ *
+ * A library is judged if `libs=` names it; without that option all are but the JDK's own and the agent. What is in no
+ * library is the machine's own code. An address is looked up once: dladdr takes long.
+ */
+#include "sites.h"
+#include "options.h"
+#include "threads.h"
+
+#include <dlfcn.h>
+#include <link.h>
+#include <pthread.h>
+#include <stdio.h>
+#include <stdlib.h>
+#include <string.h>
+
+_Atomic uint32_t sites_generation = 1;
+
+static pthread_mutex_t lock = PTHREAD_MUTEX_INITIALIZER;
+static struct library *libraries;
+static struct site **places; /* a hash table, by address */
+static size_t place_count, place_room;
+
+static char *jdk_home;
+static uintptr_t own_base;
+
+static const struct library NOWHERE = {.path = "", .name = "?"};
+
+/* ---- libraries ---- */
+
+static const char *name_of(const char *path) {
+    const char *slash = strrchr(path, '/');
+    return slash ? slash + 1 : path;
+}
+
+/* Whether `libs=` names the library: demo, libdemo.so, or its path. */
+static int is_named(const char *path) {
+    const char *name = name_of(path), *begun = name;
+    size_t size;
+    if (strncmp(begun, "lib", 3) == 0) {
+        begun += 3;
+    }
+    size = strcspn(begun, ".");
+    return is_listed(options.libraries, path, strlen(path)) || is_listed(options.libraries, name, strlen(name)) ||
+           is_listed(options.libraries, begun, size);
+}
+
+static int is_of_jdk(const char *path) {
+    size_t size = jdk_home ? strlen(jdk_home) : 0;
+    return size > 0 && strncmp(path, jdk_home, size) == 0 && path[size] == '/';
+}
+
+static int is_judged(const char *path, uintptr_t base) {
+    if (base == own_base) {
+        return 0;
+    }
+    return options.libraries ? is_named(path) : !is_of_jdk(path);
+}
+
+/* The library of this path that is at this address. Under the lock. */
+static const struct library *library_of(const char *path, uintptr_t base) {
+    for (struct library *it = libraries; it != NULL; it = it->next) {
+        if (it->base == base && strcmp(it->path, path) == 0) {
+            return it;
+        }
+    }
+    struct library *made = must_make(sizeof *made);
+    made->base = base;
+    made->path = must_copy(path);
+    made->name = name_of(made->path);
+    made->is_judged = is_judged(made->path, base);
+    made->is_of_jdk = is_of_jdk(made->path);
+    made->next = libraries;
+    libraries = made;
+    return made;
+}
+
+/* ---- places ---- */
+
+/* Whether a function of this name only passes a call on: those that C++ has of JNIEnv and JavaVM, and those of wrap=.
+ */
+static int is_passing_on(const char *symbol) {
+    if (symbol == NULL) {
+        return 0;
+    }
+    return strncmp(symbol, "_ZN7JNIEnv_", 11) == 0 || strncmp(symbol, "_ZN7JavaVM_", 11) == 0 ||
+           is_listed(options.wrappers, symbol, strlen(symbol));
+}
+
+/* What dladdr says of an address. It takes a lock that a thread may hold while a library's constructor runs. */
+struct looked_up {
+    Dl_info info;
+    char *path; /* the whole path of the library, or NULL */
+};
+
+static struct looked_up look_up(uintptr_t at) {
+    struct looked_up it = {.path = NULL};
+    if (dladdr((void *)at, &it.info) && it.info.dli_fname != NULL) {
+        const char *name = it.info.dli_fname;
+        /* A program's own name may be no path. */
+        it.path = realpath(strchr(name, '/') ? name : "/proc/self/exe", NULL);
+        it.path = it.path ? it.path : must_copy(name);
+    }
+    return it;
+}
+
+static struct site *make_place(uintptr_t at, const struct looked_up *it) {
+    struct site *made = must_make(sizeof *made);
+    uintptr_t base = (uintptr_t)it->info.dli_fbase;
+    made->at = at;
+    made->library = &NOWHERE;
+    made->offset = at;
+    if (it->path != NULL) {
+        made->library = library_of(it->path, base);
+        made->offset = at - base;
+        made->is_own = base == own_base;
+        if (it->info.dli_sname != NULL) {
+            made->symbol = must_copy(it->info.dli_sname);
+            made->in_symbol = at - (uintptr_t)it->info.dli_saddr;
+        }
+        made->is_wrapper = is_passing_on(made->symbol);
+    }
+    made->is_judged = made->library->is_judged;
+    return made;
+}
+
+static size_t place_in(struct site **table, size_t room, uintptr_t at) {
+    size_t place = (at * 0x9E3779B97F4A7C15u >> 32) & (room - 1);
+    while (table[place] != NULL && table[place]->at != at) {
+        place = (place + 1) & (room - 1);
+    }
+    return place;
+}
+
+static void grow_places(void) {
+    size_t room = place_room ? 2 * place_room : 1024;
+    struct site **grown = must_make(room * sizeof *grown);
+    for (size_t at = 0; at < place_room; at++) {
+        if (places[at] != NULL) {
+            grown[place_in(grown, room, places[at]->at)] = places[at];
+        }
+    }
+    free(places);
+    places = grown;
+    place_room = room;
+}
+
+/* The place, if it is known; or made of what was looked up. */
+static const struct site *find_or_add(uintptr_t at, const struct looked_up *it) {
+    pthread_mutex_lock(&lock);
+    if (2 * (place_count + 1) > place_room) {
+        grow_places();
+    }
+    struct site **place = &places[place_in(places, place_room, at)];
+    if (*place == NULL && it != NULL) {
+        *place = make_place(at, it);
+        place_count++;
+    }
+    const struct site *found = *place;
+    pthread_mutex_unlock(&lock);
+    return found;
+}
+
+const struct site *sites_at(uintptr_t at) {
+    const struct site *found = find_or_add(at, NULL);
+    if (found == NULL) {
+        struct looked_up it = look_up(at);
+        found = find_or_add(at, &it);
+        free(it.path);
+    }
+    return found;
+}
+
+/* ---- callers ---- */
+
+static const struct site *recent(struct thread *thread, uintptr_t at) {
+    struct recent_site *kept = &thread->recent[(at >> 1) & (RECENT_SITES - 1)];
+    uint32_t generation = sites_generation;
+    if (kept->site == NULL || kept->site->at != at || kept->generation != generation) {
+        kept->site = sites_at(at);
+        kept->generation = generation;
+    }
+    return kept->site;
+}
+
+/* The return address above a frame that is laid out by the frame pointer, or 0. */
+static uintptr_t above(const struct thread *thread, uintptr_t *frame) {
+    uintptr_t next = *(const uintptr_t *)*frame;
+    if (next <= *frame || (next & 7) != 0 || next < thread->stack_low || next + 16 > thread->stack_high) {
+        return 0;
+    }
+    *frame = next;
+    return ((const uintptr_t *)next)[1];
+}
+
+const struct site *sites_find_caller(struct thread *thread, uintptr_t at, uintptr_t frame) {
+    const struct site *found = recent(thread, at);
+    for (int depth = 0; depth < 4 && found->is_wrapper; depth++) {
+        uintptr_t next = above(thread, &frame);
+        const struct site *outer = next ? recent(thread, next) : NULL;
+        if (outer == NULL || outer->library == &NOWHERE) {
+            return found;
+        }
+        found = outer;
+    }
+    if (found->is_own && thread->depth > 0) {
+        return thread->activations[thread->depth - 1].native->site;
+    }
+    return found;
+}
+
+/* ---- unloading ---- */
+
+static int count_unloaded(struct dl_phdr_info *info, size_t size, void *count) {
+    (void)size;
+    *(unsigned long long *)count = info->dlpi_subs;
+    return 1;
+}
+
+void sites_check_unloaded(void) {
+    static unsigned long long known;
+    unsigned long long count = 0;
+    dl_iterate_phdr(count_unloaded, &count);
+    pthread_mutex_lock(&lock);
+    if (count != known) {
+        known = count;
+        memset(places, 0, place_room * sizeof *places);
+        place_count = 0;
+        sites_generation++;
+    }
+    pthread_mutex_unlock(&lock);
+}
+
+/* ---- opening ---- */
+
+/* The path of a JDK's machine ends by /lib/server/libjvm.so: what is before that is the JDK's home. */
+static void find_jdk(void) {
+    Dl_info found;
+    uintptr_t at;
+    memcpy(&at, &machine_invocation->GetEnv, sizeof at);
+    if (dladdr((void *)at, &found) == 0 || found.dli_fname == NULL) {
+        return;
+    }
+    jdk_home = realpath(found.dli_fname, NULL);
+    for (int level = 0; jdk_home != NULL && level < 3; level++) {
+        char *slash = strrchr(jdk_home, '/');
+        if (slash != NULL) {
+            *slash = 0;
+        }
+    }
+}
+
+void sites_open(void) {
+    Dl_info found;
+    if (dladdr(&libraries, &found)) {
+        own_base = (uintptr_t)found.dli_fbase;
+    }
+    find_jdk();
+    pthread_mutex_lock(&lock);
+    grow_places();
+    pthread_mutex_unlock(&lock);
+    sites_check_unloaded();
+}
+
+/* ---- texts ---- */
+
+void sites_describe(const struct site *site, char *text, size_t room) {
+    if (site == NULL) {
+        snprintf(text, room, "an unknown place");
+    } else if (site->symbol != NULL) {
+        snprintf(text, room, "%s+0x%lx in %s", site->library->name, (unsigned long)site->offset, site->symbol);
+    } else {
+        snprintf(text, room, "%s+0x%lx", site->library->name, (unsigned long)site->offset);
+    }
+}
+
+void sites_line(const struct site *site, char *text, size_t room) {
+    enum { MOST_LINES = 200 };
+    static int count;
+    char command[4400], line[1024];
+    *text = 0;
+    /* Each is a process of its own, so a report of very many places does without. */
+    if (count++ >= MOST_LINES || site == NULL || site->library == &NOWHERE ||
+        strpbrk(site->library->path, "'\n\\") != NULL) {
+        return;
+    }
+    /* A return address is that of the next instruction, so the call stands before it. */
+    snprintf(command, sizeof command, "addr2line -e '%s' 0x%lx 2>/dev/null", site->library->path,
+             (unsigned long)(site->offset ? site->offset - 1 : 0));
+    FILE *pipe = popen(command, "r");
+    if (pipe == NULL) {
+        return;
+    }
+    if (fgets(line, sizeof line, pipe) != NULL && *line != '?') {
+        line[strcspn(line, " \n")] = 0;
+        if (strstr(line, ":?") == NULL) {
+            snprintf(text, room, " (%s)", name_of(line));
+        }
+    }
+    pclose(pipe);
+}

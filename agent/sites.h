@@ -1,0 +1,56 @@
+/*
+ * sites.h: places in native code, the libraries that they are in, and whose calls are judged.
+ */
+#ifndef SITES_H
+#define SITES_H
+
+#include "agent.h"
+
+struct thread;
+
+struct library {
+    struct library *next;
+    uintptr_t base;
+    const char *path;
+    const char *name; /* the end of the path */
+    int is_judged;
+    int is_of_jdk;
+};
+
+/* A place, of which there is one struct. It stays, also where its library was unloaded. */
+struct site {
+    uintptr_t at;
+    uintptr_t offset; /* in its library */
+    uintptr_t in_symbol;
+    const struct library *library;
+    const char *symbol; /* or NULL */
+    int is_judged;
+    int is_wrapper; /* it stands in a function that only passes calls on */
+    int is_own;     /* it stands in the agent: the library's code ended by a jump */
+};
+
+/* Notes where the machine's and the agent's own libraries are. */
+void sites_open(void);
+
+/* The place at this address. */
+const struct site *sites_at(uintptr_t at);
+
+/*
+ * The place that a wrapper was called from, by its return address and its own frame: above the functions that only pass
+ * calls on. `thread` keeps the places that it used last (sites_caller of threads.h).
+ */
+const struct site *sites_find_caller(struct thread *thread, uintptr_t at, uintptr_t frame);
+
+/* Forgets all places where a library was unloaded since the last call. */
+void sites_check_unloaded(void);
+
+/* Writes `libdemo.so+0x11cf in Java_Demo_run`. */
+void sites_describe(const struct site *site, char *text, size_t room);
+
+/* Writes ` (demo.c:12)` by addr2line, or nothing. It takes long. */
+void sites_line(const struct site *site, char *text, size_t room);
+
+/* Grows whenever libraries were unloaded. */
+extern _Atomic uint32_t sites_generation;
+
+#endif

@@ -1,0 +1,450 @@
+/*
+ * threads.c: the machine's threads, their sessions, native methods, frames and local references.
+ *
+ * A thread has a number while its session lasts; then another one may get it. A thread without a session that makes a
+ * call gets a number for it, and keeps it until its next session ends or until its end in the system. The struct is the
+ * thread's alone, but for the list of all.
+ */
+#include "threads.h"
+#include "buffers.h"
+#include "core.h"
+#include "monitors.h"
+#include "names.h"
+#include "objects.h"
+#include "options.h"
+#include "quarantine.h"
+
+#include <pthread.h>
+#include <stdlib.h>
+#include <string.h>
+
+enum { MOST_THREADS = 65535, ROOM_OF_A_FRAME = 16 };
+
+static pthread_mutex_t lock = PTHREAD_MUTEX_INITIALIZER;
+static struct thread *threads;
+static uint32_t greatest_number; /* that was ever taken */
+static uint32_t *free_numbers;   /* those up to it that are free */
+static size_t free_count, free_room;
+static uint64_t repeated; /* of threads that ended */
+static pthread_key_t ending;
+static pthread_once_t once = PTHREAD_ONCE_INIT;
+__thread struct thread *threads_current __attribute__((tls_model("initial-exec")));
+
+/* ---- the structs ---- */
+
+void threads_take_number(struct thread *thread) {
+    pthread_mutex_lock(&lock);
+    if (free_count > 0) {
+        thread->number = free_numbers[--free_count];
+    } else if (greatest_number < MOST_THREADS) {
+        thread->number = ++greatest_number;
+    }
+    pthread_mutex_unlock(&lock);
+}
+
+/* The number is free for another thread. Under the lock. */
+static void give_number(struct thread *thread) {
+    if (thread->number != 0) {
+        MAKE_ROOM(free_numbers, free_count, free_room);
+        free_numbers[free_count++] = thread->number;
+        thread->number = 0;
+    }
+}
+
+/* The environment's address may be anything now. */
+static void forget_env(const struct thread *thread) {
+    struct name found;
+    if (thread->env != NULL && names_find((uintptr_t)thread->env, &found) && jg_is_same(found.name, thread->env_name)) {
+        names_forget((uintptr_t)thread->env);
+    }
+}
+
+static void forget_held(struct thread *thread);
+
+/* The thread has ended in the system. */
+static void let_go(void *which) {
+    struct thread *thread = which;
+    pthread_mutex_lock(&lock);
+    *(thread->before ? &thread->before->next : &threads) = thread->next;
+    if (thread->next != NULL) {
+        thread->next->before = thread->before;
+    }
+    repeated += thread->repeated;
+    give_number(thread);
+    pthread_mutex_unlock(&lock);
+    forget_held(thread);
+    forget_env(thread);
+    buffers_thread_ended(thread);
+    free(thread->activations);
+    free(thread->frames);
+    free(thread->locals);
+    free(thread->held);
+    free(thread);
+    threads_current = NULL;
+}
+
+uint64_t threads_repeated(void) {
+    pthread_mutex_lock(&lock);
+    uint64_t count = repeated;
+    for (const struct thread *it = threads; it != NULL; it = it->next) {
+        count += it->repeated;
+    }
+    pthread_mutex_unlock(&lock);
+    return count;
+}
+
+static void make_key(void) {
+    pthread_key_create(&ending, let_go);
+}
+
+static void find_stack(struct thread *thread) {
+    pthread_attr_t attributes;
+    void *low;
+    size_t size;
+    if (pthread_getattr_np(pthread_self(), &attributes) == 0) {
+        if (pthread_attr_getstack(&attributes, &low, &size) == 0) {
+            thread->stack_low = (uintptr_t)low;
+            thread->stack_high = (uintptr_t)low + size;
+        }
+        pthread_attr_destroy(&attributes);
+    }
+}
+
+struct thread *threads_make(void) {
+    struct thread *made = must_make(sizeof *made);
+    pthread_once(&once, make_key);
+    find_stack(made);
+    pthread_mutex_lock(&lock);
+    made->next = threads;
+    if (threads != NULL) {
+        threads->before = made;
+    }
+    threads = made;
+    pthread_mutex_unlock(&lock);
+    pthread_setspecific(ending, made);
+    threads_current = made;
+    return made;
+}
+
+jg_value threads_env_name(const struct thread *thread, JNIEnv *env) {
+    struct name found;
+    if (env == NULL) {
+        return jg_nothing();
+    }
+    if (env == thread->env) {
+        return thread->env_name;
+    }
+    if (names_find((uintptr_t)env, &found) && found.name.kind == JG_ENVIRONMENT) {
+        return found.name;
+    }
+    /* What nobody was handed is an environment of a thread that there isn't. */
+    return jg_environment(MOST_THREADS, 1);
+}
+
+/* ---- frames ---- */
+
+/* Leaves out locals of the newest frame that ended: a loop that makes and deletes them would fill the memory. */
+static void sift(struct thread *thread) {
+    size_t kept = thread->frames[thread->frame_count - 1].first;
+    for (size_t at = kept; at < thread->local_count; at++) {
+        struct name name;
+        const struct local *it = &thread->locals[at];
+        if (names_find(it->handle, &name) && name.name.number == it->number && name.state != NAME_DEAD) {
+            thread->locals[kept++] = *it;
+        }
+    }
+    thread->local_count = kept;
+}
+
+uint64_t threads_add_local(struct thread *thread, uintptr_t handle, uint64_t number) {
+    if (thread->frame_count == 0) {
+        return 0;
+    }
+    if (thread->local_count == thread->local_room && thread->local_count > 0) {
+        sift(thread);
+    }
+    if (4 * thread->local_count >= 3 * thread->local_room) {
+        thread->local_room = thread->local_room ? 2 * thread->local_room : 64;
+        thread->locals = must_grow(thread->locals, thread->local_room * sizeof *thread->locals);
+    }
+    thread->locals[thread->local_count++] = (struct local){handle, number};
+    return thread->frames[thread->frame_count - 1].serial;
+}
+
+void threads_push(struct thread *thread) {
+    MAKE_ROOM(thread->frames, thread->frame_count, thread->frame_room);
+    thread->frames[thread->frame_count++] = (struct frame){thread->local_count, ++thread->newest_serial, 0};
+}
+
+/* A place in the ring of what is held back. */
+static struct held_local *held_at(const struct thread *thread, size_t at) {
+    size_t room = (size_t)options.quarantine, place = thread->held_first + at;
+    return &thread->held[place < room ? place : place - room];
+}
+
+/* What is held back of the frame ends with it in the machine. */
+static void let_go_of_frame(struct thread *thread, const struct frame *frame) {
+    size_t kept = 0;
+    for (size_t at = 0; at < thread->held_count; at++) {
+        struct held_local it = *held_at(thread, at);
+        if (it.frame == frame->serial) {
+            names_let_go(it.handle, it.number);
+            quarantine_bytes -= it.bytes;
+        } else {
+            *held_at(thread, kept++) = it;
+        }
+    }
+    thread->held_count = kept;
+}
+
+void threads_pop(struct thread *thread, uint16_t by, const struct site *site) {
+    struct frame *frame = &thread->frames[thread->frame_count - 1];
+    for (size_t at = frame->first; at < thread->local_count; at++) {
+        names_end(thread->locals[at].handle, thread->locals[at].number, NAME_DEAD, by, site);
+    }
+    thread->local_count = frame->first;
+    if (frame->held > 0) {
+        let_go_of_frame(thread, frame);
+    }
+    thread->frame_count--;
+}
+
+static size_t first_frame(const struct thread *thread) {
+    for (size_t at = thread->depth; at > 0; at--) {
+        if (thread->activations[at - 1].is_told) {
+            return thread->activations[at - 1].first_frame;
+        }
+    }
+    return 0;
+}
+
+int threads_has_pushed(const struct thread *thread) {
+    return thread->frame_count > first_frame(thread) + 1;
+}
+
+/* ---- native methods ---- */
+
+void threads_enter(struct thread *thread, const struct native *native, uintptr_t stack) {
+    MAKE_ROOM(thread->activations, thread->depth, thread->activation_room);
+    thread->activations[thread->depth++] = (struct activation){stack, native, 0, 0, 0};
+}
+
+void threads_tell_enter(struct thread *thread) {
+    struct activation *newest = &thread->activations[thread->depth - 1];
+    if (core_tell(jg_fact_of(JG_ENTERS, thread->number, jg_nothing(), jg_null(), 0, 0), NULL) < 0) {
+        return;
+    }
+    newest->is_told = 1;
+    thread->is_unsure = 1;
+    newest->first_frame = thread->frame_count;
+    thread->is_pending = 0;
+    threads_push(thread);
+    for (; newest->pushed > 0; newest->pushed--) {
+        core_tell(jg_fact_of(JG_PUSHED, thread->number, jg_nothing(), jg_null(), ROOM_OF_A_FRAME, 0), NULL);
+        threads_push(thread);
+    }
+}
+
+int threads_leave(struct thread *thread) {
+    struct activation left = thread->activations[--thread->depth];
+    if (!left.is_told) {
+        return 0;
+    }
+    while (thread->frame_count > left.first_frame) {
+        threads_pop(thread, JG_FN_NativeLeave, left.native->site);
+    }
+    thread->is_unsure = 1;
+    thread->is_pending = 0;
+    return 1;
+}
+
+void threads_unwind(struct thread *thread, uintptr_t stack) {
+    if (stack < thread->stack_low || stack >= thread->stack_high) {
+        /* Not the thread's own stack, which says nothing. */
+        return;
+    }
+    while (thread->depth > 0 && thread->activations[thread->depth - 1].stack <= stack) {
+        if (thread->activations[thread->depth - 1].is_told) {
+            core_lock();
+            core_tell(jg_fact_of(JG_LEAVES, thread->number, jg_nothing(), jg_null(), 0, 0), NULL);
+            core_unlock();
+        }
+        threads_leave(thread);
+    }
+}
+
+/* ---- sessions ---- */
+
+void threads_begun(struct thread *thread, JNIEnv *env, jg_value env_name) {
+    struct name before, named = {.handle = (uintptr_t)env, .name = env_name, .state = NAME_SEEN};
+    forget_env(thread);
+    names_put(&named, &before);
+    thread->env = env;
+    thread->env_name = env_name;
+    thread->is_attached = 1;
+    thread->is_pending = 0;
+    thread->is_unsure = 1;
+    thread->frame_count = 0;
+    thread->local_count = 0;
+    threads_push(thread);
+}
+
+int threads_attach(struct thread *thread) {
+    void *env = NULL;
+    jg_value name = jg_nothing();
+    if (thread->is_attached || !threads_is_numbered(thread) ||
+        machine_invocation->GetEnv(vm, &env, JNI_VERSION_1_6) != JNI_OK) {
+        return thread->is_attached;
+    }
+    core_lock();
+    int32_t error = core_tell(jg_fact_of(JG_BEGINS, thread->number, jg_nothing(), jg_null(), 0, 0), &name);
+    core_unlock();
+    if (error == 0) {
+        threads_begun(thread, env, name);
+    }
+    return error == 0;
+}
+
+void JNICALL threads_ended(jvmtiEnv *of, JNIEnv *env, jthread which) {
+    struct thread *thread = threads_current;
+    (void)of;
+    (void)env;
+    (void)which;
+    if (thread == NULL || !thread->is_attached) {
+        return;
+    }
+    core_lock();
+    core_tell(jg_fact_of(JG_ENDS, thread->number, jg_nothing(), jg_null(), 0, 0), NULL);
+    core_unlock();
+    while (thread->frame_count > 0) {
+        threads_pop(thread, JG_FN_DetachCurrentThread, NULL);
+    }
+    for (size_t at = 0; at < thread->depth; at++) {
+        thread->activations[at].is_told = 0;
+    }
+    buffers_thread_ended(thread);
+    monitors_thread_ended(thread);
+    thread->is_attached = 0;
+    thread->is_pending = 0;
+    objects_drop(thread->waiting.object);
+    thread->waiting.object = NULL;
+    pthread_mutex_lock(&lock);
+    give_number(thread);
+    pthread_mutex_unlock(&lock);
+}
+
+/* ---- catching up ---- */
+
+void threads_check_pending(struct thread *thread, JNIEnv *env) {
+    int is_pending = machine->ExceptionCheck(env);
+    if (is_pending == thread->is_pending) {
+        return;
+    }
+    thread->is_pending = is_pending;
+    if (!is_pending) {
+        core_lock();
+        core_tell(jg_fact_of(JG_CALMED, thread->number, jg_nothing(), jg_null(), 0, 0), NULL);
+        core_unlock();
+        return;
+    }
+    jthrowable thrown = machine->ExceptionOccurred(env);
+    struct object *object = objects_of(env, thrown);
+    if (object != NULL) {
+        core_lock();
+        core_tell_of(jg_fact_of(JG_RAISED, thread->number, jg_nothing(), jg_null(), 0, 0), object, NULL);
+        core_unlock();
+    }
+    machine->DeleteLocalRef(env, thrown);
+}
+
+void threads_own_again(struct thread *thread) {
+    struct object *object = thread->waiting.object;
+    if (object == NULL) {
+        return;
+    }
+    thread->waiting.object = NULL;
+    core_lock();
+    for (uint32_t at = 0; at < thread->waiting.count; at++) {
+        if (core_tell_of(jg_fact_of(JG_OWNS, thread->number, jg_nothing(), jg_null(), 0, 0), object, NULL) == 0) {
+            object->owner = thread->number;
+            object->owned++;
+        }
+    }
+    core_unlock();
+    objects_drop(object);
+}
+
+void threads_catch_up(struct thread *thread, JNIEnv *env, uintptr_t stack) {
+    threads_unwind(thread, stack);
+    if (!threads_attach(thread)) {
+        return;
+    }
+    if (thread->depth > 0 && !thread->activations[thread->depth - 1].is_told) {
+        core_lock();
+        threads_tell_enter(thread);
+        core_unlock();
+    }
+    threads_own_again(thread);
+    if (env == thread->env && thread->is_unsure) {
+        thread->is_unsure = 0;
+        threads_check_pending(thread, env);
+    }
+}
+
+/* ---- what is held back ---- */
+
+static void forget_held(struct thread *thread) {
+    for (size_t at = 0; at < thread->held_count; at++) {
+        const struct held_local *it = held_at(thread, at);
+        names_let_go(it->handle, it->number);
+        quarantine_bytes -= it->bytes;
+    }
+    thread->held_count = 0;
+}
+
+/* The frame of this serial number, or NULL where it is gone. The numbers rise from the oldest to the newest. */
+static struct frame *frame_of(struct thread *thread, uint64_t serial) {
+    size_t low = 0, high = thread->frame_count;
+    while (low < high) {
+        size_t middle = low + (high - low) / 2;
+        if (thread->frames[middle].serial < serial) {
+            low = middle + 1;
+        } else {
+            high = middle;
+        }
+    }
+    return low < thread->frame_count && thread->frames[low].serial == serial ? &thread->frames[low] : NULL;
+}
+
+/* The one that was held back longest is given back to the machine. */
+static void give_oldest(struct thread *thread, JNIEnv *env) {
+    struct held_local oldest = thread->held[thread->held_first];
+    struct frame *frame = frame_of(thread, oldest.frame);
+    thread->held_first = (size_t)(held_at(thread, 1) - thread->held);
+    thread->held_count--;
+    quarantine_bytes -= oldest.bytes;
+    if (frame != NULL) {
+        frame->held--;
+    }
+    if (names_let_go(oldest.handle, oldest.number)) {
+        machine->DeleteLocalRef(env, (jobject)oldest.handle);
+    }
+}
+
+int threads_hold_local(struct thread *thread, JNIEnv *env, const struct held_local *local) {
+    struct frame *frame = frame_of(thread, local->frame);
+    if (!quarantine_takes(local->bytes) || frame == NULL) {
+        return 0;
+    }
+    if (thread->held == NULL) {
+        thread->held = must_make((size_t)options.quarantine * sizeof *thread->held);
+    }
+    while (thread->held_count == (size_t)options.quarantine ||
+           (thread->held_count > 0 && quarantine_is_full(local->bytes))) {
+        give_oldest(thread, env);
+    }
+    *held_at(thread, thread->held_count++) = *local;
+    quarantine_bytes += local->bytes;
+    frame->held++;
+    return 1;
+}

@@ -1,0 +1,189 @@
+/*
+ * threads.h: the machine's threads, their sessions, native methods, frames and local references.
+ */
+#ifndef THREADS_H
+#define THREADS_H
+
+#include "agent.h"
+#include "natives.h"
+#include "sites.h"
+
+enum { RECENT_SITES = 64 };
+
+struct recent_site {
+    const struct site *site;
+    uint32_t generation;
+};
+
+/* A local reference, in the order of their making. */
+struct local {
+    uintptr_t handle;
+    uint64_t number;
+};
+
+/* A frame of local references, as the core was told of it. */
+struct frame {
+    size_t first;    /* the first of its locals */
+    uint64_t serial; /* greater than that of any frame of the thread before it */
+    uint32_t held;   /* how many of its locals are held back */
+};
+
+/* A native method that the thread is in. The core is told of it at the first judged call in it. */
+struct activation {
+    uintptr_t stack; /* where its stub's frame is */
+    const struct native *native;
+    size_t first_frame; /* of the frames that were told, its base */
+    uint32_t pushed;    /* frames that were pushed before it was told */
+    int is_told;
+};
+
+/* A local reference that ended and wasn't given back to the machine yet. */
+struct held_local {
+    uintptr_t handle;
+    uint64_t number;
+    uint64_t frame;
+    uint32_t bytes;
+};
+
+/* A monitor that was given up by Object.wait, and how often it had been entered. */
+struct waiting {
+    struct object *object;
+    uint32_t count;
+};
+
+enum { MEMOS = 16, MEMO_OPERANDS = 3 };
+
+/* A question that passed, and how many facts had been told then. */
+struct memo {
+    uint64_t facts; /* 0: none */
+    uint32_t function;
+    uint32_t count;
+    jg_value env_name;
+    jg_value operands[MEMO_OPERANDS];
+    jg_ticket ticket;
+};
+
+struct thread {
+    struct thread *next, *before; /* in the list of all */
+    uint32_t number;              /* 0: it has none now */
+    int is_attached;              /* a session of it was told */
+    jg_value env_name;
+    JNIEnv *env;
+    uintptr_t stack_low, stack_high;
+    struct activation *activations;
+    size_t depth, activation_room;
+    struct frame *frames;
+    size_t frame_count, frame_room;
+    struct local *locals;
+    size_t local_count, local_room;
+    struct held_local *held; /* a ring */
+    size_t held_first, held_count;
+    struct waiting waiting;
+    uint64_t newest_serial;
+    int is_pending;         /* an exception is, as the core was told */
+    int is_unsure;          /* something may have thrown or cleared one unseen */
+    struct lent *criticals; /* its open critical buffers */
+    int has_entered;        /* it entered a monitor by MonitorEnter in this session */
+    struct recent_site recent[RECENT_SITES];
+    struct memo memos[MEMOS];
+    uint64_t repeated; /* questions that were answered by these */
+};
+
+/* The struct of this thread, or NULL where it has none. */
+extern __thread struct thread *threads_current __attribute__((tls_model("initial-exec")));
+
+struct thread *threads_make(void);
+
+/* Gives the thread a number. It has none after that where all are taken. */
+void threads_take_number(struct thread *thread);
+
+/* Whether it has a number, which it is given if need be. Without one it isn't judged. */
+static inline int threads_is_numbered(struct thread *thread) {
+    if (thread->number == 0) {
+        threads_take_number(thread);
+    }
+    return thread->number != 0;
+}
+
+/* The struct of this thread, which is made if need be. */
+static inline struct thread *threads_self(void) {
+    struct thread *thread = threads_current;
+    return thread ? thread : threads_make();
+}
+
+/* The same, or NULL where it has none. */
+static inline struct thread *threads_known(void) {
+    return threads_current;
+}
+
+/*
+ * Brings the core up to what the machine has done of the thread: its session and the native method that it is in are
+ * told, and what of exceptions and monitors changed unseen. `stack` is the caller's frame.
+ */
+void threads_catch_up(struct thread *thread, JNIEnv *env, uintptr_t stack);
+
+/* Tells that the thread's session began, where nobody told it yet. Whether it has one. */
+int threads_attach(struct thread *thread);
+
+/* After Object.wait the thread has its monitor again: tells it. */
+void threads_own_again(struct thread *thread);
+
+/* Tells that native methods and frames that the stack has left are left. */
+void threads_unwind(struct thread *thread, uintptr_t stack);
+
+/* The same as sites_find_caller, by the places that the thread used last. */
+static inline const struct site *sites_caller(struct thread *thread, uintptr_t at, uintptr_t frame) {
+    const struct recent_site *recent = &thread->recent[(at >> 1) & (RECENT_SITES - 1)];
+    const struct site *site = recent->site;
+    if (site != NULL && site->at == at && recent->generation == sites_generation && !site->is_wrapper &&
+        !site->is_own) {
+        return site;
+    }
+    return sites_find_caller(thread, at, frame);
+}
+
+/* Whether nothing need be told before a call: the same as threads_catch_up, where there is nothing to catch up. */
+static inline int threads_is_caught_up(const struct thread *thread, const JNIEnv *env, uintptr_t stack) {
+    const struct activation *newest = thread->depth ? &thread->activations[thread->depth - 1] : NULL;
+    return thread->is_attached && !thread->is_unsure && thread->waiting.object == NULL && env == thread->env &&
+           (newest == NULL || (newest->is_told && newest->stack > stack));
+}
+
+/* How many questions of all threads were answered without asking the core again. */
+uint64_t threads_repeated(void);
+
+/* The name of an environment, whosever it is. */
+jg_value threads_env_name(const struct thread *thread, JNIEnv *env);
+
+/* The core was told that a session of the thread began, and gave its environment this name. */
+void threads_begun(struct thread *thread, JNIEnv *env, jg_value env_name);
+
+/* The machine says that the thread ends: the end of its session is told. */
+void JNICALL threads_ended(jvmtiEnv *tool, JNIEnv *env, jthread thread);
+
+/* It enters a native method, of which the core isn't told yet. */
+void threads_enter(struct thread *thread, const struct native *native, uintptr_t stack);
+
+/* It leaves the newest one. Whether that was told: then the caller tells JG_LEAVES before. */
+int threads_leave(struct thread *thread);
+
+/* Tells the core of the newest native method. Between core_lock and core_unlock. */
+void threads_tell_enter(struct thread *thread);
+
+/* A frame was pushed, or the newest one is popped: its locals end by this function. */
+void threads_push(struct thread *thread);
+void threads_pop(struct thread *thread, uint16_t by, const struct site *site);
+
+/* Whether the newest frame was pushed in the newest native method. */
+int threads_has_pushed(const struct thread *thread);
+
+/* The thread has a new local reference; its frame's serial number. */
+uint64_t threads_add_local(struct thread *thread, uintptr_t handle, uint64_t number);
+
+/* An exception is pending in the machine: tells it, or that none is. Not between core_lock and core_unlock. */
+void threads_check_pending(struct thread *thread, JNIEnv *env);
+
+/* Whether a local reference was held back in place of its deletion. */
+int threads_hold_local(struct thread *thread, JNIEnv *env, const struct held_local *local);
+
+#endif

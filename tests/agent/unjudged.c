@@ -1,0 +1,10 @@
+/* unjudged.c: a library that `libs=` doesn't name. */
+#include <jni.h>
+#include <stdint.h>
+
+JNIEXPORT void JNICALL Java_Scenarios_deletes(JNIEnv *env, jclass class, jlong global) {
+    (void)class;
+    (*env)->DeleteGlobalRef(env, (jobject)(intptr_t)global);
+    (*env)->PushLocalFrame(env, 4);
+    (*env)->PopLocalFrame(env, NULL);
+}
