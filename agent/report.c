@@ -254,6 +254,14 @@ static jint line_of(const jvmtiFrameInfo *frame) {
     return line;
 }
 
+/* Makes the class's name of its signature, in place: `java.lang.String` of `Ljava/lang/String;`. */
+static const char *spell_class(char *signature) {
+    for (char *at = signature; *at != 0; at++) {
+        *at = *at == '/' ? '.' : *at == ';' ? 0 : *at;
+    }
+    return signature + 1;
+}
+
 /* `Demo.main (Demo.java:13)` */
 static void tell_frame(JNIEnv *env, const jvmtiFrameInfo *frame) {
     char *name = NULL, *signature = NULL, *source = NULL;
@@ -263,11 +271,11 @@ static void tell_frame(JNIEnv *env, const jvmtiFrameInfo *frame) {
         (*tool)->GetMethodDeclaringClass(tool, frame->method, &class) == 0 &&
         (*tool)->GetClassSignature(tool, class, &signature, NULL) == 0) {
         (*tool)->GetSourceFileName(tool, class, &source);
-        int length = (int)strcspn(signature + 1, ";");
+        const char *of = spell_class(signature);
         if (line >= 0) {
-            report_line("  java: %.*s.%s (%s:%d)", length, signature + 1, name, source ? source : "?", (int)line);
+            report_line("  java: %s.%s (%s:%d)", of, name, source ? source : "?", (int)line);
         } else {
-            report_line("  java: %.*s.%s (%s)", length, signature + 1, name, frame->location < 0 ? "native" : "?");
+            report_line("  java: %s.%s (%s)", of, name, frame->location < 0 ? "native" : "?");
         }
     }
     (*tool)->Deallocate(tool, (unsigned char *)name);
