@@ -7,6 +7,8 @@ ghost use Rattle.jg_words.specs.declared.reference.Kind.TheVariants.{Local};
 ghost use Rattle.jg_words.specs.declared.reference.Ref.TheVariants.{To};
 ghost use Rattle.jg_rules.specs.Names.{next_ref, next_buffer, object_count};
 ghost use Rattle.jg_rules.specs.Rules.{verdict};
+ghost use Rattle.jg_rules.specs.View.{ViewTells};
+ghost use Rattle.jg_objects.specs.Standing.{Tells};
 ghost use Rattle.jg_questions.specs.Kinds.{own_class};
 ghost use Rattle.jg_core.specs.declared.fact.Fact.TheVariants.{Begin, Hand, Leave, Lend, Meet, Pop};
 ghost use Rattle.jg_core.specs.Facts.{first_held, parts_of};
@@ -28,7 +30,7 @@ use jg_monitors::Monitors;
 use jg_objects::Objects;
 use jg_policy::{Links, Setup};
 use jg_questions::OwnKind;
-use jg_rules::first_broken;
+use jg_rules::{View, first_broken};
 use jg_threads::Threads;
 use jg_words::{BufId, Call, EnvId, Kind, ObjId, Ref, Rule, Tid};
 use std::alloc::{AllocError, Allocator, Global};
@@ -146,6 +148,14 @@ impl<A: Allocator + Clone> Core<A> {
             → AreLeft (parts_of w) left.refs.items left.buffers.items left.monitors.items) }
     {
         Ok(list_left(&self.tables.alloc, &self.tables.view(&self.setup))?)
+    }
+
+    /// The setup and the tables as they are now.
+    pub fn view(&self) -> View<'_, A, Objects<A>>
+        ensures setup { result.setup.now ≡ self.now.setup }
+        ensures tells { (w : List Fact) → CoreStands self.now w → ViewTells Tells result (parts_of w) }
+    {
+        self.tables.view(&self.setup)
     }
 
     /// The first rule that the call would break now, made by this thread with this environment; `None` where it

@@ -9,8 +9,8 @@ use Rattle.jg_lists.proofs.Lists.{find-filter, first}
 use Rattle.jg_locals.specs.History.{Act, Start, Make, Push, Ensure, Enter, Delete, Pop, Leave, End, Event, acts_of, has_session, session, depth, how_many, is_enter, is_push, done_at, frames, Local, live_local, object_of, live}
 use Rattle.jg_locals.specs.Rows.{LocalRow}
 use Rattle.jg_locals.specs.Rows.{FrameRow}
-use Rattle.jg_locals.specs.Room.{room_here, crowded}
-use Rattle.jg_locals.specs.Rows.{Rows, Table, is_local, is_crowded, top, pushed, entered, frame_number, depth_number}
+use Rattle.jg_locals.specs.Room.{room_here, held_here}
+use Rattle.jg_locals.specs.Rows.{Rows, Table, is_local, is_past, top, pushed, entered, frame_number, depth_number}
 use Rattle.jg_locals.specs.Standing.{AllAllowed, rows_of_local, row_of_frame, Stands}
 use Rattle.jg_locals.proofs.Holding.{held_told, held_without_session}
 use Rattle.jg_locals.proofs.Tops.{top_told}
@@ -93,20 +93,21 @@ reopened a b e is stands =
     let P : Table → Type 0 = λ v. Stands v.rows e in
     subst P (sym is) stands
 
-crowded_at : (rows : Rows) (e : List Event) (t : ℕ) (b : Bool) → Stands rows e → has_session (acts_of t e) ≡ b
-    → is_crowded rows.locals
+past_at : (bound : ℕ → ℕ) (rows : Rows) (e : List Event) (t : ℕ) (b : Bool) → Stands rows e → has_session (acts_of t e) ≡ b
+    → is_past bound rows.locals
     (if◌then◌else◌ {A = Option FrameRow} b
     (Some (row_of_frame t (depth (acts_of t e)) (frames (depth (acts_of t e)) (acts_of t e)) (acts_of t e))) None)
-    ≡ crowded (acts_of t e)
-crowded_at rows e t true stands is =
-    ap (λ n. nat_lt (room_here (acts_of t e)) n) (held_told rows e (row_of_frame t (depth (acts_of t e)) (frames (depth (acts_of t e)) (acts_of t e)) (acts_of t e)) stands)
-crowded_at rows e t false stands is =
+    ≡ nat_lt (bound (room_here (acts_of t e))) (held_here (acts_of t e))
+past_at bound rows e t true stands is =
+    ap (λ n. nat_lt (bound (room_here (acts_of t e))) n) (held_told rows e (row_of_frame t (depth (acts_of t e)) (frames (depth (acts_of t e)) (acts_of t e)) (acts_of t e)) stands)
+past_at bound rows e t false stands is =
     let none = held_without_session (depth (acts_of t e)) (frames (depth (acts_of t e)) (acts_of t e)) (acts_of t e) (stands.allowed t) is in
-    rw none (none_less (room_here (acts_of t e)))
+    rw none (none_less (bound (room_here (acts_of t e))))
   where
     none_less : (n : ℕ) → false ≡ nat_lt n 0
     none_less n = grind (arith, nat_tests)
 
--- the rows tell whether the newest frame holds more than it has room for
-pub crowded_law : (rows : Rows) (e : List Event) (t : ℕ) → Stands rows e → is_crowded rows.locals (top t rows.frames) ≡ crowded (acts_of t e)
-crowded_law rows e t stands = rw (top_told rows e t stands) (crowded_at rows e t (has_session (acts_of t e)) stands refl)
+-- the rows tell whether the newest frame holds more than what is made of its room
+pub past_law : (bound : ℕ → ℕ) (rows : Rows) (e : List Event) (t : ℕ) → Stands rows e
+    → is_past bound rows.locals (top t rows.frames) ≡ nat_lt (bound (room_here (acts_of t e))) (held_here (acts_of t e))
+past_law bound rows e t stands = rw (top_told rows e t stands) (past_at bound rows e t (has_session (acts_of t e)) stands refl)

@@ -21,8 +21,8 @@ use Rattle.jg_locals.specs.declared.row.Frame.{Frame}
 use Rattle.jg_locals.specs.History.{Event, by, acts_of, Start, Make, Push, Ensure, Enter, Delete, Pop, Leave, End}
 use Rattle.jg_lists.specs.Acts.{how_many}
 use Rattle.jg_lists.specs.ByThread.{IsOnce}
-use Rattle.jg_locals.specs.Room.{promised, greater, crowded}
-use Rattle.jg_locals.specs.Rows.{Rows, Table, Room, LocalRow, FrameRow, is_local, is_of_frame, is_crowded, top, room_of, room_or_none, spare, spare_starts, pushed, entered, frame_number, depth_number}
+use Rattle.jg_locals.specs.Room.{promised, greater, room_here, held_here}
+use Rattle.jg_locals.specs.Rows.{Rows, Table, Room, LocalRow, FrameRow, is_local, is_of_frame, is_past, top, room_of, room_or_none, spare, spare_starts, pushed, entered, frame_number, depth_number}
 use Rattle.jg_locals.specs.Standing.{Stands}
 use Rattle.jg_locals.specs.Seen.{last, StackRows, slots_in, frames_in, stack_at, local_row, frame_row, gather, locals_of, frames_of, rows_seen, rooms_seen, room_seen, room_in, Changes, slot_made, room_set, held_in, is_full, is_frame, IsNext, is_under}
 use Rattle.jg_locals.proofs.Chains.{each-map, each-filter, filter-all, filter-none, filter-twice, filter-alike, last-map}
@@ -30,7 +30,7 @@ use Rattle.jg_lists.proofs.Acts.{each_thread, at_key}
 use Rattle.jg_lists.proofs.Lists.{filter_swap, how_many-map}
 use Rattle.jg_locals.proofs.FrameSteps.{is_not_frame, is_not_depth, raised}
 use Rattle.jg_locals.proofs.Tops.{find-reverse}
-use Rattle.jg_locals.proofs.Lookups.{fresh, crowded_law}
+use Rattle.jg_locals.proofs.Lookups.{fresh, past_law}
 use Rattle.jg_locals.proofs.Holding.{count-filter}
 use Rattle.jg_locals.proofs.StandingSteps.{own_alike, others_alike}
 use Rattle.jg_locals.proofs.EventLaws.{start_law, make_law, push_law, ensure_law, room_made, enter_law, delete_law, pop_law, leave_law, end_law, is_not_in, is_not_at, other_raised, same_tid}
@@ -452,19 +452,20 @@ pub pushed_seen : (m : List (ℕ × StackRows)) (a : Table) (t x : ℕ) (f : Opt
     → x ≡ frame_number (option_map (frame_row t) f) → x ≡ pushed t a.rows
 pushed_seen m a t x f ordered is at found = found ∙ (ap (λ o. frame_number (option_map (frame_row t) o)) at ∙ ap frame_number (sym (top_in m a t ordered is)))
 
-crowded_by : (m : List (ℕ × StackRows)) (t : ℕ) (f : Option Frame) → IsOnce m → last (frames_at m t) ≡ f
-    → is_crowded (gather locals_of m) (option_map (frame_row t) f) ≡ is_full f (held_in f (slots_at m t))
-crowded_by m t None ordered is = refl
-crowded_by m t (Some f) ordered is = ap (λ n. nat_lt f.room n) (held_seen m t f ordered)
+past_by : (bound : ℕ → ℕ) (m : List (ℕ × StackRows)) (t : ℕ) (f : Option Frame) → IsOnce m → last (frames_at m t) ≡ f
+    → is_past bound (gather locals_of m) (option_map (frame_row t) f) ≡ is_full bound f (held_in f (slots_at m t))
+past_by bound m t None ordered is = refl
+past_by bound m t (Some f) ordered is = ap (λ n. nat_lt (bound f.room) n) (held_seen m t f ordered)
 
 -- the newest frame is the one that was looked up
--- whether the newest frame holds more than its room
-pub crowded_seen : (m : List (ℕ × StackRows)) (a : Table) (e : List Event) (t : ℕ) → IsOnce m → table_seen m ≡ a → Stands a.rows e
-    → is_full (last (frames_at m t)) (held_in (last (frames_at m t)) (slots_at m t)) ≡ crowded (acts_of t e)
-crowded_seen m a e t ordered is stands =
-    let by_rows = crowded_by m t (last (frames_at m t)) ordered refl in
+-- whether the newest frame holds more than what is made of its room
+pub past_seen : (bound : ℕ → ℕ) (m : List (ℕ × StackRows)) (a : Table) (e : List Event) (t : ℕ) → IsOnce m → table_seen m ≡ a → Stands a.rows e
+    → is_full bound (last (frames_at m t)) (held_in (last (frames_at m t)) (slots_at m t))
+    ≡ nat_lt (bound (room_here (acts_of t e))) (held_here (acts_of t e))
+past_seen bound m a e t ordered is stands =
+    let by_rows = past_by bound m t (last (frames_at m t)) ordered refl in
     let P : Table → Type 0 = λ v. Stands v.rows e in
-    sym (ap (is_crowded (gather locals_of m)) (top_seen m t ordered) ∙ by_rows) ∙ crowded_law (rows_seen m) e t (subst P (sym is) stands)
+    sym (ap (is_past bound (gather locals_of m)) (top_seen m t ordered) ∙ by_rows) ∙ past_law bound (rows_seen m) e t (subst P (sym is) stands)
 
 pub depth_seen : (m : List (ℕ × StackRows)) (a : Table) (t x : ℕ) (f : Option Frame) → IsOnce m → table_seen m ≡ a → f ≡ last (frames_at m t) → x ≡ depth_number (option_map (frame_row t) f)
     → x ≡ entered t a.rows

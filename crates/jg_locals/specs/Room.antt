@@ -3,7 +3,7 @@
 -- for at least as many as it names; EnsureLocalCapacity asks the present frame for so many more. What lies beyond the
 -- room is made too, and told of.
 -- A frame is named by its depth d and by how many frames are pushed at that depth up to it, k.
-use Rattle.std.specs.Prelude.{ℕ, ◌+◌, Bool, true, false, ◌==◌, ◌&&◌, not, nat_lt, if◌then◌else◌, List, [], ◌∷◌, filter, Option, Some, None}
+use Rattle.std.specs.Prelude.{ℕ, ◌+◌, ◌*◌, Bool, true, false, ◌==◌, ◌&&◌, not, nat_lt, if◌then◌else◌, List, [], ◌∷◌, filter, Option, Some, None}
 use Rattle.jg_locals.specs.History.{Act, Start, Make, Push, Ensure, Enter, how_many, depth, frames, Local, live_local}
 
 -- the numbers that the thread's locals were given, each once
@@ -64,3 +64,7 @@ room_here acts = frame_room (depth acts) (frames (depth acts) acts) acts
 -- the present frame holds more than it has room for
 abbrev pub crowded : List Act → Bool
 crowded acts = nat_lt (room_here acts) (held_here acts)
+
+-- it holds more than ten times what it has room for
+abbrev pub outgrown : List Act → Bool
+outgrown acts = nat_lt (10 * room_here acts) (held_here acts)

@@ -62,10 +62,10 @@ spare_starts table t = (room_of table.room t).frames
 abbrev pub is_of_frame : FrameRow → LocalRow → Bool
 is_of_frame f row = row.tid == f.tid && (row.depth == f.depth && row.frame == f.frame)
 
--- the frame's live locals are more than it has room for
-abbrev pub is_crowded : List LocalRow → Option FrameRow → Bool
-is_crowded locals None = false
-is_crowded locals (Some f) = nat_lt f.room (how_many (is_of_frame f) locals)
+-- the frame's live locals are more than what is made of its room
+abbrev pub is_past : (ℕ → ℕ) → List LocalRow → Option FrameRow → Bool
+is_past bound locals None = false
+is_past bound locals (Some f) = nat_lt (bound f.room) (how_many (is_of_frame f) locals)
 
 -- the row is of the thread's local n
 abbrev pub is_local : ℕ → ℕ → LocalRow → Bool

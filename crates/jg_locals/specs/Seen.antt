@@ -145,10 +145,10 @@ abbrev pub held_in : Option Frame → List LocalSlot → ℕ
 held_in None live = 0
 held_in (Some f) live = how_many (λ s. is_in s f) live
 
--- the frame has room for less
-abbrev pub is_full : Option Frame → ℕ → Bool
-is_full None n = false
-is_full (Some f) n = nat_lt f.room n
+-- what is made of the frame's room is less
+abbrev pub is_full : (ℕ → ℕ) → Option Frame → ℕ → Bool
+is_full bound None n = false
+is_full bound (Some f) n = nat_lt (bound f.room) n
 
 -- the live locals and the open frames of one thread, oldest first, with its room
 pub record StackRows : Type 0 where

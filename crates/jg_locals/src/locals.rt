@@ -4,7 +4,7 @@ ghost use Rattle.std.specs.Prelude.{◌≡◌, ℕ, ◌+◌, ◌<◌, ◌≤◌,
 ghost use Rattle.std.specs.Option.{is_some, option_map};
 ghost use Rattle.jg_locals.specs.History.{Event, by, Start, Make, Push, Ensure, Enter, Delete, Pop, Leave, End, acts_of, has_session, depth, frames, live, Holds, holds_object};
 ghost use Rattle.jg_lists.specs.Marks.{Marks};
-ghost use Rattle.jg_locals.specs.Room.{greater, crowded};
+ghost use Rattle.jg_locals.specs.Room.{greater, crowded, outgrown};
 ghost use Rattle.jg_locals.specs.Standing.{Stands};
 ghost use Rattle.jg_locals.specs.Rows.{top, local_ref, HasFrame, pushed, entered, frame_number, depth_number, spare, spare_starts};
 ghost use Rattle.jg_locals.specs.Seen.{frame_row};
@@ -13,8 +13,8 @@ use crate::row::Frame;
 use crate::stack::Stack;
 use crate::stacks::{
     add_stack, crowded_at, delete_at, drop_at, held_at, is_above_at, leave_at, list_in, make_at,
-    mark_named_in, name_of, object_at, open_at, pop_at, reserve_at, reserve_frame_at, set_room_at,
-    top_at,
+    mark_named_in, name_of, object_at, open_at, outgrown_at, pop_at, reserve_at, reserve_frame_at,
+    set_room_at, top_at,
 };
 use jg_lists::{ByThread, Marking};
 use jg_words::{Kind, ObjId, Ref, Tid};
@@ -273,6 +273,13 @@ impl<A: Allocator + Clone> Locals<A> {
             → result ≡ crowded (acts_of tid.0 f) }
     {
         crowded_at(&self.stacks, tid.0)
+    }
+
+    /// Whether it holds more than ten times what it has room for.
+    pub fn outgrown(&self, tid: Tid) -> bool
+        ensures { (e : List Event) → Stands self.now.rows e → result ≡ outgrown (acts_of tid.0 e) }
+    {
+        outgrown_at(&self.stacks, tid.0)
     }
 
     /// How many frames were pushed at the thread's present depth and aren't popped: 0 where the

@@ -1,6 +1,6 @@
 //! One thread's locals and open frames.
 
-ghost use Rattle.std.specs.Prelude.{◌≡◌, ◌≤◌, ◌<◌, ◌+◌, ◌^◌, ◌&&◌, ◌==◌, ◌++◌, ◌∷◌, ◌↔◌, [], All, OnOk, OnErr, IsOk, IsSome, IsTrue, Some, false, not, filter, find, length, map, vec_len, vec_capacity};
+ghost use Rattle.std.specs.Prelude.{◌≡◌, ◌≤◌, ◌<◌, ◌+◌, ◌*◌, ◌^◌, ◌&&◌, ◌==◌, ◌++◌, ◌∷◌, ◌↔◌, [], All, OnOk, OnErr, IsOk, IsSome, IsTrue, Some, false, not, filter, find, length, map, vec_len, vec_capacity};
 ghost use Rattle.std.specs.Option.{option_map};
 ghost use Rattle.std.specs.List.{list_any};
 ghost use Rattle.jg_lists.specs.Marks.{Marks};
@@ -214,11 +214,22 @@ impl<A: Allocator> Stack<A> {
 
     /// Whether the newest frame holds more live locals than it has room for.
     pub fn crowded(&self) -> bool
-        ensures { result ≡ is_full (last self.now.frames) (held_in (last self.now.frames) self.now.locals) }
+        ensures { result ≡ is_full (λ n. n) (last self.now.frames) (held_in (last self.now.frames) self.now.locals) }
     {
         match self.top() {
             None => false,
             Some(top) => top.room < self.held(),
+        }
+    }
+
+    /// Whether it holds more than ten times what it has room for.
+    pub fn outgrown(&self) -> bool
+        ensures { result ≡ is_full (λ n. 10 * n) (last self.now.frames)
+            (held_in (last self.now.frames) self.now.locals) }
+    {
+        match self.top() {
+            None => false,
+            Some(top) => u128::from(top.room) * 10 < u128::from(self.held()),
         }
     }
 

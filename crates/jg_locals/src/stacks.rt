@@ -1,6 +1,6 @@
 //! The stacks of all threads, by thread.
 
-ghost use Rattle.std.specs.Prelude.{◌≡◌, ◌≤◌, ◌<◌, ◌+◌, ◌^◌, ◌&&◌, ◌==◌, ◌++◌, ◌∷◌, ◌↔◌, ℕ, [], All, OnOk, OnErr, IsOk, IsSome, IsTrue, Some, false, not, filter, find, map, vec_len, vec_capacity};
+ghost use Rattle.std.specs.Prelude.{◌≡◌, ◌≤◌, ◌<◌, ◌+◌, ◌*◌, ◌^◌, ◌&&◌, ◌==◌, ◌++◌, ◌∷◌, ◌↔◌, ℕ, [], All, OnOk, OnErr, IsOk, IsSome, IsTrue, Some, false, not, filter, find, map, vec_len, vec_capacity};
 ghost use Rattle.std.specs.Option.{option_map};
 ghost use Rattle.std.specs.Map.{values_of};
 ghost use Rattle.std.specs.List.{list_any};
@@ -39,12 +39,23 @@ pub fn held_at<A: Allocator>(stacks: &ByThread<Stack<A>, A>, tid: u16) -> u64
 
 /// Whether the thread's newest frame holds more live locals than it has room for.
 pub fn crowded_at<A: Allocator>(stacks: &ByThread<Stack<A>, A>, tid: u16) -> bool
-    ensures { result ≡ is_full (last (frames_in (stack_at tid stacks.now)))
+    ensures { result ≡ is_full (λ n. n) (last (frames_in (stack_at tid stacks.now)))
         (held_in (last (frames_in (stack_at tid stacks.now))) (slots_in (stack_at tid stacks.now))) }
 {
     match stacks.get(tid) {
         None => false,
         Some(stack) => stack.crowded(),
+    }
+}
+
+/// Whether it holds more than ten times what it has room for.
+pub fn outgrown_at<A: Allocator>(stacks: &ByThread<Stack<A>, A>, tid: u16) -> bool
+    ensures { result ≡ is_full (λ n. 10 * n) (last (frames_in (stack_at tid stacks.now))) (held_in
+        (last (frames_in (stack_at tid stacks.now))) (slots_in (stack_at tid stacks.now))) }
+{
+    match stacks.get(tid) {
+        None => false,
+        Some(stack) => stack.outgrown(),
     }
 }
 
