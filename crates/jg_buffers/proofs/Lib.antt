@@ -10,4 +10,3 @@ pub mod Ordered
 pub mod Pins
 pub mod Released
 pub mod Steps
-pub mod Taken

@@ -17,7 +17,7 @@ use Rattle.jg_buffers.proofs.Maps.{found_row}
 use Rattle.jg_buffers.proofs.Numbers.{keeps_numbers}
 use Rattle.jg_buffers.proofs.Pins.{free_copy, head_is}
 use Rattle.jg_buffers.proofs.Steps.{first_of, rows_kept, tells, stands_by}
-use Rattle.jg_buffers.proofs.Taken.{Clears}
+use Rattle.jg_lists.proofs.Taken.{Clears}
 
 no_rest : (a b : Buffer) (rest : List Buffer) → a ∷ rest ≡ b ∷ [] → rest ≡ []
 no_rest a b rest is = cc

@@ -12,13 +12,13 @@ use crate::family::Family;
 use crate::info::Info;
 use crate::items::{Items, Unseen};
 use crate::maker_counts::{lower_count, raise_count, widen_counts};
-use crate::pinned::{Pinned, ViaKey, family_of_pin, pin_kind, take_pin, via_key};
+use crate::pinned::{Pinned, ViaKey, family_of_pin, pin_kind, via_key};
 use crate::tally::{Tally, count_of, lower, make_room, raise};
 use crate::visits::{
     list_copies, list_pins, list_pins_of, list_pins_through, mark_objects, name_of, sort_names,
 };
 use indexmap::IndexMap;
-use jg_lists::by_maker::{ByMaker, add, find, remove};
+use jg_lists::by_maker::{ByMaker, add, find, remove, take_any};
 use jg_lists::{Marking, Recent, number_at};
 use jg_words::{BufId, ObjId, Ref, Tid};
 use std::alloc::{AllocError, Allocator, Global};
@@ -305,7 +305,7 @@ impl<A: Allocator + Clone, I: Items> Buffers<A, I> {
             ≡ (if tid.0 == m then copied_only (row_of m i self.old) else row_of m i self.old) }
         ensures numbers { KeepsNumbers self.old self.new }
     {
-        while let Some(pin) = take_pin(&mut self.pins, tid.0) {
+        while let Some(pin) = take_any(&mut self.pins, tid.0) {
             lower_count(&mut self.makers, tid.0);
             lower(&mut self.vias, &via_key(pin.via));
             self.pinned -= 1;

@@ -1,15 +1,11 @@
 //! Open pinned buffers: what is kept of each, and the references through which they were opened, as keys.
 
-ghost use Rattle.std.specs.Prelude.{◌≡◌, ◌==◌, ℕ, ◌∷◌, true, false, None, IfSome, IsSome, IsPermutation};
-ghost use Rattle.std.specs.Map.{lookup};
-ghost use Rattle.jg_lists.specs.ByMaker.{Name, same_name, named, IsThereOnce};
+ghost use Rattle.std.specs.Prelude.{◌≡◌, true};
 ghost use Rattle.jg_buffers.specs.History.{is_critical};
 ghost use Rattle.jg_buffers.specs.Seen.{pin_family, key_of};
 
 use crate::family::Family;
-use jg_lists::by_maker::{ByMaker, remove};
 use jg_words::{Kind, Ref};
-use std::alloc::Allocator;
 
 /// The families that pin.
 #[derive(Clone, Copy, Debug, PartialEq, Eq)]
@@ -64,29 +60,4 @@ pub fn via_key(via: Ref) -> ViaKey
             Kind::Weak => (3, maker.0, n),
         },
     }
-}
-
-/// Takes out one of the pinned buffers that the thread was lent, if there is one. Takes no memory, and
-/// the same few steps however many there are.
-pub fn take_pin<A: Allocator>(pins: &mut ByMaker<Pinned, A>, maker: u16) -> Option<Pinned>
-    ensures taken { IfSome result (λ pin. (n : ℕ)
-        × IsPermutation (named pins.old) (((maker, n), pin) ∷ named pins.new)) }
-    ensures others { (q : Name) → (maker == q.0) ≡ false
-        → lookup (same_name q) (named pins.new) ≡ lookup (same_name q) (named pins.old) }
-    ensures none { result ≡ None → (n : ℕ) → lookup (same_name (maker, n)) (named pins.new) ≡ None }
-    ensures same { result ≡ None → named pins.new ≡ named pins.old }
-    ensures once { (q : Name) → IsThereOnce q (named pins.old) → IsThereOnce q (named pins.new) }
-{
-    let n = last_number(pins, maker)?;
-    remove(pins, (maker, n))
-}
-
-/// The number of one of the pinned buffers that the thread was lent.
-fn last_number<A: Allocator>(pins: &ByMaker<Pinned, A>, maker: u16) -> Option<u64>
-    ensures found { IfSome result (λ n. IsSome (lookup (same_name (maker, n)) (named pins.now))) }
-    ensures none { result ≡ None → (n : ℕ) → lookup (same_name (maker, n)) (named pins.now) ≡ None }
-{
-    let numbers = pins.get(maker)?;
-    let seat = numbers.seats().last()?;
-    Some(seat.number)
 }

@@ -10,5 +10,6 @@ pub mod Places
 pub mod Searched
 pub mod Seats
 pub mod Tables
+pub mod Taken
 pub mod Values
 pub mod Visited

@@ -1,6 +1,6 @@
 //! Values by maker and number, in a table for each maker that has one.
 
-ghost use Rattle.std.specs.Prelude.{◌≡◌, ◌<◌, ◌^◌, ◌∷◌, ℕ, if◌then◌else◌, [], None, Some, All, IsPermutation, IsSome, IfOk, IfSome, IsTrue, OnOk, OnErr, map, option_copied};
+ghost use Rattle.std.specs.Prelude.{◌≡◌, ◌==◌, ◌<◌, ◌^◌, ◌∷◌, ℕ, false, if◌then◌else◌, [], None, Some, All, IsPermutation, IsSome, IfOk, IfSome, IsTrue, OnOk, OnErr, map, option_copied};
 ghost use Rattle.std.specs.Option.{option_copied_mut};
 ghost use Rattle.std.specs.Borrow.{sem};
 ghost use Rattle.std.specs.Map.{lookup};
@@ -228,4 +228,28 @@ pub fn remove<V: Drop, A: Allocator>(tables: &mut ByMaker<V, A>, name: (u16, u64
     };
     tables.close(name.0);
     Some(value)
+}
+
+/// The number of one of the maker's values.
+fn last_number<V, A: Allocator>(tables: &ByMaker<V, A>, maker: u16) -> Option<u64>
+    ensures found { IfSome result (λ n. IsSome (lookup (same_name (maker, n)) (named tables.now))) }
+    ensures none { result ≡ None → (n : ℕ) → lookup (same_name (maker, n)) (named tables.now) ≡ None }
+{
+    let numbers = tables.get(maker)?;
+    let seat = numbers.seats().last()?;
+    Some(seat.number)
+}
+
+/// Takes out one of the maker's values, if it has one. Takes no memory, and the same few steps however many there are.
+pub fn take_any<V: Drop, A: Allocator>(tables: &mut ByMaker<V, A>, maker: u16) -> Option<V>
+    ensures taken { IfSome result (λ v. (n : ℕ)
+        × IsPermutation (named tables.old) (((maker, n), v) ∷ named tables.new)) }
+    ensures others { (q : Name) → (maker == q.0) ≡ false
+        → lookup (same_name q) (named tables.new) ≡ lookup (same_name q) (named tables.old) }
+    ensures none { result ≡ None → (n : ℕ) → lookup (same_name (maker, n)) (named tables.new) ≡ None }
+    ensures same { result ≡ None → named tables.new ≡ named tables.old }
+    ensures once { (q : Name) → IsThereOnce q (named tables.old) → IsThereOnce q (named tables.new) }
+{
+    let n = last_number(tables, maker)?;
+    remove(tables, (maker, n))
 }

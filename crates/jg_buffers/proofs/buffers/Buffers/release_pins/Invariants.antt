@@ -1,7 +1,7 @@
 use Rattle.std.proofs.Common.{◌≡◌, length}
 use Rattle.jg_lists.specs.ByMaker.{named}
 use Rattle.jg_buffers.specs.Tallies.{Counted}
-use Rattle.jg_buffers.proofs.Taken.{Leaves}
+use Rattle.jg_lists.proofs.Taken.{Leaves}
 use Rattle.jg_buffers.proofs.buffers.Buffers.release_pins.Given as goal
 
 -- the counts are those of what is left, and nothing of another thread was taken, nor a copy

@@ -1,4 +1,4 @@
--- What is found of one maker's pinned buffers, and what is left when one of them is taken out.
+-- What is found of one maker's values, and what is left when one of them is taken out.
 use Rattle.std.proofs.Common.{◌≡◌, ◌-◌, ℕ, Bool, true, false, List, [], ◌∷◌, length, get_or, Some, None, refl, ◌∙◌, ap, sym, arith, eqb-true}
 use Rattle.std.specs.Prelude.{◌==◌, if◌then◌else◌, map, slice_get, IsSome}
 use Rattle.std.specs.List.{list_any}
