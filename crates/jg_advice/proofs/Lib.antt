@@ -1,0 +1,6 @@
+mod Counsels
+mod Lefts
+mod Reports
+mod Standings
+mod Steps
+mod Worked

@@ -1,0 +1,69 @@
+-- What a thread did in each of its activations: of which call it is, and which call may have thrown.
+use Rattle.std.specs.Prelude.{ℕ, ◌+◌, ◌==◌, Bool, false, if◌then◌else◌, List, [], ◌∷◌, Option, Some, None, slice_get}
+use Rattle.jg_words.specs.declared.thread.Tid.{Tid}
+use Rattle.jg_lists.specs.ByMaker.{Name, same_name}
+use Rattle.jg_functions.specs.Columns.{Columns}
+use Rattle.jg_functions.specs.Table.{functions}
+use Rattle.jg_rules.specs.Parts.{Parts}
+use Rattle.jg_core.specs.declared.fact.Fact.{Fact}
+use Rattle.jg_core.specs.declared.fact.Fact.TheVariants.{Begin, End, Enter, Leave}
+use Rattle.jg_advice.specs.declared.advice.Source.{Source}
+use Rattle.jg_advice.specs.declared.doing.Doing.{Doing}
+use Rattle.jg_advice.specs.Moments.{What, Called, Told, Went, Moment, depth, parts_at}
+use Rattle.jg_advice.specs.Functions.{asks, is_jni, throws_untold}
+
+-- nothing yet
+abbrev pub idle : Doing
+idle = record { latest = None; owed = None }
+
+-- t called the function on the line
+abbrev pub source : ℕ → Tid → ℕ → Source
+source line t f = record { line = line; tid = t; function = Some f }
+
+-- 1: the call that may have thrown, and that nobody asked about since
+abbrev pub owed_after : Columns → Source → Option Source → Option Source
+owed_after row call owed = if asks row then None else (if throws_untold row then Some call else owed)
+
+-- the function of this row was called; the guard's own are no calls of an activation
+abbrev pub doing_after : Option Columns → Source → Doing → Doing
+doing_after None call before = before
+doing_after (Some row) call before =
+    if is_jni row then record { latest = Some call; owed = owed_after row call before.owed } else before
+
+-- the fact begins or ends the activation of that thread and depth, or the thread's session, where the events with it
+-- are p
+abbrev pub restarts : Name → Parts → Fact → Bool
+restarts q p (Begin t) = t.0 == q.0
+restarts q p (End t) = t.0 == q.0
+restarts q p (Enter t) = same_name (t.0, depth p t.0) q
+restarts q p (Leave t kept) = same_name (t.0, depth p t.0 + 1) q
+restarts q p fact = false
+
+abbrev pub doing_with : Name → Moment → List Moment → What → Doing → Doing
+doing_with q m h (Called t f xs name) before =
+    if same_name (t.0, depth (parts_at h) t.0) q then doing_after (slice_get functions f) (source m.line t f) before
+    else before
+doing_with q m h (Told fact) before = if restarts q (parts_at (m ∷ h)) fact then idle else before
+doing_with q m h (Went objects) before = before
+
+-- what the thread did in its activation of that depth since this began: its latest call there, and the one that is owed
+-- a question
+abbrev pub doing : Name → List Moment → Doing
+doing q [] = idle
+doing q (m ∷ h) = doing_with q m h m.what (doing q h)
+
+-- what it did in the activation in which it is
+abbrev pub doing_now : ℕ → List Moment → Doing
+doing_now t h = doing (t, depth (parts_at h) t) h
+
+abbrev pub or_line : ℕ → Tid → Option Source → Source
+or_line line t None = record { line = line; tid = t; function = None }
+or_line line t (Some call) = call
+
+-- t's latest call in the activation in which it is, where the events are p and threads did that; else the line alone
+abbrev pub cause_by : (Name → Doing) → Parts → ℕ → Tid → Source
+cause_by doings p line t = or_line line t (doings (t.0, depth p t.0)).latest
+
+-- the call that a moment of t came of
+abbrev pub cause : Tid → Moment → List Moment → Source
+cause t m h = cause_by (λ q. doing q h) (parts_at (m ∷ h)) m.line t

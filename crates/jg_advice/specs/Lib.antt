@@ -1,0 +1,11 @@
+pub mod Moments
+pub mod Functions
+pub mod Doing
+pub mod Buffers
+pub mod Regions
+pub mod Monitors
+pub mod Advised
+pub mod Standing
+pub mod Texts
+pub mod Noted
+pub mod Told

@@ -1,0 +1,160 @@
+//! Advice is given and noted.
+
+ghost use Rattle.std.specs.Prelude.{◌≡◌, ◌++◌, ◌∷◌, [], IfOk, IfSome, List, reverse, string_bytes};
+ghost use Rattle.jg_advice.specs.declared.advice.Advice.{Advice as AdviceOf};
+ghost use Rattle.jg_advice.specs.Moments.{Called, Moment, parts_at, Told, Went};
+ghost use Rattle.jg_advice.specs.Noted.{IsNoted};
+ghost use Rattle.jg_advice.specs.Standing.{Sees};
+ghost use Rattle.jg_advice.specs.Told.{Counsels, Tells};
+
+use crate::advice::Advice;
+use crate::adviser::Adviser;
+use crate::report::Advices;
+use jg_core::Fact;
+use jg_questions::Argument;
+use jg_rules::{Store, View};
+use jg_words::{ObjId, Tid};
+use std::alloc::{AllocError, Allocator, Global};
+use std::marker::Model;
+
+/// An adviser with what it tells. It stands beside a core or a guard, and is told each question that passed and each
+/// fact, on its line. Where memory runs out for it, all that it told is lost. Contracts see all.
+#[derive(Drop)]
+pub struct Counsel {
+    adviser: Adviser,
+    lost: bool,
+    advices: Advices,
+    /// Room for what is advised at one moment.
+    room: Vec<Advice>,
+}
+
+impl Model for Counsel {
+    ghost use Rattle.jg_advice.specs.Told.{CounselState};
+
+    ghost Value = { CounselState };
+
+    ghost view = { λ x. record { adviser = x.adviser; lost = x.lost; noting = x.advices } };
+}
+
+/// Notes all of the advice, the first first.
+fn note_all(advices: &mut Advices, given: &[Advice])
+    ensures noted { (older : List AdviceOf) → IsNoted advices.old older
+        → IsNoted advices.new (reverse given.now ++ older) }
+    ensures all { advices.new.all ≡ advices.old.all }
+{
+    let mut rest = given;
+    while let Some((advice, later)) = rest.split_first() {
+        advices.note(*advice);
+        rest = later;
+    }
+}
+
+impl Counsel {
+    /// A counsel to whom nothing happened yet. A critical region is long where more than `most` calls are made in it.
+    /// Each advice is going to be told, or the first of each kind and function. Fails for want of memory.
+    pub fn new(alloc: Global, most: u64, all: bool) -> Result<Counsel, AllocError>
+        ensures counsels { IfOk result (λ x. Counsels x []) }
+        ensures most { IfOk result (λ x. x.adviser.most ≡ most) }
+        ensures all { IfOk result (λ x. x.noting.all ≡ all) }
+    {
+        Ok(Counsel {
+            adviser: Adviser::new(alloc, most),
+            lost: false,
+            advices: Advices::new(alloc, all)?,
+            room: Vec::new(alloc),
+        })
+    }
+
+    /// A question passed on this line: the thread calls the function at that place of the table, with these operands.
+    /// `name` is the text of the name that it hands in, for FindClass, and may be empty for others. `view` is of the
+    /// tables as they were judged by.
+    pub fn called<A: Allocator + Clone, S: Store>(
+        &mut self,
+        view: &View<'_, A, S>,
+        line: u64,
+        tid: Tid,
+        function: u16,
+        arguments: &[Argument],
+        name: &[u8],
+    )
+        ensures counsels { (h : List Moment) → Counsels self.old h → Sees view.now (parts_at h)
+            → Counsels self.new (record { line = line; what = Called tid function arguments.now name.now } ∷ h) }
+        ensures most { self.new.adviser.most ≡ self.old.adviser.most }
+        ensures all { self.new.noting.all ≡ self.old.noting.all }
+    {
+        if self.lost {
+            return;
+        }
+        self.room.clear();
+        let called = self
+            .adviser
+            .called(view, line, tid, function, arguments, name, &mut self.room);
+        match called {
+            Ok(()) => note_all(&mut self.advices, &self.room),
+            Err(_) => self.lost = true,
+        }
+    }
+
+    /// The fact was told on this line. `view` is of the tables with it.
+    pub fn told<A: Allocator + Clone, S: Store>(
+        &mut self,
+        view: &View<'_, A, S>,
+        line: u64,
+        fact: Fact,
+    )
+        ensures counsels { (h : List Moment) (m : Moment) → m ≡ record { line = line; what = Told fact }
+            → Counsels self.old h → Sees view.now (parts_at (m ∷ h)) → Counsels self.new (m ∷ h) }
+        ensures most { self.new.adviser.most ≡ self.old.adviser.most }
+        ensures all { self.new.noting.all ≡ self.old.noting.all }
+    {
+        if self.lost {
+            return;
+        }
+        self.room.clear();
+        match self.adviser.told(view, line, fact, &mut self.room) {
+            Ok(()) => note_all(&mut self.advices, &self.room),
+            Err(_) => self.lost = true,
+        }
+    }
+
+    /// The collector let these objects go, which was told on this line.
+    pub fn went(&mut self, line: u64, objects: &[ObjId])
+        ensures counsels { (h : List Moment) → Counsels self.old h
+            → Counsels self.new (record { line = line; what = Went objects.now } ∷ h) }
+        ensures most { self.new.adviser.most ≡ self.old.adviser.most }
+        ensures all { self.new.noting.all ≡ self.old.noting.all }
+    {
+        if self.lost {
+            return;
+        }
+        match self.adviser.went(line, objects) {
+            Ok(()) => {}
+            Err(_) => self.lost = true,
+        }
+    }
+
+    /// What is told of all that was advised, with what is advised at the end; `None` where memory ran out for it.
+    pub fn into_text(self) -> Option<String>
+        ensures { IfSome result (λ text. (h : List Moment) → Counsels self h
+            → Tells self.adviser.most self.noting.all h (string_bytes text)) }
+    {
+        let Counsel {
+            adviser,
+            lost,
+            advices,
+            room,
+        } = self;
+        if lost {
+            return None;
+        }
+        let (mut advices, mut room) = (advices, room);
+        room.clear();
+        match adviser.left(&mut room) {
+            Ok(()) => {
+                note_all(&mut advices, &room);
+                advices.into_text()
+            }
+            Err(_) => None,
+        }
+    }
+}

@@ -1,0 +1,21 @@
+//! Advice: calls that break no rule, and are likely wrong. It is told of questions that passed and of facts.
+#![tactic(auto)]
+
+mod advice;
+mod adviser;
+mod buffers;
+mod calls;
+mod counsel;
+mod doing;
+mod facts;
+mod functions;
+mod monitors;
+mod regions;
+mod report;
+mod tables;
+mod texts;
+
+pub use advice::{Advice, Kind, Source};
+pub use adviser::Adviser;
+pub use counsel::Counsel;
+pub use report::Advices;
