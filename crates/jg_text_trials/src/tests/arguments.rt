@@ -1,6 +1,6 @@
 //! Tests of the command line: words, what they ask for, which are refused, and the texts of the help.
 
-use jg_args::{Advising, ArgsFault, Asked, Task, help_text, read_words, refused_word};
+use jg_args::{ArgsFault, Asked, Task, help_text, read_words, refused_word};
 use jg_version::VERSION;
 use std::alloc::{AllocError, Global};
 use std::test::Fail;
@@ -10,8 +10,6 @@ const DEFAULTS: Asked<'static> = Asked {
     setup: None,
     limit: 1_000_000,
     explain: 0,
-    advice: Advising::Never,
-    region: 1000,
     strict: false,
     turns: 1000,
     denials: false,
@@ -24,34 +22,9 @@ const STATUSES: &str =
     4 reading or writing failed, 5 done, and a call was denied (with --strict).";
 
 /// Words, and what they ask for.
-const READ: [(&[&str], Asked<'static>); 20] = [
+const READ: [(&[&str], Asked<'static>); 17] = [
     (&[], DEFAULTS),
     (&["check"], DEFAULTS),
-    (
-        &["--advice", "--region", "0"],
-        Asked {
-            advice: Advising::Once,
-            region: 0,
-            ..DEFAULTS
-        },
-    ),
-    (
-        &["watch", "--advice=all", "--region=7"],
-        Asked {
-            task: Task::Watch,
-            advice: Advising::Each,
-            region: 7,
-            ..DEFAULTS
-        },
-    ),
-    (
-        &["play", "two", "--advice", "once"],
-        Asked {
-            task: Task::Play("two"),
-            advice: Advising::Once,
-            ..DEFAULTS
-        },
-    ),
     (
         &["--explain", "1000000"],
         Asked {
@@ -188,7 +161,7 @@ fn words_are_read(rt: HostRuntime) {
 }
 
 /// Words that ask for nothing.
-const REFUSED: [&[&str]; 45] = [
+const REFUSED: [&[&str]; 39] = [
     &["fly"],
     &["help", "fly"],
     &["--fly"],
@@ -228,12 +201,6 @@ const REFUSED: [&[&str]; 45] = [
     &["watch", "--limit", "1"],
     &["watch", "--denials", "--denials"],
     &["facts", "--strict"],
-    &["--advice", "each"],
-    &["--advice", "check"],
-    &["--advice", "--advice"],
-    &["facts", "--advice"],
-    &["watch", "--region"],
-    &["--region", "1000001"],
 ];
 
 /// Whether this is answered to the words.
