@@ -294,6 +294,8 @@ fn shown_of(asked: Asked<'_>) -> Shown {
 fn reporting_of(asked: Asked<'_>) -> Reporting {
     Reporting {
         explain: asked.explain,
+        advice: asked.advice,
+        region: asked.region,
         strict: asked.strict,
         leaks: asked.leaks,
         summary: asked.summary,

@@ -8,6 +8,7 @@ ghost use Rattle.jg_program.specs.Reported.{EndsSummed, IsToldIf, Reports, SaysL
 use crate::about::{About, push_about};
 use crate::stop::{ProgramEnd, ProgramStop, Said, Status, quietly};
 use crate::summary::push_summary;
+use jg_args::Advising;
 use jg_explain::{explain_first, explain_leaks};
 use jg_guard::{Guard, NoMemory};
 use jg_script::write_leaks;
@@ -18,6 +19,10 @@ use std::alloc::{AllocError, Global};
 pub struct Reporting {
     /// How many denials are explained at most: the first ones.
     pub explain: u32,
+    /// Whether and how it is advised on a record.
+    pub advice: Advising,
+    /// In a critical region longer than so many calls something is amiss.
+    pub region: u32,
     /// Whether a denied call is told by the status.
     pub strict: bool,
     /// Whether it is said what is left behind.
