@@ -47,7 +47,8 @@ def read_table():
             columns = it['passes'], it['throws'], it['runs']
             found[it['row']] = Row(section, takes_of(it['takes']), env, *columns, words_of(it['effect']))
         elif it['calls']:
-            row = Row(section, takes_of(it['fixed']) + [ARGUMENTS], env, 'Usual', it['tells'], 'Java', words_of(it['does']))
+            takes, columns = takes_of(it['fixed']) + [ARGUMENTS], ('Usual', it['tells'], 'Java')
+            row = Row(section, takes, env, *columns, words_of(it['does']))
             found |= {it['calls'] + form: row for form in ('', 'A', 'V')}
         else:
             takes = [('array_of', it['item']), ('Buffer', it['item'] + 's'), ('Mode',)]
@@ -60,10 +61,10 @@ FUNCTIONS = read_table()
 # ---- what rules say
 
 
-def read_sentences(word):
-    """What crates/jg_telling/specs/Sentences.antt says of each rule by that word."""
-    with open(f'{TOP}/crates/jg_telling/specs/Sentences.antt', encoding='utf-8') as file:
-        return dict(re.findall(word + r' (\w+) =\s+codes "(.*)"', file.read()))
+def read_sentences(word, path='crates/jg_telling/specs/Sentences.antt'):
+    """What the definitions say by that word of each rule, or of what else the path tells."""
+    with open(f'{TOP}/{path}', encoding='utf-8') as file:
+        return dict(re.findall(rf'^{word} (\w+) =\s+codes "(.*)"', file.read(), re.M))
 
 
 SENTENCES, HELPS = read_sentences('sentence_of'), read_sentences('help_of')

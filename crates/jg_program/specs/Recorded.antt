@@ -87,7 +87,7 @@ summary_if true new = record_summary new
 
 -- ---- advice
 
--- how advice is asked for: of critical regions of more calls than that, and each, or the first of each kind and function
+-- how advice is asked for: of regions of more calls than that, and each, or the first of each kind and function
 abbrev pub asked_by : ℕ → Advising → Option (ℕ × Bool)
 asked_by region Never = None
 asked_by region Once = Some (region, false)
