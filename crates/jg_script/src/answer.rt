@@ -58,8 +58,8 @@ pub fn answer_line<A: Allocator + Clone, B: Beside<A>, W: Write>(
     ensures setup { guard.new.setup ≡ guard.old.setup }
     ensures limit { guard.new.limit ≡ guard.old.limit }
     ensures device { WriterFails writer.old.failed writer.new.failed result }
-    ensures follows { B.follows beside.old guard.old.setup guard.old.journal
-        → B.follows beside.new guard.new.setup guard.new.journal }
+    ensures follows { (first : B) → B.follows first beside.old guard.old.setup guard.old.journal
+        → B.follows first beside.new guard.new.setup guard.new.journal }
 {
     let (tid, env, call) = match read_call(alloc, text) {
         Ok(spelt) => spelt,

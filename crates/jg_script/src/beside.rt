@@ -14,8 +14,9 @@ use std::alloc::Allocator;
 
 /// What stands beside a guard, and follows each call that the guard takes.
 pub trait Beside<A: Allocator + Clone> {
-    // It followed the calls of these entries, the newest first. What that means each says itself.
-    ghost follows: { Self → StatedSetup → List Entry → Type 0 };
+    // What it was at first became this by the calls of these entries, the newest first. What that means each says
+    // itself.
+    ghost follows: { Self → Self → StatedSetup → List Entry → Type 0 };
 
     /// The guard takes the call of line number `line`, as `Guard::call` does. `Limit` and `NoMemory` are the guard's
     /// refusals, and leave its journal as it was.
@@ -33,8 +34,8 @@ pub trait Beside<A: Allocator + Clone> {
         ensures legal { Legal guard.old.setup guard.old.journal → Legal guard.new.setup guard.new.journal }
         ensures setup { guard.new.setup ≡ guard.old.setup }
         ensures limit { guard.new.limit ≡ guard.old.limit }
-        ensures follows { follows self.old guard.old.setup guard.old.journal
-            → follows self.new guard.new.setup guard.new.journal };
+        ensures follows { (first : Self) → follows first self.old guard.old.setup guard.old.journal
+            → follows first self.new guard.new.setup guard.new.journal };
 }
 
 /// Nothing beside the guard.
@@ -42,7 +43,7 @@ pub trait Beside<A: Allocator + Clone> {
 pub struct Alone;
 
 impl<A: Allocator + Clone> Beside<A> for Alone {
-    ghost follows = { λ alone setup journal. Unit {0} };
+    ghost follows = { λ first alone setup journal. Unit {0} };
 
     #[inline(always)]
     fn take_call(
@@ -57,6 +58,28 @@ impl<A: Allocator + Clone> Beside<A> for Alone {
             Ok(_) => Ok(()),
             Err(Refusal::Limit(_)) => Err(RunFault::Limit { line }),
             Err(Refusal::NoMemory(_)) => Err(RunFault::NoMemory { line }),
+        }
+    }
+}
+
+/// That, where there is one.
+impl<A: Allocator + Clone, B: Beside<A>> Beside<A> for Option<B> {
+    ghost use Rattle.jg_script.specs.Beside.{FollowsIf};
+
+    ghost follows = { λ first beside setup journal. FollowsIf B.follows first beside setup journal };
+
+    #[inline(always)]
+    fn take_call(
+        &mut self,
+        guard: &mut Guard<A>,
+        tid: Tid,
+        env: Option<EnvId>,
+        call: Call,
+        line: u64,
+    ) -> Result<(), RunFault> {
+        match self {
+            None => Alone.take_call(guard, tid, env, call, line),
+            Some(beside) => beside.take_call(guard, tid, env, call, line),
         }
     }
 }

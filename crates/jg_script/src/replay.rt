@@ -82,8 +82,8 @@ fn replay_line<A: Allocator + Clone, B: Beside<A>>(
     ensures legal { Legal guard.old.setup guard.old.journal → Legal guard.new.setup guard.new.journal }
     ensures setup { guard.new.setup ≡ guard.old.setup }
     ensures limit { guard.new.limit ≡ guard.old.limit }
-    ensures follows { B.follows beside.old guard.old.setup guard.old.journal
-        → B.follows beside.new guard.new.setup guard.new.journal }
+    ensures follows { (first : B) → B.follows first beside.old guard.old.setup guard.old.journal
+        → B.follows first beside.new guard.new.setup guard.new.journal }
 {
     let Ok(begun) = read_begun(alloc, text) else {
         return Err(RunFault::NoMemory { line });
@@ -134,7 +134,8 @@ pub fn replay_beside<A: Allocator + Clone, B: Beside<A>, R: BufRead>(
     ensures setup { guard.new.setup ≡ guard.old.setup }
     ensures limit { guard.new.limit ≡ guard.old.limit }
     ensures reader { ReaderFails reader.old.failed reader.new.failed result }
-    ensures follows { B.follows beside.old guard.old.setup [] → B.follows beside.new guard.new.setup guard.new.journal }
+    ensures follows { (first : B) → B.follows first beside.old guard.old.setup []
+        → B.follows first beside.new guard.new.setup guard.new.journal }
 {
     let mut out = String::new(alloc);
     let limit = u64::from(guard.limit());

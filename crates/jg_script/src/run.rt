@@ -33,7 +33,8 @@ pub fn check_beside<A: Allocator + Clone, B: Beside<A>, R: BufRead, W: Write>(
     ensures limit { guard.new.limit ≡ guard.old.limit }
     ensures reader { ReaderFails reader.old.failed reader.new.failed result }
     ensures writer { WriterFails writer.old.failed writer.new.failed result }
-    ensures follows { B.follows beside.old guard.old.setup [] → B.follows beside.new guard.new.setup guard.new.journal }
+    ensures follows { (first : B) → B.follows first beside.old guard.old.setup []
+        → B.follows first beside.new guard.new.setup guard.new.journal }
 {
     let limit = u64::from(guard.limit());
     for line in 1..limit + 2 {

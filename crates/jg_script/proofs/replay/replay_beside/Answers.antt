@@ -57,5 +57,5 @@ loop-line-preserved g c =
           c.in-Ok.ensures.bytes c.in_default.not-Nothing c.in_default-taken.not-LastLine c.replay_line.ensures.setup c.replay_line.ensures.limit c.replay_line.ensures.legal same;
       legal = c.replay_line.ensures.legal c.loop-line.invariant.legal;
       sound = c.in-Ok.ensures.sound ∙ c.loop-line.invariant.sound;
-      follows = λ none. c.replay_line.ensures.follows (c.loop-line.invariant.follows none);
+      follows = λ first none. c.replay_line.ensures.follows first (c.loop-line.invariant.follows first none);
     }

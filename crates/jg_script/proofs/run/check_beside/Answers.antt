@@ -109,7 +109,7 @@ loop-line-preserved g c =
       script = more.2 inv.script;
       setup = c.answer_line.ensures.setup ∙ inv.setup;
       reads = c.in-Ok.ensures.sound ∙ inv.reads;
-      follows = λ none. c.answer_line.ensures.follows (inv.follows none);
+      follows = λ first none. c.answer_line.ensures.follows first (inv.follows first none);
       writes = c.in_default.ensures.device ∙ (c.hand_over.ensures.failed ∙ inv.writes);
     }
 

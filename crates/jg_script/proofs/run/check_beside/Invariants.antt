@@ -16,5 +16,5 @@ invariant-loop-line g l = record {
   setup : l.guard.setup ≡ l.initial.guard.setup;
   reads : l.reader.failed ≡ l.initial.reader.failed;
   writes : l.writer.failed ≡ l.initial.writer.failed;
-  follows : g.B.Beside.follows l.initial.beside l.initial.guard.setup [] → g.B.Beside.follows l.beside l.guard.setup l.guard.journal;
+  follows : (first : g.row.B.Denot) → g.B.Beside.follows first l.initial.beside l.initial.guard.setup [] → g.B.Beside.follows first l.beside l.guard.setup l.guard.journal;
 }
