@@ -2,7 +2,7 @@
 
 use thiserror::Error;
 
-/// The greatest number that `--limit`, `--explain` and `--turns` take.
+/// The greatest number that `--limit`, `--explain`, `--region` and `--turns` take.
 pub const MAX_NUMBER: u32 = 1_000_000;
 
 /// Why the words of a command line ask for nothing.
@@ -36,6 +36,16 @@ pub enum Task<'a> {
     Migrate(&'a str),
 }
 
+/// How advice is told.
+#[derive(Clone, Copy, Debug, PartialEq, Eq)]
+pub enum Advising {
+    Never,
+    /// Once for each kind and function.
+    Once,
+    /// Each time.
+    Each,
+}
+
 /// What the words ask for.
 #[derive(Clone, Copy, Debug, PartialEq, Eq)]
 pub struct Asked<'a> {
@@ -46,6 +56,11 @@ pub struct Asked<'a> {
     pub limit: u32,
     /// How many denials are explained, from the first on: 0 to 1,000,000, and 0 where none is given.
     pub explain: u32,
+    /// Whether and how it is advised of what is legal and likely wrong.
+    pub advice: Advising,
+    /// How many calls may be made in a critical region before advice calls it long: 0 to 1,000,000, and 1,000 where
+    /// none is given.
+    pub region: u32,
     /// Whether a denied call ends the program with a status of its own.
     pub strict: bool,
     /// How often a worker tries to enter a busy monitor: 1 to 1,000,000, and 1,000 where none is

@@ -6,6 +6,6 @@ mod asked;
 mod refused;
 mod words;
 
-pub use asked::{ArgsFault, Asked, MAX_NUMBER, Task};
+pub use asked::{Advising, ArgsFault, Asked, MAX_NUMBER, Task};
 pub use refused::refused_word;
 pub use words::{help_text, read_words};

@@ -2,13 +2,15 @@
 
 ghost use Rattle.std.specs.Prelude.{◌≤◌, IfOk};
 
-use crate::asked::{ArgsFault, Asked, MAX_NUMBER, Task};
+use crate::asked::{Advising, ArgsFault, Asked, MAX_NUMBER, Task};
 use clap::error::ErrorKind;
 use clap::{Arg, ArgAction, ArgMatches, Command, value_parser};
 use jg_version::VERSION;
 use std::alloc::{AllocError, Global};
 
 const DEFAULT_TURNS: u32 = 1000;
+
+const DEFAULT_REGION: u32 = 1000;
 
 const STATUSES: &str =
     "Exit status: 0 done, 1 the journal differs, 2 faulty script, setup or arguments, 3 limit met or no memory, \
@@ -42,6 +44,25 @@ fn explain_arg<'a>(alloc: Global) -> Arg<'a> {
         .value_name("N")
         .value_parser(value_parser!(u32))
         .help("explains the first N denials on standard error, 0 to 1000000 [default: 0]")
+}
+
+fn advice_arg<'a>(alloc: Global) -> Arg<'a> {
+    Arg::new(alloc, "advice")
+        .long("advice")
+        .value_name("WHICH")
+        .num_args(0..=1)
+        .default_missing_value("once")
+        .help(
+            "advises on standard error of what is legal and likely wrong: once for each kind and function, or all",
+        )
+}
+
+fn region_arg<'a>(alloc: Global) -> Arg<'a> {
+    Arg::new(alloc, "region")
+        .long("region")
+        .value_name("N")
+        .value_parser(value_parser!(u32))
+        .help("advises of critical regions of more than N calls, 0 to 1000000 [default: 1000]")
 }
 
 fn strict_arg<'a>(alloc: Global) -> Arg<'a> {
@@ -79,6 +100,8 @@ fn with_options<'a>(alloc: Global, command: Command<'a>) -> Result<Command<'a>, 
         .arg(setup_arg(alloc))?
         .arg(limit_arg(alloc))?
         .arg(explain_arg(alloc))?
+        .arg(advice_arg(alloc))?
+        .arg(region_arg(alloc))?
         .arg(strict_arg(alloc))?
         .arg(summary_arg(alloc))
 }
@@ -118,6 +141,8 @@ fn watch_command<'a>(alloc: Global) -> Result<Command<'a>, AllocError> {
         .arg(setup_arg(alloc))?
         .arg(denials_arg(alloc))?
         .arg(explain_arg(alloc))?
+        .arg(advice_arg(alloc))?
+        .arg(region_arg(alloc))?
         .arg(strict_arg(alloc))?
         .arg(counts_arg(alloc))?
         .arg(leaks_arg(alloc))
@@ -197,9 +222,21 @@ fn number(matches: &ArgMatches<'_>, id: &str, least: u32, default: u32) -> Resul
     }
 }
 
+fn advising(matches: &ArgMatches<'_>) -> Result<Advising, ArgsFault> {
+    if !matches.contains_id("advice") {
+        return Ok(Advising::Never);
+    }
+    match matches.get_str("advice") {
+        Some("once") => Ok(Advising::Once),
+        Some("all") => Ok(Advising::Each),
+        _ => Err(ArgsFault::Refused),
+    }
+}
+
 fn make_asked<'a>(task: Task<'a>, matches: &ArgMatches<'a>) -> Result<Asked<'a>, ArgsFault>
     ensures limit { IfOk result (λ asked. asked.limit ≤ 1000000) }
     ensures explain { IfOk result (λ asked. asked.explain ≤ 1000000) }
+    ensures region { IfOk result (λ asked. asked.region ≤ 1000000) }
     ensures turns { IfOk result (λ asked. (1 ≤ asked.turns) × (asked.turns ≤ 1000000)) }
 {
     Ok(Asked {
@@ -207,6 +244,8 @@ fn make_asked<'a>(task: Task<'a>, matches: &ArgMatches<'a>) -> Result<Asked<'a>,
         setup: matches.get_str("setup"),
         limit: number(matches, "limit", 0, MAX_NUMBER)?,
         explain: number(matches, "explain", 0, 0)?,
+        advice: advising(matches)?,
+        region: number(matches, "region", 0, DEFAULT_REGION)?,
         strict: matches.get_flag("strict"),
         turns: number(matches, "turns", 1, DEFAULT_TURNS)?,
         denials: matches.get_flag("denials"),
@@ -219,6 +258,8 @@ fn has_options(matches: &ArgMatches<'_>) -> bool {
     matches.contains_id("setup")
         || matches.contains_id("limit")
         || matches.contains_id("explain")
+        || matches.contains_id("advice")
+        || matches.contains_id("region")
         || matches.get_flag("strict")
         || matches.get_flag("leaks")
         || matches.get_flag("summary")
@@ -237,6 +278,7 @@ fn fault_of(kind: ErrorKind) -> ArgsFault {
 pub fn read_words<'a>(alloc: Global, words: &'a [&'a str]) -> Result<Asked<'a>, ArgsFault>
     ensures limit { IfOk result (λ asked. asked.limit ≤ 1000000) }
     ensures explain { IfOk result (λ asked. asked.explain ≤ 1000000) }
+    ensures region { IfOk result (λ asked. asked.region ≤ 1000000) }
     ensures turns { IfOk result (λ asked. (1 ≤ asked.turns) × (asked.turns ≤ 1000000)) }
 {
     let Ok(command) = command(alloc) else {

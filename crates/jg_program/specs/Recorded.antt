@@ -1,5 +1,5 @@
 -- How the program ends with a record, and what it says of that.
-use Rattle.std.specs.Prelude.{◌≡◌, ◌⊎◌, ◌++◌, ℕ, Bool, true, false, if◌then◌else◌, List, [], ◌∷◌, codes, Option, Some, None, Result, Ok, Err}
+use Rattle.std.specs.Prelude.{◌≡◌, ◌⊎◌, ◌++◌, ◌||◌, ℕ, Bool, true, false, if◌then◌else◌, List, [], ◌∷◌, codes, Option, Some, None, Result, Ok, Err}
 use Rattle.std.specs.Fmt.{decimal}
 use Rattle.std.specs.Io.KnownBytes.{Appends, Keeps}
 use Rattle.jg_words.specs.declared.buffer.BufId.{BufId}
@@ -9,12 +9,15 @@ use Rattle.jg_monitors.specs.declared.owned_monitor.OwnedMonitor.{OwnedMonitor}
 use Rattle.jg_leaks.specs.Left.{AreLeft}
 use Rattle.jg_core.specs.Facts.{parts_of}
 use Rattle.jg_record.specs.Parts.{AreParts}
+use Rattle.jg_advice.specs.Moments.{Moment}
+use Rattle.jg_advice.specs.Told.{CounselState, Counsels, Tells as Advises}
 use Rattle.jg_script.specs.Leaks.{leaks_text}
 use Rattle.jg_watch.specs.declared.ending.Ended.{Ended}
 use Rattle.jg_watch.specs.declared.ending.Ended.TheVariants.{All, CutOff, Differs, Impossible}
 use Rattle.jg_watch.specs.declared.ending.Stop.{Stop}
 use Rattle.jg_watch.specs.declared.ending.Stop.TheVariants.{Write}
 use Rattle.jg_watch.specs.declared.watch.Shown.{Shown}
+use Rattle.jg_watch.specs.Counselled.{advising_of}
 use Rattle.jg_watch.specs.Ends.{Watches}
 use Rattle.jg_watch.specs.Explained.{Explaining}
 use Rattle.jg_watch.specs.Lines.{any_denied}
@@ -25,6 +28,7 @@ use Rattle.jg_program.specs.declared.stop.ProgramStop.{ProgramStop}
 use Rattle.jg_program.specs.declared.stop.ProgramStop.TheVariants.{Leaks, Record, Summary}
 use Rattle.jg_program.specs.declared.stop.Status.{Status}
 use Rattle.jg_program.specs.declared.stop.Status.TheVariants as status
+use Rattle.jg_program.specs.Advising.{advice_asked, is_advised}
 use Rattle.jg_program.specs.Reported.{TellsNothing, is_explained, said_text}
 use Rattle.jg_program.specs.Summary.{record_summary}
 use Rattle.jg_program.specs.Verdicts.{difference_text}
@@ -42,15 +46,16 @@ IsEndText (Impossible number) line text = (event : List ℕ) × (answer note : O
 
 -- how the lines of a record were answered, and what that did to the bytes of the reader and of the writer
 abbrev pub AnswersRecord : StatedSetup → Shown → Option (List ℕ) → Option (List ℕ) → List ℕ → Option (List ℕ)
-    → Option (List ℕ) → Watching → Explaining → Result Ended ProgramStop → Type 0
+    → Option (List ℕ) → Watching → Explaining → Option CounselState → Result Ended ProgramStop → Type 0
 -- the record ended so, and that was written behind its answers
-AnswersRecord s shown input input' line bytes bytes' new explained (Ok ended) =
+AnswersRecord s shown input input' line bytes bytes' new explained counsel (Ok ended) =
     (before : Option (List ℕ)) × (text : List ℕ)
-    × Watches s shown input input' line bytes before new explained (Ok ended) × IsEndText ended line text
+    × Watches s shown input input' line bytes before new explained counsel (Ok ended) × IsEndText ended line text
     × Appends before bytes' text
 -- it was stopped so; or what is to be written couldn't be written or handed on
-AnswersRecord s shown input input' line bytes bytes' new explained (Err stop) = (fault : Stop) × (stop ≡ Record fault)
-    × (((before : Option (List ℕ)) × Watches s shown input input' line bytes before new explained (Err fault)
+AnswersRecord s shown input input' line bytes bytes' new explained counsel (Err stop) =
+    (fault : Stop) × (stop ≡ Record fault)
+    × (((before : Option (List ℕ)) × Watches s shown input input' line bytes before new explained counsel (Err fault)
     × Keeps before bytes') ⊎ ((number : ℕ) × (fault ≡ Write number)))
 
 -- ---- what is said on standard error
@@ -78,6 +83,19 @@ abbrev pub summary_if : Bool → Watching → List ℕ
 summary_if false new = []
 summary_if true new = record_summary new
 
+-- ---- advice
+
+-- the advice on what happened by the lines; none without a counsel
+abbrev pub IsAdvice : Option CounselState → List ℕ → Type 0
+IsAdvice None text = text ≡ []
+IsAdvice (Some x) text = (h : List Moment) → Counsels x h → Advises x.adviser.most x.noting.all h text
+
+-- the explanations, with the advice that is asked for behind them; None where memory ran out for one of them
+abbrev pub IsSaid : Reporting → Option (List ℕ) → Option CounselState → Option (List ℕ) → Type 0
+IsSaid r explained counsel None = Unit {0}
+IsSaid r explained counsel (Some said) = (advising_of counsel ≡ advice_asked r) × ((explanations advice : List ℕ)
+    × (explained ≡ Some explanations) × IsAdvice counsel advice × (said ≡ explanations ++ advice))
+
 -- ---- how the program ends
 
 -- a line that differs or can't be is told by the status, and where that is asked for, a denied question
@@ -91,8 +109,8 @@ abbrev pub status_ended : Bool → List ℕ → Result Ended ProgramStop → Res
 status_ended strict tally (Ok ended) = Ok (end_status strict tally ended)
 status_ended strict tally (Err stop) = Err stop
 
--- the program ends so after a record, of which this was explained: first it is said that the record is cut off, if it
--- is, then come the explanations, then what is left behind, and last the summary
+-- the program ends so after a record, of which this was explained and advised: first it is said that the record is cut
+-- off, if it is, then come the explanations and the advice, then what is left behind, and last the summary
 abbrev pub EndsWith : Reporting → Watching → Option (List ℕ) → Result Ended ProgramStop → ProgramEnd → Type 0
 EndsWith r new (Some explained) (Ok ended) ending =
     ((ending.ended ≡ Ok (end_status r.strict new.tally ended))
@@ -108,13 +126,15 @@ EndsWith r new (Some explained) (Ok ended) ending =
 EndsWith r new (Some explained) (Err stop) ending = (ending.ended ≡ Err stop)
     × ((said_text ending.said ≡ explained ++ summary_if r.summary new)
     ⊎ ((r.summary ≡ true) × (said_text ending.said ≡ explained ++ codes "summary: no memory\n")))
--- memory ran out for what is explained
-EndsWith r new None result ending = (is_explained r ≡ true) × TellsNothing (status_ended r.strict new.tally result) ending
+-- memory ran out for what is explained or advised
+EndsWith r new None result ending =
+    (is_explained r || is_advised r ≡ true) × TellsNothing (status_ended r.strict new.tally result) ending
 
 -- how the answering of a record under this setup ended
 abbrev pub EndsRecord : Reporting → StatedSetup → Shown → Option (List ℕ) → Option (List ℕ) → Option (List ℕ)
     → Option (List ℕ) → ProgramEnd → Type 0
 EndsRecord r s shown input input' bytes bytes' ending =
-    (line : List ℕ) × (new : Watching) × (explained : Explaining) × (result : Result Ended ProgramStop)
-    × AnswersRecord s shown input input' line bytes bytes' new explained result × (explained.most ≡ r.explain)
-    × EndsWith r new explained.text result ending
+    (line : List ℕ) × (new : Watching) × (explained : Explaining) × (counsel : Option CounselState)
+    × (said : Option (List ℕ)) × (result : Result Ended ProgramStop)
+    × AnswersRecord s shown input input' line bytes bytes' new explained counsel result
+    × (explained.most ≡ r.explain) × IsSaid r explained.text counsel said × EndsWith r new said result ending

@@ -1,7 +1,8 @@
 //! What is told beside the answers to a record: by the status, and on standard error.
 
-ghost use Rattle.std.specs.Prelude.{◌≡◌, ◌++◌, Err, List, None, Ok, OnErr, OnOk, Some, string_bytes, true, ℕ};
+ghost use Rattle.std.specs.Prelude.{◌≡◌, ◌++◌, ◌||◌, Err, List, None, Ok, OnErr, OnOk, Some, string_bytes, true, ℕ};
 ghost use Rattle.std.specs.Option.{option_map};
+ghost use Rattle.jg_program.specs.Advising.{is_advised};
 ghost use Rattle.jg_program.specs.Recorded.{EndsWith, SaysLeft, end_said, end_status, lists_left, status_ended, summary_if};
 ghost use Rattle.jg_program.specs.Reported.{is_explained, said_text};
 
@@ -134,8 +135,8 @@ fn report_stopped(
     }
 }
 
-/// How the program ends after the answers to a record, of which so much was explained; `None` where memory ran out for
-/// that. All of what is said is made before any of it is written.
+/// How the program ends after the answers to a record, of which so much was explained and advised; `None` where memory
+/// ran out for that. All of what is said is made before any of it is written.
 pub fn report_record(
     alloc: Global,
     reporting: Reporting,
@@ -143,7 +144,7 @@ pub fn report_record(
     explained: Option<String>,
     ended: Result<Ended, ProgramStop>,
 ) -> ProgramEnd
-    requires { option_map string_bytes explained ≡ None → is_explained reporting ≡ true }
+    requires { option_map string_bytes explained ≡ None → is_explained reporting || is_advised reporting ≡ true }
     ensures { EndsWith reporting watch.now (option_map string_bytes explained) ended result }
 {
     let Some(explained) = explained else {

@@ -1,5 +1,5 @@
 -- What the steps of answering a line say of the line.
-use Rattle.std.proofs.Common.{◌≡◌, ◌++◌, ℕ, Bool, true, false, List, [], ◌∷◌, Option, Result, Ok, Err, ap, if◌then◌else◌, inl, inr, refl, subst, sym, ◌∙◌}
+use Rattle.std.proofs.Common.{◌≡◌, ◌++◌, ℕ, Bool, true, false, List, [], ◌∷◌, Option, Some, None, Result, Ok, Err, ap, if◌then◌else◌, inl, inr, refl, subst, sym, ◌∙◌}
 use Rattle.std.specs.Io.KnownBytes.{Appends, Consumes}
 use Rattle.jg_lines.specs.Devices.{IsOneLine}
 use Rattle.jg_policy.specs.Stated.{StatedSetup}
@@ -19,7 +19,7 @@ use Rattle.jg_watch.specs.declared.line.Step.{Step}
 use Rattle.jg_watch.specs.declared.line.Step.TheVariants as step
 use Rattle.jg_watch.specs.declared.watch.Shown.{Shown}
 use Rattle.jg_watch.specs.Ends.{IsWhole, ReaderFails, StopsAt}
-use Rattle.jg_watch.specs.Lines.{Agrees, Said, Says, answer_of, comment_text, is_comment, is_shown, line_text, shown_text}
+use Rattle.jg_watch.specs.Lines.{Agrees, Said, Says, answer_of, comment_text, is_comment, is_shown, line_text, shown_text, what_of}
 use Rattle.jg_watch.specs.Steps.{AnswersLine, AnswersNext, IsNoRead, Replies, WritesLine, WritesReply, answered, unasked}
 use Rattle.jg_watch.specs.Told.{Stands, Told, Watching, after, can_be_told, operand_denied, replied}
 
@@ -76,7 +76,7 @@ step_by n x (Err stop) = Err stop
 
 pub replied_line : (s : StatedSetup) (shown : Shown) (told : Told) (old new : Watching) (line : List ℕ) (bytes bytes' : Option (List ℕ)) (n : ℕ) (x : Said) (r : Replied)
     (result : Result Bool Stop) → old.core.setup ≡ s → Says s line x → Stands old told → Replies old new x.says x.operands x.gone r
-    → WritesReply x.answer r.reply (shown_text shown x.event x.note r.reply) bytes bytes' n result → AnswersLine s shown told new line bytes bytes' n (step_by n r result)
+    → WritesReply x.answer r.reply (shown_text shown x.event x.note r.reply) bytes bytes' n result → AnswersLine s shown told new x.operands x.gone line bytes bytes' n (step_by n r result)
 replied_line s shown told old new line bytes bytes' n x r result same says stands replies wrote = by result wrote
   where
     can : can_be_told s told x.says x.gone ≡ true
@@ -91,18 +91,21 @@ replied_line s shown told old new line bytes bytes' n x r result same says stand
     now : Stands new (after x.says x.gone told)
     now = replies.stands told stands
 
+    what : what_of line r.event r.reply x.operands x.gone ≡ what_of line (Some x.says) r.reply x.operands x.gone
+    what = ap (λ e. what_of line e r.reply x.operands x.gone) replies.event
+
     by : (result : Result Bool Stop) → WritesReply x.answer r.reply (shown_text shown x.event x.note r.reply) bytes bytes' n result
-        → AnswersLine s shown told new line bytes bytes' n (step_by n r result)
+        → AnswersLine s shown told new x.operands x.gone line bytes bytes' n (step_by n r result)
     by (Ok true) (agrees, written) =
-        (shown_text shown x.event x.note r.reply, after x.says x.gone told, inr (x, says, record { can = can; is = is }, agrees, operand, refl, refl), now, written)
+        (shown_text shown x.event x.note r.reply, after x.says x.gone told, inr (x, says, record { can = can; is = is }, agrees, operand, what, refl, refl), now, written)
     by (Ok false) (differs, kept) = ((x, r.reply, says, record { can = can; is = is }, differs), kept, refl)
     by (Err (NoMemory number)) wrote = wrote
     by (Err (Write number)) (agrees, front, is_n) = (
       (
-        answered line r (shown_text shown x.event x.note r.reply),
+        answered line r x.operands x.gone (shown_text shown x.event x.note r.reply),
         after x.says x.gone told,
         refl,
-        inr (x, says, record { can = can; is = is }, agrees, operand, refl, refl),
+        inr (x, says, record { can = can; is = is }, agrees, operand, what, refl, refl),
         front,
       ),
       is_n,
@@ -113,25 +116,25 @@ replied_line s shown told old new line bytes bytes' n x r result same says stand
 
 -- the same of a comment
 abbrev step_of : Result (Unit {0}) Stop → Result Step Stop
-step_of (Ok done) = Ok (step.Answered (unasked Nothing))
+step_of (Ok done) = Ok (step.Answered (unasked None Nothing))
 step_of (Err stop) = Err stop
 
-pub comment_line : (s : StatedSetup) (shown : Shown) (told : Told) (new : Watching) (line : List ℕ) (bytes bytes' : Option (List ℕ)) (n : ℕ) (result : Result (Unit {0}) Stop)
-    → is_comment line ≡ true → Stands new told → WritesLine (comment_text shown line) bytes bytes' n result → AnswersLine s shown told new line bytes bytes' n (step_of result)
-comment_line s shown told new line bytes bytes' n (Ok done) comment stands written = (comment_text shown line, told, inl (comment, refl, refl, refl, refl), stands, written)
-comment_line s shown told new line bytes bytes' n (Err (NoMemory number)) comment stands wrote = wrote
-comment_line s shown told new line bytes bytes' n (Err (Write number)) comment stands (front, is) =
-    ((answered line (unasked Nothing) (comment_text shown line), told, refl, inl (comment, refl, refl, refl, refl), front), is)
-comment_line s shown told new line bytes bytes' n (Err (Faulty number fault)) comment stands wrote = absurd wrote
-comment_line s shown told new line bytes bytes' n (Err (Limit number)) comment stands wrote = absurd wrote
-comment_line s shown told new line bytes bytes' n (Err (Read number)) comment stands wrote = absurd wrote
+pub comment_line : (s : StatedSetup) (shown : Shown) (told : Told) (new : Watching) (xs : List Argument) (gone : List ObjId) (line : List ℕ) (bytes bytes' : Option (List ℕ)) (n : ℕ) (result : Result (Unit {0}) Stop)
+    → is_comment line ≡ true → Stands new told → WritesLine (comment_text shown line) bytes bytes' n result → AnswersLine s shown told new xs gone line bytes bytes' n (step_of result)
+comment_line s shown told new xs gone line bytes bytes' n (Ok done) comment stands written = (comment_text shown line, told, inl (comment, refl, refl, refl, refl, refl), stands, written)
+comment_line s shown told new xs gone line bytes bytes' n (Err (NoMemory number)) comment stands wrote = wrote
+comment_line s shown told new xs gone line bytes bytes' n (Err (Write number)) comment stands (front, is) =
+    ((answered line (unasked None Nothing) xs gone (comment_text shown line), told, refl, inl (comment, refl, refl, refl, refl, refl), front), is)
+comment_line s shown told new xs gone line bytes bytes' n (Err (Faulty number fault)) comment stands wrote = absurd wrote
+comment_line s shown told new xs gone line bytes bytes' n (Err (Limit number)) comment stands wrote = absurd wrote
+comment_line s shown told new xs gone line bytes bytes' n (Err (Read number)) comment stands wrote = absurd wrote
 
-pub comment_answered : (s : StatedSetup) (shown : Shown) (told : Told) (new : Watching) (line : List ℕ) (bytes bytes' : Option (List ℕ)) (n : ℕ) (x : Replied)
-    → is_comment line ≡ true → Stands new told → Appends bytes bytes' (comment_text shown line) → x ≡ unasked Nothing
-    → AnswersLine s shown told new line bytes bytes' n (Ok (step.Answered x))
-comment_answered s shown told new line bytes bytes' n x comment stands written is =
-    subst (λ (y : Replied). AnswersLine s shown told new line bytes bytes' n (Ok (step.Answered y))) (sym is)
-    (comment_line s shown told new line bytes bytes' n (Ok tt) comment stands written)
+pub comment_answered : (s : StatedSetup) (shown : Shown) (told : Told) (new : Watching) (xs : List Argument) (gone : List ObjId) (line : List ℕ) (bytes bytes' : Option (List ℕ)) (n : ℕ) (x : Replied)
+    → is_comment line ≡ true → Stands new told → Appends bytes bytes' (comment_text shown line) → x ≡ unasked None Nothing
+    → AnswersLine s shown told new xs gone line bytes bytes' n (Ok (step.Answered x))
+comment_answered s shown told new xs gone line bytes bytes' n x comment stands written is =
+    subst (λ (y : Replied). AnswersLine s shown told new xs gone line bytes bytes' n (Ok (step.Answered y))) (sym is)
+    (comment_line s shown told new xs gone line bytes bytes' n (Ok tt) comment stands written)
 
 -- no line ends a record as its end does
 line_whole : (s : StatedSetup) (shown : Shown) (told : Told) (new : Watching) (line : List ℕ) (bytes bytes' : Option (List ℕ)) (n : ℕ) (ended : Ended)
@@ -142,13 +145,13 @@ line_whole s shown told new line bytes bytes' n (Differs number) stops = tt
 line_whole s shown told new line bytes bytes' n (Impossible number) stops = tt
 
 -- a line that was read whole is the next
-pub next_line : (s : StatedSetup) (shown : Shown) (told : Told) (new : Watching) (input input' : Option (List ℕ)) (line : List ℕ) (bytes bytes' : Option (List ℕ)) (n : ℕ)
-    (result : Result Step Stop) → IsOneLine line → Consumes input input' (line ++ 10 ∷ []) → AnswersLine s shown told new line bytes bytes' n result
-    → AnswersNext s shown told new input input' line bytes bytes' n result
-next_line s shown told new input input' line bytes bytes' n (Ok (step.Answered reply)) one taken answers = (taken, answers)
-next_line s shown told new input input' line bytes bytes' n (Ok (step.Ended ended)) one taken stops =
+pub next_line : (s : StatedSetup) (shown : Shown) (told : Told) (new : Watching) (xs : List Argument) (gone : List ObjId) (input input' : Option (List ℕ)) (line : List ℕ) (bytes bytes' : Option (List ℕ)) (n : ℕ)
+    (result : Result Step Stop) → IsOneLine line → Consumes input input' (line ++ 10 ∷ []) → AnswersLine s shown told new xs gone line bytes bytes' n result
+    → AnswersNext s shown told new xs gone input input' line bytes bytes' n result
+next_line s shown told new xs gone input input' line bytes bytes' n (Ok (step.Answered reply)) one taken answers = (taken, answers)
+next_line s shown told new xs gone input input' line bytes bytes' n (Ok (step.Ended ended)) one taken stops =
     (inl (one, taken, stops), line_whole s shown told new line bytes bytes' n ended stops)
-next_line s shown told new input input' line bytes bytes' n (Err stop) one taken stops = inl (one, taken, stops)
+next_line s shown told new xs gone input input' line bytes bytes' n (Err stop) one taken stops = inl (one, taken, stops)
 
 -- what is shown of an answered line
 pub shown_is : (shown : Shown) (event : List ℕ) (noted answer : Option (List ℕ)) (reply : Reply) → is_shown shown reply ≡ true → answer ≡ answer_of reply

@@ -6,8 +6,12 @@ use Rattle.jg_words.specs.declared.object.ObjId.{ObjId}
 use Rattle.jg_words.specs.declared.rule.Rule.{Rule}
 use Rattle.jg_words.specs.Rule.{number_of}
 use Rattle.jg_policy.specs.Stated.{StatedSetup}
+use Rattle.jg_text.specs.Faults.{fields}
+use Rattle.jg_advice.specs.Moments.{What, Called, Told as WasTold, Went}
+use Rattle.jg_advice.specs.Functions.{find_class}
 use Rattle.jg_questions.specs.declared.argument.Argument.{Argument}
 use Rattle.jg_record.specs.declared.event.Event.{Event}
+use Rattle.jg_record.specs.declared.event.Event.TheVariants.{Question, Fact as FactTold, Gone as AreGone, Bounds}
 use Rattle.jg_record.specs.declared.reply.Reply.{Reply}
 use Rattle.jg_record.specs.declared.reply.Reply.TheVariants.{Denied, Nothing, Passed}
 use Rattle.jg_record.specs.Events.{SpellsEvent}
@@ -81,20 +85,40 @@ pub record IsReplied (s : StatedSetup) (told : Told) (x : Said) (reply : Reply) 
   pub can : can_be_told s told x.says x.gone ≡ true
   pub is : reply ≡ replied s told x.says x.operands
 
--- a line, what it was answered, by which operand a question was denied, and what is written of the line
+-- the fourth field of a line, in which FindClass has its name
+abbrev pub fourth : List (List ℕ) → List ℕ
+fourth (first ∷ second ∷ third ∷ text ∷ texts) = text
+fourth texts = []
+
+abbrev pub name_in : List ℕ → List ℕ
+name_in line = fourth (fields line)
+
+-- what happened by a line's event that was answered so, as far as advice looks at it
+abbrev pub what_of : List ℕ → Option Event → Reply → List Argument → List ObjId → Option What
+what_of line None reply xs gone = None
+what_of line (Some (Question t env f)) Passed xs gone =
+    Some (Called t f xs (if f == find_class then name_in line else []))
+what_of line (Some (Question t env f)) reply xs gone = None
+what_of line (Some (FactTold fact)) reply xs gone = Some (WasTold fact)
+what_of line (Some AreGone) reply xs gone = Some (Went gone)
+what_of line (Some (Bounds bounds)) reply xs gone = None
+
+-- a line, what it was answered, by which operand a question was denied, what happened by it, and what is written of it
 pub record Answered : Type 0 where
   pub line : List ℕ
   pub reply : Reply
   pub operand : Option Argument
+  pub what : Option What
   pub out : List ℕ
 
 -- what a line says is told, and it is answered
 abbrev pub IsAnswered : StatedSetup → Shown → Told → Answered → Told → Type 0
 IsAnswered s shown told l told' =
-    ((is_comment l.line ≡ true) × (l.reply ≡ Nothing) × (l.operand ≡ None) × (told' ≡ told)
+    ((is_comment l.line ≡ true) × (l.reply ≡ Nothing) × (l.operand ≡ None) × (l.what ≡ None) × (told' ≡ told)
     × (l.out ≡ comment_text shown l.line))
     ⊎ ((x : Said) × Says s l.line x × IsReplied s told x l.reply × Agrees x.answer l.reply
-    × (l.operand ≡ operand_denied s told x.says x.operands) × (told' ≡ after x.says x.gone told)
+    × (l.operand ≡ operand_denied s told x.says x.operands)
+    × (l.what ≡ what_of l.line (Some x.says) l.reply x.operands x.gone) × (told' ≡ after x.says x.gone told)
     × (l.out ≡ shown_text shown x.event x.note l.reply))
 
 -- these lines, the newest first, were answered one after the other, and told this

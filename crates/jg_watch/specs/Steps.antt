@@ -16,18 +16,19 @@ use Rattle.jg_watch.specs.declared.line.Step.TheVariants as step
 use Rattle.jg_watch.specs.declared.event.Replied.{Replied}
 use Rattle.jg_watch.specs.declared.watch.Shown.{Shown}
 use Rattle.jg_watch.specs.Told.{Told, Stands, Watching, after, can_be_told, operand_denied, replied}
-use Rattle.jg_watch.specs.Lines.{Agrees, Answered, IsAnswered, is_denial}
+use Rattle.jg_watch.specs.Lines.{Agrees, Answered, IsAnswered, is_denial, what_of}
 use Rattle.jg_watch.specs.Ends.{EndsAt, IsWhole, StopsAt}
 use Rattle.jg_watch.specs.Explained.{Explaining}
 
 -- the reply to what is no question
-abbrev pub unasked : Reply → Replied
-unasked reply = record { reply = reply; operand = None }
+abbrev pub unasked : Option Event → Reply → Replied
+unasked e reply = record { event = e; reply = reply; operand = None }
 
 -- an event was asked or told, and answered
 pub record Replies (old new : Watching) (e : Event) (xs : List Argument) (gone : List ObjId) (x : Replied)
     : Type 0 where
   pub setup : new.core.setup ≡ old.core.setup
+  pub event : x.event ≡ Some e
   pub can : (told : Told) → Stands old told → can_be_told old.core.setup told e gone ≡ true
   pub is : (told : Told) → Stands old told → x.reply ≡ replied old.core.setup told e xs
   pub operand : (told : Told) → Stands old told → x.operand ≡ operand_denied old.core.setup told e xs
@@ -58,19 +59,26 @@ WritesReply told reply text bytes bytes' n (Err (Write number)) = Agrees told re
     × ((k : ℕ) × (k < length text) × Appends bytes bytes' (take k text)) × (number ≡ n)
 WritesReply told reply text bytes bytes' n result = ⊥
 
--- the line was answered so, and that is written of it
-abbrev pub answered : List ℕ → Replied → List ℕ → Answered
-answered line x out = record { line = line; reply = x.reply; operand = x.operand; out = out }
+-- the line was answered so, it lists these, and that is written of it
+abbrev pub answered : List ℕ → Replied → List Argument → List ObjId → List ℕ → Answered
+answered line x xs gone out = record {
+  line = line;
+  reply = x.reply;
+  operand = x.operand;
+  what = what_of line x.event x.reply xs gone;
+  out = out;
+}
 
 -- line number n was answered, or the record ends at it
-abbrev pub AnswersLine : StatedSetup → Shown → Told → Watching → List ℕ → Option (List ℕ) → Option (List ℕ)
-    → ℕ → Result Step Stop → Type 0
-AnswersLine s shown told new line bytes bytes' n (Ok (step.Answered x)) =
-    (out : List ℕ) × (told' : Told) × IsAnswered s shown told (answered line x out) told'
+abbrev pub AnswersLine : StatedSetup → Shown → Told → Watching → List Argument → List ObjId → List ℕ
+    → Option (List ℕ) → Option (List ℕ) → ℕ → Result Step Stop → Type 0
+AnswersLine s shown told new xs gone line bytes bytes' n (Ok (step.Answered x)) =
+    (out : List ℕ) × (told' : Told) × IsAnswered s shown told (answered line x xs gone out) told'
     × Stands new told' × Appends bytes bytes' out
-AnswersLine s shown told new line bytes bytes' n (Ok (step.Ended ended)) =
+AnswersLine s shown told new xs gone line bytes bytes' n (Ok (step.Ended ended)) =
     StopsAt s shown told line bytes bytes' n (Ok ended)
-AnswersLine s shown told new line bytes bytes' n (Err stop) = StopsAt s shown told line bytes bytes' n (Err stop)
+AnswersLine s shown told new xs gone line bytes bytes' n (Err stop) =
+    StopsAt s shown told line bytes bytes' n (Err stop)
 
 -- no reader failed
 abbrev pub IsNoRead : {N : Type 0} → Result N Stop → Type 0
@@ -78,14 +86,14 @@ IsNoRead (Err (Read line)) = ⊥
 IsNoRead result = Unit {0}
 
 -- the next line, whose number is n, was read and answered, or the record ends there
-abbrev pub AnswersNext : StatedSetup → Shown → Told → Watching → Option (List ℕ) → Option (List ℕ) → List ℕ
-    → Option (List ℕ) → Option (List ℕ) → ℕ → Result Step Stop → Type 0
-AnswersNext s shown told new input input' line bytes bytes' n (Ok (step.Answered x)) =
+abbrev pub AnswersNext : StatedSetup → Shown → Told → Watching → List Argument → List ObjId → Option (List ℕ)
+    → Option (List ℕ) → List ℕ → Option (List ℕ) → Option (List ℕ) → ℕ → Result Step Stop → Type 0
+AnswersNext s shown told new xs gone input input' line bytes bytes' n (Ok (step.Answered x)) =
     Consumes input input' (line ++ 10 ∷ []) × ((out : List ℕ) × (told' : Told)
-    × IsAnswered s shown told (answered line x out) told' × Stands new told' × Appends bytes bytes' out)
-AnswersNext s shown told new input input' line bytes bytes' n (Ok (step.Ended ended)) =
+    × IsAnswered s shown told (answered line x xs gone out) told' × Stands new told' × Appends bytes bytes' out)
+AnswersNext s shown told new xs gone input input' line bytes bytes' n (Ok (step.Ended ended)) =
     EndsAt s shown told input input' line bytes bytes' n (Ok ended) × IsWhole new told (Ok ended)
-AnswersNext s shown told new input input' line bytes bytes' n (Err stop) =
+AnswersNext s shown told new xs gone input input' line bytes bytes' n (Err stop) =
     EndsAt s shown told input input' line bytes bytes' n (Err stop)
 
 -- the reply was counted, if it is a question's

@@ -12,18 +12,21 @@ use jg_record::{Event, Lists, Reply};
 use jg_words::ObjId;
 use std::alloc::Allocator;
 
-/// What an event was answered, and the operand by which a question was denied, where one breaks the rule.
+/// An event, where the line has one, what it was answered, and the operand by which a question was denied, where one
+/// breaks the rule.
 #[derive(Clone, Copy, Debug, PartialEq, Eq)]
 pub struct Replied {
+    pub event: Option<Event>,
     pub reply: Reply,
     pub operand: Option<Argument>,
 }
 
 /// The reply to what is no question.
-pub fn unasked(reply: Reply) -> Replied
-    ensures { result ≡ unasked reply }
+pub fn unasked(event: Option<Event>, reply: Reply) -> Replied
+    ensures { result ≡ unasked event reply }
 {
     Replied {
+        event,
         reply,
         operand: None,
     }
@@ -69,21 +72,22 @@ pub fn answer_event<A: Allocator + Copy>(
                 .core
                 .ask(watch.bounds, tid, env, function, &lists.arguments);
             Ok(Replied {
+                event: Some(event),
                 reply: reply_of(answer),
                 operand: operand_of(answer, &lists.arguments),
             })
         }
         Event::Fact(fact) => match tell(&mut watch.core, fact) {
-            Ok(reply) => Ok(unasked(reply)),
+            Ok(reply) => Ok(unasked(Some(event), reply)),
             Err(why) => Err(why),
         },
         Event::Gone => match watch.core.gone(&lists.objects) {
-            Ok(()) => Ok(unasked(Reply::Nothing)),
+            Ok(()) => Ok(unasked(Some(event), Reply::Nothing)),
             Err(_) => Err(Untold::Impossible),
         },
         Event::Bounds(bounds) => {
             watch.bounds = bounds;
-            Ok(unasked(Reply::Nothing))
+            Ok(unasked(Some(event), Reply::Nothing))
         }
     }
 }

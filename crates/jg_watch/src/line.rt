@@ -21,7 +21,7 @@ use std::io::Write;
 /// earlier one had.
 #[derive(Drop)]
 pub struct Room {
-    lists: Lists,
+    pub(crate) lists: Lists,
     answer: String,
     out: Vec<u8>,
 }
@@ -141,7 +141,8 @@ fn write_reply<W: Write>(
     shown: Shown,
     parts: Parts<'_>,
     reply: Reply,
-    room: &mut Room,
+    answer: &mut String,
+    out: &mut Vec<u8>,
     line: u64,
 ) -> Result<bool, Stop>
     ensures written { WritesReply (option_copied parts.entry.answer) reply
@@ -149,21 +150,21 @@ fn write_reply<W: Write>(
         (W.contents writer.old.device) (W.contents writer.new.device) line result }
     ensures device { WriterFails writer.old.failed writer.new.failed result }
 {
-    room.answer.clear();
-    let Ok(()) = push_answer(&mut room.answer, reply) else {
+    answer.clear();
+    let Ok(()) = push_answer(answer, reply) else {
         return Err(Stop::NoMemory { line });
     };
-    let answer = answer_of(reply, room.answer.as_bytes());
+    let answer = answer_of(reply, answer.as_bytes());
     if !agrees(parts.answer, answer) {
         return Ok(false);
     }
     if !is_shown(shown, reply) {
         return Ok(true);
     }
-    let Ok(()) = make_line(&mut room.out, parts.event, answer, parts.note) else {
+    let Ok(()) = make_line(out, parts.event, answer, parts.note) else {
         return Err(Stop::NoMemory { line });
     };
-    match write_line(writer, &room.out, line) {
+    match write_line(writer, out, line) {
         Ok(()) => Ok(true),
         Err(stop) => Err(stop),
     }
@@ -174,7 +175,7 @@ fn write_comment<W: Write>(
     writer: &mut Watched<W>,
     shown: Shown,
     text: &[u8],
-    room: &mut Room,
+    out: &mut Vec<u8>,
     line: u64,
 ) -> Result<(), Stop>
     ensures written { WritesLine (comment_text shown text.now) (W.contents writer.old.device)
@@ -183,8 +184,8 @@ fn write_comment<W: Write>(
 {
     match shown {
         Shown::Denials => Ok(()),
-        Shown::All => match make_comment(&mut room.out, text) {
-            Ok(()) => write_line(writer, &room.out, line),
+        Shown::All => match make_comment(out, text) {
+            Ok(()) => write_line(writer, out, line),
             Err(_) => Err(Stop::NoMemory { line }),
         },
     }
@@ -209,7 +210,7 @@ pub fn answer_line<A: Allocator + Copy, W: Write>(
     line: u64,
 ) -> Result<Step, Stop>
     ensures answers { (told : Told) → Stands watch.old told → AnswersLine watch.old.core.setup shown told watch.new
-        text.now (W.contents writer.old.device) (W.contents writer.new.device) line result }
+        room.new.lists.arguments.items room.new.lists.objects.items text.now (W.contents writer.old.device) (W.contents writer.new.device) line result }
     ensures setup { watch.new.core.setup ≡ watch.old.core.setup }
     ensures tally { watch.new.tally ≡ watch.old.tally }
     ensures denied { watch.new.denied ≡ watch.old.denied }
@@ -217,8 +218,8 @@ pub fn answer_line<A: Allocator + Copy, W: Write>(
     ensures device { WriterFails writer.old.failed writer.new.failed result }
 {
     if is_comment(text) {
-        return match write_comment(writer, shown, text, room, line) {
-            Ok(()) => Ok(Step::Answered(unasked(Reply::Nothing))),
+        return match write_comment(writer, shown, text, &mut room.out, line) {
+            Ok(()) => Ok(Step::Answered(unasked(None, Reply::Nothing))),
             Err(stop) => Err(stop),
         };
     }
@@ -234,7 +235,8 @@ pub fn answer_line<A: Allocator + Copy, W: Write>(
         Err(Untold::Full) => return Err(Stop::Limit { line }),
         Err(Untold::NoMemory) => return Err(Stop::NoMemory { line }),
     };
-    match write_reply(writer, shown, parts, answered.reply, room, line) {
+    let (answer, out) = (&mut room.answer, &mut room.out);
+    match write_reply(writer, shown, parts, answered.reply, answer, out, line) {
         Ok(true) => Ok(Step::Answered(answered)),
         Ok(false) => Ok(Step::Ended(Ended::Differs { line })),
         Err(stop) => Err(stop),

@@ -1,5 +1,6 @@
 //! Records that are watched under the closed setup.
 
+mod advised;
 mod devices;
 mod explained;
 mod records;
@@ -41,6 +42,7 @@ fn watch_anew<R: BufRead, W: Write>(
         writer,
         &mut text,
         &mut explanations,
+        &mut None,
     );
     Ok((result, watch.passed()))
 }

@@ -42,6 +42,7 @@ fn watched(alloc: Global, setup: &str, record: &[u8]) -> Result<String, Fail> {
         &mut writer,
         &mut text,
         &mut explanations,
+        &mut None,
     );
     match (ended, String::from_utf8(writer.into_inner())) {
         (Ok(Ended::All { .. }), Ok(written)) => Ok(written),

@@ -1,6 +1,6 @@
 //! Tests of the command line: words, what they ask for, which are refused, and the texts of the help.
 
-use jg_args::{ArgsFault, Asked, Task, help_text, read_words, refused_word};
+use jg_args::{Advising, ArgsFault, Asked, Task, help_text, read_words, refused_word};
 use jg_version::VERSION;
 use std::alloc::{AllocError, Global};
 use std::test::Fail;
@@ -10,6 +10,8 @@ const DEFAULTS: Asked<'static> = Asked {
     setup: None,
     limit: 1_000_000,
     explain: 0,
+    advice: Advising::Never,
+    region: 1000,
     strict: false,
     turns: 1000,
     denials: false,
@@ -22,9 +24,36 @@ const STATUSES: &str =
     4 reading or writing failed, 5 done, and a call was denied (with --strict).";
 
 /// Words, and what they ask for.
-const READ: [(&[&str], Asked<'static>); 17] = [
+const READ: [(&[&str], Asked<'static>); 20] = [
     (&[], DEFAULTS),
     (&["check"], DEFAULTS),
+    (
+        &["watch", "--advice", "--region", "0"],
+        Asked {
+            task: Task::Watch,
+            advice: Advising::Once,
+            region: 0,
+            ..DEFAULTS
+        },
+    ),
+    (
+        &["watch", "--advice=all", "--region=7"],
+        Asked {
+            task: Task::Watch,
+            advice: Advising::Each,
+            region: 7,
+            ..DEFAULTS
+        },
+    ),
+    (
+        &["watch", "--advice", "once", "--strict"],
+        Asked {
+            task: Task::Watch,
+            advice: Advising::Once,
+            strict: true,
+            ..DEFAULTS
+        },
+    ),
     (
         &["--explain", "1000000"],
         Asked {
@@ -161,7 +190,7 @@ fn words_are_read(rt: HostRuntime) {
 }
 
 /// Words that ask for nothing.
-const REFUSED: [&[&str]; 39] = [
+const REFUSED: [&[&str]; 45] = [
     &["fly"],
     &["help", "fly"],
     &["--fly"],
@@ -201,6 +230,12 @@ const REFUSED: [&[&str]; 39] = [
     &["watch", "--limit", "1"],
     &["watch", "--denials", "--denials"],
     &["facts", "--strict"],
+    &["watch", "--advice", "each"],
+    &["watch", "--advice", "--advice"],
+    &["--advice"],
+    &["verify", "--advice"],
+    &["watch", "--region"],
+    &["watch", "--region", "1000001"],
 ];
 
 /// Whether this is answered to the words.

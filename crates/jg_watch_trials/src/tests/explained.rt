@@ -21,6 +21,7 @@ fn explained(alloc: Global, most: u32) -> Result<String, Fail> {
         &mut writer,
         &mut text,
         &mut explanations,
+        &mut None,
     );
     let _ = writer.into_inner();
     match explanations.into_text() {

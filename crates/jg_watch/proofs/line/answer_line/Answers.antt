@@ -1,4 +1,4 @@
-use Rattle.std.proofs.Common.{◌∙◌, Ok, Err, ap, refl, sym, true, false}
+use Rattle.std.proofs.Common.{[], ◌∙◌, Ok, Err, ap, refl, sym, true, false}
 use Rattle.std.proofs.KnownBytes.{Keeps-refl}
 use Rattle.jg_watch.specs.Told.{Watching}
 use Rattle.jg_watch.proofs.Answering.{comment_answered, comment_line, line_unread, replied_line, reply_unread, says_line}
@@ -6,11 +6,11 @@ use Rattle.jg_watch.proofs.line.answer_line.Goals as goal
 
 pub returns-in-Ok-clause-answers : goal.returns-in-Ok-clause-answers
 returns-in-Ok-clause-answers g c told stands =
-    comment_answered _ c.args.shown told _ _ _ _ c.args.line c.unasked.result (sym c.is_comment.ensures ∙ c.if-is_comment.true) stands c.in-Ok.ensures.written c.unasked.ensures
+    comment_answered _ c.args.shown told _ _ _ _ _ _ c.args.line c.unasked.result (sym c.is_comment.ensures ∙ c.if-is_comment.true) stands c.in-Ok.ensures.written c.unasked.ensures
 
 pub returns-in-Err-clause-answers : goal.returns-in-Err-clause-answers
 returns-in-Err-clause-answers g c told stands =
-    comment_line _ c.args.shown told _ _ _ _ c.args.line (Err c.in-Err.stop) (sym c.is_comment.ensures ∙ c.if-is_comment.true) stands c.in-Err.ensures.written
+    comment_line _ c.args.shown told _ [] [] _ _ _ c.args.line (Err c.in-Err.stop) (sym c.is_comment.ensures ∙ c.if-is_comment.true) stands c.in-Err.ensures.written
 
 pub returns-in-Err-Impossible-clause-answers : goal.returns-in-Err-Impossible-clause-answers
 returns-in-Err-Impossible-clause-answers g c told stands =

@@ -1,5 +1,9 @@
-use Rattle.std.proofs.Common.{◌<◌, ◌-◌, ◌^◌, ◌∙◌, ℕ, List, Ok, Err, ap, arith, refl, subst, sym}
-use Rattle.jg_core.specs.Kernel.{CoreState}
+use Rattle.std.proofs.Common.{◌<◌, ◌-◌, ◌^◌, ◌∙◌, ℕ, List, Option, Ok, Err, ap, arith, refl, subst, sym}
+use Rattle.jg_core.specs.Kernel.{CoreStands, CoreState}
+use Rattle.jg_advice.specs.Moments.{Moment, What, facts_of}
+use Rattle.jg_watch.specs.Counselled.{CounselsIf, with_moment}
+use Rattle.jg_watch.specs.Lines.{what_of}
+use Rattle.jg_watch.specs.Told.{Watching}
 use Rattle.std.specs.Prelude.{slice_index_or}
 use Rattle.jg_watch.proofs.Counting.{denied_fits, fits}
 use Rattle.jg_watch.proofs.Lasting.{begins, ended_at, goes_on, still}
@@ -7,9 +11,10 @@ use Rattle.jg_watch.proofs.run.watch_lines.Goals as goal
 
 pub loop-line-init : goal.loop-line-init
 loop-line-init g c = record {
-  watched = begins _ c.args.shown _ _ _ _ c.requires.new c.requires.none c.requires.denied c.requires.explained;
+  watched = begins _ c.args.shown _ _ _ _ _ c.requires.new c.requires.none c.requires.denied c.requires.explained c.requires.advised;
   setup = refl;
   most = refl;
+  advising = refl;
   reads = refl;
   writes = refl;
 }
@@ -27,27 +32,34 @@ count-requires-clause-denied g c =
 pub returns-in-Ok-Ended-clause-watches : goal.returns-in-Ok-Ended-clause-watches
 returns-in-Ok-Ended-clause-watches g c =
     let inv = c.loop-line.invariant in
-    let h = still _ c.args.shown _ _ _ _ _ _ _ _ inv.watched c.hand_over.ensures.kept in
+    let h = still _ c.args.shown _ _ _ _ _ _ _ _ _ inv.watched c.hand_over.ensures.kept in
     let ends = rw c.in-Ok-Ended.field-0-is at (c.in-Ok-Ended.ensures.answers h.told h.stands) in
-    ended_at _ _ c.args.shown _ _ _ _ _ _ _ c.loop-line.watch _ _ _ (Ok c.in-Ok-Ended.ended) h inv.setup c.answer_next.ensures.tally c.answer_next.ensures.denied ends.0 ends.1
+    ended_at _ _ c.args.shown _ _ _ _ _ _ _ c.loop-line.watch _ _ _ _ (Ok c.in-Ok-Ended.ended) h inv.setup c.answer_next.ensures.tally c.answer_next.ensures.denied ends.0 ends.1
 
 pub returns-in-Err-clause-watches : goal.returns-in-Err-clause-watches
 returns-in-Err-clause-watches g c =
     let inv = c.loop-line.invariant in
-    let h = still _ c.args.shown _ _ _ _ _ _ _ _ inv.watched c.hand_over.ensures.kept in
-    ended_at _ _ c.args.shown _ _ _ _ _ _ _ c.loop-line.watch _ _ _ (Err c.in-Err.stop) h inv.setup c.answer_next.ensures.tally c.answer_next.ensures.denied
+    let h = still _ c.args.shown _ _ _ _ _ _ _ _ _ inv.watched c.hand_over.ensures.kept in
+    ended_at _ _ c.args.shown _ _ _ _ _ _ _ c.loop-line.watch _ _ _ _ (Err c.in-Err.stop) h inv.setup c.answer_next.ensures.tally c.answer_next.ensures.denied
     (c.in-Err.ensures.answers h.told h.stands) tt
 
 pub loop-line-preserved : goal.loop-line-preserved
 loop-line-preserved g c =
     let inv = c.loop-line.invariant in
-    let h = still _ c.args.shown _ _ _ _ _ _ _ _ inv.watched c.hand_over.ensures.kept in
+    let h = still _ c.args.shown _ _ _ _ _ _ _ _ _ inv.watched c.hand_over.ensures.kept in
     let answers = rw c.in-Ok-Answered.field-0-is at (c.in-Ok-Answered.ensures.answers h.told h.stands) in
+    let what : List ℕ → Option What = λ text. what_of text c.in-Ok-Answered.replied.event c.in-Ok-Answered.replied.reply c.answer_next.new.room.lists.arguments.items c.answer_next.new.room.lists.objects.items in
+    let advised = subst (λ (text : List ℕ). (hist : List Moment) → CounselsIf c.loop-line.counsel hist
+    → CoreStands c.watch.inside.core (facts_of (with_moment c.loop-line.line (what text) hist)) → CounselsIf c.advise.new.counsel (with_moment c.loop-line.line (what text) hist))
+    c.deref.ensures.value c.advise.ensures.counsels in
     record {
-      watched = goes_on _ _ c.args.shown _ _ _ _ _ _ _ c.loop-line.watch c.answer_next.new.watch _ _ _ _ c.in-Ok-Answered.replied h inv.setup answers c.answer_next.ensures.tally
-          c.answer_next.ensures.denied (rw c.denied.ensures at c.note.ensures) c.count.ensures.tally c.count.ensures.denied c.count.ensures.core c.count.ensures.bounds;
+      watched = goes_on _ _ c.args.shown _ _ _ _ _ _ _ c.loop-line.watch c.answer_next.new.watch _ _ _ _ c.in-Ok-Answered.replied _ _ _ _ h inv.setup answers c.answer_next.ensures.tally
+          c.answer_next.ensures.denied (rw c.denied.ensures at c.note.ensures) c.count.ensures.tally c.count.ensures.denied c.count.ensures.core c.count.ensures.bounds
+          (λ hist counsels stands. advised hist counsels (subst (λ (k : CoreState). CoreStands k (facts_of (with_moment c.loop-line.line (what c.answer_next.new.text.items) hist)))
+          (sym (ap (λ (w : Watching). w.core) c.watch.view_is)) stands));
       setup = ap (λ (x : CoreState). x.setup) c.count.ensures.core ∙ c.answer_next.ensures.setup ∙ inv.setup;
       most = c.note.ensures.most ∙ inv.most;
+      advising = c.advise.ensures.advising ∙ inv.advising;
       reads = c.in-Ok-Answered.ensures.reader ∙ inv.reads;
       writes = c.in-Ok-Answered.ensures.writer ∙ (c.hand_over.ensures.failed ∙ inv.writes);
     }

@@ -1,0 +1,2 @@
+mod Counselling
+mod Moments
