@@ -11,6 +11,7 @@ import collections
 import sys
 
 from ends import End, RULES
+from record_advice import Adviser
 from record_words import Fault, HELPS, SENTENCES, SPELT, Setup, fits, is_fact, read_fact, read_question
 
 MOST_BYTES, MOST_INT = 65_536, 2**31 - 1
@@ -18,6 +19,8 @@ IMPOSSIBLE = 'impossible'
 # The exit statuses: all lines were answered, also where the last one is cut off; an answer is another one than the
 # core's, or a fact can't be; a line is faulty; a question was denied, where `--strict` asks for that.
 ANSWERED, OTHERWISE, FAULTY, DENIED = 0, 1, 2, 5
+# What asks for advice.
+ADVISING = '--advice', '--advice=once', '--advice=all'
 
 # What a reference names where it names no object.
 NOTHING, NULL = 'nothing', 'null'
@@ -71,8 +74,7 @@ def detached(m, q):
 
 def in_critical(m, q):
     """3: a critical buffer that the caller was lent is open, and the function may not be called then."""
-    return q.row.passes not in ('Critical', 'Both') and any(
-        maker == q.thread and it.family in CRITICAL for (maker, _), it in m.buffers.items())
+    return q.row.passes not in ('Critical', 'Both') and m.is_in_region(q.thread)
 
 
 def pending(m, q):
@@ -235,12 +237,21 @@ def culprit(m, q, judge):
 Buffer = collections.namedtuple('Buffer', 'family object via length')
 
 
+class Frame(dict):
+    """The objects of a frame's live locals by their numbers, and for how many it has room. A native method is promised
+    room for 16."""
+
+    def __init__(self, room=16):
+        super().__init__()
+        self.room = room
+
+
 class Thread:
     def __init__(self):
         # How many sessions it began, and how many references and buffers it was handed in all of them.
         self.sessions = self.references = self.buffers = 0
         # The session's base and then each native method that it is in; none without a session. Each is a list of
-        # frames, the oldest first. A frame has the objects of its live locals by their numbers.
+        # frames, the oldest first.
         self.activations = []
         self.pending = None
 
@@ -312,6 +323,12 @@ class Machine:
                     return frame[it[2]]
         return NOTHING
 
+    def is_in_region(self, t):
+        return any(maker == t and it.family in CRITICAL for (maker, _), it in self.buffers.items())
+
+    def is_copy(self, buffer):
+        return buffer in self.buffers and self.buffers[buffer].family not in CRITICAL
+
     def is_here(self, o):
         return o < self.setup.count or o in self.objects
 
@@ -379,7 +396,7 @@ class Machine:
             return IMPOSSIBLE
         it = self.threads.setdefault(t, Thread())
         it.sessions += 1
-        it.activations = [[{}]]
+        it.activations = [[Frame()]]
         return f'E{t}.{it.sessions}'
 
     def told_ends(self, t):
@@ -394,7 +411,7 @@ class Machine:
         """What was pending is its caller's."""
         if not self.is_attached(t):
             return IMPOSSIBLE
-        self.threads[t].activations.append([{}])
+        self.threads[t].activations.append([Frame()])
         self.threads[t].pending = None
 
     def told_leaves(self, t, o):
@@ -406,10 +423,10 @@ class Machine:
         return self.kept(t, o)
 
     def told_pushed(self, t, room):
-        """No rule speaks of the room of a frame."""
+        """No rule speaks of the room of a frame. Advice does."""
         if not self.is_attached(t):
             return IMPOSSIBLE
-        self.threads[t].activations[-1].append({})
+        self.threads[t].activations[-1].append(Frame(room))
 
     def told_popped(self, t, o):
         if self.pushed(t) == 0 or o is not None and not self.is_here(o):
@@ -418,7 +435,11 @@ class Machine:
         return self.kept(t, o)
 
     def told_ensured(self, t, room):
-        return None if self.is_attached(t) else IMPOSSIBLE
+        """Room for so many more."""
+        if not self.is_attached(t):
+            return IMPOSSIBLE
+        frame = self.threads[t].activations[-1][-1]
+        frame.room = max(frame.room, len(frame) + room)
 
     def told_raised(self, t, o):
         if not self.is_attached(t) or not self.is_here(o):
@@ -538,6 +559,10 @@ def is_denial(answer):
     return answer is not None and answer.startswith(b'deny ')
 
 
+def number_of(option, options, default):
+    return next((int(it.split('=')[1]) for it in options if it.startswith(f'{option}=')), default)
+
+
 class Watch:
     """A run of `jg watch`. `status` is None as long as it goes on."""
 
@@ -546,8 +571,11 @@ class Watch:
         self.lines, self.status, self.fault = 0, None, ''
         # How often a question was answered by what, how many denials are explained, and their explanations.
         self.answers = collections.Counter()
-        self.most = next((int(it.split('=')[1]) for it in options if it.startswith('--explain=')), 0)
-        self.explained = ''
+        self.most, self.explained = number_of('--explain', options, 0), ''
+        # The fields of the line's event; what advises, where an option asks for that.
+        self.fields, asked = [], [it for it in options if it in ADVISING]
+        most = number_of('--region', options, 1_000)
+        self.adviser = Adviser(self.machine, most, asked[0].endswith('all')) if asked else None
 
     def take(self, line):
         """What is written on standard output of the next line, which has a line feed."""
@@ -581,16 +609,25 @@ class Watch:
         """The core's answer, or None. The bytes of the event are judged before all else of it."""
         if not all(0x20 <= byte <= 0x7E for byte in event):
             raise Fault('NotAscii')
-        fields = event.decode().split(' ')
-        answer = self.machine.tell(fields) if is_fact(fields) else self.machine.ask(fields)
+        self.fields = event.decode().split(' ')
+        answer = self.machine.tell(self.fields) if is_fact(self.fields) else self.machine.ask(self.fields)
         return answer and answer.encode()
 
     def count(self, answer):
-        """Counts and explains what was answered. A line at which the run ends is none of it."""
+        """Counts, explains and advises on what was answered. A line at which the run ends is none of it."""
         if is_denial(answer) and self.denied() < self.most:
             self.explained += self.explanation(answer.decode())
         if answer == b'passed' or is_denial(answer):
             self.answers[answer.decode()] += 1
+        if self.adviser and not is_denial(answer):
+            self.advise()
+
+    def advise(self):
+        if is_fact(self.fields):
+            self.adviser.told(self.lines, read_fact(self.fields, self.machine.setup))
+        else:
+            name, text = [*self.fields[2:], ''][:2]
+            self.adviser.called(self.lines, read_question(self.fields), name, text)
 
     def explanation(self, answer):
         rule = answer.split()[2]
@@ -606,6 +643,7 @@ class Watch:
             status = FAULTY if is_long else DENIED if '--strict' in self.options and self.denied() else ANSWERED
             said = f'line {self.lines + 1}: {"LineTooLong" if is_long else "cut off"}\n' if rest else ''
         said += self.explained
+        said += self.adviser.end() if self.adviser else ''
         if '--leaks' in self.options and status in (ANSWERED, DENIED):
             said += ''.join(f'{line}\n' for line in self.machine.leaks())
         if '--summary' in self.options:

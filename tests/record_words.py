@@ -17,9 +17,9 @@ ARGUMENTS = ('Arguments',)
 
 # Operands and effects are the table's words, as ('object',), ('array_of', 'int'), ('Value', 'int'), ('Hands', 'Local').
 # A family is the word that a record has for it, as ('Buffer', 'ints'), ('Lends', 'critical').
-Row = collections.namedtuple('Row', 'takes takes_env passes throws runs effect')
+Row = collections.namedtuple('Row', 'section takes takes_env passes throws runs effect')
 
-ENTRY = re.compile(r'under \w+ (?P<env>true|false)'
+ENTRY = re.compile(r'under (?P<section>\w+) (?P<env>true|false)'
                    r'|row "(?P<row>\w+)" \w+ (?P<takes>\[\]|\(.*?\[\]\)) (?P<passes>\w+) (?P<throws>\w+) (?P<runs>\w+)'
                    r' (?P<effect>\w+|\([\w ]+(?:\([\w ]+\))?\))'
                    r'|calls "(?P<calls>\w+)" (?P<fixed>\(.*?\[\]\)) (?P<tells>\w+) (?P<does>\w+|\([\w ]+\))'
@@ -39,19 +39,20 @@ def read_table():
     """The row of each function, by its name."""
     with open(f'{TOP}/crates/jg_functions/specs/Table.antt', encoding='utf-8') as file:
         text = ' '.join(re.sub(r'--.*', '', file.read()).split())
-    found, env = {}, None
+    found, section, env = {}, None, None
     for it in ENTRY.finditer(text):
         if it['env']:
-            env = it['env'] == 'true'
+            section, env = it['section'], it['env'] == 'true'
         elif it['row']:
             columns = it['passes'], it['throws'], it['runs']
-            found[it['row']] = Row(takes_of(it['takes']), env, *columns, words_of(it['effect']))
+            found[it['row']] = Row(section, takes_of(it['takes']), env, *columns, words_of(it['effect']))
         elif it['calls']:
-            row = Row(takes_of(it['fixed']) + [ARGUMENTS], env, 'Usual', it['tells'], 'Java', words_of(it['does']))
+            takes, columns = takes_of(it['fixed']) + [ARGUMENTS], ('Usual', it['tells'], 'Java')
+            row = Row(section, takes, env, *columns, words_of(it['does']))
             found |= {it['calls'] + form: row for form in ('', 'A', 'V')}
         else:
             takes = [('array_of', it['item']), ('Buffer', it['item'] + 's'), ('Mode',)]
-            found[it['released']] = Row(takes, env, 'Pending', 'Never', 'Quiet', ('GivesBack',))
+            found[it['released']] = Row(section, takes, env, 'Pending', 'Never', 'Quiet', ('GivesBack',))
     return found
 
 
@@ -60,10 +61,10 @@ FUNCTIONS = read_table()
 # ---- what rules say
 
 
-def read_sentences(word):
-    """What crates/jg_telling/specs/Sentences.antt says of each rule by that word."""
-    with open(f'{TOP}/crates/jg_telling/specs/Sentences.antt', encoding='utf-8') as file:
-        return dict(re.findall(word + r' (\w+) =\s+codes "(.*)"', file.read()))
+def read_sentences(word, path='crates/jg_telling/specs/Sentences.antt'):
+    """What the definitions say by that word of each rule, or of what else the path tells."""
+    with open(f'{TOP}/{path}', encoding='utf-8') as file:
+        return dict(re.findall(rf'^{word} (\w+) =\s+codes "(.*)"', file.read(), re.M))
 
 
 SENTENCES, HELPS = read_sentences('sentence_of'), read_sentences('help_of')

@@ -2,6 +2,7 @@
 use Rattle.std.proofs.Common.{◌≡◌, ◌<◌, ◌∙◌, ◌++◌, ◌⊎◌, ℕ, Bool, true, false, List, [], ◌∷◌, Option, Some, None, Result, Ok, Err, OnOk, IfOk, IfErr, String, Global, ap, arith, codes, inl, inr, refl, subst, sym}
 use Rattle.std.specs.Prelude.{◌||◌, IfSome, string_bytes}
 use Rattle.std.specs.Option.{is_some, option_map}
+use mathlib.Core.Bool.{true≢false}
 use Rattle.std.proofs.lemmas.Bool.Decides.{nat_tests}
 use Rattle.std.proofs.lemmas.Option.{none-some}
 use Rattle.std.proofs.KnownBytes.{Appends-kept, Appends-trans}
@@ -115,7 +116,7 @@ or_true true = refl
 or_true false = refl
 
 some_asked : (r : Reporting) (counsel : Option CounselState) → advising_of counsel ≡ advice_asked r → is_some counsel ≡ true → is_advised r ≡ true
-some_asked r None same none = absurd (false-true none)
+some_asked r None same none = absurd (true≢false (sym none))
 some_asked r (Some x) same some = ap is_some (sym same)
 
 -- what is lost was asked for
@@ -130,7 +131,9 @@ lost_asked r explained counsel begun b said asked refused same asks lost none = 
 
     by : (c : Bool) → b ≡ c → (b ≡ false) ⊎ ((explained ≡ None) ⊎ (is_some counsel ≡ true)) → (is_explained r || is_advised r) ≡ true
     by c is (inl unasked) = advised (refused unasked)
-    by c is (inr (inl gone)) = ap (λ e. e || is_advised r) (grind (arith, nat_tests, asks gone))
+    by c is (inr (inl gone)) =
+        let asked_for : is_explained r ≡ true = grind (arith, nat_tests, asks gone) in
+        ap (λ e. e || is_advised r) asked_for
     by true is (inr (inr some)) = advised (some_asked r counsel (same ∙ asked is) some)
     by false is (inr (inr some)) = advised (refused is)
 

@@ -210,7 +210,8 @@ pub fn answer_line<A: Allocator + Copy, W: Write>(
     line: u64,
 ) -> Result<Step, Stop>
     ensures answers { (told : Told) → Stands watch.old told → AnswersLine watch.old.core.setup shown told watch.new
-        room.new.lists.arguments.items room.new.lists.objects.items text.now (W.contents writer.old.device) (W.contents writer.new.device) line result }
+        room.new.lists.arguments.items room.new.lists.objects.items text.now (W.contents writer.old.device)
+        (W.contents writer.new.device) line result }
     ensures setup { watch.new.core.setup ≡ watch.old.core.setup }
     ensures tally { watch.new.tally ≡ watch.old.tally }
     ensures denied { watch.new.denied ≡ watch.old.denied }

@@ -30,8 +30,9 @@ fn answer_next<A: Allocator + Copy, R: BufRead, W: Write>(
 ) -> Result<Step, Stop>
     requires { 0 < line }
     ensures answers { (told : Told) → Stands watch.old told → AnswersNext watch.old.core.setup shown told watch.new
-        room.new.lists.arguments.items room.new.lists.objects.items (R.remaining reader.old.device) (R.remaining reader.new.device) text.new.items
-        (W.contents writer.old.device) (W.contents writer.new.device) line result }
+        room.new.lists.arguments.items room.new.lists.objects.items (R.remaining reader.old.device)
+        (R.remaining reader.new.device) text.new.items (W.contents writer.old.device) (W.contents writer.new.device)
+        line result }
     ensures setup { watch.new.core.setup ≡ watch.old.core.setup }
     ensures tally { watch.new.tally ≡ watch.old.tally }
     ensures denied { watch.new.denied ≡ watch.old.denied }
@@ -55,11 +56,11 @@ fn answer_next<A: Allocator + Copy, R: BufRead, W: Write>(
 }
 
 /// Answers the lines of a record: each is asked or told the core and written with its answer, before the next is read.
-/// The watch was told nothing before, and nothing was explained or advised; where memory runs out for an explanation or
-/// for advice, the record is answered all the same. `text` is room for a line: what it held is lost. At the end it holds the line that the
-/// record ended at, without its line feed, where it ended at one. What was written before stays written, and what the
-/// core was told stays told. `Read` and `Write` come only where the device failed, which is then marked so; `NoMemory`
-/// may come at any line.
+/// The watch was told nothing before, and nothing was explained or advised. With a counsel it is advised on what
+/// happened. Where memory runs out for an explanation or for advice, the record is answered all the same. `text` is room
+/// for a line: what it held is lost. At the end it holds the line that the record ended at, without its line feed, where
+/// it ended at one. What was written before stays written, and what the core was told stays told. `Read` and `Write`
+/// come only where the device failed, which is then marked so; `NoMemory` may come at any line.
 pub fn watch_lines<A: Allocator + Copy, R: BufRead, W: Write>(
     alloc: Global,
     watch: &mut Watch<A>,
