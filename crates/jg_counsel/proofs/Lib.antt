@@ -1,2 +1,2 @@
-mod Counselling
-mod Moments
+mod Standing
+mod Telling

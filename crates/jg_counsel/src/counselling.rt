@@ -1,25 +1,30 @@
 //! A counsel that stands beside a guard.
 
-ghost use Rattle.std.specs.Prelude.{◌≡◌, ◌∷◌, [], false, reverse, IfOk, IfSome, List, string_bytes};
+ghost use Rattle.std.specs.Prelude.{◌≡◌, ◌<◌, ◌∷◌, [], false, length, reverse, IfErr, IfOk, IfSome, List, None, OnErr, OnOk, string_bytes};
 ghost use Rattle.jg_advice.specs.Moments.{Moment};
-ghost use Rattle.jg_advice.specs.Told.{Counsels, Tells};
-ghost use Rattle.jg_counsel.specs.Counselled.{AreMoments, Counselled, IsQuestion, with_facts};
+ghost use Rattle.jg_advice.specs.Told.{CounselState, Counsels, Tells};
+ghost use Rattle.jg_counsel.specs.Counselled.{AreMoments, Counselled, Follows, IsQuestion, with_facts};
 ghost use Rattle.jg_entries.specs.Entries.{outcome_facts};
 ghost use Rattle.jg_facts.specs.Foreseen.{Foresees};
+ghost use Rattle.jg_guard.specs.Guard.{next_entry};
 ghost use Rattle.jg_policy.specs.Stated.{StatedSetup};
+ghost use Rattle.jg_rules.specs.Effects.{parts};
+ghost use Rattle.jg_rules.specs.Legal.{Legal};
 ghost use Rattle.jg_rules.specs.Parts.{Parts};
+ghost use Rattle.jg_rules.specs.Rules.{verdict};
 ghost use Rattle.jg_rules.specs.View.{ViewStands};
+ghost use Rattle.jg_script.specs.Entries.{FailsCall, Took};
 ghost use Rattle.jg_words.specs.Entry.{Entry as EntryOf};
 
 use crate::moments::{name_handed, tell_all};
 use jg_advice::Counsel;
 use jg_core::Fact;
 use jg_facts::{Foreseen, function_of, push_arguments};
-use jg_guard::{Guard, Refusal};
+use jg_guard::Guard;
 use jg_questions::Argument;
 use jg_rules::View;
 use jg_script::{Beside, RunFault};
-use jg_words::{Call, Entry, EnvId, Tid};
+use jg_words::{Call, Entry, EnvId, Rule, Tid};
 use std::alloc::{AllocError, Allocator, Global};
 
 /// A counsel beside a guard, which is told each call that the guard takes. It changes nothing of what the guard does.
@@ -95,6 +100,37 @@ impl<A: Allocator + Clone> Counselling<A> {
         }
     }
 
+    /// The guard takes a call that breaks no rule, and the counsel is told it.
+    fn pass(
+        &mut self,
+        guard: &mut Guard<A>,
+        tid: Tid,
+        env: Option<EnvId>,
+        call: Call,
+        line: u64,
+    ) -> Result<(), RunFault>
+        requires room { length guard.old.journal < guard.old.limit }
+        requires passes { verdict guard.old.setup (parts guard.old.setup guard.old.journal) tid.0 env call ≡ None }
+        ensures took { OnOk result (Took guard.old guard.new (next_entry guard.old tid env call)) }
+        ensures err { IfErr result (FailsCall guard.old guard.new (next_entry guard.old tid env call) line) }
+        ensures legal { Legal guard.old.setup guard.old.journal → Legal guard.new.setup guard.new.journal }
+        ensures setup { guard.new.setup ≡ guard.old.setup }
+        ensures limit { guard.new.limit ≡ guard.old.limit }
+        ensures follows { (first : CounselState) → Follows first self.old.counsel guard.old.setup guard.old.journal
+            → Follows first self.new.counsel guard.new.setup guard.new.journal }
+    {
+        // There are no more entries than a `u32` counts, so that the line's number fits.
+        let _most = guard.limit();
+        let number = guard.journal_len() as u64 + 1;
+        self.ask(&guard.view(), number, tid, &call);
+        if let Err(fault) = take_judged(guard, tid, env, call, None, line) {
+            self.counsel.lose();
+            return Err(fault);
+        }
+        self.tell(&guard.view(), number, guard.newest());
+        Ok(())
+    }
+
     /// What is told of all that was advised, with what is advised at the end; `None` where memory ran out for it.
     pub fn into_text(self) -> Option<String>
         ensures { IfSome result (λ text. (s : StatedSetup) (h : List EntryOf) → Counselled self.counsel s h
@@ -111,12 +147,36 @@ impl<A: Allocator + Clone> Counselling<A> {
     }
 }
 
+/// The guard takes the call; `broken` is what `Guard::judge` answers of it now.
+fn take_judged<A: Allocator + Clone>(
+    guard: &mut Guard<A>,
+    tid: Tid,
+    env: Option<EnvId>,
+    call: Call,
+    broken: Option<Rule>,
+    line: u64,
+) -> Result<(), RunFault>
+    requires room { length guard.old.journal < guard.old.limit }
+    requires judged { broken ≡ verdict guard.old.setup (parts guard.old.setup guard.old.journal) tid.0 env call }
+    ensures took { OnOk result (Took guard.old guard.new (next_entry guard.old tid env call)) }
+    ensures err { IfErr result (FailsCall guard.old guard.new (next_entry guard.old tid env call) line) }
+    ensures same { OnErr result (guard.new.journal ≡ guard.old.journal) }
+    ensures legal { Legal guard.old.setup guard.old.journal → Legal guard.new.setup guard.new.journal }
+    ensures setup { guard.new.setup ≡ guard.old.setup }
+    ensures limit { guard.new.limit ≡ guard.old.limit }
+{
+    match guard.call_judged(tid, env, call, broken) {
+        Ok(_) => Ok(()),
+        Err(_) => Err(RunFault::NoMemory { line }),
+    }
+}
+
 impl<A: Allocator + Clone> Beside<A> for Counselling<A> {
     ghost use Rattle.jg_counsel.specs.Counselled.{Follows};
 
     ghost follows = { λ first x s h. Follows first.counsel x.counsel s h };
 
-    /// The call is told to the counsel where it breaks no rule.
+    /// The same, and the counsel is told the call where it breaks no rule.
     fn take_call(
         &mut self,
         guard: &mut Guard<A>,
@@ -125,22 +185,12 @@ impl<A: Allocator + Clone> Beside<A> for Counselling<A> {
         call: Call,
         line: u64,
     ) -> Result<(), RunFault> {
-        let place = guard.journal_len();
-        if place >= guard.limit() as usize {
+        if guard.journal_len() >= guard.limit() as usize {
             return Err(RunFault::Limit { line });
         }
-        let broken = guard.judge(tid, env, &call);
-        let passes = broken.is_none();
-        if passes {
-            self.ask(&guard.view(), place as u64 + 1, tid, &call);
+        match guard.judge(tid, env, &call) {
+            None => self.pass(guard, tid, env, call, line),
+            Some(rule) => take_judged(guard, tid, env, call, Some(rule), line),
         }
-        let Ok(_) = guard.call_judged(tid, env, call, broken) else {
-            self.counsel.lose();
-            return Err(RunFault::NoMemory { line });
-        };
-        if passes {
-            self.tell(&guard.view(), place as u64 + 1, guard.newest());
-        }
-        Ok(())
     }
 }

@@ -2,7 +2,7 @@ use Rattle.std.proofs.Common.{◌≡◌, ◌∷◌, length, rules, ◌∙◌, ap
 use Rattle.jg_advice.specs.Moments.{Told}
 use Rattle.jg_advice.specs.Told.{Counsels}
 use Rattle.jg_counsel.specs.Counselled.{with_facts}
-use Rattle.jg_counsel.proofs.Moments.{none_told}
+use Rattle.jg_counsel.proofs.Telling.{none_told}
 use Rattle.jg_counsel.proofs.moments.tell_all.Goals as goal
 
 -- one more is told
