@@ -1,5 +1,6 @@
 mod Counsels
 mod Lefts
+mod Replaced
 mod Reports
 mod Standings
 mod Steps

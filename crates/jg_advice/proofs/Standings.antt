@@ -18,7 +18,7 @@ use Rattle.jg_advice.specs.Advised.{AreEnded, IsOnFact, ended, ending, grown, ha
 use Rattle.jg_advice.specs.Buffers.{commits, committed, is_copy, is_given_back, is_named, is_settled, released_by, written, written_by}
 use Rattle.jg_advice.specs.Doing.{cause, cause_by, doing, doing_after, doing_now, idle, restarts, source}
 use Rattle.jg_advice.specs.Functions.{collects, is_jni, meets}
-use Rattle.jg_advice.specs.Moments.{Called, Moment, Told, depth, parts_at}
+use Rattle.jg_advice.specs.Moments.{Called, Moment, Told, depth}
 use Rattle.jg_advice.specs.Monitors.{entered, entered_by}
 use Rattle.jg_advice.specs.Regions.{bordered, calls_in, collections_in, is_gone, region, region_by}
 use Rattle.jg_advice.specs.Standing.{AdviserState, Stands, kept}
@@ -28,25 +28,25 @@ found table q = lookup (same_name q) (named table)
 
 -- ---- a call
 
-module _ (old : AdviserState) (h : List Moment) (n : ℕ) (t : Tid) (f : ℕ) (row : Columns) (xs : List Argument) (name : List ℕ) (is : slice_get functions f ≡ Some row) (stands : Stands old h) where
+module _ (old : AdviserState) (h : List Moment) (p : Parts) (n : ℕ) (t : Tid) (f : ℕ) (row : Columns) (xs : List Argument) (name : List ℕ) (is : slice_get functions f ≡ Some row) (stands : Stands old h) where
   pub call_stands : (new : AdviserState)
-      → ((q : Name) → kept new.doings q ≡ (if same_name (t.0, depth (parts_at h) t.0) q then doing_after (Some row) (source n t f) (kept old.doings q) else kept old.doings q))
+      → ((q : Name) → kept new.doings q ≡ (if same_name (t.0, depth p t.0) q then doing_after (Some row) (source n t f) (kept old.doings q) else kept old.doings q))
       → ((q : Name) → found new.written q ≡ (if commits q (released_by (Some row) xs) then None
-      else (if is_named q (written_by (Some row) xs) && is_copy (parts_at h) (written_by (Some row) xs) then Some (source n t f) else found old.written q)))
+      else (if is_named q (written_by (Some row) xs) && is_copy p (written_by (Some row) xs) then Some (source n t f) else found old.written q)))
       → ((q : Name) → found new.committed q ≡ (if commits q (released_by (Some row) xs) then Some (source n t f) else found old.committed q))
       → ((q : Name) → IsThereOnce q (named old.committed) → IsThereOnce q (named new.committed))
       → new.entered ≡ old.entered → new.regions ≡ old.regions
       → new.calls ≡ (if is_jni row then old.calls + 1 else old.calls)
       → new.collections ≡ (if collects row then old.collections + 1 else old.collections)
-      → Stands new (record { line = n; what = Called t f xs name } ∷ h)
+      → Stands new (record { line = n; what = Called t f xs name; parts = p } ∷ h)
   call_stands new doings writes commitments once entries regions calls collections = record {
     doings = λ q. doings q
-        ∙ ap (λ o. if same_name (t.0, depth (parts_at h) t.0) q then doing_after o (source n t f) (kept old.doings q) else kept old.doings q) (sym is)
-        ∙ ap (λ d. if same_name (t.0, depth (parts_at h) t.0) q then doing_after (slice_get functions f) (source n t f) d else d) (stands.doings q);
+        ∙ ap (λ o. if same_name (t.0, depth p t.0) q then doing_after o (source n t f) (kept old.doings q) else kept old.doings q) (sym is)
+        ∙ ap (λ d. if same_name (t.0, depth p t.0) q then doing_after (slice_get functions f) (source n t f) d else d) (stands.doings q);
     written = λ q. writes q
-        ∙ ap (λ o. if commits q (released_by o xs) then None else (if is_named q (written_by o xs) && is_copy (parts_at h) (written_by o xs) then Some (source n t f) else found old.written q)) (sym is)
+        ∙ ap (λ o. if commits q (released_by o xs) then None else (if is_named q (written_by o xs) && is_copy p (written_by o xs) then Some (source n t f) else found old.written q)) (sym is)
         ∙ ap (λ s. if commits q (released_by (slice_get functions f) xs) then None
-        else (if is_named q (written_by (slice_get functions f) xs) && is_copy (parts_at h) (written_by (slice_get functions f) xs) then Some (source n t f) else s)) (stands.written q);
+        else (if is_named q (written_by (slice_get functions f) xs) && is_copy p (written_by (slice_get functions f) xs) then Some (source n t f) else s)) (stands.written q);
     committed = λ q. commitments q
         ∙ ap (λ o. if commits q (released_by o xs) then Some (source n t f) else found old.committed q) (sym is)
         ∙ ap (λ s. if commits q (released_by (slice_get functions f) xs) then Some (source n t f) else s) (stands.committed q);
@@ -60,11 +60,11 @@ module _ (old : AdviserState) (h : List Moment) (n : ℕ) (t : Tid) (f : ℕ) (r
 
   -- what is pushed one after the other is what is advised
   pub call_advised : (a b c : Option Advice) (o0 o1 o2 o3 : List Advice)
-      → a ≡ unchecked n t f (Some row) (kept old.doings (t.0, depth (parts_at h) t.0))
+      → a ≡ unchecked n t f (Some row) (kept old.doings (t.0, depth p t.0))
       → b ≡ lost n t f (found old.written) (released_by (Some row) xs)
       → c ≡ misnamed n t f name
       → o1 ≡ o0 ++ option_to_list a → o2 ≡ o1 ++ option_to_list b → o3 ≡ o2 ++ option_to_list c
-      → o3 ≡ o0 ++ on_call n t f xs name h
+      → o3 ≡ o0 ++ on_call n t f xs name p h
   call_advised a b c o0 o1 o2 o3 first second third is1 is2 is3 =
       let writes : found old.written ≡ (λ q. written q h) = λ i q. stands.written q i in
       is3 ∙ ap (λ l. l ++ option_to_list c) (is2 ∙ ap (λ l. l ++ option_to_list b) is1)
@@ -72,20 +72,17 @@ module _ (old : AdviserState) (h : List Moment) (n : ℕ) (t : Tid) (f : ℕ) (r
       ∙ append_assoc o0 (option_to_list a ++ option_to_list b) (option_to_list c)
       ∙ ap (λ l. o0 ++ l) (append_assoc (option_to_list a) (option_to_list b) (option_to_list c))
       ∙ ap (λ a. o0 ++ (option_to_list a ++ (option_to_list b ++ option_to_list c)))
-      (first ∙ ap (λ o. unchecked n t f o (kept old.doings (t.0, depth (parts_at h) t.0))) (sym is) ∙ ap (unchecked n t f (slice_get functions f)) (stands.doings (t.0, depth (parts_at h) t.0)))
-      ∙ ap (λ b. o0 ++ (option_to_list (unchecked n t f (slice_get functions f) (doing_now t.0 h)) ++ (option_to_list b ++ option_to_list c)))
+      (first ∙ ap (λ o. unchecked n t f o (kept old.doings (t.0, depth p t.0))) (sym is) ∙ ap (unchecked n t f (slice_get functions f)) (stands.doings (t.0, depth p t.0)))
+      ∙ ap (λ b. o0 ++ (option_to_list (unchecked n t f (slice_get functions f) (doing_now t.0 p h)) ++ (option_to_list b ++ option_to_list c)))
       (second ∙ ap (λ o. lost n t f (found old.written) (released_by o xs)) (sym is) ∙ ap (λ w. lost n t f w (released_by (slice_get functions f) xs)) writes)
-      ∙ ap (λ c. o0 ++ (option_to_list (unchecked n t f (slice_get functions f) (doing_now t.0 h))
+      ∙ ap (λ c. o0 ++ (option_to_list (unchecked n t f (slice_get functions f) (doing_now t.0 p h))
       ++ (option_to_list (lost n t f (λ q. written q h) (released_by (slice_get functions f) xs)) ++ option_to_list c))) third
 
 -- ---- a fact
 
-module _ (old : AdviserState) (h : List Moment) (n : ℕ) (x : Fact) (stands : Stands old h) where
+module _ (old : AdviserState) (h : List Moment) (p : Parts) (n : ℕ) (x : Fact) (stands : Stands old h) where
   abbrev m : Moment
-  m = record { line = n; what = Told x }
-
-  abbrev p : Parts
-  p = parts_at (m ∷ h)
+  m = record { line = n; what = Told x; parts = p }
 
   done : kept old.doings ≡ (λ q. doing q h)
   done = λ i q. stands.doings q i

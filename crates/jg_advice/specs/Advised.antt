@@ -1,5 +1,5 @@
 -- What is legal and likely wrong: which advice is given at a moment, by the moments before it.
-use Rattle.std.specs.Prelude.{ℕ, ◌≡◌, ◌-◌, ◌==◌, ◌&&◌, ◌||◌, Bool, false, if◌then◌else◌, List, [], ◌∷◌, ◌++◌, length, map, slice_get, Option, Some, None, option_to_list}
+use Rattle.std.specs.Prelude.{ℕ, ◌≡◌, ◌-◌, ◌==◌, ◌&&◌, ◌||◌, Bool, false, if◌then◌else◌, List, [], ◌++◌, length, map, slice_get, Option, Some, None, option_to_list}
 use Rattle.std.specs.List.{list_any}
 use Rattle.std.specs.Map.{lookup}
 use Rattle.std.specs.Option.{option_map}
@@ -23,14 +23,14 @@ use Rattle.jg_advice.specs.declared.advice.Kind.TheVariants.{Unchecked, WritesLo
 use Rattle.jg_advice.specs.declared.doing.Doing.{Doing}
 use Rattle.jg_advice.specs.declared.functions.Release.{Release}
 use Rattle.jg_advice.specs.declared.regions.Region.{Region}
-use Rattle.jg_advice.specs.Moments.{What, Called, Told, Went, Moment, parts_at}
+use Rattle.jg_advice.specs.Moments.{What, Called, Told, Went, Moment}
 use Rattle.jg_advice.specs.Functions.{find_class, meets, wants_none}
 use Rattle.jg_advice.specs.Doing.{cause, doing_now}
 use Rattle.jg_advice.specs.Buffers.{committed, is_abort, name_of, released_by, written}
 use Rattle.jg_advice.specs.Monitors.{entered}
 use Rattle.jg_advice.specs.Regions.{bordered, calls_in, collections_in, is_long, region}
 
--- ---- of a call, on line n
+-- ---- of a call, on line n, where the events are p
 
 -- 1, unchecked: the function of this row may not be called with an exception pending, and nobody asked about one that
 -- may have been thrown
@@ -66,9 +66,9 @@ misnamed n t f name =
     if f == find_class && is_descriptor name
     then Some (record { kind = DescriptorForName; tid = t; line = Some n; function = Some f; source = None }) else None
 
-abbrev pub on_call : ℕ → Tid → ℕ → List Argument → List ℕ → List Moment → List Advice
-on_call n t f xs name h =
-    option_to_list (unchecked n t f (slice_get functions f) (doing_now t.0 h))
+abbrev pub on_call : ℕ → Tid → ℕ → List Argument → List ℕ → Parts → List Moment → List Advice
+on_call n t f xs name p h =
+    option_to_list (unchecked n t f (slice_get functions f) (doing_now t.0 p h))
     ++ (option_to_list (lost n t f (λ q. written q h) (released_by (slice_get functions f) xs))
     ++ option_to_list (misnamed n t f name))
 
@@ -137,16 +137,16 @@ abbrev pub IsOnFact : ℕ → Moment → List Moment → Fact → List Advice �
 IsOnFact most m h fact advices = (buffers monitors : List (ℕ × Source))
     × AreEnded (λ q. committed q h) (ended fact) buffers × AreEnded (λ q. entered q h) (ended fact) monitors
     × (advices ≡ ending CommittedAndKept m.line (ended fact) buffers
-    ++ (option_to_list (long most m.line (parts_at (m ∷ h)) (λ t. region t h) (calls_in h) (collections_in h)
+    ++ (option_to_list (long most m.line m.parts (λ t. region t h) (calls_in h) (collections_in h)
     (bordered fact))
     ++ (ending MonitorAtDetachment m.line (ended fact) monitors
-    ++ option_to_list (grown m.line (parts_at (m ∷ h)) (λ t. cause t m h) (handed fact)))))
+    ++ option_to_list (grown m.line m.parts (λ t. cause t m h) (handed fact)))))
 
 -- ---- in all
 
 -- this is told at the moment, of regions that are longer than so many calls
 abbrev pub is_advised_of : ℕ → Moment → List Moment → What → List Advice → Type 0
-is_advised_of most m h (Called t f xs name) advices = advices ≡ on_call m.line t f xs name h
+is_advised_of most m h (Called t f xs name) advices = advices ≡ on_call m.line t f xs name m.parts h
 is_advised_of most m h (Told fact) advices = IsOnFact most m h fact advices
 is_advised_of most m h (Went objects) advices = advices ≡ []
 

@@ -14,7 +14,7 @@ use Rattle.jg_core.specs.declared.fact.Fact.{Fact}
 use Rattle.jg_core.specs.declared.fact.Fact.TheVariants.{Back, End}
 use Rattle.jg_advice.specs.declared.advice.Source.{Source}
 use Rattle.jg_advice.specs.declared.functions.Release.{Release}
-use Rattle.jg_advice.specs.Moments.{What, Called, Told, Went, Moment, parts_at}
+use Rattle.jg_advice.specs.Moments.{What, Called, Told, Went, Moment}
 use Rattle.jg_advice.specs.Functions.{gives_back, writes}
 use Rattle.jg_advice.specs.Doing.{source}
 
@@ -66,7 +66,7 @@ abbrev pub written_with : Name → Moment → List Moment → What → Option So
 written_with q m h (Called t f xs name) before =
     if commits q (released_by (slice_get functions f) xs) then None
     else (if is_named q (written_by (slice_get functions f) xs)
-    && is_copy (parts_at h) (written_by (slice_get functions f) xs) then Some (source m.line t f) else before)
+    && is_copy m.parts (written_by (slice_get functions f) xs) then Some (source m.line t f) else before)
 written_with q m h (Told fact) before = if is_given_back q fact then None else before
 written_with q m h (Went objects) before = before
 

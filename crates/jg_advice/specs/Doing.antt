@@ -9,7 +9,7 @@ use Rattle.jg_core.specs.declared.fact.Fact.{Fact}
 use Rattle.jg_core.specs.declared.fact.Fact.TheVariants.{Begin, End, Enter, Leave}
 use Rattle.jg_advice.specs.declared.advice.Source.{Source}
 use Rattle.jg_advice.specs.declared.doing.Doing.{Doing}
-use Rattle.jg_advice.specs.Moments.{What, Called, Told, Went, Moment, depth, parts_at}
+use Rattle.jg_advice.specs.Moments.{What, Called, Told, Went, Moment, depth}
 use Rattle.jg_advice.specs.Functions.{asks, is_jni, throws_untold}
 
 -- nothing yet
@@ -41,9 +41,9 @@ restarts q p fact = false
 
 abbrev pub doing_with : Name → Moment → List Moment → What → Doing → Doing
 doing_with q m h (Called t f xs name) before =
-    if same_name (t.0, depth (parts_at h) t.0) q then doing_after (slice_get functions f) (source m.line t f) before
+    if same_name (t.0, depth m.parts t.0) q then doing_after (slice_get functions f) (source m.line t f) before
     else before
-doing_with q m h (Told fact) before = if restarts q (parts_at (m ∷ h)) fact then idle else before
+doing_with q m h (Told fact) before = if restarts q m.parts fact then idle else before
 doing_with q m h (Went objects) before = before
 
 -- what the thread did in its activation of that depth since this began: its latest call there, and the one that is owed
@@ -52,9 +52,9 @@ abbrev pub doing : Name → List Moment → Doing
 doing q [] = idle
 doing q (m ∷ h) = doing_with q m h m.what (doing q h)
 
--- what it did in the activation in which it is
-abbrev pub doing_now : ℕ → List Moment → Doing
-doing_now t h = doing (t, depth (parts_at h) t) h
+-- what it did in the activation in which it is, where the events are p
+abbrev pub doing_now : ℕ → Parts → List Moment → Doing
+doing_now t p h = doing (t, depth p t) h
 
 abbrev pub or_line : ℕ → Tid → Option Source → Source
 or_line line t None = record { line = line; tid = t; function = None }
@@ -66,4 +66,4 @@ cause_by doings p line t = or_line line t (doings (t.0, depth p t.0)).latest
 
 -- the call that a moment of t came of
 abbrev pub cause : Tid → Moment → List Moment → Source
-cause t m h = cause_by (λ q. doing q h) (parts_at (m ∷ h)) m.line t
+cause t m h = cause_by (λ q. doing q h) m.parts m.line t

@@ -6,7 +6,7 @@ use Rattle.jg_locals.specs.History as locals
 use Rattle.jg_questions.specs.declared.argument.Argument.{Argument}
 use Rattle.jg_rules.specs.Parts.{Parts}
 use Rattle.jg_core.specs.declared.fact.Fact.{Fact}
-use Rattle.jg_core.specs.Facts.{all_gone, parts_of}
+use Rattle.jg_core.specs.Facts.{all_gone}
 
 -- a thread called the function at this place of the table, by a question that broke no rule, with these operands and
 -- this text where it hands in a name; a fact was told; or the collector let these objects go
@@ -15,10 +15,11 @@ pub data What : Type 0 where
   Told : Fact → What
   Went : List ObjId → What
 
--- that, on this line
+-- that, on this line, and the tables' events then: a question was judged by them, and a fact is among them
 pub record Moment : Type 0 where
   pub line : ℕ
   pub what : What
+  pub parts : Parts
 
 abbrev pub with_facts_of : What → List Fact → List Fact
 with_facts_of (Called t f xs name) facts = facts
@@ -29,10 +30,6 @@ with_facts_of (Went objects) facts = all_gone objects facts
 abbrev pub facts_of : List Moment → List Fact
 facts_of [] = []
 facts_of (m ∷ h) = with_facts_of m.what (facts_of h)
-
--- what they are to each table
-abbrev pub parts_at : List Moment → Parts
-parts_at h = parts_of (facts_of h)
 
 -- in how many native methods t is
 abbrev pub depth : Parts → ℕ → ℕ

@@ -8,7 +8,7 @@ use Rattle.jg_core.specs.declared.fact.Fact.{Fact}
 use Rattle.jg_core.specs.declared.fact.Fact.TheVariants.{Own, Free, End}
 use Rattle.jg_core.specs.Facts.{is_owner}
 use Rattle.jg_advice.specs.declared.advice.Source.{Source}
-use Rattle.jg_advice.specs.Moments.{What, Told, Moment, parts_at}
+use Rattle.jg_advice.specs.Moments.{What, Told, Moment}
 use Rattle.jg_advice.specs.Doing.{cause}
 
 abbrev pub or_source : Option Source → Source → Option Source
@@ -24,7 +24,7 @@ entered_by q p cause_of (End t) before = if t.0 == q.0 then None else before
 entered_by q p cause_of fact before = before
 
 abbrev pub entered_with : Name → Moment → List Moment → What → Option Source → Option Source
-entered_with q m h (Told fact) before = entered_by q (parts_at (m ∷ h)) (λ t. cause t m h) fact before
+entered_with q m h (Told fact) before = entered_by q m.parts (λ t. cause t m h) fact before
 entered_with q m h what before = before
 
 -- 5: the call by which the thread entered the monitor of the object (by their numbers) that it owns since

@@ -8,7 +8,7 @@ use Rattle.jg_rules.specs.Parts.{Parts}
 use Rattle.jg_core.specs.declared.fact.Fact.{Fact}
 use Rattle.jg_core.specs.declared.fact.Fact.TheVariants.{Lend, Back, End, Gone}
 use Rattle.jg_advice.specs.declared.regions.Region.{Region}
-use Rattle.jg_advice.specs.Moments.{What, Called, Told, Went, Moment, parts_at}
+use Rattle.jg_advice.specs.Moments.{What, Called, Told, Went, Moment}
 use Rattle.jg_advice.specs.Functions.{collects, is, is_jni}
 use Rattle.jg_advice.specs.Doing.{cause}
 
@@ -55,7 +55,7 @@ region_by t p begins (Some u) before =
 
 abbrev pub region_with : ℕ → Moment → List Moment → What → Option Region → Option Region
 region_with t m h (Told fact) before =
-    region_by t (parts_at (m ∷ h))
+    region_by t m.parts
     (λ u. record { source = cause u m h; calls = calls_in h; collections = collections_in h }) (bordered fact) before
 region_with t m h what before = before
 

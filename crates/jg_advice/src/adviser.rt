@@ -3,9 +3,10 @@
 ghost use Rattle.std.specs.Prelude.{◌≡◌, ◌++◌, ◌+◌, ◌∷◌, ℕ, if◌then◌else◌, [], IfOk, List, OnOk, slice_get, Some};
 ghost use Rattle.jg_functions.specs.Columns.{columns};
 ghost use Rattle.jg_functions.specs.Table.{functions};
+ghost use Rattle.jg_rules.specs.Parts.{Parts};
 ghost use Rattle.jg_advice.specs.declared.advice.Advice.{Advice as AdviceOf};
 ghost use Rattle.jg_advice.specs.Advised as advised;
-ghost use Rattle.jg_advice.specs.Moments.{Called, Moment, parts_at, Told, Went};
+ghost use Rattle.jg_advice.specs.Moments.{Called, Moment, Told, Went};
 ghost use Rattle.jg_advice.specs.Regions.{is_gone};
 ghost use Rattle.jg_advice.specs.Standing.{Sees, Stands};
 
@@ -119,12 +120,14 @@ impl Adviser {
         name: &[u8],
         out: &mut Vec<Advice>,
     ) -> Result<(), AllocError>
-        ensures advised { OnOk result ((h : List Moment) → Stands self.old h
-            → Sees view.now (parts_at h)
-            → out.new.items ≡ out.old.items ++ advised.on_call line tid function arguments.now name.now h) }
-        ensures stands { OnOk result ((h : List Moment) → Stands self.old h
-            → Sees view.now (parts_at h)
-            → Stands self.new (record { line = line; what = Called tid function arguments.now name.now } ∷ h)) }
+        ensures advised { OnOk result ((h : List Moment) (p : Parts) → Stands self.old h → Sees view.now p
+            → out.new.items ≡ out.old.items ++ advised.on_call line tid function arguments.now name.now p h) }
+        ensures stands { OnOk result ((h : List Moment) (p : Parts) → Stands self.old h → Sees view.now p
+            → Stands self.new (record {
+              line = line;
+              what = Called tid function arguments.now name.now;
+              parts = p;
+            } ∷ h)) }
         ensures most { self.new.most ≡ self.old.most }
     {
         let Some(row) = row_of(usize::from(function)) else {
@@ -151,10 +154,11 @@ impl Adviser {
         arguments: &[Argument],
     ) -> Result<(), AllocError>
         requires row { slice_get functions calling.function ≡ Some (columns row.now) }
-        ensures stands { OnOk result ((h : List Moment) (name : List ℕ) → Stands self.old h
-            → Sees view.now (parts_at h) → Stands self.new (record {
+        ensures stands { OnOk result ((h : List Moment) (p : Parts) (name : List ℕ) → Stands self.old h
+            → Sees view.now p → Stands self.new (record {
               line = calling.line;
               what = Called calling.tid calling.function arguments.now name;
+              parts = p;
             } ∷ h)) }
         ensures most { self.new.most ≡ self.old.most }
     {
@@ -182,12 +186,12 @@ impl Adviser {
         fact: Fact,
         out: &mut Vec<Advice>,
     ) -> Result<(), AllocError>
-        ensures advised { OnOk result ((h : List Moment) (m : Moment) → m ≡ record { line = line; what = Told fact }
-            → Stands self.old h → Sees view.now (parts_at (m ∷ h))
-            → (told : List AdviceOf) × advised.IsOnFact self.old.most m h fact told
+        ensures advised { OnOk result ((h : List Moment) (p : Parts) → Stands self.old h → Sees view.now p
+            → (told : List AdviceOf)
+            × advised.IsOnFact self.old.most (record { line = line; what = Told fact; parts = p }) h fact told
             × (out.new.items ≡ out.old.items ++ told)) }
-        ensures stands { OnOk result ((h : List Moment) (m : Moment) → m ≡ record { line = line; what = Told fact }
-            → Stands self.old h → Sees view.now (parts_at (m ∷ h)) → Stands self.new (m ∷ h)) }
+        ensures stands { OnOk result ((h : List Moment) (p : Parts) → Stands self.old h → Sees view.now p
+            → Stands self.new (record { line = line; what = Told fact; parts = p } ∷ h)) }
         ensures most { self.new.most ≡ self.old.most }
     {
         self.advise(view, line, fact, out)?;
@@ -202,9 +206,9 @@ impl Adviser {
         fact: Fact,
         out: &mut Vec<Advice>,
     ) -> Result<(), AllocError>
-        ensures { OnOk result ((h : List Moment) (m : Moment) → m ≡ record { line = line; what = Told fact }
-            → Stands self.now h → Sees view.now (parts_at (m ∷ h))
-            → (told : List AdviceOf) × advised.IsOnFact self.now.most m h fact told
+        ensures { OnOk result ((h : List Moment) (p : Parts) → Stands self.now h → Sees view.now p
+            → (told : List AdviceOf)
+            × advised.IsOnFact self.now.most (record { line = line; what = Told fact; parts = p }) h fact told
             × (out.new.items ≡ out.old.items ++ told)) }
     {
         let (ended, left, held) = (ended(fact), bordered(fact), handed(fact));
@@ -222,8 +226,8 @@ impl Adviser {
         line: u64,
         fact: Fact,
     ) -> Result<(), AllocError>
-        ensures stands { OnOk result ((h : List Moment) (m : Moment) → m ≡ record { line = line; what = Told fact }
-            → Stands self.old h → Sees view.now (parts_at (m ∷ h)) → Stands self.new (m ∷ h)) }
+        ensures stands { OnOk result ((h : List Moment) (p : Parts) → Stands self.old h → Sees view.now p
+            → Stands self.new (record { line = line; what = Told fact; parts = p } ∷ h)) }
         ensures most { self.new.most ≡ self.old.most }
     {
         let counts = self.counts;
@@ -245,8 +249,8 @@ impl Adviser {
 
     /// The collector let these objects go, which was told on this line.
     pub fn went(&mut self, line: u64, objects: &[ObjId]) -> Result<(), AllocError>
-        ensures stands { OnOk result ((h : List Moment) → Stands self.old h
-            → Stands self.new (record { line = line; what = Went objects.now } ∷ h)) }
+        ensures stands { OnOk result ((h : List Moment) (p : Parts) → Stands self.old h
+            → Stands self.new (record { line = line; what = Went objects.now; parts = p } ∷ h)) }
         ensures most { self.new.most ≡ self.old.most }
     {
         let (_, _) = (line, objects);

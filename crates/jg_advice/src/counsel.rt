@@ -1,8 +1,9 @@
 //! Advice is given and noted.
 
-ghost use Rattle.std.specs.Prelude.{◌≡◌, ◌++◌, ◌∷◌, [], IfOk, IfSome, List, reverse, string_bytes};
+ghost use Rattle.std.specs.Prelude.{◌≡◌, ◌++◌, ◌∷◌, [], IfOk, IfSome, List, reverse, string_bytes, true};
+ghost use Rattle.jg_rules.specs.Parts.{Parts};
 ghost use Rattle.jg_advice.specs.declared.advice.Advice.{Advice as AdviceOf};
-ghost use Rattle.jg_advice.specs.Moments.{Called, Moment, parts_at, Told, Went};
+ghost use Rattle.jg_advice.specs.Moments.{Called, Moment, Told, Went};
 ghost use Rattle.jg_advice.specs.Noted.{IsNoted};
 ghost use Rattle.jg_advice.specs.Standing.{Sees};
 ghost use Rattle.jg_advice.specs.Told.{Counsels, Tells};
@@ -77,8 +78,12 @@ impl Counsel {
         arguments: &[Argument],
         name: &[u8],
     )
-        ensures counsels { (h : List Moment) → Counsels self.old h → Sees view.now (parts_at h)
-            → Counsels self.new (record { line = line; what = Called tid function arguments.now name.now } ∷ h) }
+        ensures counsels { (h : List Moment) (p : Parts) → Counsels self.old h → Sees view.now p
+            → Counsels self.new (record {
+              line = line;
+              what = Called tid function arguments.now name.now;
+              parts = p;
+            } ∷ h) }
         ensures most { self.new.adviser.most ≡ self.old.adviser.most }
         ensures all { self.new.noting.all ≡ self.old.noting.all }
     {
@@ -102,8 +107,8 @@ impl Counsel {
         line: u64,
         fact: Fact,
     )
-        ensures counsels { (h : List Moment) (m : Moment) → m ≡ record { line = line; what = Told fact }
-            → Counsels self.old h → Sees view.now (parts_at (m ∷ h)) → Counsels self.new (m ∷ h) }
+        ensures counsels { (h : List Moment) (p : Parts) → Counsels self.old h → Sees view.now p
+            → Counsels self.new (record { line = line; what = Told fact; parts = p } ∷ h) }
         ensures most { self.new.adviser.most ≡ self.old.adviser.most }
         ensures all { self.new.noting.all ≡ self.old.noting.all }
     {
@@ -119,8 +124,8 @@ impl Counsel {
 
     /// The collector let these objects go, which was told on this line.
     pub fn went(&mut self, line: u64, objects: &[ObjId])
-        ensures counsels { (h : List Moment) → Counsels self.old h
-            → Counsels self.new (record { line = line; what = Went objects.now } ∷ h) }
+        ensures counsels { (h : List Moment) (p : Parts) → Counsels self.old h
+            → Counsels self.new (record { line = line; what = Went objects.now; parts = p } ∷ h) }
         ensures most { self.new.adviser.most ≡ self.old.adviser.most }
         ensures all { self.new.noting.all ≡ self.old.noting.all }
     {
@@ -131,6 +136,22 @@ impl Counsel {
             Ok(()) => {}
             Err(_) => self.lost = true,
         }
+    }
+
+    /// Memory ran out for who tells it what happens: it is of no more use.
+    pub fn lose(&mut self)
+        ensures lost { self.new.lost ≡ true }
+        ensures most { self.new.adviser.most ≡ self.old.adviser.most }
+        ensures all { self.new.noting.all ≡ self.old.noting.all }
+    {
+        self.lost = true;
+    }
+
+    /// Whether memory ran out, so that it is of no more use.
+    pub fn is_lost(&self) -> bool
+        ensures { result ≡ self.now.lost }
+    {
+        self.lost
     }
 
     /// What is told of all that was advised, with what is advised at the end; `None` where memory ran out for it.

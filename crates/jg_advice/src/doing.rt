@@ -9,7 +9,7 @@ ghost use Rattle.jg_advice.specs.Standing.{kept, Sees};
 
 use crate::advice::Source;
 use crate::functions::{asks, is_jni, throws_untold};
-use crate::tables::{clear, put};
+use crate::tables::{clear, put_again};
 use jg_core::Fact;
 use jg_functions::{Row, row_of};
 use jg_lists::by_maker::{ByMaker, find, remove};
@@ -100,7 +100,7 @@ pub fn note_call(
         then doing_after (Some (columns row.now)) call (kept doings.old q) else kept doings.old q)) }
 {
     let doing = doing_after(row, call, doing_at(doings, name));
-    put(doings, alloc, name, doing)
+    put_again(doings, alloc, name, doing)
 }
 
 /// An activation begins or ends, where the fact says so.

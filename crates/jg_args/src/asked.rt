@@ -56,7 +56,7 @@ pub struct Asked<'a> {
     pub limit: u32,
     /// How many denials are explained, from the first on: 0 to 1,000,000, and 0 where none is given.
     pub explain: u32,
-    /// Whether and how it is advised on a record of what is legal and likely wrong.
+    /// Whether and how it is advised of what is legal and likely wrong.
     pub advice: Advising,
     /// How many calls may be made in a critical region before advice calls it long: 0 to 1,000,000, and 1,000 where
     /// none is given.

@@ -100,6 +100,8 @@ fn with_options<'a>(alloc: Global, command: Command<'a>) -> Result<Command<'a>, 
         .arg(setup_arg(alloc))?
         .arg(limit_arg(alloc))?
         .arg(explain_arg(alloc))?
+        .arg(advice_arg(alloc))?
+        .arg(region_arg(alloc))?
         .arg(strict_arg(alloc))?
         .arg(summary_arg(alloc))
 }
@@ -256,6 +258,8 @@ fn has_options(matches: &ArgMatches<'_>) -> bool {
     matches.contains_id("setup")
         || matches.contains_id("limit")
         || matches.contains_id("explain")
+        || matches.contains_id("advice")
+        || matches.contains_id("region")
         || matches.get_flag("strict")
         || matches.get_flag("leaks")
         || matches.get_flag("summary")

@@ -168,10 +168,32 @@ impl<A: Allocator + Clone> Guard<A> {
         ensures one_place { OnOk result (self.old.spare ≤ self.new.spare + 1) }
         ensures no_place { OnErr result (self.old.spare ≤ self.new.spare) }
     {
+        let broken = self.judge(tid, env, &call);
+        self.call_judged(tid, env, call, broken)
+    }
+
+    /// As `call` does, of a call that was judged: `broken` is what `judge` answers of it now. What stands beside the
+    /// guard asks once for both.
+    pub fn call_judged(
+        &mut self,
+        tid: Tid,
+        env: Option<EnvId>,
+        call: Call,
+        broken: Option<Rule>,
+    ) -> Result<Outcome, Refusal>
+        requires { broken ≡ verdict self.old.setup (parts self.old.setup self.old.journal) tid.0 env call }
+        ensures ok { IfOk result (λ outcome. Takes self.old self.new tid env call outcome) }
+        ensures err { OnErr result (Unchanged self.old self.new) }
+        ensures back { IfErr result (λ refusal. (refusal ≡ Refusal.Limit call) ⊎ (refusal ≡ Refusal.NoMemory call)) }
+        ensures limit { (result ≡ Err (Refusal.Limit call)) ↔ (length self.old.journal ≡ self.old.limit) }
+        ensures wants { result ≡ Err (Refusal.NoMemory call) → MayWant self.old tid env call }
+        ensures one_place { OnOk result (self.old.spare ≤ self.new.spare + 1) }
+        ensures no_place { OnErr result (self.old.spare ≤ self.new.spare) }
+    {
         if self.journal.len() >= self.limit as usize {
             return Err(Refusal::Limit(call));
         }
-        match self.judge(tid, env, &call) {
+        match broken {
             Some(rule) => self.deny(tid, env, call, rule),
             None => self.pass(tid, env, call),
         }

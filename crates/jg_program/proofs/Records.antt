@@ -26,7 +26,8 @@ use Rattle.jg_program.specs.declared.stop.ProgramStop.{ProgramStop}
 use Rattle.jg_program.specs.declared.stop.ProgramStop.TheVariants.{Record}
 use Rattle.jg_program.specs.declared.stop.Status.{Status}
 use Rattle.jg_program.specs.Ended.{IsHandedOn}
-use Rattle.jg_program.specs.Recorded.{AnswersRecord, EndsRecord, EndsWith, IsAdvice, IsEndText, IsSaid, advice_asked, is_advised}
+use Rattle.jg_program.specs.Advising.{advice_asked, is_advised}
+use Rattle.jg_program.specs.Recorded.{AnswersRecord, EndsRecord, EndsWith, IsAdvice, IsEndText, IsSaid}
 use Rattle.jg_program.specs.Reported.{is_explained}
 use Rattle.jg_program.specs.Verdicts.{difference_text}
 use Rattle.jg_program.proofs.Reports.{on_err}

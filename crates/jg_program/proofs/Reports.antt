@@ -1,5 +1,6 @@
 -- What is told beside the journal, and what that leaves as it was.
 use Rattle.std.proofs.Common.{◌≡◌, ◌⊎◌, inl, inr, ℕ, Bool, true, List, Option, Result, Ok, Err, sym, subst}
+use Rattle.std.specs.Prelude.{◌||◌}
 use Rattle.jg_words.specs.Entry.{Entry}
 use Rattle.jg_policy.specs.Stated.{StatedSetup}
 use Rattle.jg_rules.specs.Legal.{Legal}
@@ -12,25 +13,27 @@ use Rattle.jg_program.specs.declared.stop.ProgramStop.{ProgramStop}
 use Rattle.jg_watch.specs.declared.ending.Stop.TheVariants as watch
 use Rattle.jg_program.specs.declared.stop.ProgramStop.TheVariants.{Arguments, Setup, SetupRead, Run, Record, Leaks, Summary, Explain, Mismatch, Worker}
 use Rattle.jg_program.specs.About.{IsAboutJournal, IsAboutScript}
+use Rattle.jg_program.specs.Advising.{is_advised}
 use Rattle.jg_program.specs.Ended.{AnswersLines, EndsJournal, EndsScript, IsHandedOn, TestsLines}
 use Rattle.jg_program.specs.Verdicts.{status_told}
-use Rattle.jg_program.specs.Reported.{IsToldIf, Reports, Tells, TellsNothing, is_explained}
+use Rattle.jg_program.specs.Reported.{Explains, IsToldIf, Reports, Tells, TellsNothing, is_explained}
 
 -- what is told comes first, where all else is told
 pub reported : (IsSuch : List ℕ → Type 0) (r : Reporting) (s : StatedSetup) (h : List Entry) (about : List ℕ) (result : Result Status ProgramStop) (ending : ProgramEnd)
     → IsToldIf (is_explained r) IsSuch about
-    → Tells about r s h result ending ⊎ ((is_explained r ≡ true) × TellsNothing result ending) → Reports IsSuch r s h result ending
-reported IsSuch r s h about result ending told (inl tells) = inl (about, told, tells)
+    → ((explained : List ℕ) × Explains r s h explained × Tells about explained r s h result ending) ⊎ ((is_explained r || is_advised r ≡ true) × TellsNothing result ending)
+    → Reports IsSuch r s h result ending
+reported IsSuch r s h about result ending told (inl (explained, explains, tells)) = inl (about, explained, told, explains, tells)
 reported IsSuch r s h about result ending told (inr lost) = inr lost
 
 -- telling writes nothing to the writer
 pub reported_on : (holds_nothing : Type 0) (failed : Bool) (IsSuch : List ℕ → Type 0) (r : Reporting) (s : StatedSetup) (h : List Entry) (result : Result Status ProgramStop) (ending : ProgramEnd)
     → Reports IsSuch r s h result ending → IsHandedOn {S = Status} holds_nothing failed result → IsHandedOn {S = Status} holds_nothing failed ending.ended
-reported_on holds_nothing failed IsSuch r s h (Ok status) ending (inl (about, told, inl done)) on = subst (λ (e : Result Status ProgramStop). IsHandedOn holds_nothing failed e) (sym done.0) on
-reported_on holds_nothing failed IsSuch r s h (Ok status) ending (inl (about, told, inr (inl left))) on = subst (λ (e : Result Status ProgramStop). IsHandedOn holds_nothing failed e) (sym left.0) on
-reported_on holds_nothing failed IsSuch r s h (Ok status) ending (inl (about, told, inr (inr short))) on = subst (λ (e : Result Status ProgramStop). IsHandedOn holds_nothing failed e) (sym short.0) on
+reported_on holds_nothing failed IsSuch r s h (Ok status) ending (inl (about, explained, told, explains, inl done)) on = subst (λ (e : Result Status ProgramStop). IsHandedOn holds_nothing failed e) (sym done.0) on
+reported_on holds_nothing failed IsSuch r s h (Ok status) ending (inl (about, explained, told, explains, inr (inl left))) on = subst (λ (e : Result Status ProgramStop). IsHandedOn holds_nothing failed e) (sym left.0) on
+reported_on holds_nothing failed IsSuch r s h (Ok status) ending (inl (about, explained, told, explains, inr (inr short))) on = subst (λ (e : Result Status ProgramStop). IsHandedOn holds_nothing failed e) (sym short.0) on
 reported_on holds_nothing failed IsSuch r s h (Ok status) ending (inr lost) on = subst (λ (e : Result Status ProgramStop). IsHandedOn holds_nothing failed e) (sym lost.1.0) on
-reported_on holds_nothing failed IsSuch r s h (Err stop) ending (inl (about, told, tells)) on = subst (λ (e : Result Status ProgramStop). IsHandedOn holds_nothing failed e) (sym tells.0) on
+reported_on holds_nothing failed IsSuch r s h (Err stop) ending (inl (about, explained, told, explains, tells)) on = subst (λ (e : Result Status ProgramStop). IsHandedOn holds_nothing failed e) (sym tells.0) on
 reported_on holds_nothing failed IsSuch r s h (Err stop) ending (inr lost) on = subst (λ (e : Result Status ProgramStop). IsHandedOn holds_nothing failed e) (sym lost.1.0) on
 
 -- a script was answered by a guard of this setup and limit

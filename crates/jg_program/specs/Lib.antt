@@ -1,4 +1,5 @@
 pub mod About
+pub mod Advising
 pub mod Ended
 pub mod StatedBy
 pub mod Plays

@@ -1,7 +1,6 @@
 -- How the program ends with a record, and what it says of that.
 use Rattle.std.specs.Prelude.{◌≡◌, ◌⊎◌, ◌++◌, ◌||◌, ℕ, Bool, true, false, if◌then◌else◌, List, [], ◌∷◌, codes, Option, Some, None, Result, Ok, Err}
 use Rattle.std.specs.Fmt.{decimal}
-use Rattle.std.specs.Option.{is_some}
 use Rattle.std.specs.Io.KnownBytes.{Appends, Keeps}
 use Rattle.jg_words.specs.declared.buffer.BufId.{BufId}
 use Rattle.jg_words.specs.declared.reference.Ref.{Ref}
@@ -12,8 +11,6 @@ use Rattle.jg_core.specs.Facts.{parts_of}
 use Rattle.jg_record.specs.Parts.{AreParts}
 use Rattle.jg_advice.specs.Moments.{Moment}
 use Rattle.jg_advice.specs.Told.{CounselState, Counsels, Tells as Advises}
-use Rattle.jg_args.specs.declared.asked.Advising.{Advising}
-use Rattle.jg_args.specs.declared.asked.Advising.TheVariants.{Never, Once, Each}
 use Rattle.jg_script.specs.Leaks.{leaks_text}
 use Rattle.jg_watch.specs.declared.ending.Ended.{Ended}
 use Rattle.jg_watch.specs.declared.ending.Ended.TheVariants.{All, CutOff, Differs, Impossible}
@@ -31,6 +28,7 @@ use Rattle.jg_program.specs.declared.stop.ProgramStop.{ProgramStop}
 use Rattle.jg_program.specs.declared.stop.ProgramStop.TheVariants.{Leaks, Record, Summary}
 use Rattle.jg_program.specs.declared.stop.Status.{Status}
 use Rattle.jg_program.specs.declared.stop.Status.TheVariants as status
+use Rattle.jg_program.specs.Advising.{advice_asked, is_advised}
 use Rattle.jg_program.specs.Reported.{TellsNothing, is_explained, said_text}
 use Rattle.jg_program.specs.Summary.{record_summary}
 use Rattle.jg_program.specs.Verdicts.{difference_text}
@@ -86,18 +84,6 @@ summary_if false new = []
 summary_if true new = record_summary new
 
 -- ---- advice
-
--- how advice is asked for: of regions of more calls than that, and each, or the first of each kind and function
-abbrev pub asked_by : ℕ → Advising → Option (ℕ × Bool)
-asked_by region Never = None
-asked_by region Once = Some (region, false)
-asked_by region Each = Some (region, true)
-
-abbrev pub advice_asked : Reporting → Option (ℕ × Bool)
-advice_asked r = asked_by r.region r.advice
-
-abbrev pub is_advised : Reporting → Bool
-is_advised r = is_some (advice_asked r)
 
 -- the advice on what happened by the lines; none without a counsel
 abbrev pub IsAdvice : Option CounselState → List ℕ → Type 0

@@ -1,5 +1,5 @@
 -- What is told beside the journal: the status, explanations, and what is left behind.
-use Rattle.std.specs.Prelude.{ℕ, ◌≡◌, ◌⊎◌, nat_lt, Bool, true, false, if◌then◌else◌, List, [], ◌++◌, codes, string_bytes, Result, Ok, Err}
+use Rattle.std.specs.Prelude.{ℕ, ◌≡◌, ◌⊎◌, ◌||◌, nat_lt, Bool, true, false, if◌then◌else◌, List, [], ◌++◌, codes, string_bytes, Result, Ok, Err}
 use Rattle.std.specs.Fmt.{decimal}
 use Rattle.std.specs.List.{list_any}
 use Rattle.std.specs.Option.{is_some}
@@ -20,6 +20,7 @@ use Rattle.jg_program.specs.declared.stop.Said.TheVariants.{Text, Short, NoMemor
 use Rattle.jg_program.specs.declared.stop.Status.{Status}
 use Rattle.jg_program.specs.declared.stop.Status.TheVariants.{Done, Denied}
 use Rattle.jg_program.specs.declared.stop.ProgramStop.{ProgramStop}
+use Rattle.jg_program.specs.Advising.{SaysAdvice, is_advised}
 use Rattle.jg_program.specs.Summary.{IsSummary}
 use Rattle.jg_program.specs.declared.stop.ProgramStop.TheVariants.{Leaks, Summary, Explain}
 
@@ -70,29 +71,35 @@ EndsSummed so_far r s h status ending =
     × (said_text ending.said ≡ so_far ++ summary)))
     ⊎ ((ending.ended ≡ Err Summary) × (r.summary ≡ true) × (said_text ending.said ≡ so_far))
 
--- the program ends so after a history: first this is told, then the first denials are explained, then it is said what
--- is left behind, and last comes the summary
-abbrev pub Tells : List ℕ → Reporting → StatedSetup → List Entry → Result Status ProgramStop → ProgramEnd → Type 0
-Tells about r s h (Ok status) ending =
+-- the explanations of a history's first denials, with the advice on it behind them
+abbrev pub Explains : Reporting → StatedSetup → List Entry → List ℕ → Type 0
+Explains r s h explained = (advised : List ℕ) × SaysAdvice r s h advised
+    × (explained ≡ explanations_text s h r.explain ++ advised)
+
+-- the program ends so after a history: first this is told, then the first denials are explained and the advice is told,
+-- then it is said what is left behind, and last comes the summary
+abbrev pub Tells : List ℕ → List ℕ → Reporting → StatedSetup → List Entry → Result Status ProgramStop → ProgramEnd
+    → Type 0
+Tells about explained r s h (Ok status) ending =
     ((ending.ended ≡ Ok (strict_status r.strict h status))
     × ((left : List ℕ) × SaysLeaks r.leaks (is_explained r) s h left
     × ((summary : List ℕ) × SaysSummary r.summary s h summary
-    × (said_text ending.said ≡ about ++ explanations_text s h r.explain ++ left ++ summary))))
+    × (said_text ending.said ≡ about ++ explained ++ left ++ summary))))
     -- memory ran out for what is left behind
     ⊎ ((ending.ended ≡ Err Leaks) × (r.leaks ≡ true)
-    × (said_text ending.said ≡ about ++ explanations_text s h r.explain))
+    × (said_text ending.said ≡ about ++ explained))
     -- or for the summary
     ⊎ ((ending.ended ≡ Err Summary) × (r.summary ≡ true)
     × ((left : List ℕ) × SaysLeaks r.leaks (is_explained r) s h left
-    × (said_text ending.said ≡ about ++ explanations_text s h r.explain ++ left)))
+    × (said_text ending.said ≡ about ++ explained ++ left)))
 -- what stopped it is told all the same
-Tells about r s h (Err stop) ending = (ending.ended ≡ Err stop)
+Tells about explained r s h (Err stop) ending = (ending.ended ≡ Err stop)
     × (((summary : List ℕ) × SaysSummary r.summary s h summary
-    × (said_text ending.said ≡ about ++ explanations_text s h r.explain ++ summary))
+    × (said_text ending.said ≡ about ++ explained ++ summary))
     ⊎ ((r.summary ≡ true) × (said_text ending.said
-    ≡ about ++ explanations_text s h r.explain ++ codes "summary: no memory\n")))
+    ≡ about ++ explained ++ codes "summary: no memory\n")))
 
--- memory ran out for what is explained
+-- memory ran out for what is explained or advised
 abbrev pub TellsNothing : Result Status ProgramStop → ProgramEnd → Type 0
 TellsNothing (Ok status) ending = (ending.ended ≡ Err Explain) × (said_text ending.said ≡ [])
 TellsNothing (Err stop) ending = (ending.ended ≡ Err stop) × (ending.said ≡ NoMemory)
@@ -101,8 +108,9 @@ TellsNothing (Err stop) ending = (ending.ended ≡ Err stop) × (ending.said ≡
 abbrev pub Reports : (List ℕ → Type 0) → Reporting → StatedSetup → List Entry → Result Status ProgramStop → ProgramEnd
     → Type 0
 Reports IsSuch r s h result ending =
-    ((about : List ℕ) × IsToldIf (is_explained r) IsSuch about × Tells about r s h result ending)
-    ⊎ ((is_explained r ≡ true) × TellsNothing result ending)
+    ((about explained : List ℕ) × IsToldIf (is_explained r) IsSuch about × Explains r s h explained
+    × Tells about explained r s h result ending)
+    ⊎ ((is_explained r || is_advised r ≡ true) × TellsNothing result ending)
 
 -- the program ends by this: with explanations such a text is told of it, unless memory ran out for that, and else
 -- nothing

@@ -7,18 +7,22 @@ ghost use Rattle.jg_rules.specs.Legal.{Legal};
 ghost use Rattle.jg_script.specs.declared.run_fault.RunFault.TheVariants.{NoMemory, Write};
 ghost use Rattle.jg_program.specs.declared.stop.ProgramStop.{ProgramStop as StopOf};
 ghost use Rattle.jg_program.specs.declared.stop.ProgramStop.TheVariants.{Run};
+ghost use Rattle.jg_program.specs.declared.reporting.Reporting.{Reporting as ReportingOf};
+ghost use Rattle.jg_program.specs.Advising.{StandsBeside};
 ghost use Rattle.jg_program.specs.Ended.{EndsJournal, IsHandedOn, TestsLines};
 ghost use Rattle.jg_program.specs.Verdicts.{difference_text, verdict_status, verdict_text};
 ghost use Rattle.jg_program.specs.Reported.{EndsQuietly};
 
 use crate::about::About;
+use crate::advising::{advice_of, begin_counselling};
 use crate::reporting::{Reporting, report};
 use crate::stop::{ProgramEnd, ProgramStop, Status, quietly};
 use itoa::Buffer;
+use jg_counsel::Counselling;
 use jg_guard::Guard;
 use jg_policy::Setup;
 use jg_script::{
-    DeviceFailed, HandsOn, Replayed, RunFault, Verdict, Watched, replay_journal, write_text,
+    DeviceFailed, HandsOn, Replayed, RunFault, Verdict, Watched, replay_beside, write_text,
 };
 use std::alloc::Global;
 use std::io;
@@ -82,6 +86,7 @@ fn say<W: io::Write>(out: &mut Watched<W>, verdict: Verdict) -> Result<(), Progr
 fn test_lines<R: BufRead, W: HandsOn>(
     alloc: Global,
     guard: &mut Guard,
+    beside: &mut Option<Counselling>,
     reader: &mut Watched<R>,
     out: &mut Watched<W>,
     line: &mut Vec<u8>,
@@ -93,8 +98,10 @@ fn test_lines<R: BufRead, W: HandsOn>(
     ensures legal { Legal guard.new.setup guard.new.journal }
     ensures setup { guard.new.setup ≡ guard.old.setup }
     ensures handed_on { IsHandedOn (W.holds_nothing out.new.device) out.new.failed result }
+    ensures beside { (r : ReportingOf) → StandsBeside r beside.old guard.old.setup []
+        → StandsBeside r beside.new guard.new.setup guard.new.journal }
 {
-    let said = match replay_journal(alloc, guard, reader, line) {
+    let said = match replay_beside(alloc, guard, beside, reader, line) {
         Ok(replayed) => match say(out, replayed.verdict()) {
             Ok(()) => Ok(replayed),
             Err(stop) => Err(stop),
@@ -136,7 +143,9 @@ pub fn test_journal<R: BufRead, W: HandsOn>(
         return end_without_guard(alloc, out);
     };
     let mut line = Vec::new(alloc);
-    let tested = test_lines(alloc, &mut guard, reader, out, &mut line);
+    let (mut beside, begun) = begin_counselling(alloc, reporting);
+    let tested = test_lines(alloc, &mut guard, &mut beside, reader, out, &mut line);
+    let advised = advice_of(alloc, beside, begun);
     match tested {
         Ok(replayed) => {
             let status = status_of(replayed.verdict());
@@ -146,8 +155,9 @@ pub fn test_journal<R: BufRead, W: HandsOn>(
                 &guard,
                 About::Journal(replayed, &line),
                 Ok(status),
+                advised,
             )
         }
-        Err(stop) => report(alloc, reporting, &guard, About::Nothing, Err(stop)),
+        Err(stop) => report(alloc, reporting, &guard, About::Nothing, Err(stop), advised),
     }
 }

@@ -3,6 +3,7 @@
 #![tactic(auto)]
 
 mod about;
+mod advising;
 mod files;
 mod journal;
 mod migrating;

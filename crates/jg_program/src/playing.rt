@@ -14,6 +14,7 @@ ghost use Rattle.jg_program.specs.Plays.{AreReceipts, EndsPlay, HandsOut, PlaysO
 ghost use Rattle.jg_program.specs.Reported.{Reports};
 
 use crate::about::{About, end_unread};
+use crate::advising::advice_on;
 use crate::reporting::{Reporting, report};
 use crate::stop::{ProgramEnd, ProgramStop, Status, quietly};
 use jg_guard::Guard;
@@ -112,7 +113,15 @@ fn end_told<L: Ledger, W: HandsOn>(
     ensures handed_on { IsHandedOn (W.holds_nothing out.new.device) out.new.failed result.ended }
 {
     let ended = hand_out_told(alloc, &finished, out);
-    report(alloc, reporting, &finished.guard, About::Nothing, ended)
+    let advised = advice_on(alloc, reporting, &finished.guard);
+    report(
+        alloc,
+        reporting,
+        &finished.guard,
+        About::Nothing,
+        ended,
+        advised,
+    )
 }
 
 /// The thread and the place of the first difference, and what is handed back.
@@ -160,7 +169,15 @@ fn end_different<L: Ledger, W: HandsOn>(
     ensures handed_on { IsHandedOn (W.holds_nothing out.new.device) out.new.failed result.ended }
 {
     let ended = hand_out_different(alloc, tid, place, &back, out);
-    report(alloc, reporting, &back.guard, About::Nothing, ended)
+    let advised = advice_on(alloc, reporting, &back.guard);
+    report(
+        alloc,
+        reporting,
+        &back.guard,
+        About::Nothing,
+        ended,
+        advised,
+    )
 }
 
 /// Takes the guard out of its lock once its workers have run, and writes its journal.

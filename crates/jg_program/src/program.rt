@@ -3,9 +3,12 @@
 ghost use Rattle.std.specs.Prelude.{IfOk, ◌≡◌, ◌≤◌, []};
 ghost use Rattle.jg_rules.specs.Legal.{Legal};
 ghost use Rattle.jg_program.specs.declared.stop.Status.TheVariants.{Done};
+ghost use Rattle.jg_program.specs.declared.reporting.Reporting.{Reporting as ReportingOf};
+ghost use Rattle.jg_program.specs.Advising.{StandsBeside};
 ghost use Rattle.jg_program.specs.Ended.{AnswersLines, Ends, EndsClosed, EndsScript, EndsUnder, IsHandedOn};
 
 use crate::about::{About, end_refused};
+use crate::advising::{advice_of, begin_counselling};
 use crate::files::Files;
 use crate::journal::test_journal;
 use crate::migrating::migrate;
@@ -16,9 +19,10 @@ use crate::retelling::retell_record;
 use crate::setup_file::{closed_setup, read_setup, stop_of};
 use crate::stop::{ProgramEnd, ProgramStop, Status, quietly, tell_ending};
 use jg_args::{ArgsFault, Asked, Task, help_text, read_words};
+use jg_counsel::Counselling;
 use jg_guard::Guard;
 use jg_policy::{Setup, SetupFault};
-use jg_script::{HandsOn, RunFault, Watched, check_lines};
+use jg_script::{HandsOn, RunFault, Watched, check_beside};
 use jg_watch::Shown;
 use std::alloc::Global;
 use std::io::{BufRead, Read, Write};
@@ -49,6 +53,7 @@ pub enum Job {
 fn answer_lines<R: BufRead, W: HandsOn>(
     alloc: Global,
     guard: &mut Guard,
+    beside: &mut Option<Counselling>,
     reader: &mut Watched<R>,
     out: &mut Watched<W>,
     line: &mut Vec<u8>,
@@ -60,8 +65,10 @@ fn answer_lines<R: BufRead, W: HandsOn>(
     ensures legal { Legal guard.new.setup guard.new.journal }
     ensures setup { guard.new.setup ≡ guard.old.setup }
     ensures handed_on { IsHandedOn (W.holds_nothing out.new.device) out.new.failed result }
+    ensures beside { (r : ReportingOf) → StandsBeside r beside.old guard.old.setup []
+        → StandsBeside r beside.new guard.new.setup guard.new.journal }
 {
-    let checked = check_lines(alloc, guard, reader, out, line);
+    let checked = check_beside(alloc, guard, beside, reader, out, line);
     let Ok(()) = out.flush() else {
         let line = guard.journal_len().max(1) as u64;
         return Err(ProgramStop::Run(RunFault::Write { line }));
@@ -90,8 +97,17 @@ fn answer_script<R: BufRead, W: HandsOn>(
         return quietly(alloc, Err(ProgramStop::Setup(SetupFault::NoMemory)));
     };
     let mut line = Vec::new(alloc);
-    let ended = answer_lines(alloc, &mut guard, reader, out, &mut line);
-    let ending = report(alloc, reporting, &guard, About::Script(&line), ended);
+    let (mut beside, begun) = begin_counselling(alloc, reporting);
+    let ended = answer_lines(alloc, &mut guard, &mut beside, reader, out, &mut line);
+    let advised = advice_of(alloc, beside, begun);
+    let ending = report(
+        alloc,
+        reporting,
+        &guard,
+        About::Script(&line),
+        ended,
+        advised,
+    );
     // Nothing but the ending's text comes after it: the system takes the journal back at once, and
     // not entry by entry.
     forget(guard);

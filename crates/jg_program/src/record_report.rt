@@ -2,7 +2,8 @@
 
 ghost use Rattle.std.specs.Prelude.{◌≡◌, ◌++◌, ◌||◌, Err, List, None, Ok, OnErr, OnOk, Some, string_bytes, true, ℕ};
 ghost use Rattle.std.specs.Option.{option_map};
-ghost use Rattle.jg_program.specs.Recorded.{EndsWith, SaysLeft, end_said, end_status, is_advised, lists_left, status_ended, summary_if};
+ghost use Rattle.jg_program.specs.Advising.{is_advised};
+ghost use Rattle.jg_program.specs.Recorded.{EndsWith, SaysLeft, end_said, end_status, lists_left, status_ended, summary_if};
 ghost use Rattle.jg_program.specs.Reported.{is_explained, said_text};
 
 use crate::reporting::{Reporting, ending_short, ending_with, tell_nothing};

@@ -10,7 +10,8 @@ ghost use Rattle.jg_watch.specs.Lines.{IsTally};
 ghost use Rattle.jg_watch.specs.Told.{Stands, nothing_told};
 ghost use Rattle.jg_program.specs.declared.stop.ProgramStop.TheVariants.{Record};
 ghost use Rattle.jg_program.specs.Ended.{IsHandedOn};
-ghost use Rattle.jg_program.specs.Recorded.{AnswersRecord, EndsRecord, IsAdvice, IsEndText, advice_asked, is_advised};
+ghost use Rattle.jg_program.specs.Advising.{advice_asked, is_advised};
+ghost use Rattle.jg_program.specs.Recorded.{AnswersRecord, EndsRecord, IsAdvice, IsEndText};
 
 use crate::journal::{write_difference, write_number};
 use crate::record_report::report_record;

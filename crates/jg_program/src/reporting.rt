@@ -1,9 +1,10 @@
 //! What is told beside the journal: by the status, and on standard error.
 
-ghost use Rattle.std.specs.Prelude.{◌≡◌, ◌⊎◌, ◌++◌, codes, Err, IfOk, List, Ok, OnErr, OnOk, string_bytes, true, ℕ};
+ghost use Rattle.std.specs.Prelude.{◌≡◌, ◌⊎◌, ◌++◌, ◌||◌, [], codes, Err, false, IfOk, IfSome, List, None, Ok, OnErr, OnOk, string_bytes, true, ℕ};
 ghost use Rattle.jg_explain.specs.Texts.{explanations_text};
 ghost use Rattle.jg_program.specs.About.{IsAbout};
-ghost use Rattle.jg_program.specs.Reported.{EndsSummed, IsToldIf, Reports, SaysLeaks, SaysSummary, Tells, TellsNothing, any_denied, is_explained, said_text, strict_status};
+ghost use Rattle.jg_program.specs.Advising.{is_advised, SaysAdvice};
+ghost use Rattle.jg_program.specs.Reported.{EndsSummed, Explains, IsToldIf, Reports, SaysLeaks, SaysSummary, Tells, TellsNothing, any_denied, is_explained, said_text, strict_status};
 
 use crate::about::{About, push_about};
 use crate::stop::{ProgramEnd, ProgramStop, Said, Status, quietly};
@@ -19,9 +20,9 @@ use std::alloc::{AllocError, Global};
 pub struct Reporting {
     /// How many denials are explained at most: the first ones.
     pub explain: u32,
-    /// Whether and how it is advised on a record.
+    /// Whether and how it is advised of what is legal and likely wrong.
     pub advice: Advising,
-    /// In a critical region longer than so many calls something is amiss.
+    /// How many calls may be made in a critical region before advice calls it long.
     pub region: u32,
     /// Whether a denied call is told by the status.
     pub strict: bool,
@@ -67,6 +68,39 @@ fn push_explanations(
         Ok(()) => Ok(()),
         Err(_) => Err(NoMemory),
     }
+}
+
+/// Adds the advice, where it is asked for; without any no memory is needed.
+fn push_advice(reporting: Reporting, advised: &str, out: &mut String) -> Result<(), NoMemory>
+    requires { is_advised reporting ≡ false → advised.now ≡ [] }
+    ensures told { OnOk result (string_bytes out.new ≡ string_bytes out.old ++ advised.now) }
+    ensures refused { OnErr result (is_advised reporting ≡ true) }
+{
+    match reporting.advice {
+        Advising::Never => Ok(()),
+        Advising::Once | Advising::Each => match out.push_str(advised) {
+            Ok(()) => Ok(()),
+            Err(_) => Err(NoMemory),
+        },
+    }
+}
+
+/// Adds the explanations that are asked for, and this advice behind them.
+fn push_explained(
+    alloc: Global,
+    reporting: Reporting,
+    guard: &Guard,
+    advised: &str,
+    out: &mut String,
+) -> Result<(), NoMemory>
+    requires { SaysAdvice reporting guard.now.setup guard.now.journal advised.now }
+    ensures told { OnOk result ((explained : List ℕ)
+        × Explains reporting guard.now.setup guard.now.journal explained
+        × (string_bytes out.new ≡ string_bytes out.old ++ explained)) }
+    ensures refused { OnErr result (is_explained reporting || is_advised reporting ≡ true) }
+{
+    push_explanations(alloc, reporting, guard, out)?;
+    push_advice(reporting, advised, out)
 }
 
 /// The text of what the guard's journal leaves behind.
@@ -173,13 +207,16 @@ fn report_done(
     reporting: Reporting,
     guard: &Guard,
     about: String,
+    advised: &str,
     status: Status,
 ) -> ProgramEnd
-    ensures { Tells (string_bytes about) reporting guard.now.setup guard.now.journal (Ok status) result
-        ⊎ ((is_explained reporting ≡ true) × TellsNothing (Ok status) result) }
+    requires { SaysAdvice reporting guard.now.setup guard.now.journal advised.now }
+    ensures { ((explained : List ℕ) × Explains reporting guard.now.setup guard.now.journal explained
+        × Tells (string_bytes about) explained reporting guard.now.setup guard.now.journal (Ok status) result)
+        ⊎ ((is_explained reporting || is_advised reporting ≡ true) × TellsNothing (Ok status) result) }
 {
     let mut said = about;
-    let Ok(()) = push_explanations(alloc, reporting, guard, &mut said) else {
+    let Ok(()) = push_explained(alloc, reporting, guard, advised, &mut said) else {
         return tell_nothing(alloc, Ok(status));
     };
     match push_leaks(alloc, reporting, guard, &mut said) {
@@ -204,13 +241,16 @@ fn report_stopped(
     reporting: Reporting,
     guard: &Guard,
     about: String,
+    advised: &str,
     stop: ProgramStop,
 ) -> ProgramEnd
-    ensures { Tells (string_bytes about) reporting guard.now.setup guard.now.journal (Err stop) result
-        ⊎ ((is_explained reporting ≡ true) × TellsNothing (Err stop) result) }
+    requires { SaysAdvice reporting guard.now.setup guard.now.journal advised.now }
+    ensures { ((explained : List ℕ) × Explains reporting guard.now.setup guard.now.journal explained
+        × Tells (string_bytes about) explained reporting guard.now.setup guard.now.journal (Err stop) result)
+        ⊎ ((is_explained reporting || is_advised reporting ≡ true) × TellsNothing (Err stop) result) }
 {
     let mut said = about;
-    let Ok(()) = push_explanations(alloc, reporting, guard, &mut said) else {
+    let Ok(()) = push_explained(alloc, reporting, guard, advised, &mut said) else {
         return tell_nothing(alloc, Err(stop));
     };
     match push_summary_if(alloc, reporting.summary, guard, &mut said) {
@@ -239,21 +279,28 @@ fn about_text(
 }
 
 /// How the program ends after the guard's journal, where its work was done or stopped so: what there is
-/// to tell about that comes first, then the explanations, then what is left behind, and last the summary. All of it is
-/// made before any of it is written.
+/// to tell about that comes first, then the explanations and this advice, then what is left behind, and last the
+/// summary. All of it is made before any of it is written. `None` is for advice for which memory ran out.
 pub fn report(
     alloc: Global,
     reporting: Reporting,
     guard: &Guard,
     about: About<'_>,
     ended: Result<Status, ProgramStop>,
+    advised: Option<String>,
 ) -> ProgramEnd
+    requires said { IfSome advised (λ text. SaysAdvice reporting guard.now.setup guard.now.journal
+        (string_bytes text)) }
+    requires lost { advised ≡ None → is_advised reporting ≡ true }
     ensures { Reports (IsAbout about.entry ended) reporting guard.now.setup guard.now.journal ended result }
 {
+    let Some(advised) = advised else {
+        return tell_nothing(alloc, ended);
+    };
     match about_text(alloc, reporting, guard, about, ended) {
         Ok(text) => match ended {
-            Ok(status) => report_done(alloc, reporting, guard, text, status),
-            Err(stop) => report_stopped(alloc, reporting, guard, text, stop),
+            Ok(status) => report_done(alloc, reporting, guard, text, advised.as_str(), status),
+            Err(stop) => report_stopped(alloc, reporting, guard, text, advised.as_str(), stop),
         },
         Err(_) => tell_nothing(alloc, ended),
     }

@@ -1,5 +1,5 @@
--- What taking one call does, and what replaying one line of a journal does. No public contract
--- stands on this.
+-- What taking one call does, and what replaying one line of a journal does. Of public contracts those of `Beside`
+-- stand on the first.
 use Rattle.std.specs.Prelude.{◌≡◌, ◌≢◌, ℕ, ◌<◌, ◌≤◌, List, [], ◌∷◌, ◌++◌, length, Option, Some, None, Result, Ok, Err, ◌⊎◌}
 use Rattle.jg_words.specs.Entry.{Entry}
 use Rattle.jg_guard.specs.Guard.{State}

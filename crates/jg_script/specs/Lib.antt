@@ -1,3 +1,4 @@
+pub mod Beside
 pub mod Checked
 pub mod Answered
 pub mod Replayed

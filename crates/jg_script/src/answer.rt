@@ -1,4 +1,4 @@
-//! One call is taken, and one line is answered.
+//! One line is answered.
 
 ghost use Rattle.std.specs.Prelude.{◌≡◌, ◌<◌, ◌≤◌, Some, length, slice_get, IfErr, OnOk};
 ghost use Rattle.std.specs.Str.{IsUtf8};
@@ -9,37 +9,15 @@ ghost use Rattle.jg_guard.specs.Guard.{next_entry};
 ghost use Rattle.jg_script.specs.Entries.{Took, FailsCall};
 ghost use Rattle.jg_script.specs.Checked.{WriterFails};
 
+use crate::beside::Beside;
 use crate::run_fault::RunFault;
-use jg_guard::{Guard, Refusal};
+use jg_guard::Guard;
 use jg_lines::{Watched, write_text};
 use jg_text::{ScriptFault, push_answer, read_call};
-use jg_words::{Call, Entry, EnvId, Tid};
+use jg_words::Entry;
 use std::alloc::{AllocError, Allocator, Global};
 use std::io::Write;
 use std::mem;
-
-/// The guard takes the call of line number `line`.
-#[inline(always)]
-pub fn take_call<A: Allocator + Clone>(
-    guard: &mut Guard<A>,
-    tid: Tid,
-    env: Option<EnvId>,
-    call: Call,
-    line: u64,
-) -> Result<(), RunFault>
-    requires { length guard.old.journal ≤ guard.old.limit }
-    ensures took { OnOk result (Took guard.old guard.new (next_entry guard.old tid env call)) }
-    ensures err { IfErr result (FailsCall guard.old guard.new (next_entry guard.old tid env call) line) }
-    ensures legal { Legal guard.old.setup guard.old.journal → Legal guard.new.setup guard.new.journal }
-    ensures setup { guard.new.setup ≡ guard.old.setup }
-    ensures limit { guard.new.limit ≡ guard.old.limit }
-{
-    match guard.call(tid, env, call) {
-        Ok(_) => Ok(()),
-        Err(Refusal::Limit(_)) => Err(RunFault::Limit { line }),
-        Err(Refusal::NoMemory(_)) => Err(RunFault::NoMemory { line }),
-    }
-}
 
 /// The line of the newest entry's call becomes that of the entry, with its line feed.
 #[inline(always)]
@@ -64,9 +42,10 @@ fn complete<A: Allocator + Clone>(
 /// Answers line number `line` of a script: the guard takes its call, and its entry is written. The
 /// line becomes the entry's.
 #[inline(always)]
-pub fn answer_line<A: Allocator + Clone, W: Write>(
+pub fn answer_line<A: Allocator + Clone, B: Beside<A>, W: Write>(
     alloc: Global,
     guard: &mut Guard<A>,
+    beside: &mut B,
     writer: &mut Watched<W>,
     text: &mut Vec<u8>,
     line: u64,
@@ -79,13 +58,15 @@ pub fn answer_line<A: Allocator + Clone, W: Write>(
     ensures setup { guard.new.setup ≡ guard.old.setup }
     ensures limit { guard.new.limit ≡ guard.old.limit }
     ensures device { WriterFails writer.old.failed writer.new.failed result }
+    ensures follows { (first : B) → B.follows first beside.old guard.old.setup guard.old.journal
+        → B.follows first beside.new guard.new.setup guard.new.journal }
 {
     let (tid, env, call) = match read_call(alloc, text) {
         Ok(spelt) => spelt,
         Err(ScriptFault::NoMemory) => return Err(RunFault::NoMemory { line }),
         Err(fault) => return Err(RunFault::Script { line, fault }),
     };
-    if let Err(fault) = take_call(guard, tid, env, call, line) {
+    if let Err(fault) = beside.take_call(guard, tid, env, call, line) {
         return Err(fault);
     }
     let Ok(()) = complete(alloc, guard, text) else {

@@ -2,6 +2,7 @@
 #![tactic(auto)]
 
 mod answer;
+mod beside;
 mod journal;
 mod leaks;
 mod outcome;
@@ -10,12 +11,13 @@ mod run;
 mod run_fault;
 mod scripts;
 
+pub use beside::{Alone, Beside};
 pub use jg_lines::{DeviceFailed, Faulty, HandsOn, Watched, write_text};
 pub use jg_text::{MAX_LINE, ScriptFault, read_call, write_entry};
 pub use journal::write_journal;
 pub use leaks::write_leaks;
 pub use outcome::outcome_in;
-pub use replay::{Difference, Replayed, Verdict, replay_journal, verify};
-pub use run::{check, check_lines};
+pub use replay::{Difference, Replayed, Verdict, replay_beside, replay_journal, verify};
+pub use run::{check, check_beside, check_lines};
 pub use run_fault::RunFault;
 pub use scripts::{Line, Lines, MAX_LINES, MAX_THREADS, Scripts, read_script_lines, read_scripts};

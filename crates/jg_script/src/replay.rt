@@ -6,7 +6,7 @@ ghost use Rattle.jg_script.specs.Checked.{ReaderFails};
 ghost use Rattle.jg_script.specs.Entries.{ReplaysLine, IsPast};
 ghost use Rattle.jg_script.specs.Replayed.{verdict_of, ReplaysJournal, Verifies};
 
-use crate::answer::take_call;
+use crate::beside::{Alone, Beside};
 use crate::run_fault::RunFault;
 use jg_guard::Guard;
 use jg_lines::{LineFault, Taken, Watched, next_line};
@@ -69,9 +69,10 @@ fn is_line_of(entry: &[u8], text: &[u8]) -> bool
 /// How line number `line`, without its line feed, differs from those of the entries with which the
 /// guard's journal stays legal; `None` where it is one of them. The guard takes the call with which the
 /// line begins.
-fn replay_line<A: Allocator + Clone>(
+fn replay_line<A: Allocator + Clone, B: Beside<A>>(
     alloc: Global,
     guard: &mut Guard<A>,
+    beside: &mut B,
     out: &mut String,
     text: &[u8],
     line: u64,
@@ -81,6 +82,8 @@ fn replay_line<A: Allocator + Clone>(
     ensures legal { Legal guard.old.setup guard.old.journal → Legal guard.new.setup guard.new.journal }
     ensures setup { guard.new.setup ≡ guard.old.setup }
     ensures limit { guard.new.limit ≡ guard.old.limit }
+    ensures follows { (first : B) → B.follows first beside.old guard.old.setup guard.old.journal
+        → B.follows first beside.new guard.new.setup guard.new.journal }
 {
     let Ok(begun) = read_begun(alloc, text) else {
         return Err(RunFault::NoMemory { line });
@@ -88,7 +91,7 @@ fn replay_line<A: Allocator + Clone>(
     let Some((tid, env, call)) = begun else {
         return Ok(Some(Difference::NoCall));
     };
-    if let Err(fault) = take_call(guard, tid, env, call, line) {
+    if let Err(fault) = beside.take_call(guard, tid, env, call, line) {
         return Err(fault);
     }
     out.clear();
@@ -116,6 +119,51 @@ fn past_limit(alloc: Global, text: &[u8], line: u64) -> Result<Replayed, RunFaul
     }
 }
 
+/// Replays a journal as `replay_journal` does, with that beside the guard.
+pub fn replay_beside<A: Allocator + Clone, B: Beside<A>, R: BufRead>(
+    alloc: Global,
+    guard: &mut Guard<A>,
+    beside: &mut B,
+    reader: &mut Watched<R>,
+    text: &mut Vec<u8>,
+) -> Result<Replayed, RunFault>
+    requires { guard.old.journal ≡ [] }
+    ensures replays { ReplaysJournal (R.remaining reader.old.device) (R.remaining reader.new.device) guard.old.setup
+        guard.old.limit guard.new.journal text.new.items result }
+    ensures legal { Legal guard.new.setup guard.new.journal }
+    ensures setup { guard.new.setup ≡ guard.old.setup }
+    ensures limit { guard.new.limit ≡ guard.old.limit }
+    ensures reader { ReaderFails reader.old.failed reader.new.failed result }
+    ensures follows { (first : B) → B.follows first beside.old guard.old.setup []
+        → B.follows first beside.new guard.new.setup guard.new.journal }
+{
+    let mut out = String::new(alloc);
+    let limit = u64::from(guard.limit());
+    for line in 1..limit + 2 {
+        let taken = match next_line(reader, text) {
+            Ok(taken) => taken,
+            Err(LineFault::Read) => return Err(RunFault::Read { line }),
+            Err(LineFault::NoMemory) => return Err(RunFault::NoMemory { line }),
+        };
+        if let Taken::Nothing = taken {
+            return Ok(Replayed::Legal);
+        }
+        if line > limit {
+            return past_limit(alloc, text, line);
+        }
+        if let Taken::LastLine = taken {
+            let how = Difference::NoLineFeed;
+            return Ok(Replayed::Differs { line, how });
+        }
+        match replay_line(alloc, guard, beside, &mut out, text, line) {
+            Ok(None) => {}
+            Ok(Some(how)) => return Ok(Replayed::Differs { line, how }),
+            Err(fault) => return Err(fault),
+        }
+    }
+    unreachable!()
+}
+
 /// Replays a journal as `verify` does, with a guard of the caller's, and says how the text differs. The
 /// guard's journal is empty before (`Guard::journal_len`). It takes the call of each line before the next
 /// line is read, and has the entries of the lines that don't differ afterwards. With `OtherOutcome` the
@@ -136,31 +184,7 @@ pub fn replay_journal<A: Allocator + Clone, R: BufRead>(
     ensures limit { guard.new.limit ≡ guard.old.limit }
     ensures reader { ReaderFails reader.old.failed reader.new.failed result }
 {
-    let mut out = String::new(alloc);
-    let limit = u64::from(guard.limit());
-    for line in 1..limit + 2 {
-        let taken = match next_line(reader, text) {
-            Ok(taken) => taken,
-            Err(LineFault::Read) => return Err(RunFault::Read { line }),
-            Err(LineFault::NoMemory) => return Err(RunFault::NoMemory { line }),
-        };
-        if let Taken::Nothing = taken {
-            return Ok(Replayed::Legal);
-        }
-        if line > limit {
-            return past_limit(alloc, text, line);
-        }
-        if let Taken::LastLine = taken {
-            let how = Difference::NoLineFeed;
-            return Ok(Replayed::Differs { line, how });
-        }
-        match replay_line(alloc, guard, &mut out, text, line) {
-            Ok(None) => {}
-            Ok(Some(how)) => return Ok(Replayed::Differs { line, how }),
-            Err(fault) => return Err(fault),
-        }
-    }
-    unreachable!()
+    replay_beside(alloc, guard, &mut Alone, reader, text)
 }
 
 /// The verdict on a journal that this guard replays.

@@ -1,6 +1,7 @@
 //! Advice on what happened by a line.
 
 ghost use Rattle.std.specs.Prelude.{◌≡◌, ◌==◌, ◌∷◌, [], if◌then◌else◌, List, Some};
+ghost use Rattle.jg_core.specs.Facts.{parts_of};
 ghost use Rattle.jg_core.specs.Kernel.{CoreStands};
 ghost use Rattle.jg_advice.specs.Functions.{find_class};
 ghost use Rattle.jg_advice.specs.Moments.{Called, facts_of, Moment, Told as WasTold};
@@ -62,6 +63,7 @@ fn note_question<A: Allocator + Clone>(
         → Counsels counsel.new (record {
           line = line;
           what = Called tid function arguments.now (if function == find_class then name_in text.now else []);
+          parts = parts_of (facts_of h);
         } ∷ h) }
     ensures most { counsel.new.adviser.most ≡ counsel.old.adviser.most }
     ensures all { counsel.new.noting.all ≡ counsel.old.noting.all }
@@ -73,7 +75,11 @@ fn note_question<A: Allocator + Clone>(
 /// A fact was told on the line, which the core took.
 fn note_fact<A: Allocator + Clone>(counsel: &mut Counsel, core: &Core<A>, line: u64, fact: Fact)
     ensures counsels { (h : List Moment) → Counsels counsel.old h → CoreStands core.now (fact ∷ facts_of h)
-        → Counsels counsel.new (record { line = line; what = WasTold fact } ∷ h) }
+        → Counsels counsel.new (record {
+          line = line;
+          what = WasTold fact;
+          parts = parts_of (fact ∷ facts_of h);
+        } ∷ h) }
     ensures most { counsel.new.adviser.most ≡ counsel.old.adviser.most }
     ensures all { counsel.new.noting.all ≡ counsel.old.noting.all }
 {

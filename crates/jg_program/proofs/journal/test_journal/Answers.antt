@@ -1,10 +1,12 @@
 use Rattle.std.proofs.Common.{◌≡◌, ℕ, List, [], Ok, Err, inr, ap, ◌∙◌, subst}
 use Rattle.std.proofs.KnownBytes.{Keeps-refl}
+use Rattle.std.proofs.lemmas.Option.{IfSome_then}
 use Rattle.jg_script.specs.declared.replay.Replayed.{Replayed}
 use Rattle.jg_program.specs.declared.stop.Status.{Status}
 use Rattle.jg_program.specs.About.{IsAboutJournal}
 use Rattle.jg_program.specs.Verdicts.{verdict_status}
 use Rattle.jg_program.specs.Reported.{Reports}
+use Rattle.jg_program.proofs.Advising.{lost_advised}
 use Rattle.jg_program.proofs.Reports.{ends_journal, on_err, reported_on}
 use Rattle.jg_program.proofs.journal.test_journal.Goals as goal
 
@@ -40,3 +42,25 @@ returns-clause-handed_on g c =
     let guard = c.test_lines-tested.new.guard in
     reported_on _ c.test_lines-tested.new.out.failed (λ (about : List ℕ). about ≡ []) c.args.reporting guard.setup guard.journal (Err c.in-Err.stop) c.report-in-Err.result c.report-in-Err.ensures
     (on_err Replayed Status _ _ c.in-Err.stop c.in-Err.ensures.handed_on)
+
+pub report-requires : goal.report-requires
+report-requires g c =
+    let r = c.args.reporting in
+    let guard = c.test_lines-tested.new.guard in
+    let stands = λ begun. c.test_lines-tested.ensures.beside r (c.begin_counselling.ensures.stands begun c.in-Ok.guard.setup) in
+    record {
+      said = IfSome_then c.advice_of-advised.result c.advice_of-advised.ensures.said (λ text both. both.1 r guard.setup guard.journal (stands both.0));
+      lost = lost_advised r c.test_lines-tested.new.beside c.begin_counselling.result.1 guard.setup guard.journal c.advice_of-advised.result c.begin_counselling.ensures.refused stands
+          c.advice_of-advised.ensures.lost;
+    }
+
+pub report-in-Err-requires : goal.report-in-Err-requires
+report-in-Err-requires g c =
+    let r = c.args.reporting in
+    let guard = c.test_lines-tested.new.guard in
+    let stands = λ begun. c.test_lines-tested.ensures.beside r (c.begin_counselling.ensures.stands begun c.in-Ok.guard.setup) in
+    record {
+      said = IfSome_then c.advice_of-advised.result c.advice_of-advised.ensures.said (λ text both. both.1 r guard.setup guard.journal (stands both.0));
+      lost = lost_advised r c.test_lines-tested.new.beside c.begin_counselling.result.1 guard.setup guard.journal c.advice_of-advised.result c.begin_counselling.ensures.refused stands
+          c.advice_of-advised.ensures.lost;
+    }

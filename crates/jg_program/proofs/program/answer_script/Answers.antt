@@ -1,6 +1,8 @@
 use Rattle.std.proofs.Common.{ℕ, List, ◌∙◌, subst}
+use Rattle.std.proofs.lemmas.Option.{IfSome_then}
 use Rattle.jg_program.specs.About.{IsAboutScript}
 use Rattle.jg_program.specs.Reported.{Reports}
+use Rattle.jg_program.proofs.Advising.{lost_advised}
 use Rattle.jg_program.proofs.Reports.{ends_script, reported_on}
 use Rattle.jg_program.proofs.program.answer_script.Goals as goal
 
@@ -17,3 +19,14 @@ returns-clause-handed_on g c =
     let guard = c.answer_lines-ended.new.guard in
     reported_on _ c.answer_lines-ended.new.out.failed (IsAboutScript c.deref.result.now c.answer_lines-ended.result) c.args.reporting guard.setup guard.journal c.answer_lines-ended.result
     c.report-ending.result c.report-ending.ensures c.answer_lines-ended.ensures.handed_on
+
+pub report-ending-requires : goal.report-ending-requires
+report-ending-requires g c =
+    let r = c.args.reporting in
+    let guard = c.answer_lines-ended.new.guard in
+    let stands = λ begun. c.answer_lines-ended.ensures.beside r (c.begin_counselling.ensures.stands begun c.in-Ok.guard.setup) in
+    record {
+      said = IfSome_then c.advice_of-advised.result c.advice_of-advised.ensures.said (λ text both. both.1 r guard.setup guard.journal (stands both.0));
+      lost = lost_advised r c.answer_lines-ended.new.beside c.begin_counselling.result.1 guard.setup guard.journal c.advice_of-advised.result c.begin_counselling.ensures.refused stands
+          c.advice_of-advised.ensures.lost;
+    }

@@ -4,13 +4,12 @@ use Rattle.jg_lists.specs.ByMaker.{Name, same_name}
 use Rattle.jg_functions.specs.Columns.{columns}
 use Rattle.jg_advice.specs.Buffers.{commits, is_copy, is_named, released_by}
 use Rattle.jg_advice.specs.Doing.{doing_after, source}
-use Rattle.jg_advice.specs.Moments.{parts_at}
 use Rattle.jg_advice.specs.Standing.{AdviserState, Stands, kept}
 use Rattle.jg_advice.proofs.Standings.{call_stands, found}
 use Rattle.jg_advice.proofs.adviser.Adviser.note_call.Goals as goal
 
 pub returns-clause-stands : goal.returns-clause-stands
-returns-clause-stands g c = λ h name stands sees.
+returns-clause-stands g c = λ h p name stands sees.
     let old : AdviserState = record {
       most = c.self.inside.most;
       doings = c.self.inside.doings;
@@ -34,14 +33,14 @@ returns-clause-stands g c = λ h name stands sees.
     } in
     let call = source c.args.calling.line c.args.calling.tid c.args.calling.function in
     let t : ℕ = c.args.calling.tid.0 in
-    call_stands old h c.args.calling.line c.args.calling.tid c.args.calling.function (columns c.args.row.now) c.args.arguments.now name c.requires.row was new
+    call_stands old h p c.args.calling.line c.args.calling.tid c.args.calling.function (columns c.args.row.now) c.args.arguments.now name c.requires.row was new
     (subst (λ (d : ℕ). (q : Name) → kept c.note_call.new.doings q
     ≡ (if same_name (t, d) q then doing_after (Some (columns c.args.row.now)) call (kept c.self.inside.doings q) else kept c.self.inside.doings q))
-    (c.depth.ensures.history (parts_at h).locals sees.locals) c.in_ok-note_call.ensures)
-    (λ q. c.in_ok-note_written.ensures (parts_at h) sees q
+    (c.depth.ensures.history p.locals sees.locals) c.in_ok-note_call.ensures)
+    (λ q. c.in_ok-note_written.ensures p sees q
     ∙ ap (λ r. if commits q r then None
-    else (if is_named q c.written_by-buffer.result && is_copy (parts_at h) c.written_by-buffer.result then Some call else found c.self.inside.written q)) c.released_by-release.ensures
-    ∙ ap (λ b. if commits q (released_by (Some (columns c.args.row.now)) c.args.arguments.now) then None else (if is_named q b && is_copy (parts_at h) b then Some call else found c.self.inside.written q)) c.written_by-buffer.ensures)
+    else (if is_named q c.written_by-buffer.result && is_copy p c.written_by-buffer.result then Some call else found c.self.inside.written q)) c.released_by-release.ensures
+    ∙ ap (λ b. if commits q (released_by (Some (columns c.args.row.now)) c.args.arguments.now) then None else (if is_named q b && is_copy p b then Some call else found c.self.inside.written q)) c.written_by-buffer.ensures)
     (λ q. c.in_ok-note_committed.ensures.found q
     ∙ ap (λ r. if commits q r then Some call else found c.self.inside.committed q) c.released_by-release.ensures)
     c.in_ok-note_committed.ensures.once

@@ -1,12 +1,11 @@
-use Rattle.std.proofs.Common.{◌+◌, ◌∷◌, refl, ◌∙◌, ap, sym, subst}
+use Rattle.std.proofs.Common.{◌+◌, refl, ◌∙◌, ap, sym, subst}
 use Rattle.std.specs.Prelude.{if◌then◌else◌}
-use Rattle.jg_advice.specs.Moments.{Moment, Told, parts_at}
-use Rattle.jg_advice.specs.Standing.{AdviserState, Sees, Stands}
+use Rattle.jg_advice.specs.Standing.{AdviserState, Stands}
 use Rattle.jg_advice.proofs.Standings.{fact_stands}
 use Rattle.jg_advice.proofs.adviser.Adviser.note_fact.Goals as goal
 
 pub returns-clause-stands : goal.returns-clause-stands
-returns-clause-stands g c = λ h m is stands.
+returns-clause-stands g c = λ h p stands sees.
     let old : AdviserState = record {
       most = c.self.inside.most;
       doings = c.self.inside.doings;
@@ -28,12 +27,10 @@ returns-clause-stands g c = λ h m is stands.
       calls = c.self.inside.counts.calls;
       collections = c.in_ok-self-inside.field-0;
     } in
-    let at : Moment = record { line = c.args.line; what = Told c.args.fact } in
-    subst (λ (m : Moment). Sees c.args.view.now (parts_at (m ∷ h)) → Stands new (m ∷ h)) (sym is) (λ sees.
-    fact_stands old h c.args.line c.args.fact was new
-    (c.in_ok-note_region.ensures (parts_at (at ∷ h)) sees)
-    (c.in_ok-note_monitor.ensures (parts_at (at ∷ h)) sees)
+    fact_stands old h p c.args.line c.args.fact was new
+    (c.in_ok-note_region.ensures p sees)
+    (c.in_ok-note_monitor.ensures p sees)
     c.note_back.ensures c.note_settled.ensures.found c.note_settled.ensures.once
-    (c.in_ok-note_activation.ensures (parts_at (at ∷ h)) sees)
+    (c.in_ok-note_activation.ensures p sees)
     refl
-    (c.in_ok-self-inside.ensures ∙ ap (λ b. if b then c.self.inside.counts.collections + 1 else c.self.inside.counts.collections) c.is_gone.ensures))
+    (c.in_ok-self-inside.ensures ∙ ap (λ b. if b then c.self.inside.counts.collections + 1 else c.self.inside.counts.collections) c.is_gone.ensures)

@@ -1,23 +1,20 @@
-use Rattle.std.proofs.Common.{◌≡◌, ◌∷◌, ◌++◌, false, refl, ◌∙◌, ap, sym, subst}
-use Rattle.jg_advice.specs.Moments.{Moment, Told, parts_at}
-use Rattle.jg_advice.specs.Standing.{Sees}
+use Rattle.std.proofs.Common.{◌≡◌, ◌++◌, false, ◌∙◌, ap, sym, subst}
+use Rattle.jg_advice.specs.Moments.{Moment, Told}
 use Rattle.jg_advice.specs.Told.{CounselState, Counsels}
 use Rattle.jg_advice.proofs.Counsels.{notes_more}
 use Rattle.jg_advice.proofs.counsel.Counsel.told.Goals as goal
 
 pub returns-in-Ok-clause-counsels : goal.returns-in-Ok-clause-counsels
-returns-in-Ok-clause-counsels g c = λ h m is counsels.
+returns-in-Ok-clause-counsels g c = λ h p counsels sees.
     let before : Counsels (record { adviser = c.self.inside.adviser; lost = c.self.inside.lost; noting = c.self.inside.advices }) h =
     subst (λ (v : CounselState). Counsels v h) (sym c.self.view_is) counsels in
-    let now : Moment = record { line = c.args.line; what = Told c.args.fact } in
+    let now : Moment = record { line = c.args.line; what = Told c.args.fact; parts = p } in
     let free : c.self.inside.lost ≡ false = c.if-self.false in
-    subst (λ (m : Moment). Sees c.args.view.now (parts_at (m ∷ h))
-    → Counsels (record { adviser = c.told.new.self; lost = c.self.inside.lost; noting = c.note_all.new.advices }) (m ∷ h)) (sym is) (λ sees.
-    let newer = c.in-Ok.ensures.advised h now refl (before.stands free) sees in
+    let newer = c.in-Ok.ensures.advised h p (before.stands free) sees in
     record {
-      stands = λ kept. c.in-Ok.ensures.stands h now refl (before.stands free) sees;
+      stands = λ kept. c.in-Ok.ensures.stands h p (before.stands free) sees;
       notes = λ kept. notes_more c.self.inside.adviser c.told.new.self c.self.inside.advices c.note_all.new.advices h now newer.0 c.deref.result.now
           c.told.ensures.most
           (c.deref.ensures.value ∙ newer.2 ∙ ap (λ l. l ++ newer.0) c.clear.ensures.items)
           newer.1 (before.notes free) c.note_all.ensures.noted;
-    })
+    }

@@ -1,7 +1,7 @@
 use Rattle.std.proofs.Common.{ℕ, ◌<◌, ◌≤◌, ◌∙◌, List, Some, Ok, subst, arith}
 use Rattle.jg_script.specs.Entries.{ReplaysLine}
 use Rattle.jg_script.proofs.Reread.{is_legal, is_past, is_cut_short, is_other, replay_failed, past_sound, failed_sound, goes_on}
-use Rattle.jg_script.proofs.replay.replay_journal.Goals as goal
+use Rattle.jg_script.proofs.replay.replay_beside.Goals as goal
 
 pub returns-in-Nothing-clause-replays : goal.returns-in-Nothing-clause-replays
 returns-in-Nothing-clause-replays g c =
@@ -57,4 +57,5 @@ loop-line-preserved g c =
           c.in-Ok.ensures.bytes c.in_default.not-Nothing c.in_default-taken.not-LastLine c.replay_line.ensures.setup c.replay_line.ensures.limit c.replay_line.ensures.legal same;
       legal = c.replay_line.ensures.legal c.loop-line.invariant.legal;
       sound = c.in-Ok.ensures.sound ∙ c.loop-line.invariant.sound;
+      follows = λ first none. c.replay_line.ensures.follows first (c.loop-line.invariant.follows first none);
     }

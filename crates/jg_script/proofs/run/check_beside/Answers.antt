@@ -1,7 +1,7 @@
 use Rattle.std.proofs.Common.{◌∙◌, arith, inl, refl}
 use Rattle.jg_lines.proofs.TextLines.{lines_more, begun, ended}
 use Rattle.jg_script.proofs.Runs.{still_checked, line_reads, answered_reads, goes_on, answered_err, answered_faulty, long_answered}
-use Rattle.jg_script.proofs.run.check_lines.Goals as goal
+use Rattle.jg_script.proofs.run.check_beside.Goals as goal
 
 pub returns-in-Err-Read-clause-checks : goal.returns-in-Err-Read-clause-checks
 returns-in-Err-Read-clause-checks g c =
@@ -109,6 +109,7 @@ loop-line-preserved g c =
       script = more.2 inv.script;
       setup = c.answer_line.ensures.setup ∙ inv.setup;
       reads = c.in-Ok.ensures.sound ∙ inv.reads;
+      follows = λ first none. c.answer_line.ensures.follows first (inv.follows first none);
       writes = c.in_default.ensures.device ∙ (c.hand_over.ensures.failed ∙ inv.writes);
     }
 
