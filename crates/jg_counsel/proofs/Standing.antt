@@ -1,5 +1,5 @@
 -- What a counsel beside a guard stands for after one call more.
-use Rattle.std.proofs.Common.{◌≡◌, ◌+◌, ◌∙◌, ℕ, true, false, length, List, [], ◌∷◌, Option, Some, None, Result, Ok, Err, OnOk, refl, ap, sym, subst}
+use Rattle.std.proofs.Common.{◌≡◌, ◌+◌, ◌∙◌, ℕ, true, false, length, List, ◌∷◌, Option, Some, None, Result, Ok, Err, OnOk, refl, ap, sym, subst}
 use Rattle.std.specs.Prelude.{is_err, reverse, slice_get}
 use Rattle.jg_words.specs.declared.thread.Tid.{Tid}
 use Rattle.jg_words.specs.declared.thread.EnvId.{EnvId}

@@ -21,9 +21,8 @@ fn counsel_entry<A: Allocator + Clone>(
     requires below { place < length guard.now.journal }
     requires front { IsFront guard.now again.old place }
     ensures front { OnOk result (IsFront guard.now again.new (place + 1)) }
-    ensures follows { OnOk result (Follows counselling.old.counsel counselling.old.counsel again.old.setup
-        again.old.journal → Follows counselling.old.counsel counselling.new.counsel again.new.setup
-        again.new.journal) }
+    ensures counselled { OnOk result (Counselled counselling.old.counsel again.old.setup again.old.journal
+        → Follows counselling.old.counsel counselling.new.counsel again.new.setup again.new.journal) }
 {
     let (_legal, _same) = (guard.journal_len(), again.journal_len());
     let Some(entry) = guard.journal_entry(place) else {

@@ -1,4 +1,3 @@
-use Rattle.std.proofs.Common.{string_bytes}
 use Rattle.std.proofs.lemmas.Option.{IfSome_then}
 use Rattle.jg_counsel.proofs.counselling.Counselling.into_text.Goals as goal
 
