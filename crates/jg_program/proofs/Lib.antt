@@ -8,7 +8,7 @@ pub mod Saying
 pub mod Workers
 pub mod FromStart
 pub mod Telling
-pub mod Advising
+pub mod Beside
 pub mod Reports
 pub mod Records
 pub mod Retold

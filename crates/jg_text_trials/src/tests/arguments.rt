@@ -24,7 +24,7 @@ const STATUSES: &str =
     4 reading or writing failed, 5 done, and a call was denied (with --strict).";
 
 /// Words, and what they ask for.
-const READ: [(&[&str], Asked<'static>); 20] = [
+const READ: [(&[&str], Asked<'static>); 23] = [
     (&[], DEFAULTS),
     (&["check"], DEFAULTS),
     (
@@ -51,6 +51,30 @@ const READ: [(&[&str], Asked<'static>); 20] = [
             task: Task::Watch,
             advice: Advising::Once,
             strict: true,
+            ..DEFAULTS
+        },
+    ),
+    (
+        &["--advice"],
+        Asked {
+            advice: Advising::Once,
+            ..DEFAULTS
+        },
+    ),
+    (
+        &["verify", "--advice", "all", "--region", "1000000"],
+        Asked {
+            task: Task::Verify,
+            advice: Advising::Each,
+            region: 1_000_000,
+            ..DEFAULTS
+        },
+    ),
+    (
+        &["play", "two", "--advice"],
+        Asked {
+            task: Task::Play("two"),
+            advice: Advising::Once,
             ..DEFAULTS
         },
     ),
@@ -190,7 +214,7 @@ fn words_are_read(rt: HostRuntime) {
 }
 
 /// Words that ask for nothing.
-const REFUSED: [&[&str]; 45] = [
+const REFUSED: [&[&str]; 46] = [
     &["fly"],
     &["help", "fly"],
     &["--fly"],
@@ -232,8 +256,9 @@ const REFUSED: [&[&str]; 45] = [
     &["facts", "--strict"],
     &["watch", "--advice", "each"],
     &["watch", "--advice", "--advice"],
-    &["--advice"],
-    &["verify", "--advice"],
+    &["play", "--advice", "two"],
+    &["facts", "--advice"],
+    &["migrate", "--setup", "app.toml", "--region", "1"],
     &["watch", "--region"],
     &["watch", "--region", "1000001"],
 ];

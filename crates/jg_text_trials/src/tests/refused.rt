@@ -2,7 +2,7 @@
 //! is refused; `tests/refused --tests` runs these tests over memory that refuses one request after the
 //! other.
 
-use jg_args::{ArgsFault, Asked, Task, help_text, read_words, refused_word};
+use jg_args::{Advising, ArgsFault, Asked, Task, help_text, read_words, refused_word};
 use jg_policy::{Setup, SetupFault};
 use jg_text::{ScriptFault, read_call, write_entry};
 use jg_words::{Call, Entry, Rule};
@@ -116,6 +116,8 @@ const DEFAULTS: Asked<'static> = Asked {
     setup: None,
     limit: 1_000_000,
     explain: 0,
+    advice: Advising::Never,
+    region: 1000,
     strict: false,
     turns: 1000,
     denials: false,

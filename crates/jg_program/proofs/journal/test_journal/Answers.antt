@@ -6,7 +6,7 @@ use Rattle.jg_program.specs.declared.stop.Status.{Status}
 use Rattle.jg_program.specs.About.{IsAboutJournal}
 use Rattle.jg_program.specs.Verdicts.{verdict_status}
 use Rattle.jg_program.specs.Reported.{Reports}
-use Rattle.jg_program.proofs.Advising.{lost_advised}
+use Rattle.jg_program.proofs.Beside.{lost_advised}
 use Rattle.jg_program.proofs.Reports.{ends_journal, on_err, reported_on}
 use Rattle.jg_program.proofs.journal.test_journal.Goals as goal
 

@@ -2,7 +2,7 @@ use Rattle.std.proofs.Common.{ℕ, List, ◌∙◌, subst}
 use Rattle.std.proofs.lemmas.Option.{IfSome_then}
 use Rattle.jg_program.specs.About.{IsAboutScript}
 use Rattle.jg_program.specs.Reported.{Reports}
-use Rattle.jg_program.proofs.Advising.{lost_advised}
+use Rattle.jg_program.proofs.Beside.{lost_advised}
 use Rattle.jg_program.proofs.Reports.{ends_script, reported_on}
 use Rattle.jg_program.proofs.program.answer_script.Goals as goal
 
