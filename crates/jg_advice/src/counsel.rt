@@ -20,13 +20,24 @@ use std::marker::Model;
 
 /// An adviser with what it tells. It stands beside a core or a guard, and is told each question that passed and each
 /// fact, on its line. Where memory runs out for it, all that it told is lost. Contracts see all.
-#[derive(Drop)]
 pub struct Counsel {
     adviser: Adviser,
     lost: bool,
     advices: Advices,
     /// Room for what is advised at one moment.
     room: Vec<Advice>,
+}
+
+// Not derived, so that who owns a counsel lets it go by one call.
+impl Drop for Counsel {
+    fn drop(self) {
+        let Counsel {
+            adviser: _adviser,
+            lost: _,
+            advices: _advices,
+            room: _room,
+        } = self;
+    }
 }
 
 impl Model for Counsel {

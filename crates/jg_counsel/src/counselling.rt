@@ -29,7 +29,6 @@ use std::alloc::{AllocError, Allocator, Global};
 
 /// A counsel beside a guard, which is told each call that the guard takes. It changes nothing of what the guard does.
 /// Where memory runs out for either, all that it told is lost.
-#[derive(Drop)]
 pub struct Counselling<A: Allocator = Global> {
     counsel: Counsel,
     foreseen: Foreseen<A>,
@@ -37,6 +36,18 @@ pub struct Counselling<A: Allocator = Global> {
     arguments: Vec<Argument>,
     /// Room for the facts of an entry.
     facts: Vec<Fact>,
+}
+
+// Not derived, so that who owns one lets it go by one call.
+impl<A: Allocator> Drop for Counselling<A> {
+    fn drop(self) {
+        let Counselling {
+            counsel: _counsel,
+            foreseen: _foreseen,
+            arguments: _arguments,
+            facts: _facts,
+        } = self;
+    }
 }
 
 impl<A: Allocator + Copy> Counselling<A> {
