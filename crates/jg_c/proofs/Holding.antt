@@ -5,7 +5,7 @@ use Rattle.jg_c.specs.declared.session.Session.{Session}
 use Rattle.jg_c.specs.declared.session.Session.TheVariants.{Core, Guard, Adviser}
 use Rattle.jg_c.specs.Advisers.{AdviserHeld}
 use Rattle.jg_c.specs.Cores.{CoreHeld}
-use Rattle.jg_c.specs.Sessions.{Steps, adviser_of, core_of, guard_of}
+use Rattle.jg_c.specs.Sessions.{Of, Steps, adviser_of, core_of, guard_of}
 
 -- it holds the core that it is said to hold
 pub holds_core : (v : Option Session) (a : CoreHeld) → core_of v ≡ Some a → v ≡ Some (Core a)
@@ -50,3 +50,7 @@ unchanged_adviser v new a b held is same = is ∙ ap (λ y. Some (Adviser y)) sa
 pub stepped_adviser : (v new : Option Session) (a b : AdviserHeld) (R : AdviserHeld → AdviserHeld → Type 0) → adviser_of v ≡ Some a → new ≡ Some (Adviser b) → R a b → Steps (adviser_of v) (adviser_of new) R
 stepped_adviser v new a b R held is r =
     subst (λ (x : Option AdviserHeld). Steps x (adviser_of new) R) (sym held) (subst (λ (x : Option Session). Steps (Some a) (adviser_of x) R) (sym is) r)
+
+-- and so it is of the core that is held
+pub of_core : (v : Option Session) (a : CoreHeld) (P : CoreHeld → Type 0) → core_of v ≡ Some a → P a → Of (core_of v) P
+of_core v a P held p = subst (λ (x : Option CoreHeld). Of x P) (sym held) p

@@ -1,6 +1,5 @@
 -- Advice as C holds it. jg.h names the kinds.
 use Rattle.std.specs.Prelude.{ℕ, ℤ, ◌≡◌, List, Option, Some, None, if◌then◌else◌, nat_eq}
-use Rattle.jg_words.specs.declared.thread.Tid.{Tid}
 use Rattle.jg_advice.specs.declared.advice.Advice.{Advice}
 use Rattle.jg_advice.specs.declared.advice.Kind.{Kind}
 use Rattle.jg_advice.specs.declared.advice.Kind.TheVariants.{Unchecked, WritesLost, CommittedAndKept, LongRegion, MonitorAtDetachment, DescriptorForName, Growing}

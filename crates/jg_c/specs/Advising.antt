@@ -17,8 +17,8 @@ use Rattle.jg_c.specs.Advisers.{AdviserHeld, NotedHeld}
 use Rattle.jg_c.specs.Errors as errors
 
 -- nothing happened to it yet, and a region of more calls than that is long
-pub record IsNewAdviser (most : ℕ) (x : AdviserHeld) : Type 0 where
-  pub most : x.noted.adviser.most ≡ most
+pub record IsNewAdviser (calls : ℕ) (x : AdviserHeld) : Type 0 where
+  pub most : x.noted.adviser.most ≡ calls
   pub stands : Stands x.noted.adviser []
   pub waiting : x.noted.waiting ≡ []
   pub of_use : x.lost ≡ false
@@ -68,8 +68,8 @@ abbrev pub gone_moment : ℕ → List ObjId → Moment
 gone_moment place objects = record { line = place; what = Went objects }
 
 -- a collection is noted, whichever objects it let go
-abbrev pub NotesGone : NotedHeld → NotedHeld → ℕ → Type 0
-NotesGone old new place = (objects : List ObjId) → Advises old new (gone_moment place objects) (λ h. Unit {0})
+pub record NotesGone (old new : NotedHeld) (place : ℕ) : Type 0 where
+  pub notes : (objects : List ObjId) → Advises old new (gone_moment place objects) (λ h. Unit {0})
 
 -- just what is advised at the end waits behind what did
 pub record AdvisesAtEnd (old new : NotedHeld) : Type 0 where

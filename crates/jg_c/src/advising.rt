@@ -78,9 +78,15 @@ fn note_passed(
     let view = core.view();
     noted.room.clear();
     let (tid, function) = (head.tid, head.function);
-    noted
-        .adviser
-        .called(&view, place, tid, function, arguments, name, &mut noted.room)?;
+    noted.adviser.called(
+        &view,
+        place,
+        tid,
+        function,
+        arguments,
+        name,
+        &mut noted.room,
+    )?;
     put_all(&mut noted.waiting, noted.room.as_slice())
 }
 
@@ -214,16 +220,16 @@ fn note_fact(noted: &mut Noted, core: &Core, place: u64, fact: Option<Fact>) -> 
     }
 }
 
-fn advise_fact(kept: &mut AdviserSession, core: &Core, place: u64, fact: &JgFact) -> i32
+fn advise_fact(kept: &mut AdviserSession, asked: &CoreSession, place: u64, fact: &JgFact) -> i32
     ensures notes { result ≢ errors.no_memory → specs.IsOfUse kept.old kept.new
-        × specs.NotesFact kept.old.noted kept.new.noted core.now place (facts.fact_of fact.now) result }
+        × specs.NotesFact kept.old.noted kept.new.noted asked.now.core place (facts.fact_of fact.now) result }
     ensures lost { result ≡ errors.no_memory → kept.new.lost ≡ true }
     ensures numbers { result ≢ errors.closed }
 {
     if kept.lost {
         return NO_MEMORY;
     }
-    let number = note_fact(&mut kept.noted, core, place, fact_of(fact));
+    let number = note_fact(&mut kept.noted, &asked.core, place, fact_of(fact));
     kept.lost = is_no_memory(number);
     number
 }
@@ -249,7 +255,7 @@ pub extern "C" fn jg_advise_fact(
 {
     match adviser.adviser() {
         Some(kept) => match core.core() {
-            Some(asked) => advise_fact(kept, &asked.core, place, fact),
+            Some(asked) => advise_fact(kept, asked, place, fact),
             None => CLOSED,
         },
         None => CLOSED,
