@@ -1,21 +1,22 @@
 -- What an adviser was told, and what waits then.
-use Rattle.std.proofs.Common.{◌≡◌, ◌∷◌, ◌++◌, ◌∙◌, List, ap}
+use Rattle.std.proofs.Common.{ℕ, ◌≡◌, ◌∷◌, ◌++◌, ◌∙◌, List, ap}
+use Rattle.jg_rules.specs.Parts.{Parts}
 use Rattle.jg_advice.specs.declared.advice.Advice.{Advice}
-use Rattle.jg_advice.specs.Moments.{Moment}
+use Rattle.jg_advice.specs.Moments.{What, Moment}
 use Rattle.jg_advice.specs.Advised.{IsAdvised}
 use Rattle.jg_advice.specs.Standing.{Stands}
 use Rattle.jg_c.specs.Advisers.{NotedHeld}
-use Rattle.jg_c.specs.Advising.{Advises}
+use Rattle.jg_c.specs.Advising.{Advises, moment}
 
 -- it stands for the moment, and all that it advised was put behind what waits
-pub noted : (old new : NotedHeld) (m : Moment) (IsKnown : List Moment → Type 0) (room : List Advice)
+pub noted : (old new : NotedHeld) (place : ℕ) (what : What) (AreShown : Parts → Type 0) (room : List Advice)
     → new.adviser.most ≡ old.adviser.most
-    → ((h : List Moment) → Stands old.adviser h → IsKnown h → Stands new.adviser (m ∷ h))
-    → ((h : List Moment) → Stands old.adviser h → IsKnown h
-    → (advices : List Advice) × IsAdvised old.adviser.most m h advices × (room ≡ advices))
-    → new.waiting ≡ old.waiting ++ room → Advises old new m IsKnown
-noted old new m IsKnown room most stands advised put = record {
+    → ((h : List Moment) (p : Parts) → Stands old.adviser h → AreShown p → Stands new.adviser (moment place what p ∷ h))
+    → ((h : List Moment) (p : Parts) → Stands old.adviser h → AreShown p
+    → (advices : List Advice) × IsAdvised old.adviser.most (moment place what p) h advices × (room ≡ advices))
+    → new.waiting ≡ old.waiting ++ room → Advises old new place what AreShown
+noted old new place what AreShown room most stands advised put = record {
   most = most;
   stands = stands;
-  waiting = λ h stood known. let a = advised h stood known in (a.0, a.1, put ∙ ap (λ l. old.waiting ++ l) a.2);
+  waiting = λ h p stood shown. let a = advised h p stood shown in (a.0, a.1, put ∙ ap (λ l. old.waiting ++ l) a.2);
 }

@@ -4,10 +4,12 @@ use Rattle.jg_words.specs.declared.object.ObjId.{ObjId}
 use Rattle.jg_functions.specs.Columns.{Columns}
 use Rattle.jg_functions.specs.Table.{functions}
 use Rattle.jg_questions.specs.declared.argument.Argument.{Argument}
+use Rattle.jg_rules.specs.Parts.{Parts}
 use Rattle.jg_core.specs.declared.fact.Fact.{Fact}
+use Rattle.jg_core.specs.Facts.{parts_of}
 use Rattle.jg_core.specs.Kernel.{CoreState, CoreStands}
 use Rattle.jg_advice.specs.declared.advice.Advice.{Advice}
-use Rattle.jg_advice.specs.Moments.{Called, Told, Went, Moment, facts_of}
+use Rattle.jg_advice.specs.Moments.{What, Called, Told, Went, Moment}
 use Rattle.jg_advice.specs.Advised.{AreLeft, IsAdvised}
 use Rattle.jg_advice.specs.Standing.{Stands}
 use Rattle.jg_c.specs.declared.advice.JgAdvice.{JgAdvice}
@@ -25,51 +27,46 @@ pub record IsNewAdviser (calls : ℕ) (x : AdviserHeld) : Type 0 where
 
 -- ---- what happens
 
--- the core stands for the facts of that history
-abbrev pub Knows : CoreState → List Moment → Type 0
-Knows core h = CoreStands core (facts_of h)
+-- the core's tables stand for these events
+abbrev pub Shows : CoreState → Parts → Type 0
+Shows core p = (facts : List Fact) × CoreStands core facts × (p ≡ parts_of facts)
 
--- it does with this fact
-abbrev pub KnowsToo : CoreState → Fact → List Moment → Type 0
-KnowsToo core fact h = CoreStands core (fact ∷ facts_of h)
+abbrev pub moment : ℕ → What → Parts → Moment
+moment place what p = record { line = place; what = what; parts = p }
 
--- whatever history the adviser stood for, of which that is known, it stands for it with the moment; and just what is
--- advised at the moment waits behind what did
-pub record Advises (old new : NotedHeld) (m : Moment) (IsKnown : List Moment → Type 0) : Type 0 where
+-- whatever history the adviser stood for, it stands for it with that at this place, of the events that are shown; and
+-- just what is advised then waits behind what did
+pub record Advises (old new : NotedHeld) (place : ℕ) (what : What) (AreShown : Parts → Type 0) : Type 0 where
   pub most : new.adviser.most ≡ old.adviser.most
-  pub stands : (h : List Moment) → Stands old.adviser h → IsKnown h → Stands new.adviser (m ∷ h)
-  pub waiting : (h : List Moment) → Stands old.adviser h → IsKnown h
-      → (advices : List Advice) × IsAdvised old.adviser.most m h advices × (new.waiting ≡ old.waiting ++ advices)
+  pub stands : (h : List Moment) (p : Parts) → Stands old.adviser h → AreShown p
+      → Stands new.adviser (moment place what p ∷ h)
+  pub waiting : (h : List Moment) (p : Parts) → Stands old.adviser h → AreShown p
+      → (advices : List Advice) × IsAdvised old.adviser.most (moment place what p) h advices
+      × (new.waiting ≡ old.waiting ++ advices)
 
--- the thread calls the function, at this place, with these operands and this name
-abbrev pub call_moment : ℕ → Head → List Argument → List ℕ → Moment
-call_moment place head xs name = record { line = place; what = Called head.tid head.function xs name }
+-- the thread calls the function, with these operands and this name
+abbrev pub call_of : Head → List Argument → List ℕ → What
+call_of head xs name = Called head.tid head.function xs name
 
-abbrev pub NotesRow : NotedHeld → NotedHeld → CoreState → Moment → Option Columns → ℤ → Type 0
-NotesRow old new core m None n = (n ≡ errors.no_function) × (new ≡ old)
-NotesRow old new core m (Some row) n = (n ≡ errors.done) × Advises old new m (Knows core)
+abbrev pub NotesRow : NotedHeld → NotedHeld → CoreState → ℕ → What → Option Columns → ℤ → Type 0
+NotesRow old new core place call None n = (n ≡ errors.no_function) × (new ≡ old)
+NotesRow old new core place call (Some row) n = (n ≡ errors.done) × Advises old new place call (Shows core)
 
 -- the call is noted, or why the numbers state none of a function is answered
 abbrev pub NotesCall : NotedHeld → NotedHeld → CoreState → ℕ → Result (Head × List Argument) ℤ → List ℕ → ℤ → Type 0
 NotesCall old new core place (Err why) name n = (n ≡ why) × (new ≡ old)
 NotesCall old new core place (Ok q) name n =
-    NotesRow old new core (call_moment place q.0 q.1 name) (slice_get functions q.0.function) n
+    NotesRow old new core place (call_of q.0 q.1 name) (slice_get functions q.0.function) n
 
-abbrev pub fact_moment : ℕ → Fact → Moment
-fact_moment place fact = record { line = place; what = Told fact }
-
--- the fact is noted, which the core was told; numbers that state none are refused
+-- the fact is noted; numbers that state none are refused
 abbrev pub NotesFact : NotedHeld → NotedHeld → CoreState → ℕ → Option Fact → ℤ → Type 0
 NotesFact old new core place None n = (n ≡ errors.bad_fact) × (new ≡ old)
 NotesFact old new core place (Some fact) n =
-    (n ≡ errors.done) × Advises old new (fact_moment place fact) (KnowsToo core fact)
-
-abbrev pub gone_moment : ℕ → List ObjId → Moment
-gone_moment place objects = record { line = place; what = Went objects }
+    (n ≡ errors.done) × Advises old new place (Told fact) (Shows core)
 
 -- a collection is noted, whichever objects it let go
 pub record NotesGone (old new : NotedHeld) (place : ℕ) : Type 0 where
-  pub notes : (objects : List ObjId) → Advises old new (gone_moment place objects) (λ h. Unit {0})
+  pub notes : (objects : List ObjId) → Advises old new place (Went objects) (λ p. Unit {0})
 
 -- just what is advised at the end waits behind what did
 pub record AdvisesAtEnd (old new : NotedHeld) : Type 0 where

@@ -2,6 +2,7 @@
 
 ghost use Rattle.std.specs.Prelude.{◌≡◌, ◌≢◌, ◌↔◌, ◌⊎◌, ◌++◌, is_some, slice_get, false, true, None, OnOk};
 ghost use Rattle.jg_functions.specs.Table.{functions};
+ghost use Rattle.jg_advice.specs.Moments.{Told};
 ghost use Rattle.jg_c.specs.Advising as specs;
 ghost use Rattle.jg_c.specs.Errors as errors;
 ghost use Rattle.jg_c.specs.Facts as facts;
@@ -72,8 +73,8 @@ fn note_passed(
     arguments: &[Argument],
     name: &[u8],
 ) -> Result<(), AllocError>
-    ensures { OnOk result (specs.Advises noted.old noted.new (specs.call_moment place head arguments.now name.now)
-        (specs.Knows core.now)) }
+    ensures { OnOk result (specs.Advises noted.old noted.new place (specs.call_of head arguments.now name.now)
+        (specs.Shows core.now)) }
 {
     let view = core.view();
     noted.room.clear();
@@ -98,8 +99,8 @@ fn note_call(
     arguments: &[Argument],
     name: &[u8],
 ) -> i32
-    ensures notes { result ≢ errors.no_memory → specs.NotesRow noted.old noted.new core.now
-        (specs.call_moment place head arguments.now name.now) (slice_get functions head.function) result }
+    ensures notes { result ≢ errors.no_memory → specs.NotesRow noted.old noted.new core.now place
+        (specs.call_of head arguments.now name.now) (slice_get functions head.function) result }
     ensures numbers { result ≢ errors.closed }
 {
     if !is_function(head.function) {
@@ -196,10 +197,9 @@ pub extern "C" fn jg_advise_call(
 
 // ---- facts
 
-/// Notes the fact, which the core was told.
+/// Notes the fact, with which the core is as it is now.
 fn note_told(noted: &mut Noted, core: &Core, place: u64, fact: Fact) -> Result<(), AllocError>
-    ensures { OnOk result (specs.Advises noted.old noted.new (specs.fact_moment place fact)
-        (specs.KnowsToo core.now fact)) }
+    ensures { OnOk result (specs.Advises noted.old noted.new place (Told fact) (specs.Shows core.now)) }
 {
     let view = core.view();
     noted.room.clear();
