@@ -1,10 +1,11 @@
 -- What an adviser was told, and what waits then.
 use Rattle.std.proofs.Common.{ℕ, ◌≡◌, ◌∷◌, ◌++◌, ◌∙◌, List, ap}
+use Rattle.jg_words.specs.declared.object.ObjId.{ObjId}
 use Rattle.jg_rules.specs.Parts.{Parts}
 use Rattle.jg_advice.specs.declared.advice.Advice.{Advice}
-use Rattle.jg_advice.specs.Moments.{What, Moment}
+use Rattle.jg_advice.specs.Moments.{What, Went, Moment}
 use Rattle.jg_advice.specs.Advised.{IsAdvised}
-use Rattle.jg_advice.specs.Standing.{Stands}
+use Rattle.jg_advice.specs.Standing.{AdviserState, Stands}
 use Rattle.jg_c.specs.Advisers.{NotedHeld}
 use Rattle.jg_c.specs.Advising.{Advises, moment}
 
@@ -19,4 +20,18 @@ noted old new place what AreShown room most stands advised put = record {
   most = most;
   stands = stands;
   waiting = λ h p stood shown. let a = advised h p stood shown in (a.0, a.1, put ∙ ap (λ l. old.waiting ++ l) a.2);
+}
+
+-- which objects went is of no weight
+pub any_went : (x : AdviserState) (h : List Moment) (place : ℕ) (p : Parts) (one other : List ObjId)
+    → Stands x (moment place (Went one) p ∷ h) → Stands x (moment place (Went other) p ∷ h)
+any_went x h place p one other stands = record {
+  doings = stands.doings;
+  written = stands.written;
+  committed = stands.committed;
+  once = stands.once;
+  entered = stands.entered;
+  regions = stands.regions;
+  calls = stands.calls;
+  collections = stands.collections;
 }

@@ -263,12 +263,18 @@ pub extern "C" fn jg_advise_fact(
 }
 
 /// Notes a collection.
+fn note_went(noted: &mut Noted, place: u64) -> Result<(), AllocError>
+    ensures { OnOk result (specs.NotesGone noted.old noted.new place) }
+{
+    noted.adviser.went(place, &[])
+}
+
 fn note_gone(noted: &mut Noted, place: u64) -> i32
     ensures notes { result ≢ errors.no_memory
         → (result ≡ errors.done) × specs.NotesGone noted.old noted.new place }
     ensures numbers { result ≢ errors.closed }
 {
-    match noted.adviser.went(place, &[]) {
+    match note_went(noted, place) {
         Ok(()) => DONE,
         Err(_) => NO_MEMORY,
     }
