@@ -409,11 +409,11 @@ void call_drops(struct call *call) {
 }
 
 /*
- * The memo for such a question, or NULL: of calls that begin and end nothing. A record has each question, so then there
- * is none.
+ * The memo for such a question, or NULL: of calls that begin and end nothing. A record has each question, and advice is
+ * of each, so then there is none.
  */
 static struct memo *memo_of(const struct call *call) {
-    if (call->row->effect != EFFECT_NOTHING || call->is_ending || call->count > MEMO_OPERANDS || core_is_recorded()) {
+    if (call->row->effect != EFFECT_NOTHING || call->is_ending || call->count > MEMO_OPERANDS || core_needs_all()) {
         return NULL;
     }
     uint64_t number = call->count > 0 ? call->operands[0].number : 0;

@@ -1,5 +1,5 @@
 /*
- * core.c: the core of libjg under its one lock, and the record.
+ * core.c: the core of libjg under its one lock, the adviser beside it, and the record.
  *
  * The record is text that `jg watch` judges again (docs/FORMATS.md, "A record"). Its lines are gathered while the lock
  * is held, and written by one write before the machine makes the call: so a crash loses no line.
@@ -7,6 +7,7 @@
 #include "core.h"
 #include "objects.h"
 #include "options.h"
+#include "report.h"
 #include "sites.h"
 
 #include <errno.h>
@@ -154,6 +155,62 @@ static void record_refused(const jg_fact *fact, int32_t error) {
     put_text("\n");
 }
 
+/* ---- advice ---- */
+
+/* The place of a fact that no call of a judged library tells. */
+enum { NO_PLACE = 0, FEW_ADVICE = 8 };
+
+static jg_adviser adviser = {NULL};
+static _Atomic int is_advising;
+
+/* The adviser was told something. Without memory it is of no more use. */
+static void advised(int32_t error) {
+    if (error == JG_NO_MEMORY) {
+        is_advising = 0;
+        report_line("memory ran out for advice, of which there is none from here on");
+    } else if (error < 0) {
+        core_count(&counts.refused);
+    }
+}
+
+/* The question passed: the call is made. A place is the address of its struct, which stays. */
+static void advise_call(const struct question *it) {
+    const char *name = it->function == JG_FN_FindClass && it->names[0] != NULL ? it->names[0] : "";
+    advised(jg_advise_call(&adviser, &core, (uint64_t)(uintptr_t)it->site, it->thread, it->function, it->operands,
+                           it->count, jg_bytes(name), strlen(name)));
+}
+
+static void advise_fact(const jg_fact *fact) {
+    advised(jg_advise_fact(&adviser, &core, NO_PLACE, fact));
+}
+
+/* Takes what was advised and not told yet, as much as there is room for. How much that is. */
+static size_t take_advice(jg_advice *advice, size_t room) {
+    size_t count = 0;
+    while (is_advising && count < room && jg_advised(&adviser, &advice[count]) == 1) {
+        count++;
+    }
+    return count;
+}
+
+void core_advises_at_end(void) {
+    jg_advice advice[FEW_ADVICE];
+    size_t count = 0;
+    core_lock();
+    if (is_advising) {
+        advised(jg_advise_end(&adviser));
+    }
+    core_unlock();
+    do {
+        core_lock();
+        count = take_advice(advice, FEW_ADVICE);
+        core_unlock();
+        for (size_t at = 0; at < count; at++) {
+            report_advice(&advice[at]);
+        }
+    } while (count == FEW_ADVICE);
+}
+
 /* ---- opening ---- */
 
 static int open_record(void) {
@@ -186,6 +243,11 @@ int core_open(void) {
                 (const char *)name);
         return -1;
     }
+    if (options.advice && jg_adviser_open((uint64_t)options.region, &adviser) != 0) {
+        fprintf(stderr, "jg: there is no memory for advice\n");
+        return -1;
+    }
+    is_advising = options.advice;
     return open_record();
 }
 
@@ -194,10 +256,15 @@ void core_lock(void) {
 }
 
 void core_unlock(void) {
+    jg_advice advice[FEW_ADVICE];
     if (line_size > 0) {
         write_lines();
     }
+    size_t count = take_advice(advice, FEW_ADVICE);
     pthread_mutex_unlock(&lock);
+    for (size_t at = 0; at < count; at++) {
+        report_advice(&advice[at]);
+    }
 }
 
 void core_count(uint64_t *count) {
@@ -213,18 +280,44 @@ static int32_t counted(int32_t error) {
 
 /* ---- questions ---- */
 
-/* The line of what jg_ending told. */
-static void record_ended(const jg_verdict *verdict, const jg_value *given, const jg_value *kept) {
-    jg_fact fact;
-    jg_value says = kept ? *kept : jg_nothing();
-    if (jg_told(&verdict->ticket, &says, &fact) == 1) {
-        record_fact(&fact, given);
+/* The core took the fact: it is recorded, and the adviser hears of it. */
+static void note_fact(const jg_fact *fact, const jg_value *given) {
+    if (record >= 0) {
+        record_fact(fact, given);
+    }
+    if (is_advising) {
+        advise_fact(fact);
     }
 }
 
+/* The fact that jg_ending told. */
+static void note_ended(const jg_verdict *verdict, const jg_value *given, const jg_value *kept) {
+    jg_fact fact;
+    jg_value says = kept ? *kept : jg_nothing();
+    if (jg_told(&verdict->ticket, &says, &fact) == 1) {
+        note_fact(&fact, given);
+    }
+}
+
+/* Asks. Where advice is given, the adviser hears of a call that passes before the core is told what it ends. */
+static int32_t ask(const struct question *it, jg_verdict *verdict, jg_value *given) {
+    if (given == NULL || is_advising) {
+        int32_t error = jg_ask(&core, it->thread, it->env, it->function, it->operands, it->count, verdict);
+        if (error < 0 || verdict->rule != 0) {
+            return error;
+        }
+        if (is_advising) {
+            advise_call(it);
+        }
+    }
+    return given ? jg_ending(&core, it->thread, it->env, it->function, it->operands, it->count, verdict, given) : 0;
+}
+
 int32_t core_ask(const struct question *it, jg_verdict *verdict, jg_value *given, const jg_value *kept) {
-    int32_t error = given ? jg_ending(&core, it->thread, it->env, it->function, it->operands, it->count, verdict, given)
-                          : jg_ask(&core, it->thread, it->env, it->function, it->operands, it->count, verdict);
+    if (given != NULL) {
+        *given = jg_nothing();
+    }
+    int32_t error = ask(it, verdict, given);
     core_facts += given != NULL;
     if (error < 0) {
         if (record >= 0) {
@@ -236,9 +329,9 @@ int32_t core_ask(const struct question *it, jg_verdict *verdict, jg_value *given
     counts.asked++;
     if (record >= 0) {
         record_question(it, verdict);
-        if (given != NULL && verdict->rule == 0) {
-            record_ended(verdict, given, kept);
-        }
+    }
+    if (given != NULL && verdict->rule == 0 && core_needs_all()) {
+        note_ended(verdict, given, kept);
     }
     return 0;
 }
@@ -250,12 +343,10 @@ static int32_t tell_once(const jg_fact *fact, jg_value *given) {
     *given = jg_nothing();
     int32_t error = jg_tell(&core, fact, given);
     core_facts++;
-    if (record >= 0) {
-        if (error == 0) {
-            record_fact(fact, given);
-        } else {
-            record_refused(fact, error);
-        }
+    if (error == 0) {
+        note_fact(fact, given);
+    } else if (record >= 0) {
+        record_refused(fact, error);
     }
     return counted(error);
 }
@@ -315,13 +406,13 @@ int32_t core_did(const jg_ticket *ticket, jg_value says, struct object *object, 
     *given = jg_nothing();
     int32_t error = jg_did(&core, ticket, &says, given);
     core_facts++;
-    if (error == 0 && record < 0) {
+    if (error == 0 && !core_needs_all()) {
         return 0;
     }
     int32_t is_told = jg_told(ticket, &says, &fact);
     if (error == 0) {
         if (is_told == 1) {
-            record_fact(&fact, given);
+            note_fact(&fact, given);
         }
         return 0;
     }
@@ -335,6 +426,9 @@ int32_t core_did(const jg_ticket *ticket, jg_value says, struct object *object, 
 int32_t core_gone(const uint64_t *objects, size_t count, uint64_t *held) {
     int32_t error = jg_gone(&core, objects, count, held);
     core_facts++;
+    if (error == 0 && is_advising) {
+        advised(jg_advise_gone(&adviser, NO_PLACE));
+    }
     if (error == 0 && record >= 0) {
         uint8_t *line = line_of_library();
         put_line(line, jg_gone_line(&core, 0, objects, count, line, JG_LINE));
@@ -345,4 +439,8 @@ int32_t core_gone(const uint64_t *objects, size_t count, uint64_t *held) {
 
 int core_is_recorded(void) {
     return record >= 0;
+}
+
+int core_needs_all(void) {
+    return record >= 0 || is_advising;
 }

@@ -26,7 +26,10 @@ extern struct counts counts;
 /* Opens the core under the setup of the options, and the record. 0, or a negative number: it was said why. */
 int core_open(void);
 
-/* Between these stand the calls below, and jg_.. calls on `core`. What was recorded is written at the end. */
+/*
+ * Between these stand the calls below, and jg_.. calls on `core`. At the end what was recorded is written; and what was
+ * advised is told, once the lock is free.
+ */
 void core_lock(void);
 void core_unlock(void);
 
@@ -72,5 +75,11 @@ extern _Atomic uint64_t core_facts;
 
 /* Whether there is a record. */
 int core_is_recorded(void);
+
+/* Whether each question must be asked: there is a record, or advice is given. */
+int core_needs_all(void);
+
+/* Tells what is advised at the end. */
+void core_advises_at_end(void);
 
 #endif

@@ -9,10 +9,11 @@
 #include <stdlib.h>
 #include <string.h>
 
-struct options options = {.exit_code = -1, .quarantine = 256};
+struct options options = {.exit_code = -1, .quarantine = 256, .region = 1000};
 _Atomic int64_t quarantine_bytes;
 
-enum kind { FLAG, NUMBER, TEXT };
+/* A CHOICE may stand alone, or with the one value that it has. */
+enum kind { FLAG, CHOICE, NUMBER, TEXT };
 
 /* Each option: its word, what stands behind `=`, and what it does. */
 static const struct option {
@@ -36,6 +37,10 @@ static const struct option {
     {"log", "FILE", TEXT, offsetof(struct options, log), "write the report to FILE (default: standard error)"},
     {"record", "FILE", TEXT, offsetof(struct options, record), "write a record that `jg watch` judges again"},
     {"leaks", NULL, FLAG, offsetof(struct options, lists_leaks), "tell in the end what was never deleted or released"},
+    {"advice", "all", CHOICE, offsetof(struct options, advice),
+     "tell also what is legal and likely wrong: at each place once, or each time"},
+    {"region", "N", NUMBER, offsetof(struct options, region),
+     "advise on critical regions of more than N calls (default: 1000)"},
     {"quarantine", "N", NUMBER, offsetof(struct options, quarantine),
      "hold back N ended references of a thread (default: 256; 0: none)"},
     {"wrap", "A:B", TEXT, offsetof(struct options, wrappers),
@@ -48,8 +53,8 @@ static void print_help(void) {
     puts("java -agentpath:libjg_agent.so[=OPTION,OPTION,..] ..\n");
     for (size_t at = 0; at < OPTION_COUNT; at++) {
         char head[32];
-        snprintf(head, sizeof head, "%s%s%s", OPTIONS[at].word, OPTIONS[at].value ? "=" : "",
-                 OPTIONS[at].value ? OPTIONS[at].value : "");
+        const char *form = OPTIONS[at].kind == CHOICE ? "%s[=%s]" : OPTIONS[at].value ? "%s=%s" : "%s%s";
+        snprintf(head, sizeof head, form, OPTIONS[at].word, OPTIONS[at].value ? OPTIONS[at].value : "");
         printf("  %-15s %s\n", head, OPTIONS[at].help);
     }
     printf("  %-15s %s\n", "help", "print this and end");
@@ -64,6 +69,10 @@ static int refuse(const char *word, const char *why) {
 static int take(const struct option *option, const char *word, const char *value) {
     void *field = (char *)&options + option->place;
     char *end;
+    if (option->kind == CHOICE) {
+        *(int *)field = value ? 2 : 1;
+        return value && strcmp(value, option->value) != 0 ? refuse(word, "it has no such value") : 0;
+    }
     if ((option->kind == FLAG) != (value == NULL)) {
         return refuse(word, option->kind == FLAG ? "it takes no value" : "it needs a value");
     }

@@ -12,6 +12,8 @@ struct options {
     int exit_code;   /* the status where anything was denied, or -1: the program's own */
     int lists_leaks; /* tells what is left in the end */
     int quarantine;  /* how many ended references of a kind are held back */
+    int advice;      /* 1: the first advice of each kind, function and place is told; 2: each */
+    int region;      /* how many calls a critical region may hold before advice says that it is long */
     char *libraries; /* the judged libraries, with `:` between them, or NULL: all but the JDK's own */
     char *wrappers;  /* names of functions that only pass a call on, with `:` between them, or NULL */
     char *setup;     /* files, or NULL */

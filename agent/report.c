@@ -22,8 +22,9 @@
 enum { MOST_FRAMES = 16 };
 
 struct block {
-    uint32_t rule; /* 0: a notice */
-    uint32_t function;
+    uint32_t rule;     /* 0: a notice or advice */
+    uint32_t advice;   /* its kind; 0: none */
+    uint32_t function; /* or JG_NOBODY */
     const struct site *site;
     const char *notice;
     uint64_t count;
@@ -80,11 +81,18 @@ static int read_suppressions(void) {
     return 0;
 }
 
-/* The rule's name, or the notice's. */
+/* The function's name. */
+static const char *function_of(uint32_t function) {
+    return function < JG_FUNCTIONS ? rows[function].name : "no call";
+}
+
+/* The rule's name, the notice's, or that of the kind of advice. */
 static void name_of(const struct block *block, char *name, size_t room) {
     uint8_t bytes[64];
-    int64_t length = block->rule ? jg_rule_name(block->rule, bytes, sizeof bytes) : 0;
-    if (block->rule != 0) {
+    int64_t length = block->rule     ? jg_rule_name(block->rule, bytes, sizeof bytes)
+                     : block->advice ? jg_advice_name(block->advice, bytes, sizeof bytes)
+                                     : 0;
+    if (block->rule != 0 || block->advice != 0) {
         snprintf(name, room, "%.*s", (int)(length < 0 ? 0 : length), (const char *)bytes);
     } else {
         snprintf(name, room, "%s", block->notice);
@@ -102,14 +110,23 @@ static int is_library(const char *word, const char *name) {
            (strncmp(name, "lib", 3) == 0 && strncmp(name + 3, word, size) == 0 && name[3 + size] == '.');
 }
 
+/* The words of a kind of advice stand with `-` between them: committed-and-kept. */
+static void join_words(char *name) {
+    for (; *name != 0; name++) {
+        *name = *name == ' ' ? '-' : *name;
+    }
+}
+
 static int is_suppressed(const struct block *block) {
+    const char *library = block->site ? block->site->library->name : "";
     char name[64], number[16];
     name_of(block, name, sizeof name);
+    join_words(name);
     snprintf(number, sizeof number, "%u", (unsigned)block->rule);
     for (size_t at = 0; at < suppression_count; at++) {
         const struct suppression *it = &suppressions[at];
         if ((is_word(it->rule, name) || (block->rule && is_word(it->rule, number))) &&
-            is_word(it->function, rows[block->function].name) && is_library(it->library, block->site->library->name)) {
+            is_word(it->function, function_of(block->function)) && is_library(it->library, library)) {
             return 1;
         }
     }
@@ -129,10 +146,12 @@ int report_open(void) {
 /* ---- blocks ---- */
 
 static size_t place_of(const struct block *of) {
-    size_t at = ((uintptr_t)of->site + of->function * 31u + of->rule) * 0x9E3779B97F4A7C15u >> 32 & (place_room - 1);
+    uint64_t key = (uintptr_t)of->site + of->function * 31u + of->rule + of->advice * 1021u;
+    size_t at = key * 0x9E3779B97F4A7C15u >> 32 & (place_room - 1);
     while (places[at] != 0) {
         const struct block *it = &blocks[places[at] - 1];
-        if (it->rule == of->rule && it->function == of->function && it->site == of->site && it->notice == of->notice) {
+        if (it->rule == of->rule && it->advice == of->advice && it->function == of->function && it->site == of->site &&
+            it->notice == of->notice) {
             break;
         }
         at = (at + 1) & (place_room - 1);
@@ -149,7 +168,7 @@ static void grow_places(void) {
     }
 }
 
-/* Counts the occurrence. Whether it is the first, and to be told. Under the lock. */
+/* Counts the occurrence. Whether it is to be told: the first, or with `advice=all` each advice. Under the lock. */
 static int count(const struct block *of) {
     if (2 * (block_count + 1) > place_room) {
         grow_places();
@@ -165,7 +184,7 @@ static int count(const struct block *of) {
     struct block *found = &blocks[places[place] - 1];
     found->count++;
     told += !found->is_suppressed && of->rule != 0;
-    return is_first && !found->is_suppressed;
+    return (is_first || (of->advice != 0 && options.advice > 1)) && !found->is_suppressed;
 }
 
 /* ---- what stands in a block ---- */
@@ -284,15 +303,16 @@ static void tell_frame(JNIEnv *env, const jvmtiFrameInfo *frame) {
     machine->DeleteLocalRef(env, class);
 }
 
-static void tell_frames(const struct call *call) {
+/* Those of this thread. */
+static void tell_frames(const struct thread *thread) {
     jvmtiFrameInfo frames[MOST_FRAMES];
     jint count = 0;
-    if (!is_live || !call->thread->is_attached ||
+    if (!is_live || !thread->is_attached ||
         (*tool)->GetStackTrace(tool, NULL, 0, MOST_FRAMES, frames, &count) != 0) {
         return;
     }
     for (jint at = 0; at < count; at++) {
-        tell_frame(call->thread->env, &frames[at]);
+        tell_frame(thread->env, &frames[at]);
     }
 }
 
@@ -304,17 +324,17 @@ static void tell_text(const char *word, int64_t (*text_of)(uint32_t, uint8_t *, 
     }
 }
 
-/* The name of the Java thread, in brackets; or nothing. */
-static void thread_name(const struct call *call, char *text, size_t room) {
+/* The name of this Java thread, in brackets; or nothing. */
+static void thread_name(const struct thread *thread, char *text, size_t room) {
     jvmtiThreadInfo info;
     *text = 0;
-    if (!is_live || !call->thread->is_attached || (*tool)->GetThreadInfo(tool, NULL, &info) != 0) {
+    if (!is_live || !thread->is_attached || (*tool)->GetThreadInfo(tool, NULL, &info) != 0) {
         return;
     }
     snprintf(text, room, " (%s)", info.name ? info.name : "");
     (*tool)->Deallocate(tool, (unsigned char *)info.name);
-    machine->DeleteLocalRef(call->thread->env, info.thread_group);
-    machine->DeleteLocalRef(call->thread->env, info.context_class_loader);
+    machine->DeleteLocalRef(thread->env, info.thread_group);
+    machine->DeleteLocalRef(thread->env, info.context_class_loader);
 }
 
 /* What the block begins with. */
@@ -323,16 +343,17 @@ static void head_of(const struct block *block, char *text, size_t room) {
     name_of(block, name, sizeof name);
     sites_describe(block->site, place, sizeof place);
     if (block->rule != 0) {
-        snprintf(text, room, "deny %u %s: %s at %s", (unsigned)block->rule, name, rows[block->function].name, place);
+        snprintf(text, room, "deny %u %s: %s at %s", (unsigned)block->rule, name, function_of(block->function), place);
     } else {
-        snprintf(text, room, "notice %s: %s at %s", name, rows[block->function].name, place);
+        snprintf(text, room, "%s %s: %s at %s", block->advice ? "advice" : "notice", name,
+                 function_of(block->function), place);
     }
 }
 
 static void tell_block(const struct call *call, const struct block *block) {
     char head[1024], name[128];
     head_of(block, head, sizeof head);
-    thread_name(call, name, sizeof name);
+    thread_name(call->thread, name, sizeof name);
     report_line("%s, thread %u%s", head, (unsigned)call->thread->number, name);
     if (block->rule != 0) {
         tell_operand(call);
@@ -343,7 +364,7 @@ static void tell_block(const struct call *call, const struct block *block) {
     } else {
         report_line("  %s", call->notice_text);
     }
-    tell_frames(call);
+    tell_frames(call->thread);
     if (block->rule != 0) {
         tell_text("rule", jg_rule_text, block->rule);
         tell_text("help", jg_help_text, block->rule);
@@ -373,6 +394,63 @@ void report_denial(const struct call *call) {
 void report_notice(const struct call *call) {
     const struct block block = {.function = call->function, .site = call->site, .notice = call->notice};
     tell(call, &block);
+}
+
+/* ---- advice ---- */
+
+/* What the library says of the kind, in a line behind this one. */
+static void text_of_kind(int64_t (*text_of)(uint32_t, uint8_t *, size_t), uint32_t kind, char *text, size_t room) {
+    uint8_t bytes[256];
+    int64_t length = text_of(kind, bytes, sizeof bytes);
+    snprintf(text, room, "%.*s", (int)(length < 0 ? 0 : length), (const char *)bytes);
+}
+
+static const struct site *site_of(const jg_spot *spot) {
+    return (const struct site *)(uintptr_t)spot->place;
+}
+
+/* The earlier call, where the block isn't about that one. */
+static void tell_source(const jg_advice *advice) {
+    char verb[32], place[512];
+    if (advice->told.place == 0 || advice->source.thread == JG_NOBODY) {
+        return;
+    }
+    text_of_kind(jg_advice_verb, advice->kind, verb, sizeof verb);
+    sites_describe(site_of(&advice->source), place, sizeof place);
+    report_line("  %s: %s at %s", verb, function_of(advice->source.function), place);
+}
+
+static void tell_advice(const jg_advice *advice, const struct block *block) {
+    char head[1024], text[256], name[128] = "";
+    const struct thread *thread = threads_known();
+    int is_here = thread != NULL && thread->number == advice->told.thread;
+    head_of(block, head, sizeof head);
+    if (is_here) {
+        thread_name(thread, name, sizeof name);
+    }
+    report_line("%s, thread %u%s", head, (unsigned)advice->told.thread, name);
+    text_of_kind(jg_advice_text, advice->kind, text, sizeof text);
+    report_line("  %s", text);
+    tell_source(advice);
+    if (is_here) {
+        tell_frames(thread);
+    }
+    tell_text("help", jg_advice_help, advice->kind);
+    fflush(output);
+}
+
+/* Advice on a call has that call's place. Advice on a fact has none, and is about the earlier call. */
+void report_advice(const jg_advice *advice) {
+    const jg_spot *spot = advice->told.place != 0 ? &advice->told : &advice->source;
+    const struct block block = {.advice = advice->kind, .function = spot->function, .site = site_of(spot)};
+    pthread_mutex_lock(&lock);
+    int is_told = count(&block);
+    pthread_mutex_unlock(&lock);
+    if (is_told) {
+        flockfile(output);
+        tell_advice(advice, &block);
+        funlockfile(output);
+    }
 }
 
 /* ---- leaks ---- */
@@ -489,6 +567,7 @@ int report_end(void) {
     buffers_end(see_buffer, &leaks);
     names_each_global(see_global, &leaks);
     monitors_each_owned(see_monitor, &leaks);
+    core_advises_at_end();
     flockfile(output);
     if (options.lists_leaks) {
         tell_leaks(&leaks);

@@ -19,6 +19,9 @@ void report_denial(const struct call *call);
 /* The same of what breaks no rule of the seventeen: the call's notice. */
 void report_notice(const struct call *call);
 
+/* The same of what is legal and likely wrong, where advice is given. */
+void report_advice(const jg_advice *advice);
+
 /* The leaks, the counts and the lines of all places; and how the program is to end, or -1: as it would. */
 int report_end(void);
 

@@ -1,13 +1,15 @@
 /*
  * jg.h: the guard `jg` for C (C99) and C++ (C++11).
  *
- * There are two kinds of handles.
+ * There are three kinds of handles.
  *
  * - A core (`jg_core`) stands in front of a virtual machine that answers by itself. It is asked whether a thread may
  *   make a call now (`jg_ask`, `jg_ending`), and is told what the machine did (`jg_did`, `jg_tell`, `jg_gone`). It
  *   keeps no journal; its memory follows what is live.
  * - A guard (`jg_guard`) answers scripts, as the program `jg` does: a line of a script in, its line of the journal out
  *   (`jg_call_line`). It keeps the journal.
+ * - An adviser (`jg_adviser`) stands beside a core. It says what breaks no rule and is likely wrong (`jg_advise_call`,
+ *   `jg_advised`).
  *
  * Handles. A handle that is all zeros is closed, so begin with `jg_core core = { NULL };`. Opening fills it, and
  * closing makes it all zeros again. A handle holds memory until it is closed. Hand its address to each call, and don't
@@ -330,6 +332,82 @@ int64_t jg_native_named(jg_core *core, uint32_t class_number, const uint8_t *nam
  */
 int64_t jg_class_of(jg_core *core, uint32_t kind);
 
+/* ---- the adviser ---- */
+
+/*
+ * An adviser says what breaks no rule and is likely wrong (docs/EXPLAINING.md, "Advice"). It stands beside one core,
+ * from that core's opening on, and is told all that passes there:
+ *
+ * - a call by jg_advise_call, once jg_ask let it pass, and before anything is told of it; before jg_ending ask first;
+ * - each fact that the core took by jg_advise_fact: also those that jg_did and jg_ending tell (jg_told has them);
+ * - each jg_gone by jg_advise_gone.
+ *
+ * `place` is any number of the caller's, such as a line or an address. It comes back in the advice. Where memory runs
+ * out each call answers JG_NO_MEMORY from then on: then there is no advice any more, and the core judges as before.
+ */
+typedef struct jg_adviser {
+    void *at;
+} jg_adviser;
+
+/* No thread and no function, in a jg_spot. */
+#define JG_NOBODY UINT32_MAX
+
+/* A place, the thread that was there, and the function that it called, by its number (jg_functions.h). */
+typedef struct jg_spot {
+    uint64_t place;
+    uint32_t thread;   /* or JG_NOBODY */
+    uint32_t function; /* or JG_NOBODY where it came of no call */
+} jg_spot;
+
+typedef struct jg_advice {
+    uint32_t kind;   /* JG_UNCHECKED and so on */
+    uint32_t at_end; /* 1 where jg_advise_end told it: then `told` has the place 0 */
+    jg_spot told;    /* where it is told, of which thread, and which function it is about */
+    jg_spot source;  /* the earlier call that made it so, or nobody's */
+} jg_advice;
+
+enum {
+    JG_UNCHECKED = 1,      /* a call after one that may have thrown, and nobody asked whether it did */
+    JG_WRITES_LOST,        /* JNI_ABORT throws away what was written to a copy */
+    JG_COMMITTED_AND_KEPT, /* a buffer that JNI_COMMIT alone released is open at its session's end, or at the end */
+    JG_LONG_REGION,        /* a critical region of many calls, or in which objects went */
+    JG_MONITOR_KEPT,       /* a session ends while its thread owns a monitor */
+    JG_DESCRIPTOR,         /* FindClass of `Lname;` or of a name with dots */
+    JG_GROWING             /* a frame holds more than ten times the local references that it has room for */
+};
+
+/*
+ * Opens a closed handle on an adviser that was told nothing. A critical region is long where more than `most` calls are
+ * made in it. 0, or JG_IS_OPEN, JG_NO_MEMORY.
+ */
+int32_t jg_adviser_open(uint64_t most, jg_adviser *adviser);
+
+/* Lets all go that the adviser holds; it is closed then, and may be opened again. 0, or JG_CLOSED. */
+int32_t jg_adviser_close(jg_adviser *adviser);
+
+/*
+ * The thread calls the function with these operands, which are those of jg_ask. `name` is the text of the name that
+ * FindClass is handed, `size` bytes, and of no weight for other functions. 0, or JG_CLOSED (also of the core),
+ * JG_BAD_THREAD, JG_BAD_VALUE, JG_NO_FUNCTION, JG_NO_MEMORY.
+ */
+int32_t jg_advise_call(jg_adviser *adviser, jg_core *core, uint64_t place, uint32_t thread, uint32_t function,
+                       const jg_value *operands, size_t count, const uint8_t *name, size_t size);
+
+/* The core took this fact, and no other since. 0, or JG_CLOSED (also of the core), JG_BAD_FACT, JG_NO_MEMORY. */
+int32_t jg_advise_fact(jg_adviser *adviser, jg_core *core, uint64_t place, const jg_fact *fact);
+
+/* The core took a jg_gone. 0, or JG_CLOSED, JG_NO_MEMORY. */
+int32_t jg_advise_gone(jg_adviser *adviser, uint64_t place);
+
+/* Advises on what is left at the end of all. 0, or JG_CLOSED, JG_NO_MEMORY. */
+int32_t jg_advise_end(jg_adviser *adviser);
+
+/*
+ * Takes the oldest advice that wasn't taken yet. 1, and it is written; 0 where there is none; else JG_CLOSED,
+ * JG_NO_MEMORY.
+ */
+int32_t jg_advised(jg_adviser *adviser, jg_advice *advice);
+
 /* ---- the guard ---- */
 
 typedef struct jg_guard {
@@ -389,6 +467,15 @@ int64_t jg_version(uint8_t *text, size_t room);
 int64_t jg_rule_name(uint32_t rule, uint8_t *text, size_t room);
 int64_t jg_rule_text(uint32_t rule, uint8_t *text, size_t room);
 int64_t jg_help_text(uint32_t rule, uint8_t *text, size_t room);
+
+/*
+ * Of a kind of advice its name, what is amiss, what the earlier call did, and what helps: for JG_UNCHECKED and so on,
+ * else JG_BAD_VALUE. A verb is a word, such as `called`. The texts are as `jg` says them.
+ */
+int64_t jg_advice_name(uint32_t kind, uint8_t *text, size_t room);
+int64_t jg_advice_text(uint32_t kind, uint8_t *text, size_t room);
+int64_t jg_advice_verb(uint32_t kind, uint8_t *text, size_t room);
+int64_t jg_advice_help(uint32_t kind, uint8_t *text, size_t room);
 
 /*
  * The name of the error of this number, as it stands above without JG_: BAD_TICKET. JG_BAD_VALUE where no error has
@@ -548,6 +635,60 @@ static inline int64_t jg_checked_class_of(jg_core *core, uint32_t kind) {
     return jg_class_of(core, kind);
 }
 
+static inline int32_t jg_checked_adviser_open(uint64_t most, jg_adviser *adviser) {
+    if (!adviser) {
+        return JG_NULL_POINTER;
+    }
+    return jg_adviser_open(most, adviser);
+}
+
+static inline int32_t jg_checked_adviser_close(jg_adviser *adviser) {
+    if (!adviser) {
+        return JG_NULL_POINTER;
+    }
+    return jg_adviser_close(adviser);
+}
+
+static inline int32_t jg_checked_advise_call(jg_adviser *adviser, jg_core *core, uint64_t place, uint32_t thread,
+                                             uint32_t function, const jg_value *operands, size_t count,
+                                             const uint8_t *name, size_t size) {
+    const jg_value none = {0, 0, 0};
+    const uint8_t nameless = 0;
+    if (!adviser || !core || (!operands && count) || (!name && size)) {
+        return JG_NULL_POINTER;
+    }
+    return jg_advise_call(adviser, core, place, thread, function, operands ? operands : &none, count,
+                          name ? name : &nameless, size);
+}
+
+static inline int32_t jg_checked_advise_fact(jg_adviser *adviser, jg_core *core, uint64_t place, const jg_fact *fact) {
+    if (!adviser || !core || !fact) {
+        return JG_NULL_POINTER;
+    }
+    return jg_advise_fact(adviser, core, place, fact);
+}
+
+static inline int32_t jg_checked_advise_gone(jg_adviser *adviser, uint64_t place) {
+    if (!adviser) {
+        return JG_NULL_POINTER;
+    }
+    return jg_advise_gone(adviser, place);
+}
+
+static inline int32_t jg_checked_advise_end(jg_adviser *adviser) {
+    if (!adviser) {
+        return JG_NULL_POINTER;
+    }
+    return jg_advise_end(adviser);
+}
+
+static inline int32_t jg_checked_advised(jg_adviser *adviser, jg_advice *advice) {
+    if (!adviser || !advice) {
+        return JG_NULL_POINTER;
+    }
+    return jg_advised(adviser, advice);
+}
+
 static inline int32_t jg_checked_guard_open(const uint8_t *text, size_t size, uint32_t limit, uint32_t version,
                                             jg_guard *guard) {
     const uint8_t none = 0;
@@ -638,6 +779,38 @@ static inline int64_t jg_checked_help_text(uint32_t rule, uint8_t *text, size_t 
     return jg_help_text(rule, text ? text : &nowhere, room);
 }
 
+static inline int64_t jg_checked_advice_name(uint32_t kind, uint8_t *text, size_t room) {
+    uint8_t nowhere = 0;
+    if (!text && room) {
+        return JG_NULL_POINTER;
+    }
+    return jg_advice_name(kind, text ? text : &nowhere, room);
+}
+
+static inline int64_t jg_checked_advice_text(uint32_t kind, uint8_t *text, size_t room) {
+    uint8_t nowhere = 0;
+    if (!text && room) {
+        return JG_NULL_POINTER;
+    }
+    return jg_advice_text(kind, text ? text : &nowhere, room);
+}
+
+static inline int64_t jg_checked_advice_verb(uint32_t kind, uint8_t *text, size_t room) {
+    uint8_t nowhere = 0;
+    if (!text && room) {
+        return JG_NULL_POINTER;
+    }
+    return jg_advice_verb(kind, text ? text : &nowhere, room);
+}
+
+static inline int64_t jg_checked_advice_help(uint32_t kind, uint8_t *text, size_t room) {
+    uint8_t nowhere = 0;
+    if (!text && room) {
+        return JG_NULL_POINTER;
+    }
+    return jg_advice_help(kind, text ? text : &nowhere, room);
+}
+
 static inline int64_t jg_checked_error_name(int32_t number, uint8_t *text, size_t room) {
     uint8_t nowhere = 0;
     if (!text && room) {
@@ -670,6 +843,13 @@ static inline int32_t jg_checked_is_utf8(const uint8_t *text, size_t size) {
 #define jg_class_named jg_checked_class_named
 #define jg_native_named jg_checked_native_named
 #define jg_class_of jg_checked_class_of
+#define jg_adviser_open jg_checked_adviser_open
+#define jg_adviser_close jg_checked_adviser_close
+#define jg_advise_call jg_checked_advise_call
+#define jg_advise_fact jg_checked_advise_fact
+#define jg_advise_gone jg_checked_advise_gone
+#define jg_advise_end jg_checked_advise_end
+#define jg_advised jg_checked_advised
 #define jg_guard_open jg_checked_guard_open
 #define jg_guard_close jg_checked_guard_close
 #define jg_call_line jg_checked_call_line
@@ -681,6 +861,10 @@ static inline int32_t jg_checked_is_utf8(const uint8_t *text, size_t size) {
 #define jg_rule_name jg_checked_rule_name
 #define jg_rule_text jg_checked_rule_text
 #define jg_help_text jg_checked_help_text
+#define jg_advice_name jg_checked_advice_name
+#define jg_advice_text jg_checked_advice_text
+#define jg_advice_verb jg_checked_advice_verb
+#define jg_advice_help jg_checked_advice_help
 #define jg_error_name jg_checked_error_name
 #define jg_is_utf8 jg_checked_is_utf8
 

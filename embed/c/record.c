@@ -1,12 +1,15 @@
 /*
- * record.c [watch|did [SETUP]]: answers the record on standard input as `jg watch` does, by the calls by numbers alone.
- * Each line is read into numbers, and asked by jg_ask or told by jg_tell or jg_gone. The line that the library makes of
- * the numbers must be the record's again. Standard error has why questions were denied, and what is left, as of
- * `jg watch --explain 1000000 --leaks`.
+ * record.c [watch|did|advise [SETUP]]: answers the record on standard input as `jg watch` does, by the calls by numbers
+ * alone. Each line is read into numbers, and asked by jg_ask or told by jg_tell or jg_gone. The line that the library
+ * makes of the numbers must be the record's again. Standard error has why questions were denied, and what is left, as
+ * of `jg watch --explain 1000000 --leaks`.
  *
  * With `did` the note of a question may have two words: whether jg_did or jg_ending tells what came of the call, and
  * what the machine says of it: `-` for nothing, `null`, `O15` an object, `#5` so many items, `!O15` an object that it
  * threw. As in ` @ did O15`. In the place of the note the line of the fact is written, which jg_told knows.
+ *
+ * With `advise` standard error has the advice alone, as `jg watch --advice all --region 2` tells each, without the
+ * counts at the end. An adviser is told each question that passed and each fact, by its line.
  *
  * It reads records that have no fault, and whose lines tell no answers. A `bounds` line may be the first line alone.
  * The setup is that of the file SETUP.
@@ -31,6 +34,10 @@ static jg_core core;
 
 /* Whether notes say what came of calls. */
 static int is_did;
+
+/* Whether advice is told, and by whom: of critical regions of more than two calls. */
+static int is_advising;
+static jg_adviser adviser;
 
 static void fail(const record_line *line, const char *why) {
     fflush(stdout);
@@ -201,6 +208,54 @@ static void say_text(const char *words, int64_t (*call)(uint32_t, uint8_t *, siz
     fprintf(stderr, "%s%.*s\n", words, length, (const char *)bytes);
 }
 
+/* The function's name behind these words, where there is a function. */
+static void say_function(const char *words, uint32_t number) {
+    for (size_t at = 0; at < JG_FUNCTIONS; at++) {
+        if (FUNCTIONS[at].number == number) {
+            fprintf(stderr, "%s%s", words, FUNCTIONS[at].name);
+        }
+    }
+}
+
+/* The kind's text between these words. */
+static void say_kind(const char *before, int64_t (*call)(uint32_t, uint8_t *, size_t), uint32_t kind,
+                     const char *behind) {
+    uint8_t bytes[1024];
+    int length = (int)must(call(kind, bytes, sizeof bytes));
+    fprintf(stderr, "%s%.*s%s", before, length, (const char *)bytes, behind);
+}
+
+/* Says all that is advised and wasn't said yet, as `jg` does. */
+static void say_advice(void) {
+    jg_advice it;
+    while (must(jg_advised(&adviser, &it)) == 1) {
+        if (it.at_end) {
+            fprintf(stderr, "end");
+        } else {
+            fprintf(stderr, "line %llu", (unsigned long long)it.told.place);
+        }
+        say_kind(": advice ", jg_advice_name, it.kind, "");
+        say_function(" of ", it.told.function);
+        say_kind(": ", jg_advice_text, it.kind, "\n");
+        if (it.source.thread != JG_NOBODY) {
+            say_kind("  ", jg_advice_verb, it.kind, "");
+            fprintf(stderr, " at line %llu by T%u", (unsigned long long)it.source.place, (unsigned)it.source.thread);
+            say_function(" ", it.source.function);
+            fprintf(stderr, "\n");
+        }
+        say_kind("  help: ", jg_advice_help, it.kind, "\n");
+    }
+}
+
+/* The adviser is told that the call is made. A name is the first operand of FindClass. */
+static void advise_call(const record_line *line, uint32_t thread, uint32_t function, const jg_value *operands,
+                        size_t count) {
+    const char *name = function == JG_FN_FindClass ? line->fields[3] : "";
+    must(jg_advise_call(&adviser, &core, line->number, thread, function, operands, count, jg_bytes(name),
+                        strlen(name)));
+    say_advice();
+}
+
 /* Says why a question was denied. */
 static void explain(const record_line *line, const jg_verdict *verdict, const char *name) {
     fprintf(stderr, "line %lu: deny %u %s", (unsigned long)line->number, (unsigned)verdict->rule, name);
@@ -221,7 +276,9 @@ static void put_verdict(const record_line *line, const jg_verdict *verdict) {
     name[must(jg_rule_name(verdict->rule, name, sizeof name - 1))] = 0;
     snprintf(text, sizeof text, " = deny %u %s", (unsigned)verdict->rule, (const char *)name);
     put_text(text);
-    explain(line, verdict, (const char *)name);
+    if (!is_advising) {
+        explain(line, verdict, (const char *)name);
+    }
 }
 
 /* ---- facts ---- */
@@ -321,6 +378,10 @@ static void tell_gone(const record_line *line, uint32_t thread) {
         end_impossible(line);
     }
     must(answer);
+    if (is_advising) {
+        must(jg_advise_gone(&adviser, line->number));
+        say_advice();
+    }
     put_fact(line, jg_nothing());
 }
 
@@ -346,6 +407,10 @@ static void tell(record_line *line, uint32_t thread) {
         end_impossible(line);
     }
     must(answer);
+    if (is_advising) {
+        must(jg_advise_fact(&adviser, &core, line->number, &fact));
+        say_advice();
+    }
     put_fact(line, given);
 }
 
@@ -428,6 +493,9 @@ static void ask(record_line *line, uint32_t thread) {
         must(jg_ending(&core, thread, &env, number, operands, count, &verdict, &given));
     } else {
         must(jg_ask(&core, thread, &env, number, operands, count, &verdict));
+    }
+    if (is_advising && verdict.rule == 0) {
+        advise_call(line, thread, number, operands, count);
     }
     if (strchr(FUNCTIONS[function].sorts, 's') == NULL) {
         expect_line(line, made, jg_question_line(&core, thread, &env, number, operands, count, made, sizeof made));
@@ -537,14 +605,22 @@ int main(int argc, char **argv) {
         end_with(NO_MEMORY, "no memory");
     }
     is_did = argc > 1 && strcmp(argv[1], "did") == 0;
+    is_advising = argc > 1 && strcmp(argv[1], "advise") == 0;
     open_core(&setup, &record);
+    must(jg_adviser_open(2, &adviser));
     while ((end = (const char *)memchr(begun, '\n', record.size - (size_t)(begun - record.bytes))) != NULL) {
         line.number++;
         answer(&line, begun, (size_t)(end - begun), room);
         begun = end + 1;
     }
     fflush(stdout);
-    say_leaks();
+    if (is_advising) {
+        must(jg_advise_end(&adviser));
+        say_advice();
+    } else {
+        say_leaks();
+    }
+    must(jg_adviser_close(&adviser));
     must(jg_core_close(&core));
     free(room);
     free(record.bytes);

@@ -18,6 +18,7 @@ static struct {
     jg_verdict verdict;
     jg_value given;
     jg_fact fact;
+    jg_advice advice;
     uint64_t held;
     uint8_t text[ROOM];
 } out, filled;
@@ -121,6 +122,24 @@ static void refuse_closed_guard(void) {
     REFUSED(JG_CLOSED, jg_guard_leaks(&guard, out.text, ROOM));
     REFUSED(JG_CLOSED, jg_guard_explain(&guard, out.text, ROOM));
     DONE(1, guard.at == NULL);
+}
+
+static void refuse_closed_adviser(known *k) {
+    const jg_fact fact = jg_fact_of(JG_ENTERS, THREAD, jg_nothing(), jg_null(), 0, 0);
+    jg_core core = {NULL};
+    jg_adviser adviser = {NULL};
+    REFUSED(JG_CLOSED, jg_adviser_close(&adviser));
+    REFUSED(JG_CLOSED, jg_advise_call(&adviser, &k->core, 1, THREAD, JG_FN_GetVersion, NULL, 0, NULL, 0));
+    REFUSED(JG_CLOSED, jg_advise_fact(&adviser, &k->core, 1, &fact));
+    REFUSED(JG_CLOSED, jg_advise_gone(&adviser, 1));
+    REFUSED(JG_CLOSED, jg_advise_end(&adviser));
+    REFUSED(JG_CLOSED, jg_advised(&adviser, &out.advice));
+    DONE(1, adviser.at == NULL);
+    DONE(0, jg_adviser_open(1, &adviser));
+    REFUSED(JG_IS_OPEN, jg_adviser_open(1, &adviser));
+    REFUSED(JG_CLOSED, jg_advise_call(&adviser, &core, 1, THREAD, JG_FN_GetVersion, NULL, 0, NULL, 0));
+    REFUSED(JG_CLOSED, jg_advise_fact(&adviser, &core, 1, &fact));
+    DONE(0, jg_adviser_close(&adviser));
 }
 
 /* ---- openings ---- */
@@ -317,6 +336,103 @@ static void refuse_names(known *k) {
     REFUSED(JG_BAD_VALUE, jg_class_of(&k->core, UINT32_MAX));
 }
 
+/* ---- advice ---- */
+
+/* An adviser beside the core. It is told of the session alone, which is all that these calls need. */
+static void open_adviser(known *k, jg_adviser *adviser) {
+    const jg_value none = jg_nothing(), null = jg_null();
+    const jg_fact begins = jg_fact_of(JG_BEGINS, THREAD, none, null, 0, 0);
+    DONE(0, jg_adviser_open(2, adviser));
+    DONE(0, jg_advise_fact(adviser, &k->core, 1, &begins));
+}
+
+static void refuse_advice(known *k) {
+    const jg_value far = jg_local(65536, 1), name = jg_name();
+    const jg_fact unstated = jg_fact_of(0, THREAD, jg_nothing(), jg_null(), 0, 0);
+    jg_adviser adviser = {NULL};
+    open_adviser(k, &adviser);
+    REFUSED(JG_BAD_THREAD, jg_advise_call(&adviser, &k->core, 2, 65536, JG_FN_GetVersion, NULL, 0, NULL, 0));
+    REFUSED(JG_BAD_VALUE, jg_advise_call(&adviser, &k->core, 2, THREAD, JG_FN_NewLocalRef, &far, 1, NULL, 0));
+    REFUSED(JG_NO_FUNCTION, jg_advise_call(&adviser, &k->core, 2, THREAD, JG_FUNCTIONS, NULL, 0, NULL, 0));
+    REFUSED(JG_NO_FUNCTION, jg_advise_call(&adviser, &k->core, 2, THREAD, 65536, NULL, 0, NULL, 0));
+    REFUSED(JG_BAD_FACT, jg_advise_fact(&adviser, &k->core, 2, &unstated));
+    REFUSED(0, jg_advised(&adviser, &out.advice));
+    REFUSED(JG_NULL_POINTER, jg_adviser_open(1, NULL));
+    REFUSED(JG_NULL_POINTER, jg_adviser_close(NULL));
+    REFUSED(JG_NULL_POINTER, jg_advise_call(NULL, &k->core, 2, THREAD, JG_FN_FindClass, &name, 1, NULL, 0));
+    REFUSED(JG_NULL_POINTER, jg_advise_call(&adviser, NULL, 2, THREAD, JG_FN_FindClass, &name, 1, NULL, 0));
+    REFUSED(JG_NULL_POINTER, jg_advise_call(&adviser, &k->core, 2, THREAD, JG_FN_FindClass, NULL, 1, NULL, 0));
+    REFUSED(JG_NULL_POINTER, jg_advise_call(&adviser, &k->core, 2, THREAD, JG_FN_FindClass, &name, 1, NULL, 1));
+    REFUSED(JG_NULL_POINTER, jg_advise_fact(NULL, &k->core, 2, &unstated));
+    REFUSED(JG_NULL_POINTER, jg_advise_fact(&adviser, NULL, 2, &unstated));
+    REFUSED(JG_NULL_POINTER, jg_advise_fact(&adviser, &k->core, 2, NULL));
+    REFUSED(JG_NULL_POINTER, jg_advise_gone(NULL, 2));
+    REFUSED(JG_NULL_POINTER, jg_advise_end(NULL));
+    REFUSED(JG_NULL_POINTER, jg_advised(NULL, &out.advice));
+    REFUSED(JG_NULL_POINTER, jg_advised(&adviser, NULL));
+    DONE(0, jg_adviser_close(&adviser));
+}
+
+/* The next advice is this one, on a call at `place`, because of one at `source`, or of none where that is 0. */
+static void expect_advice(jg_adviser *adviser, uint32_t kind, uint32_t function, uint64_t place, uint64_t source) {
+    jg_advice it;
+    memset(&it, 0, sizeof it);
+    DONE(1, jg_advised(adviser, &it));
+    DONE((int64_t)kind, (int64_t)it.kind);
+    DONE((int64_t)function, (int64_t)it.told.function);
+    DONE(place == 0, (int64_t)it.at_end);
+    DONE((int64_t)place, (int64_t)it.told.place);
+    DONE(THREAD, (int64_t)it.told.thread);
+    DONE((int64_t)source, (int64_t)it.source.place);
+    DONE((int64_t)(source ? THREAD : JG_NOBODY), (int64_t)it.source.thread);
+}
+
+/* The thread makes the call, at this place. */
+static void make_call(known *k, jg_adviser *adviser, uint64_t place, uint32_t function, const jg_value *operands,
+                      size_t count, const char *name) {
+    jg_verdict verdict;
+    DONE(0, jg_ask(&k->core, THREAD, &k->env, function, operands, count, &verdict));
+    DONE(0, (int64_t)verdict.rule);
+    DONE(0, jg_advise_call(adviser, &k->core, place, THREAD, function, operands, count, jg_bytes(name), strlen(name)));
+}
+
+/* Advice of each way: on a call alone, because of an earlier one, at the end. */
+static void test_advice(known *k) {
+    const jg_value name = jg_name(), call[] = {k->local, jg_id(1)};
+    jg_adviser adviser = {NULL};
+    open_adviser(k, &adviser);
+    make_call(k, &adviser, 10, JG_FN_FindClass, &name, 1, "java.lang.String");
+    make_call(k, &adviser, 11, JG_FN_FindClass, &name, 1, "java/lang/String");
+    make_call(k, &adviser, 12, JG_FN_CallVoidMethod, call, 2, "");
+    make_call(k, &adviser, 13, JG_FN_GetStringLength, &k->local, 1, "");
+    make_call(k, &adviser, 14, JG_FN_ExceptionCheck, NULL, 0, "");
+    make_call(k, &adviser, 15, JG_FN_GetStringLength, &k->local, 1, "");
+    DONE(0, jg_advise_gone(&adviser, 16));
+    expect_advice(&adviser, JG_DESCRIPTOR, JG_FN_FindClass, 10, 0);
+    expect_advice(&adviser, JG_UNCHECKED, JG_FN_GetStringLength, 13, 12);
+    REFUSED(0, jg_advised(&adviser, &out.advice));
+    DONE(0, jg_advise_end(&adviser));
+    REFUSED(0, jg_advised(&adviser, &out.advice));
+    DONE(0, jg_adviser_close(&adviser));
+}
+
+static void test_advice_texts(void) {
+    for (uint32_t kind = JG_UNCHECKED; kind <= JG_GROWING; kind++) {
+        DONE(1, jg_advice_name(kind, NULL, 0) > 0 && jg_advice_text(kind, NULL, 0) > 0);
+        DONE(1, jg_advice_verb(kind, NULL, 0) > 0 && jg_advice_help(kind, NULL, 0) > 0);
+    }
+    DONE(9, jg_advice_name(JG_UNCHECKED, NULL, 0));
+    DONE(6, jg_advice_verb(JG_UNCHECKED, NULL, 0));
+    REFUSED(JG_BAD_VALUE, jg_advice_name(0, out.text, ROOM));
+    REFUSED(JG_BAD_VALUE, jg_advice_text(JG_GROWING + 1, out.text, ROOM));
+    REFUSED(JG_BAD_VALUE, jg_advice_verb(UINT32_MAX, out.text, ROOM));
+    REFUSED(JG_BAD_VALUE, jg_advice_help(0, out.text, ROOM));
+    REFUSED(JG_NULL_POINTER, jg_advice_name(1, NULL, 1));
+    REFUSED(JG_NULL_POINTER, jg_advice_text(1, NULL, 1));
+    REFUSED(JG_NULL_POINTER, jg_advice_verb(1, NULL, 1));
+    REFUSED(JG_NULL_POINTER, jg_advice_help(1, NULL, 1));
+}
+
 /* ---- null pointers ---- */
 
 static void refuse_null_in_questions(known *k) {
@@ -503,6 +619,9 @@ int main(void) {
     refuse_null_in_questions(&k);
     refuse_null_in_facts(&k);
     refuse_null_in_texts(&k);
+    refuse_closed_adviser(&k);
+    refuse_advice(&k);
+    test_advice(&k);
     close_known(&k);
     refuse_closed_core();
     refuse_closed_guard();
@@ -512,6 +631,7 @@ int main(void) {
     refuse_guard();
     refuse_numbers();
     test_utf8();
+    test_advice_texts();
     printf("%d refusals, %d wrong\n", refusals, wrong);
     return wrong != 0;
 }

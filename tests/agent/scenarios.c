@@ -3,7 +3,8 @@
  *
  * A scenario has a name, a function and what the agent is to deny: `6 GetStringLength` for each block, in order. Where
  * the calls aren't made (`strict`) others may follow, so that may be another list. Flags: A runs in a machine of its
- * own, whose whole report counts; C the same, since HotSpot may die of the call.
+ * own, whose whole report counts; C the same, since HotSpot may die of the call; V the same, with advice and regions of
+ * more than three calls.
  */
 #include <jni.h>
 #include <pthread.h>
@@ -999,6 +1000,106 @@ static void ends_throw(JNIEnv *env, struct given *it) {
     E->GetArrayLength(env, it->numbers);
 }
 
+/* ---- advice, and the silent twin of each ---- */
+
+static void call_nothing(JNIEnv *env, struct given *it) {
+    E->CallVoidMethod(env, it->object, method(env, it, "nothing", "()V"));
+}
+static void advised_unchecked(JNIEnv *env, struct given *it) {
+    call_nothing(env, it);
+    E->GetStringLength(env, it->text);
+}
+static void advised_checked(JNIEnv *env, struct given *it) {
+    call_nothing(env, it);
+    E->ExceptionCheck(env);
+    E->GetStringLength(env, it->text);
+}
+static void advised_often(JNIEnv *env, struct given *it) {
+    jmethodID nothing = method(env, it, "nothing", "()V");
+    for (int turn = 0; turn < 3; turn++) {
+        E->CallVoidMethod(env, it->object, nothing);
+        E->GetStringLength(env, it->text);
+        E->ExceptionClear(env);
+    }
+}
+static void other_commits(JNIEnv *env, struct other *it) {
+    jint *items = E->GetIntArrayElements(env, it->reference, NULL);
+    E->ReleaseIntArrayElements(env, it->reference, items, JNI_COMMIT);
+}
+static void advised_commit(JNIEnv *env, struct given *it) {
+    jobject global = E->NewGlobalRef(env, it->numbers);
+    in_attached(env, other_commits, global);
+    E->DeleteGlobalRef(env, global);
+}
+static void advised_commit_at_end(JNIEnv *env, struct given *it) {
+    struct other other = {.reference = it->numbers};
+    other_commits(env, &other);
+}
+static void other_releases(JNIEnv *env, struct other *it) {
+    jint *items = E->GetIntArrayElements(env, it->reference, NULL);
+    E->ReleaseIntArrayElements(env, it->reference, items, JNI_COMMIT);
+    E->ReleaseIntArrayElements(env, it->reference, items, 0);
+}
+static void advised_release(JNIEnv *env, struct given *it) {
+    jobject global = E->NewGlobalRef(env, it->numbers);
+    in_attached(env, other_releases, global);
+    E->DeleteGlobalRef(env, global);
+}
+static void in_region(JNIEnv *env, struct given *it, int pairs) {
+    void *memory = E->GetPrimitiveArrayCritical(env, it->numbers, NULL);
+    for (int pair = 0; pair < pairs; pair++) {
+        const jchar *units = E->GetStringCritical(env, it->text, NULL);
+        E->ReleaseStringCritical(env, it->text, units);
+    }
+    E->ReleasePrimitiveArrayCritical(env, it->numbers, memory, 0);
+}
+static void advised_region(JNIEnv *env, struct given *it) {
+    in_region(env, it, 2);
+}
+static void advised_short_region(JNIEnv *env, struct given *it) {
+    in_region(env, it, 1);
+}
+static void other_enters(JNIEnv *env, struct other *it) {
+    E->MonitorEnter(env, it->reference);
+}
+static void other_exits(JNIEnv *env, struct other *it) {
+    E->MonitorEnter(env, it->reference);
+    E->MonitorExit(env, it->reference);
+}
+static void with_lock(JNIEnv *env, struct given *it, void (*run)(JNIEnv *, struct other *)) {
+    jobject global = E->NewGlobalRef(env, it->lock);
+    in_attached(env, run, global);
+    E->DeleteGlobalRef(env, global);
+}
+static void advised_monitor(JNIEnv *env, struct given *it) {
+    with_lock(env, it, other_enters);
+}
+static void advised_exit(JNIEnv *env, struct given *it) {
+    with_lock(env, it, other_exits);
+}
+static void advised_descriptor(JNIEnv *env, struct given *it) {
+    E->FindClass(env, "Ljava/lang/String;");
+    E->ExceptionClear(env);
+}
+static void advised_name(JNIEnv *env, struct given *it) {
+    E->FindClass(env, "java/lang/String");
+    E->FindClass(env, "[Ljava/lang/String;");
+}
+static void make_locals(JNIEnv *env, struct given *it, int are_deleted) {
+    for (int turn = 0; turn < 170; turn++) {
+        jobject local = E->NewLocalRef(env, it->text);
+        if (are_deleted) {
+            E->DeleteLocalRef(env, local);
+        }
+    }
+}
+static void advised_locals(JNIEnv *env, struct given *it) {
+    make_locals(env, it, 0);
+}
+static void advised_deleted(JNIEnv *env, struct given *it) {
+    make_locals(env, it, 1);
+}
+
 /* ---- all of them ---- */
 
 static const struct {
@@ -1122,6 +1223,20 @@ static const struct {
     {"ends_other", ends_other, "1 NewGlobalRef", NULL, ""},
     {"ends_throw", ends_throw, "3 ThrowNew", NULL, ""},
     {"unjudged_deletes", unjudged_deletes, "6 IsSameObject", NULL, ""},
+    {"advised_unchecked", advised_unchecked, "unchecked GetStringLength", NULL, "V"},
+    {"advised_checked", advised_checked, "", NULL, "V"},
+    {"advised_often", advised_often, "unchecked GetStringLength", NULL, "V"},
+    {"advised_commit", advised_commit, "committed and kept ReleaseIntArrayElements", NULL, "V"},
+    {"advised_commit_at_end", advised_commit_at_end, "committed and kept ReleaseIntArrayElements", NULL, "V"},
+    {"advised_release", advised_release, "", NULL, "V"},
+    {"advised_region", advised_region, "long region GetPrimitiveArrayCritical", NULL, "V"},
+    {"advised_short_region", advised_short_region, "", NULL, "V"},
+    {"advised_monitor", advised_monitor, "monitor at detachment MonitorEnter", NULL, "V"},
+    {"advised_exit", advised_exit, "", NULL, "V"},
+    {"advised_descriptor", advised_descriptor, "descriptor for a name FindClass", NULL, "V"},
+    {"advised_name", advised_name, "", NULL, "V"},
+    {"advised_locals", advised_locals, "growing NewLocalRef", NULL, "V"},
+    {"advised_deleted", advised_deleted, "", NULL, "V"},
 };
 
 enum { COUNT = sizeof SCENARIOS / sizeof *SCENARIOS };

@@ -19,3 +19,4 @@ pub use advice::{Advice, Kind, Source};
 pub use adviser::Adviser;
 pub use counsel::Counsel;
 pub use report::Advices;
+pub use texts::{help, kind_word, sentence, verb};

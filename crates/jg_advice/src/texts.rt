@@ -9,7 +9,8 @@ use jg_functions::row_of;
 use jg_text::{push_number, push_tid};
 use std::alloc::AllocError;
 
-fn kind_word(kind: Kind) -> &'static str
+/// The name of the kind.
+pub fn kind_word(kind: Kind) -> &'static str
     ensures { result.now ≡ texts.kind_text kind }
 {
     match kind {
@@ -23,7 +24,8 @@ fn kind_word(kind: Kind) -> &'static str
     }
 }
 
-fn sentence(kind: Kind) -> &'static str
+/// What is amiss, in a sentence.
+pub fn sentence(kind: Kind) -> &'static str
     ensures { result.now ≡ texts.sentence_of kind }
 {
     match kind {
@@ -39,7 +41,7 @@ fn sentence(kind: Kind) -> &'static str
 }
 
 /// What the earlier call did.
-fn verb(kind: Kind) -> &'static str
+pub fn verb(kind: Kind) -> &'static str
     ensures { result.now ≡ texts.verb_of kind }
 {
     match kind {
@@ -52,7 +54,8 @@ fn verb(kind: Kind) -> &'static str
     }
 }
 
-fn help(kind: Kind) -> &'static str
+/// What helps.
+pub fn help(kind: Kind) -> &'static str
     ensures { result.now ≡ texts.help_of kind }
 {
     match kind {

@@ -2,15 +2,17 @@
 use Rattle.std.proofs.Common.{◌≡◌, ◌∙◌, Option, Some, None, sym, ap, subst}
 use Rattle.jg_guard.specs.Guard.{State}
 use Rattle.jg_c.specs.declared.session.Session.{Session}
-use Rattle.jg_c.specs.declared.session.Session.TheVariants.{Core, Guard}
+use Rattle.jg_c.specs.declared.session.Session.TheVariants.{Core, Guard, Adviser}
+use Rattle.jg_c.specs.Advisers.{AdviserHeld}
 use Rattle.jg_c.specs.Cores.{CoreHeld}
-use Rattle.jg_c.specs.Sessions.{Steps, core_of, guard_of}
+use Rattle.jg_c.specs.Sessions.{Of, Steps, adviser_of, core_of, guard_of}
 
 -- it holds the core that it is said to hold
 pub holds_core : (v : Option Session) (a : CoreHeld) → core_of v ≡ Some a → v ≡ Some (Core a)
 holds_core None a is = absurd (let no : ⊥ = cc in no)
 holds_core (Some (Core x)) a is = let same : x ≡ a = cc in ap (λ y. Some (Core y)) same
 holds_core (Some (Guard g)) a is = absurd (let no : ⊥ = cc in no)
+holds_core (Some (Adviser x)) a is = absurd (let no : ⊥ = cc in no)
 
 -- it is as it was, where its core is
 pub unchanged : (v new : Option Session) (a b : CoreHeld) → core_of v ≡ Some a → new ≡ Some (Core b) → b ≡ a → new ≡ v
@@ -21,6 +23,7 @@ pub holds_guard : (v : Option Session) (a : State) → guard_of v ≡ Some a →
 holds_guard None a is = absurd (let no : ⊥ = cc in no)
 holds_guard (Some (Core x)) a is = absurd (let no : ⊥ = cc in no)
 holds_guard (Some (Guard x)) a is = let same : x ≡ a = cc in ap (λ y. Some (Guard y)) same
+holds_guard (Some (Adviser x)) a is = absurd (let no : ⊥ = cc in no)
 
 pub unchanged_guard : (v new : Option Session) (a b : State) → guard_of v ≡ Some a → new ≡ Some (Guard b) → b ≡ a → new ≡ v
 unchanged_guard v new a b held is same = is ∙ ap (λ y. Some (Guard y)) same ∙ sym (holds_guard v a held)
@@ -33,3 +36,21 @@ stepped_guard v new a b R held is r =
 pub stepped : (v new : Option Session) (a b : CoreHeld) (R : CoreHeld → CoreHeld → Type 0) → core_of v ≡ Some a → new ≡ Some (Core b) → R a b → Steps (core_of v) (core_of new) R
 stepped v new a b R held is r =
     subst (λ (x : Option CoreHeld). Steps x (core_of new) R) (sym held) (subst (λ (x : Option Session). Steps (Some a) (core_of x) R) (sym is) r)
+
+-- the same of an adviser
+pub holds_adviser : (v : Option Session) (a : AdviserHeld) → adviser_of v ≡ Some a → v ≡ Some (Adviser a)
+holds_adviser None a is = absurd (let no : ⊥ = cc in no)
+holds_adviser (Some (Core x)) a is = absurd (let no : ⊥ = cc in no)
+holds_adviser (Some (Guard g)) a is = absurd (let no : ⊥ = cc in no)
+holds_adviser (Some (Adviser x)) a is = let same : x ≡ a = cc in ap (λ y. Some (Adviser y)) same
+
+pub unchanged_adviser : (v new : Option Session) (a b : AdviserHeld) → adviser_of v ≡ Some a → new ≡ Some (Adviser b) → b ≡ a → new ≡ v
+unchanged_adviser v new a b held is same = is ∙ ap (λ y. Some (Adviser y)) same ∙ sym (holds_adviser v a held)
+
+pub stepped_adviser : (v new : Option Session) (a b : AdviserHeld) (R : AdviserHeld → AdviserHeld → Type 0) → adviser_of v ≡ Some a → new ≡ Some (Adviser b) → R a b → Steps (adviser_of v) (adviser_of new) R
+stepped_adviser v new a b R held is r =
+    subst (λ (x : Option AdviserHeld). Steps x (adviser_of new) R) (sym held) (subst (λ (x : Option Session). Steps (Some a) (adviser_of x) R) (sym is) r)
+
+-- and so it is of the core that is held
+pub of_core : (v : Option Session) (a : CoreHeld) (P : CoreHeld → Type 0) → core_of v ≡ Some a → P a → Of (core_of v) P
+of_core v a P held p = subst (λ (x : Option CoreHeld). Of x P) (sym held) p

@@ -1,3 +1,5 @@
 mod Reading
 mod Holding
 mod Naming
+mod Seeing
+mod Noting

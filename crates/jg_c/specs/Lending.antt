@@ -5,13 +5,15 @@ use Rattle.jg_slot.specs.declared.slot.Slot.{Slot}
 use Rattle.jg_slot.specs.contracts.slot.Slot as slot
 use Rattle.jg_guard.specs.Guard.{State}
 use Rattle.jg_c.specs.declared.session.Session.{Session}
-use Rattle.jg_c.specs.declared.session.Session.TheVariants.{Core, Guard}
+use Rattle.jg_c.specs.declared.session.Session.TheVariants.{Core, Guard, Adviser}
 use Rattle.jg_c.specs.declared.handle.Handle.{Handle}
+use Rattle.jg_c.specs.contracts.session.AdviserSession as noted
 use Rattle.jg_c.specs.contracts.session.CoreSession as asked
 use Rattle.jg_c.specs.contracts.session.GuardSession as kept
 use Rattle.jg_c.specs.contracts.session.Session as session
+use Rattle.jg_c.specs.Advisers.{AdviserHeld}
 use Rattle.jg_c.specs.Cores.{CoreHeld}
-use Rattle.jg_c.specs.Sessions.{core_of, guard_of}
+use Rattle.jg_c.specs.Sessions.{adviser_of, core_of, guard_of}
 use Rattle.jg_c.specs.contracts.handle.Handle as handle
 
 -- the slot's pointer and value, as a handle
@@ -40,4 +42,14 @@ LendsOwnGuard s r = LendsSo session.the_row kept.the_row s r
 abbrev pub LendsGuard : MutBor Handle → Option (MutBor State) → Fml
 LendsGuard s r = LendsSo handle.the_row kept.the_row s r
     (λ new g. (old : State) → guard_of s.now.value ≡ Some old → new.value ≡ Some (Guard g))
+    (λ new. new.value ≡ s.now.value)
+
+-- the same of an adviser
+abbrev pub LendsOwnAdviser : MutBor Session → Option (MutBor AdviserHeld) → Fml
+LendsOwnAdviser s r = LendsSo session.the_row noted.the_row s r
+    (λ new a. (old : AdviserHeld) → adviser_of (Some s.now) ≡ Some old → new ≡ Adviser a) (λ new. new ≡ s.now)
+
+abbrev pub LendsAdviser : MutBor Handle → Option (MutBor AdviserHeld) → Fml
+LendsAdviser s r = LendsSo handle.the_row noted.the_row s r
+    (λ new a. (old : AdviserHeld) → adviser_of s.now.value ≡ Some old → new.value ≡ Some (Adviser a))
     (λ new. new.value ≡ s.now.value)

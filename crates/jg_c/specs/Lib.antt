@@ -6,6 +6,7 @@ pub mod Facts
 pub mod Tickets
 pub mod Given
 pub mod Cores
+pub mod Advisers
 pub mod Sessions
 pub mod Opened
 pub mod Questions
@@ -15,3 +16,5 @@ pub mod Names
 pub mod Guards
 pub mod Texts
 pub mod ErrorNames
+pub mod Advices
+pub mod Advising

@@ -1,8 +1,9 @@
--- What a handle holds: nothing, a core or a guard.
+-- What a handle holds: nothing, a core, a guard or an adviser.
 use Rattle.std.specs.Prelude.{Option, Some, None}
 use Rattle.jg_guard.specs.Guard.{State}
 use Rattle.jg_c.specs.declared.session.Session.{Session}
-use Rattle.jg_c.specs.declared.session.Session.TheVariants.{Core, Guard}
+use Rattle.jg_c.specs.declared.session.Session.TheVariants.{Core, Guard, Adviser}
+use Rattle.jg_c.specs.Advisers.{AdviserHeld}
 use Rattle.jg_c.specs.Cores.{CoreHeld}
 
 -- the core that is held, if one is
@@ -10,12 +11,21 @@ abbrev pub core_of : Option Session → Option CoreHeld
 core_of None = None
 core_of (Some (Core x)) = Some x
 core_of (Some (Guard g)) = None
+core_of (Some (Adviser x)) = None
 
 -- the guard that is held, if one is
 abbrev pub guard_of : Option Session → Option State
 guard_of None = None
 guard_of (Some (Core x)) = None
 guard_of (Some (Guard g)) = Some g
+guard_of (Some (Adviser x)) = None
+
+-- the adviser that is held, if one is
+abbrev pub adviser_of : Option Session → Option AdviserHeld
+adviser_of None = None
+adviser_of (Some (Core x)) = None
+adviser_of (Some (Guard g)) = None
+adviser_of (Some (Adviser x)) = Some x
 
 -- so it is of what is there, if anything is
 abbrev pub Of : {A : Type 0} → Option A → (A → Type 0) → Type 0

@@ -1,6 +1,9 @@
-//! The core and the guard for C.
+//! The core, the guard and the adviser for C.
 #![tactic(auto)]
 
+mod advice;
+mod advisers;
+mod advising;
 mod asking;
 mod copying;
 mod error;
@@ -25,10 +28,11 @@ mod utf8;
 mod value;
 mod verdict;
 
+pub use advice::{JgAdvice, JgSpot};
 pub use fact::JgFact;
 pub use handle::Handle;
 pub use opening::JgBounds;
-pub use session::{CoreSession, Session};
+pub use session::{AdviserSession, CoreSession, Session};
 pub use ticket::JgTicket;
 pub use value::JgValue;
 pub use verdict::JgVerdict;

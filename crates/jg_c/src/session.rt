@@ -1,9 +1,11 @@
 //! What a handle stands for.
 
+use jg_advice::{Advice, Adviser};
 use jg_core::Core;
 use jg_guard::Guard;
 use jg_questions::Bounds;
 use jg_record::Lists;
+use std::collections::VecDeque;
 use std::marker::Model;
 
 /// A core, and the bounds by which it judges. Contracts see both.
@@ -52,9 +54,43 @@ impl Model for GuardSession {
     ghost view = { λ k. k.guard };
 }
 
+/// An adviser with what it advised. Contracts see all but the room.
+#[derive(Drop)]
+pub struct Noted {
+    pub(crate) adviser: Adviser,
+    /// What it advised and nobody took yet, the oldest first.
+    pub(crate) waiting: VecDeque<Advice>,
+    /// Room for what is advised at one moment.
+    pub(crate) room: Vec<Advice>,
+}
+
+impl Model for Noted {
+    ghost use Rattle.jg_c.specs.Advisers.{NotedHeld};
+
+    ghost Value = { NotedHeld };
+
+    ghost view = { λ a. record { adviser = a.adviser; waiting = a.waiting.items } };
+}
+
+/// An adviser, and whether memory ran out for it: then it is of no more use. Contracts see both.
+#[derive(Drop)]
+pub struct AdviserSession {
+    pub(crate) noted: Noted,
+    pub(crate) lost: bool,
+}
+
+impl Model for AdviserSession {
+    ghost use Rattle.jg_c.specs.Advisers.{AdviserHeld};
+
+    ghost Value = { AdviserHeld };
+
+    ghost view = { λ a. record { noted = a.noted; lost = a.lost } };
+}
+
 /// What a handle stands for.
 #[derive(Drop)]
 pub enum Session {
     Core(CoreSession),
     Guard(GuardSession),
+    Adviser(AdviserSession),
 }

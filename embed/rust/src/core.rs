@@ -137,7 +137,7 @@ fn env_value(env: Option<Environment>) -> JgValue {
 }
 
 /// The operands, as C has them.
-fn first_of(operands: &[Value]) -> *const JgValue {
+pub(crate) fn first_of(operands: &[Value]) -> *const JgValue {
     // `Value` is a transparent `JgValue`.
     operands.as_ptr().cast()
 }
@@ -169,6 +169,11 @@ impl Core {
         };
         answered(answer.into())?;
         Ok(Core { handle })
+    }
+
+    /// The handle, for calls that take two.
+    pub(crate) fn handle(&mut self) -> *mut JgCore {
+        &mut self.handle
     }
 
     /// Whether the thread, with this environment, may now call the function with these operands. Ask when the call

@@ -52,6 +52,23 @@ pub struct JgBounds {
     pub items: i32,
 }
 
+#[repr(C)]
+#[derive(Clone, Copy, Debug, PartialEq, Eq)]
+pub struct JgSpot {
+    pub place: u64,
+    pub thread: u32,
+    pub function: u32,
+}
+
+#[repr(C)]
+#[derive(Clone, Copy, Debug, PartialEq, Eq)]
+pub struct JgAdvice {
+    pub kind: u32,
+    pub at_end: u32,
+    pub told: JgSpot,
+    pub source: JgSpot,
+}
+
 /// `jg_core`.
 #[repr(C)]
 #[derive(Debug)]
@@ -63,6 +80,13 @@ pub struct JgCore {
 #[repr(C)]
 #[derive(Debug)]
 pub struct JgGuard {
+    pub at: *mut c_void,
+}
+
+/// `jg_adviser`.
+#[repr(C)]
+#[derive(Debug)]
+pub struct JgAdviser {
     pub at: *mut c_void,
 }
 
@@ -135,6 +159,29 @@ extern "C" {
     ) -> i64;
     pub fn jg_class_of(core: *mut JgCore, kind: u32) -> i64;
 
+    pub fn jg_adviser_open(most: u64, adviser: *mut JgAdviser) -> i32;
+    pub fn jg_adviser_close(adviser: *mut JgAdviser) -> i32;
+    pub fn jg_advise_call(
+        adviser: *mut JgAdviser,
+        core: *mut JgCore,
+        place: u64,
+        thread: u32,
+        function: u32,
+        operands: *const JgValue,
+        count: usize,
+        name: *const u8,
+        size: usize,
+    ) -> i32;
+    pub fn jg_advise_fact(
+        adviser: *mut JgAdviser,
+        core: *mut JgCore,
+        place: u64,
+        fact: *const JgFact,
+    ) -> i32;
+    pub fn jg_advise_gone(adviser: *mut JgAdviser, place: u64) -> i32;
+    pub fn jg_advise_end(adviser: *mut JgAdviser) -> i32;
+    pub fn jg_advised(adviser: *mut JgAdviser, advice: *mut JgAdvice) -> i32;
+
     pub fn jg_guard_open(
         text: *const u8,
         size: usize,
@@ -159,6 +206,10 @@ extern "C" {
     pub fn jg_rule_name(rule: u32, text: *mut u8, room: usize) -> i64;
     pub fn jg_rule_text(rule: u32, text: *mut u8, room: usize) -> i64;
     pub fn jg_help_text(rule: u32, text: *mut u8, room: usize) -> i64;
+    pub fn jg_advice_name(kind: u32, text: *mut u8, room: usize) -> i64;
+    pub fn jg_advice_text(kind: u32, text: *mut u8, room: usize) -> i64;
+    pub fn jg_advice_verb(kind: u32, text: *mut u8, room: usize) -> i64;
+    pub fn jg_advice_help(kind: u32, text: *mut u8, room: usize) -> i64;
     pub fn jg_error_name(number: i32, text: *mut u8, room: usize) -> i64;
     pub fn jg_is_utf8(text: *const u8, size: usize) -> i32;
 }
@@ -195,10 +246,19 @@ mod tests {
     }
 
     #[test]
+    fn advice_is_laid_out_as_in_c() {
+        assert_eq!((size_of::<JgSpot>(), size_of::<JgAdvice>()), (16, 40));
+        assert_eq!(offset_of!(JgSpot, function), 12);
+        assert_eq!(offset_of!(JgAdvice, told), 8);
+        assert_eq!(offset_of!(JgAdvice, source), 24);
+    }
+
+    #[test]
     fn handles_and_bounds_are_laid_out_as_in_c() {
         assert_eq!((size_of::<JgBounds>(), align_of::<JgBounds>()), (12, 4));
         assert_eq!(offset_of!(JgBounds, items), 8);
         assert_eq!(size_of::<JgCore>(), size_of::<usize>());
         assert_eq!(size_of::<JgGuard>(), size_of::<usize>());
+        assert_eq!(size_of::<JgAdviser>(), size_of::<usize>());
     }
 }

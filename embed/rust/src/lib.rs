@@ -3,6 +3,7 @@
 //! - A [`Core`] stands in front of a virtual machine that answers by itself. It is asked whether a thread may make a
 //!   call now, and is told what the machine did.
 //! - A [`Guard`] answers scripts, as the program `jg` does: a line of a script in, its line of the journal out.
+//! - An [`Adviser`] stands beside a core, and says what breaks no rule and is likely wrong.
 //!
 //! The crate is a thin cover of `libjg.a`, which `./jg --lib` builds. What is proved is the library; this cover is
 //! tested.
@@ -32,6 +33,7 @@
 #![deny(missing_docs)]
 #![deny(unsafe_op_in_unsafe_fn)]
 
+mod adviser;
 mod core;
 mod error;
 mod fact;
@@ -43,6 +45,7 @@ mod rule;
 mod text;
 mod value;
 
+pub use crate::adviser::{Advice, AdviceKind, Adviser, Spot};
 pub use crate::core::{Bounds, Core, Ticket, Verdict};
 pub use crate::error::{Error, LineFault, SetupFault};
 pub use crate::fact::{Fact, Family, ObjectKind};

@@ -3,11 +3,11 @@
 ghost use Rattle.std.specs.Prelude.{◌≡◌, Option, Some, None};
 ghost use Rattle.std.specs.Option.{MatchOption};
 ghost use Rattle.std.specs.Borrow.{sem};
-ghost use Rattle.jg_c.specs.Lending.{LendsCore, LendsGuard, LendsOwnCore, LendsOwnGuard, LendsSlot};
-ghost use Rattle.jg_c.specs.Sessions.{core_of, guard_of};
+ghost use Rattle.jg_c.specs.Lending.{LendsAdviser, LendsCore, LendsGuard, LendsOwnAdviser, LendsOwnCore, LendsOwnGuard, LendsSlot};
+ghost use Rattle.jg_c.specs.Sessions.{adviser_of, core_of, guard_of};
 
 use super::Handle;
-use crate::session::{CoreSession, GuardSession, Session};
+use crate::session::{AdviserSession, CoreSession, GuardSession, Session};
 use jg_slot::Slot;
 
 impl Handle {
@@ -44,6 +44,18 @@ impl Handle {
             None => None,
         }
     }
+
+    /// The adviser that it holds, if it holds one.
+    pub(crate) fn adviser(&mut self) -> Option<&mut AdviserSession>
+        ensures* writes_back { sem 𝓛 (LendsAdviser self.entry result) }
+        ensures value { MatchOption result (adviser_of self.old.value ≡ None)
+            (λ a. adviser_of self.old.value ≡ Some a.now) }
+    {
+        match self.slot().get_mut() {
+            Some(session) => own_adviser(session),
+            None => None,
+        }
+    }
 }
 
 /// The core that the session is, if it is one.
@@ -55,6 +67,7 @@ fn own_core(session: &mut Session) -> Option<&mut CoreSession>
     match session {
         Session::Core(asked) => Some(asked),
         Session::Guard(_) => None,
+        Session::Adviser(_) => None,
     }
 }
 
@@ -67,5 +80,19 @@ fn own_guard(session: &mut Session) -> Option<&mut GuardSession>
     match session {
         Session::Core(_) => None,
         Session::Guard(kept) => Some(kept),
+        Session::Adviser(_) => None,
+    }
+}
+
+/// The adviser that the session is, if it is one.
+fn own_adviser(session: &mut Session) -> Option<&mut AdviserSession>
+    ensures* writes_back { sem 𝓛 (LendsOwnAdviser session.entry result) }
+    ensures value { MatchOption result (adviser_of (Some session.old) ≡ None)
+        (λ a. adviser_of (Some session.old) ≡ Some a.now) }
+{
+    match session {
+        Session::Core(_) => None,
+        Session::Guard(_) => None,
+        Session::Adviser(noted) => Some(noted),
     }
 }
