@@ -1,13 +1,16 @@
 -- What stands beside a guard, before and after its calls.
-use Rattle.std.proofs.Common.{◌≡◌, ◌∙◌, ◌⊎◌, inl, inr, Bool, true, false, List, [], Option, Some, None, String, refl}
+use Rattle.std.proofs.Common.{◌≡◌, ◌∙◌, ◌⊎◌, ℕ, IfSome, inl, inr, Bool, true, false, List, [], Option, Some, None, String, Global, string_bytes, refl, subst, sym}
+use mathlib.Core.Bool.{true≢false}
 use Rattle.std.specs.Option.{is_some}
 use Rattle.jg_words.specs.Entry.{Entry}
 use Rattle.jg_policy.specs.Stated.{StatedSetup}
 use Rattle.jg_script.specs.Beside.{FollowsIf}
 use Rattle.jg_counsel.specs.declared.counselling.Counselling.{Counselling}
-use Rattle.jg_counsel.specs.Counselled.{Follows}
+use Rattle.jg_advice.specs.Moments.{Moment}
+use Rattle.jg_advice.specs.Told.{Tells as Advises}
+use Rattle.jg_counsel.specs.Counselled.{AreMoments, Counselled, Follows}
 use Rattle.jg_program.specs.declared.reporting.Reporting.{Reporting}
-use Rattle.jg_program.specs.Advising.{StandsBeside, advice_asked, is_advised}
+use Rattle.jg_program.specs.Advising.{SaysAdvice, SaysAsked, StandsBeside, advice_asked, is_advised}
 
 -- what followed the calls stands after them as it stood before
 pub stood : {A : Type 0} (r : Reporting) (x y : Option (Counselling A)) (s s' : StatedSetup) (h : List Entry)
@@ -26,16 +29,28 @@ stood r (Some x) (Some y) s s' h follows stands =
 
 some_advised : {A : Type 0} (r : Reporting) (x : Option (Counselling A)) (s : StatedSetup) (h : List Entry) → StandsBeside r x s h → is_some x ≡ true
     → is_advised r ≡ true
-some_advised r None s h stands some = absurd (let no : false ≡ true = some in cc)
+some_advised r None s h stands some = absurd (true≢false (sym some))
 some_advised r (Some x) s h stands some = rw stands.1 refl
 
 -- memory runs out for advice where it is asked for, and nowhere else
-pub lost_advised : {A : Type 0} (r : Reporting) (x : Option (Counselling A)) (begun : Bool) (s : StatedSetup) (h : List Entry) (text : Option String)
+pub lost_advised : {A : Type 0} (r : Reporting) (x : Option (Counselling A)) (begun : Bool) (s : StatedSetup) (h : List Entry) (text : Option (String Global))
     → (begun ≡ false → is_advised r ≡ true) → (begun ≡ true → StandsBeside r x s h) → (text ≡ None → (begun ≡ false) ⊎ (is_some x ≡ true)) → text ≡ None
     → is_advised r ≡ true
 lost_advised r x false s h text refused stands lost none = refused refl
 lost_advised r x true s h text refused stands lost none = by (lost none)
   where
     by : (true ≡ false) ⊎ (is_some x ≡ true) → is_advised r ≡ true
-    by (inl no) = absurd (cc)
+    by (inl unequal) = absurd (true≢false unequal)
     by (inr some) = some_advised r x s h (stands refl) some
+
+-- what a counsel tells is the advice that is asked for
+pub advice_said : (A : Type 0) (beside : Option (Counselling A)) (x : Counselling A) (begun : Bool) (result : Option (String Global)) → beside ≡ Some x → begun ≡ true
+    → IfSome result (λ text. (s : StatedSetup) (h : List Entry) → Counselled x.counsel s h → (moments : List Moment) × AreMoments s h moments × Advises x.counsel.adviser.most x.counsel.noting.all moments (string_bytes text))
+    → IfSome result (λ text. (begun ≡ true) × ((r : Reporting) (s : StatedSetup) (h : List Entry) → StandsBeside r beside s h → SaysAdvice r s h (string_bytes text)))
+advice_said A beside x begun None is so said = tt
+advice_said A beside x begun (Some text) is so said = (
+  so,
+  λ r s h stands.
+      let here : StandsBeside r (Some x) s h = subst (λ (b : Option (Counselling A)). StandsBeside r b s h) is stands in
+      subst (λ (a : Option (ℕ × Bool)). SaysAsked a s h (string_bytes text)) (sym here.1) (said s h here.0),
+)

@@ -8,8 +8,18 @@ use Rattle.jg_program.specs.Reported.{Explains, Tells, TellsNothing, is_explaine
 use Rattle.jg_program.proofs.Reports.{reported}
 use Rattle.jg_program.proofs.reporting.report.Goals as goal
 
-pub returns-in-Err-ended : goal.returns-in-Err-ended
-returns-in-Err-ended c =
+pub returns-in-Ok-ended : goal.returns-in-Ok-ended
+returns-in-Ok-ended c =
+    let r = c.args.reporting in
+    let s = c.args.guard.now.setup in
+    let h = c.args.guard.now.journal in
+    let about = string_bytes c.in-Ok.text in
+    let ending = c.report_done.result in
+    reported (IsAbout c.args.about c.args.ended) r s h about c.args.ended ending c.in-Ok.ensures.told
+    (subst (λ (e : Result Status ProgramStop). ((explained : List ℕ) × Explains r s h explained × Tells about explained r s h e ending) ⊎ ((is_explained r || is_advised r ≡ true) × TellsNothing e ending)) (sym c.in-Ok-ended.is) c.report_done.ensures)
+
+pub returns-in-Ok : goal.returns-in-Ok
+returns-in-Ok c =
     let r = c.args.reporting in
     let s = c.args.guard.now.setup in
     let h = c.args.guard.now.journal in
