@@ -1,5 +1,7 @@
 //! What is legal and likely wrong in a script.
 
+ghost use Rattle.std.specs.Prelude.{◌≡◌, [], IfOk};
+
 use jg_counsel::{Counselling, counsel_journal};
 use jg_guard::Guard;
 use jg_policy::Setup;
@@ -28,7 +30,10 @@ fn text_of(counselling: Option<Counselling>) -> Result<String, Fail> {
     }
 }
 
-fn guard(alloc: Global, limit: u32) -> Result<Guard, Fail> {
+/// A guard that made no call yet.
+fn guard(alloc: Global, limit: u32) -> Result<Guard, Fail>
+    ensures { IfOk result (λ guard. guard.journal ≡ []) }
+{
     let setup = Setup::read(alloc, CLOSED)?;
     Ok(Guard::new(alloc, alloc, setup, limit)?)
 }

@@ -1,9 +1,10 @@
-use Rattle.std.proofs.Common.{◌≡◌, ℕ, List, [], Ok, Err, inr, ap, ◌∙◌, subst}
+use Rattle.std.proofs.Common.{◌≡◌, true, ℕ, List, [], Ok, Err, inr, ap, ◌∙◌, subst}
 use Rattle.std.proofs.KnownBytes.{Keeps-refl}
 use Rattle.std.proofs.lemmas.Option.{IfSome_then}
 use Rattle.jg_script.specs.declared.replay.Replayed.{Replayed}
 use Rattle.jg_program.specs.declared.stop.Status.{Status}
 use Rattle.jg_program.specs.About.{IsAboutJournal}
+use Rattle.jg_program.specs.Advising.{StandsBeside}
 use Rattle.jg_program.specs.Verdicts.{verdict_status}
 use Rattle.jg_program.specs.Reported.{Reports}
 use Rattle.jg_program.proofs.Beside.{lost_advised}
@@ -47,20 +48,24 @@ pub report-requires : goal.report-requires
 report-requires g c =
     let r = c.args.reporting in
     let guard = c.test_lines-tested.new.guard in
-    let stands = λ begun. c.test_lines-tested.ensures.beside r (c.begin_counselling.ensures.stands begun c.in-Ok.guard.setup) in
+    let stands : c.begin_counselling-beside.result.1 ≡ true → StandsBeside r c.test_lines-tested.new.beside guard.setup guard.journal =
+    λ begun. c.test_lines-tested.ensures.beside r (c.begin_counselling-beside.ensures.stands begun c.in-Ok.guard.setup) in
     record {
       said = IfSome_then c.advice_of-advised.result c.advice_of-advised.ensures.said (λ text both. both.1 r guard.setup guard.journal (stands both.0));
-      lost = lost_advised r c.test_lines-tested.new.beside c.begin_counselling.result.1 guard.setup guard.journal c.advice_of-advised.result c.begin_counselling.ensures.refused stands
+      lost = lost_advised r c.test_lines-tested.new.beside c.begin_counselling-beside.result.1 guard.setup guard.journal c.advice_of-advised.result c.begin_counselling-beside.ensures.refused stands
           c.advice_of-advised.ensures.lost;
     }
 
-pub report-in-Err-requires : goal.report-in-Err-requires
-report-in-Err-requires g c =
+pub report-requires-in-Err-clause-said : goal.report-requires-in-Err-clause-said
+report-requires-in-Err-clause-said g c =
     let r = c.args.reporting in
     let guard = c.test_lines-tested.new.guard in
-    let stands = λ begun. c.test_lines-tested.ensures.beside r (c.begin_counselling.ensures.stands begun c.in-Ok.guard.setup) in
-    record {
-      said = IfSome_then c.advice_of-advised.result c.advice_of-advised.ensures.said (λ text both. both.1 r guard.setup guard.journal (stands both.0));
-      lost = lost_advised r c.test_lines-tested.new.beside c.begin_counselling.result.1 guard.setup guard.journal c.advice_of-advised.result c.begin_counselling.ensures.refused stands
-          c.advice_of-advised.ensures.lost;
-    }
+    IfSome_then c.advice_of-advised.result c.advice_of-advised.ensures.said (λ text both. both.1 r guard.setup guard.journal
+    (c.test_lines-tested.ensures.beside r (c.begin_counselling-beside.ensures.stands both.0 c.in-Ok.guard.setup)))
+
+pub report-requires-in-Err-clause-lost : goal.report-requires-in-Err-clause-lost
+report-requires-in-Err-clause-lost g c =
+    let r = c.args.reporting in
+    let guard = c.test_lines-tested.new.guard in
+    lost_advised r c.test_lines-tested.new.beside c.begin_counselling-beside.result.1 guard.setup guard.journal c.advice_of-advised.result c.begin_counselling-beside.ensures.refused
+    (λ begun. c.test_lines-tested.ensures.beside r (c.begin_counselling-beside.ensures.stands begun c.in-Ok.guard.setup)) c.advice_of-advised.ensures.lost

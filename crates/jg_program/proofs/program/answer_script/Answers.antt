@@ -1,6 +1,7 @@
-use Rattle.std.proofs.Common.{ℕ, List, ◌∙◌, subst}
+use Rattle.std.proofs.Common.{◌≡◌, true, ℕ, List, ◌∙◌, subst}
 use Rattle.std.proofs.lemmas.Option.{IfSome_then}
 use Rattle.jg_program.specs.About.{IsAboutScript}
+use Rattle.jg_program.specs.Advising.{StandsBeside}
 use Rattle.jg_program.specs.Reported.{Reports}
 use Rattle.jg_program.proofs.Beside.{lost_advised}
 use Rattle.jg_program.proofs.Reports.{ends_script, reported_on}
@@ -24,9 +25,10 @@ pub report-ending-requires : goal.report-ending-requires
 report-ending-requires g c =
     let r = c.args.reporting in
     let guard = c.answer_lines-ended.new.guard in
-    let stands = λ begun. c.answer_lines-ended.ensures.beside r (c.begin_counselling.ensures.stands begun c.in-Ok.guard.setup) in
+    let stands : c.begin_counselling-beside.result.1 ≡ true → StandsBeside r c.answer_lines-ended.new.beside guard.setup guard.journal =
+    λ begun. c.answer_lines-ended.ensures.beside r (c.begin_counselling-beside.ensures.stands begun c.in-Ok.guard.setup) in
     record {
       said = IfSome_then c.advice_of-advised.result c.advice_of-advised.ensures.said (λ text both. both.1 r guard.setup guard.journal (stands both.0));
-      lost = lost_advised r c.answer_lines-ended.new.beside c.begin_counselling.result.1 guard.setup guard.journal c.advice_of-advised.result c.begin_counselling.ensures.refused stands
+      lost = lost_advised r c.answer_lines-ended.new.beside c.begin_counselling-beside.result.1 guard.setup guard.journal c.advice_of-advised.result c.begin_counselling-beside.ensures.refused stands
           c.advice_of-advised.ensures.lost;
     }
