@@ -4,4 +4,5 @@ mod Replaced
 mod Reports
 mod Standings
 mod Steps
+mod Tellings
 mod Worked

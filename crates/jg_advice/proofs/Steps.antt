@@ -1,5 +1,5 @@
 -- What a step leaves of what is kept.
-use Rattle.std.proofs.Common.{◌≡◌, ◌<◌, ℕ, suc, Bool, true, false, List, [], ◌∷◌, length, Some, ◌∙◌, ap, refl, arith}
+use Rattle.std.proofs.Common.{◌≡◌, ◌<◌, ℕ, suc, Bool, true, false, List, [], ◌∷◌, length, Some, None, ◌∙◌, ap, refl, arith}
 use Rattle.std.specs.Prelude.{if◌then◌else◌, reverse}
 use Rattle.std.specs.Ordering.{nat_cmp, eq_by_cmp}
 use Rattle.std.proofs.lemmas.Map.Keys.{IsDistinct-from_apart}
@@ -25,6 +25,10 @@ doing_put old new name q f put = by (same_name name q) refl put
     by true is put = ap (λ found. unwrap_or found idle) put ∙ ap (λ n. f (kept old n)) (equal_names name q is)
     by false is put = ap (λ found. unwrap_or found idle) put
 
+pub again : {X : Type 0} (b : Bool) (x y z : X) → (if b then x else (if b then y else z)) ≡ (if b then x else z)
+again true x y z = refl
+again false x y z = refl
+
 pub none_once : IsOnce {V = Source} []
 none_once = IsDistinct-from_apart (eq_by_cmp nat_cmp) [] (λ i j d less within. absurd (none_within j within))
   where
@@ -37,3 +41,10 @@ none_left (x ∷ xs) none = absurd (more (length xs) none)
   where
     more : (n : ℕ) → suc n ≡ 0 → ⊥
     more n is = omega (arith, is)
+
+-- nothing is kept of what was cleared, nor of what was removed
+pub doing_gone : (old new : Table Doing) (q : Name) (b : Bool)
+    → lookup (same_name q) (named new) ≡ (if b then None else lookup (same_name q) (named old))
+    → kept new q ≡ (if b then idle else kept old q)
+doing_gone old new q true is = ap (λ found. unwrap_or found idle) is
+doing_gone old new q false is = ap (λ found. unwrap_or found idle) is

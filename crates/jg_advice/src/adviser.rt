@@ -1,30 +1,32 @@
 //! What advises.
 
-ghost use Rattle.std.specs.Prelude.{◌≡◌, ◌++◌, ◌+◌, ◌∷◌, ℕ, if◌then◌else◌, [], IfOk, List, OnOk, slice_get, Some};
-ghost use Rattle.jg_functions.specs.Columns.{columns};
-ghost use Rattle.jg_functions.specs.Table.{functions};
+ghost use Rattle.std.specs.Prelude.{◌≡◌, ◌++◌, ◌+◌, ◌∷◌, ℕ, if◌then◌else◌, [], IfOk, List, OnOk, Option};
+ghost use Rattle.jg_words.specs.declared.object.ObjId.{ObjId as ObjIdOf};
+ghost use Rattle.jg_words.specs.declared.reference.Ref.{Ref as RefOf};
+ghost use Rattle.jg_buffers.specs.declared.family.Family.{Family as FamilyOf};
+ghost use Rattle.jg_core.specs.declared.fact.Fact.TheVariants.{Back, Begin, End, Enter, Free, Gone, Leave, Lend, Own};
 ghost use Rattle.jg_rules.specs.Parts.{Parts};
 ghost use Rattle.jg_advice.specs.declared.advice.Advice.{Advice as AdviceOf};
 ghost use Rattle.jg_advice.specs.Advised as advised;
 ghost use Rattle.jg_advice.specs.Moments.{Called, Moment, Told, Went};
-ghost use Rattle.jg_advice.specs.Regions.{is_gone};
 ghost use Rattle.jg_advice.specs.Standing.{Sees, Stands};
 
 use crate::advice::{Advice, Kind, Source};
-use crate::buffers::{Sources, note_back, note_committed, note_settled, note_written};
+use crate::buffers::{Sources, note_committed, note_written};
 use crate::calls::{Calling, lost, misnamed, push_if, unchecked};
-use crate::doing::{Doings, note_activation, note_call};
-use crate::facts::{ended, grown, handed, long, push_at_end, push_left};
+use crate::doing::{Doings, cause, note_call};
+use crate::facts::{grown_by, grown_of, long, push_at_end, push_left};
 use crate::functions::{collects, is_jni, released_by, written_by};
-use crate::monitors::note_monitor;
-use crate::regions::{Counts, Regions, bordered, note_region};
+use crate::monitors::{note_entry, note_exit};
+use crate::regions::{Counts, Regions, note_region};
+use crate::tables::clear;
 use jg_core::Fact;
-use jg_functions::{Row, row_of};
+use jg_functions::row_of;
 use jg_lists::ByThread;
-use jg_lists::by_maker::ByMaker;
+use jg_lists::by_maker::{ByMaker, remove};
 use jg_questions::Argument;
 use jg_rules::{Store, View};
-use jg_words::{ObjId, Tid};
+use jg_words::{BufId, ObjId, Tid};
 use std::alloc::{AllocError, Allocator, Global};
 use std::marker::Model;
 
@@ -60,15 +62,6 @@ impl Model for Adviser {
       calls = a.counts.calls;
       collections = a.counts.collections;
     } };
-}
-
-fn is_gone(fact: Fact) -> bool
-    ensures { result ≡ is_gone fact }
-{
-    match fact {
-        Fact::Gone(_) => true,
-        _ => false,
-    }
 }
 
 /// One more, where it counts.
@@ -138,38 +131,17 @@ impl Adviser {
             tid,
             function,
         };
-        let release = released_by(row, arguments);
-        push_if(out, unchecked(&self.doings, view, calling, row))?;
+        let call = Source {
+            line,
+            tid,
+            function: Some(function),
+        };
+        let now = (tid.0, view.locals.depth(tid));
+        let before = note_call(&mut self.doings, self.alloc, now, row, call)?;
+        let (buffer, release) = (written_by(row, arguments), released_by(row, arguments));
+        push_if(out, unchecked(before, calling, row))?;
         push_if(out, lost(&self.written, calling, release))?;
         push_if(out, misnamed(calling, name))?;
-        self.note_call(view, calling, row, arguments)
-    }
-
-    /// The thread makes the call.
-    fn note_call<A: Allocator + Clone, S: Store>(
-        &mut self,
-        view: &View<'_, A, S>,
-        calling: Calling,
-        row: &Row,
-        arguments: &[Argument],
-    ) -> Result<(), AllocError>
-        requires row { slice_get functions calling.function ≡ Some (columns row.now) }
-        ensures stands { OnOk result ((h : List Moment) (p : Parts) (name : List ℕ) → Stands self.old h
-            → Sees view.now p → Stands self.new (record {
-              line = calling.line;
-              what = Called calling.tid calling.function arguments.now name;
-              parts = p;
-            } ∷ h)) }
-        ensures most { self.new.most ≡ self.old.most }
-    {
-        let call = Source {
-            line: calling.line,
-            tid: calling.tid,
-            function: Some(calling.function),
-        };
-        let now = (calling.tid.0, view.locals.depth(calling.tid));
-        let (buffer, release) = (written_by(row, arguments), released_by(row, arguments));
-        note_call(&mut self.doings, self.alloc, now, row, call)?;
         note_written(&mut self.written, self.alloc, view, buffer, release, call)?;
         note_committed(&mut self.committed, self.alloc, release, call)?;
         let (calls, collections) = (self.counts.calls, self.counts.collections);
@@ -194,56 +166,217 @@ impl Adviser {
             → Stands self.new (record { line = line; what = Told fact; parts = p } ∷ h)) }
         ensures most { self.new.most ≡ self.old.most }
     {
-        self.advise(view, line, fact, out)?;
-        self.note_fact(view, line, fact)
+        match fact {
+            Fact::Begin(tid) => {
+                self.begin(tid);
+                Ok(())
+            }
+            Fact::End(tid) => self.end(view, line, tid, out),
+            Fact::Enter(tid) => {
+                self.enter(view, tid);
+                Ok(())
+            }
+            Fact::Leave { tid, kept } => {
+                push_if(out, grown_by(line, view, &self.doings, tid, kept))?;
+                self.leave(view, tid)
+            }
+            Fact::Pop { tid, kept } => push_if(out, grown_by(line, view, &self.doings, tid, kept)),
+            Fact::Hand { tid, kind, .. } => {
+                push_if(out, grown_of(line, view, &self.doings, tid, kind))
+            }
+            Fact::Lend { tid, .. } => self.lend(view, line, tid, out),
+            Fact::Back(buffer) => self.back(view, line, buffer, out),
+            Fact::Own { tid, object } => self.own(view, line, tid, object),
+            Fact::Free { tid, object } => {
+                self.free(view, tid, object);
+                Ok(())
+            }
+            Fact::Gone(_) => self.count_collection(),
+            // Nothing is advised on the others, and none changes what is advised later.
+            _ => Ok(()),
+        }
     }
 
-    /// Adds what is advised on the fact.
-    fn advise<A: Allocator + Clone, S: Store>(
-        &self,
-        view: &View<'_, A, S>,
-        line: u64,
-        fact: Fact,
-        out: &mut Vec<Advice>,
-    ) -> Result<(), AllocError>
-        ensures { OnOk result ((h : List Moment) (p : Parts) → Stands self.now h → Sees view.now p
-            → (told : List AdviceOf)
-            × advised.IsOnFact self.now.most (record { line = line; what = Told fact; parts = p }) h fact told
-            × (out.new.items ≡ out.old.items ++ told)) }
+    /// The thread's session begins.
+    fn begin(&mut self, tid: Tid)
+        ensures stands { (h : List Moment) (p : Parts) (line : ℕ) → Stands self.old h
+            → Stands self.new (record { line = line; what = Told (Begin tid); parts = p } ∷ h) }
+        ensures most { self.new.most ≡ self.old.most }
     {
-        let (ended, left, held) = (ended(fact), bordered(fact), handed(fact));
-        push_at_end(out, Kind::CommittedAndKept, line, ended, &self.committed)?;
-        let long = long(self.most, line, view, &self.regions, self.counts, left);
-        push_if(out, long)?;
-        push_at_end(out, Kind::MonitorAtDetachment, line, ended, &self.entered)?;
-        push_if(out, grown(line, view, &self.doings, held))
+        clear(&mut self.doings, tid.0);
     }
 
-    /// The fact is so.
-    fn note_fact<A: Allocator + Clone, S: Store>(
+    /// The thread's session ends. Adds what is advised.
+    fn end<A: Allocator + Clone, S: Store>(
         &mut self,
         view: &View<'_, A, S>,
         line: u64,
-        fact: Fact,
+        tid: Tid,
+        out: &mut Vec<Advice>,
     ) -> Result<(), AllocError>
+        ensures advised { OnOk result ((h : List Moment) (p : Parts) → Stands self.old h → Sees view.now p
+            → (told : List AdviceOf)
+            × advised.IsOnFact self.old.most (record { line = line; what = Told (End tid); parts = p }) h (End tid) told
+            × (out.new.items ≡ out.old.items ++ told)) }
         ensures stands { OnOk result ((h : List Moment) (p : Parts) → Stands self.old h → Sees view.now p
-            → Stands self.new (record { line = line; what = Told fact; parts = p } ∷ h)) }
+            → Stands self.new (record { line = line; what = Told (End tid); parts = p } ∷ h)) }
         ensures most { self.new.most ≡ self.old.most }
     {
-        let counts = self.counts;
-        note_region(&mut self.regions, &self.doings, view, line, counts, fact)?;
-        note_monitor(
-            &mut self.entered,
-            self.alloc,
+        push_at_end(out, Kind::CommittedAndKept, line, tid, &self.committed)?;
+        push_if(
+            out,
+            long(self.most, line, view, &self.regions, self.counts, tid),
+        )?;
+        push_at_end(out, Kind::MonitorAtDetachment, line, tid, &self.entered)?;
+        note_region(
+            &mut self.regions,
             &self.doings,
             view,
             line,
-            fact,
+            self.counts,
+            tid,
         )?;
-        note_back(&mut self.written, fact);
-        note_settled(&mut self.committed, fact);
-        note_activation(&mut self.doings, view, fact)?;
-        self.counts.collections = count_if(counts.collections, is_gone(fact))?;
+        clear(&mut self.entered, tid.0);
+        clear(&mut self.committed, tid.0);
+        clear(&mut self.doings, tid.0);
+        Ok(())
+    }
+
+    /// The thread enters a native method.
+    fn enter<A: Allocator + Clone, S: Store>(&mut self, view: &View<'_, A, S>, tid: Tid)
+        ensures stands { (h : List Moment) (p : Parts) (line : ℕ) → Stands self.old h → Sees view.now p
+            → Stands self.new (record { line = line; what = Told (Enter tid); parts = p } ∷ h) }
+        ensures most { self.new.most ≡ self.old.most }
+    {
+        let _ended = remove(&mut self.doings, (tid.0, view.locals.depth(tid)));
+    }
+
+    /// The thread left a native method. Fails where it was as deep as a `u64` counts.
+    fn leave<A: Allocator + Clone, S: Store>(
+        &mut self,
+        view: &View<'_, A, S>,
+        tid: Tid,
+    ) -> Result<(), AllocError>
+        ensures stands { OnOk result ((h : List Moment) (p : Parts) (line : ℕ) (kept : Option ObjIdOf)
+            → Stands self.old h → Sees view.now p
+            → Stands self.new (record { line = line; what = Told (Leave tid kept); parts = p } ∷ h)) }
+        ensures most { self.new.most ≡ self.old.most }
+    {
+        // No thread is so deep: the tables were told fewer facts.
+        let Some(left) = view.locals.depth(tid).checked_add(1) else {
+            return Err(AllocError);
+        };
+        let _ended = remove(&mut self.doings, (tid.0, left));
+        Ok(())
+    }
+
+    /// The thread is lent a buffer. Adds what is advised.
+    fn lend<A: Allocator + Clone, S: Store>(
+        &mut self,
+        view: &View<'_, A, S>,
+        line: u64,
+        tid: Tid,
+        out: &mut Vec<Advice>,
+    ) -> Result<(), AllocError>
+        ensures advised { OnOk result ((h : List Moment) (p : Parts) (f : FamilyOf) (o : ObjIdOf) (via : RefOf) (n : ℕ)
+            → Stands self.old h → Sees view.now p → (told : List AdviceOf)
+            × advised.IsOnFact self.old.most (record { line = line; what = Told (Lend tid f o via n); parts = p }) h
+            (Lend tid f o via n) told
+            × (out.new.items ≡ out.old.items ++ told)) }
+        ensures stands { OnOk result ((h : List Moment) (p : Parts) (f : FamilyOf) (o : ObjIdOf) (via : RefOf) (n : ℕ)
+            → Stands self.old h → Sees view.now p
+            → Stands self.new (record { line = line; what = Told (Lend tid f o via n); parts = p } ∷ h)) }
+        ensures most { self.new.most ≡ self.old.most }
+    {
+        push_if(
+            out,
+            long(self.most, line, view, &self.regions, self.counts, tid),
+        )?;
+        note_region(
+            &mut self.regions,
+            &self.doings,
+            view,
+            line,
+            self.counts,
+            tid,
+        )
+    }
+
+    /// The buffer is given back. Adds what is advised.
+    fn back<A: Allocator + Clone, S: Store>(
+        &mut self,
+        view: &View<'_, A, S>,
+        line: u64,
+        buffer: BufId,
+        out: &mut Vec<Advice>,
+    ) -> Result<(), AllocError>
+        ensures advised { OnOk result ((h : List Moment) (p : Parts) → Stands self.old h → Sees view.now p
+            → (told : List AdviceOf)
+            × advised.IsOnFact self.old.most (record { line = line; what = Told (Back buffer); parts = p }) h
+            (Back buffer) told
+            × (out.new.items ≡ out.old.items ++ told)) }
+        ensures stands { OnOk result ((h : List Moment) (p : Parts) → Stands self.old h → Sees view.now p
+            → Stands self.new (record { line = line; what = Told (Back buffer); parts = p } ∷ h)) }
+        ensures most { self.new.most ≡ self.old.most }
+    {
+        let (tid, name) = (buffer.maker, (buffer.maker.0, buffer.n));
+        push_if(
+            out,
+            long(self.most, line, view, &self.regions, self.counts, tid),
+        )?;
+        note_region(
+            &mut self.regions,
+            &self.doings,
+            view,
+            line,
+            self.counts,
+            tid,
+        )?;
+        let _written = remove(&mut self.written, name);
+        let _committed = remove(&mut self.committed, name);
+        Ok(())
+    }
+
+    /// The thread enters the object's monitor.
+    fn own<A: Allocator + Clone, S: Store>(
+        &mut self,
+        view: &View<'_, A, S>,
+        line: u64,
+        tid: Tid,
+        object: ObjId,
+    ) -> Result<(), AllocError>
+        ensures stands { OnOk result ((h : List Moment) (p : Parts) → Stands self.old h → Sees view.now p
+            → Stands self.new (record { line = line; what = Told (Own tid object); parts = p } ∷ h)) }
+        ensures most { self.new.most ≡ self.old.most }
+    {
+        let call = cause(&self.doings, view, line, tid);
+        note_entry(&mut self.entered, self.alloc, (tid.0, object.0), call)
+    }
+
+    /// The thread exits the object's monitor once.
+    fn free<A: Allocator + Clone, S: Store>(
+        &mut self,
+        view: &View<'_, A, S>,
+        tid: Tid,
+        object: ObjId,
+    )
+        ensures stands { (h : List Moment) (p : Parts) (line : ℕ) → Stands self.old h → Sees view.now p
+            → Stands self.new (record { line = line; what = Told (Free tid object); parts = p } ∷ h) }
+        ensures most { self.new.most ≡ self.old.most }
+    {
+        note_exit(&mut self.entered, view, tid, object);
+    }
+
+    /// The collector let something go.
+    fn count_collection(&mut self) -> Result<(), AllocError>
+        ensures gone { OnOk result ((h : List Moment) (p : Parts) (line : ℕ) (o : ObjIdOf) → Stands self.old h
+            → Stands self.new (record { line = line; what = Told (Gone o); parts = p } ∷ h)) }
+        ensures went { OnOk result ((h : List Moment) (p : Parts) (line : ℕ) (objects : List ObjIdOf) → Stands self.old h
+            → Stands self.new (record { line = line; what = Went objects; parts = p } ∷ h)) }
+        ensures most { self.new.most ≡ self.old.most }
+    {
+        let collections = self.counts.collections;
+        self.counts.collections = count_if(collections, true)?;
         Ok(())
     }
 
@@ -254,9 +387,7 @@ impl Adviser {
         ensures most { self.new.most ≡ self.old.most }
     {
         let (_, _) = (line, objects);
-        let collections = self.counts.collections;
-        self.counts.collections = count_if(collections, true)?;
-        Ok(())
+        self.count_collection()
     }
 
     /// Adds what is advised at the end. Fails for want of memory.

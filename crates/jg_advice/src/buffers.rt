@@ -10,9 +10,8 @@ ghost use Rattle.jg_advice.specs.Standing.{Sees};
 
 use crate::advice::Source;
 use crate::functions::Release;
-use crate::tables::{clear, put};
+use crate::tables::put;
 use jg_buffers::{Family, Info};
-use jg_core::Fact;
 use jg_heap::natural;
 use jg_lists::by_maker::{ByMaker, remove};
 use jg_rules::{Store, View};
@@ -105,19 +104,6 @@ pub fn note_written<A: Allocator + Clone, S: Store>(
     Ok(())
 }
 
-/// The fact gives the buffer back, if it does.
-pub fn note_back(written: &mut Sources, fact: Fact)
-    ensures { (q : Name) → lookup (same_name q) (named written.new)
-        ≡ (if spec.is_given_back q fact then None else lookup (same_name q) (named written.old)) }
-{
-    match fact {
-        Fact::Back(buffer) => {
-            let _written = remove(written, (buffer.maker.0, buffer.n));
-        }
-        _ => {}
-    }
-}
-
 /// The call commits the buffer, if it does.
 pub fn note_committed(
     committed: &mut Sources,
@@ -142,19 +128,4 @@ pub fn note_committed(
         (release.buffer.maker.0, release.buffer.n),
         call,
     )
-}
-
-/// The fact gives the buffer back or ends a session, if it does: what was committed before counts no more.
-pub fn note_settled(committed: &mut Sources, fact: Fact)
-    ensures found { (q : Name) → lookup (same_name q) (named committed.new)
-        ≡ (if spec.is_settled q fact then None else lookup (same_name q) (named committed.old)) }
-    ensures once { (q : Name) → IsThereOnce q (named committed.old) → IsThereOnce q (named committed.new) }
-{
-    match fact {
-        Fact::Back(buffer) => {
-            let _committed = remove(committed, (buffer.maker.0, buffer.n));
-        }
-        Fact::End(tid) => clear(committed, tid.0),
-        _ => {}
-    }
 }

@@ -5,20 +5,16 @@ ghost use Rattle.std.specs.List.{list_any};
 ghost use Rattle.std.specs.Map.{lookup};
 ghost use Rattle.jg_functions.specs.Columns.{columns};
 ghost use Rattle.jg_lists.specs.ByMaker.{same_name, named};
-ghost use Rattle.jg_rules.specs.Parts.{Parts};
 ghost use Rattle.jg_advice.specs.Advised as advised;
-ghost use Rattle.jg_advice.specs.Moments.{depth};
-ghost use Rattle.jg_advice.specs.Standing.{kept, Sees};
 
 use crate::advice::{Advice, Kind, Source};
 use crate::buffers::{Sources, is_abort};
-use crate::doing::{Doings, doing_at};
+use crate::doing::Doing;
 use crate::functions::{Release, wants_none};
 use jg_functions::Row;
 use jg_lists::by_maker::find;
-use jg_rules::{Store, View};
 use jg_words::Tid;
-use std::alloc::{AllocError, Allocator};
+use std::alloc::AllocError;
 
 /// The place of FindClass in the table of functions.
 const FIND_CLASS: u16 = 2;
@@ -52,6 +48,7 @@ impl Calling {
     }
 }
 
+#[inline(always)]
 pub fn push_if(out: &mut Vec<Advice>, advice: Option<Advice>) -> Result<(), AllocError>
     ensures { OnOk result (out.new.items ≡ out.old.items ++ option_to_list advice) }
 {
@@ -65,20 +62,13 @@ pub fn push_if(out: &mut Vec<Advice>, advice: Option<Advice>) -> Result<(), Allo
 }
 
 /// The call may not be made with an exception pending, and nobody asked about one that may have thrown.
-pub fn unchecked<A: Allocator + Clone, S: Store>(
-    doings: &Doings,
-    view: &View<'_, A, S>,
-    calling: Calling,
-    row: &Row,
-) -> Option<Advice>
-    ensures { (p : Parts) → Sees view.now p → result ≡ advised.unchecked calling.line calling.tid
-        calling.function (Some (columns row.now)) (kept doings.now (calling.tid.0, depth p calling.tid.0)) }
+pub fn unchecked(doing: Doing, calling: Calling, row: &Row) -> Option<Advice>
+    ensures { result ≡ advised.unchecked calling.line calling.tid calling.function (Some (columns row.now)) doing }
 {
     if !wants_none(row) {
         return None;
     }
-    let now = (calling.tid.0, view.locals.depth(calling.tid));
-    match doing_at(doings, now).owed {
+    match doing.owed {
         None => None,
         Some(call) => Some(calling.because(Kind::Unchecked, call)),
     }

@@ -1,18 +1,20 @@
 //! What threads did in their activations.
 
-ghost use Rattle.std.specs.Prelude.{◌≡◌, if◌then◌else◌, OnOk, Some};
-ghost use Rattle.jg_lists.specs.ByMaker.{Name, same_name};
+ghost use Rattle.std.specs.Prelude.{◌≡◌, ◌==◌, ℕ, if◌then◌else◌, IfOk, OnOk, Some};
+ghost use Rattle.std.specs.Map.{lookup};
+ghost use Rattle.std.specs.Option.{option_map};
+ghost use Rattle.jg_lists.specs.ByThread.{at};
+ghost use Rattle.jg_lists.specs.ByMaker.{Name, named, same_name};
 ghost use Rattle.jg_functions.specs.Columns.{columns};
 ghost use Rattle.jg_rules.specs.Parts.{Parts};
-ghost use Rattle.jg_advice.specs.Doing.{cause_by, doing_after, idle, owed_after, restarts};
+ghost use Rattle.jg_advice.specs.Doing.{cause_by, doing_after, owed_after};
 ghost use Rattle.jg_advice.specs.Standing.{kept, Sees};
 
 use crate::advice::Source;
 use crate::functions::{asks, is_jni, throws_untold};
-use crate::tables::{clear, put_again};
-use jg_core::Fact;
-use jg_functions::{Row, row_of};
-use jg_lists::by_maker::{ByMaker, find, remove};
+use jg_functions::Row;
+use jg_lists::ByNumber;
+use jg_lists::by_maker::{ByMaker, add, find};
 use jg_rules::{Store, View};
 use jg_words::Tid;
 use std::alloc::{AllocError, Allocator, Global};
@@ -88,43 +90,57 @@ fn doing_after(row: &Row, call: Source, before: Doing) -> Doing
     }
 }
 
-/// The thread makes the call, in the activation of that depth.
+/// The call is made in the activation of that depth, if something was done there. Answers that.
+fn note_in(
+    numbers: &mut ByNumber<Doing, Global>,
+    depth: u64,
+    row: &Row,
+    call: Source,
+) -> Option<Doing>
+    ensures before { result ≡ at depth numbers.old }
+    ensures noted { (q : ℕ) → at q numbers.new ≡ (if depth == q
+        then option_map (doing_after (Some (columns row.now)) call) (at depth numbers.old) else at q numbers.old) }
+{
+    match numbers.get_mut(depth) {
+        None => None,
+        Some(doing) => {
+            let before = *doing;
+            *doing = doing_after(row, call, before);
+            Some(before)
+        }
+    }
+}
+
+/// The same, of the activation of that thread and depth.
+fn note_known(doings: &mut Doings, name: (u16, u64), row: &Row, call: Source) -> Option<Doing>
+    ensures before { result ≡ lookup (same_name name) (named doings.old) }
+    ensures noted { (q : Name) → lookup (same_name q) (named doings.new) ≡ (if same_name name q
+        then option_map (doing_after (Some (columns row.now)) call) (lookup (same_name name) (named doings.old))
+        else lookup (same_name q) (named doings.old)) }
+{
+    match doings.get_mut(name.0) {
+        None => None,
+        Some(numbers) => note_in(numbers, name.1, row, call),
+    }
+}
+
+/// The thread makes the call, in the activation of that depth. Answers what it did there before.
 pub fn note_call(
     doings: &mut Doings,
     alloc: Global,
     name: (u16, u64),
     row: &Row,
     call: Source,
-) -> Result<(), AllocError>
-    ensures { OnOk result ((q : Name) → kept doings.new q ≡ (if same_name name q
+) -> Result<Doing, AllocError>
+    ensures before { IfOk result (λ before. before ≡ kept doings.old name) }
+    ensures noted { OnOk result ((q : Name) → kept doings.new q ≡ (if same_name name q
         then doing_after (Some (columns row.now)) call (kept doings.old q) else kept doings.old q)) }
 {
-    let doing = doing_after(row, call, doing_at(doings, name));
-    put_again(doings, alloc, name, doing)
-}
-
-/// An activation begins or ends, where the fact says so.
-pub fn note_activation<A: Allocator + Clone, S: Store>(
-    doings: &mut Doings,
-    view: &View<'_, A, S>,
-    fact: Fact,
-) -> Result<(), AllocError>
-    ensures { OnOk result ((p : Parts) → Sees view.now p → (q : Name)
-        → kept doings.new q ≡ (if restarts q p fact then idle else kept doings.old q)) }
-{
-    match fact {
-        Fact::Begin(tid) | Fact::End(tid) => clear(doings, tid.0),
-        Fact::Enter(tid) => {
-            let _ended = remove(doings, (tid.0, view.locals.depth(tid)));
+    match note_known(doings, name, row, call) {
+        Some(before) => Ok(before),
+        None => {
+            add(doings, &alloc, name, doing_after(row, call, Doing::IDLE))?;
+            Ok(Doing::IDLE)
         }
-        Fact::Leave { tid, .. } => {
-            // No thread is so deep: the core was told fewer facts.
-            let Some(ended) = view.locals.depth(tid).checked_add(1) else {
-                return Err(AllocError);
-            };
-            let _ended = remove(doings, (tid.0, ended));
-        }
-        _ => {}
     }
-    Ok(())
 }

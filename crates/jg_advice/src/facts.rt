@@ -1,25 +1,26 @@
 //! Advice on facts.
 
-ghost use Rattle.std.specs.Prelude.{◌≡◌, ◌++◌, ℕ, List, map, OnOk};
+ghost use Rattle.std.specs.Prelude.{◌≡◌, ◌++◌, ℕ, List, map, OnOk, Some};
 ghost use Rattle.std.specs.Map.{lookup};
 ghost use Rattle.jg_lists.specs.ByNumber.{seen};
-ghost use Rattle.jg_lists.specs.ByThread.{at, IsOnce};
+ghost use Rattle.jg_lists.specs.ByThread.{at};
 ghost use Rattle.jg_lists.specs.ByMaker.{entries, same_name, named};
 ghost use Rattle.jg_rules.specs.Parts.{Parts};
+ghost use Rattle.jg_core.specs.declared.fact.Fact.TheVariants.{Hand, Leave, Pop};
+ghost use Rattle.jg_words.specs.declared.object.ObjId.{ObjId as ObjIdOf};
 ghost use Rattle.jg_advice.specs.declared.advice.Source.{Source as SourceOf};
 ghost use Rattle.jg_advice.specs.Advised as advised;
 ghost use Rattle.jg_advice.specs.Doing.{cause_by};
 ghost use Rattle.jg_advice.specs.Regions as regions_of;
-ghost use Rattle.jg_advice.specs.Standing.{kept, Sees};
+ghost use Rattle.jg_advice.specs.Standing.{kept as kept_doing, Sees};
 
 use crate::advice::{Advice, Kind, Source};
 use crate::buffers::Sources;
 use crate::doing::{Doings, cause};
 use crate::regions::{Counts, Region, Regions};
-use jg_core::Fact;
 use jg_lists::{ByNumber, Numbered};
 use jg_rules::{Store, View};
-use jg_words::{Kind as RefKind, Tid};
+use jg_words::{Kind as RefKind, ObjId, Tid};
 use std::alloc::{AllocError, Allocator, Global};
 
 /// Advice on what ends with the thread's session.
@@ -52,8 +53,8 @@ fn push_seats(
     Ok(())
 }
 
-/// Advice on what the table has of the thread.
-fn push_table(
+/// Advice on what the table has of the thread, whose session ended.
+pub fn push_at_end(
     out: &mut Vec<Advice>,
     kind: Kind,
     line: u64,
@@ -61,40 +62,12 @@ fn push_table(
     table: &Sources,
 ) -> Result<(), AllocError>
     ensures { OnOk result ((found : List (ℕ × SourceOf))
-        × (IsOnce found × ((k : ℕ) → at k found ≡ lookup (same_name (tid.0, k)) (named table.now)))
-        × (out.new.items ≡ out.old.items ++ map (advised.at_end kind line tid) found)) }
+        × advised.AreEnded (λ q. lookup (same_name q) (named table.now)) (Some tid) found
+        × (out.new.items ≡ out.old.items ++ advised.ending kind line (Some tid) found)) }
 {
     match table.get(tid.0) {
         None => Ok(()),
         Some(numbers) => push_seats(out, kind, line, tid, numbers.seats()),
-    }
-}
-
-/// The thread whose session the fact ends.
-pub fn ended(fact: Fact) -> Option<Tid>
-    ensures { result ≡ advised.ended fact }
-{
-    match fact {
-        Fact::End(tid) => Some(tid),
-        _ => None,
-    }
-}
-
-/// Advice on what the table has of the thread whose session ended, if one did.
-pub fn push_at_end(
-    out: &mut Vec<Advice>,
-    kind: Kind,
-    line: u64,
-    tid: Option<Tid>,
-    table: &Sources,
-) -> Result<(), AllocError>
-    ensures { OnOk result ((found : List (ℕ × SourceOf))
-        × advised.AreEnded (λ q. lookup (same_name q) (named table.now)) tid found
-        × (out.new.items ≡ out.old.items ++ advised.ending kind line tid found)) }
-{
-    match tid {
-        None => Ok(()),
-        Some(tid) => push_table(out, kind, line, tid, table),
     }
 }
 
@@ -104,24 +77,20 @@ fn is_long(most: u64, counts: Counts, region: Region) -> bool
     counts.calls.saturating_sub(region.calls) > most || region.collections < counts.collections
 }
 
-/// Advice on the critical region that the thread has left, if it was in one.
+/// Advice on the critical region that the thread has left, if it was in one and is in none.
 pub fn long<A: Allocator + Clone, S: Store>(
     most: u64,
     line: u64,
     view: &View<'_, A, S>,
     regions: &Regions,
     counts: Counts,
-    tid: Option<Tid>,
+    tid: Tid,
 ) -> Option<Advice>
     ensures { (p : Parts) → Sees view.now p → result
-        ≡ advised.long most line p (λ t. at t regions.now) counts.calls counts.collections tid }
+        ≡ advised.long most line p (λ t. at t regions.now) counts.calls counts.collections (Some tid) }
 {
-    let tid = tid?;
-    if view.buffers.in_critical(tid) {
-        return None;
-    }
     let region = *regions.get(tid.0)?;
-    if !is_long(most, counts, region) {
+    if view.buffers.in_critical(tid) || !is_long(most, counts, region) {
         return None;
     }
     Some(Advice {
@@ -133,33 +102,16 @@ pub fn long<A: Allocator + Clone, S: Store>(
     })
 }
 
-/// The thread that the fact hands a local reference.
-pub fn handed(fact: Fact) -> Option<Tid>
-    ensures { result ≡ advised.handed fact }
-{
-    match fact {
-        Fact::Hand {
-            tid,
-            kind: RefKind::Local,
-            ..
-        } => Some(tid),
-        Fact::Leave { tid, kept: Some(_) } => Some(tid),
-        Fact::Pop { tid, kept: Some(_) } => Some(tid),
-        _ => None,
-    }
-}
-
 /// Advice on the thread's frame, where it outgrew its room, with the call that handed out its last local.
 pub fn grown<A: Allocator + Clone, S: Store>(
     line: u64,
     view: &View<'_, A, S>,
     doings: &Doings,
-    tid: Option<Tid>,
+    tid: Tid,
 ) -> Option<Advice>
     ensures { (p : Parts) → Sees view.now p → result
-        ≡ advised.grown line p (cause_by (kept doings.now) p line) tid }
+        ≡ advised.grown line p (cause_by (kept_doing doings.now) p line) (Some tid) }
 {
-    let tid = tid?;
     if !view.locals.outgrown(tid) {
         return None;
     }
@@ -171,6 +123,43 @@ pub fn grown<A: Allocator + Clone, S: Store>(
         function: cause.function,
         source: Some(cause),
     })
+}
+
+/// The same, where the frame was handed a reference to what was kept, if something was: a native method was left, or a
+/// frame popped.
+pub fn grown_by<A: Allocator + Clone, S: Store>(
+    line: u64,
+    view: &View<'_, A, S>,
+    doings: &Doings,
+    tid: Tid,
+    kept: Option<ObjId>,
+) -> Option<Advice>
+    ensures left { (p : Parts) → Sees view.now p → result
+        ≡ advised.grown line p (cause_by (kept_doing doings.now) p line) (advised.handed (Leave tid kept)) }
+    ensures popped { (p : Parts) → Sees view.now p → result
+        ≡ advised.grown line p (cause_by (kept_doing doings.now) p line) (advised.handed (Pop tid kept)) }
+{
+    match kept {
+        None => None,
+        Some(_) => grown(line, view, doings, tid),
+    }
+}
+
+/// The same, where the thread was handed a reference of that kind.
+pub fn grown_of<A: Allocator + Clone, S: Store>(
+    line: u64,
+    view: &View<'_, A, S>,
+    doings: &Doings,
+    tid: Tid,
+    kind: RefKind,
+) -> Option<Advice>
+    ensures { (p : Parts) (o : ObjIdOf) → Sees view.now p → result
+        ≡ advised.grown line p (cause_by (kept_doing doings.now) p line) (advised.handed (Hand tid kind o)) }
+{
+    match kind {
+        RefKind::Local => grown(line, view, doings, tid),
+        RefKind::Global | RefKind::Weak => None,
+    }
 }
 
 /// Advice at the end on a buffer that the thread was lent.

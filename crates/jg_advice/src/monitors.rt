@@ -4,20 +4,17 @@ ghost use Rattle.std.specs.Prelude.{◌≡◌, ◌&&◌, if◌then◌else◌, no
 ghost use Rattle.std.specs.Map.{lookup};
 ghost use Rattle.std.specs.Option.{option_map};
 ghost use Rattle.jg_core.specs.Facts.{is_owner};
+ghost use Rattle.jg_monitors.specs.History.{owner};
 ghost use Rattle.jg_lists.specs.ByMaker.{Name, same_name, named};
 ghost use Rattle.jg_rules.specs.Parts.{Parts};
-ghost use Rattle.jg_advice.specs.Doing.{cause_by};
 ghost use Rattle.jg_advice.specs.Monitors as spec;
-ghost use Rattle.jg_advice.specs.Standing.{kept, Sees};
+ghost use Rattle.jg_advice.specs.Standing.{Sees};
 
 use crate::advice::Source;
 use crate::buffers::Sources;
-use crate::doing::{Doings, cause};
-use crate::tables::clear;
-use jg_core::Fact;
 use jg_lists::by_maker::{add, find, remove};
 use jg_rules::{Store, View};
-use jg_words::Tid;
+use jg_words::{ObjId, Tid};
 use std::alloc::{AllocError, Allocator, Global};
 
 /// The thread enters the monitor, by their numbers.
@@ -37,16 +34,7 @@ pub fn note_entry(
     }
 }
 
-/// It exits it once, and then owns it no more, or does.
-pub fn note_exit(entered: &mut Sources, name: (u16, u64), is_owned: bool)
-    ensures { (q : Name) → lookup (same_name q) (named entered.new)
-        ≡ (if same_name name q && not is_owned then None else lookup (same_name q) (named entered.old)) }
-{
-    if !is_owned {
-        let _entered = remove(entered, name);
-    }
-}
-
+/// Whether the thread is that owner.
 fn is_owner(tid: Tid, owner: Option<Tid>) -> bool
     ensures { result ≡ is_owner tid.0 (option_map (λ t. t.0) owner) }
 {
@@ -56,33 +44,18 @@ fn is_owner(tid: Tid, owner: Option<Tid>) -> bool
     }
 }
 
-/// The fact enters or exits a monitor or ends a session, if it does.
-pub fn note_monitor<A: Allocator + Clone, S: Store>(
+/// It exits it once, and then owns it no more, or does. `view` is of the tables with that.
+pub fn note_exit<A: Allocator + Clone, S: Store>(
     entered: &mut Sources,
-    alloc: Global,
-    doings: &Doings,
     view: &View<'_, A, S>,
-    line: u64,
-    fact: Fact,
-) -> Result<(), AllocError>
-    ensures { OnOk result ((p : Parts) → Sees view.now p → (q : Name)
-        → lookup (same_name q) (named entered.new) ≡ spec.entered_by q p
-        (cause_by (kept doings.now) p line) fact (lookup (same_name q) (named entered.old))) }
+    tid: Tid,
+    object: ObjId,
+)
+    ensures { (p : Parts) → Sees view.now p → (q : Name) → lookup (same_name q) (named entered.new)
+        ≡ (if same_name (tid.0, object.0) q && not (is_owner tid.0 (owner p.monitors object.0)) then None
+        else lookup (same_name q) (named entered.old)) }
 {
-    match fact {
-        Fact::Own { tid, object } => {
-            let call = cause(doings, view, line, tid);
-            note_entry(entered, alloc, (tid.0, object.0), call)
-        }
-        Fact::Free { tid, object } => {
-            let is_owned = is_owner(tid, view.monitors.owner(object));
-            note_exit(entered, (tid.0, object.0), is_owned);
-            Ok(())
-        }
-        Fact::End(tid) => {
-            clear(entered, tid.0);
-            Ok(())
-        }
-        _ => Ok(()),
+    if !is_owner(tid, view.monitors.owner(object)) {
+        let _entered = remove(entered, (tid.0, object.0));
     }
 }

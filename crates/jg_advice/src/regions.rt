@@ -1,6 +1,6 @@
 //! Critical regions, and how long they are.
 
-ghost use Rattle.std.specs.Prelude.{◌≡◌, ◌==◌, ℕ, if◌then◌else◌, None, OnOk};
+ghost use Rattle.std.specs.Prelude.{◌≡◌, ℕ, OnOk, Some};
 ghost use Rattle.jg_lists.specs.ByThread.{at};
 ghost use Rattle.jg_rules.specs.Parts.{Parts};
 ghost use Rattle.jg_advice.specs.Doing.{cause_by};
@@ -9,7 +9,6 @@ ghost use Rattle.jg_advice.specs.Standing.{kept, Sees};
 
 use crate::advice::Source;
 use crate::doing::{Doings, cause};
-use jg_core::Fact;
 use jg_lists::ByThread;
 use jg_rules::{Store, View};
 use jg_words::Tid;
@@ -34,61 +33,34 @@ pub struct Region {
 /// By the thread that is in it.
 pub type Regions = ByThread<Region, Global>;
 
-/// The thread whose critical region the fact may begin or end.
-pub fn bordered(fact: Fact) -> Option<Tid>
-    ensures { result ≡ spec.bordered fact }
-{
-    match fact {
-        Fact::Lend { tid, .. } => Some(tid),
-        Fact::Back(buffer) => Some(buffer.maker),
-        Fact::End(tid) => Some(tid),
-        _ => None,
-    }
-}
-
-/// The thread is in a critical region now, or in none: one that isn't there yet begins so.
-fn note_inside(
-    regions: &mut Regions,
-    tid: Tid,
-    is_in: bool,
-    begun: Region,
-) -> Result<(), AllocError>
-    ensures { OnOk result ((t : ℕ) → at t regions.new ≡ (if tid.0 == t
-        then (if is_in then spec.or_begun (at t regions.old) begun else None) else at t regions.old)) }
-{
-    if !is_in {
-        let _ended = regions.remove(tid.0);
-        return Ok(());
-    }
-    if regions.contains(tid.0) {
-        return Ok(());
-    }
-    regions.add(tid.0, begun)
-}
-
-/// The fact begins or ends a critical region, if it does.
+/// The thread's critical region begins or ends, if it does: the thread was lent a buffer, gave one back, or its session
+/// ended. `view` is of the tables with that.
 pub fn note_region<A: Allocator + Clone, S: Store>(
     regions: &mut Regions,
     doings: &Doings,
     view: &View<'_, A, S>,
     line: u64,
     counts: Counts,
-    fact: Fact,
+    tid: Tid,
 ) -> Result<(), AllocError>
     ensures { OnOk result ((p : Parts) → Sees view.now p → (t : ℕ) → at t regions.new
         ≡ spec.region_by t p (λ u. record {
           source = cause_by (kept doings.now) p line u;
           calls = counts.calls;
           collections = counts.collections;
-        }) (spec.bordered fact) (at t regions.old)) }
+        }) (Some tid) (at t regions.old)) }
 {
-    let Some(tid) = bordered(fact) else {
+    if !view.buffers.in_critical(tid) {
+        let _ended = regions.remove(tid.0);
         return Ok(());
-    };
+    }
+    if regions.contains(tid.0) {
+        return Ok(());
+    }
     let begun = Region {
         source: cause(doings, view, line, tid),
         calls: counts.calls,
         collections: counts.collections,
     };
-    note_inside(regions, tid, view.buffers.in_critical(tid), begun)
+    regions.add(tid.0, begun)
 }

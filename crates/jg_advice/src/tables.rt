@@ -1,10 +1,10 @@
 //! Values by a maker and a number, as advice keeps them.
 
-ghost use Rattle.std.specs.Prelude.{◌≡◌, ◌==◌, if◌then◌else◌, IsSome, None, OnOk, Some};
+ghost use Rattle.std.specs.Prelude.{◌≡◌, ◌==◌, if◌then◌else◌, None, OnOk, Some};
 ghost use Rattle.std.specs.Map.{lookup};
 ghost use Rattle.jg_lists.specs.ByMaker.{Name, same_name, named, IsThereOnce};
 
-use jg_lists::by_maker::{ByMaker, add, find, remove, take_any};
+use jg_lists::by_maker::{ByMaker, add, remove, take_any};
 use std::alloc::{AllocError, Global};
 
 /// Gives the name this value, in the place of any that it has.
@@ -20,37 +20,6 @@ pub(crate) fn put<V: Drop>(
 {
     let _old = remove(tables, name);
     add(tables, &alloc, name, value)
-}
-
-/// Gives another value to a name that has one. Takes no memory.
-fn replace<V: Drop>(tables: &mut ByMaker<V, Global>, name: (u16, u64), value: V)
-    requires { IsSome (lookup (same_name name) (named tables.old)) }
-    ensures { (q : Name) → lookup (same_name q) (named tables.new)
-        ≡ (if same_name name q then Some value else lookup (same_name q) (named tables.old)) }
-{
-    match tables.get_mut(name.0) {
-        None => {}
-        Some(numbers) => numbers.set(name.1, value),
-    }
-}
-
-/// The same as [`put`], in fewer steps where the name has a value.
-pub(crate) fn put_again<V: Drop>(
-    tables: &mut ByMaker<V, Global>,
-    alloc: Global,
-    name: (u16, u64),
-    value: V,
-) -> Result<(), AllocError>
-    ensures { OnOk result ((q : Name) → lookup (same_name q) (named tables.new)
-        ≡ (if same_name name q then Some value else lookup (same_name q) (named tables.old))) }
-{
-    match find(tables, name) {
-        Some(_) => {
-            replace(tables, name, value);
-            Ok(())
-        }
-        None => add(tables, &alloc, name, value),
-    }
 }
 
 /// Takes all of the maker's values away. Takes no memory, and time by how many these are.

@@ -16,10 +16,10 @@ ghost use Rattle.jg_rules.specs.View.{ViewStands};
 ghost use Rattle.jg_script.specs.Entries.{FailsCall, Took};
 ghost use Rattle.jg_words.specs.Entry.{Entry as EntryOf};
 
-use crate::moments::{name_handed, tell_all};
+use crate::moments::{list_operands, name_handed, tell_all};
 use jg_advice::Counsel;
 use jg_core::Fact;
-use jg_facts::{Foreseen, function_of, push_arguments};
+use jg_facts::{Foreseen, function_of};
 use jg_guard::Guard;
 use jg_questions::Argument;
 use jg_rules::View;
@@ -81,7 +81,7 @@ impl<A: Allocator + Clone> Counselling<A> {
     {
         let (function, name) = (function_of(call), name_handed(call));
         self.arguments.clear();
-        let listed = push_arguments(view, tid, call, &mut self.arguments);
+        let listed = list_operands(view, tid, call, &mut self.arguments);
         let foreseen = self.foreseen.foresee(view, tid, call);
         if listed.is_err() || foreseen.is_err() {
             self.counsel.lose();

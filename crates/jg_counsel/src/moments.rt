@@ -1,17 +1,20 @@
 //! What the counsel is told of a call.
 
-ghost use Rattle.std.specs.Prelude.{◌≡◌, List};
+ghost use Rattle.std.specs.Prelude.{◌≡◌, ◌++◌, List, OnOk};
 ghost use Rattle.jg_advice.specs.Moments.{Moment};
 ghost use Rattle.jg_advice.specs.Standing.{Sees};
 ghost use Rattle.jg_advice.specs.Told.{Counsels};
-ghost use Rattle.jg_counsel.specs.Counselled.{name_handed, with_facts};
+ghost use Rattle.jg_counsel.specs.Counselled.{name_handed, operands_seen, with_facts};
 ghost use Rattle.jg_rules.specs.Parts.{Parts};
+ghost use Rattle.jg_rules.specs.View.{ViewStands};
 
 use jg_advice::Counsel;
 use jg_core::Fact;
+use jg_facts::push_arguments;
+use jg_questions::Argument;
 use jg_rules::View;
-use jg_words::{Call, ObjectsCall};
-use std::alloc::Allocator;
+use jg_words::{Call, ObjectsCall, Tid};
+use std::alloc::{AllocError, Allocator};
 
 /// The name that FindClass is handed; no text of any other call.
 pub(crate) fn name_handed(call: &Call) -> &[u8]
@@ -20,6 +23,22 @@ pub(crate) fn name_handed(call: &Call) -> &[u8]
     match call {
         Call::Objects(ObjectsCall::FindClass { name }) => name.as_str().as_bytes(),
         _ => &[],
+    }
+}
+
+/// Lists the operands of the question that the call is, where it is about a buffer: advice looks at no others.
+pub(crate) fn list_operands<A: Allocator + Clone>(
+    view: &View<'_, A>,
+    tid: Tid,
+    call: &Call,
+    out: &mut Vec<Argument>,
+) -> Result<(), AllocError>
+    ensures { OnOk result ((p : Parts) → ViewStands view.now p
+        → out.new.items ≡ out.old.items ++ operands_seen view.now.setup.now p tid.0 call.now) }
+{
+    match call {
+        Call::Buffers(_) => push_arguments(view, tid, call, out),
+        _ => Ok(()),
     }
 }
 

@@ -1,7 +1,6 @@
 use Rattle.std.proofs.Common.{◌≡◌, ◌∙◌, ◌++◌, ap, sym, refl}
 use Rattle.jg_advice.specs.Moments.{Called}
-use Rattle.jg_counsel.specs.Counselled.{name_handed}
-use Rattle.jg_questions.specs.Written.{arguments_of}
+use Rattle.jg_counsel.specs.Counselled.{name_handed, operands_seen}
 use Rattle.jg_counsel.proofs.Standing.{lost_stands, question, seen, unless_err}
 use Rattle.jg_counsel.proofs.counselling.Counselling.ask.Goals as goal
 
@@ -10,7 +9,7 @@ pub returns-then-is_err-clause-counsels : goal.returns-then-is_err-clause-counse
 returns-then-is_err-clause-counsels g c = λ p h stands counsels.
     let s = c.args.view.now.setup.now in
     let call = c.args.call.now in
-    let operands = arguments_of s p c.args.tid.0 call in (
+    let operands = operands_seen s p c.args.tid.0 call in (
       record { line = c.args.line; what = Called c.args.tid c.function_of-function.result operands (name_handed call); parts = p },
       question s p c.args.line c.args.tid call c.function_of-function.result operands (name_handed call) c.function_of-function.ensures refl refl,
       lost_stands c.lose.new.self _ c.lose.ensures.lost,
@@ -20,8 +19,8 @@ pub returns-clause-counsels : goal.returns-clause-counsels
 returns-clause-counsels g c = λ p h stands counsels.
     let s = c.args.view.now.setup.now in
     let call = c.args.call.now in
-    let listed : c.push_arguments-listed.new.out.items ≡ arguments_of s p c.args.tid.0 call =
-    unless_err c.push_arguments-listed.result (sym c.is_err.ensures.value ∙ c.if-is_err.false) c.push_arguments-listed.ensures p stands ∙ ap (λ xs. xs ++ arguments_of s p c.args.tid.0 call) c.clear.ensures.items in (
+    let listed : c.list_operands-listed.new.out.items ≡ operands_seen s p c.args.tid.0 call =
+    unless_err c.list_operands-listed.result (sym c.is_err.ensures.value ∙ c.if-is_err.false) c.list_operands-listed.ensures p stands ∙ ap (λ xs. xs ++ operands_seen s p c.args.tid.0 call) c.clear.ensures.items in (
       record { line = c.args.line; what = Called c.args.tid c.function_of-function.result c.deref.result.now c.name_handed-name.result.now; parts = p },
       question s p c.args.line c.args.tid call c.function_of-function.result c.deref.result.now c.name_handed-name.result.now c.function_of-function.ensures
           (c.deref.ensures.value ∙ listed) c.name_handed-name.ensures,

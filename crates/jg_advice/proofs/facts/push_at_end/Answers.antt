@@ -9,7 +9,7 @@ use Rattle.jg_lists.specs.ByNumber.{seen}
 use Rattle.jg_lists.proofs.Tables.{lookup-named}
 use Rattle.jg_advice.specs.Advised.{at_end}
 use Rattle.jg_advice.proofs.Steps.{none_once}
-use Rattle.jg_advice.proofs.facts.push_table.Goals as goal
+use Rattle.jg_advice.proofs.facts.push_at_end.Goals as goal
 
 -- the thread has no table
 pub returns-in-None : goal.returns-in-None
