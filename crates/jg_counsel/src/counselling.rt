@@ -112,6 +112,7 @@ impl<A: Allocator + Clone> Counselling<A> {
     }
 
     /// The guard takes a call that breaks no rule, and the counsel is told it.
+    #[inline(always)]
     fn pass(
         &mut self,
         guard: &mut Guard<A>,
@@ -159,6 +160,8 @@ impl<A: Allocator + Clone> Counselling<A> {
 }
 
 /// The guard takes the call; `broken` is what `Guard::judge` answers of it now.
+// Inlined, as `pass` is, so that the call is moved once.
+#[inline(always)]
 fn take_judged<A: Allocator + Clone>(
     guard: &mut Guard<A>,
     tid: Tid,

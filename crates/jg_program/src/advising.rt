@@ -8,7 +8,6 @@ ghost use Rattle.jg_program.specs.Advising.{is_advised, SaysAdvice, StandsBeside
 ghost use Rattle.jg_words.specs.Entry.{Entry};
 
 use crate::reporting::Reporting;
-use jg_args::Advising;
 use jg_counsel::{Counselling, counsel_journal};
 use jg_guard::{Guard, NoMemory};
 use std::alloc::{AllocError, Global};
@@ -18,11 +17,9 @@ fn counselling_of(alloc: Global, reporting: Reporting) -> Result<Option<Counsell
     ensures stands { IfOk result (λ beside. (s : StatedSetup) → StandsBeside reporting beside s []) }
     ensures refused { OnErr result (is_advised reporting ≡ true) }
 {
-    let most = u64::from(reporting.region);
-    match reporting.advice {
-        Advising::Never => Ok(None),
-        Advising::Once => Ok(Some(Counselling::new(alloc, alloc, most, false)?)),
-        Advising::Each => Ok(Some(Counselling::new(alloc, alloc, most, true)?)),
+    match reporting.advising() {
+        None => Ok(None),
+        Some((most, all)) => Ok(Some(Counselling::new(alloc, alloc, most, all)?)),
     }
 }
 
@@ -62,11 +59,9 @@ fn counsel_on(
     ensures stands { IfOk result (λ beside. StandsBeside reporting beside guard.now.setup guard.now.journal) }
     ensures refused { OnErr result (is_advised reporting ≡ true) }
 {
-    let most = u64::from(reporting.region);
-    match reporting.advice {
-        Advising::Never => Ok(None),
-        Advising::Once => Ok(Some(counsel_journal(guard, alloc, most, false)?)),
-        Advising::Each => Ok(Some(counsel_journal(guard, alloc, most, true)?)),
+    match reporting.advising() {
+        None => Ok(None),
+        Some((most, all)) => Ok(Some(counsel_journal(guard, alloc, most, all)?)),
     }
 }
 

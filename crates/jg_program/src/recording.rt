@@ -18,7 +18,6 @@ use crate::record_report::report_record;
 use crate::reporting::Reporting;
 use crate::stop::{ProgramEnd, ProgramStop};
 use jg_advice::Counsel;
-use jg_args::Advising;
 use jg_policy::Setup;
 use jg_record::cut_line;
 use jg_script::{DeviceFailed, HandsOn, Watched, write_text};
@@ -123,11 +122,9 @@ fn counsel_of(alloc: Global, reporting: Reporting) -> Result<Option<Counsel>, Al
     ensures new { IfOk result (λ counsel. CounselsIf counsel []) }
     ensures refused { OnErr result (is_advised reporting ≡ true) }
 {
-    let most = u64::from(reporting.region);
-    match reporting.advice {
-        Advising::Never => Ok(None),
-        Advising::Once => Ok(Some(Counsel::new(alloc, most, false)?)),
-        Advising::Each => Ok(Some(Counsel::new(alloc, most, true)?)),
+    match reporting.advising() {
+        None => Ok(None),
+        Some((most, all)) => Ok(Some(Counsel::new(alloc, most, all)?)),
     }
 }
 

@@ -3,7 +3,7 @@
 ghost use Rattle.std.specs.Prelude.{◌≡◌, ◌⊎◌, ◌++◌, ◌||◌, [], codes, Err, false, IfOk, IfSome, List, None, Ok, OnErr, OnOk, string_bytes, true, ℕ};
 ghost use Rattle.jg_explain.specs.Texts.{explanations_text};
 ghost use Rattle.jg_program.specs.About.{IsAbout};
-ghost use Rattle.jg_program.specs.Advising.{is_advised, SaysAdvice};
+ghost use Rattle.jg_program.specs.Advising.{advice_asked, is_advised, SaysAdvice};
 ghost use Rattle.jg_program.specs.Reported.{EndsSummed, Explains, IsToldIf, Reports, SaysLeaks, SaysSummary, Tells, TellsNothing, any_denied, is_explained, said_text, strict_status};
 
 use crate::about::{About, push_about};
@@ -30,6 +30,21 @@ pub struct Reporting {
     pub leaks: bool,
     /// Whether the summary is said.
     pub summary: bool,
+}
+
+impl Reporting {
+    /// How many calls may be made in a region that isn't long, and whether each advice is told or the first of each kind
+    /// and function, where advice is asked for.
+    pub fn advising(self) -> Option<(u64, bool)>
+        ensures { result ≡ advice_asked self }
+    {
+        let most = u64::from(self.region);
+        match self.advice {
+            Advising::Never => None,
+            Advising::Once => Some((most, false)),
+            Advising::Each => Some((most, true)),
+        }
+    }
 }
 
 /// Whether some call of the guard's journal was denied.
@@ -76,12 +91,12 @@ fn push_advice(reporting: Reporting, advised: &str, out: &mut String) -> Result<
     ensures told { OnOk result (string_bytes out.new ≡ string_bytes out.old ++ advised.now) }
     ensures refused { OnErr result (is_advised reporting ≡ true) }
 {
-    match reporting.advice {
-        Advising::Never => Ok(()),
-        Advising::Once | Advising::Each => match out.push_str(advised) {
-            Ok(()) => Ok(()),
-            Err(_) => Err(NoMemory),
-        },
+    if reporting.advising().is_none() {
+        return Ok(());
+    }
+    match out.push_str(advised) {
+        Ok(()) => Ok(()),
+        Err(_) => Err(NoMemory),
     }
 }
 
