@@ -10,7 +10,7 @@ use Rattle.jg_advice.specs.Moments.{Moment}
 use Rattle.jg_advice.specs.Told.{Tells as Advises}
 use Rattle.jg_counsel.specs.Counselled.{AreMoments, Counselled, Follows}
 use Rattle.jg_program.specs.declared.reporting.Reporting.{Reporting}
-use Rattle.jg_program.specs.Advising.{SaysAdvice, SaysAsked, StandsBeside, advice_asked, is_advised}
+use Rattle.jg_program.specs.Advising.{SaysAdvice, SaysAsked, StandsBeside, is_advised}
 
 -- what followed the calls stands after them as it stood before
 pub stood : {A : Type 0} (r : Reporting) (x y : Option (Counselling A)) (s s' : StatedSetup) (h : List Entry)
