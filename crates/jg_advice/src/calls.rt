@@ -10,14 +10,11 @@ ghost use Rattle.jg_advice.specs.Advised as advised;
 use crate::advice::{Advice, Kind, Source};
 use crate::buffers::{Sources, is_abort};
 use crate::doing::Doing;
-use crate::functions::{Release, wants_none};
+use crate::functions::{Release, is_find_class, wants_none};
 use jg_functions::Row;
 use jg_lists::by_maker::find;
 use jg_words::Tid;
 use std::alloc::AllocError;
-
-/// The place of FindClass in the table of functions.
-const FIND_CLASS: u16 = 2;
 
 /// A call that is advised on: of this function, by this thread, on this line.
 #[derive(Clone, Copy, Debug, PartialEq, Eq)]
@@ -124,7 +121,7 @@ fn is_enclosed(name: &[u8]) -> bool
 pub fn misnamed(calling: Calling, name: &[u8]) -> Option<Advice>
     ensures { result ≡ advised.misnamed calling.line calling.tid calling.function name.now }
 {
-    if calling.function != FIND_CLASS || !is_descriptor(name) {
+    if !is_find_class(calling.function) || !is_descriptor(name) {
         return None;
     }
     Some(Advice {

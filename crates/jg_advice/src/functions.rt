@@ -1,6 +1,6 @@
 //! What the table says of a function, as far as advice looks at it.
 
-ghost use Rattle.std.specs.Prelude.{◌≡◌, Some};
+ghost use Rattle.std.specs.Prelude.{◌≡◌, ◌==◌, Some};
 ghost use Rattle.jg_functions.specs.Columns.{columns};
 ghost use Rattle.jg_advice.specs.Buffers as buffers;
 ghost use Rattle.jg_advice.specs.Functions as spec;
@@ -9,11 +9,21 @@ use jg_functions::{Effect, Passes, Row, Section, Takes, Throws};
 use jg_questions::Argument;
 use jg_words::BufId;
 
+/// The place of FindClass in the table of functions.
+const FIND_CLASS: u16 = 2;
+
 /// A buffer that a call gives back, and how: 0, `JNI_COMMIT` or `JNI_ABORT`.
 #[derive(Clone, Copy, Debug, PartialEq, Eq)]
 pub(crate) struct Release {
     pub buffer: BufId,
     pub mode: i32,
+}
+
+/// Whether the function at that place of the table is FindClass: advice looks at the name that this is handed.
+pub fn is_find_class(function: u16) -> bool
+    ensures { result ≡ (function == spec.find_class) }
+{
+    function == FIND_CLASS
 }
 
 /// Whether the function is one of the JNI, and none of this guard's own.

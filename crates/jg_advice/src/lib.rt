@@ -18,5 +18,6 @@ mod texts;
 pub use advice::{Advice, Kind, Source};
 pub use adviser::Adviser;
 pub use counsel::Counsel;
+pub use functions::is_find_class;
 pub use report::Advices;
 pub use texts::{help, kind_word, sentence, verb};

@@ -1,2 +1,3 @@
+mod Operands
 mod Standing
 mod Telling

@@ -18,8 +18,7 @@ use Rattle.jg_rules.specs.Legal.{entry_at, entry_by}
 use Rattle.jg_rules.specs.Parts.{Parts}
 use Rattle.jg_rules.specs.Rules.{verdict}
 use Rattle.jg_rules.specs.View.{ViewStands}
-use Rattle.jg_questions.specs.declared.argument.Argument.{Argument}
-use Rattle.jg_questions.specs.Written.{row_for}
+use Rattle.jg_questions.specs.Written.{arguments_of, row_for}
 use Rattle.jg_core.specs.declared.fact.Fact.{Fact}
 use Rattle.jg_entries.specs.Entries.{outcome_facts}
 use Rattle.jg_facts.specs.declared.foreseen.Foreseen.{Foreseen}
@@ -27,7 +26,7 @@ use Rattle.jg_facts.specs.Foreseen.{Foresees}
 use Rattle.jg_advice.specs.Moments.{Called, Moment}
 use Rattle.jg_advice.specs.Standing.{Sees}
 use Rattle.jg_advice.specs.Told.{CounselState, Counsels}
-use Rattle.jg_counsel.specs.Counselled.{AreMoments, Follows, IsQuestion, name_handed, operands_seen, with_facts}
+use Rattle.jg_counsel.specs.Counselled.{AreMoments, Follows, IsQuestion, name_handed, with_facts}
 
 -- where memory ran out, there is nothing to stand for
 pub lost_stands : (x : CounselState) (h : List Moment) → x.lost ≡ true → Counsels x h
@@ -45,13 +44,12 @@ unless_err (Err e) free says = absurd (let clash : true ≡ false = free in cc)
 pub seen : {A I : Type 0} (view : View A Rows I) (p : Parts) → ViewStands view p → Sees view p
 seen view p stands = record { locals = stands.locals; buffers = stands.buffers; monitors = stands.monitors }
 
-pub question : (s : StatedSetup) (p : Parts) (n : ℕ) (t : Tid) (call : Call) (place : ℕ) (operands : List Argument) (name : List ℕ) → slice_get functions place ≡ Some (row_for (fun_of call))
-    → operands ≡ operands_seen s p t.0 call → name ≡ name_handed call → IsQuestion s p n t call (record { line = n; what = Called t place operands name; parts = p })
-question s p n t call place operands name function is_operands is_name = record {
+pub question : (s : StatedSetup) (p : Parts) (n : ℕ) (t : Tid) (call : Call) (place : ℕ) (name : List ℕ) → slice_get functions place ≡ Some (row_for (fun_of call))
+    → name ≡ name_handed call → IsQuestion s p n t call (record { line = n; what = Called t place (arguments_of s p t.0 call) name; parts = p })
+question s p n t call place name function is = record {
   place = place;
   function = function;
-  is = ap (λ (xs : List Argument). record { line = n; what = Called t place xs name; parts = p }) is_operands
-      ∙ ap (λ (text : List ℕ). record { line = n; what = Called t place (operands_seen s p t.0 call) text; parts = p }) is_name;
+  is = ap (λ (text : List ℕ). record { line = n; what = Called t place (arguments_of s p t.0 call) text; parts = p }) is;
 }
 
 -- ---- one entry more

@@ -4,7 +4,7 @@ use Rattle.jg_words.specs.Entry.{Entry}
 use Rattle.jg_words.specs.Call.{fun_of}
 use Rattle.jg_words.specs.declared.thread.Tid.{Tid}
 use Rattle.jg_words.specs.declared.call.Call.{Call}
-use Rattle.jg_words.specs.declared.call.Call.TheVariants.{Buffers, Objects}
+use Rattle.jg_words.specs.declared.call.Call.TheVariants.{Objects}
 use Rattle.jg_words.specs.declared.call.objects.ObjectsCall.{ObjectsCall}
 use Rattle.jg_words.specs.declared.call.objects.ObjectsCall.TheVariants.{FindClass}
 use Rattle.jg_words.specs.declared.entry.Outcome.{Outcome}
@@ -29,18 +29,13 @@ abbrev pub name_handed : Call → List ℕ
 name_handed (Objects call) = objects_name call
 name_handed call = []
 
--- the operands of the question that the call is, where advice looks at them: where it is about a buffer
-abbrev pub operands_seen : StatedSetup → Parts → ℕ → Call → List Argument
-operands_seen s p t (Buffers call) = arguments_of s p t (Buffers call)
-operands_seen s p t call = []
-
 -- the question that the call of t is, on line n, where p is what came before it
 pub record IsQuestion (s : StatedSetup) (p : Parts) (n : ℕ) (t : Tid) (call : Call) (m : Moment) : Type 0 where
   pub place : ℕ
   pub function : slice_get functions place ≡ Some (row_for (fun_of call))
   pub is : m ≡ record {
     line = n;
-    what = Called t place (operands_seen s p t.0 call) (name_handed call);
+    what = Called t place (arguments_of s p t.0 call) (name_handed call);
     parts = p;
   }
 

@@ -1,1 +1,2 @@
 pub mod Counselled
+pub mod Operands

@@ -4,7 +4,8 @@ ghost use Rattle.std.specs.Prelude.{◌≡◌, ◌++◌, List, OnOk};
 ghost use Rattle.jg_advice.specs.Moments.{Moment};
 ghost use Rattle.jg_advice.specs.Standing.{Sees};
 ghost use Rattle.jg_advice.specs.Told.{Counsels};
-ghost use Rattle.jg_counsel.specs.Counselled.{name_handed, operands_seen, with_facts};
+ghost use Rattle.jg_counsel.specs.Counselled.{name_handed, with_facts};
+ghost use Rattle.jg_counsel.specs.Operands.{operands_seen};
 ghost use Rattle.jg_rules.specs.Parts.{Parts};
 ghost use Rattle.jg_rules.specs.View.{ViewStands};
 

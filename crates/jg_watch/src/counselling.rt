@@ -10,16 +10,13 @@ ghost use Rattle.jg_watch.specs.Counselled.{advising_of, CounselsIf, with_moment
 ghost use Rattle.jg_watch.specs.Lines.{name_in, what_of};
 
 use crate::event::Replied;
-use jg_advice::Counsel;
+use jg_advice::{Counsel, is_find_class};
 use jg_core::{Core, Fact};
 use jg_questions::Argument;
 use jg_record::{Event, Lists, Reply};
 use jg_text::{cut, next_field};
 use jg_words::Tid;
 use std::alloc::Allocator;
-
-/// The place of FindClass in the table of functions.
-const FIND_CLASS: u16 = 2;
 
 /// The fourth field of a line, in which FindClass has its name.
 fn name_in(line: &[u8]) -> &[u8]
@@ -42,7 +39,7 @@ fn name_in(line: &[u8]) -> &[u8]
 fn name_of(function: u16, text: &[u8]) -> &[u8]
     ensures { result.now ≡ (if function == find_class then name_in text.now else []) }
 {
-    if function == FIND_CLASS {
+    if is_find_class(function) {
         name_in(text)
     } else {
         &[]

@@ -1,6 +1,11 @@
-use Rattle.std.proofs.Common.{◌≡◌, ◌∙◌, ◌++◌, ap, sym, refl}
+use Rattle.std.proofs.Common.{◌≡◌, ◌∙◌, ◌++◌, ◌∷◌, List, ap, refl, subst, sym}
+use Rattle.jg_questions.specs.declared.argument.Argument.{Argument}
+use Rattle.jg_questions.specs.Written.{arguments_of}
 use Rattle.jg_advice.specs.Moments.{Called}
-use Rattle.jg_counsel.specs.Counselled.{name_handed, operands_seen}
+use Rattle.jg_advice.specs.Told.{Counsels}
+use Rattle.jg_counsel.specs.Counselled.{name_handed}
+use Rattle.jg_counsel.specs.Operands.{operands_seen}
+use Rattle.jg_counsel.proofs.Operands.{with_all}
 use Rattle.jg_counsel.proofs.Standing.{lost_stands, question, seen, unless_err}
 use Rattle.jg_counsel.proofs.counselling.Counselling.ask.Goals as goal
 
@@ -8,10 +13,9 @@ use Rattle.jg_counsel.proofs.counselling.Counselling.ask.Goals as goal
 pub returns-then-is_err-clause-counsels : goal.returns-then-is_err-clause-counsels
 returns-then-is_err-clause-counsels g c = λ p h stands counsels.
     let s = c.args.view.now.setup.now in
-    let call = c.args.call.now in
-    let operands = operands_seen s p c.args.tid.0 call in (
-      record { line = c.args.line; what = Called c.args.tid c.function_of-function.result operands (name_handed call); parts = p },
-      question s p c.args.line c.args.tid call c.function_of-function.result operands (name_handed call) c.function_of-function.ensures refl refl,
+    let call = c.args.call.now in (
+      record { line = c.args.line; what = Called c.args.tid c.function_of-function.result (arguments_of s p c.args.tid.0 call) (name_handed call); parts = p },
+      question s p c.args.line c.args.tid call c.function_of-function.result (name_handed call) c.function_of-function.ensures refl,
       lost_stands c.lose.new.self _ c.lose.ensures.lost,
     )
 
@@ -19,10 +23,13 @@ pub returns-clause-counsels : goal.returns-clause-counsels
 returns-clause-counsels g c = λ p h stands counsels.
     let s = c.args.view.now.setup.now in
     let call = c.args.call.now in
+    let function = c.function_of-function.result in
+    let name = c.name_handed-name.result.now in
     let listed : c.list_operands-listed.new.out.items ≡ operands_seen s p c.args.tid.0 call =
     unless_err c.list_operands-listed.result (sym c.is_err.ensures.value ∙ c.if-is_err.false) c.list_operands-listed.ensures p stands ∙ ap (λ xs. xs ++ operands_seen s p c.args.tid.0 call) c.clear.ensures.items in (
-      record { line = c.args.line; what = Called c.args.tid c.function_of-function.result c.deref.result.now c.name_handed-name.result.now; parts = p },
-      question s p c.args.line c.args.tid call c.function_of-function.result c.deref.result.now c.name_handed-name.result.now c.function_of-function.ensures
-          (c.deref.ensures.value ∙ listed) c.name_handed-name.ensures,
-      c.called.ensures.counsels h p counsels (seen c.args.view.now p stands),
+      record { line = c.args.line; what = Called c.args.tid function (arguments_of s p c.args.tid.0 call) name; parts = p },
+      question s p c.args.line c.args.tid call function name c.function_of-function.ensures c.name_handed-name.ensures,
+      with_all s p c.args.line c.args.tid call function name h c.called.new.self c.function_of-function.ensures
+          (subst (λ (xs : List Argument). Counsels c.called.new.self (record { line = c.args.line; what = Called c.args.tid function xs name; parts = p } ∷ h))
+          (c.deref.ensures.value ∙ listed) (c.called.ensures.counsels h p counsels (seen c.args.view.now p stands))),
     )

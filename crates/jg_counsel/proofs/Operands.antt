@@ -1,0 +1,126 @@
+-- Advice looks at no operand of a call that isn't about a buffer: what is noted of the call is the same without them.
+use Rattle.std.proofs.Common.{◌≡◌, ◌∙◌, ℕ, Bool, true, false, List, [], ◌∷◌, Option, Some, None, refl, ap, sym}
+use Rattle.std.specs.Prelude.{◌++◌, ◌&&◌, ◌||◌, if◌then◌else◌, nat_eq, not, option_to_list, slice_get}
+use Rattle.std.specs.Cmp.Lexicographic.{pointwise}
+use Rattle.jg_words.specs.declared.buffer.BufId.{BufId}
+use Rattle.jg_words.specs.declared.thread.Tid.{Tid}
+use Rattle.jg_words.specs.declared.call.Call.{Call}
+use Rattle.jg_words.specs.declared.call.Call.TheVariants as call
+use Rattle.jg_words.specs.declared.fun.Fun.{Fun}
+use Rattle.jg_words.specs.declared.fun.Fun.TheVariants as fun
+use Rattle.jg_words.specs.Call.{fun_of}
+use Rattle.jg_words.specs.Fun.{all, name_of}
+use Rattle.jg_words.proofs.ByName.{each_passes}
+use Rattle.jg_words.proofs.Names.{named-name_of}
+use Rattle.jg_policy.specs.Stated.{StatedSetup}
+use Rattle.jg_functions.specs.Columns.{Columns}
+use Rattle.jg_functions.specs.Table.{functions}
+use Rattle.jg_rules.specs.Parts.{Parts}
+use Rattle.jg_questions.specs.declared.argument.Argument.{Argument}
+use Rattle.jg_questions.specs.declared.argument.Argument.TheVariants.{Buffer, Number}
+use Rattle.jg_questions.specs.Written.{arguments_of, row_for}
+use Rattle.jg_questions.proofs.Rows.{effect_of, row_is, takes_of}
+use Rattle.jg_advice.specs.declared.functions.Release.{Release}
+use Rattle.jg_advice.specs.Advised.{lost, misnamed, unchecked}
+use Rattle.jg_advice.specs.Buffers.{commits, is_copy, is_named, released_by, written, written_by, committed}
+use Rattle.jg_advice.specs.Doing.{doing_now, source}
+use Rattle.jg_advice.specs.Functions.{begins_writable, gives_back, is_back, writes}
+use Rattle.jg_advice.specs.Moments.{Called, Moment}
+use Rattle.jg_advice.specs.Noted.{Noting}
+use Rattle.jg_advice.specs.Standing.{AdviserState, Stands}
+use Rattle.jg_advice.specs.Told.{CounselState, Counsels, Notes}
+use Rattle.jg_counsel.specs.Operands.{operands_seen}
+
+-- ---- no other function's row says that it writes to a buffer, or gives one back
+
+is_about_buffers : Fun → Bool
+is_about_buffers (fun.Buffers f) = true
+is_about_buffers f = false
+
+passes : Fun → Bool
+passes f = is_about_buffers f || (not (begins_writable (takes_of f)) && not (is_back (effect_of f)))
+
+each : (f : Fun) → passes f ≡ true
+each f = each_passes (λ g. pointwise nat_eq (name_of g) (name_of f)) passes all f (named-name_of f) refl
+
+apart : (b w g : Bool) → (b || (not w && not g)) ≡ true → b ≡ false → (w ≡ false) × (g ≡ false)
+apart false false false e plain = (refl, refl)
+apart false false true e plain = absurd (cc)
+apart false true g e plain = absurd (cc)
+apart true w g e plain = absurd (cc)
+
+none_written : (row : Columns) (xs : List Argument) → writes row ≡ false → written_by (Some row) xs ≡ None
+none_written row [] e = refl
+none_written row (Buffer b ∷ xs) e = ap (λ w. if w then Some b else None) e
+none_written row (x ∷ xs) e = refl
+
+none_released : (row : Columns) (xs : List Argument) → gives_back row ≡ false → released_by (Some row) xs ≡ None
+none_released row [] e = refl
+none_released row (x ∷ []) e = refl
+none_released row (x ∷ Buffer b ∷ []) e = refl
+none_released row (x ∷ Buffer b ∷ Number mode ∷ xs) e = ap (λ g. if g then Some (record { buffer = b; mode = mode }) else None) e
+none_released row (x ∷ Buffer b ∷ y ∷ xs) e = refl
+none_released row (x ∷ y ∷ xs) e = refl
+
+none_seen : (f : Fun) (row : Columns) (found : Option Columns) (xs : List Argument) → is_about_buffers f ≡ false → row.takes ≡ takes_of f → row.effect ≡ effect_of f → found ≡ Some row
+    → (written_by found xs ≡ None) × (released_by found xs ≡ None)
+none_seen f row found xs plain takes effect is =
+    let both = apart (is_about_buffers f) (begins_writable (takes_of f)) (is_back (effect_of f)) (each f) plain in (
+      ap (λ x. written_by x xs) is ∙ none_written row xs (ap begins_writable takes ∙ both.0),
+      ap (λ x. released_by x xs) is ∙ none_released row xs (ap is_back effect ∙ both.1),
+    )
+
+-- ---- what is noted of a call, by what advice reads of its operands
+
+module _ (n : ℕ) (t : Tid) (f : ℕ) (xs ys : List Argument) (name : List ℕ) (p : Parts) (h : List Moment)
+    (writes_same : written_by (slice_get functions f) xs ≡ written_by (slice_get functions f) ys)
+    (releases_same : released_by (slice_get functions f) xs ≡ released_by (slice_get functions f) ys) where
+  abbrev call_with : List Argument → Moment
+  call_with operands = record { line = n; what = Called t f operands name; parts = p }
+
+  stands_alike : (x : AdviserState) → Stands x (call_with xs ∷ h) → Stands x (call_with ys ∷ h)
+  stands_alike x stands = record {
+    doings = stands.doings;
+    written = λ q. stands.written q
+        ∙ (ap (λ r. if commits q r then None else (if is_named q (written_by (slice_get functions f) xs) && is_copy p (written_by (slice_get functions f) xs) then Some (source n t f) else written q h)) releases_same
+        ∙ ap (λ b. if commits q (released_by (slice_get functions f) ys) then None else (if is_named q b && is_copy p b then Some (source n t f) else written q h)) writes_same);
+    committed = λ q. stands.committed q ∙ ap (λ r. if commits q r then Some (source n t f) else committed q h) releases_same;
+    once = stands.once;
+    entered = stands.entered;
+    regions = stands.regions;
+    calls = stands.calls;
+    collections = stands.collections;
+  }
+
+  notes_alike : (most : ℕ) (x : Noting) → Notes most (call_with xs ∷ h) x → Notes most (call_with ys ∷ h) x
+  notes_alike most x notes =
+      let (newer, older, advised, rest, is) = notes.advised in
+      record {
+        advices = notes.advices;
+        advised = (
+          newer,
+          older,
+          advised ∙ ap (λ r. option_to_list (unchecked n t f (slice_get functions f) (doing_now t.0 p h))
+              ++ (option_to_list (lost n t f (λ q. written q h) r) ++ option_to_list (misnamed n t f name))) releases_same,
+          rest,
+          is,
+        );
+        noted = notes.noted;
+      }
+
+  counsels_alike : (x : CounselState) → Counsels x (call_with xs ∷ h) → Counsels x (call_with ys ∷ h)
+  counsels_alike x counsels = record {
+    stands = λ free. stands_alike x.adviser (counsels.stands free);
+    notes = λ free. notes_alike x.adviser.most x.noting (counsels.notes free);
+  }
+
+-- who was told a question with the operands that are seen was told it with all of them
+pub with_all : (s : StatedSetup) (p : Parts) (n : ℕ) (t : Tid) (c : Call) (f : ℕ) (name : List ℕ) (h : List Moment) (x : CounselState) → slice_get functions f ≡ Some (row_for (fun_of c))
+    → Counsels x (record { line = n; what = Called t f (operands_seen s p t.0 c) name; parts = p } ∷ h)
+    → Counsels x (record { line = n; what = Called t f (arguments_of s p t.0 c) name; parts = p } ∷ h)
+with_all s p n t (call.Buffers c) f name h x is counsels = counsels
+with_all s p n t c f name h x is counsels =
+    let row = row_is (fun_of c) in
+    let none = λ (xs : List Argument). none_seen (fun_of c) (row_for (fun_of c)) (slice_get functions f) xs refl row.takes row.effect is in
+    let ys : List Argument = arguments_of s p t.0 c in
+    counsels_alike n t f [] ys name p h ((none []).0 ∙ sym (none ys).0) ((none []).1 ∙ sym (none ys).1) x counsels

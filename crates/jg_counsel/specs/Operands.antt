@@ -1,0 +1,13 @@
+-- The operands that a counsel is handed of a question.
+use Rattle.std.specs.Prelude.{ℕ, List, []}
+use Rattle.jg_words.specs.declared.call.Call.{Call}
+use Rattle.jg_words.specs.declared.call.Call.TheVariants.{Buffers}
+use Rattle.jg_policy.specs.Stated.{StatedSetup}
+use Rattle.jg_rules.specs.Parts.{Parts}
+use Rattle.jg_questions.specs.declared.argument.Argument.{Argument}
+use Rattle.jg_questions.specs.Written.{arguments_of}
+
+-- those at which advice looks: all of a call about a buffer, and none of another
+abbrev pub operands_seen : StatedSetup → Parts → ℕ → Call → List Argument
+operands_seen s p t (Buffers call) = arguments_of s p t (Buffers call)
+operands_seen s p t call = []
