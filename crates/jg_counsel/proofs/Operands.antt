@@ -2,7 +2,6 @@
 use Rattle.std.proofs.Common.{◌≡◌, ◌∙◌, ℕ, Bool, true, false, List, [], ◌∷◌, Option, Some, None, refl, ap, sym}
 use Rattle.std.specs.Prelude.{◌++◌, ◌&&◌, ◌||◌, if◌then◌else◌, nat_eq, not, option_to_list, slice_get}
 use Rattle.std.specs.Cmp.Lexicographic.{pointwise}
-use Rattle.jg_words.specs.declared.buffer.BufId.{BufId}
 use Rattle.jg_words.specs.declared.thread.Tid.{Tid}
 use Rattle.jg_words.specs.declared.call.Call.{Call}
 use Rattle.jg_words.specs.declared.call.Call.TheVariants as call
@@ -20,7 +19,6 @@ use Rattle.jg_questions.specs.declared.argument.Argument.{Argument}
 use Rattle.jg_questions.specs.declared.argument.Argument.TheVariants.{Buffer, Number}
 use Rattle.jg_questions.specs.Written.{arguments_of, row_for}
 use Rattle.jg_questions.proofs.Rows.{effect_of, row_is, takes_of}
-use Rattle.jg_advice.specs.declared.functions.Release.{Release}
 use Rattle.jg_advice.specs.Advised.{lost, misnamed, unchecked}
 use Rattle.jg_advice.specs.Buffers.{commits, is_copy, is_named, released_by, written, written_by, committed}
 use Rattle.jg_advice.specs.Doing.{doing_now, source}
@@ -33,11 +31,11 @@ use Rattle.jg_counsel.specs.Operands.{operands_seen}
 
 -- ---- no other function's row says that it writes to a buffer, or gives one back
 
-is_about_buffers : Fun → Bool
+abbrev is_about_buffers : Fun → Bool
 is_about_buffers (fun.Buffers f) = true
 is_about_buffers f = false
 
-passes : Fun → Bool
+abbrev passes : Fun → Bool
 passes f = is_about_buffers f || (not (begins_writable (takes_of f)) && not (is_back (effect_of f)))
 
 each : (f : Fun) → passes f ≡ true
