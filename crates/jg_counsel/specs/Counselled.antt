@@ -13,7 +13,6 @@ use Rattle.jg_policy.specs.Stated.{StatedSetup}
 use Rattle.jg_functions.specs.Table.{functions}
 use Rattle.jg_rules.specs.Parts.{Parts}
 use Rattle.jg_rules.specs.Effects.{parts}
-use Rattle.jg_questions.specs.declared.argument.Argument.{Argument}
 use Rattle.jg_questions.specs.Written.{arguments_of, row_for}
 use Rattle.jg_core.specs.declared.fact.Fact.{Fact}
 use Rattle.jg_entries.specs.Entries.{outcome_facts}
