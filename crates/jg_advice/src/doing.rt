@@ -125,7 +125,6 @@ fn note_known(doings: &mut Doings, name: (u16, u64), row: &Row, call: Source) ->
 }
 
 /// The thread makes the call, in the activation of that depth. Answers what it did there before.
-#[inline(always)]
 pub fn note_call(
     doings: &mut Doings,
     alloc: Global,

@@ -61,7 +61,6 @@ fn push_own(
 }
 
 /// The same of a call that answered this: one that threw, or found a monitor busy, does nothing of its own.
-#[inline(always)]
 pub(crate) fn push_own_of(
     value: &Value,
     own: Own,
@@ -120,7 +119,6 @@ fn hands_below(call: &Call) -> bool
     }
 }
 
-#[inline(always)]
 pub(crate) fn push_answer(
     call: &Call,
     tid: Tid,
