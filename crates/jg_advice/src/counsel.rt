@@ -49,6 +49,8 @@ impl Model for Counsel {
 }
 
 /// Notes all of the advice, the first first.
+// Inlined, since mostly there is none.
+#[inline(always)]
 fn note_all(advices: &mut Advices, given: &[Advice])
     ensures noted { (older : List AdviceOf) → IsNoted advices.old older
         → IsNoted advices.new (reverse given.now ++ older) }

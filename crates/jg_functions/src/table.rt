@@ -489,25 +489,25 @@ fn last_at(place: usize) -> Option<&'static Row>
 pub fn row_of(place: usize) -> Option<&'static Row>
     ensures { option_map columns (option_copied result) ≡ slice_get table.functions place }
 {
-    if place < 31 {
-        return first_at(place);
-    }
-    if place < 50 {
-        return fields_at(place - 31);
-    }
-    if place < 81 {
-        return virtual_calls_at(place - 50);
-    }
     if place < 111 {
+        if place < 31 {
+            return first_at(place);
+        }
+        if place < 50 {
+            return fields_at(place - 31);
+        }
+        if place < 81 {
+            return virtual_calls_at(place - 50);
+        }
         return nonvirtual_calls_at(place - 81);
     }
-    if place < 130 {
-        return static_fields_at(place - 111);
-    }
-    if place < 161 {
-        return static_calls_at(place - 130);
-    }
     if place < 174 {
+        if place < 130 {
+            return static_fields_at(place - 111);
+        }
+        if place < 161 {
+            return static_calls_at(place - 130);
+        }
         return strings_at(place - 161);
     }
     if place < 220 {
