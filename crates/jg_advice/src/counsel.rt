@@ -1,12 +1,13 @@
 //! Advice is given and noted.
 
-ghost use Rattle.std.specs.Prelude.{◌≡◌, ◌++◌, ◌∷◌, [], IfOk, IfSome, List, reverse, string_bytes, true};
+ghost use Rattle.std.specs.Prelude.{◌≡◌, ◌++◌, ◌∷◌, [], IfOk, IfSome, List, OnOk, reverse, string_bytes, true};
 ghost use Rattle.jg_rules.specs.Parts.{Parts};
 ghost use Rattle.jg_advice.specs.declared.advice.Advice.{Advice as AdviceOf};
+ghost use Rattle.jg_advice.specs.Advised.{AreLeft};
 ghost use Rattle.jg_advice.specs.Moments.{Called, Moment, Told, Went};
 ghost use Rattle.jg_advice.specs.Noted.{IsNoted};
 ghost use Rattle.jg_advice.specs.Standing.{Sees};
-ghost use Rattle.jg_advice.specs.Told.{Counsels, Tells};
+ghost use Rattle.jg_advice.specs.Told.{AreAdvised, Counsels, Tells};
 
 use crate::advice::Advice;
 use crate::adviser::Adviser;
@@ -167,27 +168,41 @@ impl Counsel {
         self.lost
     }
 
+    /// Notes what is advised at the end. Fails where memory ran out, now or before.
+    fn note_left(&mut self) -> Result<(), AllocError>
+        ensures noted { OnOk result ((h : List Moment) → Counsels self.old h
+            → (advices : List AdviceOf) × (left : List AdviceOf) × AreAdvised self.old.adviser.most h advices
+            × AreLeft h left × IsNoted self.new.noting (reverse left ++ advices)) }
+        ensures all { self.new.noting.all ≡ self.old.noting.all }
+    {
+        if self.lost {
+            return Err(AllocError);
+        }
+        self.room.clear();
+        self.adviser.left(&mut self.room)?;
+        note_all(&mut self.advices, &self.room);
+        Ok(())
+    }
+
+    fn into_advices(self) -> Advices
+        ensures { result ≡ self.noting }
+    {
+        let Counsel {
+            adviser: _adviser,
+            lost: _,
+            advices,
+            room: _room,
+        } = self;
+        advices
+    }
+
     /// What is told of all that was advised, with what is advised at the end; `None` where memory ran out for it.
-    pub fn into_text(self) -> Option<String>
+    pub fn into_text(mut self) -> Option<String>
         ensures { IfSome result (λ text. (h : List Moment) → Counsels self h
             → Tells self.adviser.most self.noting.all h (string_bytes text)) }
     {
-        let Counsel {
-            adviser,
-            lost,
-            advices,
-            room,
-        } = self;
-        if lost {
-            return None;
-        }
-        let (mut advices, mut room) = (advices, room);
-        room.clear();
-        match adviser.left(&mut room) {
-            Ok(()) => {
-                note_all(&mut advices, &room);
-                advices.into_text()
-            }
+        match self.note_left() {
+            Ok(()) => self.into_advices().into_text(),
             Err(_) => None,
         }
     }

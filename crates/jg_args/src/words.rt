@@ -30,22 +30,6 @@ fn file_arg<'a>(alloc: Global) -> Arg<'a> {
         .help("the scripts, one call a line; - is standard input")
 }
 
-fn limit_arg<'a>(alloc: Global) -> Arg<'a> {
-    Arg::new(alloc, "limit")
-        .long("limit")
-        .value_name("N")
-        .value_parser(value_parser!(u32))
-        .help("journals at most N calls, 0 to 1000000 [default: 1000000]")
-}
-
-fn explain_arg<'a>(alloc: Global) -> Arg<'a> {
-    Arg::new(alloc, "explain")
-        .long("explain")
-        .value_name("N")
-        .value_parser(value_parser!(u32))
-        .help("explains the first N denials on standard error, 0 to 1000000 [default: 0]")
-}
-
 fn advice_arg<'a>(alloc: Global) -> Arg<'a> {
     Arg::new(alloc, "advice")
         .long("advice")
@@ -57,53 +41,107 @@ fn advice_arg<'a>(alloc: Global) -> Arg<'a> {
         )
 }
 
-fn region_arg<'a>(alloc: Global) -> Arg<'a> {
-    Arg::new(alloc, "region")
-        .long("region")
+/// An option with a number.
+fn number_arg<'a>(alloc: Global, name: &'a str, help: &'a str) -> Arg<'a> {
+    Arg::new(alloc, name)
+        .long(name)
         .value_name("N")
         .value_parser(value_parser!(u32))
-        .help("advises of critical regions of more than N calls, 0 to 1000000 [default: 1000]")
+        .help(help)
 }
 
-fn strict_arg<'a>(alloc: Global) -> Arg<'a> {
-    Arg::new(alloc, "strict")
-        .long("strict")
-        .action(ArgAction::SetTrue)
-        .help("ends with status 5 in the place of 0 where a call was denied")
+fn limit_arg<'a>(alloc: Global) -> Arg<'a> {
+    number_arg(
+        alloc,
+        "limit",
+        "journals at most N calls, 0 to 1000000 [default: 1000000]",
+    )
 }
 
-fn summary_arg<'a>(alloc: Global) -> Arg<'a> {
-    Arg::new(alloc, "summary")
-        .long("summary")
-        .action(ArgAction::SetTrue)
-        .help("counts calls, denials and what was there at once on standard error")
+fn explain_arg<'a>(alloc: Global) -> Arg<'a> {
+    number_arg(
+        alloc,
+        "explain",
+        "explains the first N denials on standard error, 0 to 1000000 [default: 0]",
+    )
+}
+
+fn region_arg<'a>(alloc: Global) -> Arg<'a> {
+    number_arg(
+        alloc,
+        "region",
+        "advises of critical regions of more than N calls, 0 to 1000000 [default: 1000]",
+    )
 }
 
 fn turns_arg<'a>(alloc: Global) -> Arg<'a> {
-    Arg::new(alloc, "turns")
-        .long("turns")
-        .value_name("N")
-        .value_parser(value_parser!(u32))
-        .help("tries a busy monitor at most N times, 1 to 1000000 [default: 1000]")
+    number_arg(
+        alloc,
+        "turns",
+        "tries a busy monitor at most N times, 1 to 1000000 [default: 1000]",
+    )
+}
+
+/// An option that is there or isn't.
+fn flag_arg<'a>(alloc: Global, name: &'a str, help: &'a str) -> Arg<'a> {
+    Arg::new(alloc, name)
+        .long(name)
+        .action(ArgAction::SetTrue)
+        .help(help)
+}
+
+fn strict_arg<'a>(alloc: Global) -> Arg<'a> {
+    flag_arg(
+        alloc,
+        "strict",
+        "ends with status 5 in the place of 0 where a call was denied",
+    )
+}
+
+fn summary_arg<'a>(alloc: Global) -> Arg<'a> {
+    flag_arg(
+        alloc,
+        "summary",
+        "counts calls, denials and what was there at once on standard error",
+    )
 }
 
 fn leaks_arg<'a>(alloc: Global) -> Arg<'a> {
-    Arg::new(alloc, "leaks")
-        .long("leaks")
-        .action(ArgAction::SetTrue)
-        .help("lists what is left at the end on standard error")
+    flag_arg(
+        alloc,
+        "leaks",
+        "lists what is left at the end on standard error",
+    )
+}
+
+fn denials_arg<'a>(alloc: Global) -> Arg<'a> {
+    flag_arg(
+        alloc,
+        "denials",
+        "writes denied questions alone, with their notes",
+    )
+}
+
+fn counts_arg<'a>(alloc: Global) -> Arg<'a> {
+    flag_arg(
+        alloc,
+        "summary",
+        "counts questions and denials on standard error",
+    )
 }
 
 /// The command with the options of all that make or test a journal.
 fn with_options<'a>(alloc: Global, command: Command<'a>) -> Result<Command<'a>, AllocError> {
-    command
-        .arg(setup_arg(alloc))?
-        .arg(limit_arg(alloc))?
-        .arg(explain_arg(alloc))?
-        .arg(advice_arg(alloc))?
-        .arg(region_arg(alloc))?
-        .arg(strict_arg(alloc))?
-        .arg(summary_arg(alloc))
+    let options = vec![in alloc;
+        setup_arg(alloc),
+        limit_arg(alloc),
+        explain_arg(alloc),
+        advice_arg(alloc),
+        region_arg(alloc),
+        strict_arg(alloc),
+        summary_arg(alloc),
+    ]?;
+    command.args(options)
 }
 
 fn check_command<'a>(alloc: Global) -> Result<Command<'a>, AllocError> {
@@ -120,32 +158,21 @@ fn verify_command<'a>(alloc: Global) -> Result<Command<'a>, AllocError> {
     with_options(alloc, command)
 }
 
-fn denials_arg<'a>(alloc: Global) -> Arg<'a> {
-    Arg::new(alloc, "denials")
-        .long("denials")
-        .action(ArgAction::SetTrue)
-        .help("writes denied questions alone, with their notes")
-}
-
-fn counts_arg<'a>(alloc: Global) -> Arg<'a> {
-    Arg::new(alloc, "summary")
-        .long("summary")
-        .action(ArgAction::SetTrue)
-        .help("counts questions and denials on standard error")
-}
-
 fn watch_command<'a>(alloc: Global) -> Result<Command<'a>, AllocError> {
+    let options = vec![in alloc;
+        setup_arg(alloc),
+        denials_arg(alloc),
+        explain_arg(alloc),
+        advice_arg(alloc),
+        region_arg(alloc),
+        strict_arg(alloc),
+        counts_arg(alloc),
+        leaks_arg(alloc),
+    ]?;
     Command::new(alloc, "watch")
         .about("answers the record on standard input with what a core answers to it")
         .after_help(STATUSES)
-        .arg(setup_arg(alloc))?
-        .arg(denials_arg(alloc))?
-        .arg(explain_arg(alloc))?
-        .arg(advice_arg(alloc))?
-        .arg(region_arg(alloc))?
-        .arg(strict_arg(alloc))?
-        .arg(counts_arg(alloc))?
-        .arg(leaks_arg(alloc))
+        .args(options)
 }
 
 fn facts_command<'a>(alloc: Global) -> Result<Command<'a>, AllocError> {
@@ -182,15 +209,23 @@ fn own_options<'a>(alloc: Global) -> Result<Command<'a>, AllocError> {
     with_options(alloc, command)?.arg(leaks_arg(alloc))
 }
 
+/// The command line with one command more.
+fn with_command<'a>(
+    line: Command<'a>,
+    command: Result<Command<'a>, AllocError>,
+) -> Result<Command<'a>, AllocError> {
+    line.subcommand(command?)
+}
+
 /// The command line of `jg`.
 fn command<'a>(alloc: Global) -> Result<Command<'a>, AllocError> {
-    own_options(alloc)?
-        .subcommand(check_command(alloc)?)?
-        .subcommand(verify_command(alloc)?)?
-        .subcommand(play_command(alloc)?)?
-        .subcommand(watch_command(alloc)?)?
-        .subcommand(facts_command(alloc)?)?
-        .subcommand(migrate_command(alloc)?)
+    let line = own_options(alloc)?;
+    let line = with_command(line, check_command(alloc))?;
+    let line = with_command(line, verify_command(alloc))?;
+    let line = with_command(line, play_command(alloc))?;
+    let line = with_command(line, watch_command(alloc))?;
+    let line = with_command(line, facts_command(alloc))?;
+    with_command(line, migrate_command(alloc))
 }
 
 /// The text that the words ask for by `--help`, `help` or `--version`: the help of the program or of the
@@ -273,6 +308,38 @@ fn fault_of(kind: ErrorKind) -> ArgsFault {
     }
 }
 
+/// What the command of this name is to do.
+fn task_of<'a>(name: &str, matches: &ArgMatches<'a>) -> Result<Task<'a>, ArgsFault> {
+    match name {
+        "verify" => Ok(Task::Verify),
+        "watch" => Ok(Task::Watch),
+        "facts" => Ok(Task::Facts),
+        "play" => match matches.get_str("file") {
+            Some(file) => Ok(Task::Play(file)),
+            None => Err(ArgsFault::Refused),
+        },
+        "migrate" => match matches.get_str("setup") {
+            Some(file) => Ok(Task::Migrate(file)),
+            None => Err(ArgsFault::Refused),
+        },
+        _ => Ok(Task::Check),
+    }
+}
+
+/// What a whole command line asks for. An option before the command's word is refused.
+fn asked_by<'a>(matches: &ArgMatches<'a>) -> Result<Asked<'a>, ArgsFault>
+    ensures limit { IfOk result (λ asked. asked.limit ≤ 1000000) }
+    ensures explain { IfOk result (λ asked. asked.explain ≤ 1000000) }
+    ensures region { IfOk result (λ asked. asked.region ≤ 1000000) }
+    ensures turns { IfOk result (λ asked. (1 ≤ asked.turns) × (asked.turns ≤ 1000000)) }
+{
+    match matches.subcommand() {
+        None => make_asked(Task::Check, matches),
+        Some(_) if has_options(matches) => Err(ArgsFault::Refused),
+        Some((name, inner)) => make_asked(task_of(name, inner)?, inner),
+    }
+}
+
 /// What the words after the program's name ask for. An option before the command's word is
 /// refused.
 pub fn read_words<'a>(alloc: Global, words: &'a [&'a str]) -> Result<Asked<'a>, ArgsFault>
@@ -284,30 +351,8 @@ pub fn read_words<'a>(alloc: Global, words: &'a [&'a str]) -> Result<Asked<'a>, 
     let Ok(command) = command(alloc) else {
         return Err(ArgsFault::NoMemory);
     };
-    let matches = match command.no_binary_name(true).try_get_matches_from(words) {
-        Ok(matches) => matches,
-        Err(error) => return Err(fault_of(error.kind())),
-    };
-    match matches.subcommand() {
-        None => make_asked(Task::Check, &matches),
-        Some((name, inner)) => {
-            if has_options(&matches) {
-                return Err(ArgsFault::Refused);
-            }
-            match name {
-                "verify" => make_asked(Task::Verify, inner),
-                "watch" => make_asked(Task::Watch, inner),
-                "facts" => make_asked(Task::Facts, inner),
-                "play" => match inner.get_str("file") {
-                    Some(file) => make_asked(Task::Play(file), inner),
-                    None => Err(ArgsFault::Refused),
-                },
-                "migrate" => match inner.get_str("setup") {
-                    Some(file) => make_asked(Task::Migrate(file), inner),
-                    None => Err(ArgsFault::Refused),
-                },
-                _ => make_asked(Task::Check, inner),
-            }
-        }
+    match command.no_binary_name(true).try_get_matches_from(words) {
+        Ok(matches) => asked_by(&matches),
+        Err(error) => Err(fault_of(error.kind())),
     }
 }

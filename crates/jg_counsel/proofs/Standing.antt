@@ -1,6 +1,6 @@
 -- What a counsel beside a guard stands for after one call more.
 use Rattle.std.proofs.Common.{◌≡◌, ◌+◌, ◌∙◌, ℕ, true, false, length, List, ◌∷◌, Option, Some, None, Result, Ok, Err, OnOk, refl, ap, sym, subst}
-use Rattle.std.specs.Prelude.{is_err, reverse, slice_get}
+use Rattle.std.specs.Prelude.{is_err, reverse, slice_get, OnErr}
 use Rattle.jg_words.specs.declared.thread.Tid.{Tid}
 use Rattle.jg_words.specs.declared.thread.EnvId.{EnvId}
 use Rattle.jg_words.specs.declared.rule.Rule.{Rule}
@@ -8,6 +8,8 @@ use Rattle.jg_words.specs.declared.call.Call.{Call}
 use Rattle.jg_words.specs.Call.{fun_of}
 use Rattle.jg_words.specs.Entry.{Entry}
 use Rattle.jg_policy.specs.Stated.{StatedSetup}
+use Rattle.jg_guard.specs.Guard.{next_entry, State}
+use Rattle.jg_script.specs.Entries.{Took}
 use Rattle.jg_functions.specs.Table.{functions}
 use Rattle.jg_heap.specs.Rows.{Rows}
 use Rattle.jg_rules.specs.declared.answer.Answer.{Answer}
@@ -92,6 +94,35 @@ refused first old new s s' h h' follows lost setup journal most all = record {
   most = most ∙ follows.most;
   all = all ∙ follows.all;
 }
+
+-- of a call that is denied the counsel is told nothing, whether the guard took it or memory ran out
+pub denied_follows : {T E : Type 0} (first old : CounselState) (g g' : State) (t : Tid) (env : Option EnvId) (call : Call) (rule : Rule) (r : Result T E) → Follows first old g.setup g.journal
+    → verdict g.setup (parts g.setup g.journal) t.0 env call ≡ Some rule → g'.setup ≡ g.setup → OnOk r (Took g g' (next_entry g t env call)) → OnErr r (g'.journal ≡ g.journal)
+    → Follows first old g'.setup g'.journal
+denied_follows first old g g' t env call rule (Ok v) follows is setup took same =
+    let before : List Moment = follows.counselled.0 in
+    let entry : Entry = next_entry g t env call in
+    let are : AreMoments g.setup (entry ∷ g.journal) before = denied g.setup g.journal t env call before follows.counselled.1 rule is in
+    record {
+      counselled = (
+        before,
+        subst (λ (j : List Entry). AreMoments g'.setup j before) (sym took.journal) (subst (λ (s : StatedSetup). AreMoments s (entry ∷ g.journal) before) (sym setup) are),
+        follows.counselled.2,
+      );
+      most = follows.most;
+      all = follows.all;
+    }
+denied_follows first old g g' t env call rule (Err e) follows is setup took same =
+    let before : List Moment = follows.counselled.0 in
+    record {
+      counselled = (
+        before,
+        subst (λ (j : List Entry). AreMoments g'.setup j before) (sym same) (subst (λ (s : StatedSetup). AreMoments s g.journal before) (sym setup) follows.counselled.1),
+        follows.counselled.2,
+      );
+      most = follows.most;
+      all = follows.all;
+    }
 
 own_tid : (v : Option Rule) (a : Answer) (t : Tid) (env : Option EnvId) (call : Call) → (entry_by v a t env call).tid ≡ t
 own_tid None a t env call = refl

@@ -1,9 +1,10 @@
 //! What one thread was told, line by line.
 
-ghost use Rattle.std.specs.Prelude.{◌≡◌, ◌<◌, ◌≤◌, [], All, IfOk, OnOk, OnErr};
+ghost use Rattle.std.specs.Prelude.{◌≡◌, ◌<◌, ◌≤◌, ◌+◌, [], All, IfOk, OnOk, OnErr};
 ghost use Rattle.jg_shell.specs.Busy.{is_busy, is_monitor_enter};
 ghost use Rattle.jg_shell.specs.Stopping.{stop_for};
 ghost use Rattle.jg_shell.specs.Played.{AddsReceipt, AddsGroup, AddsPart};
+ghost use Rattle.jg_shell.specs.Receipts.{IsReceiptOf};
 
 use crate::gate::Gate;
 use crate::receipt::Receipt;
@@ -105,18 +106,11 @@ impl<L: Ledger> Account<L> {
         if self.receipts.reserve(1).is_err() {
             return Err(Stop::NoMemory);
         }
-        let Ok(call) = line.call.try_copy() else {
-            return Err(Stop::NoMemory);
-        };
-        match shared.call(rt, &mut self.share, self.tid, line.env, call) {
-            Ok(receipt) => {
-                gate.after(&receipt);
-                let busy = is_busy(&receipt.outcome);
-                self.receipts.push_reserved(receipt);
-                Ok(busy)
-            }
-            Err(refusal) => Err(stop_of(&refusal)),
-        }
+        let receipt = receipt_of(rt, shared, &mut self.share, self.tid, line)?;
+        gate.after(&receipt);
+        let busy = is_busy(&receipt.outcome);
+        self.receipts.push_reserved(receipt);
+        Ok(busy)
     }
 
     pub(crate) fn receipts(&self) -> &[Receipt]
@@ -130,6 +124,29 @@ impl<L: Ledger> Account<L> {
         ensures { result ≡ self.now.tid }
     {
         self.tid
+    }
+}
+
+/// Makes a line's call, which the thread's share then counts.
+fn receipt_of<L: Ledger, R: Wait>(
+    rt: &R,
+    shared: &SharedGuard<L>,
+    share: &mut Share<L>,
+    tid: Tid,
+    line: &Line,
+) -> Result<Receipt, Stop>
+    requires { 0 < share.old.parts }
+    ensures receipt { IfOk result (IsReceiptOf tid line.now.env line.now.call) }
+    ensures counted { OnOk result (share.new.amount ≡ share.old.amount + 1) }
+    ensures parts { share.new.parts ≡ share.old.parts }
+    ensures uncounted { OnErr result (share.new.amount ≡ share.old.amount) }
+{
+    let Ok(call) = line.call.try_copy() else {
+        return Err(Stop::NoMemory);
+    };
+    match shared.call(rt, share, tid, line.env, call) {
+        Ok(receipt) => Ok(receipt),
+        Err(refusal) => Err(stop_of(&refusal)),
     }
 }
 
