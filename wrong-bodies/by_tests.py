@@ -1,0 +1,69 @@
+"""Tries a wrong body that no contract refuses, and a test or a case must: one of wrong-bodies/by-tests/."""
+import hashlib
+import os
+import re
+import subprocess
+import tempfile
+
+import edits
+
+FAILED, PASSED, BAD, UNSURE = "failed its test", "NOT REFUSED", "BAD EDIT", "NOT TRIED"
+
+
+def said_of(crate, texts, words):
+    """What `rt try` says of the crate, with these words, in a copy of the tree with these texts; nothing is proved."""
+    with tempfile.TemporaryDirectory(prefix="jg-by-tests-") as copy:
+        edits.copy_to(copy)
+        for path, text in texts.items():
+            with open(f"{copy}/{path}", "w", encoding="utf-8") as it:
+                it.write(text)
+        how = {"stdin": subprocess.DEVNULL, "stdout": subprocess.PIPE, "stderr": subprocess.STDOUT, "errors": "replace"}
+        how |= {"cwd": f"{copy}/crates/{crate}", "check": False}
+        return subprocess.run(["rt", "try", "--seconds", "300", *words], **how).stdout
+
+
+def by_test(crate, test, texts):
+    """What comes of the test with these texts, and why."""
+    said = said_of(crate, texts, ["--test"])
+    came = re.findall(r"^test (\S+) \.\.\.(?:(?!^test )[\s\S])*?(ok|FAILED)$", said, re.M)
+    found = [how for path, how in came if path.split("::")[-1] == test]
+    if len(found) != 1:
+        return UNSURE, f"{crate} {test} gave no answer: {said[-300:]}"
+    if found[0] != "FAILED":
+        return PASSED, f"{crate} {test} passes"
+    others = sum(how == "FAILED" for _, how in came) - 1
+    return FAILED, f"{crate} {test}" + (f" (and {others} more)" if others else "")
+
+
+def by_case(file, name, texts):
+    """What comes of the case with these texts, and why."""
+    said = said_of(os.path.basename(edits.CASES), texts, ["--data", f"{file}=data/{file}", "--", file])
+    if not re.search(r"^\d+ cases, ", said, re.M):
+        return UNSURE, f"{file} was not tried to its end: {said[-300:]}"
+    others = [it for it in said.split("\n") if it.startswith(f"{file}: {name}")]
+    return (FAILED, others[0][:200]) if others else (PASSED, f"{name} comes out as it states")
+
+
+def attempt(name):
+    """What comes of the edit of that name, and why. That its test passes without it is for `rt ci` to say."""
+    edit = edits.read(f"{edits.BY_TESTS}/{name}.edit")
+    texts, why = edits.applied([edit], edits.TOP)
+    why = why or edits.lacks_test(edit)
+    if why:
+        return BAD, why
+    return by_case(*edit.case, texts) if edit.case else by_test(*edit.test, texts)
+
+
+def name_kept(rt, crates, name):
+    """The name under which it is kept that the edit failed its test, or None: a sum of all that the test stands on."""
+    edit, read = edits.read(f"{edits.BY_TESTS}/{name}.edit"), [__file__, f"{edits.BY_TESTS}/{name}.edit"]
+    if edit.case:
+        read.append(f"{edits.CASES}/data/{edit.case[0]}")
+    crate = crates.get(os.path.basename(edits.CASES) if edit.case else edit.test[0] if edit.test else "")
+    if crate is None:
+        return None
+    texts = []
+    for file in read:
+        with open(file, "rb") as it:
+            texts.append(it.read())
+    return hashlib.sha256(repr(("by-tests", rt.stamp_of(crate, {}), name, texts)).encode()).hexdigest()
