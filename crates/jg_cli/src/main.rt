@@ -2,17 +2,6 @@
 //! journal, plays the scripts of several threads, or answers a record.
 #![tactic(auto)]
 
-#[cfg(test)]
-mod explain_tests;
-#[cfg(test)]
-mod play_tests;
-#[cfg(test)]
-mod record_tests;
-#[cfg(test)]
-mod setup_tests;
-#[cfg(test)]
-mod tests;
-
 use jg_program::{ProgramStop, Status, run, tell};
 use std::env;
 use std::io::{BufReader, BufWriter, ErrorKind};

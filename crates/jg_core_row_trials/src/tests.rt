@@ -1,6 +1,5 @@
 //! Each row's calls are made by a guard, and a core is asked and told beside it.
 
-mod retold;
 mod rows;
 mod telling;
 
@@ -9,7 +8,6 @@ use jg_guard::Guard;
 use jg_policy::Setup;
 use jg_row_trials::setups::{CLOSED, GRANTS, TWO_MODULES};
 use jg_text::read_begun;
-use retold::is_retold;
 use rows::{
     ALL_TYPES, ALLOWED, BUFFER_ITEMS, BUFFERS, DENIED, GRANTED, GRANTED_OR_WARNED, OBJECTS,
     OF_ALL_TYPES, REFERENCES, RELEASES, Row, THREADS, WARNED,
@@ -76,59 +74,36 @@ fn difference_under(
     difference_in(&mut guard, &mut core, alloc, text)
 }
 
-/// The core is as the guard is after each call of the rows, and so are the answers to the rows' records.
+/// The rows, each with the setup that they are under.
+const ROWS: [(Under, &[Row]); 12] = [
+    (Under::Closed, &OBJECTS),
+    (Under::Closed, &REFERENCES),
+    (Under::Closed, &THREADS),
+    (Under::Closed, &BUFFERS),
+    (Under::Closed, &BUFFER_ITEMS),
+    (Under::Closed, &RELEASES),
+    (Under::TwoModules("deny"), &DENIED),
+    (Under::TwoModules("warn"), &WARNED),
+    (Under::TwoModules("allow"), &ALLOWED),
+    (Under::Granted("deny"), &GRANTED),
+    (Under::Granted("warn"), &GRANTED_OR_WARNED),
+    (Under::AllTypes, &OF_ALL_TYPES),
+];
+
+/// The core is as the guard is after each call of the rows.
 fn are_alike(rt: &impl Abort, alloc: Global, under: Under, rows: &[Row]) -> Result<(), Fail> {
     let setup = text_of(alloc, under)?;
     for (name, text) in rows {
         let difference = difference_under(alloc, &setup, text)?;
         assert_eq!(rt; difference, None, "in {name}");
-        let is_alike = is_retold(alloc, &setup, text)?;
-        assert!(rt; is_alike, "the record of {name}");
     }
     Ok(())
 }
 
 #[test]
-fn objects(rt: HostRuntime) -> Result<(), Fail> {
-    are_alike(&rt, rt.alloc(), Under::Closed, &OBJECTS)
-}
-
-#[test]
-fn references(rt: HostRuntime) -> Result<(), Fail> {
-    are_alike(&rt, rt.alloc(), Under::Closed, &REFERENCES)
-}
-
-#[test]
-fn threads(rt: HostRuntime) -> Result<(), Fail> {
-    are_alike(&rt, rt.alloc(), Under::Closed, &THREADS)
-}
-
-#[test]
-fn buffers(rt: HostRuntime) -> Result<(), Fail> {
-    are_alike(&rt, rt.alloc(), Under::Closed, &BUFFERS)
-}
-
-#[test]
-fn items_of_buffers(rt: HostRuntime) -> Result<(), Fail> {
-    are_alike(&rt, rt.alloc(), Under::Closed, &BUFFER_ITEMS)
-}
-
-#[test]
-fn releases(rt: HostRuntime) -> Result<(), Fail> {
-    are_alike(&rt, rt.alloc(), Under::Closed, &RELEASES)
-}
-
-#[test]
-fn denied_access(rt: HostRuntime) -> Result<(), Fail> {
-    are_alike(&rt, rt.alloc(), Under::TwoModules("deny"), &DENIED)
-}
-
-#[test]
-fn other_setups(rt: HostRuntime) -> Result<(), Fail> {
-    let alloc = rt.alloc();
-    are_alike(&rt, alloc, Under::TwoModules("warn"), &WARNED)?;
-    are_alike(&rt, alloc, Under::TwoModules("allow"), &ALLOWED)?;
-    are_alike(&rt, alloc, Under::Granted("deny"), &GRANTED)?;
-    are_alike(&rt, alloc, Under::Granted("warn"), &GRANTED_OR_WARNED)?;
-    are_alike(&rt, alloc, Under::AllTypes, &OF_ALL_TYPES)
+fn the_core_is_as_the_guard_is(rt: HostRuntime) -> Result<(), Fail> {
+    for (under, rows) in ROWS {
+        are_alike(&rt, rt.alloc(), under, rows)?;
+    }
+    Ok(())
 }

@@ -1,7 +1,5 @@
-//! What is told of denied calls: worked rows, and tests of the texts. They stand above `jg_explain`, so that
-//! it is proved once.
+//! What is told of denied calls: worked rows. They stand above `jg_explain`, so that it is proved once. The texts are
+//! cases of `jg_cases`.
 #![tactic(auto)]
 
 pub mod rows;
-#[cfg(test)]
-mod tests;

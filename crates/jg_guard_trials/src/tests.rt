@@ -1,4 +1,4 @@
-//! Setups, devices and guards that the tests share.
+//! Setups and guards that the tests share.
 
 mod buffers;
 mod caller;
@@ -14,7 +14,7 @@ mod sessions;
 
 use jg_guard::Guard;
 use jg_policy::Setup;
-use jg_script::{Faulty, RunFault, Watched, check};
+use jg_script::{RunFault, Watched, check};
 use linked_list_allocator::LocalHeap;
 use std::alloc::{AllocError, Allocator, Global};
 use std::io::{BufRead, Write};
@@ -25,13 +25,6 @@ const CLOSED: &str = "version = 1\nillegal_native_access = \"deny\"\n";
 
 fn setup(alloc: Global, text: &str) -> Result<Setup, Fail> {
     Ok(Setup::read(alloc, text)?)
-}
-
-/// A device that holds this text and passes so many calls, of at most `most` bytes each.
-fn faulty(alloc: Global, text: &str, passes: u32, most: usize) -> Result<Faulty, AllocError> {
-    let mut bytes = Vec::new(alloc);
-    bytes.extend_from_slice(text.as_bytes())?;
-    Ok(Faulty::new(bytes, passes, most.max(1)))
 }
 
 /// So many lines of this text.

@@ -24,6 +24,3 @@ pub use read::read_event;
 pub use reply::{Reply, push_answer};
 pub use unwritten::Unwritten;
 pub use write::push_event;
-
-#[cfg(test)]
-mod tests;

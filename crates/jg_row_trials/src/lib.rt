@@ -2,7 +2,7 @@
 //! Specification and from what this guard promises beside it. Each row is the contract of a
 //! function that does nothing: the definitions of `jg_rules`, which every contract of the guard
 //! is about, give exactly the outcomes and objects that the row states; and the journal of its calls
-//! is the text that stands beside it, which the tests run.
+//! is the text that stands beside it, which the cases of `jg_cases` run too (`tests/documents` compares the two).
 #![tactic(auto)]
 
 pub mod access;
@@ -26,5 +26,3 @@ pub mod rules;
 pub mod sessions;
 pub mod setups;
 pub mod strings;
-#[cfg(test)]
-mod tests;

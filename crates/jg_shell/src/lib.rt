@@ -23,6 +23,3 @@ pub use shared::SharedGuard;
 pub use std::sync::ledger::Share;
 pub use threads::play;
 pub use worker::Worker;
-
-#[cfg(test)]
-mod tests;

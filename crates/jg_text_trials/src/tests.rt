@@ -1,9 +1,10 @@
-//! Tests by what is read: words, lines, setups and command lines.
+//! Tests by what is tried: command lines, what is told of faults, links that memory is refused for, events that have no
+//! text, words behind outcomes, calls for want of memory, and ends of the program that no case can have.
 
 mod arguments;
-mod line_faults;
-mod lines;
+mod faults;
+mod links;
+mod outcomes;
+mod program;
 mod refused;
-mod setup_places;
-mod setups;
-mod words;
+mod unspelt;

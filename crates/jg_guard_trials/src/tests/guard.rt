@@ -1,9 +1,8 @@
 //! Tests of a new guard: `judge`, `call`, the limit and the journal.
 
-use super::{CLOSED, guarded, setup};
+use super::{CLOSED, guarded};
 use jg_guard::{Guard, Refusal};
 use jg_words::{Call, EnvId, FramesCall, Outcome, Rule, Tid, Value, VmCall};
-use linked_list_allocator::LocalHeap;
 use std::test::Fail;
 
 const T: Tid = Tid(1);
@@ -91,14 +90,5 @@ fn found_of(guard: &mut Guard) -> [bool; 5] {
 fn judges_answers_and_journals(rt: HostRuntime) -> Result<(), Fail> {
     let mut guard = guarded(rt.alloc(), rt.alloc(), CLOSED, 3)?;
     assert_eq!(rt; found_of(&mut guard), [true; 5]);
-    Ok(())
-}
-
-/// A guard that can't be made drops what it was handed.
-#[test]
-fn a_guard_needs_room_for_its_class_objects(rt: HostRuntime) -> Result<(), Fail> {
-    let setup = setup(rt.alloc(), CLOSED)?;
-    let heap = LocalHeap::new(rt.alloc(), 64)?;
-    assert!(rt; Guard::new(&heap, rt.alloc(), setup, 3).is_err());
     Ok(())
 }

@@ -1,4 +1,4 @@
-//! Tests of the blocks of the journal: items by their places, and blocks that are refused.
+//! Tests of the blocks of the journal: blocks that are refused, and room that was made beforehand.
 
 use jg_blocks::Blocks;
 use linked_list_allocator::LocalHeap;
@@ -20,34 +20,6 @@ fn put_all<A: Allocator + Clone>(
 ) -> Result<(), AllocError> {
     for item in first..end {
         put(items, item)?;
-    }
-    Ok(())
-}
-
-/// The first of 3000 places where not its own number is found, or none past the end.
-fn other_place(items: &Blocks<u64>, count: u64) -> Option<usize> {
-    for place in 0..3000usize {
-        let wanted = if (place as u64) < count {
-            Some(place as u64)
-        } else {
-            None
-        };
-        if items.get(place).copied() != wanted {
-            return Some(place);
-        }
-    }
-    None
-}
-
-/// Each item is found at its place and none past the end, also where a block is just full, or just
-/// begun.
-#[test]
-fn items_by_their_places(rt: HostRuntime) -> Result<(), Fail> {
-    for count in [0u64, 1, 1023, 1024, 1025, 2049] {
-        let mut items = Blocks::new(rt.alloc(), rt.alloc());
-        put_all(&mut items, 0, count)?;
-        assert_eq!(rt; items.len() as u64, count);
-        assert_eq!(rt; other_place(&items, count), None, "of {count}");
     }
     Ok(())
 }

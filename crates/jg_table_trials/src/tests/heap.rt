@@ -1,9 +1,4 @@
-//! Tests of the store of objects, by what it does.
+//! Tests of the store of objects: makings that are refused, and great sizes.
 
-mod bounds;
-mod collections;
 mod large;
-mod objects;
 mod refusals;
-mod regions;
-mod spellings;

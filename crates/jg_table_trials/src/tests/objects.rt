@@ -1,15 +1,10 @@
-//! Tests of the core's store of objects: what is met and gone, marks, and the memory that it takes.
-
-ghost use Rattle.std.specs.Prelude.{◌≡◌};
+//! Tests of the core's store of objects: refused growths, and the memory that it takes.
 
 use super::ballast;
-use jg_globals::Globals;
-use jg_lists::Marking;
-use jg_objects::{Before, Marker, Objects};
-use jg_words::{ObjId, Tid};
+use jg_objects::Objects;
+use jg_words::ObjId;
 use linked_list_allocator::LocalHeap;
-use std::alloc::{AllocError, Allocator, Global};
-use std::marker::Brand;
+use std::alloc::{AllocError, Allocator};
 use std::process::Abort;
 use std::test::Fail;
 
@@ -32,13 +27,6 @@ struct Facts {
     class: u32,
     length: Option<u32>,
 }
-
-/// What is known of a class object, and of what isn't there.
-const CLASS_OBJECT: Facts = Facts {
-    there: true,
-    class: 1,
-    length: None,
-};
 
 const NOTHING: Facts = Facts {
     there: false,
@@ -63,11 +51,6 @@ fn facts_of<A: Allocator>(table: &Objects<A>, object: u64) -> Facts {
     }
 }
 
-/// What is known of the objects 1 to 6.
-fn all_facts<A: Allocator>(table: &Objects<A>) -> [Facts; 6] {
-    [1, 2, 3, 4, 5, 6].map(|object| facts_of(table, object))
-}
-
 /// Meets three objects; with two class objects they are the objects 2 to 4.
 fn meet_three<A: Allocator>(table: &mut Objects<A>) -> Result<[ObjId; 3], AllocError> {
     Ok([
@@ -75,110 +58,6 @@ fn meet_three<A: Allocator>(table: &mut Objects<A>) -> Result<[ObjId; 3], AllocE
         meet(table, 5, 0)?,
         meet(table, 2, u32::MAX)?,
     ])
-}
-
-/// What is known once three objects were met, and once these went: a class object, the second, what isn't there, the
-/// second again and the third.
-fn come_and_go(rt: &impl Abort, table: &mut Objects) -> Result<(), Fail> {
-    assert_eq!(rt; table.len(), 2);
-    assert_eq!(rt; meet_three(table)?, [ObjId(2), ObjId(3), ObjId(4)]);
-    let wanted = [
-        CLASS_OBJECT,
-        met(12, 3),
-        met(5, 0),
-        met(2, u32::MAX),
-        NOTHING,
-        NOTHING,
-    ];
-    assert_eq!(rt; all_facts(table), wanted);
-    table.go(&[ObjId(1), ObjId(3), ObjId(6), ObjId(3), ObjId(4)]);
-    let wanted = [CLASS_OBJECT, met(12, 3), NOTHING, NOTHING, NOTHING, NOTHING];
-    assert_eq!(rt; all_facts(table), wanted);
-    assert_eq!(rt; table.len(), 5);
-    Ok(())
-}
-
-#[test]
-fn met_and_gone(rt: HostRuntime) -> Result<(), Fail> {
-    let mut table = Objects::new(rt.alloc(), rt.alloc(), 2);
-    come_and_go(&rt, &mut table)
-}
-
-/// A number that went isn't given again.
-#[test]
-fn next_number(rt: HostRuntime) -> Result<(), Fail> {
-    let mut table = Objects::new(rt.alloc(), rt.alloc(), 0);
-    let first = meet(&mut table, 10, 1)?;
-    table.go(&[first]);
-    let second = meet(&mut table, 11, 2)?;
-    assert_eq!(rt; [first, second], [ObjId(0), ObjId(1)]);
-    assert_eq!(rt;
-        [facts_of(&table, 0), facts_of(&table, 1)],
-        [NOTHING, met(11, 2)]
-    );
-    Ok(())
-}
-
-/// Which of the objects 1 to 5 are marked.
-fn marked(table: &Objects) -> [bool; 5] {
-    [1, 2, 3, 4, 5].map(|object| table.mark(ObjId(object)) == Some(true))
-}
-
-/// Marks some objects, of which the objects 2 and 3 have a mark, and object 4 has none: one after the other, and all at
-/// once.
-fn mark_some(table: &mut Objects) -> [[bool; 5]; 4] {
-    let given = [ObjId(1), ObjId(2), ObjId(3), ObjId(6)];
-    table.give_marks(&given);
-    let unset = marked(table);
-    table.set(2);
-    table.set(4);
-    let one = marked(table);
-    table.set_all(&[0, 3, 1, 4, u64::MAX, 2]);
-    let both = marked(table);
-    table.take_marks(&[ObjId(2)]);
-    table.set(2);
-    [unset, one, both, marked(table)]
-}
-
-fn mark_and_take(rt: &impl Abort, table: &mut Objects) -> Result<(), Fail> {
-    meet_three(table)?;
-    let no = [false; 5];
-    let two = [false, true, false, false, false];
-    let both = [false, true, true, false, false];
-    let three = [false, false, true, false, false];
-    assert_eq!(rt; mark_some(table), [no, two, both, three]);
-    table.give_marks(&[ObjId(3)]);
-    assert_eq!(rt; marked(table), no);
-    assert_eq!(rt; facts_of(table, 3), met(5, 0));
-    Ok(())
-}
-
-#[test]
-fn marks(rt: HostRuntime) -> Result<(), Fail> {
-    let mut table = Objects::new(rt.alloc(), rt.alloc(), 2);
-    mark_and_take(&rt, &mut table)
-}
-
-/// Marks what global references name.
-fn mark_named<B: Before>(table: Objects, globals: &Globals) -> Objects
-    requires { table ≡ B.before }
-{
-    let mut marker: Marker<B, Global> = Marker::new(table);
-    globals.mark_held(&mut marker);
-    marker.into_objects()
-}
-
-/// A table marks in the store as in any other list of marks.
-#[test]
-fn marked_by_a_table(rt: HostRuntime) -> Result<(), Fail> {
-    let mut globals = Globals::new(rt.alloc(), rt.alloc());
-    globals.make_strong(Tid(1), 1, ObjId(4))?;
-    let mut table = Objects::new(rt.alloc(), rt.alloc(), 2);
-    meet_three(&mut table)?;
-    table.give_marks(&[ObjId(2), ObjId(4)]);
-    let table = mark_named::<Brand>(table, &globals);
-    assert_eq!(rt; marked(&table), [false, false, false, true, false]);
-    Ok(())
 }
 
 /// Whether a meeting is refused while `block` takes up the heap; the same object is met after that.

@@ -11,59 +11,6 @@ fn largest() -> u32 {
     1_000_000
 }
 
-/// What a few numbers that are written into a large array leave there.
-fn numbers(heap: &mut Heap, array: ObjId, values: &[i64]) -> Option<bool> {
-    let size = values.len();
-    if array.0 >= heap.len() || heap.class_of(array) != 8 || heap.array_len(array) != size {
-        return None;
-    }
-    if size < 3 {
-        return None;
-    }
-    heap.set_region(array, 0, values);
-    heap.set_region(array, size - 2, &[8, 9]);
-    let items = heap.items(array);
-    Some(items.len() == size && items[0] == 7 && items[size - 3] == 7 && items[size - 2] == 8)
-}
-
-#[test]
-fn an_array_of_a_million_numbers(rt: HostRuntime) -> Result<(), Fail> {
-    let length = largest();
-    let mut heap = Heap::new(rt.alloc(), 15)?;
-    let element = Primitive::Int;
-    let array = heap.alloc(Shape::Numbers { element, length })?;
-    let values = vec![in rt.alloc(); 7i64; length as usize]?;
-    assert_eq!(rt; numbers(&mut heap, array, &values), Some(true));
-    Ok(())
-}
-
-/// What a reference that is written into a large array leaves there.
-fn references(heap: &mut Heap, array: ObjId, size: usize) -> Option<(Slot, Slot)> {
-    if array.0 >= heap.len() || heap.class_of(array) != 3 || heap.array_len(array) != size {
-        return None;
-    }
-    if size < 2 {
-        return None;
-    }
-    let before = heap.element(array, size - 1);
-    heap.set_element(array, size - 1, Slot::Object(None));
-    if array.0 >= heap.len() || heap.class_of(array) != 3 || heap.array_len(array) != size {
-        return None;
-    }
-    Some((before, heap.element(array, size - 1)))
-}
-
-#[test]
-fn an_array_of_a_million_references(rt: HostRuntime) -> Result<(), Fail> {
-    let length = largest();
-    let mut heap = Heap::new(rt.alloc(), 15)?;
-    let first = Some(ObjId(3));
-    let array = heap.alloc(Shape::Objects { length, first })?;
-    let slots = references(&mut heap, array, length as usize);
-    assert_eq!(rt; slots, Some((Slot::Object(first), Slot::Object(None))));
-    Ok(())
-}
-
 /// What a number that is written into the last field of a large object leaves there.
 fn last_field(heap: &mut Heap, object: ObjId, size: usize) -> Option<(Slot, Slot)> {
     if object.0 >= heap.len() || heap.class_of(object) != 15 || heap.array_len(object) != size {
