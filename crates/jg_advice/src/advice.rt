@@ -3,7 +3,7 @@
 use jg_words::Tid;
 
 /// Something that is legal, and likely wrong.
-#[derive(Clone, Copy, Debug, PartialEq, Eq)]
+#[derive(Clone, Copy, PartialEq, Eq)]
 pub enum Kind {
     /// A call was made after one that may have thrown, and nobody asked whether it did (JNI Specification, chapter 2,
     /// "Exceptions and Error Codes").
@@ -25,7 +25,7 @@ pub enum Kind {
 
 /// A line, counted from 1, with its thread and the function that this called there, by its place in the table, where it
 /// called one.
-#[derive(Clone, Copy, Debug, PartialEq, Eq)]
+#[derive(Clone, Copy)]
 pub struct Source {
     pub line: u64,
     pub tid: Tid,
@@ -33,7 +33,7 @@ pub struct Source {
 }
 
 /// What is advised, of a call that passed or of a fact.
-#[derive(Clone, Copy, Debug, PartialEq, Eq)]
+#[derive(Clone, Copy)]
 pub struct Advice {
     pub kind: Kind,
     /// The thread that it is about.

@@ -17,7 +17,7 @@ use jg_words::Tid;
 use std::alloc::AllocError;
 
 /// A call that is advised on: of this function, by this thread, on this line.
-#[derive(Clone, Copy, Debug, PartialEq, Eq)]
+#[derive(Clone, Copy)]
 pub struct Calling {
     pub line: u64,
     pub tid: Tid,

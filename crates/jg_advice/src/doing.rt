@@ -21,7 +21,7 @@ use std::alloc::{AllocError, Allocator, Global};
 
 /// What a thread did in an activation: its latest call of the JNI there, and the one of which nobody asked since whether
 /// it threw.
-#[derive(Clone, Copy, Debug, PartialEq, Eq)]
+#[derive(Clone, Copy)]
 pub struct Doing {
     pub latest: Option<Source>,
     pub owed: Option<Source>,

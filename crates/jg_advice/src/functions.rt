@@ -13,7 +13,7 @@ use jg_words::BufId;
 const FIND_CLASS: u16 = 2;
 
 /// A buffer that a call gives back, and how: 0, `JNI_COMMIT` or `JNI_ABORT`.
-#[derive(Clone, Copy, Debug, PartialEq, Eq)]
+#[derive(Clone, Copy)]
 pub(crate) struct Release {
     pub buffer: BufId,
     pub mode: i32,

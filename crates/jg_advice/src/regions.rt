@@ -15,7 +15,7 @@ use jg_words::Tid;
 use std::alloc::{AllocError, Allocator, Global};
 
 /// How many calls any threads made, and how often it was told that the collector ran.
-#[derive(Clone, Copy, Debug, PartialEq, Eq)]
+#[derive(Clone, Copy)]
 pub struct Counts {
     pub calls: u64,
     pub collections: u64,
@@ -23,7 +23,7 @@ pub struct Counts {
 
 /// A critical region: the call that it began with, and how many calls any threads had made before it, and how often
 /// it had been told that the collector ran.
-#[derive(Clone, Copy, Debug, PartialEq, Eq)]
+#[derive(Clone, Copy)]
 pub struct Region {
     pub source: Source,
     pub calls: u64,

@@ -20,7 +20,7 @@ pub enum ArgsFault {
 }
 
 /// What the program is to do.
-#[derive(Clone, Copy, Debug, PartialEq, Eq)]
+#[derive(Clone, Copy, PartialEq, Eq)]
 pub enum Task<'a> {
     /// Answers the script on standard input.
     Check,
@@ -37,7 +37,7 @@ pub enum Task<'a> {
 }
 
 /// How advice is told.
-#[derive(Clone, Copy, Debug, PartialEq, Eq)]
+#[derive(Clone, Copy, PartialEq, Eq)]
 pub enum Advising {
     Never,
     /// Once for each kind and function.
@@ -47,7 +47,7 @@ pub enum Advising {
 }
 
 /// What the words ask for.
-#[derive(Clone, Copy, Debug, PartialEq, Eq)]
+#[derive(Clone, Copy, PartialEq, Eq)]
 pub struct Asked<'a> {
     pub task: Task<'a>,
     /// The file of `--setup`, which is that of a migration too.

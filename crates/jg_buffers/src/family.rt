@@ -5,7 +5,7 @@ use jg_words::ItemType;
 /// The functions that open a buffer, and that alone may release it: `Get<Type>ArrayElements`,
 /// `GetStringChars` and `GetStringUTFChars` copy; `GetPrimitiveArrayCritical` and
 /// `GetStringCritical` pin.
-#[derive(Clone, Copy, Debug, PartialEq, Eq)]
+#[derive(Clone, Copy)]
 pub enum Family {
     Elements(ItemType),
     Chars,

@@ -8,14 +8,14 @@ use crate::family::Family;
 use jg_words::{Kind, Ref};
 
 /// The families that pin.
-#[derive(Clone, Copy, Debug, PartialEq, Eq)]
+#[derive(Clone, Copy, PartialEq, Eq)]
 pub enum PinKind {
     Array,
     String,
 }
 
 /// An open pinned buffer.
-#[derive(Clone, Copy, Debug, PartialEq, Eq)]
+#[derive(Clone, Copy, PartialEq, Eq)]
 pub struct Pinned {
     pub object: u64,
     pub kind: PinKind,

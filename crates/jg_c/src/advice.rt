@@ -12,7 +12,7 @@ use jg_words::Tid;
 
 /// A place, the thread that was there, and the function that this called. It is `jg_spot` in jg.h.
 #[repr(C)]
-#[derive(Clone, Copy, PartialEq, Eq)]
+#[derive(Clone, Copy)]
 pub struct JgSpot {
     /// As the caller numbered it.
     pub place: u64,
@@ -24,7 +24,7 @@ pub struct JgSpot {
 
 /// Something that is legal, and likely wrong. It is `jg_advice` in jg.h.
 #[repr(C)]
-#[derive(Clone, Copy, PartialEq, Eq)]
+#[derive(Clone, Copy)]
 pub struct JgAdvice {
     /// Its kind, by its number from 1.
     pub kind: u32,

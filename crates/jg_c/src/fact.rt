@@ -17,7 +17,7 @@ pub(crate) const LOST: u32 = 11;
 /// A fact as C holds it. It is `jg_fact` in jg.h, which names the words and says which fields each has; the others are
 /// 0.
 #[repr(C)]
-#[derive(Clone, Copy, PartialEq, Eq)]
+#[derive(Clone, Copy)]
 pub struct JgFact {
     /// Which fact it is.
     pub word: u32,

@@ -21,7 +21,7 @@ pub(crate) const VERSION: u32 = 1;
 
 /// By which numbers questions are judged. It is `jg_bounds` in jg.h.
 #[repr(C)]
-#[derive(Clone, Copy, PartialEq, Eq)]
+#[derive(Clone, Copy)]
 pub struct JgBounds {
     /// How many local references a frame may have room for.
     pub capacity: i32,

@@ -10,7 +10,7 @@ use jg_core::{Expected, Ticket};
 
 /// A ticket as C keeps it until the machine has answered. C reads and changes nothing in it. It is `jg_ticket` in jg.h.
 #[repr(C)]
-#[derive(Clone, Copy, PartialEq, Eq)]
+#[derive(Clone, Copy)]
 pub struct JgTicket {
     /// What comes of the call.
     pub expected: u32,

@@ -8,7 +8,7 @@ use jg_words::{BufId, EnvId, Kind, ObjId, Ref, Tid};
 /// A value as C holds it: the name of a reference, a buffer, an environment or an object; an operand of a question; or
 /// what a machine says of a call. It is `jg_value` in jg.h, which names the kinds.
 #[repr(C)]
-#[derive(Clone, Copy, PartialEq, Eq)]
+#[derive(Clone, Copy)]
 pub struct JgValue {
     /// What it is.
     pub kind: u32,

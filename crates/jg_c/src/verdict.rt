@@ -13,7 +13,7 @@ use jg_core::Answer;
 
 /// What a question is answered. It is `jg_verdict` in jg.h.
 #[repr(C)]
-#[derive(Clone, Copy, PartialEq, Eq)]
+#[derive(Clone, Copy)]
 pub struct JgVerdict {
     /// 0 where it breaks no rule, else the number of the first that it breaks.
     pub rule: u32,

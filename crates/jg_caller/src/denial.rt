@@ -8,7 +8,7 @@ use jg_words::{Outcome, Rule};
 use std::alloc::{AllocError, Allocator};
 
 /// One denial of a journal.
-#[derive(Clone, Copy, Debug, PartialEq, Eq)]
+#[derive(Clone, Copy, PartialEq, Eq)]
 pub struct Denial {
     /// The place of its entry in the journal, the oldest entry at 0.
     pub place: usize,

@@ -6,7 +6,7 @@ use jg_rules::ObjectType;
 use jg_words::{BufId, EnvId, FieldId, ObjId, Primitive, Ref, Tid};
 
 /// In which way a call breaks a rule, with what was found. Classes are told by their numbers.
-#[derive(Clone, Copy, Debug, PartialEq, Eq)]
+#[derive(Clone, Copy)]
 pub enum Breach {
     /// Rule 1: the virtual machine alone makes such a call.
     OnlyForMachine,
@@ -154,7 +154,7 @@ pub enum Breach {
 }
 
 /// A number among a call's arguments.
-#[derive(Clone, Copy, Debug, PartialEq, Eq)]
+#[derive(Clone, Copy)]
 pub enum Argument {
     Capacity,
     Length,

@@ -3,7 +3,7 @@
 use jg_words::{BufId, EnvId, ObjId, Ref, Tid};
 
 /// A yes-or-no question about a journal whose answer may change from one entry to the next.
-#[derive(Clone, Copy, Debug, PartialEq, Eq)]
+#[derive(Clone, Copy, PartialEq, Eq)]
 pub enum Condition {
     /// The thread is attached.
     IsAttached { tid: Tid },

@@ -25,14 +25,14 @@ use jg_words::{EnvId, ObjId, Rule, Tid};
 use std::alloc::Allocator;
 
 /// A question that breaks no rule: by whom it was asked, and what comes of it.
-#[derive(Clone, Copy, Debug, PartialEq, Eq)]
+#[derive(Clone, Copy)]
 pub struct Ticket {
     pub tid: Tid,
     pub expected: Expected,
 }
 
 /// What a question is answered.
-#[derive(Clone, Copy, Debug, PartialEq, Eq)]
+#[derive(Clone, Copy)]
 pub enum Answer {
     /// It breaks no rule.
     Passed(Ticket),
@@ -45,7 +45,7 @@ pub enum Answer {
 }
 
 /// What a call that ends something was answered, and the name of what it hands out.
-#[derive(Clone, Copy, Debug, PartialEq, Eq)]
+#[derive(Clone, Copy)]
 pub struct Ended {
     pub answer: Answer,
     pub given: Given,

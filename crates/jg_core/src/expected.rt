@@ -28,7 +28,7 @@ use jg_words::{BufId, Kind, ObjId, Ref, Tid};
 use std::alloc::Allocator;
 
 /// What is to be told once the machine says what it answered.
-#[derive(Clone, Copy, Debug, PartialEq, Eq)]
+#[derive(Clone, Copy)]
 pub enum Expected {
     /// It is done, and that is so, if anything; or it threw.
     Done(Option<Fact>),

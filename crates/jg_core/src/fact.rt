@@ -4,7 +4,7 @@ use jg_buffers::Family;
 use jg_words::{BufId, Kind, ObjId, Ref, Tid};
 
 /// What a virtual machine says is so, at the moment when it is so. No rule refuses a fact.
-#[derive(Clone, Copy, Debug, PartialEq, Eq)]
+#[derive(Clone, Copy)]
 pub enum Fact {
     /// A session of the thread begins (JNI Specification, chapter 5, "Attaching to the VM"). Its number is
     /// 1 to 65,535.
@@ -95,7 +95,7 @@ pub enum Fact {
 }
 
 /// What a machine answers of which the core knows the answer, and which no other thread can change.
-#[derive(Clone, Copy, Debug, PartialEq, Eq)]
+#[derive(Clone, Copy)]
 pub enum Checked {
     /// The thread's local reference of this number names that object, or none.
     Local {

@@ -27,7 +27,7 @@ use std::marker::Brand;
 use std::mem;
 
 /// Why a list of objects isn't gone. Nothing changed.
-#[derive(Clone, Copy, Debug, PartialEq, Eq)]
+#[derive(Clone, Copy)]
 pub struct StillHeld {
     /// The place in the list, from 0, of the first object that can't be gone once those before it are.
     pub place: usize,
@@ -36,7 +36,7 @@ pub struct StillHeld {
 }
 
 /// What keeps an object from being gone.
-#[derive(Clone, Copy, Debug, PartialEq, Eq)]
+#[derive(Clone, Copy)]
 pub enum Holder {
     /// Nothing does: it isn't there, or stands in the list before.
     Nothing,

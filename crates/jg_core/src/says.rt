@@ -3,7 +3,7 @@
 use jg_words::{BufId, EnvId, ObjId, Ref};
 
 /// What a virtual machine says of a call that returned: only what the core can't know.
-#[derive(Clone, Copy, Debug, PartialEq, Eq)]
+#[derive(Clone, Copy)]
 pub enum Says {
     /// It was done.
     Done,
@@ -18,7 +18,7 @@ pub enum Says {
 }
 
 /// What the core answers: the name that it has for what the call handed out.
-#[derive(Clone, Copy, Debug, PartialEq, Eq)]
+#[derive(Clone, Copy, PartialEq, Eq)]
 pub enum Given {
     Nothing,
     Reference(Ref),

@@ -12,7 +12,7 @@ use std::alloc::{AllocError, Allocator, Global};
 
 /// A denied call: the place of its entry, which is the number of entries before it, the rule that it
 /// was denied by, in which way it broke it, and how many watches it has.
-#[derive(Clone, Copy, Debug, PartialEq, Eq)]
+#[derive(Clone, Copy)]
 pub struct Denial {
     pub place: usize,
     pub rule: Rule,

@@ -16,7 +16,7 @@ use std::alloc::{Allocator, Global};
 
 /// Why a call was denied: the rule, in which way the call broke it, and what is known, just before the
 /// call, of each condition of the rule that comes and goes.
-#[derive(Debug, Drop)]
+#[derive(Drop)]
 pub struct Explanation {
     pub rule: Rule,
     pub breach: Breach,

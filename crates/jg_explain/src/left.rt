@@ -15,7 +15,7 @@ use jg_words::{BufId, Ref, Tid};
 use std::alloc::{AllocError, Allocator, Global};
 
 /// Something that is left behind.
-#[derive(Clone, Copy, Debug)]
+#[derive(Clone, Copy)]
 pub(crate) enum Left {
     Reference(Ref),
     Buffer(BufId),

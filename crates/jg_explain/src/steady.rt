@@ -12,7 +12,7 @@ use jg_words::{Call, Entry, Tid, VmCall};
 use std::alloc::Allocator;
 
 /// A condition, whether it holds now, and at which entries it turned.
-#[derive(Clone, Copy, Debug, PartialEq, Eq)]
+#[derive(Clone, Copy)]
 pub(crate) struct Steady {
     pub(crate) condition: Condition,
     pub(crate) holds: bool,

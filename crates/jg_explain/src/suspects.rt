@@ -10,7 +10,7 @@ use jg_words::{
 use std::alloc::{AllocError, Allocator, Global};
 
 /// What a thread has on its stack of frames.
-#[derive(Clone, Copy, Debug, PartialEq, Eq)]
+#[derive(Clone, Copy, PartialEq, Eq)]
 enum Layer {
     /// A frame that it pushed.
     Frame,

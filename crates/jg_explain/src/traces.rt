@@ -35,7 +35,7 @@ fn never_if(is_never: bool) -> Option<Turns>
 /// A condition that comes to hold at one entry at most, with the places of the entries at which it was
 /// seen to come to hold and to cease, and of the entry that gave its number to something else. An entry's
 /// place is the number of entries before it.
-#[derive(Clone, Copy, Debug, PartialEq, Eq)]
+#[derive(Clone, Copy)]
 pub(crate) struct Trace {
     pub(crate) condition: Condition,
     pub(crate) made: Option<usize>,
@@ -45,7 +45,7 @@ pub(crate) struct Trace {
 
 /// What was found of a trace, by its place in the list, after some entries: whether its condition holds,
 /// and whether its number was given, which isn't known where its maker's numbers are at their end.
-#[derive(Clone, Copy, Debug, PartialEq, Eq)]
+#[derive(Clone, Copy)]
 pub(crate) struct Seen {
     pub(crate) trace: usize,
     pub(crate) condition: Condition,

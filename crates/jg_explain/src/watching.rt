@@ -11,7 +11,7 @@ use std::alloc::Allocator;
 
 /// A condition that is watched up to the entry at a place: whether it holds just before that entry, and
 /// at which of the entries before it the answer turned.
-#[derive(Clone, Copy, Debug, PartialEq, Eq)]
+#[derive(Clone, Copy, PartialEq, Eq)]
 pub struct Watch {
     pub place: usize,
     pub condition: Condition,

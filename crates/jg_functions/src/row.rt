@@ -4,7 +4,7 @@ use jg_buffers::Family;
 use jg_words::{ItemType, Kind};
 
 /// A section of the JNI Specification that has functions: those of chapter 4, and one of chapter 5.
-#[derive(Clone, Copy, Debug, PartialEq, Eq)]
+#[derive(Clone, Copy)]
 pub enum Section {
     VersionInformation,
     ClassOperations,
@@ -31,7 +31,7 @@ pub enum Section {
 }
 
 /// The version of the JNI since which a function is there (JNI Specification, chapter 4, `GetVersion`).
-#[derive(Clone, Copy, Debug, PartialEq, Eq)]
+#[derive(Clone, Copy)]
 pub enum Since {
     V1_1,
     V1_2,
@@ -45,7 +45,7 @@ pub enum Since {
 }
 
 /// What an object must be (chapter 3, "Reference Types").
-#[derive(Clone, Copy, Debug, PartialEq, Eq)]
+#[derive(Clone, Copy)]
 pub enum ObjectKind {
     AnyObject,
     ClassObject,
@@ -62,7 +62,7 @@ pub enum ObjectKind {
 }
 
 /// The type of a field, or of a method's result (chapter 3, "Type Signatures").
-#[derive(Clone, Copy, Debug, PartialEq, Eq)]
+#[derive(Clone, Copy)]
 pub enum ValueType {
     Item(ItemType),
     Object,
@@ -70,7 +70,7 @@ pub enum ValueType {
 }
 
 /// Whether a field or a method is each object's or its class's.
-#[derive(Clone, Copy, Debug, PartialEq, Eq)]
+#[derive(Clone, Copy, PartialEq, Eq)]
 pub enum Member {
     Instance,
     Static,
@@ -78,7 +78,7 @@ pub enum Member {
 
 /// What an operand of a function is. Operands that no rule speaks of are left out, as addresses are to which a
 /// function writes.
-#[derive(Clone, Copy, Debug, PartialEq, Eq)]
+#[derive(Clone, Copy)]
 pub enum Takes {
     /// A reference that must name an object of the kind.
     Reference(ObjectKind),
@@ -133,7 +133,7 @@ pub enum Takes {
 }
 
 /// When a function may be called.
-#[derive(Clone, Copy, Debug, PartialEq, Eq)]
+#[derive(Clone, Copy)]
 pub enum Passes {
     /// With no exception pending, and outside critical regions.
     Usual,
@@ -146,7 +146,7 @@ pub enum Passes {
 }
 
 /// How a function tells that an exception was thrown in it.
-#[derive(Clone, Copy, Debug, PartialEq, Eq)]
+#[derive(Clone, Copy)]
 pub enum Throws {
     /// It throws none.
     Never,
@@ -159,14 +159,14 @@ pub enum Throws {
 }
 
 /// Whether Java code may run in a function, or it may wait.
-#[derive(Clone, Copy, Debug, PartialEq, Eq)]
+#[derive(Clone, Copy)]
 pub enum Runs {
     Quiet,
     Java,
 }
 
 /// What a function does, as far as rules speak of it.
-#[derive(Clone, Copy, Debug, PartialEq, Eq)]
+#[derive(Clone, Copy)]
 pub enum Effect {
     Nothing,
     /// It hands out a reference of the kind, or null.
@@ -210,7 +210,7 @@ pub enum Effect {
 }
 
 /// What the table says of a function.
-#[derive(Clone, Copy, Debug, PartialEq, Eq)]
+#[derive(Clone, Copy)]
 pub struct Row {
     pub section: Section,
     /// Its name.

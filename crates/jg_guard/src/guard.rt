@@ -36,7 +36,7 @@ use std::alloc::{AllocError, Allocator, Global};
 use std::marker::Model;
 
 /// Why a call was neither passed nor denied. The call comes back.
-#[derive(Debug, PartialEq, Eq, Drop)]
+#[derive(Drop)]
 pub enum Refusal {
     /// The journal has as many entries as it may have.
     Limit(Call),
@@ -45,7 +45,7 @@ pub enum Refusal {
 }
 
 /// Memory ran out.
-#[derive(Clone, Copy, Debug, PartialEq, Eq)]
+#[derive(Clone, Copy, PartialEq, Eq)]
 pub struct NoMemory;
 
 /// A guard. Contracts see its setup, its limit, its journal, the newest entry first, and `spare`, for

@@ -12,7 +12,7 @@ use crate::tables::Tables;
 use std::alloc::Allocator;
 
 /// The most that there was at once after any entry of a journal, and before the first.
-#[derive(Clone, Copy, Debug, PartialEq, Eq)]
+#[derive(Clone, Copy)]
 pub struct Peaks {
     /// Live local references, and global and weak ones in being, of all threads.
     pub references: u128,

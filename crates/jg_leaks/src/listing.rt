@@ -11,7 +11,7 @@ use jg_words::{BufId, Ref};
 use std::alloc::{AllocError, Allocator, Global};
 
 /// What a history leaves behind.
-#[derive(Debug, PartialEq, Eq, Drop)]
+#[derive(PartialEq, Eq, Drop)]
 pub struct Leaks<A: Allocator = Global> {
     /// The live local references, the global ones in being and the weak ones in being, cleared or
     /// not: by the thread that was handed them, and then by number.

@@ -10,7 +10,7 @@ use jg_text::MAX_LINE;
 use std::io::{BufRead, Write};
 
 /// How a line ended: at a line feed, at the end of all, or not within 65,536 bytes.
-#[derive(Clone, Copy, Debug, PartialEq, Eq)]
+#[derive(Clone, Copy)]
 enum LineEnd {
     Feed,
     End,
@@ -50,7 +50,7 @@ fn read_line<R: BufRead>(reader: &mut Watched<R>, line: &mut Vec<u8>) -> Result<
 
 /// What was taken: a line with its line feed, a last line without one, nothing since the reader is
 /// at its end, or the beginning of a line that is too long.
-#[derive(Clone, Copy, Debug, PartialEq, Eq)]
+#[derive(Clone, Copy)]
 pub enum Taken {
     Line,
     LastLine,

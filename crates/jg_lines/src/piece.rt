@@ -8,7 +8,7 @@ use memchr::{memchr, memrchr};
 use std::io::BufRead;
 
 /// Why a line can't be had.
-#[derive(Clone, Copy, Debug, PartialEq, Eq)]
+#[derive(Clone, Copy)]
 pub enum LineFault {
     NoMemory,
     Read,
@@ -16,7 +16,7 @@ pub enum LineFault {
 
 /// How a piece ended: at a line feed, after which the device shows so many bytes `ahead` up to its last
 /// line feed, or within its line. `Nothing` is no piece, since the device shows nothing.
-#[derive(Clone, Copy, Debug, PartialEq, Eq)]
+#[derive(Clone, Copy)]
 pub enum Piece {
     Feed { ahead: usize },
     More,

@@ -29,7 +29,7 @@ impl<D> Model for Watched<D> {
 }
 
 /// The device failed in this very call, and is marked so.
-#[derive(Clone, Copy, Debug, PartialEq, Eq)]
+#[derive(Clone, Copy)]
 pub struct DeviceFailed;
 
 impl<D> Watched<D> {

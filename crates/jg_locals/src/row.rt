@@ -3,7 +3,7 @@
 /// A local as a thread's stack keeps it: its number and object, the depth and the number of open
 /// frames just after its making, and whether it is live. A dead one stays until the list is
 /// closed up or cut.
-#[derive(Clone, Copy, Debug, PartialEq, Eq)]
+#[derive(Clone, Copy)]
 pub struct LocalSlot {
     pub n: u64,
     pub object: u64,
@@ -14,7 +14,7 @@ pub struct LocalSlot {
 
 /// An open frame: `frame` is 0 for what an activation began with, and those pushed in it count
 /// from 1; `room` is for how many locals it has room.
-#[derive(Clone, Copy, Debug, PartialEq, Eq)]
+#[derive(Clone, Copy, PartialEq, Eq)]
 pub struct Frame {
     pub depth: u64,
     pub frame: u64,
@@ -22,7 +22,7 @@ pub struct Frame {
 }
 
 /// A frame as a thread's stack keeps it, with how many live locals were made in it.
-#[derive(Clone, Copy, Debug, PartialEq, Eq)]
+#[derive(Clone, Copy)]
 pub struct Opened {
     pub frame: Frame,
     pub held: u64,

@@ -15,7 +15,7 @@ use jg_words::{ObjId, Tid};
 use std::alloc::{AllocError, Allocator};
 
 /// The owner of a monitor, and how often it entered it and didn't exit: at least once.
-#[derive(Clone, Copy, Debug, PartialEq, Eq)]
+#[derive(Clone, Copy)]
 pub struct Owned {
     pub tid: u16,
     pub count: u64,

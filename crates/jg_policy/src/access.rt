@@ -6,7 +6,7 @@ use crate::mode::Mode;
 
 /// A use of native code: a class loads a library, or a native method of it is registered or
 /// called.
-#[derive(Clone, Copy, Debug, PartialEq, Eq)]
+#[derive(Clone, Copy)]
 pub enum Operation {
     Load,
     Register,
@@ -14,7 +14,7 @@ pub enum Operation {
 }
 
 /// What is done with a use of native code.
-#[derive(Clone, Copy, Debug, PartialEq, Eq)]
+#[derive(Clone, Copy)]
 pub enum Access {
     Allowed,
     /// Allowed, and the first use by its module is warned of.

@@ -11,7 +11,7 @@ use std::alloc::{AllocError, Global};
 use toml::Value;
 
 /// A field or a native method: its name and its type.
-#[derive(Debug, PartialEq, Eq, Hash, Drop)]
+#[derive(PartialEq, Eq, Hash, Drop)]
 pub(crate) struct Member {
     pub(crate) name: String,
     pub(crate) signature: String,

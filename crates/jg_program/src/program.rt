@@ -34,7 +34,7 @@ use std::thread::Threads;
 const STANDARD_INPUT: &str = "-";
 
 /// What is done with the bytes on standard input.
-#[derive(Clone, Copy, Debug, PartialEq, Eq)]
+#[derive(Clone, Copy)]
 pub enum Job {
     /// They are a script, which is answered.
     Check,

@@ -16,7 +16,7 @@ use jg_script::write_leaks;
 use std::alloc::{AllocError, Global};
 
 /// What is to be told beside the journal.
-#[derive(Clone, Copy, Debug, PartialEq, Eq)]
+#[derive(Clone, Copy)]
 pub struct Reporting {
     /// How many denials are explained at most: the first ones.
     pub explain: u32,

@@ -138,7 +138,7 @@ fn status_of_record(stop: jg_watch::Stop) -> Status
 }
 
 /// What is said on standard error, behind the line that says why the program ends, if it has one.
-#[derive(Debug, Drop)]
+#[derive(Drop)]
 pub enum Said {
     Text(String),
     /// The same, behind which memory ran out for the summary.
@@ -150,7 +150,7 @@ pub enum Said {
 }
 
 /// How the program ends: with this status, or for this reason; and what is said then.
-#[derive(Debug, Drop)]
+#[derive(Drop)]
 pub struct ProgramEnd {
     pub ended: Result<Status, ProgramStop>,
     pub said: Said,

@@ -3,7 +3,7 @@
 use jg_words::{BufId, Ref};
 
 /// An operand of a question.
-#[derive(Clone, Copy, Debug, PartialEq, Eq)]
+#[derive(Clone, Copy)]
 pub enum Argument {
     Reference(Ref),
     Buffer(BufId),
@@ -25,7 +25,7 @@ pub enum Argument {
 }
 
 /// What a number may be at the most. A real machine bounds nothing: then each is `i32::MAX`.
-#[derive(Clone, Copy, Debug, PartialEq, Eq)]
+#[derive(Clone, Copy)]
 pub struct Bounds {
     /// How many local references a frame may have room for.
     pub capacity: i32,

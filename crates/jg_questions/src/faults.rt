@@ -24,7 +24,7 @@ use jg_words::{BufId, ItemType, Ref, Tid};
 use std::alloc::Allocator;
 
 /// Which rules operands break.
-#[derive(Clone, Copy, Debug, PartialEq, Eq)]
+#[derive(Clone, Copy)]
 pub struct Faults {
     pub foreign_local: bool,
     pub dead_reference: bool,
@@ -36,7 +36,7 @@ pub struct Faults {
 }
 
 /// What the rules on references see of an operand.
-#[derive(Clone, Copy, Debug, PartialEq, Eq)]
+#[derive(Clone, Copy)]
 pub struct Judged {
     pub reference: Ref,
     pub nullable: bool,
@@ -208,7 +208,7 @@ fn is_out_of_bounds<A: Allocator + Clone, S: Store>(
 }
 
 /// What the operands are judged beside: the reference that a release names, and the buffer that a place counts in.
-#[derive(Clone, Copy, Debug, PartialEq, Eq)]
+#[derive(Clone, Copy)]
 pub struct Beside {
     pub bounds: Bounds,
     pub via: Ref,

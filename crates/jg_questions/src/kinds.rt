@@ -12,7 +12,7 @@ use jg_words::{ItemType, ObjId};
 use std::alloc::Allocator;
 
 /// A kind of objects whose class no setup states. A machine meets an object of such a class by its kind.
-#[derive(Clone, Copy, Debug, PartialEq, Eq)]
+#[derive(Clone, Copy)]
 pub enum OwnKind {
     /// It is of none of the others.
     Object,

@@ -23,7 +23,7 @@ use jg_words::{EnvId, Rule, Tid};
 use std::alloc::Allocator;
 
 /// What a question comes to.
-#[derive(Clone, Copy, Debug, PartialEq, Eq)]
+#[derive(Clone, Copy)]
 pub enum Verdict {
     /// The operands aren't as many as the function's, or not of their sorts.
     Misfit,

@@ -5,7 +5,7 @@ use jg_questions::{Argument, Bounds};
 use jg_words::{EnvId, ObjId, Tid};
 
 /// What a line says. The operands of a question, and the objects that are gone, stand in [`Lists`].
-#[derive(Clone, Copy, Debug, PartialEq, Eq)]
+#[derive(Clone, Copy)]
 pub enum Event {
     /// The thread asked, with this environment, for the function at this place of the table.
     Question {
@@ -22,7 +22,7 @@ pub enum Event {
 }
 
 /// Room for what a line lists.
-#[derive(Debug, Drop)]
+#[derive(Drop)]
 pub struct Lists {
     /// The operands of a question.
     pub arguments: Vec<Argument>,

@@ -20,7 +20,7 @@ use jg_text::{next_field, read_buf, read_number, read_ref, signed_number, small_
 use jg_words::MAX_NAME;
 
 /// How an operand is spelt.
-#[derive(Clone, Copy, Debug, PartialEq, Eq)]
+#[derive(Clone, Copy)]
 pub enum Sort {
     Reference,
     Buffer,

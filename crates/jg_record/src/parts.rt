@@ -7,7 +7,7 @@ ghost use Rattle.jg_record.specs.Parts.{AreParts, CutsAt, IsApart, IsFirstMark, 
 use memchr::memchr;
 
 /// A line's parts.
-#[derive(Clone, Copy, Debug, PartialEq, Eq)]
+#[derive(Clone, Copy)]
 pub struct Parts<'a> {
     /// What the line says.
     pub event: &'a [u8],

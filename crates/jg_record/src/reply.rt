@@ -11,7 +11,7 @@ use jg_words::{BufId, EnvId, ObjId, Ref, Rule};
 use std::alloc::AllocError;
 
 /// What a core answers to an event.
-#[derive(Clone, Copy, Debug, PartialEq, Eq)]
+#[derive(Clone, Copy, PartialEq, Eq)]
 pub enum Reply {
     /// The question breaks no rule.
     Passed,

@@ -16,7 +16,7 @@ use jg_words::{FieldId, Kind, Name, ObjId, Ref, Tid};
 use std::alloc::Allocator;
 
 /// What a reference names for a thread.
-#[derive(Clone, Copy, Debug, PartialEq, Eq)]
+#[derive(Clone, Copy, PartialEq, Eq)]
 pub enum Named {
     /// It was never made, has ended, or is another thread's local.
     Nothing,

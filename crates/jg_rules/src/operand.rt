@@ -10,7 +10,7 @@ use jg_words::{
 
 /// The type that a function declares for an operand (JNI Specification, chapter 3, "Reference
 /// Types"): `jobject`, `jclass`, `jthrowable`, `jstring`, `jarray` and its kin.
-#[derive(Clone, Copy, Debug, PartialEq, Eq)]
+#[derive(Clone, Copy)]
 pub enum ObjectType {
     AnyObject,
     ClassObject,
@@ -26,7 +26,7 @@ pub enum ObjectType {
 
 /// A reference among a call's operands: one that must name an object of the type, or one that
 /// may be null.
-#[derive(Clone, Copy, Debug, PartialEq, Eq)]
+#[derive(Clone, Copy)]
 pub struct Operand {
     pub reference: Ref,
     pub nullable: bool,
@@ -34,7 +34,7 @@ pub struct Operand {
 }
 
 /// The references among a call's operands, from left to right: two at the most.
-#[derive(Clone, Copy, Debug, PartialEq, Eq)]
+#[derive(Clone, Copy)]
 pub enum Operands {
     Nil,
     One(Operand),

@@ -39,7 +39,7 @@ pub trait Beside<A: Allocator + Clone> {
 }
 
 /// Nothing beside the guard.
-#[derive(Clone, Copy, Debug, PartialEq, Eq)]
+#[derive(Clone, Copy)]
 pub struct Alone;
 
 impl<A: Allocator + Clone> Beside<A> for Alone {

@@ -25,7 +25,7 @@ pub enum Verdict {
 }
 
 /// How a line differs from each line with which the text of a legal history goes on.
-#[derive(Clone, Copy, Debug, PartialEq, Eq)]
+#[derive(Clone, Copy)]
 pub enum Difference {
     /// It is the last line, and has no line feed.
     NoLineFeed,
@@ -36,7 +36,7 @@ pub enum Difference {
 }
 
 /// What a journal's text is, and how it differs.
-#[derive(Clone, Copy, Debug, PartialEq, Eq)]
+#[derive(Clone, Copy)]
 pub enum Replayed {
     /// That of a legal history.
     Legal,

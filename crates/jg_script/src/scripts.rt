@@ -20,21 +20,21 @@ pub const MAX_LINES: u64 = 1_000_000;
 pub const MAX_THREADS: usize = 64;
 
 /// A line of a thread's script: the environment that is handed in, if one is, and the call.
-#[derive(Debug, PartialEq, Eq, Drop)]
+#[derive(Drop)]
 pub struct Line {
     pub env: Option<EnvId>,
     pub call: Call,
 }
 
 /// The script of one thread: its lines, in their order.
-#[derive(Debug, PartialEq, Eq, Drop)]
+#[derive(Drop)]
 pub struct Lines {
     pub tid: Tid,
     pub calls: Vec<Line>,
 }
 
 /// The scripts of at most 64 threads, the threads ascending. Contracts see the list.
-#[derive(Debug, Drop)]
+#[derive(Drop)]
 pub struct Scripts {
     threads: Vec<Lines>,
 }

@@ -146,13 +146,13 @@ fn receipt_of<L: Ledger, R: Wait>(
     };
     match shared.call(rt, share, tid, line.env, call) {
         Ok(receipt) => Ok(receipt),
-        Err(refusal) => Err(stop_of(&refusal)),
+        Err(refusal) => Err(stop_of(refusal)),
     }
 }
 
 /// Why a thread stops whose call was refused.
-fn stop_of(refusal: &Refusal) -> Stop
-    ensures { result ≡ stop_for refusal.now }
+fn stop_of(refusal: Refusal) -> Stop
+    ensures { result ≡ stop_for refusal }
 {
     match refusal {
         Refusal::Limit(_) => Stop::Limit,

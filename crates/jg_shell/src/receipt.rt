@@ -4,7 +4,7 @@ use jg_words::{Call, EnvId, Outcome, Tid};
 
 /// What a caller is told of one call: where its entry stands in the journal, who called what, and
 /// what became of it.
-#[derive(Debug, PartialEq, Eq, Drop)]
+#[derive(Drop)]
 pub struct Receipt {
     /// The index of the entry in the journal, the oldest entry at 0.
     pub place: usize,

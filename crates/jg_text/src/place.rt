@@ -25,7 +25,7 @@ use crate::word::{read_buf, read_field, read_ref};
 use jg_words::{Fun, MAX_ITEMS, MAX_NAME};
 
 /// A place in a line.
-#[derive(Clone, Copy, Debug, PartialEq, Eq)]
+#[derive(Clone, Copy)]
 pub struct Place {
     /// The number of the field, from 1.
     pub field: usize,

@@ -11,7 +11,7 @@ use jg_words::{
 };
 
 /// What kind of operand stands at a place.
-#[derive(Clone, Copy, Debug, PartialEq, Eq)]
+#[derive(Clone, Copy)]
 pub enum OperandKind {
     /// A reference, or `null`.
     Reference,

@@ -7,7 +7,7 @@ ghost use Rattle.jg_lists.specs.Marks.{Marks};
 use jg_lists::Marking;
 
 /// What is kept of a thread.
-#[derive(Clone, Copy, Debug, PartialEq, Eq)]
+#[derive(Clone, Copy)]
 pub struct Row {
     /// Whether it has a session.
     pub attached: bool,

@@ -7,7 +7,7 @@ use jg_record::RecordFault;
 use thiserror::Error;
 
 /// How far a record was answered, where nothing is wrong with its text. Lines count from 1.
-#[derive(Clone, Copy, Debug, PartialEq, Eq)]
+#[derive(Clone, Copy)]
 pub enum Ended {
     /// All of its lines were answered, so many.
     All { lines: u64 },

@@ -14,7 +14,7 @@ use std::alloc::Allocator;
 
 /// An event, where the line has one, what it was answered, and the operand by which a question was denied, where one
 /// breaks the rule.
-#[derive(Clone, Copy, Debug, PartialEq, Eq)]
+#[derive(Clone, Copy)]
 pub struct Replied {
     pub event: Option<Event>,
     pub reply: Reply,

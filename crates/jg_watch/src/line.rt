@@ -192,7 +192,7 @@ fn write_comment<W: Write>(
 }
 
 /// What a line did.
-#[derive(Clone, Copy, Debug, PartialEq, Eq)]
+#[derive(Clone, Copy)]
 pub enum Step {
     /// It was answered so; a comment is answered nothing.
     Answered(Replied),

@@ -18,7 +18,7 @@ use std::alloc::{AllocError, Allocator, Global};
 use std::marker::Model;
 
 /// What is written of a record.
-#[derive(Clone, Copy, Debug, PartialEq, Eq)]
+#[derive(Clone, Copy)]
 pub enum Shown {
     /// All of its lines.
     All,

@@ -27,7 +27,7 @@ use vm::VmCall;
 
 /// A call: a function of one of the groups with its operands. The thread and the environment
 /// that it comes from stand beside it.
-#[derive(Debug, PartialEq, Eq, Drop)]
+#[derive(PartialEq, Eq, Drop)]
 pub enum Call {
     Vm(VmCall),
     Refs(RefsCall),

@@ -3,7 +3,7 @@
 use crate::rule::Rule;
 
 /// How a call ended: it was done, with a warning, a notice, both or neither, or it was denied.
-#[derive(Clone, Copy, Debug, PartialEq, Eq)]
+#[derive(Clone, Copy)]
 pub enum Ending {
     Plain,
     Warned,

@@ -15,7 +15,7 @@ use std::marker::Model;
 /// The answer of a passed call; whether it came with a warning of restricted access (JEP 472); and
 /// whether it came with a notice: it handed out a local reference, and the frame then held more
 /// than its room (JNI Specification, chapter 4, "Local References").
-#[derive(Debug, PartialEq, Eq, Drop)]
+#[derive(PartialEq, Eq, Drop)]
 pub struct Reply {
     pub value: Value,
     pub warned: bool,
@@ -23,7 +23,7 @@ pub struct Reply {
 }
 
 /// What became of a call: it was done, or it was denied by the first rule that it broke.
-#[derive(Debug, PartialEq, Eq, Drop)]
+#[derive(PartialEq, Eq, Drop)]
 pub enum Outcome {
     Passed(Reply),
     Denied(Rule),
@@ -31,7 +31,7 @@ pub enum Outcome {
 
 /// One entry of the journal: who called what, and what became of it. Contracts see these as a record
 /// with the call's outcome; its small parts stand side by side, since a journal has many entries.
-#[derive(Debug, Drop)]
+#[derive(Drop)]
 pub struct Entry {
     tid: Tid,
     has_env: bool,

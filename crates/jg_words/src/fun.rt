@@ -27,7 +27,7 @@ use strings::StringsFun;
 use vm::VmFun;
 
 /// A function of the JNI, or of this guard's own: which one, by group.
-#[derive(Clone, Copy, Debug, PartialEq, Eq)]
+#[derive(Clone, Copy, PartialEq, Eq)]
 pub enum Fun {
     Vm(VmFun),
     Refs(RefsFun),

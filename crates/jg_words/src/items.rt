@@ -10,7 +10,7 @@ pub const MAX_ITEMS: usize = 1000;
 
 /// A list operand or a list answer: at most 1,000 numbers of 64 bits. Contracts see it as the
 /// list.
-#[derive(Debug, Drop)]
+#[derive(Drop)]
 pub struct Items {
     items: Vec<i64>,
 }

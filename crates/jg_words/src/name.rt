@@ -10,7 +10,7 @@ use std::marker::Model;
 pub const MAX_NAME: usize = 255;
 
 /// Why there is no name.
-#[derive(Clone, Copy, Debug, PartialEq, Eq)]
+#[derive(Clone, Copy)]
 pub enum NameFault {
     /// The text isn't one.
     NotAName,
@@ -20,7 +20,7 @@ pub enum NameFault {
 
 /// A name operand, as of a class or a library: 1 to 255 bytes from 0x21 to 0x7E. Contracts see
 /// it as its bytes.
-#[derive(Debug, Drop)]
+#[derive(Drop)]
 pub struct Name {
     // One word wide, so that a call with three names, and with it each entry of a journal, is short.
     text: Box<String>,

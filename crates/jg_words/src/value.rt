@@ -11,7 +11,7 @@ use crate::thread::EnvId;
 use std::alloc::AllocError;
 
 /// The classes of the exceptions that calls throw.
-#[derive(Clone, Copy, Debug, PartialEq, Eq)]
+#[derive(Clone, Copy, PartialEq, Eq)]
 pub enum Thrown {
     ArrayIndexOutOfBounds,
     StringIndexOutOfBounds,
@@ -21,7 +21,7 @@ pub enum Thrown {
 }
 
 /// What a passed call answers.
-#[derive(Debug, PartialEq, Eq, Drop)]
+#[derive(PartialEq, Eq, Drop)]
 pub enum Value {
     Ok,
     Number(i64),

@@ -61,7 +61,7 @@ fn ballast<'a>(heap: &'a LocalHeap, most: usize) -> Vec<u8, &'a LocalHeap> {
 }
 
 /// What comes of a fact that is told until it is refused: why it was, and whether calls are judged as just before.
-#[derive(Clone, Copy, Debug, PartialEq, Eq)]
+#[derive(Clone, Copy, PartialEq, Eq)]
 struct Refused {
     why: Untold,
     stayed: bool,

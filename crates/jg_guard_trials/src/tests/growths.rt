@@ -171,7 +171,7 @@ fn are_equal<A: Allocator + Clone>(guard: &Guard<A>, twin: &Guard) -> Result<boo
 }
 
 /// How a call was answered.
-#[derive(Clone, Copy, Debug, PartialEq, Eq)]
+#[derive(Clone, Copy)]
 pub(super) enum Answer {
     /// It passed or was denied.
     Given,

@@ -26,7 +26,7 @@ pub(super) struct Plan<'a> {
 }
 
 /// How many calls a worker was told of, and why it stopped before the end of its lines.
-#[derive(Clone, Copy, Debug, PartialEq, Eq)]
+#[derive(Clone, Copy)]
 pub(super) struct Ended {
     pub(super) receipts: usize,
     pub(super) stopped: Option<Stop>,

@@ -11,7 +11,7 @@ use std::alloc::AllocError;
 
 /// Arrays (JNI Specification, chapter 4, "Array Operations"). `start`, `length` and `index` count items,
 /// from 0; `fill` is what each place of a new array of references holds.
-#[derive(Debug, PartialEq, Eq, Drop)]
+#[derive(PartialEq, Eq, Drop)]
 pub enum ArraysCall {
     NewArray {
         element: Primitive,

@@ -11,7 +11,7 @@ use crate::reference::Ref;
 /// Buffers (JNI Specification, chapter 4, "Array Operations" and "String Operations"). `mode` is 0,
 /// `JNI_COMMIT` (1) or `JNI_ABORT` (2); `index` counts items, from 0. That an access to a buffer's
 /// memory is a call is the guard's own.
-#[derive(Debug, PartialEq, Eq, Drop)]
+#[derive(PartialEq, Eq, Drop)]
 pub enum BuffersCall {
     GetArrayElements {
         element: Primitive,

@@ -7,7 +7,7 @@ use crate::fun::exceptions::ExceptionsFun;
 use crate::reference::Ref;
 
 /// Exceptions (JNI Specification, chapter 4, "Exceptions").
-#[derive(Debug, PartialEq, Eq, Drop)]
+#[derive(PartialEq, Eq, Drop)]
 pub enum ExceptionsCall {
     Throw { exception: Ref },
     ExceptionOccurred,

@@ -8,7 +8,7 @@ use crate::reference::Ref;
 
 /// Frames of local references (JNI Specification, chapter 4, "Local References"). `kept` is
 /// JNI's `result`: its object gets a reference in the frame below.
-#[derive(Debug, PartialEq, Eq, Drop)]
+#[derive(PartialEq, Eq, Drop)]
 pub enum FramesCall {
     PushLocalFrame { capacity: i32 },
     PopLocalFrame { kept: Ref },

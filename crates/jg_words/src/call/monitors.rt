@@ -7,7 +7,7 @@ use crate::fun::monitors::MonitorsFun;
 use crate::reference::Ref;
 
 /// Monitors (JNI Specification, chapter 4, "Monitor Operations").
-#[derive(Debug, PartialEq, Eq, Drop)]
+#[derive(PartialEq, Eq, Drop)]
 pub enum MonitorsCall {
     MonitorEnter { of: Ref },
     MonitorExit { of: Ref },

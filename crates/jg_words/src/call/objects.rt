@@ -11,7 +11,7 @@ use std::alloc::AllocError;
 
 /// Classes and objects (JNI Specification, chapter 4, "Class Operations", "Object Operations",
 /// "Accessing Fields of Objects"). A family over the primitive types is one variant.
-#[derive(Debug, PartialEq, Eq, Drop)]
+#[derive(PartialEq, Eq, Drop)]
 pub enum ObjectsCall {
     FindClass {
         name: Name,

@@ -7,7 +7,7 @@ use crate::fun::refs::RefsFun;
 use crate::reference::Ref;
 
 /// References (JNI Specification, chapter 4, "Global and Local References").
-#[derive(Debug, PartialEq, Eq, Drop)]
+#[derive(PartialEq, Eq, Drop)]
 pub enum RefsCall {
     NewLocalRef { of: Ref },
     NewGlobalRef { of: Ref },

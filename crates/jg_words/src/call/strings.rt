@@ -10,7 +10,7 @@ use std::alloc::AllocError;
 
 /// Strings (JNI Specification, chapter 4, "String Operations"). `units` are UTF-16 units, `bytes` those
 /// of modified UTF-8; `start` and `length` count units, from 0.
-#[derive(Debug, PartialEq, Eq, Drop)]
+#[derive(PartialEq, Eq, Drop)]
 pub enum StringsCall {
     NewString {
         units: Items,

@@ -12,7 +12,7 @@ use std::alloc::AllocError;
 /// that have them (chapter 4, "Registering Native Methods"; JEP 472). A native method is named by
 /// its class, its own name and its type, as `app/Main`, `run` and `()V`. The collector runs on no
 /// thread of its own: its calls come from thread 0.
-#[derive(Debug, PartialEq, Eq, Drop)]
+#[derive(PartialEq, Eq, Drop)]
 pub enum VmCall {
     AttachCurrentThread,
     DetachCurrentThread,

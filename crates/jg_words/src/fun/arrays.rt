@@ -7,7 +7,7 @@ use crate::object::Primitive;
 
 /// Arrays (JNI Specification, chapter 4, "Array Operations"). A family over the primitive types is one
 /// variant.
-#[derive(Clone, Copy, Debug, PartialEq, Eq)]
+#[derive(Clone, Copy, PartialEq, Eq)]
 pub enum ArraysFun {
     NewArray(Primitive),
     GetArrayLength,

@@ -9,7 +9,7 @@ use crate::object::Primitive;
 /// Buffers: the items of an array or of a string, as native code is lent them (JNI Specification,
 /// chapter 4, "Array Operations" and "String Operations"). A family over the primitive types is one
 /// variant. `BufferRead` and `BufferWrite` are the guard's own: accesses to a buffer's memory.
-#[derive(Clone, Copy, Debug, PartialEq, Eq)]
+#[derive(Clone, Copy, PartialEq, Eq)]
 pub enum BuffersFun {
     GetArrayElements(Primitive),
     ReleaseArrayElements(Primitive),

@@ -5,7 +5,7 @@ ghost use Rattle.jg_words.specs.Fun.{exceptions_name};
 ghost use Rattle.jg_words.specs.Passing.{exceptions_passes_pending};
 
 /// Exceptions (JNI Specification, chapter 4, "Exceptions").
-#[derive(Clone, Copy, Debug, PartialEq, Eq)]
+#[derive(Clone, Copy, PartialEq, Eq)]
 pub enum ExceptionsFun {
     Throw,
     ExceptionOccurred,

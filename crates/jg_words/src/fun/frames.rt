@@ -5,7 +5,7 @@ ghost use Rattle.jg_words.specs.Fun.{frames_name};
 ghost use Rattle.jg_words.specs.Passing.{frames_passes_pending};
 
 /// Frames of local references (JNI Specification, chapter 4, "Local References").
-#[derive(Clone, Copy, Debug, PartialEq, Eq)]
+#[derive(Clone, Copy, PartialEq, Eq)]
 pub enum FramesFun {
     PushLocalFrame,
     PopLocalFrame,

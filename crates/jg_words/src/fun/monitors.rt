@@ -5,7 +5,7 @@ ghost use Rattle.jg_words.specs.Fun.{monitors_name};
 ghost use Rattle.jg_words.specs.Passing.{monitors_passes_pending};
 
 /// Monitors (JNI Specification, chapter 4, "Monitor Operations").
-#[derive(Clone, Copy, Debug, PartialEq, Eq)]
+#[derive(Clone, Copy, PartialEq, Eq)]
 pub enum MonitorsFun {
     MonitorEnter,
     MonitorExit,

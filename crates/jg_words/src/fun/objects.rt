@@ -7,7 +7,7 @@ use crate::object::Primitive;
 
 /// Classes and objects (JNI Specification, chapter 4, "Class Operations", "Object Operations",
 /// "Accessing Fields of Objects"). A family over the primitive types is one variant.
-#[derive(Clone, Copy, Debug, PartialEq, Eq)]
+#[derive(Clone, Copy, PartialEq, Eq)]
 pub enum ObjectsFun {
     FindClass,
     GetObjectClass,

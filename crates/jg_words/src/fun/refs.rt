@@ -5,7 +5,7 @@ ghost use Rattle.jg_words.specs.Fun.{refs_name};
 ghost use Rattle.jg_words.specs.Passing.{refs_passes_pending};
 
 /// References (JNI Specification, chapter 4, "Global and Local References").
-#[derive(Clone, Copy, Debug, PartialEq, Eq)]
+#[derive(Clone, Copy, PartialEq, Eq)]
 pub enum RefsFun {
     NewLocalRef,
     NewGlobalRef,

@@ -4,7 +4,7 @@ ghost use Rattle.std.specs.Prelude.{◌≡◌};
 ghost use Rattle.jg_words.specs.Fun.{strings_name};
 
 /// Strings (JNI Specification, chapter 4, "String Operations").
-#[derive(Clone, Copy, Debug, PartialEq, Eq)]
+#[derive(Clone, Copy, PartialEq, Eq)]
 pub enum StringsFun {
     NewString,
     NewStringUTF,

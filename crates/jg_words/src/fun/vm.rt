@@ -6,7 +6,7 @@ ghost use Rattle.jg_words.specs.Passing.{vm_passes_pending};
 
 /// Attachment and environments (JNI Specification, chapter 5); native methods, and the libraries
 /// that have them (chapter 4, "Registering Native Methods"; JEP 472); the collector.
-#[derive(Clone, Copy, Debug, PartialEq, Eq)]
+#[derive(Clone, Copy, PartialEq, Eq)]
 pub enum VmFun {
     AttachCurrentThread,
     DetachCurrentThread,

@@ -1,4 +1,4 @@
-use Rattle.std.proofs.Common.{◌≡◌, ◌++◌, List, Bool, ◌∙◌, ap, subst, sym}
+use Rattle.std.proofs.Common.{◌++◌, List, Bool, ◌∙◌, ap, subst, sym}
 use Rattle.std.specs.Prelude.{reverse}
 use Rattle.std.proofs.lemmas.Option.{IfSome_then}
 use Rattle.jg_advice.specs.declared.advice.Advice.{Advice}
