@@ -11,7 +11,7 @@ FAILED, PASSED, BAD, UNSURE = "failed its test", "NOT REFUSED", "BAD EDIT", "NOT
 
 
 def said_of(crate, texts, words):
-    """What `rt try` says of the crate, with these words, in a copy of the tree with these texts; nothing is proved."""
+    """What a run of the crate with these words says, in a copy of the tree with these texts; nothing is proved."""
     with tempfile.TemporaryDirectory(prefix="jg-by-tests-") as copy:
         edits.copy_to(copy)
         for path, text in texts.items():
@@ -19,7 +19,7 @@ def said_of(crate, texts, words):
                 it.write(text)
         how = {"stdin": subprocess.DEVNULL, "stdout": subprocess.PIPE, "stderr": subprocess.STDOUT, "errors": "replace"}
         how |= {"cwd": f"{copy}/crates/{crate}", "check": False}
-        return subprocess.run(["rt", "try", "--seconds", "300", *words], **how).stdout
+        return subprocess.run([f"{edits.TOP}/tools/kit.py", "try", "--seconds", "300", *words], **how).stdout
 
 
 def by_test(crate, test, texts):

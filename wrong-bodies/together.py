@@ -3,13 +3,13 @@
 Each function that no edit of the check is about has its proof left out: a hole stands in its place, and the function's
 callers go by its contract, as they always do. So a check reads but the functions that its edits are about.
 
-An edit is about the functions whose text it changes, about the callers of those whose clauses it changes, and about
-those that its lines `by: PATH` name. Two edits go into one check only where they are about different functions. An edit
-that changes a definition or a proof file goes alone, and so does one that changes text outside of functions; where it
-has no line `by:`, no proof is left out of its check.
+An edit is about the functions whose text or proof files it changes, about the callers of those whose clauses it
+changes, and about those that its lines `by: PATH` name. Two edits go into one check only where they are about different
+functions. An edit that changes a definition or a lemma goes alone, and so does one that changes text outside of
+functions; where it has no line `by:`, no proof is left out of its check.
 
 An edit is refused where an error or an open goal stands in a function that it is about, or in that function's proof
-files.
+files. Where it goes alone and such a function isn't proved, an error in a lemma counts too.
 """
 import dataclasses
 import os
@@ -96,7 +96,19 @@ def about(tree, path, old, new):
     in_clauses = [it for it in found if start < it.body and it.clauses < end]
     with_clauses = {path for it in in_clauses for path in tree.paths_of(it)}
     line = text[text.rfind(b"\n", 0, start) + 1 : end].decode(errors="replace").lstrip()
-    return changed, with_clauses, not found and not line.startswith(("//", "use ", "ghost use "))
+    return changed, with_clauses, not found and not line.startswith("//") and not is_import(text[:start].decode())
+
+
+def is_import(front):
+    """Whether a text ends within an item that imports names."""
+    item = re.split(r"[;}]\s*\n", front)[-1]
+    return bool(re.match(r"(\s*//[^\n]*\n)*\s*(pub )?(ghost )?use ", item))
+
+
+def proved_by(tree, path):
+    """The function that a proof file is of, as a set; nothing where it is a lemma's."""
+    of = os.path.dirname(path).removeprefix("proofs/").replace("/", "::")
+    return {of} & tree.calls.keys() if path.startswith("proofs/") else set()
 
 
 def wrong_of(tree, file):
@@ -108,8 +120,9 @@ def wrong_of(tree, file):
     found, is_alone = set(), False
     for path, old, new in edit.changes:
         changed, with_clauses, is_outside = about(tree, path, old, new)
-        found |= changed | tree.callers_of(with_clauses)
-        is_alone |= is_outside
+        of_proof = proved_by(tree, path)
+        found |= changed | of_proof | tree.callers_of(with_clauses)
+        is_alone |= is_outside and not of_proof
     found |= {path for it in edit.by for path in tree.calls if path == it or path.endswith(f"::{it}")}
     name = os.path.basename(file)[: -len(".edit")]
     return Wrong(name, edit, found, is_alone, is_alone and not edit.by), None
@@ -222,7 +235,8 @@ def judged(tree, wrong, ran, said, spans):
             for path in paths:
                 told.setdefault(path, []).append((bool(TAKEN.search(what)), f"{path}: {what}"))
     fails = [it for it in sorted(wrong.about) if re.match(r"not proved|no proof", states.get(it, ""))]
-    real = [text for it in fails for is_taken, text in told.get(it, []) if not is_taken]
+    lemmas = [it for it in told if it not in tree.calls] if wrong.is_alone and fails else []
+    real = [text for it in fails + lemmas for is_taken, text in told.get(it, []) if not is_taken]
     if real:
         return REFUSED, real[0][:200]
     if fails:
