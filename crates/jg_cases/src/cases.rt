@@ -1,11 +1,11 @@
 //! Files of cases: each case is tried, and what comes out otherwise is told.
 
 use crate::headings::{Heading, Kind};
-use crate::journals::other_journal;
+use crate::journals::try_journal;
 use crate::parts::Case;
 use crate::reading::{Cases, FileFault, read_cases};
 use crate::runs::other_run;
-use crate::tables::{Came, try_table};
+use crate::tables::{Came, Place, try_table};
 use std::alloc::{AllocError, Global};
 use std::collections::HashSet;
 use std::io;
@@ -59,7 +59,7 @@ fn try_case<T: Threads + Wait + Sync>(rt: &T, alloc: Global, case: Case<'_>) -> 
         }
         Kind::Journal => {
             let text = case.text(Heading::Journal).unwrap_or("");
-            Ok(Came::of(other_journal(rt, alloc, case, text)?))
+            try_journal(rt, alloc, case, text)
         }
     }
 }
@@ -82,10 +82,14 @@ fn tell_other(out: &mut String, path: &str, case: Case<'_>, came: Came) -> Resul
     let Some(difference) = came.difference else {
         return Ok(());
     };
-    let (line, name, row) = (case.line, case.name, came.row);
+    let (line, name) = (case.line, case.name);
+    let (of, number) = match came.place {
+        Place::Row(row) => ("row", row),
+        Place::Line(line) => ("line", line),
+    };
     writeln!(
         out,
-        "{path}: line {line}: {name}: {difference}, in row {row}"
+        "{path}: line {line}: {name}: {difference}, in {of} {number}"
     )
 }
 

@@ -1,12 +1,14 @@
-//! Journals: their scripts are answered by them, they are read back as legal, altered they are not, and their records
-//! are answered alike.
+//! Journals: their scripts are answered by them, they are read back as legal, altered they are not, their records are
+//! answered alike, and a core beside a guard judges their calls alike.
 
+use crate::beside::other_beside;
 use crate::devices::{Passes, Taking};
 use crate::headings::Heading;
 use crate::parts::{Case, Part, find_part};
 use crate::runs::{
     Difference, Ended, Given, LEGAL, feeds, first_of, give, is_whole, other_end, run_with,
 };
+use crate::tables::Came;
 use std::alloc::{AllocError, Global};
 use std::io;
 use std::sync::Wait;
@@ -14,6 +16,9 @@ use std::thread::Threads;
 
 /// The path of the setup that a journal is under.
 const SETUP: &str = "app.toml";
+
+/// The setup where a case has none: `jg` takes it where no `--setup` is given.
+const CLOSED: &str = "version = 1\nillegal_native_access = \"deny\"\n";
 
 /// A journal, and the case that it is of.
 #[derive(Clone, Copy)]
@@ -419,13 +424,22 @@ fn other_at_each_byte<T: Threads + Wait + Sync>(
     Ok(first_of(&found))
 }
 
+/// What isn't so where a core stands beside a guard that makes the journal's calls.
+fn other_core(alloc: Global, row: Row<'_>) -> Result<Came, AllocError> {
+    let setup = match find_part(row.case.parts, Heading::File, SETUP) {
+        Some(file) => str::from_utf8(file.bytes).unwrap_or(""),
+        None => CLOSED,
+    };
+    other_beside(alloc, setup, row.text)
+}
+
 /// What isn't so of the journal.
 fn other_in<T: Threads + Wait + Sync>(
     rt: &T,
     alloc: Global,
     row: Row<'_>,
     script: &[u8],
-) -> io::Result<Difference> {
+) -> io::Result<Came> {
     let found = [
         other_answers(rt, alloc, row, script)?,
         other_read(rt, alloc, row)?,
@@ -433,7 +447,11 @@ fn other_in<T: Threads + Wait + Sync>(
         other_record(rt, alloc, row)?,
         other_at_each_byte(rt, alloc, row, script)?,
     ];
-    Ok(first_of(&found))
+    let difference = first_of(&found);
+    if difference.is_some() {
+        return Ok(Came::of(difference));
+    }
+    Ok(other_core(alloc, row)?)
 }
 
 /// The same under the setup of this text.
@@ -443,7 +461,7 @@ fn other_under<T: Threads + Wait + Sync>(
     row: Row<'_>,
     script: &[u8],
     setup: &[u8],
-) -> io::Result<Difference> {
+) -> io::Result<Came> {
     let file = Part {
         line: row.case.line,
         heading: Heading::File,
@@ -468,30 +486,30 @@ fn other_migrated<T: Threads + Wait + Sync>(
     alloc: Global,
     row: Row<'_>,
     script: &[u8],
-) -> io::Result<Difference> {
+) -> io::Result<Came> {
     let words = ["migrate", "--setup=app.toml"];
     let migrated = run_with(rt, alloc, &words, give(row.case, b"".as_slice()))?;
     match str::from_utf8(&migrated.out) {
         Ok(setup) if setup.contains("version = 2\n") => {
             other_under(rt, alloc, row, script, setup.as_bytes())
         }
-        _ => Ok(Some("its setup isn't migrated")),
+        _ => Ok(Came::of(Some("its setup isn't migrated"))),
     }
 }
 
-/// What isn't as the case states, which is a journal of this text. It is tried under the setup that it has, and under
-/// the migrated one if that is asked for.
-pub fn other_journal<T: Threads + Wait + Sync>(
+/// What comes of the case, which is a journal of this text. It is tried under the setup that it has, and under the
+/// migrated one if that is asked for.
+pub fn try_journal<T: Threads + Wait + Sync>(
     rt: &T,
     alloc: Global,
     case: Case<'_>,
     text: &str,
-) -> io::Result<Difference> {
+) -> io::Result<Came> {
     let row = Row { case, text };
     let script = script_of(alloc, text)?;
-    let difference = other_in(rt, alloc, row, &script)?;
-    if difference.is_some() || !case.has(Heading::Migrated) {
-        return Ok(difference);
+    let came = other_in(rt, alloc, row, &script)?;
+    if came.difference.is_some() || !case.has(Heading::Migrated) {
+        return Ok(came);
     }
     other_migrated(rt, alloc, row, &script)
 }

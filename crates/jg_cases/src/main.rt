@@ -1,9 +1,11 @@
 //! Runs the program `jg` on cases that are written in files, and tells which of them come out otherwise than they
 //! state. `data/README` says how a case is written.
 //!
-//! Its words are the paths of the files.
+//! Its words are the paths of the files. Before them `ask WHAT COUNT LIVE` may stand: what `bench/core` times.
 #![tactic(auto)]
 
+mod asking;
+mod beside;
 mod cases;
 mod devices;
 mod headings;
@@ -12,7 +14,9 @@ mod parts;
 mod reading;
 mod runs;
 mod tables;
+mod telling;
 
+use crate::asking::ask;
 use crate::cases::{Tally, try_file};
 use std::collections::HashSet;
 use std::process::ExitCode;
@@ -37,21 +41,52 @@ fn try_path<T: Threads + Wait + Sync>(
     rt.print(told.as_str())
 }
 
-/// Tries the cases of each file that the words name, and tells how many there were.
-fn start<T: Threads + Wait + Sync>(rt: &HostRuntime, threads: &T) -> io::Result<Tally> {
+/// Tries the cases of each file at these paths, and tells how many there were. Answers whether all came out as they
+/// state.
+fn try_paths<T: Threads + Wait + Sync>(
+    rt: &HostRuntime,
+    threads: &T,
+    paths: &[String],
+) -> io::Result<bool> {
     let mut tally = Tally::NONE;
     let mut names = HashSet::new(rt.alloc());
-    for path in env::args(rt)?.skip(1) {
+    for path in paths {
         try_path(rt, threads, path.as_str(), &mut names, &mut tally)?;
     }
     let (cases, rows, others) = (tally.cases, tally.rows, tally.others);
     println!(rt; "{cases} cases, {rows} rows, {others} come out otherwise")?;
-    Ok(tally)
+    Ok(tally.is_good())
+}
+
+/// Does what the words behind `ask` say, and answers whether it was done. Then tries the cases at the paths behind
+/// them, if there are any.
+fn ask_and_try<T: Threads + Wait + Sync>(
+    rt: &HostRuntime,
+    threads: &T,
+    words: &[String],
+) -> io::Result<bool> {
+    let [what, count, live, paths @ ..] = words else {
+        return Ok(false);
+    };
+    match ask(rt.alloc(), what.as_str(), count.as_str(), live.as_str()) {
+        None => Ok(false),
+        Some(()) if paths.is_empty() => Ok(true),
+        Some(()) => try_paths(rt, threads, paths),
+    }
+}
+
+/// Does what the words say, and answers whether all was well.
+fn start<T: Threads + Wait + Sync>(rt: &HostRuntime, threads: &T) -> io::Result<bool> {
+    let words = env::args(rt)?.skip(1).collect::<Vec<String>>(rt.alloc())?;
+    match words.as_slice() {
+        [first, rest @ ..] if first.as_str() == "ask" => ask_and_try(rt, threads, rest),
+        paths => try_paths(rt, threads, paths),
+    }
 }
 
 fn main(rt: HostRuntime) -> ExitCode {
     match start(&rt, &rt) {
-        Ok(tally) if tally.is_good() => ExitCode::from(0),
+        Ok(true) => ExitCode::from(0),
         _ => ExitCode::from(1),
     }
 }

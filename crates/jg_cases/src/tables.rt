@@ -8,11 +8,19 @@ use std::io;
 use std::sync::Wait;
 use std::thread::Threads;
 
-/// What came of a case: what isn't as it states, in which row, from 1, and how many rows were tried.
+/// Where a case isn't as it states, from 1.
+#[derive(Clone, Copy)]
+pub enum Place {
+    Row(u64),
+    /// A line of its journal.
+    Line(u64),
+}
+
+/// What came of a case: what isn't as it states, where, and how many rows were tried.
 #[derive(Clone, Copy)]
 pub struct Came {
     pub difference: Difference,
-    pub row: u64,
+    pub place: Place,
     pub rows: u64,
 }
 
@@ -21,7 +29,16 @@ impl Came {
     pub fn of(difference: Difference) -> Came {
         Came {
             difference,
-            row: 1,
+            place: Place::Row(1),
+            rows: 1,
+        }
+    }
+
+    /// What came of a journal, which isn't as it states behind so many lines.
+    pub fn behind_lines(difference: Difference, lines: usize) -> Came {
+        Came {
+            difference,
+            place: Place::Line((lines as u64).saturating_add(1)),
             rows: 1,
         }
     }
@@ -31,7 +48,7 @@ impl Came {
         self.rows = self.rows.saturating_add(1);
         if self.difference.is_none() && difference.is_some() {
             self.difference = difference;
-            self.row = self.rows;
+            self.place = Place::Row(self.rows);
         }
     }
 }
@@ -123,7 +140,7 @@ pub fn try_table<T: Threads + Wait + Sync>(
     };
     let mut came = Came {
         difference: None,
-        row: 0,
+        place: Place::Row(0),
         rows: 0,
     };
     begin_row(&mut row, case)?;

@@ -1,18 +1,13 @@
-//! One call, made by a guard and judged by a core, which is then told what the journal's entry says.
+//! A core is told what an entry of a guard's journal says.
 
-use jg_core::{Checked, Core, Fact, Given, Says, Untold};
-use jg_guard::Guard;
+use jg_core::{Core, Fact, Given, Says, Untold};
 use jg_rules::{View, buffer_named, class_of, home_named, length_of};
-use jg_words::{Call, Entry, EnvId, Kind, ObjId, Tid, Value, VmCall};
+use jg_words::{Call, Entry, Kind, ObjId, Tid, Value, VmCall};
 use std::alloc::{AllocError, Global};
-use std::test::Fail;
-
-/// What the core has otherwise than the guard; nothing where all is alike.
-pub(super) type Difference = Option<&'static str>;
 
 /// What there was before a call, by the guard.
 #[derive(Drop)]
-struct Before {
+pub struct Before {
     /// How many objects had been made, class objects among them.
     made: u64,
     /// Those that were there.
@@ -22,11 +17,12 @@ struct Before {
 }
 
 /// Whether the object was made and is gone.
-fn is_gone(view: &View<'_>, object: ObjId) -> bool {
+pub fn is_gone(view: &View<'_>, object: ObjId) -> bool {
     object.0 < view.heap.len() && view.heap.is_gone(object)
 }
 
-fn before_call(view: &View<'_>, alloc: Global, tid: Tid) -> Result<Before, AllocError> {
+/// What there is before a call of this thread.
+pub fn before_call(view: &View<'_>, alloc: Global, tid: Tid) -> Result<Before, AllocError> {
     let made = view.heap.len();
     let mut there = Vec::new(alloc);
     for n in 0..made {
@@ -43,7 +39,7 @@ fn before_call(view: &View<'_>, alloc: Global, tid: Tid) -> Result<Before, Alloc
 }
 
 /// How long it is.
-fn length_in(view: &View<'_>, object: ObjId) -> u32 {
+pub fn length_in(view: &View<'_>, object: ObjId) -> u32 {
     u32::try_from(length_of(view, object)).unwrap_or(u32::MAX)
 }
 
@@ -133,7 +129,7 @@ fn warn(core: &mut Core, view: &View<'_>, entry: &Entry) -> Result<(), Untold> {
 
 /// Tells all that the entry says, and answers the core's name for what was handed out. Nothing comes of a call that
 /// was denied, or that found a monitor busy.
-fn tell(
+pub fn tell_entry(
     core: &mut Core,
     view: &View<'_>,
     entry: &Entry,
@@ -152,7 +148,7 @@ fn tell(
 }
 
 /// The guard's name for what was handed out.
-fn handed_out(entry: &Entry) -> Given {
+pub fn handed_out(entry: &Entry) -> Given {
     match (entry.value(), entry.call()) {
         (Some(Value::Reference(reference)), _) => Given::Reference(*reference),
         (Some(Value::Buffer(buffer)), _) => Given::Buffer(*buffer),
@@ -161,85 +157,4 @@ fn handed_out(entry: &Entry) -> Given {
         }
         _ => Given::Nothing,
     }
-}
-
-/// Whether the core has those objects as the guard has them: whether they are there, and their lengths.
-fn has_objects(core: &mut Core, view: &View<'_>) -> bool {
-    for n in u64::from(view.setup.class_count())..view.heap.len() {
-        let object = ObjId(n);
-        let length = length_in(view, object);
-        let check = Checked::Length { object, length };
-        if core.tell(Fact::Checked(check)).is_ok() == is_gone(view, object) {
-            return false;
-        }
-    }
-    true
-}
-
-/// Whether the core has the locals of these numbers as the guard has them.
-fn has_locals(core: &mut Core, view: &View<'_>, tid: Tid, numbers: u64) -> bool {
-    for n in 0..numbers {
-        let object = view.locals.get(tid, n);
-        let check = Checked::Local { tid, n, object };
-        if core.tell(Fact::Checked(check)).is_err() {
-            return false;
-        }
-    }
-    true
-}
-
-/// Whether the thread is attached in the core as in the guard, and then has the same pending and the same locals of
-/// these numbers.
-fn has_thread(core: &mut Core, view: &View<'_>, tid: Tid, numbers: u64) -> bool {
-    let object = view.threads.pending(tid);
-    let check = Checked::Pending { tid, object };
-    let is_known = core.tell(Fact::Checked(check)).is_ok();
-    match (is_known, view.threads.is_attached(tid)) {
-        (true, true) => has_locals(core, view, tid, numbers),
-        (false, false) => true,
-        _ => false,
-    }
-}
-
-/// What the core has otherwise once it is told of the entry. No local has so great a number.
-fn difference_told(
-    core: &mut Core,
-    view: &View<'_>,
-    entry: &Entry,
-    before: &mut Before,
-    numbers: u64,
-) -> Difference {
-    match tell(core, view, entry, before) {
-        Err(_) => Some("what the entry says can't be"),
-        Ok(given) if given != handed_out(entry) => Some("what is handed out is named otherwise"),
-        Ok(_) if !has_thread(core, view, entry.tid(), numbers) => {
-            Some("the thread has something otherwise")
-        }
-        Ok(_) if !has_objects(core, view) => Some("an object is otherwise"),
-        Ok(_) => None,
-    }
-}
-
-/// What the core has otherwise where it is asked about the call, the guard takes it, and the core is told what came of
-/// it.
-pub(super) fn difference_at(
-    guard: &mut Guard,
-    core: &mut Core,
-    alloc: Global,
-    (tid, env, call): (Tid, Option<EnvId>, Call),
-) -> Result<Difference, Fail> {
-    let asked = core.judge_by(tid, env, &call).map(|broken| broken.rule);
-    let mut before = before_call(&guard.view(), alloc, tid)?;
-    if guard.call(tid, env, call).is_err() {
-        return Err(Fail::from("the guard refuses a call"));
-    }
-    let count = guard.journal_len();
-    let Some(entry) = guard.journal_entry(count.saturating_sub(1)) else {
-        return Err(Fail::from("the journal has no entry"));
-    };
-    if entry.rule() != asked {
-        return Ok(Some("the call is judged otherwise"));
-    }
-    let numbers = (count as u64).saturating_add(1);
-    Ok(difference_told(core, &guard.view(), entry, &mut before, numbers))
 }

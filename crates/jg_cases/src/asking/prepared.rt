@@ -15,9 +15,6 @@ const SETUP: &str =
     "version = 1\nillegal_native_access = \"allow\"\n[[class]]\nname = \"app/Point\"\n\
     module = \"app\"\nfields = [{ name = \"x\", type = \"I\" }]\n";
 
-/// How many calls the guard's journal has at the most.
-const LIMIT: u32 = 10_000_000;
-
 pub const THREAD: Tid = Tid(1);
 
 /// The environment of the thread's first session.
@@ -55,16 +52,19 @@ pub fn pass(guard: &mut Guard, env: Option<EnvId>, call: Call) -> Option<()> {
     }
 }
 
-/// The guard.
-pub fn guard_of(alloc: Global) -> Option<Guard> {
-    let setup = Setup::read(alloc, SETUP).ok()?;
-    let mut guard = Guard::new(alloc, alloc, setup, LIMIT).ok()?;
-    pass(&mut guard, None, Call::Vm(VmCall::AttachCurrentThread))?;
+/// The setup that both are under.
+pub fn read_setup(alloc: Global) -> Option<Setup> {
+    Setup::read(alloc, SETUP).ok()
+}
+
+/// Makes a new guard's first calls.
+pub fn prepare_guard(alloc: Global, guard: &mut Guard) -> Option<()> {
+    pass(guard, None, Call::Vm(VmCall::AttachCurrentThread))?;
     let mut bytes = Vec::new(alloc);
     bytes.push(0x78).ok()?;
     let bytes = Items::new(bytes).ok()?;
     pass(
-        &mut guard,
+        guard,
         ENV,
         Call::Strings(StringsCall::NewStringUTF { bytes }),
     )?;
@@ -72,20 +72,15 @@ pub fn guard_of(alloc: Global) -> Option<Guard> {
         element: Primitive::Int,
         length: 4,
     };
-    pass(&mut guard, ENV, Call::Arrays(array))?;
+    pass(guard, ENV, Call::Arrays(array))?;
     let name = Name::new(alloc, "app/Point").ok()?;
-    pass(
-        &mut guard,
-        ENV,
-        Call::Objects(ObjectsCall::FindClass { name }),
-    )?;
+    pass(guard, ENV, Call::Objects(ObjectsCall::FindClass { name }))?;
     let class = local(3);
     pass(
-        &mut guard,
+        guard,
         ENV,
         Call::Objects(ObjectsCall::AllocObject { class }),
-    )?;
-    Some(guard)
+    )
 }
 
 /// Hands the thread a local for the object.
@@ -100,14 +95,11 @@ fn meet(core: &mut Core, class: u32, length: u32) -> Option<()> {
     hand(core, object)
 }
 
-/// The core.
-pub fn core_of(alloc: Global) -> Option<Core> {
-    let setup = Setup::read(alloc, SETUP).ok()?;
-    let mut core = Core::new(alloc, setup);
+/// Tells a new core the same.
+pub fn prepare_core(core: &mut Core) -> Option<()> {
     core.tell(Fact::Begin(THREAD)).ok()?;
-    meet(&mut core, STRING, 1)?;
-    meet(&mut core, INTS, 4)?;
-    hand(&mut core, ObjId(u64::from(POINT)))?;
-    meet(&mut core, POINT, 1)?;
-    Some(core)
+    meet(core, STRING, 1)?;
+    meet(core, INTS, 4)?;
+    hand(core, ObjId(u64::from(POINT)))?;
+    meet(core, POINT, 1)
 }

@@ -1,6 +1,6 @@
 //! Calls, judged by the core, asked about by the table and made by the guard.
 
-use crate::prepared::{ARRAY, ENV, THREAD, local, pass};
+use crate::asking::prepared::{ARRAY, ENV, THREAD, local, pass};
 use jg_buffers::Family;
 use jg_core::{Answer, Core};
 use jg_functions::place_of;

@@ -1,6 +1,6 @@
 //! Facts, each with the one that undoes it.
 
-use crate::prepared::{STRING, TEXT, THREAD};
+use crate::asking::prepared::{STRING, TEXT, THREAD};
 use jg_buffers::Family;
 use jg_core::{Core, Fact};
 use jg_words::{Kind, Ref, Tid};
