@@ -165,23 +165,17 @@ fn the_setup_is_closed_before_the_script(rt: HostRuntime) -> Result<(), Fail> {
     Ok(())
 }
 
-/// What isn't there can't be read, and neither can a folder.
+/// Opens a file, and reads its first bytes.
+fn first_bytes<F: Files>(files: &F, path: &str) -> io::Result<usize> {
+    let (mut file, _) = files.open(path)?;
+    let mut bytes = [0; 16];
+    file.read(&mut bytes)
+}
+
+/// Of the system's files, what isn't there can't be read, and neither can a folder.
 #[test]
-fn files_that_are_not_there_cannot_be_read(rt: HostRuntime) -> Result<(), Fail> {
+fn files_that_are_not_there_cannot_be_read(rt: HostRuntime) {
     for path in ["no/such/file", "/"] {
-        let (out, mut err) = (Vec::new(rt.alloc()), Vec::new(rt.alloc()));
-        let words = ["--setup", path];
-        let ended = run(
-            &rt,
-            rt.alloc(),
-            &words,
-            &rt,
-            SCRIPT.as_bytes(),
-            out,
-            &mut err,
-        );
-        assert_eq!(rt; ended, Status::Device, "{path}");
-        assert_eq!(rt; err.as_slice(), b"setup: read failed\n".as_slice());
+        assert!(rt; first_bytes(&rt, path).is_err(), "{path}");
     }
-    Ok(())
 }

@@ -1,7 +1,0 @@
-//! Words, lines, setups and the command line as their users meet them: tests of public calls.
-//! Nothing is proved here but that the tests are safe; they stand above the crates that they test,
-//! so that those are proved once.
-#![tactic(auto)]
-
-#[cfg(test)]
-mod tests;
