@@ -1,9 +1,6 @@
 //! A virtual machine of the caller's own that answers by itself, with a core in front of it.
 #![tactic(auto)]
 
-#[cfg(test)]
-mod tests;
-
 ghost use Rattle.std.specs.Prelude.{◌≡◌, List, [], ◌∷◌, Some, IfOk, OnOk, OnErr};
 ghost use Rattle.jg_words.specs.declared.call.Call.TheVariants.{Arrays, Refs};
 ghost use Rattle.jg_words.specs.declared.call.arrays.ArraysCall.TheVariants.{GetArrayLength, NewArray};

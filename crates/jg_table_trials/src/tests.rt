@@ -1,5 +1,5 @@
 //! Tests by table: growths that are refused, great sizes, and memory that follows what is there. And tests of lines,
-//! setups and the command line.
+//! setups and the command line, and a run of `jg_own_machine`.
 
 mod blocks;
 mod buffers;
@@ -10,6 +10,7 @@ mod locals;
 mod monitors;
 mod numbers;
 mod objects;
+mod own_machine;
 mod refused;
 mod threads;
 mod told;

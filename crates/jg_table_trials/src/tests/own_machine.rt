@@ -1,6 +1,8 @@
-//! A run of the machine: what it is told, and what it answers.
+//! A run of `jg_own_machine`: what it is told, and what it answers.
 
-use super::*;
+use jg_core::{Broken, Untold};
+use jg_own_machine::Machine;
+use jg_policy::Setup;
 use jg_words::Rule;
 use std::test::Fail;
 
@@ -50,8 +52,8 @@ fn goes(machine: &mut Machine) -> Result<bool, Untold> {
 fn dead_handles_are_denied(rt: HostRuntime) -> Result<(), Fail> {
     let setup = Setup::read(rt.alloc(), CLOSED)?;
     let mut machine = Machine::new(rt.alloc(), setup).ok().ok_or("machine")?;
-    assert_eq!(rt; lengths(&mut machine), Ok([Ok(4), Err(DEAD), Err(DEAD)]));
-    assert_eq!(rt; goes(&mut machine), Ok(true));
-    assert_eq!(rt; machine.new_array(-1), Ok(Err(NEGATIVE)));
+    assert!(rt; lengths(&mut machine) == Ok([Ok(4), Err(DEAD), Err(DEAD)]));
+    assert!(rt; goes(&mut machine) == Ok(true));
+    assert!(rt; machine.new_array(-1) == Ok(Err(NEGATIVE)));
     Ok(())
 }
