@@ -91,7 +91,7 @@ fn finished<L: Ledger + Send + Sync, T: Threads + Wait + Sync, G: Gate>(
 }
 
 /// Plays the script at this gate.
-fn played<T: Threads + Wait + Sync, G: Gate>(
+fn play_at<T: Threads + Wait + Sync, G: Gate>(
     rt: &T,
     alloc: Global,
     script: &str,
@@ -115,7 +115,7 @@ fn held<T: Threads + Wait + Sync>(
     holds: &[Hold],
 ) -> Result<Played, Fail> {
     let gate = Schedule::new(alloc, holds)?;
-    let played = played(rt, alloc, script, limit, 1, &gate)?;
+    let played = play_at(rt, alloc, script, limit, 1, &gate)?;
     if gate.has_given_up() {
         Err(Fail::from("the schedule gives up"))
     } else {

@@ -1,6 +1,6 @@
 //! A monitor that another thread owns: each of the turns is answered as busy.
 
-use super::played;
+use super::play_at;
 use super::schedule::{Event, Hold, Schedule};
 use std::test::Fail;
 
@@ -38,7 +38,7 @@ T1 E1.1 MonitorExit G1.2 = ok
 #[test]
 fn a_busy_monitor_is_tried_three_times(rt: HostRuntime) -> Result<(), Fail> {
     let gate = Schedule::new(rt.alloc(), &HOLDS)?;
-    let told = played(&rt, rt.alloc(), SCRIPT, 100, 3, &gate)?;
+    let told = play_at(&rt, rt.alloc(), SCRIPT, 100, 3, &gate)?;
     assert!(rt; told.journal.as_str() == TOLD && !gate.has_given_up());
     assert_eq!(rt; gate.turns(), 23);
     Ok(())

@@ -1,6 +1,6 @@
 //! Workers in threads of their own: how they meet, and many of them.
 
-use super::played;
+use super::play_at;
 use crate::tests::repeated;
 use jg_shell::{Gate, Meeting, OpenGate, Receipt};
 use jg_words::Tid;
@@ -63,7 +63,7 @@ T2 E2.1 NewString [2]
 #[test]
 fn workers_meet(rt: HostRuntime) -> Result<(), Fail> {
     let gate = Counted::new(10_000_000);
-    let met = played(&rt, rt.alloc(), SIX, 100, 3, &gate)?;
+    let met = play_at(&rt, rt.alloc(), SIX, 100, 3, &gate)?;
     assert_eq!(rt; met.journal.lines().count(), 8);
     assert_eq!(rt; (gate.early(), gate.meeting.gone_on()), (0, 0));
     Ok(())
@@ -73,7 +73,7 @@ fn workers_meet(rt: HostRuntime) -> Result<(), Fail> {
 #[test]
 fn workers_go_on_without_each_other(rt: HostRuntime) -> Result<(), Fail> {
     let gate = Counted::new(0);
-    let met = played(&rt, rt.alloc(), SIX, 100, 3, &gate)?;
+    let met = play_at(&rt, rt.alloc(), SIX, 100, 3, &gate)?;
     assert_eq!(rt; met.journal.lines().count(), 8);
     assert_eq!(rt; gate.meeting.gone_on(), WORKERS);
     Ok(())
@@ -93,7 +93,7 @@ fn a_line_each(alloc: Global) -> Result<String, AllocError> {
 fn sixty_four_workers_play_a_thousand_lines_each(rt: HostRuntime) -> Result<(), Fail> {
     let lines = a_line_each(rt.alloc())?;
     let script = repeated(rt.alloc(), &lines, 1000)?;
-    let all = played(&rt, rt.alloc(), &script, 100_000, 3, &OpenGate)?;
+    let all = play_at(&rt, rt.alloc(), &script, 100_000, 3, &OpenGate)?;
     assert_eq!(rt; all.journal.lines().count(), 64_000);
     Ok(())
 }
@@ -107,7 +107,7 @@ T2 E2.1 NewString [2]
 #[test]
 fn two_workers_agree_two_hundred_times(rt: HostRuntime) -> Result<(), Fail> {
     for time in 0..200u32 {
-        let each = played(&rt, rt.alloc(), TWO, 100, 3, &OpenGate)?;
+        let each = play_at(&rt, rt.alloc(), TWO, 100, 3, &OpenGate)?;
         assert!(rt; each.journal.lines().count() == 4, "at {time}");
     }
     Ok(())

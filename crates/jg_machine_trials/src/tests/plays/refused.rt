@@ -3,7 +3,7 @@
 
 ghost use Rattle.std.specs.Prelude.{◌≡◌, ◌≤◌};
 
-use super::{Ended, played};
+use super::{Ended, play_at};
 use jg_policy::Setup;
 use jg_row_trials::setups::CLOSED;
 use jg_script::{Scripts, Watched, read_scripts};
@@ -56,7 +56,7 @@ fn has_ended(worker: &Ended) -> bool {
 /// The receipts are the journal, also where a growth of the play is refused.
 #[test]
 fn a_play_ends_or_is_stopped_for_want_of_memory(rt: HostRuntime) -> Result<(), Fail> {
-    let told = played(&rt, rt.alloc(), SCRIPT, 100, 1, &OpenGate)?;
+    let told = play_at(&rt, rt.alloc(), SCRIPT, 100, 1, &OpenGate)?;
     assert!(rt; told.workers.len() == 2 && told.workers.iter().all(has_ended));
     Ok(())
 }
