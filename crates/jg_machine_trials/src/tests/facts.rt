@@ -44,30 +44,18 @@ fn come_and_go(core: &mut Core<&LocalHeap>, n: u64) -> Result<bool, Untold> {
     Ok(true)
 }
 
-/// Does so with this many strings; whether each could go.
-fn churn(core: &mut Core<&LocalHeap>, count: u64) -> Result<bool, Untold> {
-    core.begin(T)?;
-    for n in 0..count {
-        if !come_and_go(core, n)? {
-            return Ok(false);
-        }
+/// Does so with 100,000 strings. Whether each could go, and the last one's local is live.
+fn churn(core: &mut Core<&LocalHeap>) -> bool {
+    let begun = core.begin(T).is_ok();
+    let mut gone = true;
+    for n in 0..100_000u64 {
+        gone = gone && come_and_go(core, n) == Ok(true);
     }
-    Ok(true)
-}
-
-/// Memory follows what is live: 100,000 strings, of which ten are there at a time, fit in 5,000 bytes.
-#[test]
-fn little_memory(rt: HostRuntime) -> Result<(), Fail> {
-    let setup = Setup::read(rt.alloc(), CLOSED)?;
-    let heap = LocalHeap::new(rt.alloc(), 5000)?;
-    let mut core = Core::new(&heap, setup);
-    assert_eq!(rt; churn(&mut core, 100_000), Ok(true));
     let call = Call::Strings(StringsCall::GetStringLength {
         string: local(100_000),
     });
     let env = Some(EnvId { tid: T, session: 1 });
-    assert_eq!(rt; core.judge(T, env, &call), None);
-    Ok(())
+    begun && gone && core.judge(T, env, &call).is_none()
 }
 
 /// Facts that make something, each of another table or of another part of one.
@@ -152,21 +140,37 @@ fn goes_on<'a>(
     refused == Some(Untold::NoMemory) && core.tell(fact).is_ok()
 }
 
-/// The same with a core and a heap of its own.
-fn is_refused(alloc: Global, fact: Fact) -> Result<bool, Fail> {
+/// The same with a block of its own.
+fn is_refused<'a>(core: &mut Core<&'a LocalHeap>, heap: &'a LocalHeap, fact: Fact) -> bool {
+    let started = start(core).is_ok();
+    let mut block = ballast(heap, 10_000);
+    started && goes_on(core, &mut block, fact)
+}
+
+/// What a core of its own in the heap shows of the fact; without one, whether many strings come and go.
+fn shows(heap: &LocalHeap, alloc: Global, fact: Option<Fact>) -> Result<bool, Fail> {
     let setup = Setup::read(alloc, CLOSED)?;
-    let heap = LocalHeap::new(alloc, 10_000)?;
-    let mut core = Core::new(&heap, setup);
-    let started = start(&mut core).is_ok();
-    let mut block = ballast(&heap, 10_000);
-    Ok(started && goes_on(&mut core, &mut block, fact))
+    let mut core = Core::new(heap, setup);
+    Ok(match fact {
+        None => churn(&mut core),
+        Some(fact) => is_refused(&mut core, heap, fact),
+    })
+}
+
+/// Memory follows what is live: 100,000 strings, of which ten are there at a time, fit in 5,000 bytes.
+#[test]
+fn little_memory(rt: HostRuntime) -> Result<(), Fail> {
+    let heap = LocalHeap::new(rt.alloc(), 5000)?;
+    assert!(rt; shows(&heap, rt.alloc(), None)?);
+    Ok(())
 }
 
 /// A fact for which there is no memory is refused, and taken later.
 #[test]
 fn refused_growths(rt: HostRuntime) -> Result<(), Fail> {
     for (place, fact) in GROWTHS.iter().enumerate() {
-        assert!(rt; is_refused(rt.alloc(), *fact)?, "number {place}");
+        let heap = LocalHeap::new(rt.alloc(), 10_000)?;
+        assert!(rt; shows(&heap, rt.alloc(), Some(*fact))?, "number {place}");
     }
     Ok(())
 }
