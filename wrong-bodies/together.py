@@ -170,8 +170,9 @@ def leave_out(room, tree, paths):
             it.write(HOLE.format(crate=tree.crate.name, module=module, name=name))
 
 
-def checked(tree, texts, paths, whole):
-    """Checks these functions of the crate with these texts, and the others by their contracts, or all with `whole`.
+def checked(tree, texts, paths, whole, kept):
+    """Checks these functions of the crate with these texts, and the others by their contracts, or all with `whole`. What
+    of definitions and lemmas one check admits, the next one over the same folder `kept` needn't.
     Returns rattle's status, what it said, and where the functions stand in the texts."""
     crate = tree.crate
     with tempfile.TemporaryDirectory(prefix=f"jg-wrong-{crate.name}-") as room:
@@ -183,7 +184,7 @@ def checked(tree, texts, paths, whole):
                 it.write(text)
         if not whole:
             leave_out(room, tree, paths)
-        words = [functions.RATTLE, "check", *crate.words(["--jobs", "1"], keeps=False)]
+        words = [functions.RATTLE, "check", *crate.words(["--jobs", "1"], keeps=False), "--incremental", kept]
         if not whole:
             words += ["--allow-holes", "--short-goals", *[word for it in sorted(paths) for word in ("--only", it)]]
         how = {"stdin": subprocess.DEVNULL, "stdout": subprocess.PIPE, "stderr": subprocess.STDOUT, "errors": "replace"}
@@ -263,12 +264,13 @@ def judged_whole(ran, said):
     return (LIMIT if ran == 3 else UNSURE), lines[-1][:200]
 
 
-def attempt(tree, pack):
-    """Tries the wrong bodies of a pack, and returns for each what came of it and why."""
+def attempt(tree, pack, kept):
+    """Tries the wrong bodies of a pack, and returns for each what came of it and why. `kept` is a folder for what checks
+    of this crate admit."""
     whole = any(it.is_whole for it in pack)
     texts, _ = edits.applied([it.edit for it in pack], tree.folder())
     paths = {path for it in pack for path in it.about}
-    ran, said, spans = checked(tree, texts, paths, whole)
+    ran, said, spans = checked(tree, texts, paths, whole, kept)
     if whole:
         return {pack[0].name: judged_whole(ran, said)}, said
     return {it.name: judged(tree, it, ran, said, spans) for it in pack}, said
