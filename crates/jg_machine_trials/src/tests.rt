@@ -2,7 +2,6 @@
 
 mod facts;
 mod guard;
-mod plays;
 
 use std::alloc::{AllocError, Global};
 

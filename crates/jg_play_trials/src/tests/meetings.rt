@@ -1,7 +1,6 @@
 //! Workers in threads of their own: how they meet, and many of them.
 
 use super::play_at;
-use crate::tests::repeated;
 use jg_shell::{Gate, Meeting, OpenGate, Receipt};
 use jg_words::Tid;
 use std::alloc::{AllocError, Global};
@@ -89,10 +88,18 @@ fn a_line_each(alloc: Global) -> Result<String, AllocError> {
     Ok(text)
 }
 
+fn a_thousand_lines_each(alloc: Global) -> Result<String, AllocError> {
+    let lines = a_line_each(alloc)?;
+    let mut text = String::new(alloc);
+    for _ in 0..1000u32 {
+        text.push_str(&lines)?;
+    }
+    Ok(text)
+}
+
 #[test]
 fn sixty_four_workers_play_a_thousand_lines_each(rt: HostRuntime) -> Result<(), Fail> {
-    let lines = a_line_each(rt.alloc())?;
-    let script = repeated(rt.alloc(), &lines, 1000)?;
+    let script = a_thousand_lines_each(rt.alloc())?;
     let all = play_at(&rt, rt.alloc(), &script, 100_000, 3, &OpenGate)?;
     assert_eq!(rt; all.journal.lines().count(), 64_000);
     Ok(())

@@ -1,7 +1,7 @@
 use Rattle.std.proofs.Common.{◌≡◌, List, length, sym, ap, subst, arith}
 use Rattle.jg_shell.specs.Work.{Work, AreApart}
 use Rattle.jg_shell.proofs.Apart.{kept, EachRan, still_apart}
-use Rattle.jg_machine_trials.proofs.tests.plays.finished.Goals as goal
+use Rattle.jg_play_trials.proofs.tests.finished.Goals as goal
 
 pub finish-requires : goal.finish-requires
 finish-requires g c =
