@@ -123,6 +123,7 @@ def wrong_of(tree, file):
         of_proof = proved_by(tree, path)
         found |= changed | of_proof | tree.callers_of(with_clauses)
         is_alone |= is_outside and not of_proof
+    is_alone |= not found
     found |= {path for it in edit.by for path in tree.calls if path == it or path.endswith(f"::{it}")}
     name = os.path.basename(file)[: -len(".edit")]
     return Wrong(name, edit, found, is_alone, is_alone and not edit.by), None
@@ -238,6 +239,8 @@ def judged(tree, wrong, ran, said, spans):
     fails = [it for it in sorted(wrong.about) if re.match(r"not proved|no proof", states.get(it, ""))]
     lemmas = [it for it in told if it not in tree.calls] if wrong.is_alone and fails else []
     real = [text for it in fails + lemmas for is_taken, text in told.get(it, []) if not is_taken]
+    # a function that has no proof file, and whose goals the check no longer proves itself
+    real += [f"{it}: {states[it]}" for it in fails if "`search` did not prove" in states[it]]
     if real:
         return REFUSED, real[0][:200]
     if fails:
