@@ -40,7 +40,7 @@ def by_case(file, name, texts):
     said = said_of(os.path.basename(edits.CASES), texts, ["--data", f"{file}=data/{file}", "--", file])
     if not re.search(r"^\d+ cases, ", said, re.M):
         return UNSURE, f"{file} was not tried to its end: {said[-300:]}"
-    others = [it for it in said.split("\n") if it.startswith(f"{file}: {name}")]
+    others = re.findall(rf"^{re.escape(file)}: line \d+: {re.escape(name)}.*$", said, re.M)
     return (FAILED, others[0][:200]) if others else (PASSED, f"{name} comes out as it states")
 
 
