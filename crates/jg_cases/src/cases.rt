@@ -1,11 +1,13 @@
 //! Files of cases: each case is tried, and what comes out otherwise is told.
 
+use crate::ends::other_own;
 use crate::headings::{Heading, Kind};
 use crate::journals::try_journal;
 use crate::parts::Case;
 use crate::reading::{Cases, FileFault, read_cases};
 use crate::runs::other_run;
 use crate::tables::{Came, Place, try_table};
+use jg_program::Files;
 use std::alloc::{AllocError, Global};
 use std::collections::HashSet;
 use std::io;
@@ -50,7 +52,11 @@ impl Tally {
 }
 
 /// What comes of the case.
-fn try_case<T: Threads + Wait + Sync>(rt: &T, alloc: Global, case: Case<'_>) -> io::Result<Came> {
+fn try_case<T: Threads + Wait + Sync + Files>(
+    rt: &T,
+    alloc: Global,
+    case: Case<'_>,
+) -> io::Result<Came> {
     match case.kind() {
         Kind::Run => Ok(Came::of(other_run(rt, alloc, case)?)),
         Kind::Table => {
@@ -60,6 +66,10 @@ fn try_case<T: Threads + Wait + Sync>(rt: &T, alloc: Global, case: Case<'_>) -> 
         Kind::Journal => {
             let text = case.text(Heading::Journal).unwrap_or("");
             try_journal(rt, alloc, case, text)
+        }
+        Kind::Own => {
+            let text = case.text(Heading::Own).unwrap_or("");
+            Ok(Came::of(other_own(rt, alloc, text)?))
         }
     }
 }
@@ -111,7 +121,7 @@ fn note_names(
 }
 
 /// Tries the cases of a file.
-fn try_cases<T: Threads + Wait + Sync>(
+fn try_cases<T: Threads + Wait + Sync + Files>(
     rt: &T,
     alloc: Global,
     path: &str,
@@ -130,7 +140,7 @@ fn try_cases<T: Threads + Wait + Sync>(
 }
 
 /// Tries the cases of a file, if none has a name that stood before.
-fn try_named<T: Threads + Wait + Sync>(
+fn try_named<T: Threads + Wait + Sync + Files>(
     rt: &T,
     alloc: Global,
     path: &str,
@@ -150,7 +160,7 @@ fn try_named<T: Threads + Wait + Sync>(
 
 /// Tries the cases of a file of these bytes, and writes to `out` what is to be told of it. `names` has the names of all
 /// cases before.
-pub fn try_file<T: Threads + Wait + Sync>(
+pub fn try_file<T: Threads + Wait + Sync + Files>(
     rt: &T,
     alloc: Global,
     path: &str,

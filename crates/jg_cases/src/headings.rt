@@ -33,6 +33,7 @@ pub enum Heading {
     Journal,
     Migrated,
     EachByte,
+    Own,
 }
 
 /// What the text of a part may be.
@@ -52,6 +53,8 @@ pub enum Form {
     Behind,
     /// Rows of a table.
     Rows,
+    /// What is tried of the program by itself.
+    Own,
 }
 
 /// The kinds of cases.
@@ -63,10 +66,12 @@ pub enum Kind {
     Table,
     /// A journal is answered, read back, altered, cut and told as a record.
     Journal,
+    /// Something is tried that no run shows.
+    Own,
 }
 
 /// Headings that are written so.
-const PLAIN: [(&str, Heading); 26] = [
+const PLAIN: [(&str, Heading); 27] = [
     ("words", Heading::Words),
     ("in", Heading::Input),
     ("reads", Heading::Reads),
@@ -93,6 +98,7 @@ const PLAIN: [(&str, Heading); 26] = [
     ("journal", Heading::Journal),
     ("migrated", Heading::Migrated),
     ("each byte", Heading::EachByte),
+    ("own", Heading::Own),
 ];
 
 /// Headings that begin so, and go on with a name.
@@ -149,6 +155,7 @@ impl Heading {
             Heading::Status => Form::Status,
             Heading::Then => Form::Behind,
             Heading::Rows => Form::Rows,
+            Heading::Own => Form::Own,
             _ => Form::Text,
         }
     }
@@ -163,6 +170,7 @@ impl Heading {
                     | Heading::Journal
                     | Heading::Migrated
                     | Heading::EachByte
+                    | Heading::Own
             ),
             Kind::Table => matches!(
                 self,
@@ -179,6 +187,7 @@ impl Heading {
                 self,
                 Heading::File | Heading::Journal | Heading::Migrated | Heading::EachByte
             ),
+            Kind::Own => self.is_same(Heading::Own),
         }
     }
 }

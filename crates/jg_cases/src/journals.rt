@@ -1,7 +1,6 @@
 //! Journals: their scripts are answered by them, they are read back as legal, altered they are not, their records are
 //! answered alike, and a core beside a guard judges their calls alike.
 
-use crate::beside::other_beside;
 use crate::devices::{Passes, Taking};
 use crate::headings::Heading;
 use crate::parts::{Case, Part, find_part};
@@ -9,6 +8,7 @@ use crate::runs::{
     Difference, Ended, Given, LEGAL, feeds, first_of, give, is_whole, other_end, run_with,
 };
 use crate::tables::Came;
+use jg_beside::other_beside;
 use std::alloc::{AllocError, Global};
 use std::io;
 use std::sync::Wait;
@@ -430,7 +430,10 @@ fn other_core(alloc: Global, row: Row<'_>) -> Result<Came, AllocError> {
         Some(file) => str::from_utf8(file.bytes).unwrap_or(""),
         None => CLOSED,
     };
-    other_beside(alloc, setup, row.text)
+    Ok(match other_beside(alloc, setup, row.text)? {
+        Some(other) => Came::in_line(other.what, other.line),
+        None => Came::of(None),
+    })
 }
 
 /// What isn't so of the journal.

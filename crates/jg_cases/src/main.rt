@@ -4,20 +4,19 @@
 //! Its words are the paths of the files. Before them `ask WHAT COUNT LIVE` may stand: what `bench/core` times.
 #![tactic(auto)]
 
-mod asking;
-mod beside;
 mod cases;
 mod devices;
+mod ends;
 mod headings;
 mod journals;
 mod parts;
 mod reading;
 mod runs;
 mod tables;
-mod telling;
 
-use crate::asking::ask;
 use crate::cases::{Tally, try_file};
+use jg_beside::ask;
+use jg_program::Files;
 use std::collections::HashSet;
 use std::process::ExitCode;
 use std::sync::Wait;
@@ -25,7 +24,7 @@ use std::thread::Threads;
 use std::{env, fs, io};
 
 /// Tries the cases of the file at this path, and tells what comes out otherwise.
-fn try_path<T: Threads + Wait + Sync>(
+fn try_path<T: Threads + Wait + Sync + Files>(
     rt: &HostRuntime,
     threads: &T,
     path: &str,
@@ -43,7 +42,7 @@ fn try_path<T: Threads + Wait + Sync>(
 
 /// Tries the cases of each file at these paths, and tells how many there were. Answers whether all came out as they
 /// state.
-fn try_paths<T: Threads + Wait + Sync>(
+fn try_paths<T: Threads + Wait + Sync + Files>(
     rt: &HostRuntime,
     threads: &T,
     paths: &[String],
@@ -60,7 +59,7 @@ fn try_paths<T: Threads + Wait + Sync>(
 
 /// Does what the words behind `ask` say, and answers whether it was done. Then tries the cases at the paths behind
 /// them, if there are any.
-fn ask_and_try<T: Threads + Wait + Sync>(
+fn ask_and_try<T: Threads + Wait + Sync + Files>(
     rt: &HostRuntime,
     threads: &T,
     words: &[String],
@@ -76,7 +75,7 @@ fn ask_and_try<T: Threads + Wait + Sync>(
 }
 
 /// Does what the words say, and answers whether all was well.
-fn start<T: Threads + Wait + Sync>(rt: &HostRuntime, threads: &T) -> io::Result<bool> {
+fn start<T: Threads + Wait + Sync + Files>(rt: &HostRuntime, threads: &T) -> io::Result<bool> {
     let words = env::args(rt)?.skip(1).collect::<Vec<String>>(rt.alloc())?;
     match words.as_slice() {
         [first, rest @ ..] if first.as_str() == "ask" => ask_and_try(rt, threads, rest),

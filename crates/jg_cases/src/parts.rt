@@ -75,6 +75,8 @@ impl<'a> Case<'a> {
             Kind::Table
         } else if self.has(Heading::Journal) {
             Kind::Journal
+        } else if self.has(Heading::Own) {
+            Kind::Own
         } else {
             Kind::Run
         }

@@ -1,6 +1,7 @@
 //! A file of cases is read: each case with its parts, or the first line that refuses it.
 
 use crate::devices::Behind;
+use crate::ends::Own;
 use crate::headings::{Form, Heading, Kind};
 use crate::parts::{Case, Part, find_part};
 use std::alloc::{AllocError, Global};
@@ -148,6 +149,10 @@ fn values_in(line: usize, form: Form, bytes: &[u8]) -> Result<(&str, usize), Fil
         Form::Behind => match Behind::read(text_in(line, bytes)?) {
             Some(_) => Ok((text_in(line, bytes)?, 0)),
             None => refused(line, "nothing that a file can do"),
+        },
+        Form::Own => match Own::read(text_in(line, bytes)?) {
+            Some(_) => Ok((text_in(line, bytes)?, 0)),
+            None => refused(line, "nothing that is tried by itself"),
         },
         Form::Rows if bytes.starts_with(b"> ".as_slice()) => Ok(("", 0)),
         Form::Rows => refused(line, "a table that begins with no row"),

@@ -34,11 +34,11 @@ impl Came {
         }
     }
 
-    /// What came of a journal, which isn't as it states behind so many lines.
-    pub fn behind_lines(difference: Difference, lines: usize) -> Came {
+    /// What came of a journal, of which this isn't so in that line.
+    pub fn in_line(what: &'static str, line: u64) -> Came {
         Came {
-            difference,
-            place: Place::Line((lines as u64).saturating_add(1)),
+            difference: Some(what),
+            place: Place::Line(line),
             rows: 1,
         }
     }

@@ -1,13 +1,37 @@
-//! Ends of the program that no case can have: each way to stop, a file that notes when it is closed, and files of the
-//! system.
+//! What no run of a case shows of the program: each way to stop, when a setup's file is closed, and files of the system.
 
+use crate::devices::{Sink, SinkWriter, Taking};
+use crate::runs::{Difference, Ended, other_end};
 use jg_policy::SetupFault;
 use jg_program::{Files, ProgramStop, Status, run, tell};
 use jg_script::RunFault;
+use jg_shell::Stop;
+use std::alloc::Global;
 use std::cell::Cell;
 use std::io;
-use std::io::{BufReader, BufWriter, ErrorKind, Read};
-use std::test::Fail;
+use std::io::{BufReader, ErrorKind, Read};
+use std::sync::Wait;
+use std::thread::Threads;
+
+/// What a case may try of the program by itself.
+#[derive(Drop)]
+pub enum Own {
+    Stops,
+    Closing,
+    SystemFiles,
+}
+
+impl Own {
+    /// What is written so.
+    pub fn read(text: &str) -> Option<Own> {
+        match text {
+            "stops" => Some(Own::Stops),
+            "closing" => Some(Own::Closing),
+            "system files" => Some(Own::SystemFiles),
+            _ => None,
+        }
+    }
+}
 
 /// Ways to end before the work is done, each with its status and its text.
 const STOPS: [(ProgramStop, Status, &str); 13] = [
@@ -62,24 +86,29 @@ const STOPS: [(ProgramStop, Status, &str); 13] = [
         "differs at T1 place 3\n",
     ),
     (
-        ProgramStop::Worker(jg_shell::Stop::Limit),
+        ProgramStop::Worker(Stop::Limit),
         Status::Exhausted,
         "limit\n",
     ),
     (
-        ProgramStop::Worker(jg_shell::Stop::NoMemory),
+        ProgramStop::Worker(Stop::NoMemory),
         Status::Exhausted,
         "no memory\n",
     ),
 ];
 
-#[test]
-fn each_stop_is_told(rt: HostRuntime) {
+/// What isn't so of the ways to stop.
+fn other_stop(alloc: Global) -> Difference {
     for (stop, status, text) in STOPS {
-        let mut err = Vec::new(rt.alloc());
-        assert_eq!(rt; tell(stop, &mut err), status, "at {text}");
-        assert_eq!(rt; err.as_slice(), text.as_bytes());
+        let mut err = Vec::new(alloc);
+        if tell(stop, &mut err) as u8 != status as u8 {
+            return Some("a way to stop has another status");
+        }
+        if err.as_slice() != text.as_bytes() {
+            return Some("a way to stop has another text");
+        }
     }
+    None
 }
 
 const CLOSED: &str = "version = 1\nillegal_native_access = \"deny\"\n";
@@ -93,7 +122,7 @@ T1 E1.1 FindClass app/Main = throw java/lang/NoClassDefFoundError
 ";
 
 /// A setup's file, which notes when it is closed.
-#[derive(Clone, Copy)]
+#[derive(Drop)]
 struct Noting<'a> {
     closed: &'a Cell<bool>,
 }
@@ -130,7 +159,7 @@ impl<'a> Files for Noting<'a> {
 }
 
 /// A reader that can be read once the setup's file is closed, and fails before.
-#[derive(Clone, Copy)]
+#[derive(Drop)]
 struct AfterClosing<'a> {
     bytes: &'a [u8],
     closed: &'a Cell<bool>,
@@ -146,23 +175,24 @@ impl Read for AfterClosing<'_> {
     }
 }
 
-/// The setup's file is closed before the script's first byte: its number could be that of a standard input that
-/// was closed.
-#[test]
-fn the_setup_is_closed_before_the_script(rt: HostRuntime) -> Result<(), Fail> {
+/// What isn't so where the setup's file is closed before the script's first byte: its number could be that of a
+/// standard input that was closed.
+fn other_closing<T: Threads + Wait + Sync>(rt: &T, alloc: Global) -> io::Result<Difference> {
     let closed = Cell::new(false);
     let noting = Noting { closed: &closed };
     let bytes = SCRIPT.as_bytes();
     let closed = &closed;
-    let reader = BufReader::new(rt.alloc(), AfterClosing { bytes, closed })?;
+    let reader = BufReader::new(alloc, AfterClosing { bytes, closed })?;
     let words = ["--setup", "app.toml"];
-    let (mut out, mut err) = (Vec::new(rt.alloc()), Vec::new(rt.alloc()));
-    let writer = BufWriter::new(rt.alloc(), &mut out)?;
-    let ended = run(&rt, rt.alloc(), &words, &noting, reader, writer, &mut err);
-    assert_eq!(rt; ended, Status::Done);
-    assert_eq!(rt; out.as_slice(), NOT_FOUND.as_bytes());
-    assert!(rt; err.is_empty());
-    Ok(())
+    let (mut out, mut err) = (Sink::new(alloc, Taking::ALL), Vec::new(alloc));
+    let writer = SinkWriter { sink: &mut out };
+    let status = run(rt, alloc, &words, &noting, reader, writer, &mut err);
+    let ended = Ended {
+        status: status as u8,
+        out: out.bytes,
+        err,
+    };
+    Ok(other_end(&ended, 0, Some(NOT_FOUND.as_bytes()), Some(b"")))
 }
 
 /// Opens a file, and reads its first bytes.
@@ -172,10 +202,26 @@ fn first_bytes<F: Files>(files: &F, path: &str) -> io::Result<usize> {
     file.read(&mut bytes)
 }
 
-/// Of the system's files, what isn't there can't be read, and neither can a folder.
-#[test]
-fn files_that_are_not_there_cannot_be_read(rt: HostRuntime) {
+/// What isn't so of the system's files: what isn't there can't be read, and neither can a folder.
+fn other_file<F: Files>(files: &F) -> Difference {
     for path in ["no/such/file", "/"] {
-        assert!(rt; first_bytes(&rt, path).is_err(), "{path}");
+        if first_bytes(files, path).is_ok() {
+            return Some("what is no file is read");
+        }
+    }
+    None
+}
+
+/// What isn't so of what the text says to try.
+pub fn other_own<T: Threads + Wait + Sync + Files>(
+    rt: &T,
+    alloc: Global,
+    text: &str,
+) -> io::Result<Difference> {
+    match Own::read(text) {
+        Some(Own::Stops) => Ok(other_stop(alloc)),
+        Some(Own::Closing) => other_closing(rt, alloc),
+        Some(Own::SystemFiles) => Ok(other_file(rt)),
+        None => Ok(Some("nothing of that name is tried")),
     }
 }

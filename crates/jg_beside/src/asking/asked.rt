@@ -13,7 +13,7 @@ use jg_words::{
 use std::alloc::Global;
 
 /// Which call.
-#[derive(Clone, Copy)]
+#[derive(Drop)]
 pub enum Kind {
     Length,
     Local,
@@ -36,7 +36,7 @@ impl Kind {
     }
 }
 
-fn call_of(kind: Kind) -> Call {
+fn call_of(kind: &Kind) -> Call {
     match kind {
         Kind::Length => Call::Strings(StringsCall::GetStringLength { string: local(1) }),
         Kind::Local => Call::Refs(RefsCall::NewLocalRef { of: local(1) }),
@@ -73,7 +73,7 @@ fn ask(core: &Core, call: &Call, count: u64) -> Option<()> {
 }
 
 /// Asks about calls of that kind so many times; of a critical pair about both. None is denied.
-pub fn judged(core: &mut Core, kind: Kind, count: u64) -> Option<()> {
+pub fn judged(core: &mut Core, kind: &Kind, count: u64) -> Option<()> {
     ask(core, &call_of(kind), count)?;
     if let Kind::Critical = kind {
         let buffer = core
@@ -103,7 +103,7 @@ fn ask_for(core: &Core, name: &str, arguments: &[Argument], count: u64) -> Optio
 }
 
 /// Asks by the table for calls of that kind so many times; of a critical pair for both. None is denied.
-pub fn asked(core: &mut Core, kind: Kind, count: u64) -> Option<()> {
+pub fn asked(core: &mut Core, kind: &Kind, count: u64) -> Option<()> {
     let first = Argument::Reference(local(1));
     let array = Argument::Reference(local(2));
     let point = Argument::Reference(local(4));
@@ -126,27 +126,16 @@ pub fn asked(core: &mut Core, kind: Kind, count: u64) -> Option<()> {
     }
 }
 
-/// A question as it comes of native code: nothing of it is known beforehand.
-#[derive(Clone, Copy)]
-struct Question {
-    tid: Tid,
-    env: Option<EnvId>,
-    function: u16,
-    argument: Argument,
-}
+/// A question as it comes of native code, of which nothing is known beforehand: who asks, and a function by its place
+/// with its operand.
+type Question = (Tid, Option<EnvId>, u16, Argument);
 
 /// Asks the questions so many times over, and keeps the tickets of a round.
 fn ask_rounds(alloc: Global, core: &Core, questions: &[Question], rounds: u64) -> Option<()> {
     let mut tickets = Vec::new(alloc);
     for _ in 0..rounds {
         tickets.clear();
-        for question in questions {
-            let &Question {
-                tid,
-                env,
-                function,
-                argument,
-            } = question;
+        for &(tid, env, function, argument) in questions {
             let Answer::Passed(ticket) = core.ask(UNBOUNDED, tid, env, function, &[argument]) else {
                 return None;
             };
@@ -161,19 +150,14 @@ pub fn asked_from_outside(alloc: Global, core: &mut Core, count: u64) -> Option<
     let function = place_of("GetStringLength".as_bytes())?;
     let mut questions = Vec::new(alloc);
     for _ in 0..2 {
-        let question = Question {
-            tid: THREAD,
-            env: ENV,
-            function,
-            argument: Argument::Reference(local(1)),
-        };
-        questions.push(question).ok()?;
+        let first = Argument::Reference(local(1));
+        questions.push((THREAD, ENV, function, first)).ok()?;
     }
     ask_rounds(alloc, core, questions.as_slice(), count / 2)
 }
 
 /// Makes calls of that kind so many times. None is denied.
-pub fn called(guard: &mut Guard, kind: Kind, count: u64) -> Option<()> {
+pub fn called(guard: &mut Guard, kind: &Kind, count: u64) -> Option<()> {
     for n in 0..count {
         pass(guard, ENV, call_of(kind))?;
         if let Kind::Critical = kind {

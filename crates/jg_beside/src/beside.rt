@@ -1,8 +1,6 @@
 //! A core stands beside a guard. It is asked about each call of a journal before the guard makes it, and is told what
 //! came of it: it must judge as the guard does, name what is handed out as the guard does, and have what the guard has.
 
-use crate::runs::Difference;
-use crate::tables::Came;
 use crate::telling::{Before, before_call, handed_out, is_gone, length_in, tell_entry};
 use jg_core::{Checked, Core, Fact};
 use jg_guard::Guard;
@@ -11,6 +9,16 @@ use jg_rules::View;
 use jg_text::read_begun;
 use jg_words::{Call, Entry, EnvId, ObjId, Tid};
 use std::alloc::{AllocError, Global};
+
+/// What isn't so of a core beside a guard, if anything.
+type Difference = Option<&'static str>;
+
+/// What isn't so of a core beside a guard, and in which line of the journal, from 1.
+#[derive(Clone, Copy)]
+pub struct Other {
+    pub what: &'static str,
+    pub line: u64,
+}
 
 /// Whether the core has the objects as the guard has them: whether they are there, and their lengths.
 fn has_objects(core: &mut Core, view: &View<'_>) -> bool {
@@ -94,23 +102,24 @@ fn other_call(
     Ok(other_told(core, &guard.view(), entry, &mut before, numbers))
 }
 
-/// What isn't so of the journal's calls, and in which line.
+/// What isn't so of the journal's calls.
 fn other_calls(
     guard: &mut Guard,
     core: &mut Core,
     alloc: Global,
     journal: &str,
-) -> Result<Came, AllocError> {
+) -> Result<Option<Other>, AllocError> {
     for (place, line) in journal.lines().enumerate() {
         let difference = match read_begun(alloc, line.as_bytes())? {
             Some(call) => other_call(guard, core, alloc, call)?,
             None => Some("a line has no call"),
         };
-        if difference.is_some() {
-            return Ok(Came::behind_lines(difference, place));
+        if let Some(what) = difference {
+            let line = (place as u64).saturating_add(1);
+            return Ok(Some(Other { what, line }));
         }
     }
-    Ok(Came::of(None))
+    Ok(None)
 }
 
 /// A core under the setup of this text.
@@ -123,13 +132,23 @@ fn guard_under(alloc: Global, setup: &str) -> Option<Guard> {
     Guard::new(alloc, alloc, Setup::read(alloc, setup).ok()?, u32::MAX).ok()
 }
 
-/// What isn't so of the journal's calls where a core stands beside a guard, both under the setup of this text.
-pub fn other_beside(alloc: Global, setup: &str, journal: &str) -> Result<Came, AllocError> {
+/// What isn't so, at first.
+fn other_setup(what: &'static str) -> Result<Option<Other>, AllocError> {
+    Ok(Some(Other { what, line: 1 }))
+}
+
+/// What isn't so of the journal's calls where a core stands beside a guard, both under the setup of this text. It is
+/// an error where memory ran out.
+pub fn other_beside(
+    alloc: Global,
+    setup: &str,
+    journal: &str,
+) -> Result<Option<Other>, AllocError> {
     let Some(mut core) = core_under(alloc, setup) else {
-        return Ok(Came::of(Some("a core can't be under its setup")));
+        return other_setup("a core can't be under its setup");
     };
     let Some(mut guard) = guard_under(alloc, setup) else {
-        return Ok(Came::of(Some("a guard can't be under its setup")));
+        return other_setup("a guard can't be under its setup");
     };
     other_calls(&mut guard, &mut core, alloc, journal)
 }

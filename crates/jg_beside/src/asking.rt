@@ -19,16 +19,16 @@ fn call(alloc: Global, kind: &str, count: u64) -> Option<()> {
     let kind = Kind::named(kind)?;
     let mut guard = Guard::new(alloc, alloc, read_setup(alloc)?, LIMIT).ok()?;
     prepare_guard(alloc, &mut guard)?;
-    called(&mut guard, kind, count)
+    called(&mut guard, &kind, count)
 }
 
 /// Asks the core or tells it so many times what is named so.
 fn use_core(alloc: Global, core: &mut Core, mode: &str, kind: &str, count: u64) -> Option<()> {
     match mode {
-        "judge" => judged(core, Kind::named(kind)?, count),
-        "ask" => asked(core, Kind::named(kind)?, count),
+        "judge" => judged(core, &Kind::named(kind)?, count),
+        "ask" => asked(core, &Kind::named(kind)?, count),
         "outside" => asked_from_outside(alloc, core, count),
-        "tell" => pairs(core, Pair::named(kind)?, count),
+        "tell" => pairs(core, &Pair::named(kind)?, count),
         "gone" => let_go(alloc, core, count),
         "strings" => strings(alloc, core, count),
         "sessions" => sessions(core, count),

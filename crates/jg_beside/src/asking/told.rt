@@ -7,7 +7,7 @@ use jg_words::{Kind, Ref, Tid};
 use std::alloc::Global;
 
 /// Which two facts.
-#[derive(Clone, Copy)]
+#[derive(Drop)]
 pub enum Pair {
     /// A local is handed, and lost.
     Local,
@@ -51,7 +51,7 @@ fn told_both(core: &mut Core, fact: Fact, undoing: Fact) -> Option<()> {
     told(core, undoing)
 }
 
-fn tell_both(core: &mut Core, pair: Pair) -> Option<()> {
+fn tell_both(core: &mut Core, pair: &Pair) -> Option<()> {
     let (tid, object, kept) = (THREAD, TEXT, None);
     match pair {
         Pair::Local => handed(core, Kind::Local),
@@ -72,7 +72,7 @@ fn tell_both(core: &mut Core, pair: Pair) -> Option<()> {
 }
 
 /// Tells the two facts so many times.
-pub fn pairs(core: &mut Core, of: Pair, count: u64) -> Option<()> {
+pub fn pairs(core: &mut Core, of: &Pair, count: u64) -> Option<()> {
     for _ in 0..count {
         tell_both(core, of)?;
     }
