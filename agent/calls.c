@@ -326,11 +326,22 @@ void call_utf(struct call *call, const char *text) {
     call_operand(call, jg_list(strlen(text), is_modified_utf8(text)));
 }
 
-void call_items(struct call *call, const void *items, int32_t count, char letter) {
-    const unsigned char *booleans = items;
+void call_items(struct call *call, int32_t count) {
+    call_operand(call, jg_list(count > 0 ? (uint64_t)count : 0, 1));
+}
+
+/* Whether the region is within the array of booleans that is the first operand: only then does the machine read it. */
+static int is_within(const struct call *call, int32_t start, int32_t count) {
+    const struct object *array = call->first.object;
+    return array != NULL && array->class != NULL && array->class->shape == 'Z' && start >= 0 && count > 0 &&
+           (int64_t)start + count <= array->length;
+}
+
+void call_booleans(struct call *call, int32_t start, const jboolean *items, int32_t count) {
     int fits = 1;
-    for (int32_t at = 0; letter == 'Z' && booleans != NULL && at < count && fits; at++) {
-        fits = booleans[at] <= 1;
+    int32_t read = items != NULL && is_within(call, start, count) ? count : 0;
+    for (int32_t at = 0; at < read && fits; at++) {
+        fits = items[at] <= 1;
     }
     call_operand(call, jg_list(count > 0 ? (uint64_t)count : 0, fits));
 }

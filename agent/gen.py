@@ -119,7 +119,7 @@ class Wrapper:
     def __init__(self, function, row, is_newer):
         self.function, self.row, self.is_newer = function, row, is_newer
         self.rest = list(function.parameters)
-        self.lines, self.id, self.list_form = [], None, False
+        self.lines, self.id, self.start, self.list_form = [], None, None, False
 
     def next(self):
         """The next parameter that is an operand: `isCopy` and room for an answer are none."""
@@ -127,10 +127,13 @@ class Wrapper:
         return self.next() if name == 'isCopy' or kind == 'void*' and name == 'address' else (kind, name)
 
     def items(self, letter):
-        """A list has two parameters, an array and its length, in either order."""
+        """A list has two parameters, an array and its length, in either order. Any bits are an item, but of booleans."""
         one, other = self.next(), self.next()
         array, count = (one, other) if '*' in one[0] else (other, one)
-        self.lines.append(f"call_items(&call, {array[1]}, {count[1]}, '{letter}');")
+        if letter == 'Z':
+            self.lines.append(f'call_booleans(&call, {self.start}, {array[1]}, {count[1]});')
+        else:
+            self.lines.append(f'call_items(&call, {count[1]});')
 
     def reference(self, word):
         _, name = self.next()
@@ -169,7 +172,8 @@ class Wrapper:
         elif word in ('Capacity', 'Length', 'Count', 'Mode'):
             self.lines.append(f'call_number(&call, {self.next()[1]});')
         elif word == 'Number':
-            self.lines.append(f'call_any(&call, {self.next()[1]});')
+            self.start = self.next()[1]
+            self.lines.append(f'call_any(&call, {self.start});')
         elif word == 'Value':
             kind, name = self.next()
             self.lines.append(f'call_item(&call, {value_of(kind, name)});')

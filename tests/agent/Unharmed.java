@@ -1,0 +1,20 @@
+/** Programs whose doings are the same with the agent and without it: what isn't is told as WRONG. */
+public class Unharmed {
+    static native void beyond(boolean[] four);
+
+    static void run(String name) {
+        switch (name) {
+            case "beyond" -> beyond(new boolean[4]);
+            default -> System.err.println("WRONG: there is no " + name);
+        }
+    }
+
+    public static void main(String[] names) {
+        System.loadLibrary("unharmed");
+        for (String name : names) {
+            System.err.println("== " + name);
+            run(name);
+        }
+        System.err.println("== end");
+    }
+}
