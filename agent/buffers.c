@@ -352,25 +352,22 @@ static int is_fitting(const struct call *call, char shape) {
            (is_of_string(call->row->detail) ? object->class->shape == 's' : object->class->shape == shape);
 }
 
-void *buffers_lend(struct call *call, void *memory, jboolean *is_copy) {
+static void *lend(struct call *call, void *memory, jboolean *is_copy) {
     struct object *of = call->first.object;
     uint32_t family = call->row->detail;
     jg_value given = jg_nothing();
     if (memory == NULL) {
         call->thread->is_unsure = 1;
         call_says(call, jg_null(), NULL, &given);
-        call_drops(call);
         return NULL;
     }
     char shape = of ? shape_of(family, of) : 'B';
     if (!call->is_asked || of == NULL || !is_fitting(call, shape)) {
-        call_drops(call);
         return lend_plain(call, memory);
     }
     uint32_t count = family == JG_UTF ? (uint32_t)strlen(memory) : of->length;
     call_says(call, jg_items(count), of, &given);
     if (given.kind != JG_BUFFER) {
-        call_drops(call);
         return lend_plain(call, memory);
     }
     struct lent *lent = shared_of(call, memory);
@@ -385,8 +382,16 @@ void *buffers_lend(struct call *call, void *memory, jboolean *is_copy) {
     if (is_copy != NULL) {
         *is_copy = JNI_TRUE;
     }
-    call_drops(call);
     return lent->at;
+}
+
+void *buffers_lend(struct call *call, void *memory, jboolean *is_copy) {
+    struct kept kept;
+    keep(&kept);
+    void *lent = lend(call, memory, is_copy);
+    call_drops(call);
+    restore(&kept);
+    return lent;
 }
 
 /* ---- giving back ---- */
@@ -559,10 +564,18 @@ static int give_judged(struct given_back *given) {
 
 int buffers_give(struct given_back *given, struct call *call, JNIEnv *env, jobject object, const void *memory,
                  jint mode) {
+    struct kept kept;
+    if (call != NULL) {
+        kept = call->caller;
+    } else {
+        keep(&kept);
+    }
     *given = (struct given_back){.lent = memory ? find(memory) : NULL, .call = call, .mode = mode, .env = env};
     given->object = object;
     given->memory = (void *)(uintptr_t)memory;
-    return call ? give_judged(given) : give_unjudged(given);
+    int is_made = call ? give_judged(given) : give_unjudged(given);
+    restore(&kept);
+    return is_made;
 }
 
 /* ---- what was given back ---- */
@@ -626,11 +639,11 @@ static struct lent *take_oldest(size_t most) {
     return taken;
 }
 
-void buffers_gave(struct given_back *given) {
-    struct lent *lent = given->lent, *old;
-    if (lent != NULL && lent->is_plain) {
+static void let_go_of(struct lent *lent) {
+    struct lent *old;
+    if (lent->is_plain) {
         forget(lent);
-    } else if (lent != NULL && lent->is_given && !lent->is_held) {
+    } else if (lent->is_given && !lent->is_held) {
         if (!quarantine_takes(lent->bytes)) {
             forget(lent);
         } else {
@@ -641,9 +654,18 @@ void buffers_gave(struct given_back *given) {
             let_go(old);
         }
     }
+}
+
+void buffers_gave(struct given_back *given) {
+    struct kept kept;
+    keep(&kept);
+    if (given->lent != NULL) {
+        let_go_of(given->lent);
+    }
     if (given->call != NULL) {
         call_drops(given->call);
     }
+    restore(&kept);
 }
 
 void buffers_places(const struct lent *lent, const struct site **made, uint32_t *made_by, const struct site **given) {

@@ -22,6 +22,7 @@ static jg_value never_made(const struct call *call) {
 
 void call_opens(struct call *call, uint32_t function, struct thread *thread, const struct site *site) {
     memset(call, 0, offsetof(struct call, operands));
+    keep(&call->caller);
     call->thread = thread;
     call->site = site;
     call->function = function;
@@ -40,7 +41,7 @@ void call_opens(struct call *call, uint32_t function, struct thread *thread, con
     call->reason = call->notice = call->notice_text = NULL;
 }
 
-int call_begins(struct call *call, uint32_t function, JNIEnv *env, uintptr_t at, uintptr_t frame) {
+static int begins(struct call *call, uint32_t function, JNIEnv *env, uintptr_t at, uintptr_t frame) {
     struct thread *thread = threads_self();
     const struct site *site = sites_caller(thread, at, frame);
     if (!site->is_judged || !is_live || !threads_is_numbered(thread)) {
@@ -58,6 +59,18 @@ int call_begins(struct call *call, uint32_t function, JNIEnv *env, uintptr_t at,
         call->env_name = threads_env_name(thread, env);
     }
     return 1;
+}
+
+int call_begins(struct call *call, uint32_t function, JNIEnv *env, uintptr_t at, uintptr_t frame) {
+    struct kept kept;
+    keep(&kept);
+    int is_judged = begins(call, function, env, at, frame);
+    if (is_judged) {
+        call->caller = kept;
+    } else {
+        restore(&kept);
+    }
+    return is_judged;
 }
 
 void call_operand_of(struct call *call, jg_value operand, jobject handle) {
@@ -173,11 +186,14 @@ static void adopt(struct call *call, struct reference *it, jobjectRefType kind) 
 
 void call_sees_global(jobject handle) {
     struct name before, seen = {.handle = address_of(handle), .state = NAME_SEEN, .made_by = MADE_UNSEEN};
+    struct kept kept;
+    keep(&kept);
     if (handle != NULL && is_live && names_put(&seen, &before)) {
         core_lock();
         core_tell(jg_fact_of(JG_LOST, 0, before.name, jg_null(), 0, 0), NULL);
         core_unlock();
     }
+    restore(&kept);
 }
 
 /*
@@ -412,11 +428,17 @@ void call_values(struct call *call, jmethodID method, const jvalue *arguments) {
 /* ---- asking ---- */
 
 void call_drops(struct call *call) {
+    struct kept kept;
+    if (call->made_count == 0 && call->more == NULL) {
+        return;
+    }
+    keep(&kept);
     while (call->made_count > 0) {
         machine->DeleteLocalRef(call->env, call->made[--call->made_count]);
     }
     free(call->more);
     call->more = NULL;
+    restore(&kept);
 }
 
 /*
@@ -484,7 +506,7 @@ static int ask(struct call *call) {
     return error == 0;
 }
 
-int call_passes(struct call *call) {
+static int passes(struct call *call) {
     if (call->is_lost || !ask(call)) {
         core_count(&counts.unasked);
         return 1;
@@ -507,6 +529,12 @@ int call_passes(struct call *call) {
         }
     }
     return 1;
+}
+
+int call_passes(struct call *call) {
+    int is_made = passes(call);
+    restore(&call->caller);
+    return is_made;
 }
 
 /* ---- telling ---- */
@@ -612,11 +640,13 @@ static void note_pending(struct call *call, jg_value says) {
     }
 }
 
-void call_says(struct call *call, jg_value says, struct object *object, jg_value *given) {
-    *given = jg_nothing();
-    if (!call->is_asked) {
-        return;
-    }
+/* Whether an answer is to be told: no fact comes of most calls that can't have thrown. */
+static int is_telling(const struct call *call, jg_value says) {
+    return call->is_asked &&
+           (call->verdict.rule != 0 || call->row->effect != EFFECT_NOTHING || !says_done(call, says));
+}
+
+static void tell_answer(struct call *call, jg_value says, struct object *object, jg_value *given) {
     struct object *thrown = call->row->effect == EFFECT_RAISES ? NULL : thrown_by(call, says);
     if (thrown != NULL) {
         says = jg_threw(jg_object(thrown->number));
@@ -632,17 +662,30 @@ void call_says(struct call *call, jg_value says, struct object *object, jg_value
     note_pending(call, says);
 }
 
+void call_says(struct call *call, jg_value says, struct object *object, jg_value *given) {
+    struct kept kept;
+    *given = jg_nothing();
+    if (is_telling(call, says)) {
+        keep(&kept);
+        tell_answer(call, says, object, given);
+        restore(&kept);
+    }
+}
+
 void call_checks_length(struct call *call, jsize length) {
     const struct object *object = call->first.object;
     if (!call->is_asked || call->verdict.rule != 0 || object == NULL || object->number < objects_of_setup()) {
         return;
     }
     if ((uint32_t)length != object->length || core_is_recorded()) {
+        struct kept kept;
+        keep(&kept);
         core_lock();
         core_tell(jg_fact_of(JG_IS_LENGTH, call->thread->number, jg_nothing(), jg_object(object->number), 0,
                              (uint32_t)length),
                   NULL);
         core_unlock();
+        restore(&kept);
     }
 }
 
@@ -675,7 +718,7 @@ static int is_copy(const struct call *call) {
             call->function == JG_FN_NewWeakGlobalRef);
 }
 
-jobject call_hands(struct call *call, jobject result) {
+static void hands(struct call *call, jobject result) {
     jg_value given = jg_nothing(), says = jg_null();
     struct object *object = NULL;
     int is_reference =
@@ -684,8 +727,7 @@ jobject call_hands(struct call *call, jobject result) {
         object = is_copy(call) ? call->first.object : objects_of(call->env, result);
         if (object == NULL) {
             core_count(&counts.unasked);
-            call_drops(call);
-            return result;
+            return;
         }
         says = jg_object(object->number);
     }
@@ -696,6 +738,13 @@ jobject call_hands(struct call *call, jobject result) {
     if (given.kind >= JG_LOCAL && given.kind <= JG_WEAK) {
         call_names(call, result, given, object);
     }
+}
+
+jobject call_hands(struct call *call, jobject result) {
+    struct kept kept;
+    keep(&kept);
+    hands(call, result);
     call_drops(call);
+    restore(&kept);
     return result;
 }

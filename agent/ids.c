@@ -6,6 +6,7 @@
  * again for the next member of the same ID.
  */
 #include "ids.h"
+#include "kept.h"
 #include "objects.h"
 
 #include <pthread.h>
@@ -127,7 +128,7 @@ static int is_noted(const void *id) {
     return it != NULL && it->is_method;
 }
 
-void ids_note_field(JNIEnv *env, jclass class, jfieldID field, const char *type, int is_static) {
+static void note_field(JNIEnv *env, jclass class, jfieldID field, const char *type, int is_static) {
     jclass declaring = NULL;
     if (field == NULL || !is_live || (*tool)->GetFieldDeclaringClass(tool, class, field, &declaring) != 0) {
         return;
@@ -137,7 +138,7 @@ void ids_note_field(JNIEnv *env, jclass class, jfieldID field, const char *type,
     machine->DeleteLocalRef(env, declaring);
 }
 
-void ids_note_method(JNIEnv *env, jmethodID method) {
+static void note_method(JNIEnv *env, jmethodID method) {
     char *name = NULL, *signature = NULL;
     jint modifiers = 0;
     jclass declaring = NULL;
@@ -166,7 +167,7 @@ static jclass class_of_field(JNIEnv *env, jobject reflected) {
     return declaring;
 }
 
-void ids_note_reflected(JNIEnv *env, jobject reflected, jfieldID field) {
+static void note_reflected(JNIEnv *env, jobject reflected, jfieldID field) {
     char *type = NULL;
     jint modifiers = 0;
     if (field == NULL || !is_live) {
@@ -175,10 +176,31 @@ void ids_note_reflected(JNIEnv *env, jobject reflected, jfieldID field) {
     jclass class = class_of_field(env, reflected);
     if (class != NULL && (*tool)->GetFieldName(tool, class, field, NULL, &type, NULL) == 0 &&
         (*tool)->GetFieldModifiers(tool, class, field, &modifiers) == 0) {
-        ids_note_field(env, class, field, type, (modifiers & 8) != 0);
+        note_field(env, class, field, type, (modifiers & 8) != 0);
     }
     (*tool)->Deallocate(tool, (unsigned char *)type);
     machine->DeleteLocalRef(env, class);
+}
+
+void ids_note_field(JNIEnv *env, jclass class, jfieldID field, const char *type, int is_static) {
+    struct kept kept;
+    keep(&kept);
+    note_field(env, class, field, type, is_static);
+    restore(&kept);
+}
+
+void ids_note_method(JNIEnv *env, jmethodID method) {
+    struct kept kept;
+    keep(&kept);
+    note_method(env, method);
+    restore(&kept);
+}
+
+void ids_note_reflected(JNIEnv *env, jobject reflected, jfieldID field) {
+    struct kept kept;
+    keep(&kept);
+    note_reflected(env, reflected, field);
+    restore(&kept);
 }
 
 void ids_forget_class(struct class_info *class) {

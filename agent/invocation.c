@@ -13,15 +13,20 @@ const struct JNIInvokeInterface_ *machine_invocation;
 
 /* A call of this table. Whether it is judged. */
 static int begins(struct call *call, uint32_t function, uintptr_t at, uintptr_t frame) {
+    struct kept kept;
+    keep(&kept);
     struct thread *thread = threads_self();
     const struct site *site = sites_caller(thread, at, frame);
-    if (!site->is_judged || !is_live || !threads_is_numbered(thread)) {
-        return 0;
+    int is_judged = site->is_judged && is_live && threads_is_numbered(thread);
+    if (is_judged) {
+        threads_catch_up(thread, thread->env, frame);
+        call_opens(call, function, thread, site);
+        call->was_pending = thread->is_pending;
+        call->caller = kept;
+    } else {
+        restore(&kept);
     }
-    threads_catch_up(thread, thread->env, frame);
-    call_opens(call, function, thread, site);
-    call->was_pending = thread->is_pending;
-    return 1;
+    return is_judged;
 }
 
 /* Java code ran while the thread was attached, so its session may be known already. */
@@ -54,10 +59,13 @@ static jint attach(uint32_t function, attaching in_machine, void **env, void *ar
         return JNI_ERR;
     }
     jint answer = in_machine(vm, env, arguments);
+    struct kept kept;
+    keep(&kept);
     if (answer == JNI_OK) {
         tell_attached(&call, *env);
     }
     call_drops(&call);
+    restore(&kept);
     return answer;
 }
 

@@ -122,8 +122,8 @@ void monitors_thread_ended(struct thread *thread) {
     spin_unlock(&lock);
 }
 
-/* A library that isn't judged entered the monitor of an object that the core knows, or exited it. */
-static void tell_unjudged(JNIEnv *env, jobject handle, int is_entered) {
+/* A library that isn't judged entered the monitor, or exited it: of an object that the core knows it is told. */
+static void tell_unjudged_of(JNIEnv *env, jobject handle, int is_entered) {
     struct thread *thread = threads_known();
     struct object *object = thread && thread->is_attached && is_live ? objects_of(env, handle) : NULL;
     if (object == NULL || is_virtual(env) || (!is_entered && object->owned == 0)) {
@@ -143,6 +143,27 @@ static void tell_unjudged(JNIEnv *env, jobject handle, int is_entered) {
     }
 }
 
+static void tell_unjudged(JNIEnv *env, jobject handle, int is_entered) {
+    struct kept kept;
+    keep(&kept);
+    tell_unjudged_of(env, handle, is_entered);
+    restore(&kept);
+}
+
+/* The machine let the thread enter. */
+static void tell_entered(struct call *call) {
+    struct kept kept;
+    jg_value given;
+    keep(&kept);
+    if (call->is_asked && !(call->is_own_env && is_virtual(call->env))) {
+        call_says(call, jg_nothing(), call->first.object, &given);
+        if (call->first.object != NULL) {
+            note_entered(call->thread, call->first.object, call->site);
+        }
+    }
+    restore(&kept);
+}
+
 jint JNICALL wrapped_MonitorEnter(JNIEnv *env, jobject handle) {
     struct call call;
     if (!call_begins(&call, JG_FN_MonitorEnter, env, CALLER)) {
@@ -157,12 +178,8 @@ jint JNICALL wrapped_MonitorEnter(JNIEnv *env, jobject handle) {
         return JNI_ERR;
     }
     jint answer = machine->MonitorEnter(env, handle);
-    if (answer == 0 && call.is_asked && !(call.is_own_env && is_virtual(env))) {
-        jg_value given;
-        call_says(&call, jg_nothing(), call.first.object, &given);
-        if (call.first.object != NULL) {
-            note_entered(call.thread, call.first.object, call.site);
-        }
+    if (answer == 0) {
+        tell_entered(&call);
     }
     call_drops(&call);
     return answer;
@@ -190,6 +207,7 @@ jint JNICALL wrapped_MonitorExit(JNIEnv *env, jobject handle) {
     }
     handle = call_object(&call, handle);
     if (is_beyond(&call)) {
+        restore(&call.caller);
         jint answer = machine->MonitorExit(env, handle);
         call_drops(&call);
         return answer;

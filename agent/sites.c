@@ -5,6 +5,7 @@
  * library is the machine's own code. An address is looked up once: dladdr takes long.
  */
 #include "sites.h"
+#include "kept.h"
 #include "options.h"
 #include "threads.h"
 
@@ -165,9 +166,12 @@ static const struct site *find_or_add(uintptr_t at, const struct looked_up *it) 
 const struct site *sites_at(uintptr_t at) {
     const struct site *found = find_or_add(at, NULL);
     if (found == NULL) {
+        struct kept kept;
+        keep(&kept);
         struct looked_up it = look_up(at);
         found = find_or_add(at, &it);
         free(it.path);
+        restore(&kept);
     }
     return found;
 }

@@ -1,10 +1,14 @@
 /** Programs whose doings are the same with the agent and without it: what isn't is told as WRONG. */
 public class Unharmed {
+    static int counted;
+
     static native void beyond(boolean[] four);
+    static native void keeps(String text, int[] numbers);
 
     static void run(String name) {
         switch (name) {
             case "beyond" -> beyond(new boolean[4]);
+            case "keeps" -> keeps("text", new int[8]);
             default -> System.err.println("WRONG: there is no " + name);
         }
     }

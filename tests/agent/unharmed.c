@@ -1,6 +1,10 @@
 /* unharmed.c: native code for Unharmed.java. */
 #define _GNU_SOURCE
+#include <errno.h>
+#include <fenv.h>
 #include <jni.h>
+#include <pthread.h>
+#include <signal.h>
 #include <stdint.h>
 #include <stdio.h>
 #include <stdlib.h>
@@ -50,4 +54,97 @@ JNIEXPORT void JNICALL Java_Unharmed_beyond(JNIEnv *env, jclass class, jbooleanA
     E->GetBooleanArrayRegion(env, four, 3, 1, items);
     check(!E->ExceptionCheck(env) && items[0] == JNI_TRUE, "a region within its array isn't written");
     E->SetBooleanArrayRegion(env, four, 0, 3, items);
+}
+
+/* ---- what is the caller's ---- */
+
+/* A number that no function sets errno to. */
+enum { OWN_ERROR = 12345 };
+
+static sigset_t own_mask;
+
+static int is_own_mask(void) {
+    sigset_t now;
+    int is_same = 1;
+    pthread_sigmask(SIG_BLOCK, NULL, &now);
+    for (int signal = 1; signal < 32; signal++) {
+        is_same &= sigismember(&now, signal) == sigismember(&own_mask, signal);
+    }
+    return is_same;
+}
+
+static void check_kept(const char *what) {
+    int error = errno;
+    int is_same = is_own_mask();
+    if (error != OWN_ERROR || fegetround() != FE_UPWARD || fetestexcept(FE_ALL_EXCEPT) != FE_OVERFLOW || !is_same) {
+        fprintf(stderr, "WRONG: after %s errno is %d, rounding %x, exceptions %x, the signal mask is %s\n", what, error,
+                (unsigned)fegetround(), (unsigned)fetestexcept(FE_ALL_EXCEPT), is_same ? "the same" : "another");
+    }
+    errno = OWN_ERROR;
+}
+
+/* Each stands at a place of its own, which the agent sees for the first time. */
+#define KEEPS(call) ((call), check_kept(#call))
+
+static void keep_references(JNIEnv *env, jclass class, jstring text) {
+    jobject local = NULL, global = NULL;
+    jweak weak = NULL;
+    jfieldID field = NULL;
+    KEEPS(E->GetVersion(env));
+    KEEPS(E->GetStringLength(env, text));
+    KEEPS(local = E->NewStringUTF(env, "made"));
+    KEEPS(global = E->NewGlobalRef(env, local));
+    KEEPS(weak = E->NewWeakGlobalRef(env, local));
+    KEEPS(E->GetStringLength(env, weak));
+    KEEPS(E->IsSameObject(env, global, local));
+    KEEPS(E->GetObjectClass(env, global));
+    KEEPS(field = E->GetStaticFieldID(env, class, "counted", "I"));
+    KEEPS(E->SetStaticIntField(env, class, field, E->GetStaticIntField(env, class, field) + 1));
+    KEEPS(E->PushLocalFrame(env, 8));
+    KEEPS(E->PopLocalFrame(env, NULL));
+    KEEPS(E->MonitorEnter(env, global));
+    KEEPS(E->MonitorExit(env, global));
+    KEEPS(E->DeleteWeakGlobalRef(env, weak));
+    KEEPS(E->DeleteGlobalRef(env, global));
+    KEEPS(E->DeleteLocalRef(env, local));
+    KEEPS(E->ExceptionCheck(env));
+}
+
+static void keep_buffers(JNIEnv *env, jstring text, jintArray numbers) {
+    JavaVM *vm;
+    void *memory, *other;
+    const char *bytes;
+    jint items[2];
+    E->GetJavaVM(env, &vm);
+    KEEPS((*vm)->GetEnv(vm, &other, JNI_VERSION_1_8));
+    KEEPS((*vm)->AttachCurrentThread(vm, &other, NULL));
+    KEEPS(bytes = E->GetStringUTFChars(env, text, NULL));
+    KEEPS(E->ReleaseStringUTFChars(env, text, bytes));
+    KEEPS(memory = E->GetIntArrayElements(env, numbers, NULL));
+    KEEPS(E->ReleaseIntArrayElements(env, numbers, memory, 0));
+    KEEPS(memory = E->GetPrimitiveArrayCritical(env, numbers, NULL));
+    KEEPS(E->ReleasePrimitiveArrayCritical(env, numbers, memory, JNI_ABORT));
+    KEEPS(E->GetIntArrayRegion(env, numbers, 0, 2, items));
+    /* The agent tells of a text that is none, and the block is written. */
+    KEEPS(E->NewStringUTF(env, "\xC0"));
+}
+
+JNIEXPORT void JNICALL Java_Unharmed_keeps(JNIEnv *env, jclass class, jstring text, jintArray numbers) {
+    sigset_t before, more;
+    int round = fegetround();
+    sigemptyset(&more);
+    sigaddset(&more, SIGUSR2);
+    sigaddset(&more, SIGWINCH);
+    pthread_sigmask(SIG_BLOCK, &more, &before);
+    pthread_sigmask(SIG_BLOCK, NULL, &own_mask);
+    fesetround(FE_UPWARD);
+    feclearexcept(FE_ALL_EXCEPT);
+    feraiseexcept(FE_OVERFLOW);
+    feclearexcept(FE_ALL_EXCEPT & ~FE_OVERFLOW);
+    errno = OWN_ERROR;
+    keep_references(env, class, text);
+    keep_buffers(env, text, numbers);
+    feclearexcept(FE_ALL_EXCEPT);
+    fesetround(round);
+    pthread_sigmask(SIG_SETMASK, &before, NULL);
 }
