@@ -38,6 +38,7 @@ void call_opens(struct call *call, uint32_t function, struct thread *thread, con
     call->lent = NULL;
     call->verdict.rule = 0;
     call->kept = jg_nothing();
+    call->unseen = NULL;
     call->reason = call->notice = call->notice_text = NULL;
 }
 
@@ -371,6 +372,17 @@ static const char *const REASONS[] = {
     [ID_OTHER_TYPE] = "the field is of another type than the function",
 };
 
+/* Notes whether the answer will be a reference, by a function whose answers are. */
+static void expect_answer(struct call *call, const void *id, enum subject subject, enum fit fit) {
+    if (subject == ID_FIELD) {
+        call->is_misread = fit != ID_FITS;
+    } else if (subject == ID_METHOD) {
+        char type = ids_type(id);
+        call->is_misread = type == 0 ? fit != ID_FITS : type != 'L';
+        call->unseen = type == 0 ? (jmethodID)(uintptr_t)id : NULL;
+    }
+}
+
 void call_id(struct call *call, const void *id, enum subject subject, char letter, int is_static, int is_class) {
     struct id_question question = {subject, letter, is_static, is_class, call->last.handle, call->last.object};
     enum fit fit = ID_FITS;
@@ -380,6 +392,9 @@ void call_id(struct call *call, const void *id, enum subject subject, char lette
     if ((fit == ID_UNKNOWN && !is_from_start) || (fit != ID_OTHER_RESULT && call->site->library->is_of_jdk)) {
         /* The JDK's own libraries were handed IDs before there was a table to replace. */
         fit = ID_FITS;
+    }
+    if (letter == 'L') {
+        expect_answer(call, id, subject, fit);
     }
     if (fit == ID_OTHER_RESULT) {
         notice(call, "OtherResult", "the function is of another result type than the method");
@@ -706,9 +721,21 @@ void call_answers(struct call *call, jint answer) {
     call_drops(call);
 }
 
-/* Whether a result is to be doubted: a denied call's, or a method's that has no such result. */
-static int is_doubtful(const struct call *call) {
-    return call->verdict.rule != 0 || call->notice != NULL;
+/* Whether the machine answered a reference. What is none may be any bits, of which it would die if it were asked. */
+static int is_reference(struct call *call, jobject result) {
+    if (result == NULL || call->is_misread || !call->is_own_env) {
+        return 0;
+    }
+    if (call->verdict.rule != 0) {
+        return call->unseen == NULL && call_kind(call, result) != JNIInvalidRefType;
+    }
+    if (call->unseen != NULL) {
+        /* The machine took the ID, so it says what it is of. */
+        ids_note_method(call->env, call->unseen);
+        char type = ids_type(call->unseen);
+        return type == 'L' || type == 0;
+    }
+    return 1;
 }
 
 /* Whether the result names the operand's object, which needn't be asked then. */
@@ -721,9 +748,7 @@ static int is_copy(const struct call *call) {
 static void hands(struct call *call, jobject result) {
     jg_value given = jg_nothing(), says = jg_null();
     struct object *object = NULL;
-    int is_reference =
-        result != NULL && call->is_own_env && (!is_doubtful(call) || call_kind(call, result) != JNIInvalidRefType);
-    if (call->is_asked && is_reference) {
+    if (call->is_asked && is_reference(call, result)) {
         object = is_copy(call) ? call->first.object : objects_of(call->env, result);
         if (object == NULL) {
             core_count(&counts.unasked);

@@ -57,6 +57,7 @@ struct call {
     int is_ending;   /* what it ends is told when it is asked */
     int was_pending; /* an exception was when it began */
     int has_first;   /* an operand was a reference */
+    int is_misread;  /* the function answers a reference, and the member of the ID is none or returns none */
     jg_value env_name;
     size_t count;
     jg_value operands[FEW_OPERANDS];
@@ -74,6 +75,7 @@ struct call {
     jg_verdict verdict;
     jg_value given;     /* what jg_ending handed out */
     jg_value kept;      /* what PopLocalFrame and NativeLeave keep */
+    jmethodID unseen;   /* a method whose ID nobody saw being handed out, or NULL */
     const char *reason; /* of an ID that doesn't fit: why, or NULL */
     const char *notice; /* what breaks no rule and is told all the same: its name and a sentence, or NULL */
     const char *notice_text;

@@ -4,11 +4,29 @@ public class Unharmed {
 
     static native void beyond(boolean[] four);
     static native void keeps(String text, int[] numbers);
+    native void results();
+
+    static long number;
+
+    void nothing() {}
+
+    boolean truth() {
+        return true;
+    }
+
+    long wide() {
+        return number;
+    }
+
+    static long wideForAll() {
+        return number;
+    }
 
     static void run(String name) {
         switch (name) {
             case "beyond" -> beyond(new boolean[4]);
             case "keeps" -> keeps("text", new int[8]);
+            case "results" -> new Unharmed().results();
             default -> System.err.println("WRONG: there is no " + name);
         }
     }

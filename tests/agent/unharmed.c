@@ -148,3 +148,32 @@ JNIEXPORT void JNICALL Java_Unharmed_keeps(JNIEnv *env, jclass class, jstring te
     fesetround(round);
     pthread_sigmask(SIG_SETMASK, &before, NULL);
 }
+
+/* ---- results that are none ---- */
+
+/* Methods that return no reference, by functions that do: what these answer is no handle, and nobody uses it. */
+static void take_results(JNIEnv *env, jclass class, jobject object) {
+    jvalue none = {.j = 0};
+    jmethodID nothing = E->GetMethodID(env, class, "nothing", "()V");
+    jmethodID wide = E->GetMethodID(env, class, "wide", "()J");
+    jmethodID truth = E->GetMethodID(env, class, "truth", "()Z");
+    jmethodID shared = E->GetStaticMethodID(env, class, "wideForAll", "()J");
+    E->CallObjectMethod(env, object, nothing);
+    E->CallObjectMethodA(env, object, truth, &none);
+    E->CallObjectMethod(env, object, wide);
+    E->CallNonvirtualObjectMethod(env, object, class, wide);
+    E->CallStaticObjectMethod(env, class, shared);
+}
+
+JNIEXPORT void JNICALL Java_Unharmed_results(JNIEnv *env, jobject object) {
+    jclass class = E->GetObjectClass(env, object);
+    jfieldID number = E->GetStaticFieldID(env, class, "number", "J");
+    /* Like a local, a weak and a global reference where no memory is, and where the library's own is. */
+    jlong numbers[] = {0x100000008, 0x100000009, 0x10000000A, 3, (jlong)(intptr_t)numbers, (jlong)(intptr_t)numbers + 1,
+                       (jlong)(intptr_t)numbers + 2};
+    for (size_t at = 0; at < sizeof numbers / sizeof *numbers; at++) {
+        E->SetStaticLongField(env, class, number, numbers[at]);
+        take_results(env, class, object);
+        check(!E->ExceptionCheck(env), "a method threw");
+    }
+}
