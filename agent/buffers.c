@@ -3,7 +3,8 @@
  *
  * What native code stored is seen at the release: a changed item of a string, an item that is no value of its type, a
  * changed zone. A copy that was given back is kept for a while, so that a second release and a store behind its end are
- * seen. Pairs of a thread on one array within each other share a copy.
+ * seen. Critical pairs on one array or string share a copy, of whatever threads they are: the machine lends them one
+ * memory, so that what is stored by one is read by the others.
  */
 #include "buffers.h"
 #include "core.h"
@@ -12,35 +13,43 @@
 #include "quarantine.h"
 #include "spin.h"
 
+#include <pthread.h>
 #include <stdlib.h>
 #include <string.h>
 
 enum { ZONE = 256, ZONE_BYTE = 0xA5, GIVEN_BYTE = 0xD6, FEWEST_LISTS = 256, MOST_TOLD = 8 };
 
+/* A pair of calls, of which the second is yet to come. */
+struct pair {
+    const struct thread *thread;
+    jg_value name;
+    int is_machines; /* the machine lent its memory for it, and hasn't got it back */
+};
+
 struct lent {
     struct lent *next;     /* of the same list of the table */
     struct lent *held;     /* the next that was given back */
-    struct lent *critical; /* the next open one of its thread */
-    struct thread *thread; /* of an open critical one: the thread in whose list it stands */
+    struct lent *critical; /* the next open critical one */
     unsigned char *block;
     unsigned char *at;     /* what native code was handed */
-    unsigned char *was;    /* of a critical one: its items as they were lent; else NULL */
+    unsigned char *was;    /* of a critical one: its items as they were lent or handed on; else NULL */
     unsigned char *memory; /* the machine's; NULL while it has it back */
+    pthread_mutex_t items; /* of a critical one: held while items are compared and copied */
     size_t bytes;
     uint32_t count; /* items, as the core was told */
     uint32_t family;
-    uint32_t machine_count; /* how often the machine lent it and didn't get it back */
+    uint32_t machine_count; /* for how many pairs the machine has lent its memory */
     char shape;
     uint8_t is_plain;   /* no copy: the core isn't told of it */
     uint8_t is_given;   /* it was given back */
-    uint8_t is_held;    /* it stands in the list of those */
+    uint8_t is_held;    /* it stands in the list of those, or is let go */
     uint8_t is_aborted; /* its last release threw away what was stored */
     uint16_t made_by;
     struct object *object;
     const struct site *made;
     const struct site *given;
-    jg_value *names; /* one for each pair that is open; of one that was given back the last */
-    size_t name_count, name_room;
+    struct pair *pairs; /* those that are open; of one that was given back the last */
+    size_t pair_count, pair_room;
 };
 
 static struct spin lock;
@@ -49,6 +58,7 @@ static struct lent **lists;
 static size_t list_count, lent_count;
 static struct lent *oldest, **newest = &oldest;
 static size_t held_count;
+static struct lent *criticals; /* those that are open */
 static unsigned char clean[ZONE];
 
 static struct lent **list_of(const void *at) {
@@ -86,14 +96,13 @@ static void grow_lists(void) {
     free(before);
 }
 
+/* Under the lock. */
 static void insert(struct lent *lent) {
-    spin_lock(&lock);
     if (lent_count == list_count) {
         grow_lists();
     }
     lent_count++;
     add_to_list(lent);
-    spin_unlock(&lock);
 }
 
 /* Under the lock. */
@@ -114,8 +123,9 @@ static void let_go(struct lent *lent) {
         return;
     }
     objects_drop(lent->object);
+    pthread_mutex_destroy(&lent->items);
     free(lent->block);
-    free(lent->names);
+    free(lent->pairs);
     free(lent);
 }
 
@@ -132,6 +142,80 @@ static int is_of_string(uint32_t family) {
 
 static int is_critical(uint32_t family) {
     return family == JG_CRITICAL || family == JG_CRITICAL_STRING;
+}
+
+/* ---- pairs ---- */
+
+/* The newest pair of the thread, or of any where it has none. Under the lock. */
+static struct pair *newest_pair(const struct lent *lent, const struct thread *thread) {
+    for (size_t at = lent->pair_count; at > 0; at--) {
+        if (lent->pairs[at - 1].thread == thread) {
+            return &lent->pairs[at - 1];
+        }
+    }
+    return &lent->pairs[lent->pair_count - 1];
+}
+
+/* The name of that pair: a buffer that isn't plain has one, open or not. */
+static jg_value newest_name(const struct lent *lent, const struct thread *thread) {
+    spin_lock(&lock);
+    jg_value name = newest_pair(lent, thread)->name;
+    spin_unlock(&lock);
+    return name;
+}
+
+/* The pair of this name, or NULL. Under the lock. */
+static struct pair *pair_of(const struct lent *lent, jg_value name) {
+    size_t at = 0;
+    while (at < lent->pair_count && !jg_is_same(lent->pairs[at].name, name)) {
+        at++;
+    }
+    return at < lent->pair_count ? &lent->pairs[at] : NULL;
+}
+
+/* Under the lock, where others know the buffer. */
+static void add_pair(struct lent *lent, const struct pair *pair) {
+    MAKE_ROOM(lent->pairs, lent->pair_count, lent->pair_room);
+    lent->pairs[lent->pair_count++] = *pair;
+    lent->machine_count++;
+}
+
+/* The machine has its memory back that it lent for the pair, or gets it at once. Under the lock. */
+static void give_up_memory(struct lent *lent, struct pair *pair) {
+    if (pair->is_machines) {
+        pair->is_machines = 0;
+        lent->machine_count--;
+    }
+    if (lent->machine_count == 0) {
+        lent->memory = NULL;
+    }
+}
+
+/* Under the lock. */
+static void leave_out_of_criticals(struct lent *lent) {
+    struct lent **link = &criticals;
+    while (*link != lent) {
+        link = &(*link)->critical;
+    }
+    *link = lent->critical;
+}
+
+/* Closes the pair. With the last one the buffer is closed: whether it is. Under the lock. */
+static int close_pair(struct lent *lent, struct pair *pair) {
+    if (is_critical(lent->family)) {
+        give_up_memory(lent, pair);
+    }
+    if (lent->pair_count > 1) {
+        size_t after = lent->pair_count - 1 - (size_t)(pair - lent->pairs);
+        memmove(pair, pair + 1, after * sizeof *pair);
+        lent->pair_count--;
+        return 0;
+    }
+    if (is_critical(lent->family)) {
+        leave_out_of_criticals(lent);
+    }
+    lent->is_given = 1;
+    return 1;
 }
 
 /* ---- stores ---- */
@@ -167,12 +251,12 @@ static int64_t item_at(const struct lent *lent, const unsigned char *at) {
 static void ask_store(struct lent *lent, const struct site *site, int64_t index, int64_t value) {
     struct thread *thread = threads_self();
     struct call call;
-    if (lent->name_count == 0 || !threads_is_numbered(thread)) {
+    if (!threads_is_numbered(thread)) {
         return;
     }
     call_opens(&call, JG_FN_BufferWrite, thread, site);
     call.lent = lent;
-    call_operand(&call, lent->names[lent->name_count - 1]);
+    call_operand(&call, newest_name(lent, thread));
     call_number(&call, (int32_t)index);
     call_item(&call, value);
     if (call_passes(&call)) {
@@ -202,7 +286,7 @@ static void look_at_zones(struct lent *lent, const struct site *site) {
 
 enum { PIECE = 2048 };
 
-/* The first place from `at` on where the two differ, or `size`. */
+/* The first place from `at` on where the two differ, or `size`. Other threads may store meanwhile. */
 static size_t difference(const unsigned char *one, const unsigned char *other, size_t at, size_t size) {
     while (at < size) {
         size_t piece = size - at < PIECE ? size - at : PIECE;
@@ -210,7 +294,7 @@ static size_t difference(const unsigned char *one, const unsigned char *other, s
             while (at + 8 <= size && memcmp(one + at, other + at, 8) == 0) {
                 at += 8;
             }
-            while (one[at] == other[at]) {
+            while (at < size && one[at] == other[at]) {
                 at++;
             }
             return at;
@@ -245,21 +329,83 @@ static void look(struct lent *lent, const struct site *site) {
     look_at_zones(lent, site);
 }
 
+/* ---- copying ---- */
+
+/*
+ * What was stored into a critical buffer goes into the machine's memory: only items that differ from what was lent.
+ * Another thread may store meanwhile, so each is read once.
+ */
+static void hand_on(struct lent *lent, unsigned char *memory) {
+    size_t size = objects_item_size(lent->shape);
+    unsigned char item[8];
+    for (size_t at = difference(lent->at, lent->was, 0, lent->bytes); at < lent->bytes;
+         at = difference(lent->at, lent->was, at, lent->bytes)) {
+        at = at / size * size;
+        memcpy(item, lent->at + at, size);
+        memcpy(memory + at, item, size);
+        memcpy(lent->was + at, item, size);
+        at += size;
+    }
+}
+
+/* What came into the machine's memory since goes into the copy, but where something was stored there. */
+static void fetch(struct lent *lent, const unsigned char *memory) {
+    size_t size = objects_item_size(lent->shape);
+    unsigned char item[8];
+    for (size_t at = difference(memory, lent->was, 0, lent->bytes); at < lent->bytes;
+         at = difference(memory, lent->was, at, lent->bytes)) {
+        at = at / size * size;
+        memcpy(item, memory + at, size);
+        if (memcmp(lent->at + at, lent->was + at, size) == 0) {
+            memcpy(lent->at + at, item, size);
+            memcpy(lent->was + at, item, size);
+        }
+        at += size;
+    }
+}
+
+/* A further pair begins: what it is lent is what the array is now. */
+static void exchange(struct lent *lent, unsigned char *memory) {
+    pthread_mutex_lock(&lent->items);
+    if (!is_of_string(lent->family)) {
+        hand_on(lent, memory);
+        fetch(lent, memory);
+    }
+    pthread_mutex_unlock(&lent->items);
+}
+
+/* What was stored goes into the machine's memory. */
+static void copy_back(struct lent *lent, unsigned char *memory) {
+    if (is_of_string(lent->family) || memory == NULL) {
+        return;
+    }
+    if (lent->was == NULL) {
+        memcpy(memory, lent->at, lent->bytes);
+        return;
+    }
+    pthread_mutex_lock(&lent->items);
+    hand_on(lent, memory);
+    pthread_mutex_unlock(&lent->items);
+}
+
 /* ---- lending ---- */
 
-/* The copy between its zones, and behind them the items as they were lent. */
-static void make_copy(struct lent *lent, int keeps_was) {
+/* Room for the copy between its zones, and behind them for the items as they were lent. */
+static void make_block(struct lent *lent, int keeps_was) {
     size_t padded = (lent->bytes + 15) & ~(size_t)15;
     lent->block = must_grow(NULL, padded + 2 * ZONE + (keeps_was ? lent->bytes : 0));
     lent->at = lent->block + ZONE;
+    lent->was = keeps_was ? lent->at + padded + ZONE : NULL;
+}
+
+static void fill_block(struct lent *lent) {
     size_t items = (size_t)lent->count * objects_item_size(lent->shape);
     memset(lent->block, ZONE_BYTE, ZONE);
     memcpy(lent->at, lent->memory, items);
     /* What stands behind a string's units needn't be the string's: code that looks for an end finds one. */
     memset(lent->at + items, 0, lent->bytes - items);
     memset(lent->at + lent->bytes, ZONE_BYTE, ZONE);
-    if (keeps_was) {
-        lent->was = lent->at + padded + ZONE;
+    if (lent->was != NULL) {
         memcpy(lent->was, lent->at, lent->bytes);
     }
 }
@@ -275,59 +421,20 @@ static char shape_of(uint32_t family, const struct object *object) {
     return family == JG_UTF ? 'u' : 'C';
 }
 
-/* A pair of this thread on the array is open: its copy is shared. */
-static struct lent *shared_of(const struct call *call, const void *memory) {
-    if (call->row->detail != JG_CRITICAL) {
-        return NULL;
-    }
-    spin_lock(&lock);
-    struct lent *it = call->thread->criticals;
-    while (it != NULL && (it->memory != memory || it->family != JG_CRITICAL)) {
-        it = it->critical;
-    }
-    spin_unlock(&lock);
-    return it;
-}
-
-static void add_to_criticals(struct thread *thread, struct lent *lent) {
-    spin_lock(&lock);
-    lent->thread = thread;
-    lent->critical = thread->criticals;
-    thread->criticals = lent;
-    spin_unlock(&lock);
-}
-
-/* It is closed, be it by another thread. */
-static void leave_out_of_criticals(struct lent *lent) {
-    spin_lock(&lock);
-    if (lent->thread != NULL) {
-        struct lent **link = &lent->thread->criticals;
-        while (*link != lent) {
-            link = &(*link)->critical;
-        }
-        *link = lent->critical;
-        lent->thread = NULL;
-    }
-    spin_unlock(&lock);
-}
-
-static void add_name(struct lent *lent, jg_value name) {
-    MAKE_ROOM(lent->names, lent->name_count, lent->name_room);
-    lent->names[lent->name_count++] = name;
-    lent->machine_count++;
-}
-
 /* Memory that the core isn't told of: it is known by its address, so that its release is passed on. */
 static void *lend_plain(struct call *call, void *memory) {
     struct lent *made = must_make(sizeof *made);
+    pthread_mutex_init(&made->items, NULL);
     made->at = made->memory = memory;
     made->is_plain = 1;
     made->made = call->site;
+    spin_lock(&lock);
     insert(made);
+    spin_unlock(&lock);
     return memory;
 }
 
-static struct lent *lend_copy(struct call *call, void *memory, uint32_t count, char shape) {
+static struct lent *make_lent(struct call *call, void *memory, uint32_t count, char shape) {
     struct lent *made = must_make(sizeof *made);
     uint32_t family = call->row->detail;
     made->family = family;
@@ -338,7 +445,66 @@ static struct lent *lend_copy(struct call *call, void *memory, uint32_t count, c
     made->made = call->site;
     made->made_by = (uint16_t)call->function;
     made->object = objects_hold(call->first.object);
-    make_copy(made, is_critical(family));
+    pthread_mutex_init(&made->items, NULL);
+    make_block(made, is_critical(family));
+    return made;
+}
+
+/*
+ * The open critical buffer of this memory, which the pair joins; or NULL. An array whose memory was handed back by a
+ * commit is lent anew. Under the lock.
+ */
+static struct lent *join(const struct call *call, void *memory, const struct pair *pair) {
+    struct lent *it = criticals;
+    while (it != NULL && (it->family != call->row->detail ||
+                          (it->memory == NULL ? it->object != call->first.object : it->memory != memory))) {
+        it = it->critical;
+    }
+    if (it != NULL) {
+        it->memory = memory;
+        add_pair(it, pair);
+    }
+    return it;
+}
+
+/* The critical buffer of this memory: the open one, or a new one. It is known before it is filled, and locked so long. */
+static struct lent *lend_critical(struct call *call, void *memory, char shape, const struct pair *pair) {
+    spin_lock(&lock);
+    struct lent *open = join(call, memory, pair);
+    spin_unlock(&lock);
+    if (open == NULL) {
+        struct lent *made = make_lent(call, memory, call->first.object->length, shape);
+        add_pair(made, pair);
+        pthread_mutex_lock(&made->items);
+        spin_lock(&lock);
+        /* Another thread may have been quicker. */
+        open = join(call, memory, pair);
+        if (open == NULL) {
+            made->critical = criticals;
+            criticals = made;
+            insert(made);
+        }
+        spin_unlock(&lock);
+        if (open == NULL) {
+            fill_block(made);
+        }
+        pthread_mutex_unlock(&made->items);
+        if (open == NULL) {
+            return made;
+        }
+        let_go(made);
+    }
+    exchange(open, memory);
+    return open;
+}
+
+static struct lent *lend_copy(struct call *call, void *memory, uint32_t count, char shape, const struct pair *pair) {
+    struct lent *made = make_lent(call, memory, count, shape);
+    add_pair(made, pair);
+    fill_block(made);
+    spin_lock(&lock);
+    insert(made);
+    spin_unlock(&lock);
     return made;
 }
 
@@ -370,15 +536,9 @@ static void *lend(struct call *call, void *memory, jboolean *is_copy) {
     if (given.kind != JG_BUFFER) {
         return lend_plain(call, memory);
     }
-    struct lent *lent = shared_of(call, memory);
-    if (lent == NULL) {
-        lent = lend_copy(call, memory, count, shape);
-        insert(lent);
-        if (is_critical(family)) {
-            add_to_criticals(call->thread, lent);
-        }
-    }
-    add_name(lent, given);
+    const struct pair pair = {call->thread, given, 1};
+    struct lent *lent = is_critical(family) ? lend_critical(call, memory, shape, &pair)
+                                            : lend_copy(call, memory, count, shape, &pair);
     if (is_copy != NULL) {
         *is_copy = JNI_TRUE;
     }
@@ -396,78 +556,69 @@ void *buffers_lend(struct call *call, void *memory, jboolean *is_copy) {
 
 /* ---- giving back ---- */
 
-/* What was stored goes into the machine's memory: of a critical buffer only items that differ from what was lent. */
-static void copy_back(struct lent *lent) {
-    size_t size = objects_item_size(lent->shape);
-    if (is_of_string(lent->family) || lent->memory == NULL) {
-        return;
+/*
+ * A critical pair: what of `given` the machine is called with. A commit handed the memory on already, so that it is
+ * taken anew where something may have been stored since.
+ */
+static int give_critical(struct given_back *given) {
+    struct lent *lent = given->lent;
+    spin_lock(&lock);
+    struct pair *pair = pair_of(lent, given->name);
+    unsigned char *memory = pair != NULL && pair->is_machines ? lent->memory : NULL;
+    spin_unlock(&lock);
+    if (memory == NULL && given->mode != JNI_ABORT && !is_of_string(lent->family)) {
+        memory = machine->GetPrimitiveArrayCritical(given->env, given->object, NULL);
     }
-    if (lent->was == NULL) {
-        memcpy(lent->memory, lent->at, lent->bytes);
-        return;
+    if (given->mode != JNI_ABORT) {
+        copy_back(lent, memory);
     }
-    for (size_t at = difference(lent->at, lent->was, 0, lent->bytes); at < lent->bytes;
-         at = difference(lent->at, lent->was, at, lent->bytes)) {
-        at = at / size * size;
-        memcpy(lent->memory + at, lent->at + at, size);
-        memcpy(lent->was + at, lent->at + at, size);
-        at += size;
+    given->memory = memory;
+    spin_lock(&lock);
+    pair = pair_of(lent, given->name);
+    if (pair != NULL) {
+        give_up_memory(lent, pair);
     }
-}
-
-static jg_value newest_name(const struct call *call, const struct lent *lent) {
-    if (lent == NULL || lent->name_count == 0) {
-        return jg_buffer(call->thread->number, UINT64_MAX);
-    }
-    return lent->names[lent->name_count - 1];
+    spin_unlock(&lock);
+    return memory != NULL;
 }
 
 /* The machine's memory is handed back, or its last pair is: what of `given` the machine is called with. */
 static int give_to_machine(struct given_back *given) {
     struct lent *lent = given->lent;
-    int is_commit = given->mode == JNI_COMMIT;
-    int is_last = lent->name_count <= 1;
-    if (is_critical(lent->family) && lent->machine_count == 0) {
-        if (is_commit || !is_last) {
-            return 0;
-        }
-        /* A commit handed the memory on, so it is taken anew. */
-        lent->memory = machine->GetPrimitiveArrayCritical(given->env, given->object, NULL);
-        lent->machine_count = 1;
+    if (is_critical(lent->family)) {
+        return give_critical(given);
     }
-    lent->is_aborted = given->mode == JNI_ABORT;
-    if (!lent->is_aborted && (is_commit || is_last)) {
-        copy_back(lent);
+    if (given->mode != JNI_ABORT) {
+        copy_back(lent, lent->memory);
     }
     given->memory = lent->memory;
-    if (is_critical(lent->family)) {
-        lent->machine_count--;
-        if (lent->machine_count == 0) {
-            lent->memory = NULL;
-        }
-        return given->memory != NULL;
-    }
-    if (is_of_string(lent->family) || !is_commit) {
+    if (is_of_string(lent->family) || given->mode != JNI_COMMIT) {
         lent->memory = NULL;
     }
     return given->memory != NULL;
 }
 
-/* A pair is closed; with the last one the buffer is. */
-static void close_pair(struct given_back *given, const struct site *site) {
+/* The pair is closed, where this is no commit. The rest is done by whoever closes the buffer with it. */
+static void end_pair(struct given_back *given, const struct site *site) {
     struct lent *lent = given->lent;
-    if (given->mode == JNI_COMMIT || lent->is_given) {
-        return;
+    spin_lock(&lock);
+    struct pair *pair = lent->is_given || given->mode == JNI_COMMIT ? NULL : pair_of(lent, given->name);
+    if (pair != NULL && close_pair(lent, pair)) {
+        lent->given = site;
+        lent->is_aborted = given->mode == JNI_ABORT;
+    } else {
+        given->lent = NULL;
     }
-    if (lent->name_count > 1) {
-        lent->name_count--;
-        return;
+    spin_unlock(&lock);
+}
+
+/* The core is told that the pair is closed, by a call that it wasn't asked of or that it denied. */
+static void tell_given(const struct given_back *given, uint32_t thread) {
+    if (given->mode != JNI_COMMIT) {
+        core_lock();
+        core_tell(jg_fact_of(JG_GAVE, thread, given->name, jg_null(), 0, 0), NULL);
+        core_unlock();
     }
-    if (is_critical(lent->family)) {
-        leave_out_of_criticals(lent);
-    }
-    lent->is_given = 1;
-    lent->given = site;
 }
 
 /* The release of a library that isn't judged, of memory that a judged one was lent. */
@@ -476,13 +627,10 @@ static int give_unjudged(struct given_back *given) {
     if (lent == NULL || lent->is_plain || lent->is_given) {
         return lent == NULL || lent->is_plain;
     }
-    if (given->mode != JNI_COMMIT && lent->name_count > 0) {
-        core_lock();
-        core_tell(jg_fact_of(JG_GAVE, 0, lent->names[lent->name_count - 1], jg_null(), 0, 0), NULL);
-        core_unlock();
-    }
+    given->name = newest_name(lent, threads_known());
+    tell_given(given, 0);
     int is_made = give_to_machine(given);
-    close_pair(given, NULL);
+    end_pair(given, NULL);
     return is_made;
 }
 
@@ -517,14 +665,9 @@ static int give_denied(struct given_back *given) {
         /* By a function of another kind: HotSpot would free memory that it can't. The buffer stays open. */
         return 0;
     }
-    if (given->mode != JNI_COMMIT && lent->name_count > 0) {
-        core_lock();
-        core_tell(jg_fact_of(JG_GAVE, given->call->thread->number, lent->names[lent->name_count - 1], jg_null(), 0, 0),
-                  NULL);
-        core_unlock();
-    }
+    tell_given(given, given->call->thread->number);
     int is_made = give_to_machine(given);
-    close_pair(given, given->call->site);
+    end_pair(given, given->call->site);
     return is_made;
 }
 
@@ -540,7 +683,8 @@ static int give_judged(struct given_back *given) {
     if (lent != NULL && !lent->is_given) {
         look(lent, call->site);
     }
-    call_operand(call, newest_name(call, lent));
+    given->name = lent ? newest_name(lent, call->thread) : jg_buffer(call->thread->number, UINT64_MAX);
+    call_operand(call, given->name);
     if (given->mode != NO_MODE) {
         call_number(call, given->mode);
     }
@@ -558,7 +702,7 @@ static int give_judged(struct given_back *given) {
         return 1;
     }
     int is_made = give_to_machine(given);
-    close_pair(given, call->site);
+    end_pair(given, call->site);
     return is_made;
 }
 
@@ -591,7 +735,6 @@ static void hold_back(struct lent *lent) {
     memset(lent->at + lent->bytes, ZONE_BYTE, ZONE);
     spin_lock(&lock);
     lent->held = NULL;
-    lent->is_held = 1;
     *newest = lent;
     newest = &lent->held;
     held_count++;
@@ -639,11 +782,20 @@ static struct lent *take_oldest(size_t most) {
     return taken;
 }
 
+/* Whether the copy was given back and nobody saw to it yet. */
+static int is_left(struct lent *lent) {
+    spin_lock(&lock);
+    int answer = lent->is_given && !lent->is_held;
+    lent->is_held |= answer;
+    spin_unlock(&lock);
+    return answer;
+}
+
 static void let_go_of(struct lent *lent) {
     struct lent *old;
     if (lent->is_plain) {
         forget(lent);
-    } else if (lent->is_given && !lent->is_held) {
+    } else if (is_left(lent)) {
         if (!quarantine_takes(lent->bytes)) {
             forget(lent);
         } else {
@@ -675,12 +827,16 @@ void buffers_places(const struct lent *lent, const struct site **made, uint32_t 
 }
 
 void buffers_thread_ended(struct thread *thread) {
+    struct lent *next;
     spin_lock(&lock);
-    for (struct lent *it = thread->criticals; it != NULL; it = it->critical) {
-        it->is_given = 1;
-        it->thread = NULL;
+    for (struct lent *it = criticals; it != NULL; it = next) {
+        next = it->critical;
+        struct pair *pair = newest_pair(it, thread);
+        while (!it->is_given && pair->thread == thread) {
+            close_pair(it, pair);
+            pair = newest_pair(it, thread);
+        }
     }
-    thread->criticals = NULL;
     spin_unlock(&lock);
 }
 
@@ -698,8 +854,8 @@ void buffers_end(void (*see)(const struct site *made, uint16_t made_by, jg_value
             if (it->was != NULL || it->memory != NULL) {
                 look(it, it->made);
             }
-            for (size_t which = 0; which < it->name_count && see != NULL; which++) {
-                see(it->made, it->made_by, it->names[which], with);
+            for (size_t which = 0; which < it->pair_count && see != NULL; which++) {
+                see(it->made, it->made_by, it->pairs[which].name, with);
             }
         }
     }

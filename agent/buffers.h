@@ -16,6 +16,7 @@ enum { NO_MODE = INT32_MIN };
 struct given_back {
     struct lent *lent; /* NULL where the memory is the machine's own */
     struct call *call; /* NULL where it isn't judged */
+    jg_value name;     /* of the pair that it closes */
     void *memory;      /* what the machine is given */
     jint mode;
     JNIEnv *env;

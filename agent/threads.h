@@ -82,7 +82,6 @@ struct thread {
     uint64_t newest_serial;
     int is_pending;         /* an exception is, as the core was told */
     int is_unsure;          /* something may have thrown or cleared one unseen */
-    struct lent *criticals; /* its open critical buffers */
     int has_entered;        /* it entered a monitor by MonitorEnter in this session */
     struct recent_site recent[RECENT_SITES];
     struct memo memos[MEMOS];

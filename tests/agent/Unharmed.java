@@ -4,6 +4,7 @@ public class Unharmed {
 
     static native void beyond(boolean[] four);
     static native void keeps(String text, int[] numbers);
+    static native void shares(int[] numbers, String wide);
     native void results();
 
     static long number;
@@ -27,6 +28,7 @@ public class Unharmed {
             case "beyond" -> beyond(new boolean[4]);
             case "keeps" -> keeps("text", new int[8]);
             case "results" -> new Unharmed().results();
+            case "shares" -> shares(new int[8], "\u4e00\u4e8c");
             default -> System.err.println("WRONG: there is no " + name);
         }
     }

@@ -177,3 +177,138 @@ JNIEXPORT void JNICALL Java_Unharmed_results(JNIEnv *env, jobject object) {
         check(!E->ExceptionCheck(env), "a method threw");
     }
 }
+
+/* ---- critical buffers of one array ---- */
+
+static jint item_of(JNIEnv *env, jintArray array, jsize at) {
+    jint item = -1;
+    E->GetIntArrayRegion(env, array, at, 1, &item);
+    return item;
+}
+
+/* Nested pairs: what is stored by one is read by the other, and nothing is lost however they are released. */
+static void nest(JNIEnv *env, jintArray numbers, jstring wide) {
+    static const jint MODES[][2] = {{0, 0}, {0, JNI_ABORT}, {JNI_ABORT, 0}};
+    for (jint turn = 0; turn < 3; turn++) {
+        jint *outer = E->GetPrimitiveArrayCritical(env, numbers, NULL);
+        outer[0] = turn + 10;
+        jint *inner = E->GetPrimitiveArrayCritical(env, numbers, NULL);
+        check(inner == outer && inner[0] == turn + 10, "two critical buffers of one array aren't one");
+        inner[1] = turn + 20;
+        E->ReleasePrimitiveArrayCritical(env, numbers, inner, MODES[turn][0]);
+        check(outer[1] == turn + 20, "a store through another buffer isn't seen");
+        E->ReleasePrimitiveArrayCritical(env, numbers, outer, MODES[turn][1]);
+        check(item_of(env, numbers, 0) == turn + 10 && item_of(env, numbers, 1) == turn + 20, "a store is lost");
+    }
+    const jchar *one = E->GetStringCritical(env, wide, NULL), *other = E->GetStringCritical(env, wide, NULL);
+    check(one == other, "two critical buffers of one string of wide units aren't one");
+    E->ReleaseStringCritical(env, wide, other);
+    E->ReleaseStringCritical(env, wide, one);
+}
+
+struct sharing {
+    JavaVM *vm;
+    jintArray numbers;
+    jint *seen;
+    pthread_barrier_t both;
+};
+
+/* Another thread: it writes the array by a call, and stores into a buffer that the first one's is still beside. */
+static void *share(void *which) {
+    struct sharing *it = which;
+    JNIEnv *env;
+    jint written = 33;
+    (*it->vm)->AttachCurrentThread(it->vm, (void **)&env, NULL);
+    pthread_barrier_wait(&it->both);
+    pthread_barrier_wait(&it->both);
+    E->SetIntArrayRegion(env, it->numbers, 3, 1, &written);
+    it->seen = E->GetPrimitiveArrayCritical(env, it->numbers, NULL);
+    check(it->seen[2] == 32 && it->seen[3] == 33, "what was stored before isn't seen by another thread");
+    it->seen[4] = 34;
+    pthread_barrier_wait(&it->both);
+    pthread_barrier_wait(&it->both);
+    E->ReleasePrimitiveArrayCritical(env, it->numbers, it->seen, 0);
+    pthread_barrier_wait(&it->both);
+    pthread_barrier_wait(&it->both);
+    (*it->vm)->DetachCurrentThread(it->vm);
+    return NULL;
+}
+
+static void share_with_thread(JNIEnv *env, jintArray numbers) {
+    struct sharing it = {.numbers = E->NewGlobalRef(env, numbers)};
+    pthread_t thread;
+    E->GetJavaVM(env, &it.vm);
+    pthread_barrier_init(&it.both, NULL, 2);
+    pthread_create(&thread, NULL, share, &it);
+    pthread_barrier_wait(&it.both);
+    jint *items = E->GetPrimitiveArrayCritical(env, numbers, NULL);
+    items[2] = 32;
+    pthread_barrier_wait(&it.both);
+    pthread_barrier_wait(&it.both);
+    check(it.seen == items && items[4] == 34, "what another thread stored isn't seen");
+    items[5] = 35;
+    pthread_barrier_wait(&it.both);
+    pthread_barrier_wait(&it.both);
+    items[6] = 36;
+    E->ReleasePrimitiveArrayCritical(env, numbers, items, 0);
+    for (jint at = 2; at < 7; at++) {
+        check(item_of(env, numbers, at) == 30 + at, "a store of one of two threads is lost");
+    }
+    pthread_barrier_wait(&it.both);
+    pthread_join(thread, NULL);
+    pthread_barrier_destroy(&it.both);
+    E->DeleteGlobalRef(env, it.numbers);
+}
+
+/* Many threads: each counts in an item of its own, by pairs that are nested or not. */
+enum { CROWD = 4, TURNS = 3000 };
+
+struct counting {
+    JavaVM *vm;
+    jintArray numbers;
+    jint item;
+};
+
+static void *count(void *which) {
+    const struct counting *it = which;
+    JNIEnv *env;
+    (*it->vm)->AttachCurrentThread(it->vm, (void **)&env, NULL);
+    for (jint turn = 0; turn < TURNS; turn++) {
+        jint *outer = E->GetPrimitiveArrayCritical(env, it->numbers, NULL), *inner = NULL;
+        if (turn % 3 == 0) {
+            inner = E->GetPrimitiveArrayCritical(env, it->numbers, NULL);
+        }
+        outer[it->item]++;
+        if (inner != NULL) {
+            E->ReleasePrimitiveArrayCritical(env, it->numbers, inner, 0);
+        }
+        E->ReleasePrimitiveArrayCritical(env, it->numbers, outer, inner != NULL ? JNI_ABORT : 0);
+    }
+    (*it->vm)->DetachCurrentThread(it->vm);
+    return NULL;
+}
+
+static void crowd(JNIEnv *env) {
+    pthread_t threads[CROWD];
+    struct counting each[CROWD];
+    jintArray numbers = E->NewGlobalRef(env, E->NewIntArray(env, 1024));
+    for (jint at = 0; at < CROWD; at++) {
+        each[at] = (struct counting){.numbers = numbers, .item = at * 200};
+        E->GetJavaVM(env, &each[at].vm);
+        pthread_create(&threads[at], NULL, count, &each[at]);
+    }
+    for (jint at = 0; at < CROWD; at++) {
+        pthread_join(threads[at], NULL);
+    }
+    for (jint at = 0; at < CROWD; at++) {
+        check(item_of(env, numbers, at * 200) == TURNS, "a count of one of many threads is lost");
+    }
+    E->DeleteGlobalRef(env, numbers);
+}
+
+JNIEXPORT void JNICALL Java_Unharmed_shares(JNIEnv *env, jclass class, jintArray numbers, jstring wide) {
+    (void)class;
+    nest(env, numbers, wide);
+    share_with_thread(env, numbers);
+    crowd(env);
+}
