@@ -1,9 +1,9 @@
 /*
  * ids.c: the IDs of fields and methods that the machine handed out, and whether they fit.
  *
- * HotSpot's ID of an instance field is the field's offset, so several fields may bear one ID. Each known member has a
- * struct here, which stays, so that it can be read without the lock: one whose class is gone is marked, and serves
- * again for the next member of the same ID.
+ * HotSpot's ID of an instance field is the field's offset, so fields of many classes may bear one ID. Each known member
+ * has a struct here, which stays, so that it can be read without the lock: one whose class is gone is marked, and serves
+ * again for the next member of the same ID. What an ID was found to fit is kept by the ID and the class of the operand.
  */
 #include "ids.h"
 #include "kept.h"
@@ -19,7 +19,6 @@ struct member {
     jweak class;                         /* that declares it */
     struct class_info *_Atomic declared; /* the same; NULL once it is gone */
     struct member *of_class;             /* the next one that its class declares */
-    _Atomic uint64_t recent;             /* the serial number of a class for whose objects it was found to fit, or 0 */
     char *arguments;
     char type;
     uint8_t is_static;
@@ -35,6 +34,69 @@ static struct member *_Atomic lists[LISTS];
 
 static struct member *_Atomic *list_of(const void *id) {
     return &lists[(uintptr_t)id * 0x9E3779B97F4A7C15u >> 48];
+}
+
+/* An ID that fits a class, and objects of it. It may be read while it serves again: its serial number is set last. */
+struct fitting {
+    struct fitting *_Atomic next; /* of the same list, or the next one that is free */
+    _Atomic uint64_t serial;      /* of the class; 0 where it is free */
+    const void *id;
+    uint32_t kind;
+    struct fitting *of_class; /* the next one of its class */
+};
+
+/* Lists by the ID and the class. They are read without the lock; who misses one there looks at the members. */
+static struct fitting *_Atomic fittings[LISTS];
+static struct fitting *free_fittings;
+
+static struct fitting *_Atomic *fittings_of(const void *id, uint64_t serial) {
+    return &fittings[((uintptr_t)id ^ serial * 0xC2B2AE3D27D4EB4Fu) * 0x9E3779B97F4A7C15u >> 48];
+}
+
+/* What a function asks of an ID, in one number. */
+static uint32_t kind_of(int is_method, int is_static, char letter) {
+    return (uint32_t)is_method << 9 | (uint32_t)is_static << 8 | (unsigned char)letter;
+}
+
+static int is_fitting(const void *id, uint64_t serial, uint32_t kind) {
+    const struct fitting *it = *fittings_of(id, serial);
+    while (it != NULL && (it->serial != serial || it->id != id || it->kind != kind)) {
+        it = it->next;
+    }
+    return it != NULL;
+}
+
+static void note_fitting(const void *id, struct class_info *class, uint32_t kind) {
+    pthread_mutex_lock(&lock);
+    if (!is_fitting(id, class->serial, kind)) {
+        struct fitting *_Atomic *list = fittings_of(id, class->serial);
+        struct fitting *it = free_fittings;
+        if (it != NULL) {
+            free_fittings = it->next;
+        } else {
+            it = must_make(sizeof *it);
+        }
+        it->id = id;
+        it->kind = kind;
+        it->of_class = class->fittings;
+        class->fittings = it;
+        it->serial = class->serial;
+        it->next = *list;
+        *list = it;
+    }
+    pthread_mutex_unlock(&lock);
+}
+
+/* Under the lock. */
+static void free_fitting(struct fitting *fitting) {
+    struct fitting *_Atomic *link = fittings_of(fitting->id, fitting->serial);
+    while (*link != fitting) {
+        link = &(*link)->next;
+    }
+    *link = fitting->next;
+    fitting->serial = 0;
+    fitting->next = free_fittings;
+    free_fittings = fitting;
 }
 
 /* ---- noting ---- */
@@ -56,19 +118,21 @@ char *ids_letters(const char *signature, char *result) {
     return letters;
 }
 
-/* The member of this ID, class and kind, or NULL. Under the lock. */
+/* The member of this ID and kind that the class declares, or NULL. Under the lock. */
 static struct member *member_of(const void *id, const struct class_info *class, int is_static) {
-    for (struct member *it = *list_of(id); it != NULL; it = it->next) {
-        if (it->id == id && it->declared == class && it->is_static == is_static) {
-            return it;
-        }
+    struct member *it = class->members;
+    while (it != NULL && (it->id != id || it->is_static != is_static)) {
+        it = it->of_class;
     }
-    return NULL;
+    return it;
 }
+
+/* How many members there are whose class is gone. */
+static size_t unused_count;
 
 /* A member of this ID whose class is gone, whose struct can serve again. Under the lock. */
 static struct member *unused_of(const void *id) {
-    struct member *it = *list_of(id);
+    struct member *it = unused_count > 0 ? *list_of(id) : NULL;
     while (it != NULL && (it->id != id || it->declared != NULL)) {
         it = it->next;
     }
@@ -91,6 +155,7 @@ static jweak put(struct member *member, struct class_info *declared) {
         *list = place;
     } else {
         unused = place->class;
+        unused_count--;
         free(place->arguments);
         member->next = place->next;
         *place = *member;
@@ -136,6 +201,10 @@ static void note_field(JNIEnv *env, jclass class, jfieldID field, const char *ty
     struct member member = {.id = field, .type = type[0] == '[' ? 'L' : type[0], .is_static = (uint8_t)is_static};
     add(env, member, declaring);
     machine->DeleteLocalRef(env, declaring);
+    struct object *object = objects_of(env, class);
+    if (object != NULL && object->described != NULL) {
+        note_fitting(field, object->described, kind_of(0, is_static, member.type));
+    }
 }
 
 static void note_method(JNIEnv *env, jmethodID method) {
@@ -207,8 +276,14 @@ void ids_forget_class(struct class_info *class) {
     pthread_mutex_lock(&lock);
     for (struct member *it = class->members; it != NULL; it = it->of_class) {
         it->declared = NULL;
+        unused_count++;
     }
     class->members = NULL;
+    for (struct fitting *it = class->fittings, *next; it != NULL; it = next) {
+        next = it->of_class;
+        free_fitting(it);
+    }
+    class->fittings = NULL;
     pthread_mutex_unlock(&lock);
 }
 
@@ -241,7 +316,6 @@ static struct class_info *deciding(const struct id_question *question) {
 
 /* How well the member fits; the better, the less. */
 static enum fit fit_of(JNIEnv *env, struct member *member, const struct id_question *question) {
-    struct class_info *class = deciding(question);
     int is_method = question->subject == ID_METHOD || question->subject == ID_CONSTRUCTOR;
     if (question->subject != ID_ANY && member->is_method != is_method) {
         return ID_UNKNOWN;
@@ -255,12 +329,8 @@ static enum fit fit_of(JNIEnv *env, struct member *member, const struct id_quest
     if (question->subject == ID_FIELD && member->type != question->letter) {
         return ID_OTHER_TYPE;
     }
-    if (class != NULL && member->recent != class->serial) {
-        if (!is_of_class(env, member, question)) {
-            return ID_OTHER_CLASS;
-        }
-        /* A constructor's class is compared exactly, so it isn't known by another question. */
-        member->recent = member->is_constructor ? 0 : class->serial;
+    if (deciding(question) != NULL && !is_of_class(env, member, question)) {
+        return ID_OTHER_CLASS;
     }
     return question->subject == ID_METHOD && member->type != question->letter ? ID_OTHER_RESULT : ID_FITS;
 }
@@ -283,24 +353,22 @@ static enum fit best_of(JNIEnv *env, const void *id, const struct id_question *q
     return best;
 }
 
-/* Whether a member of this ID was found to fit such an operand and such a function before. */
-static int is_known_to_fit(const void *id, const struct id_question *question) {
-    const struct class_info *class = deciding(question);
-    int is_method = question->subject == ID_METHOD;
-    for (struct member *it = *list_of(id); it != NULL && class != NULL; it = it->next) {
-        if (it->id == id && it->recent == class->serial && it->is_method == is_method &&
-            it->is_static == question->is_static && it->type == question->letter) {
-            return question->subject == ID_METHOD || question->subject == ID_FIELD;
-        }
-    }
-    return 0;
-}
-
 enum fit ids_fit(JNIEnv *env, const void *id, const struct id_question *question) {
+    int is_method = question->subject == ID_METHOD;
+    /* A constructor's class is compared exactly, and so not by what is kept. */
+    struct class_info *class = is_method || question->subject == ID_FIELD ? deciding(question) : NULL;
+    uint32_t kind = kind_of(is_method, question->is_static, question->letter);
     if (id == NULL) {
         return ID_UNKNOWN;
     }
-    return is_known_to_fit(id, question) ? ID_FITS : best_of(env, id, question);
+    if (class != NULL && is_fitting(id, class->serial, kind)) {
+        return ID_FITS;
+    }
+    enum fit fit = best_of(env, id, question);
+    if (class != NULL && fit == ID_FITS) {
+        note_fitting(id, class, kind);
+    }
+    return fit;
 }
 
 static const struct member *any_of(const void *id) {

@@ -13,11 +13,12 @@ struct site;
 
 /* A class, by its class object. */
 struct class_info {
-    char *signature;        /* as JVMTI spells it: Ljava/lang/String; */
-    uint32_t class_number;  /* by which the core is told of its objects */
-    uint64_t serial;        /* no other class has or had it; from 1 */
-    struct member *members; /* of its fields and methods, those whose IDs were seen (ids.c) */
-    char shape;             /* o an object, s a string, c a class object, A an array of objects, or an item's letter */
+    char *signature;          /* as JVMTI spells it: Ljava/lang/String; */
+    uint32_t class_number;    /* by which the core is told of its objects */
+    uint64_t serial;          /* no other class has or had it; from 1 */
+    struct member *members;   /* of its fields and methods, those whose IDs were seen (ids.c) */
+    struct fitting *fittings; /* the IDs that were found to fit it and its objects (ids.c) */
+    char shape;               /* o an object, s a string, c a class object, A an array of objects, or an item's letter */
 };
 
 struct object {

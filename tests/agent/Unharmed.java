@@ -5,6 +5,7 @@ public class Unharmed {
     static native void beyond(boolean[] four);
     static native void keeps(String text, int[] numbers);
     static native void shares(int[] numbers, String wide);
+    static native void fields(Object[] objects);
     native void results();
 
     static long number;
@@ -23,17 +24,40 @@ public class Unharmed {
         return number;
     }
 
-    static void run(String name) {
+    public static class Small {
+        public int number = 7;
+    }
+
+    static class Loader extends ClassLoader {
+        Class<?> define(byte[] bytes) {
+            return defineClass("Unharmed$Small", bytes, 0, bytes.length);
+        }
+    }
+
+    /** Each of a class of its own, with a field at one offset. */
+    static Object[] ofManyClasses(int count) throws Exception {
+        Object[] objects = new Object[count];
+        try (java.io.InputStream from = Unharmed.class.getResourceAsStream("Unharmed$Small.class")) {
+            byte[] bytes = from.readAllBytes();
+            for (int at = 0; at < count; at++) {
+                objects[at] = new Loader().define(bytes).getDeclaredConstructor().newInstance();
+            }
+        }
+        return objects;
+    }
+
+    static void run(String name) throws Exception {
         switch (name) {
             case "beyond" -> beyond(new boolean[4]);
             case "keeps" -> keeps("text", new int[8]);
             case "results" -> new Unharmed().results();
             case "shares" -> shares(new int[8], "\u4e00\u4e8c");
+            case "fields" -> fields(ofManyClasses(1000));
             default -> System.err.println("WRONG: there is no " + name);
         }
     }
 
-    public static void main(String[] names) {
+    public static void main(String[] names) throws Exception {
         System.loadLibrary("unharmed");
         for (String name : names) {
             System.err.println("== " + name);

@@ -10,6 +10,7 @@
 #include <stdlib.h>
 #include <string.h>
 #include <sys/mman.h>
+#include <time.h>
 #include <unistd.h>
 
 #define E (*env)
@@ -311,4 +312,42 @@ JNIEXPORT void JNICALL Java_Unharmed_shares(JNIEnv *env, jclass class, jintArray
     nest(env, numbers, wide);
     share_with_thread(env, numbers);
     crowd(env);
+}
+
+/* ---- fields at one offset ---- */
+
+/* How long a read takes in nanoseconds: the least of some samples. */
+static double time_of_read(JNIEnv *env, jobject object, jfieldID field) {
+    enum { SAMPLES = 15, READS = 200 };
+    double least = 1e9;
+    for (int sample = 0; sample < SAMPLES; sample++) {
+        struct timespec from, to;
+        clock_gettime(CLOCK_MONOTONIC, &from);
+        for (int read = 0; read < READS; read++) {
+            check(E->GetIntField(env, object, field) == 7, "a field is read wrongly");
+        }
+        clock_gettime(CLOCK_MONOTONIC, &to);
+        double time = ((double)(to.tv_sec - from.tv_sec) * 1e9 + (double)(to.tv_nsec - from.tv_nsec)) / READS;
+        least = time < least ? time : least;
+    }
+    return least;
+}
+
+/* A read takes as long beside many classes that have a field at that place as beside none. */
+JNIEXPORT void JNICALL Java_Unharmed_fields(JNIEnv *env, jclass class, jobjectArray objects) {
+    jobject first = E->GetObjectArrayElement(env, objects, 0);
+    jfieldID field = E->GetFieldID(env, E->GetObjectClass(env, first), "number", "I");
+    double alone = time_of_read(env, first, field), beside;
+    (void)class;
+    for (jsize at = 1; at < E->GetArrayLength(env, objects); at++) {
+        jobject object = E->GetObjectArrayElement(env, objects, at);
+        jclass of = E->GetObjectClass(env, object);
+        check(E->GetIntField(env, object, E->GetFieldID(env, of, "number", "I")) == 7, "a field is read wrongly");
+        E->DeleteLocalRef(env, of);
+        E->DeleteLocalRef(env, object);
+    }
+    beside = time_of_read(env, first, field);
+    if (beside > 4 * alone + 100) {
+        fprintf(stderr, "WRONG: a read takes %.0f ns, and beside other classes %.0f\n", alone, beside);
+    }
 }
