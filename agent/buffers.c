@@ -8,6 +8,7 @@
  */
 #include "buffers.h"
 #include "core.h"
+#include "kept.h"
 #include "names.h"
 #include "objects.h"
 #include "quarantine.h"
@@ -467,7 +468,7 @@ static struct lent *join(const struct call *call, void *memory, const struct pai
     return it;
 }
 
-/* The critical buffer of this memory: the open one, or a new one. It is known before it is filled, and locked so long. */
+/* The critical buffer of this memory: the open one, or a new one, whose items are locked until it is filled. */
 static struct lent *lend_critical(struct call *call, void *memory, char shape, const struct pair *pair) {
     spin_lock(&lock);
     struct lent *open = join(call, memory, pair);
@@ -709,11 +710,7 @@ static int give_judged(struct given_back *given) {
 int buffers_give(struct given_back *given, struct call *call, JNIEnv *env, jobject object, const void *memory,
                  jint mode) {
     struct kept kept;
-    if (call != NULL) {
-        kept = call->caller;
-    } else {
-        keep(&kept);
-    }
+    keep(&kept);
     *given = (struct given_back){.lent = memory ? find(memory) : NULL, .call = call, .mode = mode, .env = env};
     given->object = object;
     given->memory = (void *)(uintptr_t)memory;

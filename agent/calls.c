@@ -6,6 +6,7 @@
  */
 #include "calls.h"
 #include "core.h"
+#include "kept.h"
 #include "names.h"
 #include "objects.h"
 #include "options.h"
@@ -22,7 +23,6 @@ static jg_value never_made(const struct call *call) {
 
 void call_opens(struct call *call, uint32_t function, struct thread *thread, const struct site *site) {
     memset(call, 0, offsetof(struct call, operands));
-    keep(&call->caller);
     call->thread = thread;
     call->site = site;
     call->function = function;
@@ -42,16 +42,8 @@ void call_opens(struct call *call, uint32_t function, struct thread *thread, con
     call->reason = call->notice = call->notice_text = NULL;
 }
 
-static int begins(struct call *call, uint32_t function, JNIEnv *env, uintptr_t at, uintptr_t frame) {
-    struct thread *thread = threads_self();
-    const struct site *site = sites_caller(thread, at, frame);
-    if (!site->is_judged || !is_live || !threads_is_numbered(thread)) {
-        thread->is_unsure = 1;
-        return 0;
-    }
-    if (!threads_is_caught_up(thread, env, frame)) {
-        threads_catch_up(thread, env, frame);
-    }
+/* The call is judged, by a thread that is caught up with. */
+static int begin(struct call *call, uint32_t function, JNIEnv *env, struct thread *thread, const struct site *site) {
     call_opens(call, function, thread, site);
     call->env = env;
     call->is_own_env = thread->is_attached && env == thread->env;
@@ -62,23 +54,46 @@ static int begins(struct call *call, uint32_t function, JNIEnv *env, uintptr_t a
     return 1;
 }
 
-int call_begins(struct call *call, uint32_t function, JNIEnv *env, uintptr_t at, uintptr_t frame) {
+/* The thread, its place or what it did since isn't known yet. */
+static int begin_slowly(struct call *call, uint32_t function, JNIEnv *env, uintptr_t at, uintptr_t frame) {
     struct kept kept;
     keep(&kept);
-    int is_judged = begins(call, function, env, at, frame);
+    struct thread *thread = threads_self();
+    const struct site *site = sites_caller(thread, at, frame);
+    int is_judged = site->is_judged && is_live && threads_is_numbered(thread);
     if (is_judged) {
-        call->caller = kept;
+        if (!threads_is_caught_up(thread, env, frame)) {
+            threads_catch_up(thread, env, frame);
+        }
+        begin(call, function, env, thread, site);
     } else {
-        restore(&kept);
+        thread->is_unsure = 1;
     }
+    restore(&kept);
     return is_judged;
+}
+
+int call_begins(struct call *call, uint32_t function, JNIEnv *env, uintptr_t at, uintptr_t frame) {
+    struct thread *thread = threads_known();
+    const struct site *site = thread != NULL ? sites_recent(thread, at) : NULL;
+    if (site != NULL && !site->is_judged) {
+        thread->is_unsure = 1;
+        return 0;
+    }
+    if (site == NULL || !is_live || thread->number == 0 || !threads_is_caught_up(thread, env, frame)) {
+        return begin_slowly(call, function, env, at, frame);
+    }
+    return begin(call, function, env, thread, site);
 }
 
 void call_operand_of(struct call *call, jg_value operand, jobject handle) {
     if (call->count == FEW_OPERANDS && call->more == NULL) {
+        struct kept kept;
+        keep(&kept);
         call->more = must_make(sizeof *call->more);
         memcpy(call->more->values, call->operands, sizeof call->operands);
         memcpy(call->more->handles, call->handles, sizeof call->handles);
+        restore(&kept);
     }
     if (call->count < MOST_OPERANDS) {
         (call->more ? call->more->values : call->operands)[call->count] = operand;
@@ -205,8 +220,8 @@ static int is_unseen_global(uintptr_t handle, const struct name *known) {
     return (handle & 3) == 2 && is_from_start && (known == NULL || known->state == NAME_DEAD);
 }
 
-/* A handle that isn't believed: the machine is asked what it is now. */
-static void ask_machine(struct call *call, struct reference *it, const struct name *known) {
+/* A handle that isn't believed: the machine says what it is now. */
+static void resolve_in_machine(struct call *call, struct reference *it, const struct name *known) {
     int is_dead = is_unseen_global(address_of(it->handle), known);
     jobjectRefType kind = is_dead ? JNIInvalidRefType : call_kind(call, it->handle);
     known = known != NULL && known->state == NAME_SEEN ? NULL : known;
@@ -227,8 +242,17 @@ static void ask_machine(struct call *call, struct reference *it, const struct na
     it->name = known ? known->name : never_made(call);
 }
 
+static void ask_machine(struct call *call, struct reference *it, const struct name *known) {
+    struct kept kept;
+    keep(&kept);
+    resolve_in_machine(call, it, known);
+    restore(&kept);
+}
+
 /* A weak reference is made a local one for the call: so its object can't go in the middle of it. */
 static void make_local(struct call *call, struct reference *it) {
+    struct kept kept;
+    keep(&kept);
     jobject local = machine->NewLocalRef(call->env, it->handle);
     if (local == NULL) {
         core_lock();
@@ -241,6 +265,7 @@ static void make_local(struct call *call, struct reference *it) {
     } else {
         machine->DeleteLocalRef(call->env, local);
     }
+    restore(&kept);
 }
 
 static int is_foreign(const struct call *call, const struct name *known) {
@@ -316,7 +341,11 @@ void call_item(struct call *call, int64_t bits) {
 
 /* Whether the text is modified UTF-8. Without memory for the test it is taken for it. */
 static int is_modified_utf8(const char *text) {
-    return jg_is_utf8(jg_bytes(text), strlen(text)) != 0;
+    struct kept kept;
+    keep(&kept);
+    int32_t answer = jg_is_utf8(jg_bytes(text), strlen(text));
+    restore(&kept);
+    return answer != 0;
 }
 
 static void notice(struct call *call, const char *name, const char *sentence) {
@@ -498,14 +527,7 @@ struct question call_question(const struct call *call) {
 }
 
 /* Asks the core. Whether it answered. */
-static int ask(struct call *call) {
-    struct memo *memo = memo_of(call);
-    if (memo != NULL && is_repeated(call, memo)) {
-        call->verdict.rule = call->verdict.operand = 0;
-        call->verdict.ticket = memo->ticket;
-        call->thread->repeated++;
-        return 1;
-    }
+static int ask(struct call *call, struct memo *memo) {
     struct question question = call_question(call);
     const jg_value *kept = call->kept.kind == JG_NOTHING ? NULL : &call->kept;
     core_lock();
@@ -521,8 +543,8 @@ static int ask(struct call *call) {
     return error == 0;
 }
 
-static int passes(struct call *call) {
-    if (call->is_lost || !ask(call)) {
+static int passes(struct call *call, struct memo *memo) {
+    if (call->is_lost || !ask(call, memo)) {
         core_count(&counts.unasked);
         return 1;
     }
@@ -547,8 +569,18 @@ static int passes(struct call *call) {
 }
 
 int call_passes(struct call *call) {
-    int is_made = passes(call);
-    restore(&call->caller);
+    struct memo *memo = call->is_lost || call->notice != NULL ? NULL : memo_of(call);
+    if (memo != NULL && is_repeated(call, memo)) {
+        call->verdict.rule = call->verdict.operand = 0;
+        call->verdict.ticket = memo->ticket;
+        call->thread->repeated++;
+        call->is_asked = 1;
+        return 1;
+    }
+    struct kept kept;
+    keep(&kept);
+    int is_made = passes(call, memo);
+    restore(&kept);
     return is_made;
 }
 

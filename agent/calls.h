@@ -21,7 +21,6 @@
 #include "agent.h"
 #include "core.h"
 #include "ids.h"
-#include "kept.h"
 #include "names.h"
 #include "sites.h"
 #include "table.h"
@@ -48,7 +47,6 @@ struct reference {
 struct call {
     struct thread *thread;
     JNIEnv *env;
-    struct kept caller; /* what is the caller's, until the machine is called */
     const struct row *row;
     const struct site *site;
     uint32_t function;

@@ -127,7 +127,8 @@ class Wrapper:
         return self.next() if name == 'isCopy' or kind == 'void*' and name == 'address' else (kind, name)
 
     def items(self, letter):
-        """A list has two parameters, an array and its length, in either order. Any bits are an item, but of booleans."""
+        """A list has two parameters, an array and its length, in either order. Any bits are an item, but not a boolean.
+        """
         one, other = self.next(), self.next()
         array, count = (one, other) if '*' in one[0] else (other, one)
         if letter == 'Z':

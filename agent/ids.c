@@ -2,8 +2,9 @@
  * ids.c: the IDs of fields and methods that the machine handed out, and whether they fit.
  *
  * HotSpot's ID of an instance field is the field's offset, so fields of many classes may bear one ID. Each known member
- * has a struct here, which stays, so that it can be read without the lock: one whose class is gone is marked, and serves
- * again for the next member of the same ID. What an ID was found to fit is kept by the ID and the class of the operand.
+ * has a struct here, which stays, so that it can be read without the lock: one whose class is gone is marked, and
+ * serves again for the next member of the same ID. What an ID was found to fit is kept by the ID and the class of the
+ * operand.
  */
 #include "ids.h"
 #include "kept.h"
@@ -49,8 +50,8 @@ struct fitting {
 static struct fitting *_Atomic fittings[LISTS];
 static struct fitting *free_fittings;
 
-static struct fitting *_Atomic *fittings_of(const void *id, uint64_t serial) {
-    return &fittings[((uintptr_t)id ^ serial * 0xC2B2AE3D27D4EB4Fu) * 0x9E3779B97F4A7C15u >> 48];
+static struct fitting *_Atomic *fittings_of(const void *id, const struct class_info *class) {
+    return &fittings[((uintptr_t)id + ((uintptr_t)class << 12)) * 0x9E3779B97F4A7C15u >> 48];
 }
 
 /* What a function asks of an ID, in one number. */
@@ -58,9 +59,9 @@ static uint32_t kind_of(int is_method, int is_static, char letter) {
     return (uint32_t)is_method << 9 | (uint32_t)is_static << 8 | (unsigned char)letter;
 }
 
-static int is_fitting(const void *id, uint64_t serial, uint32_t kind) {
-    const struct fitting *it = *fittings_of(id, serial);
-    while (it != NULL && (it->serial != serial || it->id != id || it->kind != kind)) {
+static int is_known_to_fit(const void *id, const struct class_info *class, uint32_t kind) {
+    const struct fitting *it = *fittings_of(id, class);
+    while (it != NULL && (it->serial != class->serial || it->id != id || it->kind != kind)) {
         it = it->next;
     }
     return it != NULL;
@@ -68,8 +69,8 @@ static int is_fitting(const void *id, uint64_t serial, uint32_t kind) {
 
 static void note_fitting(const void *id, struct class_info *class, uint32_t kind) {
     pthread_mutex_lock(&lock);
-    if (!is_fitting(id, class->serial, kind)) {
-        struct fitting *_Atomic *list = fittings_of(id, class->serial);
+    if (!is_known_to_fit(id, class, kind)) {
+        struct fitting *_Atomic *list = fittings_of(id, class);
         struct fitting *it = free_fittings;
         if (it != NULL) {
             free_fittings = it->next;
@@ -88,8 +89,8 @@ static void note_fitting(const void *id, struct class_info *class, uint32_t kind
 }
 
 /* Under the lock. */
-static void free_fitting(struct fitting *fitting) {
-    struct fitting *_Atomic *link = fittings_of(fitting->id, fitting->serial);
+static void free_fitting(struct fitting *fitting, const struct class_info *class) {
+    struct fitting *_Atomic *link = fittings_of(fitting->id, class);
     while (*link != fitting) {
         link = &(*link)->next;
     }
@@ -281,7 +282,7 @@ void ids_forget_class(struct class_info *class) {
     class->members = NULL;
     for (struct fitting *it = class->fittings, *next; it != NULL; it = next) {
         next = it->of_class;
-        free_fitting(it);
+        free_fitting(it, class);
     }
     class->fittings = NULL;
     pthread_mutex_unlock(&lock);
@@ -353,6 +354,19 @@ static enum fit best_of(JNIEnv *env, const void *id, const struct id_question *q
     return best;
 }
 
+/* The ID isn't known to fit the class: the members that have it are looked at. */
+static __attribute__((noinline)) enum fit find_fit(JNIEnv *env, const void *id, const struct id_question *question,
+                                                   struct class_info *class, uint32_t kind) {
+    struct kept kept;
+    keep(&kept);
+    enum fit fit = best_of(env, id, question);
+    if (class != NULL && fit == ID_FITS) {
+        note_fitting(id, class, kind);
+    }
+    restore(&kept);
+    return fit;
+}
+
 enum fit ids_fit(JNIEnv *env, const void *id, const struct id_question *question) {
     int is_method = question->subject == ID_METHOD;
     /* A constructor's class is compared exactly, and so not by what is kept. */
@@ -361,14 +375,7 @@ enum fit ids_fit(JNIEnv *env, const void *id, const struct id_question *question
     if (id == NULL) {
         return ID_UNKNOWN;
     }
-    if (class != NULL && is_fitting(id, class->serial, kind)) {
-        return ID_FITS;
-    }
-    enum fit fit = best_of(env, id, question);
-    if (class != NULL && fit == ID_FITS) {
-        note_fitting(id, class, kind);
-    }
-    return fit;
+    return class != NULL && is_known_to_fit(id, class, kind) ? ID_FITS : find_fit(env, id, question, class, kind);
 }
 
 static const struct member *any_of(const void *id) {

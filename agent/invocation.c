@@ -6,6 +6,7 @@
  */
 #include "calls.h"
 #include "core.h"
+#include "kept.h"
 
 #include <string.h>
 
@@ -22,10 +23,8 @@ static int begins(struct call *call, uint32_t function, uintptr_t at, uintptr_t 
         threads_catch_up(thread, thread->env, frame);
         call_opens(call, function, thread, site);
         call->was_pending = thread->is_pending;
-        call->caller = kept;
-    } else {
-        restore(&kept);
     }
+    restore(&kept);
     return is_judged;
 }
 

@@ -1,8 +1,9 @@
 /*
  * kept.h: what the agent's own work leaves to its caller as it was: errno and the state of floating point.
  *
- * Both are kept from the agent's beginning to the machine's call, and from the machine's answer to the end. So the
- * machine finds what the caller left, and the caller what the machine left. The agent never changes a signal mask.
+ * Both may be changed by what is outside the agent and its core: the machine, the loader, files and memory. So they are
+ * kept round whatever of the agent's work calls these before the machine's own call, and after it. The machine finds
+ * what the caller left, and the caller what the machine left. The agent never changes a signal mask.
  */
 #ifndef KEPT_H
 #define KEPT_H

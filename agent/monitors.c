@@ -7,6 +7,7 @@
 #include "monitors.h"
 #include "calls.h"
 #include "core.h"
+#include "kept.h"
 #include "objects.h"
 #include "spin.h"
 
@@ -187,7 +188,11 @@ jint JNICALL wrapped_MonitorEnter(JNIEnv *env, jobject handle) {
 
 /* Whether the exit isn't the core's matter: of a virtual thread, or of a monitor that was entered before the agent. */
 static int is_beyond(const struct call *call) {
-    if (call->is_own_env && is_virtual(call->env)) {
+    struct kept kept;
+    keep(&kept);
+    int is_of_virtual = call->is_own_env && is_virtual(call->env);
+    restore(&kept);
+    if (is_of_virtual) {
         return 1;
     }
     if (!is_from_start && call->first.object != NULL && call->first.object->owned == 0) {
@@ -207,7 +212,6 @@ jint JNICALL wrapped_MonitorExit(JNIEnv *env, jobject handle) {
     }
     handle = call_object(&call, handle);
     if (is_beyond(&call)) {
-        restore(&call.caller);
         jint answer = machine->MonitorExit(env, handle);
         call_drops(&call);
         return answer;

@@ -18,7 +18,8 @@ struct class_info {
     uint64_t serial;          /* no other class has or had it; from 1 */
     struct member *members;   /* of its fields and methods, those whose IDs were seen (ids.c) */
     struct fitting *fittings; /* the IDs that were found to fit it and its objects (ids.c) */
-    char shape;               /* o an object, s a string, c a class object, A an array of objects, or an item's letter */
+    /* o an object, s a string, c a class object, A an array of objects, or an item's letter */
+    char shape;
 };
 
 struct object {

@@ -130,15 +130,19 @@ void threads_own_again(struct thread *thread);
 /* Tells that native methods and frames that the stack has left are left. */
 void threads_unwind(struct thread *thread, uintptr_t stack);
 
-/* The same as sites_find_caller, by the places that the thread used last. */
-static inline const struct site *sites_caller(struct thread *thread, uintptr_t at, uintptr_t frame) {
+/* The place, where the thread used it lately and it passes no call on; or NULL. */
+static inline const struct site *sites_recent(const struct thread *thread, uintptr_t at) {
     const struct recent_site *recent = &thread->recent[(at >> 1) & (RECENT_SITES - 1)];
     const struct site *site = recent->site;
-    if (site != NULL && site->at == at && recent->generation == sites_generation && !site->is_wrapper &&
-        !site->is_own) {
-        return site;
-    }
-    return sites_find_caller(thread, at, frame);
+    int is_found = site != NULL && site->at == at && recent->generation == sites_generation && !site->is_wrapper &&
+                   !site->is_own;
+    return is_found ? site : NULL;
+}
+
+/* The same as sites_find_caller, by the places that the thread used last. */
+static inline const struct site *sites_caller(struct thread *thread, uintptr_t at, uintptr_t frame) {
+    const struct site *site = sites_recent(thread, at);
+    return site != NULL ? site : sites_find_caller(thread, at, frame);
 }
 
 /* Whether nothing need be told before a call: the same as threads_catch_up, where there is nothing to catch up. */
