@@ -1,3 +1,7 @@
+import java.awt.Graphics2D;
+import java.awt.image.BufferedImage;
+import java.util.Arrays;
+
 /** Programs whose doings are the same with the agent and without it: what isn't is told as WRONG. */
 public class Unharmed {
     static int counted;
@@ -46,6 +50,19 @@ public class Unharmed {
         return objects;
     }
 
+    /** An image that is drawn onto itself, so that the JDK's own code holds one array twice. */
+    static void draws() {
+        BufferedImage image = new BufferedImage(64, 64, BufferedImage.TYPE_INT_RGB);
+        for (int at = 0; at < 64 * 64; at++) {
+            image.setRGB(at % 64, at / 64, at * 0x10305);
+        }
+        Graphics2D graphics = image.createGraphics();
+        graphics.drawImage(image, 10, 5, null);
+        graphics.drawImage(image, 0, 0, 30, 30, 20, 20, 50, 64, null);
+        graphics.dispose();
+        System.out.println(Arrays.hashCode(image.getRGB(0, 0, 64, 64, null, 0, 64)));
+    }
+
     static void run(String name) throws Exception {
         switch (name) {
             case "beyond" -> beyond(new boolean[4]);
@@ -53,6 +70,7 @@ public class Unharmed {
             case "results" -> new Unharmed().results();
             case "shares" -> shares(new int[8], "\u4e00\u4e8c");
             case "fields" -> fields(ofManyClasses(1000));
+            case "draws" -> draws();
             default -> System.err.println("WRONG: there is no " + name);
         }
     }
