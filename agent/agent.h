@@ -9,8 +9,8 @@
  * Locks, in the order in which they are taken: the lock of meeting (objects.c), then the core's (core.c), then one of
  * the small ones (names, buffers, IDs, sites), which are held for a few instructions. None is held while the machine
  * makes a call of the library, and none but the lock of meeting while the agent calls the machine.
- * A critical buffer has a lock of its own, which is held while its items are copied. None but the small one of buffers is
- * taken then.
+ * A critical buffer has a lock of its own, which is held while its items are copied. None but the small one of buffers
+ * is taken then.
  */
 #ifndef AGENT_H
 #define AGENT_H
