@@ -14,6 +14,7 @@
 #include "options.h"
 #include "quarantine.h"
 
+#include <limits.h>
 #include <pthread.h>
 #include <stdlib.h>
 #include <string.h>
@@ -61,9 +62,20 @@ static void forget_env(const struct thread *thread) {
 
 static void forget_held(struct thread *thread);
 
-/* The thread has ended in the system. */
+/*
+ * The thread ends in the system. A library's key may have a destructor that makes calls and detaches the thread, so the
+ * agent's waits for the last round. Where the thread is attached even then the machine keeps what it has of it; and so
+ * does the agent, for a session of that number goes on.
+ */
 static void let_go(void *which) {
     struct thread *thread = which;
+    if (++thread->endings < PTHREAD_DESTRUCTOR_ITERATIONS) {
+        pthread_setspecific(ending, thread);
+        return;
+    }
+    if (thread->is_attached) {
+        return;
+    }
     pthread_mutex_lock(&lock);
     *(thread->before ? &thread->before->next : &threads) = thread->next;
     if (thread->next != NULL) {

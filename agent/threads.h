@@ -84,6 +84,7 @@ struct thread {
     int is_unsure;          /* something may have thrown or cleared one unseen */
     struct lent *criticals; /* its open critical buffers */
     int has_entered;        /* it entered a monitor by MonitorEnter in this session */
+    int endings;            /* how often the destructor of its key was called */
     struct recent_site recent[RECENT_SITES];
     struct memo memos[MEMOS];
     uint64_t repeated; /* questions that were answered by these */

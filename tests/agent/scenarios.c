@@ -891,6 +891,44 @@ static void sessions(JNIEnv *env, struct given *it) {
     E->DeleteGlobalRef(env, other.reference);
 }
 
+/* A thread that its library detaches by a key, when it ends. The local and the monitor are good until then. */
+static pthread_key_t attached_key;
+static void ends_attached(void *which) {
+    struct other *it = which;
+    JNIEnv *env = NULL;
+    if ((*vm)->GetEnv(vm, (void **)&env, JNI_VERSION_1_8) != JNI_OK) {
+        fprintf(stderr, "WRONG: the thread isn't attached any longer\n");
+        return;
+    }
+    if (E->GetStringLength(env, it->memory) != 4 || E->MonitorExit(env, it->reference) != 0) {
+        fprintf(stderr, "WRONG: a local or a monitor ended before its thread\n");
+    }
+    E->DeleteLocalRef(env, it->memory);
+    (*vm)->DetachCurrentThread(vm);
+}
+static void *stays_attached(void *which) {
+    struct other *it = which;
+    JNIEnv *env = NULL;
+    (*vm)->AttachCurrentThread(vm, (void **)&env, NULL);
+    it->memory = string(env);
+    E->MonitorEnter(env, it->reference);
+    pthread_setspecific(attached_key, it);
+    return NULL;
+}
+static void key_detaches(JNIEnv *env, struct given *it) {
+    struct other other = {.reference = E->NewGlobalRef(env, it->lock)};
+    pthread_t thread;
+    pthread_key_create(&attached_key, ends_attached);
+    for (int turn = 0; turn < 3; turn++) {
+        pthread_create(&thread, NULL, stays_attached, &other);
+        pthread_join(thread, NULL);
+    }
+    pthread_key_delete(attached_key);
+    E->MonitorEnter(env, it->lock);
+    E->MonitorExit(env, it->lock);
+    E->DeleteGlobalRef(env, other.reference);
+}
+
 static void reference_types(JNIEnv *env, struct given *it) {
     jobject made = string(env), global = E->NewGlobalRef(env, made);
     int live = E->GetObjectRefType(env, made), of_global = E->GetObjectRefType(env, global);
@@ -1237,6 +1275,7 @@ static const struct {
     {"advised_name", advised_name, "", NULL, "V"},
     {"advised_locals", advised_locals, "growing NewLocalRef", NULL, "V"},
     {"advised_deleted", advised_deleted, "", NULL, "V"},
+    {"key_detaches", key_detaches, "", NULL, ""},
 };
 
 enum { COUNT = sizeof SCENARIOS / sizeof *SCENARIOS };
