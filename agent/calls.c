@@ -100,10 +100,10 @@ static int is_stale_argument(const struct thread *thread, uintptr_t handle) {
         return 0;
     }
     if (thread->depth == 0) {
-        /* In a machine that was running already, the method may have begun before the agent came. */
-        return is_from_start;
+        /* Of a method without a stub, as all are that were bound before the agent came, it may be an argument. */
+        return natives_are_seen();
     }
-    return thread->activations[thread->depth - 1].native->is_judged;
+    return thread->activations[thread->depth - 1].native->is_judged && threads_knows_frame(thread);
 }
 
 jobjectRefType call_kind(const struct call *call, jobject handle) {
@@ -127,9 +127,13 @@ static void tell_lost(const struct call *call, jg_value name) {
 static void put_name(struct call *call, jobject handle, jg_value name, struct object *object, uint16_t made_by) {
     struct name before, made = {.handle = address_of(handle), .name = name, .object = object, .made = call->site};
     made.made_by = made_by;
-    made.is_believed = made_by != MADE_UNSEEN && (name.kind != JG_LOCAL || call->thread->depth > 0);
+    made.is_believed = made_by != MADE_UNSEEN;
     if (name.kind == JG_LOCAL) {
         made.frame = threads_add_local(call->thread, made.handle, name.number);
+        if (!threads_knows_frame(call->thread)) {
+            made.frame = 0;
+            made.is_believed = 0;
+        }
     }
     if (names_put(&made, &before)) {
         tell_lost(call, before.name);

@@ -26,6 +26,11 @@ struct native {
     uint32_t words;       /* how many words of arguments stand on the stack */
 };
 
+/* Whether each native method has a stub. Those that were bound before the agent came have none. */
+static inline int natives_are_seen(void) {
+    return is_from_start;
+}
+
 /* The machine binds a native method: a stub takes its place. */
 void JNICALL natives_bound(jvmtiEnv *tool, JNIEnv *env, jthread thread, jmethodID method, void *address,
                            void **replaced);

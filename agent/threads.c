@@ -257,6 +257,25 @@ void threads_tell_enter(struct thread *thread) {
     }
 }
 
+/* Whether no Java code runs in the thread: it began in native code, and is there. */
+static int is_at_base(void) {
+    jint count = 0;
+    return (*tool)->GetFrameCount(tool, NULL, &count) == 0 && count == 0;
+}
+
+int threads_knows_frame(const struct thread *thread) {
+    jmethodID method = NULL;
+    jlocation location;
+    if (thread->depth == 0) {
+        return is_from_start && is_at_base();
+    }
+    const struct native *newest = thread->activations[thread->depth - 1].native;
+    if (natives_are_seen() && newest->is_judged) {
+        return 1;
+    }
+    return (*tool)->GetFrameLocation(tool, NULL, 0, &method, &location) == 0 && method == newest->method;
+}
+
 int threads_leave(struct thread *thread) {
     struct activation left = thread->activations[--thread->depth];
     if (!left.is_told) {
@@ -397,13 +416,18 @@ void threads_catch_up(struct thread *thread, JNIEnv *env, uintptr_t stack) {
         core_unlock();
     }
     threads_own_again(thread);
-    if (env == thread->env && thread->is_unsure) {
+    if (env == thread->env && threads_is_unsure(thread)) {
         thread->is_unsure = 0;
         threads_check_pending(thread, env);
     }
 }
 
 /* ---- what is held back ---- */
+
+/* An argument of a native method is a place on the stack, which the machine uses for other things later. */
+static int is_on_stack(const struct thread *thread, uintptr_t handle) {
+    return handle >= thread->stack_low && handle < thread->stack_high;
+}
 
 static void forget_held(struct thread *thread) {
     for (size_t at = 0; at < thread->held_count; at++) {
@@ -438,14 +462,15 @@ static void give_oldest(struct thread *thread, JNIEnv *env) {
     if (frame != NULL) {
         frame->held--;
     }
-    if (names_let_go(oldest.handle, oldest.number)) {
+    /* Where the frame is gone the handle may be another reference by now. */
+    if (names_let_go(oldest.handle, oldest.number) && frame != NULL) {
         machine->DeleteLocalRef(env, (jobject)oldest.handle);
     }
 }
 
 int threads_hold_local(struct thread *thread, JNIEnv *env, const struct held_local *local) {
     struct frame *frame = frame_of(thread, local->frame);
-    if (!quarantine_takes(local->bytes) || frame == NULL) {
+    if (!quarantine_takes(local->bytes) || frame == NULL || is_on_stack(thread, local->handle)) {
         return 0;
     }
     if (thread->held == NULL) {
