@@ -123,6 +123,11 @@ static void tell_lost(const struct call *call, jg_value name) {
     core_unlock();
 }
 
+/* Locals end with frames: of callbacks of an agent of JVMTI, and of methods without a stub, nobody tells their ends. */
+static int knows_frame(const struct call *call) {
+    return !call->site->library->is_tool && threads_knows_frame(call->thread);
+}
+
 /* Gives the handle its name. A live one that it had before can't be in being any longer. */
 static void put_name(struct call *call, jobject handle, jg_value name, struct object *object, uint16_t made_by) {
     struct name before, made = {.handle = address_of(handle), .name = name, .object = object, .made = call->site};
@@ -130,7 +135,7 @@ static void put_name(struct call *call, jobject handle, jg_value name, struct ob
     made.is_believed = made_by != MADE_UNSEEN;
     if (name.kind == JG_LOCAL) {
         made.frame = threads_add_local(call->thread, made.handle, name.number);
-        if (!threads_knows_frame(call->thread)) {
+        if (!knows_frame(call)) {
             made.frame = 0;
             made.is_believed = 0;
         }

@@ -107,8 +107,12 @@ static void end_reference(struct call *call, const struct name *known, uint32_t 
     }
     struct held_local local = {known->handle, number, known->frame, bytes};
     struct held_global global = {known->handle, number, bytes, kind};
-    int is_held = kind == JG_LOCAL ? call->is_own_env && threads_hold_local(call->thread, call->env, &local)
-                                   : hold_global(call->env, &global);
+    int is_held = 0;
+    if (kind != JG_LOCAL) {
+        is_held = hold_global(call->env, &global);
+    } else if (call->is_own_env && !call->site->library->is_tool) {
+        is_held = threads_hold_local(call->thread, call->env, &local);
+    }
     if (!is_held && names_let_go(known->handle, number)) {
         delete_in_machine(call->env, kind, (jobject)known->handle);
     }
