@@ -241,6 +241,14 @@ void threads_enter(struct thread *thread, const struct native *native, uintptr_t
     thread->activations[thread->depth++] = (struct activation){stack, native, 0, 0, 0};
 }
 
+/* Tells frames that were pushed before what they stand in was told. Between core_lock and core_unlock. */
+static void tell_pushed(struct thread *thread, uint32_t *pushed) {
+    for (; *pushed > 0; --*pushed) {
+        core_tell(jg_fact_of(JG_PUSHED, thread->number, jg_nothing(), jg_null(), ROOM_OF_A_FRAME, 0), NULL);
+        threads_push(thread);
+    }
+}
+
 void threads_tell_enter(struct thread *thread) {
     struct activation *newest = &thread->activations[thread->depth - 1];
     if (core_tell(jg_fact_of(JG_ENTERS, thread->number, jg_nothing(), jg_null(), 0, 0), NULL) < 0) {
@@ -251,10 +259,7 @@ void threads_tell_enter(struct thread *thread) {
     newest->first_frame = thread->frame_count;
     thread->is_pending = 0;
     threads_push(thread);
-    for (; newest->pushed > 0; newest->pushed--) {
-        core_tell(jg_fact_of(JG_PUSHED, thread->number, jg_nothing(), jg_null(), ROOM_OF_A_FRAME, 0), NULL);
-        threads_push(thread);
-    }
+    tell_pushed(thread, &newest->pushed);
 }
 
 /* Whether no Java code runs in the thread: it began in native code, and is there. */
@@ -318,6 +323,9 @@ void threads_begun(struct thread *thread, JNIEnv *env, jg_value env_name) {
     thread->frame_count = 0;
     thread->local_count = 0;
     threads_push(thread);
+    core_lock();
+    tell_pushed(thread, &thread->pushed);
+    core_unlock();
 }
 
 int threads_attach(struct thread *thread) {
@@ -342,6 +350,9 @@ void JNICALL threads_ended(jvmtiEnv *of, JNIEnv *env, jthread which) {
     (void)env;
     (void)which;
     if (thread == NULL || !thread->is_attached) {
+        if (thread != NULL) {
+            thread->pushed = 0;
+        }
         return;
     }
     core_lock();

@@ -74,6 +74,7 @@ struct thread {
     size_t depth, activation_room;
     struct frame *frames;
     size_t frame_count, frame_room;
+    uint32_t pushed; /* frames that were pushed outside of native methods before its session was told */
     struct local *locals;
     size_t local_count, local_room;
     struct held_local *held; /* a ring */

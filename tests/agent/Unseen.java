@@ -86,6 +86,7 @@ public class Unseen {
                 catches();
             }
             case "late" -> late();
+            case "frames" -> Bystander.attaches(System.getProperty("judged"));
             default -> {
                 turn();
                 within();
@@ -102,4 +103,5 @@ class Bystander {
     }
 
     static native void holds(Class<?> unseen);
+    static native void attaches(String library);
 }
