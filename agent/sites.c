@@ -86,7 +86,7 @@ static void count_hashed(const uint32_t *hash, struct symbols *symbols) {
 
 static struct symbols symbols_of(const struct link_map *library) {
     struct symbols symbols = {.table = NULL};
-    for (const ElfW(Dyn) *it = library->l_ld; it != NULL && it->d_tag != DT_NULL; it++) {
+    for (const ElfW(Dyn) *it = library ? library->l_ld : NULL; it != NULL && it->d_tag != DT_NULL; it++) {
         /* Some machines have these addresses as they are in the file. */
         uintptr_t at = it->d_un.d_ptr < library->l_addr ? it->d_un.d_ptr + library->l_addr : it->d_un.d_ptr;
         if (it->d_tag == DT_SYMTAB) {
@@ -150,16 +150,18 @@ static int is_passing_on(const char *symbol) {
 struct looked_up {
     Dl_info info;
     char *path; /* the whole path of the library, or NULL */
-    struct link_map *library;
+    const struct link_map *library;
 };
 
 static struct looked_up look_up(uintptr_t at) {
     struct looked_up it = {.path = NULL};
-    if (dladdr1((void *)at, &it.info, (void **)&it.library, RTLD_DL_LINKMAP) && it.info.dli_fname != NULL) {
+    void *library = NULL;
+    if (dladdr1((void *)at, &it.info, &library, RTLD_DL_LINKMAP) && it.info.dli_fname != NULL) {
         const char *name = it.info.dli_fname;
         /* A program's own name may be no path. */
         it.path = realpath(strchr(name, '/') ? name : "/proc/self/exe", NULL);
         it.path = it.path ? it.path : must_copy(name);
+        it.library = library;
     }
     return it;
 }

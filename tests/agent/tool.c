@@ -38,7 +38,8 @@ static void JNICALL on_exception(jvmtiEnv *of, JNIEnv *env, jthread thread, jmet
 }
 
 /* What JVMTI hands out may stand where locals of an earlier callback did. */
-static void JNICALL on_catch(jvmtiEnv *of, JNIEnv *env, jthread thread, jmethodID method, jlocation at, jobject thrown) {
+static void JNICALL on_catch(jvmtiEnv *of, JNIEnv *env, jthread thread, jmethodID method, jlocation at,
+                             jobject thrown) {
     (void)thread, (void)at, (void)thrown;
     for (int turn = 0; turn < 6; turn++) {
         jclass class;
