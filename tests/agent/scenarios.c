@@ -706,8 +706,12 @@ static void callee_deletes(JNIEnv *env, struct given *it) {
     E->CallVoidMethod(env, deleted_by_callee, method(env, it, "callback", "()V"));
     E->GetVersion(env);
 }
+static jstring used_by_callee;
 JNIEXPORT void JNICALL Java_Scenarios_called(JNIEnv *env, jobject self) {
     E->GetObjectClass(env, self);
+    if (used_by_callee != NULL) {
+        E->GetStringLength(env, used_by_callee);
+    }
     if (deleted_by_callee != NULL) {
         E->DeleteGlobalRef(env, deleted_by_callee);
         deleted_by_callee = NULL;
@@ -927,6 +931,31 @@ static void key_detaches(JNIEnv *env, struct given *it) {
     E->MonitorEnter(env, it->lock);
     E->MonitorExit(env, it->lock);
     E->DeleteGlobalRef(env, other.reference);
+}
+
+/* A local of an attached thread, used in a native method that Java calls from there. */
+static void calls_back(JNIEnv *env, struct other *it) {
+    jmethodID back = E->GetMethodID(env, E->GetObjectClass(env, it->reference), "callback", "()V");
+    used_by_callee = string(env);
+    E->CallVoidMethod(env, it->reference, back);
+    used_by_callee = NULL;
+}
+static void attached_outer(JNIEnv *env, struct given *it) {
+    jobject global = E->NewGlobalRef(env, it->object);
+    in_attached(env, calls_back, global);
+    E->DeleteGlobalRef(env, global);
+}
+
+/* Such a local is used by another thread, and then by its own. */
+static void lends_local(JNIEnv *env, struct other *it) {
+    jstring made = string(env);
+    (void)it;
+    in_attached(env, foreign_length, made);
+    E->GetStringLength(env, made);
+}
+static void attached_foreign(JNIEnv *env, struct given *it) {
+    (void)it;
+    in_attached(env, lends_local, NULL);
 }
 
 static void reference_types(JNIEnv *env, struct given *it) {
@@ -1276,6 +1305,8 @@ static const struct {
     {"advised_locals", advised_locals, "growing NewLocalRef", NULL, "V"},
     {"advised_deleted", advised_deleted, "", NULL, "V"},
     {"key_detaches", key_detaches, "", NULL, ""},
+    {"attached_outer", attached_outer, "", NULL, ""},
+    {"attached_foreign", attached_foreign, "5 GetStringLength", NULL, ""},
 };
 
 enum { COUNT = sizeof SCENARIOS / sizeof *SCENARIOS };
