@@ -197,18 +197,33 @@ static int is_unseen_global(uintptr_t handle, const struct name *known) {
     return (handle & 3) == 2 && is_from_start && (known == NULL || known->state == NAME_DEAD);
 }
 
+static int is_foreign(const struct call *call, const struct name *known) {
+    return known->name.kind == JG_LOCAL && known->name.detail != call->thread->number;
+}
+
+/*
+ * Whether a live name is still that of its handle, of which the machine says this. It calls a local invalid also where
+ * the native method that has it called Java: where that method has no stub the local isn't judged dead.
+ */
+static int is_named_still(const struct call *call, const struct name *known, jobjectRefType kind) {
+    if (kind == JNIInvalidRefType) {
+        return !natives_are_seen() && known->name.kind == JG_LOCAL && known->frame == 0 && !is_foreign(call, known);
+    }
+    return kind == JNIWeakGlobalRefType || objects_of(call->env, (jobject)known->handle) == known->object;
+}
+
 /* A handle that isn't believed: the machine is asked what it is now. */
 static void ask_machine(struct call *call, struct reference *it, const struct name *known) {
     int is_dead = is_unseen_global(address_of(it->handle), known);
     jobjectRefType kind = is_dead ? JNIInvalidRefType : call_kind(call, it->handle);
     known = known != NULL && known->state == NAME_SEEN ? NULL : known;
     int is_live_name = known != NULL && known->state == NAME_LIVE;
+    if (is_live_name && is_named_still(call, known, kind)) {
+        it->name = known->name;
+        it->object = known->object;
+        return;
+    }
     if (kind != JNIInvalidRefType) {
-        if (is_live_name && (kind == JNIWeakGlobalRefType || objects_of(call->env, it->handle) == known->object)) {
-            it->name = known->name;
-            it->object = known->object;
-            return;
-        }
         adopt(call, it, kind);
         return;
     }
@@ -233,10 +248,6 @@ static void make_local(struct call *call, struct reference *it) {
     } else {
         machine->DeleteLocalRef(call->env, local);
     }
-}
-
-static int is_foreign(const struct call *call, const struct name *known) {
-    return known->name.kind == JG_LOCAL && known->name.detail != call->thread->number;
 }
 
 struct reference call_resolve(struct call *call, jobject handle, int wants_object) {

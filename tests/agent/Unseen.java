@@ -8,6 +8,7 @@ public class Unseen {
     static native int uses(String text, Object object);
     static native void fails();
     static native void within();
+    static native void around();
 
     static void caught() {
         try {
@@ -17,7 +18,7 @@ public class Unseen {
         }
     }
 
-    /** Each native method but `within`, beside a library that isn't judged. */
+    /** Native methods that a call of `turn` calls, beside a library that isn't judged. */
     static void turn() {
         makes();
         Bystander.holds(Unseen.class);
@@ -61,8 +62,10 @@ public class Unseen {
     /** The methods were bound before the agent came, but `within`. */
     static void late() throws Exception {
         turn();
+        around();
         loadAgent();
         turn();
+        around();
         within();
         for (int depth = 20; depth < 60; depth++) {
             down(depth);
@@ -89,6 +92,7 @@ public class Unseen {
             case "frames" -> Bystander.attaches(System.getProperty("judged"));
             default -> {
                 turn();
+                around();
                 within();
             }
         }

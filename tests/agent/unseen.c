@@ -35,8 +35,13 @@ JNIEXPORT void JNICALL Java_Unseen_drops(JNIEnv *env, jclass class, jobject one,
     E->DeleteLocalRef(env, three);
 }
 
+static jstring outer; /* a local of a native method that called Java, while that runs */
+
 JNIEXPORT jint JNICALL Java_Unseen_uses(JNIEnv *env, jclass class, jstring text, jobject object) {
     jstring made = E->NewLocalRef(env, text);
+    if (outer != NULL) {
+        E->GetStringLength(env, outer);
+    }
     E->GetObjectClass(env, object);
     E->IsSameObject(env, class, object);
     return E->GetStringLength(env, made) + E->GetStringLength(env, text);
@@ -49,5 +54,13 @@ JNIEXPORT void JNICALL Java_Unseen_fails(JNIEnv *env, jclass class) {
 }
 
 JNIEXPORT void JNICALL Java_Unseen_within(JNIEnv *env, jclass class) {
-    E->CallStaticVoidMethod(env, class, E->GetStaticMethodID(env, class, "turn", "()V"));
+    jmethodID turn = E->GetStaticMethodID(env, class, "turn", "()V");
+    outer = E->NewStringUTF(env, "outer");
+    E->CallStaticVoidMethod(env, class, turn);
+    outer = NULL;
+}
+
+/* The same, in a method that is bound earlier. */
+JNIEXPORT void JNICALL Java_Unseen_around(JNIEnv *env, jclass class) {
+    Java_Unseen_within(env, class);
 }
