@@ -947,10 +947,13 @@ static void attached_outer(JNIEnv *env, struct given *it) {
 }
 
 /* Such a local is used by another thread, and then by its own. */
+static void lent_length(JNIEnv *env, struct other *it) {
+    E->GetStringLength(env, it->reference);
+}
 static void lends_local(JNIEnv *env, struct other *it) {
     jstring made = string(env);
     (void)it;
-    in_attached(env, foreign_length, made);
+    in_attached(env, lent_length, made);
     E->GetStringLength(env, made);
 }
 static void attached_foreign(JNIEnv *env, struct given *it) {
