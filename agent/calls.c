@@ -129,10 +129,10 @@ static int is_stale_argument(const struct thread *thread, uintptr_t handle) {
         return 0;
     }
     if (thread->depth == 0) {
-        /* In a machine that was running already, the method may have begun before the agent came. */
-        return is_from_start;
+        /* Of a method without a stub, as all are that were bound before the agent came, it may be an argument. */
+        return natives_are_seen();
     }
-    return thread->activations[thread->depth - 1].native->is_judged;
+    return thread->activations[thread->depth - 1].native->is_judged && threads_knows_frame(thread);
 }
 
 jobjectRefType call_kind(const struct call *call, jobject handle) {
@@ -152,13 +152,22 @@ static void tell_lost(const struct call *call, jg_value name) {
     core_unlock();
 }
 
+/* Locals end with frames: of callbacks of an agent of JVMTI, and of methods without a stub, nobody tells their ends. */
+static int knows_frame(const struct call *call) {
+    return !call->site->library->is_tool && threads_knows_frame(call->thread);
+}
+
 /* Gives the handle its name. A live one that it had before can't be in being any longer. */
 static void put_name(struct call *call, jobject handle, jg_value name, struct object *object, uint16_t made_by) {
     struct name before, made = {.handle = address_of(handle), .name = name, .object = object, .made = call->site};
     made.made_by = made_by;
-    made.is_believed = made_by != MADE_UNSEEN && (name.kind != JG_LOCAL || call->thread->depth > 0);
+    made.is_believed = made_by != MADE_UNSEEN;
     if (name.kind == JG_LOCAL) {
         made.frame = threads_add_local(call->thread, made.handle, name.number);
+        if (!knows_frame(call)) {
+            made.frame = 0;
+            made.is_believed = 0;
+        }
     }
     if (names_put(&made, &before)) {
         tell_lost(call, before.name);
@@ -220,18 +229,33 @@ static int is_unseen_global(uintptr_t handle, const struct name *known) {
     return (handle & 3) == 2 && is_from_start && (known == NULL || known->state == NAME_DEAD);
 }
 
+static int is_foreign(const struct call *call, const struct name *known) {
+    return known->name.kind == JG_LOCAL && known->name.detail != call->thread->number;
+}
+
+/*
+ * Whether a live name is still that of its handle, of which the machine says this. It calls a local invalid also where
+ * the native method that has it called Java: where that method has no stub the local isn't judged dead.
+ */
+static int is_named_still(const struct call *call, const struct name *known, jobjectRefType kind) {
+    if (kind == JNIInvalidRefType) {
+        return !natives_are_seen() && known->name.kind == JG_LOCAL && known->frame == 0 && !is_foreign(call, known);
+    }
+    return kind == JNIWeakGlobalRefType || objects_of(call->env, (jobject)known->handle) == known->object;
+}
+
 /* A handle that isn't believed: the machine says what it is now. */
 static void resolve_in_machine(struct call *call, struct reference *it, const struct name *known) {
     int is_dead = is_unseen_global(address_of(it->handle), known);
     jobjectRefType kind = is_dead ? JNIInvalidRefType : call_kind(call, it->handle);
     known = known != NULL && known->state == NAME_SEEN ? NULL : known;
     int is_live_name = known != NULL && known->state == NAME_LIVE;
+    if (is_live_name && is_named_still(call, known, kind)) {
+        it->name = known->name;
+        it->object = known->object;
+        return;
+    }
     if (kind != JNIInvalidRefType) {
-        if (is_live_name && (kind == JNIWeakGlobalRefType || objects_of(call->env, it->handle) == known->object)) {
-            it->name = known->name;
-            it->object = known->object;
-            return;
-        }
         adopt(call, it, kind);
         return;
     }
@@ -266,10 +290,6 @@ static void make_local(struct call *call, struct reference *it) {
         machine->DeleteLocalRef(call->env, local);
     }
     restore(&kept);
-}
-
-static int is_foreign(const struct call *call, const struct name *known) {
-    return known->name.kind == JG_LOCAL && known->name.detail != call->thread->number;
 }
 
 struct reference call_resolve(struct call *call, jobject handle, int wants_object) {

@@ -26,7 +26,7 @@ struct name {
     struct object *object; /* NULL where it is dead */
     const struct site *made;
     const struct site *ended;
-    uint64_t frame;   /* of a local: the serial number of the frame that it was made in */
+    uint64_t frame;   /* of a local: the serial number of its frame; 0 where nobody tells its end */
     uint16_t made_by; /* functions, by their numbers; or MADE_UNSEEN */
     uint16_t ended_by;
     uint8_t state;

@@ -40,22 +40,42 @@ static pthread_mutex_t lock = PTHREAD_MUTEX_INITIALIZER;
 
 extern char jg_stub[] __attribute__((visibility("hidden")));
 
+_Atomic int natives_have_stubs = 1;
+
 enum { STUB_SIZE = 32, CHUNK_SIZE = 64 << 10 };
 
 /* Memory for stubs that is mapped twice, to be written and to be run. */
 static unsigned char *written, *run;
 static size_t chunk_used = CHUNK_SIZE;
 
+static void *map_file(int file, int protection) {
+    void *mapped = mmap(NULL, CHUNK_SIZE, protection, MAP_SHARED, file, 0);
+    return mapped == MAP_FAILED ? NULL : mapped;
+}
+
 static int map_chunk(void) {
     int file = memfd_create("jg stubs", MFD_CLOEXEC);
-    if (file < 0 || ftruncate(file, CHUNK_SIZE) != 0) {
-        return -1;
+    unsigned char *to_write = NULL, *to_run = NULL;
+    if (file >= 0 && ftruncate(file, CHUNK_SIZE) == 0) {
+        to_write = map_file(file, PROT_READ | PROT_WRITE);
+        to_run = map_file(file, PROT_READ | PROT_EXEC);
     }
-    written = mmap(NULL, CHUNK_SIZE, PROT_READ | PROT_WRITE, MAP_SHARED, file, 0);
-    run = mmap(NULL, CHUNK_SIZE, PROT_READ | PROT_EXEC, MAP_SHARED, file, 0);
-    close(file);
-    chunk_used = 0;
-    return written == MAP_FAILED || run == MAP_FAILED ? -1 : 0;
+    if (file >= 0) {
+        close(file);
+    }
+    if (to_write != NULL && to_run != NULL) {
+        written = to_write;
+        run = to_run;
+        chunk_used = 0;
+        return 0;
+    }
+    if (to_write != NULL) {
+        munmap(to_write, CHUNK_SIZE);
+    }
+    if (to_run != NULL) {
+        munmap(to_run, CHUNK_SIZE);
+    }
+    return -1;
 }
 
 /* A new stub, or NULL. Under the lock. */
@@ -64,7 +84,9 @@ static void *make_stub(struct native *native) {
     unsigned char code[STUB_SIZE] = {0x49, 0xBB, 0, 0, 0, 0, 0, 0, 0,    0,    0x49, 0xBA,
                                      0,    0,    0, 0, 0, 0, 0, 0, 0x41, 0xFF, 0xE2};
     const char *common = jg_stub;
-    if (chunk_used == CHUNK_SIZE && map_chunk() != 0) {
+    if (!natives_have_stubs || (chunk_used == CHUNK_SIZE && map_chunk() != 0)) {
+        /* What was refused once isn't asked for again: from now on nothing is judged that needs each method's stub. */
+        natives_have_stubs = 0;
         return NULL;
     }
     memcpy(code + 2, &native, sizeof native);
@@ -78,6 +100,8 @@ static void *make_stub(struct native *native) {
 #else
 
 /* No stub on this processor: native methods aren't seen, and their locals are asked at each use. */
+_Atomic int natives_have_stubs;
+
 static void *make_stub(struct native *native) {
     (void)native;
     return NULL;

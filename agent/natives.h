@@ -26,6 +26,14 @@ struct native {
     uint32_t words;       /* how many words of arguments stand on the stack */
 };
 
+/* Whether stubs can be made: on this processor, and by leave of the system. */
+extern _Atomic int natives_have_stubs;
+
+/* Whether each native method has a stub. Those that were bound before the agent came have none. */
+static inline int natives_are_seen(void) {
+    return is_from_start && natives_have_stubs;
+}
+
 /* The machine binds a native method: a stub takes its place. */
 void JNICALL natives_bound(jvmtiEnv *tool, JNIEnv *env, jthread thread, jmethodID method, void *address,
                            void **replaced);

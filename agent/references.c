@@ -107,8 +107,12 @@ static void end_reference(struct call *call, const struct name *known, uint32_t 
     }
     struct held_local local = {known->handle, number, known->frame, bytes};
     struct held_global global = {known->handle, number, bytes, kind};
-    int is_held = kind == JG_LOCAL ? call->is_own_env && threads_hold_local(call->thread, call->env, &local)
-                                   : hold_global(call->env, &global);
+    int is_held = 0;
+    if (kind != JG_LOCAL) {
+        is_held = hold_global(call->env, &global);
+    } else if (call->is_own_env && !call->site->library->is_tool) {
+        is_held = threads_hold_local(call->thread, call->env, &local);
+    }
     if (!is_held && names_let_go(known->handle, number)) {
         delete_in_machine(call->env, kind, (jobject)known->handle);
     }
@@ -199,10 +203,12 @@ static int is_untold(const struct thread *thread) {
 
 /* A library that isn't judged pushed a frame. */
 static void push_unjudged(void) {
-    struct thread *thread = threads_known();
-    if (thread != NULL && is_untold(thread)) {
+    struct thread *thread = threads_self();
+    if (is_untold(thread)) {
         thread->activations[thread->depth - 1].pushed++;
-    } else if (thread != NULL && thread->is_attached) {
+    } else if (!thread->is_attached) {
+        thread->pushed++;
+    } else {
         core_lock();
         core_tell(jg_fact_of(JG_PUSHED, thread->number, jg_nothing(), jg_null(), 16, 0), NULL);
         core_unlock();
@@ -250,7 +256,9 @@ static jobject pop_unjudged(JNIEnv *env, jobject result, uintptr_t at) {
     if (thread != NULL && is_untold(thread)) {
         struct activation *newest = &thread->activations[thread->depth - 1];
         newest->pushed -= newest->pushed > 0;
-    } else if (thread != NULL && thread->is_attached && threads_has_pushed(thread)) {
+    } else if (thread != NULL && !thread->is_attached) {
+        thread->pushed -= thread->pushed > 0;
+    } else if (thread != NULL && threads_has_pushed(thread)) {
         tell_popped(thread, JG_FN_PopLocalFrame, sites_at(at));
     }
     return machine->PopLocalFrame(env, result);

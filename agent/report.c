@@ -553,6 +553,9 @@ static void tell_own_faults(void) {
                     (unsigned long long)counts.unasked, (unsigned long long)counts.impossible,
                     (unsigned long long)counts.refused);
     }
+    if (!natives_have_stubs) {
+        report_line("native methods weren't seen: no stubs could be made, and what needs them wasn't judged");
+    }
     if (counts.unseen > 0) {
         report_line("%llu calls ended what began before the agent came", (unsigned long long)counts.unseen);
     }

@@ -59,8 +59,65 @@ static int is_judged(const char *path, uintptr_t base) {
     return options.libraries ? is_named(path) : !is_of_jdk(path);
 }
 
+/* ---- what a library exports ---- */
+
+/* Where a library's exported symbols are. */
+struct symbols {
+    const ElfW(Sym) * table;
+    const char *names;
+    size_t first, end;
+};
+
+/* The symbols that a hash table in GNU's form is of: the last chain ends with the last of them. */
+static void count_hashed(const uint32_t *hash, struct symbols *symbols) {
+    uint32_t bucket_count = hash[0], first = hash[1], last = 0;
+    const uint32_t *buckets = (const uint32_t *)((const ElfW(Addr) *)(hash + 4) + hash[2]);
+    const uint32_t *chains = buckets + bucket_count;
+    for (uint32_t at = 0; at < bucket_count; at++) {
+        last = buckets[at] > last ? buckets[at] : last;
+    }
+    if (last >= first && last > 0) {
+        while ((chains[last - first] & 1) == 0) {
+            last++;
+        }
+        symbols->first = first;
+        symbols->end = last + 1;
+    }
+}
+
+static struct symbols symbols_of(const struct link_map *library) {
+    struct symbols symbols = {.table = NULL};
+    for (const ElfW(Dyn) *it = library ? library->l_ld : NULL; it != NULL && it->d_tag != DT_NULL; it++) {
+        /* Some machines have these addresses as they are in the file. */
+        uintptr_t at = it->d_un.d_ptr < library->l_addr ? it->d_un.d_ptr + library->l_addr : it->d_un.d_ptr;
+        if (it->d_tag == DT_SYMTAB) {
+            symbols.table = (const ElfW(Sym) *)at;
+        } else if (it->d_tag == DT_STRTAB) {
+            symbols.names = (const char *)at;
+        } else if (it->d_tag == DT_HASH && symbols.end == 0) {
+            symbols.end = ((const uint32_t *)at)[1];
+        } else if (it->d_tag == DT_GNU_HASH) {
+            count_hashed((const uint32_t *)at, &symbols);
+        }
+    }
+    return symbols;
+}
+
+/* Whether it is an agent of JVMTI. dlsym would look into the libraries that it needs, and change what dlerror says. */
+static int is_tool(const struct link_map *library) {
+    struct symbols symbols = symbols_of(library);
+    for (size_t at = symbols.first; symbols.table && symbols.names && at < symbols.end; at++) {
+        const ElfW(Sym) *it = &symbols.table[at];
+        const char *name = symbols.names + it->st_name;
+        if (it->st_shndx != SHN_UNDEF && (strcmp(name, "Agent_OnLoad") == 0 || strcmp(name, "Agent_OnAttach") == 0)) {
+            return 1;
+        }
+    }
+    return 0;
+}
+
 /* The library of this path that is at this address. Under the lock. */
-static const struct library *library_of(const char *path, uintptr_t base) {
+static const struct library *library_of(const char *path, uintptr_t base, const struct link_map *library) {
     for (struct library *it = libraries; it != NULL; it = it->next) {
         if (it->base == base && strcmp(it->path, path) == 0) {
             return it;
@@ -72,6 +129,7 @@ static const struct library *library_of(const char *path, uintptr_t base) {
     made->name = name_of(made->path);
     made->is_judged = is_judged(made->path, base);
     made->is_of_jdk = is_of_jdk(made->path);
+    made->is_tool = is_tool(library);
     made->next = libraries;
     libraries = made;
     return made;
@@ -93,15 +151,18 @@ static int is_passing_on(const char *symbol) {
 struct looked_up {
     Dl_info info;
     char *path; /* the whole path of the library, or NULL */
+    const struct link_map *library;
 };
 
 static struct looked_up look_up(uintptr_t at) {
     struct looked_up it = {.path = NULL};
-    if (dladdr((void *)at, &it.info) && it.info.dli_fname != NULL) {
+    void *library = NULL;
+    if (dladdr1((void *)at, &it.info, &library, RTLD_DL_LINKMAP) && it.info.dli_fname != NULL) {
         const char *name = it.info.dli_fname;
         /* A program's own name may be no path. */
         it.path = realpath(strchr(name, '/') ? name : "/proc/self/exe", NULL);
         it.path = it.path ? it.path : must_copy(name);
+        it.library = library;
     }
     return it;
 }
@@ -113,7 +174,7 @@ static struct site *make_place(uintptr_t at, const struct looked_up *it) {
     made->library = &NOWHERE;
     made->offset = at;
     if (it->path != NULL) {
-        made->library = library_of(it->path, base);
+        made->library = library_of(it->path, base, it->library);
         made->offset = at - base;
         made->is_own = base == own_base;
         if (it->info.dli_sname != NULL) {

@@ -15,6 +15,7 @@ struct library {
     const char *name; /* the end of the path */
     int is_judged;
     int is_of_jdk;
+    int is_tool; /* an agent of JVMTI: its callbacks have frames of locals, of which nobody tells */
 };
 
 /* A place, of which there is one struct. It stays, also where its library was unloaded. */

@@ -14,6 +14,7 @@
 #include "options.h"
 #include "quarantine.h"
 
+#include <limits.h>
 #include <pthread.h>
 #include <stdlib.h>
 #include <string.h>
@@ -61,9 +62,20 @@ static void forget_env(const struct thread *thread) {
 
 static void forget_held(struct thread *thread);
 
-/* The thread has ended in the system. */
+/*
+ * The thread ends in the system. A library's key may have a destructor that makes calls and detaches the thread, so the
+ * agent's waits for the last round. Where the thread is attached even then the machine keeps what it has of it; and so
+ * does the agent, for a session of that number goes on.
+ */
 static void let_go(void *which) {
     struct thread *thread = which;
+    if (++thread->endings < PTHREAD_DESTRUCTOR_ITERATIONS) {
+        pthread_setspecific(ending, thread);
+        return;
+    }
+    if (thread->is_attached) {
+        return;
+    }
     pthread_mutex_lock(&lock);
     *(thread->before ? &thread->before->next : &threads) = thread->next;
     if (thread->next != NULL) {
@@ -229,6 +241,14 @@ void threads_enter(struct thread *thread, const struct native *native, uintptr_t
     thread->activations[thread->depth++] = (struct activation){stack, native, 0, 0, 0};
 }
 
+/* Tells frames that were pushed before what they stand in was told. Between core_lock and core_unlock. */
+static void tell_pushed(struct thread *thread, uint32_t *pushed) {
+    for (; *pushed > 0; --*pushed) {
+        core_tell(jg_fact_of(JG_PUSHED, thread->number, jg_nothing(), jg_null(), ROOM_OF_A_FRAME, 0), NULL);
+        threads_push(thread);
+    }
+}
+
 void threads_tell_enter(struct thread *thread) {
     struct activation *newest = &thread->activations[thread->depth - 1];
     if (core_tell(jg_fact_of(JG_ENTERS, thread->number, jg_nothing(), jg_null(), 0, 0), NULL) < 0) {
@@ -239,10 +259,26 @@ void threads_tell_enter(struct thread *thread) {
     newest->first_frame = thread->frame_count;
     thread->is_pending = 0;
     threads_push(thread);
-    for (; newest->pushed > 0; newest->pushed--) {
-        core_tell(jg_fact_of(JG_PUSHED, thread->number, jg_nothing(), jg_null(), ROOM_OF_A_FRAME, 0), NULL);
-        threads_push(thread);
+    tell_pushed(thread, &newest->pushed);
+}
+
+/* Whether no Java code runs in the thread: it began in native code, and is there. */
+static int is_at_base(void) {
+    jint count = 0;
+    return (*tool)->GetFrameCount(tool, NULL, &count) == 0 && count == 0;
+}
+
+int threads_knows_frame(const struct thread *thread) {
+    jmethodID method = NULL;
+    jlocation location;
+    if (thread->depth == 0) {
+        return is_from_start && is_at_base();
     }
+    const struct native *newest = thread->activations[thread->depth - 1].native;
+    if (natives_are_seen() && newest->is_judged) {
+        return 1;
+    }
+    return (*tool)->GetFrameLocation(tool, NULL, 0, &method, &location) == 0 && method == newest->method;
 }
 
 int threads_leave(struct thread *thread) {
@@ -287,6 +323,9 @@ void threads_begun(struct thread *thread, JNIEnv *env, jg_value env_name) {
     thread->frame_count = 0;
     thread->local_count = 0;
     threads_push(thread);
+    core_lock();
+    tell_pushed(thread, &thread->pushed);
+    core_unlock();
 }
 
 int threads_attach(struct thread *thread) {
@@ -311,6 +350,9 @@ void JNICALL threads_ended(jvmtiEnv *of, JNIEnv *env, jthread which) {
     (void)env;
     (void)which;
     if (thread == NULL || !thread->is_attached) {
+        if (thread != NULL) {
+            thread->pushed = 0;
+        }
         return;
     }
     core_lock();
@@ -385,13 +427,18 @@ void threads_catch_up(struct thread *thread, JNIEnv *env, uintptr_t stack) {
         core_unlock();
     }
     threads_own_again(thread);
-    if (env == thread->env && thread->is_unsure) {
+    if (env == thread->env && threads_is_unsure(thread)) {
         thread->is_unsure = 0;
         threads_check_pending(thread, env);
     }
 }
 
 /* ---- what is held back ---- */
+
+/* An argument of a native method is a place on the stack, which the machine uses for other things later. */
+static int is_on_stack(const struct thread *thread, uintptr_t handle) {
+    return handle >= thread->stack_low && handle < thread->stack_high;
+}
 
 static void forget_held(struct thread *thread) {
     for (size_t at = 0; at < thread->held_count; at++) {
@@ -426,14 +473,15 @@ static void give_oldest(struct thread *thread, JNIEnv *env) {
     if (frame != NULL) {
         frame->held--;
     }
-    if (names_let_go(oldest.handle, oldest.number)) {
+    /* Where the frame is gone the handle may be another reference by now. */
+    if (names_let_go(oldest.handle, oldest.number) && frame != NULL) {
         machine->DeleteLocalRef(env, (jobject)oldest.handle);
     }
 }
 
 int threads_hold_local(struct thread *thread, JNIEnv *env, const struct held_local *local) {
     struct frame *frame = frame_of(thread, local->frame);
-    if (!quarantine_takes(local->bytes) || frame == NULL) {
+    if (!quarantine_takes(local->bytes) || frame == NULL || is_on_stack(thread, local->handle)) {
         return 0;
     }
     if (thread->held == NULL) {

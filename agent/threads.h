@@ -74,6 +74,7 @@ struct thread {
     size_t depth, activation_room;
     struct frame *frames;
     size_t frame_count, frame_room;
+    uint32_t pushed; /* frames that were pushed outside of native methods before its session was told */
     struct local *locals;
     size_t local_count, local_room;
     struct held_local *held; /* a ring */
@@ -83,6 +84,7 @@ struct thread {
     int is_pending;         /* an exception is, as the core was told */
     int is_unsure;          /* something may have thrown or cleared one unseen */
     int has_entered;        /* it entered a monitor by MonitorEnter in this session */
+    int endings;            /* how often the destructor of its key was called */
     struct recent_site recent[RECENT_SITES];
     struct memo memos[MEMOS];
     uint64_t repeated; /* questions that were answered by these */
@@ -145,10 +147,15 @@ static inline const struct site *sites_caller(struct thread *thread, uintptr_t a
     return site != NULL ? site : sites_find_caller(thread, at, frame);
 }
 
+/* Whether an exception may have been thrown or cleared unseen: so may one that a method without a stub left pending. */
+static inline int threads_is_unsure(const struct thread *thread) {
+    return thread->is_unsure || (thread->is_pending && !natives_are_seen());
+}
+
 /* Whether nothing need be told before a call: the same as threads_catch_up, where there is nothing to catch up. */
 static inline int threads_is_caught_up(const struct thread *thread, const JNIEnv *env, uintptr_t stack) {
     const struct activation *newest = thread->depth ? &thread->activations[thread->depth - 1] : NULL;
-    return thread->is_attached && !thread->is_unsure && thread->waiting.object == NULL && env == thread->env &&
+    return thread->is_attached && !threads_is_unsure(thread) && thread->waiting.object == NULL && env == thread->env &&
            (newest == NULL || (newest->is_told && newest->stack > stack));
 }
 
@@ -167,6 +174,12 @@ void JNICALL threads_ended(jvmtiEnv *tool, JNIEnv *env, jthread thread);
 /* It enters a native method, of which the core isn't told yet. */
 void threads_enter(struct thread *thread, const struct native *native, uintptr_t stack);
 
+/*
+ * Whether the thread's locals are of the frame that the core takes them for: it is in the native method that the agent
+ * saw it enter last, or in native code that Java didn't call.
+ */
+int threads_knows_frame(const struct thread *thread);
+
 /* It leaves the newest one. Whether that was told: then the caller tells JG_LEAVES before. */
 int threads_leave(struct thread *thread);
 
@@ -180,7 +193,7 @@ void threads_pop(struct thread *thread, uint16_t by, const struct site *site);
 /* Whether the newest frame was pushed in the newest native method. */
 int threads_has_pushed(const struct thread *thread);
 
-/* The thread has a new local reference; its frame's serial number. */
+/* The thread has a new local reference; its frame's serial number, or 0. */
 uint64_t threads_add_local(struct thread *thread, uintptr_t handle, uint64_t number);
 
 /* An exception is pending in the machine: tells it, or that none is. Not between core_lock and core_unlock. */

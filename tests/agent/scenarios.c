@@ -706,8 +706,12 @@ static void callee_deletes(JNIEnv *env, struct given *it) {
     E->CallVoidMethod(env, deleted_by_callee, method(env, it, "callback", "()V"));
     E->GetVersion(env);
 }
+static jstring used_by_callee;
 JNIEXPORT void JNICALL Java_Scenarios_called(JNIEnv *env, jobject self) {
     E->GetObjectClass(env, self);
+    if (used_by_callee != NULL) {
+        E->GetStringLength(env, used_by_callee);
+    }
     if (deleted_by_callee != NULL) {
         E->DeleteGlobalRef(env, deleted_by_callee);
         deleted_by_callee = NULL;
@@ -889,6 +893,72 @@ static void sessions(JNIEnv *env, struct given *it) {
         pthread_join(threads[at], NULL);
     }
     E->DeleteGlobalRef(env, other.reference);
+}
+
+/* A thread that its library detaches by a key, when it ends. The local and the monitor are good until then. */
+static pthread_key_t attached_key;
+static void ends_attached(void *which) {
+    struct other *it = which;
+    JNIEnv *env = NULL;
+    if ((*vm)->GetEnv(vm, (void **)&env, JNI_VERSION_1_8) != JNI_OK) {
+        fprintf(stderr, "WRONG: the thread isn't attached any longer\n");
+        return;
+    }
+    if (E->GetStringLength(env, it->memory) != 4 || E->MonitorExit(env, it->reference) != 0) {
+        fprintf(stderr, "WRONG: a local or a monitor ended before its thread\n");
+    }
+    E->DeleteLocalRef(env, it->memory);
+    (*vm)->DetachCurrentThread(vm);
+}
+static void *stays_attached(void *which) {
+    struct other *it = which;
+    JNIEnv *env = NULL;
+    (*vm)->AttachCurrentThread(vm, (void **)&env, NULL);
+    it->memory = string(env);
+    E->MonitorEnter(env, it->reference);
+    pthread_setspecific(attached_key, it);
+    return NULL;
+}
+static void key_detaches(JNIEnv *env, struct given *it) {
+    struct other other = {.reference = E->NewGlobalRef(env, it->lock)};
+    pthread_t thread;
+    pthread_key_create(&attached_key, ends_attached);
+    for (int turn = 0; turn < 3; turn++) {
+        pthread_create(&thread, NULL, stays_attached, &other);
+        pthread_join(thread, NULL);
+    }
+    pthread_key_delete(attached_key);
+    E->MonitorEnter(env, it->lock);
+    E->MonitorExit(env, it->lock);
+    E->DeleteGlobalRef(env, other.reference);
+}
+
+/* A local of an attached thread, used in a native method that Java calls from there. */
+static void calls_back(JNIEnv *env, struct other *it) {
+    jmethodID back = E->GetMethodID(env, E->GetObjectClass(env, it->reference), "callback", "()V");
+    used_by_callee = string(env);
+    E->CallVoidMethod(env, it->reference, back);
+    used_by_callee = NULL;
+}
+static void attached_outer(JNIEnv *env, struct given *it) {
+    jobject global = E->NewGlobalRef(env, it->object);
+    in_attached(env, calls_back, global);
+    E->DeleteGlobalRef(env, global);
+}
+
+/* Such a local is used by another thread, and then by its own. */
+static void lent_length(JNIEnv *env, struct other *it) {
+    E->GetStringLength(env, it->reference);
+}
+static void lends_local(JNIEnv *env, struct other *it) {
+    jstring made = string(env);
+    (void)it;
+    in_attached(env, lent_length, made);
+    E->GetStringLength(env, made);
+}
+static void attached_foreign(JNIEnv *env, struct given *it) {
+    (void)it;
+    in_attached(env, lends_local, NULL);
 }
 
 static void reference_types(JNIEnv *env, struct given *it) {
@@ -1237,6 +1307,9 @@ static const struct {
     {"advised_name", advised_name, "", NULL, "V"},
     {"advised_locals", advised_locals, "growing NewLocalRef", NULL, "V"},
     {"advised_deleted", advised_deleted, "", NULL, "V"},
+    {"key_detaches", key_detaches, "", NULL, ""},
+    {"attached_outer", attached_outer, "", NULL, ""},
+    {"attached_foreign", attached_foreign, "5 GetStringLength", NULL, ""},
 };
 
 enum { COUNT = sizeof SCENARIOS / sizeof *SCENARIOS };

@@ -18,7 +18,8 @@ JNIEXPORT void JNICALL Java_Situations_spans(JNIEnv *env, jclass class, jobject 
     E->PopLocalFrame(env, NULL);
     E->ReleaseIntArrayElements(env, numbers, items, 0);
     E->DeleteLocalRef(env, made);
-    E->GetStringLength(env, made);
+    /* The machine has deleted it, and dies of most calls that use it. */
+    E->IsSameObject(env, made, NULL);
 }
 
 /* Leaves a global, a weak reference, a buffer and a monitor behind. */

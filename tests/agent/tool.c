@@ -1,0 +1,71 @@
+/*
+ * tool.c: another agent of JVMTI. Its callbacks have frames of locals that end with them. The option says what they do:
+ * `makes` leaves locals in the first callback, `deletes` deletes them there, `takes` deletes what it was handed.
+ */
+#include <jvmti.h>
+#include <string.h>
+
+#define E (*env)
+
+static jvmtiEnv *tool;
+static char option[16];
+static jmethodID modifiers;
+static int count; /* of exceptions that were thrown */
+
+static void make_strings(JNIEnv *env, int most, int deletes) {
+    for (int at = 0; at < most; at++) {
+        jstring made = E->NewStringUTF(env, "a string");
+        if (deletes) {
+            E->DeleteLocalRef(env, made);
+        }
+    }
+}
+
+static void JNICALL on_exception(jvmtiEnv *of, JNIEnv *env, jthread thread, jmethodID method, jlocation at,
+                                 jobject thrown, jmethodID catcher, jlocation caught_at) {
+    int is_first = count++ == 0;
+    (void)of, (void)thread, (void)method, (void)at, (void)catcher, (void)caught_at;
+    if (strcmp(option, "takes") != 0) {
+        if (is_first) {
+            make_strings(env, 8, strcmp(option, "deletes") == 0);
+        }
+    } else if (is_first) {
+        E->DeleteLocalRef(env, thrown);
+    } else {
+        make_strings(env, 300, 1);
+        E->GetObjectClass(env, thrown);
+    }
+}
+
+/* What JVMTI hands out may stand where locals of an earlier callback did. */
+static void JNICALL on_catch(jvmtiEnv *of, JNIEnv *env, jthread thread, jmethodID method, jlocation at,
+                             jobject thrown) {
+    (void)thread, (void)at, (void)thrown;
+    for (int turn = 0; turn < 6; turn++) {
+        jclass class;
+        if ((*of)->GetMethodDeclaringClass(of, method, &class) == 0) {
+            E->CallIntMethod(env, class, modifiers);
+            E->GetSuperclass(env, class);
+        }
+    }
+}
+
+/* From here on there are callbacks. */
+JNIEXPORT void JNICALL Java_Unseen_arms(JNIEnv *env, jclass class) {
+    (void)class;
+    modifiers = E->GetMethodID(env, E->FindClass(env, "java/lang/Class"), "getModifiers", "()I");
+    (*tool)->SetEventNotificationMode(tool, JVMTI_ENABLE, JVMTI_EVENT_EXCEPTION, NULL);
+    (*tool)->SetEventNotificationMode(tool, JVMTI_ENABLE, JVMTI_EVENT_EXCEPTION_CATCH, NULL);
+}
+
+JNIEXPORT jint JNICALL Agent_OnLoad(JavaVM *vm, char *options, void *reserved) {
+    jvmtiEventCallbacks callbacks = {.Exception = on_exception, .ExceptionCatch = on_catch};
+    jvmtiCapabilities wanted = {.can_generate_exception_events = 1};
+    (void)reserved;
+    strncpy(option, options, sizeof option - 1);
+    if ((*vm)->GetEnv(vm, (void **)&tool, JVMTI_VERSION_11) != JNI_OK ||
+        (*tool)->AddCapabilities(tool, &wanted) != 0) {
+        return JNI_ERR;
+    }
+    return (*tool)->SetEventCallbacks(tool, &callbacks, (jint)sizeof callbacks) == 0 ? JNI_OK : JNI_ERR;
+}

@@ -1,0 +1,66 @@
+/* unseen.c: judged code in frames of locals that nobody tells: in callbacks, and in methods without a stub. */
+#include <jni.h>
+
+#define E (*env)
+
+/* Java throws and catches within the method, twice. */
+JNIEXPORT void JNICALL Java_Unseen_catches(JNIEnv *env, jclass class) {
+    jmethodID caught = E->GetStaticMethodID(env, class, "caught", "()V");
+    E->CallStaticVoidMethod(env, class, caught);
+    E->CallStaticVoidMethod(env, class, caught);
+}
+
+/* The local that is deleted stands in the middle of a block of the machine's. */
+JNIEXPORT void JNICALL Java_Unseen_makes(JNIEnv *env, jclass class) {
+    jstring made[10];
+    (void)class;
+    for (int at = 0; at < 10; at++) {
+        made[at] = E->NewStringUTF(env, "made");
+    }
+    E->DeleteLocalRef(env, made[5]);
+}
+
+/* More than are held back. */
+JNIEXPORT void JNICALL Java_Unseen_deletes(JNIEnv *env, jclass class) {
+    (void)class;
+    for (int at = 0; at < 300; at++) {
+        E->DeleteLocalRef(env, E->NewStringUTF(env, "made"));
+    }
+}
+
+JNIEXPORT void JNICALL Java_Unseen_drops(JNIEnv *env, jclass class, jobject one, jobject two, jobject three) {
+    (void)class;
+    E->DeleteLocalRef(env, one);
+    E->DeleteLocalRef(env, two);
+    E->DeleteLocalRef(env, three);
+}
+
+static jstring outer; /* a local of a native method that called Java, while that runs */
+
+JNIEXPORT jint JNICALL Java_Unseen_uses(JNIEnv *env, jclass class, jstring text, jobject object) {
+    jstring made = E->NewLocalRef(env, text);
+    if (outer != NULL) {
+        E->GetStringLength(env, outer);
+    }
+    E->GetObjectClass(env, object);
+    E->IsSameObject(env, class, object);
+    return E->GetStringLength(env, made) + E->GetStringLength(env, text);
+}
+
+/* Returns while an exception is pending. */
+JNIEXPORT void JNICALL Java_Unseen_fails(JNIEnv *env, jclass class) {
+    (void)class;
+    E->FindClass(env, "no/Such");
+}
+
+JNIEXPORT void JNICALL Java_Unseen_within(JNIEnv *env, jclass class) {
+    jmethodID turn = E->GetStaticMethodID(env, class, "turn", "()V");
+    outer = E->NewStringUTF(env, "outer");
+    E->CallStaticVoidMethod(env, class, turn);
+    outer = NULL;
+}
+
+/* The same, in a method that is bound earlier. */
+JNIEXPORT void JNICALL Java_Unseen_around(JNIEnv *env, jclass class) {
+    Java_Unseen_within(env, class);
+}
