@@ -18,7 +18,7 @@ struct call {
     jmethodID method; /* by which NativeEnter calls Java */
     void *buffer;
     char item; /* the letter of the buffer's items, also of one that was made: U a byte of a text, 0 if its class says it */
-    const char *names[2];
+    const char *names[3];
     jint numbers[2];
     jlong items[MOST_ITEMS];
     jint count;

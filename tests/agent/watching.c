@@ -202,7 +202,7 @@ static int is_aliased(int slot) {
 static int read_operands(const struct op *op, struct call *it, int *buffer) {
     char *rest = NULL, text[LINE];
     int references = 0, numbers = 0, names = 0, is_clear = !is_aliased(op->env);
-    static __thread char kept[2][256];
+    static __thread char kept[3][256];
     snprintf(text, sizeof text, "%s", op->operands);
     char *word = strtok_r(text, " ", &rest);
     for (const char *kind = op->function->operands; *kind != 0 && word != NULL; kind++) {
