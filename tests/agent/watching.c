@@ -24,6 +24,7 @@
 #include <stdlib.h>
 #include <string.h>
 #include <sys/stat.h>
+#include <unistd.h>
 
 enum { MOST_SLOTS = 4000, MOST_OPS = 20000, MOST_THREADS = 8, MOST_CRITICAL = 64, LINE = 65536 };
 
@@ -198,17 +199,20 @@ static int is_aliased(int slot) {
     return 0;
 }
 
-/* The call's operands, with what stands in their slots. Whether none is aliased; the first buffer's slot. */
+/*
+ * The call's operands, with what stands in their slots. Whether none is aliased: what a call names that passes is in
+ * being, and two critical buffers of an array may have one address. The first buffer's slot.
+ */
 static int read_operands(const struct op *op, struct call *it, int *buffer) {
     char *rest = NULL, text[LINE];
-    int references = 0, numbers = 0, names = 0, is_clear = !is_aliased(op->env);
+    int references = 0, numbers = 0, names = 0, is_clear = op->passes || !is_aliased(op->env);
     static __thread char kept[3][256];
     snprintf(text, sizeof text, "%s", op->operands);
     char *word = strtok_r(text, " ", &rest);
     for (const char *kind = op->function->operands; *kind != 0 && word != NULL; kind++) {
         long long number = atoll(word);
         if (*kind == 'r' || *kind == 'f' || *kind == 'b') {
-            is_clear &= !is_aliased((int)number);
+            is_clear &= op->passes || !is_aliased((int)number);
         }
         if (*kind == 'r') {
             it->references[references++] = slots[number].value;
@@ -421,11 +425,33 @@ static void add_op(const char *line) {
     op_count++;
 }
 
+/* Waits for the end. A call that waits for another thread's would wait for ever: the process ends then. */
+static void wait_for_end(void) {
+    enum { STEP = 1000, PATIENCE = 10 * 1000 * 1000 / STEP };
+    int before = -1, waited = 0;
+    for (;;) {
+        pthread_mutex_lock(&lock);
+        int at = now;
+        pthread_mutex_unlock(&lock);
+        if (at == op_count) {
+            return;
+        }
+        waited = at == before ? waited + 1 : 0;
+        before = at;
+        if (waited > PATIENCE) {
+            fprintf(stderr, "== stuck at line %d\n", ops[at].index + 1);
+            _exit(9);
+        }
+        usleep(STEP);
+    }
+}
+
 static void play_script(JNIEnv *env, int threads) {
     for (int at = 1; at <= threads; at++) {
         players[at] = (struct player){.number = at};
         pthread_create(&players[at].thread, NULL, play_thread, &players[at]);
     }
+    wait_for_end();
     for (int at = 1; at <= threads; at++) {
         pthread_join(players[at].thread, NULL);
     }
