@@ -14,7 +14,8 @@
  *
  * Of each call one line is written: NAME INDEX WORD PENDING SIZE ANSWER. WORD is `made`, `aliased` (an operand ended,
  * and the machine handed its address out again: the call isn't made) or `left` (it would harm the machine). PENDING is
- * the class of what is pending in the thread, or `-`; SIZE is how long the record of the agent is.
+ * the class of what is pending in the thread, or `-`; SIZE is how long the record of the agent is. The last line of a
+ * script has the word `end`, once its threads have ended.
  */
 #include "scripted.h"
 
@@ -461,6 +462,8 @@ static void play_script(JNIEnv *env, int threads) {
     for (int at = 0; at < op_count; at++) {
         free(ops[at].operands);
     }
+    fprintf(answers, "%s -1 end - %ld ok\n", script, record_size());
+    fflush(answers);
     functions->UnregisterNatives(env, classes[MAIN]);
     functions->UnregisterNatives(env, classes[TOOL]);
 }
