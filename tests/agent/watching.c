@@ -4,7 +4,7 @@
  *
  * A file of scripts has these lines:
  *
- *     script NAME THREADS
+ *     script NAME THREADS TURNS             after each so many calls the machine collects; never, if that is 0
  *     field SLOT CLASS NAME TYPE            an ID that the script may name without having asked for it
  *     op INDEX THREAD PASSES FUNCTION ENVIRONMENT RESULT OPERAND ..
  *     end
@@ -61,6 +61,7 @@ struct player {
 static JavaVM *vm;
 static const struct JNINativeInterface_ *functions;
 static FILE *answers;
+static int turns_of_collection;
 static const char *record;
 static char script[64];
 
@@ -83,7 +84,8 @@ static const char *const NAMES[] = {
     "java/lang/NoSuchMethodError", "[Z", "[B", "[C", "[S", "[I", "[J"};
 enum { OBJECT, MAIN, TOOL, FAULT, FIRST_ARRAY = 9, NAME_COUNT = sizeof NAMES / sizeof *NAMES };
 static jclass classes[NAME_COUNT];
-static jmethodID run_method, go_method;
+static jclass system_class;
+static jmethodID run_method, go_method, gc_method;
 
 static void find_classes(JNIEnv *env) {
     for (int at = 0; at < NAME_COUNT; at++) {
@@ -92,6 +94,8 @@ static void find_classes(JNIEnv *env) {
         functions->DeleteLocalRef(env, class);
     }
     run_method = functions->GetStaticMethodID(env, classes[MAIN], "run", "()Ljava/lang/Object;");
+    system_class = functions->NewGlobalRef(env, functions->FindClass(env, "java/lang/System"));
+    gc_method = functions->GetStaticMethodID(env, system_class, "gc", "()V");
     go_method = functions->GetStaticMethodID(env, classes[TOOL], "go", "()Ljava/lang/Object;");
 }
 
@@ -136,7 +140,17 @@ static void write_list(const struct call *it) {
     fputc(']', answers);
 }
 
-static void write_answer(const struct call *it) {
+/* The first slot that names, or named, the same object: so two answers can be told apart, or found alike. */
+static int first_of(JNIEnv *env, jobject object) {
+    for (int at = 1; env != NULL && at < MOST_SLOTS; at++) {
+        if (slots[at].pin != NULL && functions->IsSameObject(env, slots[at].pin, object)) {
+            return at;
+        }
+    }
+    return 0;
+}
+
+static void write_answer(JNIEnv *env, const struct call *it) {
     switch (it->kind) {
     case 'n':
         fprintf(answers, "%lld", (long long)it->number);
@@ -151,9 +165,15 @@ static void write_answer(const struct call *it) {
         fputs(it->number == JNI_EDETACHED ? "detached" : it->number != JNI_OK ? "failed" : "env", answers);
         break;
     case 'r':
+        if (it->made != NULL) {
+            fprintf(answers, "ref:%d", first_of(env, it->made));
+            break;
+        }
+        fputs("null", answers);
+        break;
     case 'b':
     case 'f':
-        fputs(it->made == NULL ? "null" : it->kind == 'r' ? "ref" : it->kind == 'b' ? "buffer" : "field", answers);
+        fputs(it->made == NULL ? "null" : it->kind == 'b' ? "buffer" : "field", answers);
         break;
     default:
         fputs(it->number == JNI_OK ? "ok" : "failed", answers);
@@ -174,13 +194,29 @@ static void answer(const struct op *op, const struct call *it, const char *word)
         }
     }
     fprintf(answers, "%s %d %s %s %ld ", script, op->index, word, pending_of(env), record_size());
-    write_answer(it);
+    write_answer(env, it);
     fputc('\n', answers);
     fflush(answers);
 }
 
+/* The machine collects, where no region is open, in which that might wait, and nothing is pending. */
+static void collect(void) {
+    JNIEnv *env = own_env();
+    for (int at = 0; at < MOST_THREADS; at++) {
+        if (players[at].critical_count > 0) {
+            return;
+        }
+    }
+    if (env != NULL && !functions->ExceptionCheck(env)) {
+        functions->CallStaticVoidMethod(env, system_class, gc_method);
+    }
+}
+
 /* The next op's turn. */
 static void advance(void) {
+    if (turns_of_collection > 0 && now % turns_of_collection == turns_of_collection - 1) {
+        collect();
+    }
     pthread_mutex_lock(&lock);
     now++;
     pthread_cond_broadcast(&turned);
@@ -391,7 +427,7 @@ static void *play_thread(void *which) {
 /* ---- scripts ---- */
 
 static void begin_script(const char *line, int *threads) {
-    sscanf(line, "script %63s %d", script, threads);
+    sscanf(line, "script %63s %d %d", script, threads, &turns_of_collection);
     fprintf(stderr, "== %s\n", script);
     memset(slots, 0, sizeof slots);
     for (int at = 1; at < MOST_SLOTS; at++) {
