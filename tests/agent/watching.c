@@ -225,11 +225,13 @@ static void advance(void) {
 
 /* ---- operands ---- */
 
-/* Whether the slot's address was handed out again, under a name of its own. */
+/* Whether the slot's address has another name: it was handed out again, or is that of two buffers of one array. */
 static int is_aliased(int slot) {
+    const struct slot *it = &slots[slot];
     for (int at = 1; at < MOST_SLOTS; at++) {
-        if (slots[at].kind == slots[slot].kind && slots[at].kind != 0 && slots[at].value == slots[slot].value &&
-            slots[at].serial > slots[slot].serial) {
+        const struct slot *other = &slots[at];
+        if (at != slot && it->kind != 0 && other->kind == it->kind && other->value == it->value &&
+            (it->kind == 'b' || other->serial > it->serial)) {
             return 1;
         }
     }
