@@ -1,6 +1,6 @@
 /*
- * scripted.c: the calls of a script, each made by a function of its own. This is the library that is judged, so it makes
- * no other call: what prepares a call and looks at its answer stands in watching.c.
+ * scripted.c: the calls of a script, each made by a function of its own. This is the library that is judged, so it
+ * makes no other call: what prepares a call and looks at its answer stands in watching.c.
  */
 #include "scripted.h"
 

@@ -17,13 +17,13 @@ struct call {
     jfieldID field;
     jmethodID method; /* by which NativeEnter calls Java */
     void *buffer;
-    char item; /* the letter of the buffer's items, also of one that was made: U a byte of a text, 0 if its class says it */
+    char item; /* the letter of the buffer's items, U a byte of a text; 0 where the object says it */
     const char *names[3];
     jint numbers[2];
     jlong items[MOST_ITEMS];
     jint count;
 
-    /* The answer: o a status, n a number, t a truth, r a reference, b a buffer, f a field, l a list, e an environment. */
+    /* The answer: a status (0 or o), number, truth, reference, buffer, field, list or environment. */
     char kind;
     jlong number;
     void *made;
@@ -31,7 +31,7 @@ struct call {
     jint got_count;
 };
 
-/* A function of a script. Its operands: r a reference, i a number, v a value or a list, s a name, f a field, b a buffer. */
+/* A function of a script. Its operands: r reference, i number, v value or list, s name, f field, b buffer. */
 struct function {
     const char *name;
     const char *operands;

@@ -1,6 +1,6 @@
 /*
- * watching.c: plays scripts, and writes what came of each call. It isn't judged: whatever looks at the machine beside the
- * calls of a script stands here, and the calls themselves in scripted.c.
+ * watching.c: plays scripts, and writes what came of each call. It isn't judged: whatever looks at the machine beside
+ * the calls of a script stands here, and the calls themselves in scripted.c.
  *
  * A file of scripts has these lines:
  *
@@ -238,40 +238,48 @@ static int is_aliased(int slot) {
     return 0;
 }
 
+static void read_list(struct call *it, jint count, char **rest) {
+    it->count = count;
+    for (jint at = 0; at < count; at++) {
+        it->items[at] = atoll(strtok_r(NULL, " ", rest));
+    }
+}
+
 /*
  * The call's operands, with what stands in their slots. Whether none is aliased: what a call names that passes is in
  * being, and two critical buffers of an array may have one address. The first buffer's slot.
  */
 static int read_operands(const struct op *op, struct call *it, int *buffer) {
-    char *rest = NULL, text[LINE];
+    static __thread char text[LINE]; /* the names stay in it until the call is made */
+    char *rest = NULL;
     int references = 0, numbers = 0, names = 0, is_clear = op->passes || !is_aliased(op->env);
-    static __thread char kept[3][256];
     snprintf(text, sizeof text, "%s", op->operands);
     char *word = strtok_r(text, " ", &rest);
     for (const char *kind = op->function->operands; *kind != 0 && word != NULL; kind++) {
         long long number = atoll(word);
-        if (*kind == 'r' || *kind == 'f' || *kind == 'b') {
-            is_clear &= op->passes || !is_aliased((int)number);
-        }
-        if (*kind == 'r') {
-            it->references[references++] = slots[number].value;
-        } else if (*kind == 'f') {
-            it->field = slots[number].value;
-        } else if (*kind == 'b') {
-            it->buffer = slots[number].value;
+        int is_slot = *kind == 'r' || *kind == 'f' || *kind == 'b';
+        void *value = is_slot ? slots[number].value : NULL;
+        is_clear &= !is_slot || op->passes || !is_aliased((int)number);
+        switch (*kind) {
+        case 'r':
+            it->references[references++] = value;
+            break;
+        case 'f':
+            it->field = value;
+            break;
+        case 'b':
+            it->buffer = value;
             it->item = slots[number].item;
             *buffer = (int)number;
-        } else if (*kind == 'i') {
+            break;
+        case 'i':
             it->numbers[numbers++] = (jint)number;
-        } else if (*kind == 's') {
-            snprintf(kept[names], sizeof kept[names], "%s", word);
-            it->names[names] = kept[names];
-            names++;
-        } else {
-            it->count = (jint)number;
-            for (jint at = 0; at < it->count; at++) {
-                it->items[at] = atoll(strtok_r(NULL, " ", &rest));
-            }
+            break;
+        case 's':
+            it->names[names++] = word;
+            break;
+        default:
+            read_list(it, (jint)number, &rest);
         }
         word = strtok_r(NULL, " ", &rest);
     }
@@ -351,34 +359,37 @@ static void enter(const struct op *op, struct call *it) {
     }
 }
 
-static void make(const struct op *op) {
-    struct call it = {.vm = vm, .functions = functions, .env = slots[op->env].value};
-    int buffer = 0, is_clear = read_operands(op, &it, &buffer);
+/* A call but NativeEnter. Passing ones that begin or end a critical buffer are noted, to close it in the end. */
+static void make_one(const struct op *op, struct call *it, int buffer) {
     JNIEnv *env = own_env();
-    if (!is_clear || is_harmful(op, &it, env)) {
-        answer(op, &it, is_clear ? "left" : "aliased");
-        advance();
-        return;
-    }
-    if (is_named(op, "NativeEnter")) {
-        enter(op, &it);
-        return;
-    }
     int is_critical = op->passes && strstr(op->function->name, "Critical") != NULL;
     int opens = is_critical && op->function->name[0] == 'G';
-    jobject pin = opens ? functions->NewGlobalRef(env, it.references[0]) : NULL;
-    char item = opens ? item_of(env, it.references[0]) : 0;
+    jobject pin = opens ? functions->NewGlobalRef(env, it->references[0]) : NULL;
+    char item = opens ? item_of(env, it->references[0]) : 0;
     if (op->passes && is_named(op, "NewObjectArray")) {
-        it.references[0] = classes[OBJECT]; /* the element class isn't kept */
+        it->references[0] = classes[OBJECT]; /* the element class isn't kept */
     }
-    op->function->make(&it);
+    op->function->make(it);
     if (opens) {
-        opened(op, &it, pin, item);
+        opened(op, it, pin, item);
     } else if (is_critical) {
         closed(buffer);
     }
-    answer(op, &it, "made");
+    answer(op, it, "made");
     advance();
+}
+
+static void make(const struct op *op) {
+    struct call it = {.vm = vm, .functions = functions, .env = slots[op->env].value};
+    int buffer = 0, is_clear = read_operands(op, &it, &buffer);
+    if (!is_clear || is_harmful(op, &it, own_env())) {
+        answer(op, &it, is_clear ? "left" : "aliased");
+        advance();
+    } else if (is_named(op, "NativeEnter")) {
+        enter(op, &it);
+    } else {
+        make_one(op, &it, buffer);
+    }
 }
 
 /* Makes the thread's ops as their turns come, until its native method returns or all is done. What it returns. */
