@@ -268,47 +268,48 @@ MAKES(BufferWrite) {
 }
 
 /* The functions of a primitive type: its name in theirs, the type, and its letter. */
-#define EACH_TYPE(X)                                                                                                  \
-    X(Boolean, jboolean, 'Z')                                                                                         \
-    X(Byte, jbyte, 'B')                                                                                               \
-    X(Char, jchar, 'C')                                                                                               \
-    X(Short, jshort, 'S')                                                                                             \
-    X(Int, jint, 'I')                                                                                                 \
+#define EACH_TYPE(X)                                                                                                   \
+    X(Boolean, jboolean, 'Z')                                                                                          \
+    X(Byte, jbyte, 'B')                                                                                                \
+    X(Char, jchar, 'C')                                                                                                \
+    X(Short, jshort, 'S')                                                                                              \
+    X(Int, jint, 'I')                                                                                                  \
     X(Long, jlong, 'J')
 
-#define FUNCTIONS_OF(Name, type, letter)                                                                              \
-    MAKES(Get##Name##Field) {                                                                                         \
-        says(it, 'n', F->Get##Name##Field(E, it->references[0], it->field));                                          \
-    }                                                                                                                 \
-    MAKES(Set##Name##Field) {                                                                                         \
-        F->Set##Name##Field(E, it->references[0], it->field, (type)it->items[0]);                                     \
-    }                                                                                                                 \
-    MAKES(New##Name##Array) {                                                                                         \
-        hands(it, 'r', F->New##Name##Array(E, it->numbers[0]));                                                       \
-    }                                                                                                                 \
-    MAKES(Get##Name##ArrayRegion) {                                                                                   \
-        type items[MOST_ITEMS] = {0};                                                                                 \
-        F->Get##Name##ArrayRegion(E, it->references[0], it->numbers[0], it->numbers[1], items);                       \
-        it->kind = 'l';                                                                                               \
-        for (it->got_count = 0; it->got_count < region_of(it); it->got_count++) {                                     \
-            it->got[it->got_count] = items[it->got_count];                                                            \
-        }                                                                                                             \
-    }                                                                                                                 \
-    MAKES(Set##Name##ArrayRegion) {                                                                                   \
-        type items[MOST_ITEMS] = {0};                                                                                 \
-        for (jint at = 0; at < it->count; at++) {                                                                     \
-            items[at] = (type)it->items[at];                                                                          \
-        }                                                                                                             \
-        F->Set##Name##ArrayRegion(E, it->references[0], it->numbers[0], it->count, items);                            \
-    }                                                                                                                 \
-    MAKES(Get##Name##ArrayElements) {                                                                                 \
-        lends(it, letter, F->Get##Name##ArrayElements(E, it->references[0], NULL));                                   \
-    }                                                                                                                 \
-    MAKES(Release##Name##ArrayElements) {                                                                             \
-        F->Release##Name##ArrayElements(E, it->references[0], it->buffer, it->numbers[0]);                            \
+#define FUNCTIONS_OF(Name, type, letter)                                                                               \
+    MAKES(Get##Name##Field) {                                                                                          \
+        says(it, 'n', F->Get##Name##Field(E, it->references[0], it->field));                                           \
+    }                                                                                                                  \
+    MAKES(Set##Name##Field) {                                                                                          \
+        F->Set##Name##Field(E, it->references[0], it->field, (type)it->items[0]);                                      \
+    }                                                                                                                  \
+    MAKES(New##Name##Array) {                                                                                          \
+        hands(it, 'r', F->New##Name##Array(E, it->numbers[0]));                                                        \
+    }                                                                                                                  \
+    MAKES(Get##Name##ArrayRegion) {                                                                                    \
+        type items[MOST_ITEMS] = {0};                                                                                  \
+        F->Get##Name##ArrayRegion(E, it->references[0], it->numbers[0], it->numbers[1], items);                        \
+        it->kind = 'l';                                                                                                \
+        for (it->got_count = 0; it->got_count < region_of(it); it->got_count++) {                                      \
+            it->got[it->got_count] = items[it->got_count];                                                             \
+        }                                                                                                              \
+    }                                                                                                                  \
+    MAKES(Set##Name##ArrayRegion) {                                                                                    \
+        type items[MOST_ITEMS] = {0};                                                                                  \
+        for (jint at = 0; at < it->count; at++) {                                                                      \
+            items[at] = (type)it->items[at];                                                                           \
+        }                                                                                                              \
+        F->Set##Name##ArrayRegion(E, it->references[0], it->numbers[0], it->count, items);                             \
+    }                                                                                                                  \
+    MAKES(Get##Name##ArrayElements) {                                                                                  \
+        lends(it, letter, F->Get##Name##ArrayElements(E, it->references[0], NULL));                                    \
+    }                                                                                                                  \
+    MAKES(Release##Name##ArrayElements) {                                                                              \
+        F->Release##Name##ArrayElements(E, it->references[0], it->buffer, it->numbers[0]);                             \
     }
 EACH_TYPE(FUNCTIONS_OF)
 
+/* clang-format off */
 #define ROW(name, operands) {#name, operands, make_##name},
 #define ROWS_OF(Name, type, letter)                                                                                   \
     ROW(Get##Name##Field, "rf")                                                                                       \
@@ -338,3 +339,4 @@ const struct function scripted_functions[] = {
     ROW(MonitorEnter, "r") ROW(MonitorExit, "r") ROW(BufferRead, "bi") ROW(BufferWrite, "biv")
     {NULL, NULL, NULL},
 };
+/* clang-format on */

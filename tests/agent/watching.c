@@ -78,10 +78,21 @@ static __thread struct player *self;
 
 /* ---- what is known of the machine's classes ---- */
 
-static const char *const NAMES[] = {
-    "java/lang/Object", "app/Main", "lib/Tool", "app/Fault", "java/lang/ArrayIndexOutOfBoundsException",
-    "java/lang/StringIndexOutOfBoundsException", "java/lang/NoClassDefFoundError", "java/lang/NoSuchFieldError",
-    "java/lang/NoSuchMethodError", "[Z", "[B", "[C", "[S", "[I", "[J"};
+static const char *const NAMES[] = {"java/lang/Object",
+                                    "app/Main",
+                                    "lib/Tool",
+                                    "app/Fault",
+                                    "java/lang/ArrayIndexOutOfBoundsException",
+                                    "java/lang/StringIndexOutOfBoundsException",
+                                    "java/lang/NoClassDefFoundError",
+                                    "java/lang/NoSuchFieldError",
+                                    "java/lang/NoSuchMethodError",
+                                    "[Z",
+                                    "[B",
+                                    "[C",
+                                    "[S",
+                                    "[I",
+                                    "[J"};
 enum { OBJECT, MAIN, TOOL, FAULT, FIRST_ARRAY = 9, NAME_COUNT = sizeof NAMES / sizeof *NAMES };
 static jclass classes[NAME_COUNT];
 static jclass system_class;
