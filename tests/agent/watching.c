@@ -53,7 +53,7 @@ struct player {
     int number;
     pthread_t thread;
     const struct op *entering, *leaving;
-    int is_entered;
+    long entries; /* how often a native method was entered */
     struct critical critical[MOST_CRITICAL];
     int critical_count;
 };
@@ -356,10 +356,10 @@ static void enter(const struct op *op, struct call *it) {
     int is_tool = strcmp(it->names[0], NAMES[TOOL]) == 0;
     it->references[0] = classes[is_tool ? TOOL : MAIN];
     it->method = is_tool ? go_method : run_method;
+    long before = self->entries;
     self->entering = op;
-    self->is_entered = 0;
     op->function->make(it);
-    if (!self->is_entered) {
+    if (self->entries == before) {
         answer(op, it, "made");
         advance();
     } else if (self->leaving != NULL) {
@@ -425,7 +425,7 @@ static jobject play(void) {
 
 static jobject within(JNIEnv *env, jclass class) {
     struct call it = {.kind = 'r', .made = class};
-    self->is_entered = 1;
+    self->entries++;
     answer(self->entering, &it, "made");
     advance();
     jobject returned = play();
