@@ -236,17 +236,29 @@ static void advance(void) {
 
 /* ---- operands ---- */
 
-/* Whether the slot's address has another name: it was handed out again, or is that of two buffers of one array. */
-static int is_aliased(int slot) {
-    const struct slot *it = &slots[slot];
-    for (int at = 1; at < MOST_SLOTS; at++) {
-        const struct slot *other = &slots[at];
-        if (at != slot && it->kind != 0 && other->kind == it->kind && other->value == it->value &&
-            (it->kind == 'b' || other->serial > it->serial)) {
-            return 1;
+/* Whether a critical buffer's object is kept by the global reference of this address. */
+static int is_pin_of_critical(const void *value) {
+    for (int thread = 0; thread < MOST_THREADS; thread++) {
+        for (int at = 0; at < players[thread].critical_count; at++) {
+            if (players[thread].critical[at].pin == value) {
+                return 1;
+            }
         }
     }
     return 0;
+}
+
+/* Whether the slot's address has another name: it was handed out again, or is that of two buffers of one array. */
+static int is_aliased(int slot) {
+    const struct slot *it = &slots[slot];
+    for (int at = 1; it->kind != 0 && at < MOST_SLOTS; at++) {
+        const struct slot *other = &slots[at];
+        int is_alike = at != slot && other->kind == it->kind && other->value == it->value;
+        if (other->pin == it->value || (is_alike && (it->kind == 'b' || other->serial > it->serial))) {
+            return 1;
+        }
+    }
+    return it->kind == 'r' && is_pin_of_critical(it->value);
 }
 
 static void read_list(struct call *it, jint count, char **rest) {
@@ -316,9 +328,10 @@ static void opened(const struct op *op, struct call *it, jobject pin, char item)
     }
 }
 
-static void closed(int slot) {
+static void closed(JNIEnv *env, int slot) {
     for (int at = 0; at < self->critical_count; at++) {
         if (self->critical[at].slot == slot) {
+            functions->DeleteGlobalRef(env, self->critical[at].pin);
             self->critical[at] = self->critical[--self->critical_count];
             return;
         }
@@ -334,6 +347,7 @@ static void close_all(JNIEnv *env) {
         } else {
             functions->ReleasePrimitiveArrayCritical(env, it->pin, slots[it->slot].value, JNI_ABORT);
         }
+        functions->DeleteGlobalRef(env, it->pin);
     }
 }
 
@@ -384,7 +398,7 @@ static void make_one(const struct op *op, struct call *it, int buffer) {
     if (opens) {
         opened(op, it, pin, item);
     } else if (is_critical) {
-        closed(buffer);
+        closed(env, buffer);
     }
     answer(op, it, "made");
     advance();
