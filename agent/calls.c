@@ -194,7 +194,8 @@ static void adopt(struct call *call, struct reference *it, jobjectRefType kind) 
     int32_t error = core_tell_of(jg_fact_of(JG_GOT, call->thread->number, jg_nothing(), jg_null(), KINDS[kind], 0),
                                  it->object, &given);
     core_unlock();
-    if (error < 0 || it->object->number == 0) {
+    /* 0 is the number of java/lang/Object, and of an object that the core refused to meet. */
+    if (error < 0 || (is_cleared && it->object->number == 0)) {
         call->is_lost = 1;
     } else {
         it->name = given;

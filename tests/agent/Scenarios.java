@@ -19,6 +19,8 @@ public class Scenarios {
     static native long kept();
     static native void deletes(long global);
 
+    static native long makes(Class<?> of);
+
     void nothing() {}
 
     int answer() {
@@ -58,6 +60,11 @@ public class Scenarios {
         globalOf("kept by a global reference");
         System.loadLibrary("unjudged");
         deletes(kept());
+    }
+
+    static long made() {
+        System.loadLibrary("unjudged");
+        return makes(Object.class);
     }
 
     /** On a JDK that has them, without naming what older ones lack. */

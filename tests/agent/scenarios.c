@@ -983,6 +983,14 @@ JNIEXPORT jlong JNICALL Java_Scenarios_kept(JNIEnv *env, jclass class) {
     (void)class;
     return (jlong)(intptr_t)kept;
 }
+/* A global reference to the class of all objects, which judged code meets first as an operand. */
+static void unjudged_makes(JNIEnv *env, struct given *it) {
+    jmethodID made = E->GetStaticMethodID(env, it->class, "made", "()J");
+    jclass object = (jclass)(intptr_t)E->CallStaticLongMethod(env, it->class, made);
+    E->GetSuperclass(env, object);
+    E->DeleteGlobalRef(env, object);
+}
+
 static void unjudged_deletes(JNIEnv *env, struct given *it) {
     E->CallStaticVoidMethod(env, it->class, E->GetStaticMethodID(env, it->class, "unjudged", "()V"));
     E->IsSameObject(env, kept, NULL);
@@ -1293,6 +1301,7 @@ static const struct {
     {"ends_other", ends_other, "1 NewGlobalRef", NULL, ""},
     {"ends_throw", ends_throw, "3 ThrowNew", NULL, ""},
     {"unjudged_deletes", unjudged_deletes, "6 IsSameObject", NULL, ""},
+    {"unjudged_makes", unjudged_makes, "", NULL, ""},
     {"advised_unchecked", advised_unchecked, "unchecked GetStringLength", NULL, "V"},
     {"advised_checked", advised_checked, "", NULL, "V"},
     {"advised_often", advised_often, "unchecked GetStringLength", NULL, "V"},

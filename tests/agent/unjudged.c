@@ -8,3 +8,8 @@ JNIEXPORT void JNICALL Java_Scenarios_deletes(JNIEnv *env, jclass class, jlong g
     (*env)->PushLocalFrame(env, 4);
     (*env)->PopLocalFrame(env, NULL);
 }
+
+JNIEXPORT jlong JNICALL Java_Scenarios_makes(JNIEnv *env, jclass class, jobject of) {
+    (void)class;
+    return (jlong)(intptr_t)(*env)->NewGlobalRef(env, of);
+}
