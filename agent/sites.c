@@ -30,6 +30,23 @@ static const struct library NOWHERE = {.path = "", .name = "?"};
 
 /* ---- libraries ---- */
 
+char *sites_spelled(const char *name) {
+    static const char DIGITS[] = "0123456789abcdef";
+    char *made = must_make(4 * strlen(name) + 1), *end = made;
+    for (; *name != 0; name++) {
+        unsigned char byte = (unsigned char)*name;
+        if (byte >= 0x20 && byte != 0x7F && byte != '\\') {
+            *end++ = *name;
+            continue;
+        }
+        *end++ = '\\';
+        *end++ = 'x';
+        *end++ = DIGITS[byte >> 4];
+        *end++ = DIGITS[byte & 15];
+    }
+    return made;
+}
+
 static const char *name_of(const char *path) {
     const char *slash = strrchr(path, '/');
     return slash ? slash + 1 : path;
@@ -126,7 +143,7 @@ static const struct library *library_of(const char *path, uintptr_t base, const 
     struct library *made = must_make(sizeof *made);
     made->base = base;
     made->path = must_copy(path);
-    made->name = name_of(made->path);
+    made->name = sites_spelled(name_of(made->path));
     made->is_judged = is_judged(made->path, base);
     made->is_of_jdk = is_of_jdk(made->path);
     made->is_tool = is_tool(library);
@@ -178,10 +195,10 @@ static struct site *make_place(uintptr_t at, const struct looked_up *it) {
         made->offset = at - base;
         made->is_own = base == own_base;
         if (it->info.dli_sname != NULL) {
-            made->symbol = must_copy(it->info.dli_sname);
+            made->symbol = sites_spelled(it->info.dli_sname);
             made->in_symbol = at - (uintptr_t)it->info.dli_saddr;
         }
-        made->is_wrapper = is_passing_on(made->symbol);
+        made->is_wrapper = is_passing_on(it->info.dli_sname);
     }
     made->is_judged = made->library->is_judged;
     return made;
