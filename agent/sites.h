@@ -28,11 +28,12 @@ struct site {
     int is_judged;
     int is_wrapper; /* it stands in a function that only passes calls on */
     int is_own;     /* it stands in the agent: the library's code ended by a jump */
+    int is_return;  /* a call returns there, and stands before it */
 };
 
 /*
- * A copy of the name that is no more than a part of one line: a byte below 0x20, 0x7F and a backslash are spelled `\xNN`,
- * so no two names are spelled alike.
+ * A copy of the name that stands in one line: a byte below 0x20, 0x7F and a backslash are spelled `\xNN`, so no two
+ * names are spelled alike.
  */
 char *sites_spelled(const char *name);
 
