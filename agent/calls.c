@@ -139,7 +139,10 @@ jobjectRefType call_kind(const struct call *call, jobject handle) {
     if (!call->is_own_env || is_stale_argument(call->thread, address_of(handle))) {
         return JNIInvalidRefType;
     }
+    /* -Xcheck:jni warns of the question where an exception is pending. What is put by may get a slot that was free. */
+    jthrowable pending = call->thread->is_pending ? objects_put_by(call->env) : NULL;
     jobjectRefType kind = machine->GetObjectRefType(call->env, handle);
+    objects_throw_again(call->env, pending);
     if ((kind == JNILocalRefType || kind == JNIGlobalRefType) && is_free_slot(handle)) {
         return JNIInvalidRefType;
     }

@@ -131,7 +131,9 @@ static void record_question(const struct question *it, const jg_verdict *verdict
         put_text(text);
     }
     if (it->site != NULL) {
-        snprintf(text, sizeof text, " @ %s+0x%lx", it->site->library->name, (unsigned long)it->site->offset);
+        snprintf(text, sizeof text, "+0x%lx", (unsigned long)it->site->offset);
+        put_text(" @ ");
+        put_text(it->site->library->name);
         put_text(text);
     }
     put_text("\n");

@@ -233,6 +233,9 @@ static jclass class_of_field(JNIEnv *env, jobject reflected) {
     jclass class = machine->GetObjectClass(env, reflected);
     jmethodID method = class ? machine->GetMethodID(env, class, "getDeclaringClass", "()Ljava/lang/Class;") : NULL;
     jclass declaring = method ? machine->CallObjectMethod(env, reflected, method) : NULL;
+    if (machine->ExceptionCheck(env)) {
+        machine->ExceptionClear(env);
+    }
     machine->DeleteLocalRef(env, class);
     return declaring;
 }

@@ -238,6 +238,37 @@ static struct object *meet(JNIEnv *env, jobject handle) {
     return NULL;
 }
 
+jthrowable objects_put_by(JNIEnv *env) {
+    jthrowable pending = machine->ExceptionOccurred(env);
+    if (pending != NULL) {
+        machine->ExceptionClear(env);
+    }
+    return pending;
+}
+
+void objects_throw_again(JNIEnv *env, jthrowable pending) {
+    if (pending != NULL) {
+        machine->Throw(env, pending);
+        machine->DeleteLocalRef(env, pending);
+    }
+}
+
+/*
+ * Meets an object by calls of which -Xcheck:jni has nothing to say: no exception is pending then, and their references
+ * are in a frame of their own.
+ */
+static struct object *meet_unseen(JNIEnv *env, jobject handle) {
+    enum { ROOM = 4 };
+    int has_frame = machine->PushLocalFrame(env, ROOM) == JNI_OK;
+    jthrowable pending = objects_put_by(env);
+    struct object *object = meet(env, handle);
+    objects_throw_again(env, pending);
+    if (has_frame) {
+        machine->PopLocalFrame(env, NULL);
+    }
+    return object;
+}
+
 struct object *objects_of(JNIEnv *env, jobject handle) {
     struct object *object = handle ? found(handle) : NULL;
     if (object != NULL || handle == NULL || machine->IsSameObject(env, handle, NULL)) {
@@ -246,7 +277,7 @@ struct object *objects_of(JNIEnv *env, jobject handle) {
     pthread_mutex_lock(&meeting);
     object = found(handle);
     if (object == NULL) {
-        object = meet(env, handle);
+        object = meet_unseen(env, handle);
     }
     pthread_mutex_unlock(&meeting);
     return object;

@@ -68,6 +68,10 @@ void objects_tell_cleared(struct object *object);
 /* An object that nobody met and that is gone: a cleared weak reference named it. It is held once. */
 struct object *objects_cleared(void);
 
+/* What is pending is put by for calls of the agent's own, of which -Xcheck:jni would warn else, and thrown again. */
+jthrowable objects_put_by(JNIEnv *env);
+void objects_throw_again(JNIEnv *env, jthrowable pending);
+
 /* The size of an item of such an array or string. */
 size_t objects_item_size(char shape);
 

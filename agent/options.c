@@ -12,8 +12,9 @@
 struct options options = {.exit_code = -1, .quarantine = 256, .region = 1000};
 _Atomic int64_t quarantine_bytes;
 
-/* A CHOICE may stand alone, or with the one value that it has. */
-enum kind { FLAG, CHOICE, NUMBER, TEXT };
+/* A CHOICE may stand alone, or with the one value that it has. A STATUS is a number that a program may end with. */
+enum kind { FLAG, CHOICE, NUMBER, STATUS, TEXT };
+enum { MOST_STATUS = 255 };
 
 /* Each option: its word, what stands behind `=`, and what it does. */
 static const struct option {
@@ -29,7 +30,7 @@ static const struct option {
     {"strict", NULL, FLAG, offsetof(struct options, is_strict),
      "don't make a denied call; it answers NULL, 0 or JNI_ERR"},
     {"fatal", NULL, FLAG, offsetof(struct options, is_fatal), "abort at the first denial"},
-    {"exitcode", "N", NUMBER, offsetof(struct options, exit_code), "end with status N if any call was denied"},
+    {"exitcode", "N", STATUS, offsetof(struct options, exit_code), "end with status N if any call was denied"},
     {"setup", "FILE", TEXT, offsetof(struct options, setup),
      "classes with their modules and native access (docs/FORMATS.md)"},
     {"suppress", "FILE", TEXT, offsetof(struct options, suppressed),
@@ -81,8 +82,12 @@ static int take(const struct option *option, const char *word, const char *value
         *(int *)field = 1;
         return 0;
     case NUMBER:
+    case STATUS:
         *(int *)field = (int)strtol(value, &end, 10);
-        return *value < '0' || *value > '9' || *end || strlen(value) > 6 ? refuse(word, "it needs a number") : 0;
+        if (*value < '0' || *value > '9' || *end || strlen(value) > 6) {
+            return refuse(word, "it needs a number");
+        }
+        return option->kind == STATUS && *(int *)field > MOST_STATUS ? refuse(word, "it has no such value") : 0;
     default:
         *(char **)field = must_copy(value);
         return *value == 0 ? refuse(word, "it needs a value") : 0;

@@ -331,7 +331,9 @@ static void thread_name(const struct thread *thread, char *text, size_t room) {
     if (!is_live || !thread->is_attached || (*tool)->GetThreadInfo(tool, NULL, &info) != 0) {
         return;
     }
-    snprintf(text, room, " (%s)", info.name ? info.name : "");
+    char *name = sites_spelled(info.name ? info.name : "");
+    snprintf(text, room, " (%s)", name);
+    free(name);
     (*tool)->Deallocate(tool, (unsigned char *)info.name);
     machine->DeleteLocalRef(thread->env, info.thread_group);
     machine->DeleteLocalRef(thread->env, info.context_class_loader);

@@ -30,6 +30,23 @@ static const struct library NOWHERE = {.path = "", .name = "?"};
 
 /* ---- libraries ---- */
 
+char *sites_spelled(const char *name) {
+    static const char DIGITS[] = "0123456789abcdef";
+    char *made = must_make(4 * strlen(name) + 1), *end = made;
+    for (; *name != 0; name++) {
+        unsigned char byte = (unsigned char)*name;
+        if (byte >= 0x20 && byte != 0x7F && byte != '\\') {
+            *end++ = *name;
+            continue;
+        }
+        *end++ = '\\';
+        *end++ = 'x';
+        *end++ = DIGITS[byte >> 4];
+        *end++ = DIGITS[byte & 15];
+    }
+    return made;
+}
+
 static const char *name_of(const char *path) {
     const char *slash = strrchr(path, '/');
     return slash ? slash + 1 : path;
@@ -126,7 +143,7 @@ static const struct library *library_of(const char *path, uintptr_t base, const 
     struct library *made = must_make(sizeof *made);
     made->base = base;
     made->path = must_copy(path);
-    made->name = name_of(made->path);
+    made->name = sites_spelled(name_of(made->path));
     made->is_judged = is_judged(made->path, base);
     made->is_of_jdk = is_of_jdk(made->path);
     made->is_tool = is_tool(library);
@@ -178,10 +195,10 @@ static struct site *make_place(uintptr_t at, const struct looked_up *it) {
         made->offset = at - base;
         made->is_own = base == own_base;
         if (it->info.dli_sname != NULL) {
-            made->symbol = must_copy(it->info.dli_sname);
+            made->symbol = sites_spelled(it->info.dli_sname);
             made->in_symbol = at - (uintptr_t)it->info.dli_saddr;
         }
-        made->is_wrapper = is_passing_on(made->symbol);
+        made->is_wrapper = is_passing_on(it->info.dli_sname);
     }
     made->is_judged = made->library->is_judged;
     return made;
@@ -209,7 +226,7 @@ static void grow_places(void) {
 }
 
 /* The place, if it is known; or made of what was looked up. */
-static const struct site *find_or_add(uintptr_t at, const struct looked_up *it) {
+static const struct site *find_or_add(uintptr_t at, const struct looked_up *it, int is_return) {
     pthread_mutex_lock(&lock);
     if (2 * (place_count + 1) > place_room) {
         grow_places();
@@ -219,22 +236,29 @@ static const struct site *find_or_add(uintptr_t at, const struct looked_up *it) 
         *place = make_place(at, it);
         place_count++;
     }
-    const struct site *found = *place;
+    struct site *found = *place;
+    if (found != NULL && is_return) {
+        found->is_return = 1;
+    }
     pthread_mutex_unlock(&lock);
     return found;
 }
 
-const struct site *sites_at(uintptr_t at) {
-    const struct site *found = find_or_add(at, NULL);
+static const struct site *site_at(uintptr_t at, int is_return) {
+    const struct site *found = find_or_add(at, NULL, is_return);
     if (found == NULL) {
         struct kept kept;
         keep(&kept);
         struct looked_up it = look_up(at);
-        found = find_or_add(at, &it);
+        found = find_or_add(at, &it, is_return);
         free(it.path);
         restore(&kept);
     }
     return found;
+}
+
+const struct site *sites_at(uintptr_t at) {
+    return site_at(at, 0);
 }
 
 /* ---- callers ---- */
@@ -243,7 +267,7 @@ static const struct site *recent(struct thread *thread, uintptr_t at) {
     struct recent_site *kept = &thread->recent[(at >> 1) & (RECENT_SITES - 1)];
     uint32_t generation = sites_generation;
     if (kept->site == NULL || kept->site->at != at || kept->generation != generation) {
-        kept->site = sites_at(at);
+        kept->site = site_at(at, 1);
         kept->generation = generation;
     }
     return kept->site;
@@ -350,9 +374,9 @@ void sites_line(const struct site *site, char *text, size_t room) {
         strpbrk(site->library->path, "'\n\\") != NULL) {
         return;
     }
-    /* A return address is that of the next instruction, so the call stands before it. */
+    /* A return address is that of the next instruction, so the call stands before it. A native method has its own. */
     snprintf(command, sizeof command, "addr2line -e '%s' 0x%lx 2>/dev/null", site->library->path,
-             (unsigned long)(site->offset ? site->offset - 1 : 0));
+             (unsigned long)(site->is_return && site->offset ? site->offset - 1 : site->offset));
     FILE *pipe = popen(command, "r");
     if (pipe == NULL) {
         return;

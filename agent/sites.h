@@ -12,7 +12,7 @@ struct library {
     struct library *next;
     uintptr_t base;
     const char *path;
-    const char *name; /* the end of the path */
+    const char *name; /* the end of the path, as it is spelled */
     int is_judged;
     int is_of_jdk;
     int is_tool; /* an agent of JVMTI: its callbacks have frames of locals, of which nobody tells */
@@ -24,11 +24,18 @@ struct site {
     uintptr_t offset; /* in its library */
     uintptr_t in_symbol;
     const struct library *library;
-    const char *symbol; /* or NULL */
+    const char *symbol; /* as it is spelled, or NULL */
     int is_judged;
     int is_wrapper; /* it stands in a function that only passes calls on */
     int is_own;     /* it stands in the agent: the library's code ended by a jump */
+    int is_return;  /* a call returns there, and stands before it */
 };
+
+/*
+ * A copy of the name that stands in one line: a byte below 0x20, 0x7F and a backslash are spelled `\xNN`, so no two
+ * names are spelled alike.
+ */
+char *sites_spelled(const char *name);
 
 /* Notes where the machine's and the agent's own libraries are. */
 void sites_open(void);

@@ -19,7 +19,7 @@
 #include <stdlib.h>
 #include <string.h>
 
-enum { MOST_THREADS = 65535, ROOM_OF_A_FRAME = 16 };
+enum { MOST_THREADS = 65535, ROOM_OF_A_FRAME = 16, ROOM_BESIDE_HELD = 1024 };
 
 static pthread_mutex_t lock = PTHREAD_MUTEX_INITIALIZER;
 static struct thread *threads;
@@ -494,5 +494,9 @@ int threads_hold_local(struct thread *thread, JNIEnv *env, const struct held_loc
     *held_at(thread, thread->held_count++) = *local;
     quarantine_bytes += local->bytes;
     frame->held++;
+    if (!thread->is_pending) {
+        /* So that -Xcheck:jni doesn't count it among the program's, of which there may be too many then. */
+        machine->EnsureLocalCapacity(env, ROOM_BESIDE_HELD);
+    }
     return 1;
 }

@@ -55,6 +55,8 @@ public class Situations {
             System.loadLibrary("wrapped");
             first("text");
             second("text");
+        } else if (System.getProperty("library") != null) {
+            System.load(System.getProperty("library"));
         } else {
             System.loadLibrary("situations");
         }
@@ -75,6 +77,10 @@ public class Situations {
             }
             case "unloads" -> unloads();
             case "crashes" -> crashes();
+            case "named" -> {
+                Thread.currentThread().setName("a\nthread");
+                dead("text");
+            }
             default -> { }
         }
         System.err.println("== end");

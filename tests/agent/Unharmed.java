@@ -11,6 +11,7 @@ public class Unharmed {
     static native void shares(int[] numbers, String wide);
     static native void fields(Object[] objects);
     native void results();
+    static native void checked(String text);
 
     static long number;
 
@@ -71,6 +72,7 @@ public class Unharmed {
             case "shares" -> shares(new int[8], "\u4e00\u4e8c");
             case "fields" -> fields(ofManyClasses(1000));
             case "draws" -> draws();
+            case "checked" -> checked("text");
             default -> System.err.println("WRONG: there is no " + name);
         }
     }

@@ -351,3 +351,59 @@ JNIEXPORT void JNICALL Java_Unharmed_fields(JNIEnv *env, jclass class, jobjectAr
         fprintf(stderr, "WRONG: a read takes %.0f ns, and beside other classes %.0f\n", alone, beside);
     }
 }
+
+/* ---- beside -Xcheck:jni ---- */
+
+/* HotSpot warns where there are 32 local references more than were asked for. */
+enum { MANY_DELETED = 200, ALL_THAT_MAY_BE = 32 };
+
+/* Exceptions of classes that nobody met, and what may be called while one is pending. */
+static void throw_unmet(JNIEnv *env) {
+    jstring made = E->NewStringUTF(env, "made"), other = E->NewStringUTF(env, "other");
+    E->FindClass(env, "no/Such");
+    check(E->ExceptionCheck(env), "a class that isn't there is found");
+    E->DeleteLocalRef(env, made);
+    E->ExceptionClear(env);
+    jclass class = E->FindClass(env, "java/util/NoSuchElementException");
+    E->ThrowNew(env, class, "thrown");
+    jthrowable thrown = E->ExceptionOccurred(env);
+    E->DeleteLocalRef(env, other);
+    E->ExceptionClear(env);
+    check(E->IsInstanceOf(env, thrown, class), "another exception is pending than was thrown");
+    E->DeleteLocalRef(env, thrown);
+    E->DeleteLocalRef(env, class);
+}
+
+static void *throw_attached(void *of) {
+    JavaVM *vm = of;
+    JNIEnv *env;
+    (*vm)->AttachCurrentThread(vm, (void **)&env, NULL);
+    throw_unmet(env);
+    (*vm)->DetachCurrentThread(vm);
+    return NULL;
+}
+
+JNIEXPORT void JNICALL Java_Unharmed_checked(JNIEnv *env, jclass class, jstring text) {
+    JavaVM *vm;
+    pthread_t thread;
+    throw_unmet(env);
+    jfieldID field = E->GetStaticFieldID(env, class, "counted", "I");
+    E->FromReflectedField(env, E->ToReflectedField(env, class, field, JNI_TRUE));
+    E->GetStringLength(env, text);
+    for (int at = 0; at < MANY_DELETED; at++) {
+        E->DeleteLocalRef(env, E->NewLocalRef(env, text));
+    }
+    E->GetJavaVM(env, &vm);
+    pthread_create(&thread, NULL, throw_attached, vm);
+    pthread_join(thread, NULL);
+    E->EnsureLocalCapacity(env, 2 * MANY_DELETED);
+    E->DeleteLocalRef(env, E->NewLocalRef(env, text));
+    for (int at = 0; at < MANY_DELETED; at++) {
+        E->NewLocalRef(env, text);
+    }
+    E->PushLocalFrame(env, 0);
+    for (int at = 0; at < ALL_THAT_MAY_BE; at++) {
+        E->NewStringUTF(env, "made");
+    }
+    E->PopLocalFrame(env, NULL);
+}
