@@ -2,7 +2,7 @@
  * sites.c: places in native code, the libraries that they are in, and whose calls are judged.
  *
  * A library is judged if `libs=` names it; without that option all are but the JDK's own and the agent. What is in no
- * library is the machine's own code. An address is looked up once: dladdr takes long.
+ * library is the machine's own code. An address is looked up once.
  */
 #include "sites.h"
 #include "kept.h"
@@ -164,41 +164,87 @@ static int is_passing_on(const char *symbol) {
            is_listed(options.wrappers, symbol, strlen(symbol));
 }
 
-/* What dladdr says of an address. It takes a lock that a thread may hold while a library's constructor runs. */
+/* What the loader says of an address. */
 struct looked_up {
-    Dl_info info;
     char *path; /* the whole path of the library, or NULL */
+    uintptr_t base;
     const struct link_map *library;
+    const char *symbol; /* of what is exported, or NULL */
+    uintptr_t symbol_at;
 };
 
+/* A program's own name may be no path. */
+static char *whole_path(const char *name) {
+    char *path = realpath(strchr(name, '/') ? name : "/proc/self/exe", NULL);
+    return path ? path : must_copy(name);
+}
+
+#ifdef DLFO_STRUCT_HAS_EH_DBASE /* the C library has _dl_find_object */
+
+/* The exported symbol that the address stands in: of several the one that begins last, and of those the first. */
+static void find_symbol(uintptr_t at, struct looked_up *it) {
+    struct symbols symbols = symbols_of(it->library);
+    uintptr_t offset = at - it->library->l_addr;
+    const ElfW(Sym) *found = NULL;
+    for (size_t number = symbols.first; symbols.table && symbols.names && number < symbols.end; number++) {
+        const ElfW(Sym) *symbol = &symbols.table[number];
+        if (symbol->st_shndx != SHN_UNDEF && ELF64_ST_TYPE(symbol->st_info) != STT_TLS && symbol->st_value <= offset &&
+            (offset == symbol->st_value || offset - symbol->st_value < symbol->st_size) &&
+            (found == NULL || found->st_value < symbol->st_value)) {
+            found = symbol;
+        }
+    }
+    if (found != NULL) {
+        it->symbol = symbols.names + found->st_name;
+        it->symbol_at = it->library->l_addr + found->st_value;
+    }
+}
+
+/* dladdr would wait for a lock of the loader's, which a thread holds while a library's constructor runs. */
 static struct looked_up look_up(uintptr_t at) {
     struct looked_up it = {.path = NULL};
-    void *library = NULL;
-    if (dladdr1((void *)at, &it.info, &library, RTLD_DL_LINKMAP) && it.info.dli_fname != NULL) {
-        const char *name = it.info.dli_fname;
-        /* A program's own name may be no path. */
-        it.path = realpath(strchr(name, '/') ? name : "/proc/self/exe", NULL);
-        it.path = it.path ? it.path : must_copy(name);
-        it.library = library;
+    struct dl_find_object found;
+    if (_dl_find_object((void *)at, &found) == 0) {
+        it.library = found.dlfo_link_map;
+        it.base = (uintptr_t)found.dlfo_map_start;
+        it.path = whole_path(it.library->l_name);
+        find_symbol(at, &it);
     }
     return it;
 }
 
+#else
+
+static struct looked_up look_up(uintptr_t at) {
+    struct looked_up it = {.path = NULL};
+    Dl_info info;
+    void *library = NULL;
+    if (dladdr1((void *)at, &info, &library, RTLD_DL_LINKMAP) && info.dli_fname != NULL) {
+        it.library = library;
+        it.base = (uintptr_t)info.dli_fbase;
+        it.path = whole_path(info.dli_fname);
+        it.symbol = info.dli_sname;
+        it.symbol_at = (uintptr_t)info.dli_saddr;
+    }
+    return it;
+}
+
+#endif
+
 static struct site *make_place(uintptr_t at, const struct looked_up *it) {
     struct site *made = must_make(sizeof *made);
-    uintptr_t base = (uintptr_t)it->info.dli_fbase;
     made->at = at;
     made->library = &NOWHERE;
     made->offset = at;
     if (it->path != NULL) {
-        made->library = library_of(it->path, base, it->library);
-        made->offset = at - base;
-        made->is_own = base == own_base;
-        if (it->info.dli_sname != NULL) {
-            made->symbol = sites_spelled(it->info.dli_sname);
-            made->in_symbol = at - (uintptr_t)it->info.dli_saddr;
+        made->library = library_of(it->path, it->base, it->library);
+        made->offset = at - it->base;
+        made->is_own = it->base == own_base;
+        if (it->symbol != NULL) {
+            made->symbol = sites_spelled(it->symbol);
+            made->in_symbol = at - it->symbol_at;
         }
-        made->is_wrapper = is_passing_on(it->info.dli_sname);
+        made->is_wrapper = is_passing_on(it->symbol);
     }
     made->is_judged = made->library->is_judged;
     return made;

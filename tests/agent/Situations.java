@@ -81,6 +81,7 @@ public class Situations {
                 Thread.currentThread().setName("a\nthread");
                 dead("text");
             }
+            case "constructs" -> System.loadLibrary("constructs");
             default -> { }
         }
         System.err.println("== end");
