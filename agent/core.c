@@ -24,6 +24,14 @@ _Atomic uint64_t core_facts = 1;
 
 static pthread_mutex_t lock = PTHREAD_ADAPTIVE_MUTEX_INITIALIZER_NP;
 
+/* What ended while the lock was held, and is told once that is free. */
+struct endings {
+    int record; /* the error by which the record ended, or 0 */
+    int advice; /* whether memory ran out for it */
+};
+
+static struct endings untold; /* under the lock */
+
 /* The setup without classes: its mode is of no weight, since no module but java.base is known. */
 static const char NO_SETUP[] = "version = 1\nillegal_native_access = \"deny\"\n";
 
@@ -73,7 +81,7 @@ static void write_lines(void) {
     while (record >= 0 && done < line_size) {
         ssize_t count = write(record, lines + done, line_size - done);
         if (count < 0 && errno != EINTR) {
-            fprintf(stderr, "jg: the record can't be written: %s\n", strerror(errno));
+            untold.record = errno;
             close(record);
             record = -1;
         }
@@ -169,7 +177,7 @@ static _Atomic int is_advising;
 static void advised(int32_t error) {
     if (error == JG_NO_MEMORY) {
         is_advising = 0;
-        report_line("memory ran out for advice, of which there is none from here on");
+        untold.advice = 1;
     } else if (error < 0) {
         core_count(&counts.refused);
     }
@@ -257,13 +265,25 @@ void core_lock(void) {
     pthread_mutex_lock(&lock);
 }
 
+static void tell_endings(struct endings ended) {
+    if (ended.record != 0) {
+        fprintf(stderr, "jg: the record can't be written: %s\n", strerror(ended.record));
+    }
+    if (ended.advice) {
+        report_line("memory ran out for advice, of which there is none from here on");
+    }
+}
+
 void core_unlock(void) {
     jg_advice advice[FEW_ADVICE];
     if (line_size > 0) {
         write_lines();
     }
     size_t count = take_advice(advice, FEW_ADVICE);
+    const struct endings ended = untold;
+    untold = (struct endings){0, 0};
     pthread_mutex_unlock(&lock);
+    tell_endings(ended);
     for (size_t at = 0; at < count; at++) {
         report_advice(&advice[at]);
     }

@@ -45,13 +45,60 @@ static struct suppression *suppressions;
 static size_t suppression_count, suppression_room;
 static uint64_t told;
 
-void report_line(const char *format, ...) {
+/* ---- lines ---- */
+
+/*
+ * Lines that are gathered first. What stands in them the machine is asked, which may suspend the thread meanwhile: so
+ * no lock is held then, stderr's neither.
+ */
+struct lines {
+    char *bytes;
+    size_t size, room;
+};
+
+static void put(struct lines *to, const char *format, va_list arguments) {
+    va_list again;
+    va_copy(again, arguments);
+    int size = vsnprintf(NULL, 0, format, again);
+    va_end(again);
+    size_t needed = to->size + (size_t)(size < 0 ? 0 : size) + sizeof "jg: \n";
+    if (needed > to->room) {
+        to->room = 2 * needed;
+        to->bytes = must_grow(to->bytes, to->room);
+    }
+    to->size += (size_t)sprintf(to->bytes + to->size, "jg: ");
+    if (size > 0) {
+        to->size += (size_t)vsprintf(to->bytes + to->size, format, arguments);
+    }
+    to->bytes[to->size++] = '\n';
+}
+
+/* Adds a line, such as `jg: ..`. */
+__attribute__((format(printf, 2, 3))) static void say(struct lines *to, const char *format, ...) {
     va_list arguments;
     va_start(arguments, format);
-    fputs("jg: ", output ? output : stderr);
-    vfprintf(output ? output : stderr, format, arguments);
-    fputc('\n', output ? output : stderr);
+    put(to, format, arguments);
     va_end(arguments);
+}
+
+/* Writes them at once. */
+static void write_lines(struct lines *lines) {
+    FILE *file = output ? output : stderr;
+    if (lines->size > 0) {
+        fwrite(lines->bytes, 1, lines->size, file);
+        fflush(file);
+    }
+    free(lines->bytes);
+    *lines = (struct lines){NULL, 0, 0};
+}
+
+void report_line(const char *format, ...) {
+    struct lines lines = {NULL, 0, 0};
+    va_list arguments;
+    va_start(arguments, format);
+    put(&lines, format, arguments);
+    va_end(arguments);
+    write_lines(&lines);
 }
 
 /* ---- suppressions ---- */
@@ -212,7 +259,7 @@ static const char *ender(uint32_t function) {
 }
 
 /* Where the buffer was lent that is released or was stored into, and where it was given back. */
-static void tell_buffer(const struct call *call) {
+static void tell_buffer(struct lines *to, const struct call *call) {
     const struct site *made, *given;
     uint32_t made_by;
     char place[512];
@@ -221,15 +268,15 @@ static void tell_buffer(const struct call *call) {
     }
     buffers_places(call->lent, &made, &made_by, &given);
     sites_describe(made, place, sizeof place);
-    report_line("  lent by %s at %s", rows[made_by].name, place);
+    say(to, "  lent by %s at %s", rows[made_by].name, place);
     if (given != NULL) {
         sites_describe(given, place, sizeof place);
-        report_line("  given back at %s", place);
+        say(to, "  given back at %s", place);
     }
 }
 
 /* The operand that broke the rule, and where it was made and ended. */
-static void tell_operand(const struct call *call) {
+static void tell_operand(struct lines *to, const struct call *call) {
     char text[64], place[512];
     struct name found;
     if (call->verdict.operand == 0 || call->verdict.operand > call->count) {
@@ -237,24 +284,24 @@ static void tell_operand(const struct call *call) {
     }
     jg_value operand = call_operands(call)[call->verdict.operand - 1];
     name_text(operand, text, sizeof text);
-    report_line("  operand %u: %s", (unsigned)call->verdict.operand, text);
+    say(to, "  operand %u: %s", (unsigned)call->verdict.operand, text);
     if (operand.kind < JG_LOCAL || operand.kind > JG_WEAK || operand.number == UINT64_MAX) {
         return;
     }
     if (!names_find(address_of(call_handle_of(call, call->verdict.operand)), &found) ||
         !jg_is_same(found.name, operand)) {
-        report_line("  ended long ago");
+        say(to, "  ended long ago");
         return;
     }
     sites_describe(found.made, place, sizeof place);
     if (found.made_by == MADE_UNSEEN) {
-        report_line("  made by code that isn't judged, and first used at %s", place);
+        say(to, "  made by code that isn't judged, and first used at %s", place);
     } else {
-        report_line("  made by %s at %s", maker(found.made_by), place);
+        say(to, "  made by %s at %s", maker(found.made_by), place);
     }
     if (found.state != NAME_LIVE) {
         sites_describe(found.ended, place, sizeof place);
-        report_line("  ended by %s at %s", found.ended ? ender(found.ended_by) : "something unseen", place);
+        say(to, "  ended by %s at %s", found.ended ? ender(found.ended_by) : "something unseen", place);
     }
 }
 
@@ -282,7 +329,7 @@ static const char *spell_class(char *signature) {
 }
 
 /* `Demo.main (Demo.java:13)` */
-static void tell_frame(JNIEnv *env, const jvmtiFrameInfo *frame) {
+static void tell_frame(struct lines *to, JNIEnv *env, const jvmtiFrameInfo *frame) {
     char *name = NULL, *signature = NULL, *source = NULL;
     jclass class = NULL;
     jint line = line_of(frame);
@@ -292,9 +339,9 @@ static void tell_frame(JNIEnv *env, const jvmtiFrameInfo *frame) {
         (*tool)->GetSourceFileName(tool, class, &source);
         const char *of = spell_class(signature);
         if (line >= 0) {
-            report_line("  java: %s.%s (%s:%d)", of, name, source ? source : "?", (int)line);
+            say(to, "  java: %s.%s (%s:%d)", of, name, source ? source : "?", (int)line);
         } else {
-            report_line("  java: %s.%s (%s)", of, name, frame->location < 0 ? "native" : "?");
+            say(to, "  java: %s.%s (%s)", of, name, frame->location < 0 ? "native" : "?");
         }
     }
     (*tool)->Deallocate(tool, (unsigned char *)name);
@@ -304,7 +351,7 @@ static void tell_frame(JNIEnv *env, const jvmtiFrameInfo *frame) {
 }
 
 /* Those of this thread. */
-static void tell_frames(const struct thread *thread) {
+static void tell_frames(struct lines *to, const struct thread *thread) {
     jvmtiFrameInfo frames[MOST_FRAMES];
     jint count = 0;
     if (!is_live || !thread->is_attached ||
@@ -312,15 +359,16 @@ static void tell_frames(const struct thread *thread) {
         return;
     }
     for (jint at = 0; at < count; at++) {
-        tell_frame(thread->env, &frames[at]);
+        tell_frame(to, thread->env, &frames[at]);
     }
 }
 
-static void tell_text(const char *word, int64_t (*text_of)(uint32_t, uint8_t *, size_t), uint32_t rule) {
+static void tell_text(struct lines *to, const char *word, int64_t (*text_of)(uint32_t, uint8_t *, size_t),
+                      uint32_t rule) {
     uint8_t text[1024];
     int64_t length = text_of(rule, text, sizeof text);
     if (length > 0 && length <= (int64_t)sizeof text) {
-        report_line("  %s: %.*s", word, (int)length, (const char *)text);
+        say(to, "  %s: %.*s", word, (int)length, (const char *)text);
     }
 }
 
@@ -352,26 +400,25 @@ static void head_of(const struct block *block, char *text, size_t room) {
     }
 }
 
-static void tell_block(const struct call *call, const struct block *block) {
+static void tell_block(struct lines *to, const struct call *call, const struct block *block) {
     char head[1024], name[128];
     head_of(block, head, sizeof head);
     thread_name(call->thread, name, sizeof name);
-    report_line("%s, thread %u%s", head, (unsigned)call->thread->number, name);
+    say(to, "%s, thread %u%s", head, (unsigned)call->thread->number, name);
     if (block->rule != 0) {
-        tell_operand(call);
-        tell_buffer(call);
+        tell_operand(to, call);
+        tell_buffer(to, call);
         if (block->rule == 10 && call->reason != NULL) {
-            report_line("  %s", call->reason);
+            say(to, "  %s", call->reason);
         }
     } else {
-        report_line("  %s", call->notice_text);
+        say(to, "  %s", call->notice_text);
     }
-    tell_frames(call->thread);
+    tell_frames(to, call->thread);
     if (block->rule != 0) {
-        tell_text("rule", jg_rule_text, block->rule);
-        tell_text("help", jg_help_text, block->rule);
+        tell_text(to, "rule", jg_rule_text, block->rule);
+        tell_text(to, "help", jg_help_text, block->rule);
     }
-    fflush(output);
 }
 
 static void tell(const struct call *call, const struct block *block) {
@@ -379,9 +426,9 @@ static void tell(const struct call *call, const struct block *block) {
     int is_first = count(block);
     pthread_mutex_unlock(&lock);
     if (is_first) {
-        flockfile(output);
-        tell_block(call, block);
-        funlockfile(output);
+        struct lines lines = {NULL, 0, 0};
+        tell_block(&lines, call, block);
+        write_lines(&lines);
         if (options.is_fatal && block->rule != 0) {
             abort();
         }
@@ -412,17 +459,17 @@ static const struct site *site_of(const jg_spot *spot) {
 }
 
 /* The earlier call, where the block isn't about that one. */
-static void tell_source(const jg_advice *advice) {
+static void tell_source(struct lines *to, const jg_advice *advice) {
     char verb[32], place[512];
     if (advice->told.place == 0 || advice->source.thread == JG_NOBODY) {
         return;
     }
     text_of_kind(jg_advice_verb, advice->kind, verb, sizeof verb);
     sites_describe(site_of(&advice->source), place, sizeof place);
-    report_line("  %s: %s at %s", verb, function_of(advice->source.function), place);
+    say(to, "  %s: %s at %s", verb, function_of(advice->source.function), place);
 }
 
-static void tell_advice(const jg_advice *advice, const struct block *block) {
+static void tell_advice(struct lines *to, const jg_advice *advice, const struct block *block) {
     char head[1024], text[256], name[128] = "";
     const struct thread *thread = threads_known();
     int is_here = thread != NULL && thread->number == advice->told.thread;
@@ -430,15 +477,14 @@ static void tell_advice(const jg_advice *advice, const struct block *block) {
     if (is_here) {
         thread_name(thread, name, sizeof name);
     }
-    report_line("%s, thread %u%s", head, (unsigned)advice->told.thread, name);
+    say(to, "%s, thread %u%s", head, (unsigned)advice->told.thread, name);
     text_of_kind(jg_advice_text, advice->kind, text, sizeof text);
-    report_line("  %s", text);
-    tell_source(advice);
+    say(to, "  %s", text);
+    tell_source(to, advice);
     if (is_here) {
-        tell_frames(thread);
+        tell_frames(to, thread);
     }
-    tell_text("help", jg_advice_help, advice->kind);
-    fflush(output);
+    tell_text(to, "help", jg_advice_help, advice->kind);
 }
 
 /* Advice on a call has that call's place. Advice on a fact has none, and is about the earlier call. */
@@ -449,9 +495,9 @@ void report_advice(const jg_advice *advice) {
     int is_told = count(&block);
     pthread_mutex_unlock(&lock);
     if (is_told) {
-        flockfile(output);
-        tell_advice(advice, &block);
-        funlockfile(output);
+        struct lines lines = {NULL, 0, 0};
+        tell_advice(&lines, advice, &block);
+        write_lines(&lines);
     }
 }
 
@@ -508,7 +554,7 @@ static void see_monitor(const struct site *made, uint64_t count, void *leaks) {
     add_leak(leaks, &leak);
 }
 
-static void tell_leaks(const struct leaks *leaks) {
+static void tell_leaks(struct lines *to, const struct leaks *leaks) {
     static const char *const WORDS[] = {[JG_GLOBAL] = "global references",
                                         [JG_WEAK] = "weak global references",
                                         [JG_BUFFER] = "buffers",
@@ -521,51 +567,67 @@ static void tell_leaks(const struct leaks *leaks) {
         const struct leak *it = &leaks->items[at];
         sites_describe(it->made, place, sizeof place);
         sites_line(it->made, line, sizeof line);
-        report_line("leak: %llu %s of %s at %s%s", (unsigned long long)it->count, WORDS[it->kind],
-                    rows[it->function].name, place, line);
+        say(to, "leak: %llu %s of %s at %s%s", (unsigned long long)it->count, WORDS[it->kind],
+            rows[it->function].name, place, line);
     }
 }
 
 /* ---- the end ---- */
 
-static void tell_counts(void) {
+/* Other threads may add to them yet. */
+static struct block *copy_blocks(size_t *count) {
+    pthread_mutex_lock(&lock);
+    struct block *copied = must_make(block_count * sizeof *copied);
+    *count = block_count;
+    if (block_count > 0) {
+        memcpy(copied, blocks, block_count * sizeof *copied);
+    }
+    pthread_mutex_unlock(&lock);
+    return copied;
+}
+
+static void tell_counts(struct lines *to) {
     char head[1024], line[300];
     uint64_t suppressed = 0;
-    report_line("%llu calls judged, %llu denied", (unsigned long long)(counts.asked + threads_repeated()),
-                (unsigned long long)counts.denied);
-    for (size_t at = 0; at < block_count; at++) {
-        const struct block *block = &blocks[at];
+    say(to, "%llu calls judged, %llu denied", (unsigned long long)(counts.asked + threads_repeated()),
+        (unsigned long long)counts.denied);
+    size_t count;
+    struct block *known = copy_blocks(&count);
+    for (size_t at = 0; at < count; at++) {
+        const struct block *block = &known[at];
         if (block->is_suppressed) {
             suppressed += block->count;
             continue;
         }
         head_of(block, head, sizeof head);
         sites_line(block->site, line, sizeof line);
-        report_line("  %s%s, %llu time%s", head, line, (unsigned long long)block->count, block->count > 1 ? "s" : "");
+        say(to, "  %s%s, %llu time%s", head, line, (unsigned long long)block->count, block->count > 1 ? "s" : "");
     }
+    free(known);
     if (suppressed > 0) {
-        report_line("  suppressed: %llu", (unsigned long long)suppressed);
+        say(to, "  suppressed: %llu", (unsigned long long)suppressed);
     }
 }
 
 /* What wasn't the library's fault. */
-static void tell_own_faults(void) {
+static void tell_own_faults(struct lines *to) {
     if (counts.unasked + counts.impossible + counts.refused > 0) {
-        report_line("the agent's own: %llu calls couldn't be judged, %llu facts were impossible, %llu were refused",
-                    (unsigned long long)counts.unasked, (unsigned long long)counts.impossible,
-                    (unsigned long long)counts.refused);
+        say(to, "the agent's own: %llu calls couldn't be judged, %llu facts were impossible, %llu were refused",
+            (unsigned long long)counts.unasked, (unsigned long long)counts.impossible,
+            (unsigned long long)counts.refused);
     }
     if (!natives_have_stubs) {
-        report_line("native methods weren't seen: no stubs could be made, and what needs them wasn't judged");
+        say(to, "native methods weren't seen: no stubs could be made, and what needs them wasn't judged");
     }
     if (counts.unseen > 0) {
-        report_line("%llu calls ended what began before the agent came", (unsigned long long)counts.unseen);
+        say(to, "%llu calls ended what began before the agent came", (unsigned long long)counts.unseen);
     }
 }
 
 int report_end(void) {
     static int is_told;
     struct leaks leaks = {NULL, 0, 0};
+    struct lines lines = {NULL, 0, 0};
     if (__atomic_exchange_n(&is_told, 1, __ATOMIC_ACQ_REL) != 0) {
         return told > 0 ? options.exit_code : -1;
     }
@@ -573,14 +635,13 @@ int report_end(void) {
     names_each_global(see_global, &leaks);
     monitors_each_owned(see_monitor, &leaks);
     core_advises_at_end();
-    flockfile(output);
     if (options.lists_leaks) {
-        tell_leaks(&leaks);
+        tell_leaks(&lines, &leaks);
+        write_lines(&lines);
     }
-    tell_counts();
-    tell_own_faults();
-    fflush(output);
-    funlockfile(output);
+    tell_counts(&lines);
+    tell_own_faults(&lines);
+    write_lines(&lines);
     free(leaks.items);
     return told > 0 ? options.exit_code : -1;
 }
