@@ -3,6 +3,7 @@
  */
 #include "agent.h"
 #include "core.h"
+#include "ids.h"
 #include "monitors.h"
 #include "natives.h"
 #include "objects.h"
@@ -49,24 +50,33 @@ char *must_copy(const char *text) {
 
 /* ---- the machine's events ---- */
 
-/* The machine is there: its functions are replaced. */
-static int start(JNIEnv *env) {
+/*
+ * The machine's functions are replaced before any Java code runs: other agents and the JDK's own libraries are handed
+ * IDs and global references long before the machine is there.
+ */
+static void JNICALL on_early_start(jvmtiEnv *of, JNIEnv *env) {
+    (void)of;
     if (table_install(env) != 0) {
-        return -1;
+        exit(1);
     }
+}
+
+/* The machine is there, with its functions replaced. */
+static int start(JNIEnv *env) {
     if (objects_open(env) != 0) {
         fprintf(stderr, "jg: the machine's classes can't be met\n");
         return -1;
     }
     invocation_install();
     is_live = 1;
+    ids_open(env);
     return 0;
 }
 
 static void JNICALL on_start(jvmtiEnv *of, JNIEnv *env, jthread thread) {
     (void)of;
     (void)thread;
-    if (start(env) != 0) {
+    if (table_renew(env) != 0 || start(env) != 0) {
         exit(1);
     }
 }
@@ -106,7 +116,9 @@ static int want_events(void) {
     wanted.can_generate_monitor_events = 1;
     wanted.can_get_line_numbers = 1;
     wanted.can_get_source_file_name = 1;
+    wanted.can_generate_early_vmstart = is_from_start != 0;
     memset(&callbacks, 0, sizeof callbacks);
+    callbacks.VMStart = on_early_start;
     callbacks.VMInit = on_start;
     callbacks.VMDeath = on_end;
     callbacks.ThreadEnd = threads_ended;
@@ -115,7 +127,7 @@ static int want_events(void) {
     callbacks.MonitorWait = monitors_waits;
     return (*tool)->AddCapabilities(tool, &wanted) != JVMTI_ERROR_NONE ||
            (*tool)->SetEventCallbacks(tool, &callbacks, (jint)sizeof callbacks) != JVMTI_ERROR_NONE ||
-           enable(JVMTI_EVENT_VM_INIT) || enable(JVMTI_EVENT_VM_DEATH) || enable(JVMTI_EVENT_THREAD_END) ||
+           (is_from_start && enable(JVMTI_EVENT_VM_START)) || enable(JVMTI_EVENT_VM_INIT) || enable(JVMTI_EVENT_VM_DEATH) || enable(JVMTI_EVENT_THREAD_END) ||
            enable(JVMTI_EVENT_NATIVE_METHOD_BIND) || enable(JVMTI_EVENT_OBJECT_FREE) ||
            enable(JVMTI_EVENT_MONITOR_WAIT);
 }
@@ -165,5 +177,5 @@ JNIEXPORT jint JNICALL Agent_OnAttach(JavaVM *machine_vm, char *words, void *res
     if ((*vm)->GetEnv(vm, (void **)&env, JNI_VERSION_1_6) != JNI_OK) {
         return JNI_ERR;
     }
-    return start(env) == 0 ? JNI_OK : JNI_ERR;
+    return table_install(env) == 0 && start(env) == 0 ? JNI_OK : JNI_ERR;
 }

@@ -31,7 +31,7 @@ extern jvmtiEnv *tool;
 extern struct JNINativeInterface_ *machine;
 extern const struct JNIInvokeInterface_ *machine_invocation;
 
-/* Whether the agent was there before the first library: then no ID and no handle was handed out unseen. */
+/* Whether the agent was there before any Java code: then no ID and no global reference was handed out unseen. */
 extern int is_from_start;
 
 /* Whether the machine is between its start and its end, so that it may be asked about objects. */

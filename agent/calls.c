@@ -217,7 +217,8 @@ void call_sees_global(jobject handle) {
     struct name before, seen = {.handle = address_of(handle), .state = NAME_SEEN, .made_by = MADE_UNSEEN};
     struct kept kept;
     keep(&kept);
-    if (handle != NULL && is_live && names_put(&seen, &before)) {
+    /* Also while the machine begins, where nothing has a name yet. */
+    if (handle != NULL && names_put(&seen, &before) && is_live) {
         core_lock();
         core_tell(jg_fact_of(JG_LOST, 0, before.name, jg_null(), 0, 0), NULL);
         core_unlock();
@@ -443,7 +444,7 @@ void call_id(struct call *call, const void *id, enum subject subject, char lette
         fit = ids_fit(call->env, id, &question);
     }
     if ((fit == ID_UNKNOWN && !is_from_start) || (fit != ID_OTHER_RESULT && call->site->library->is_of_jdk)) {
-        /* The JDK's own libraries were handed IDs before there was a table to replace. */
+        /* The JDK's own libraries were handed theirs before the agent came, where it is loaded later. */
         fit = ID_FITS;
     }
     if (letter == 'L') {

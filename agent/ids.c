@@ -255,24 +255,98 @@ static void note_reflected(JNIEnv *env, jobject reflected, jfieldID field) {
     machine->DeleteLocalRef(env, class);
 }
 
+/* ---- before the machine may be asked ---- */
+
+/* An ID that was handed out while the machine began. */
+struct early {
+    struct early *next;
+    const void *id;
+    enum { EARLY_FIELD, EARLY_METHOD, EARLY_REFLECTED } kind;
+    jobject of; /* the field's class, or the reflected field: a global reference */
+    char *type; /* of a field with a class */
+    int is_static;
+};
+
+static struct early *early;
+static _Atomic int is_open;
+
+static void let_go_of(JNIEnv *env, struct early *it) {
+    machine->DeleteGlobalRef(env, it->of);
+    free(it->type);
+    free(it);
+}
+
+/* Keeps it for later, if the machine begins still. Whether it did. */
+static int is_kept_for_later(JNIEnv *env, struct early it, jobject of, const char *type) {
+    if (is_live || is_open || it.id == NULL) {
+        return 0;
+    }
+    struct early *made = must_make(sizeof *made);
+    *made = it;
+    made->type = type ? must_copy(type) : NULL;
+    made->of = of ? machine->NewGlobalRef(env, of) : NULL;
+    pthread_mutex_lock(&lock);
+    int is_early = !is_open;
+    if (is_early) {
+        made->next = early;
+        early = made;
+    }
+    pthread_mutex_unlock(&lock);
+    if (!is_early) {
+        let_go_of(env, made);
+    }
+    return is_early;
+}
+
+static void note_early(JNIEnv *env, const struct early *it) {
+    if (it->kind == EARLY_METHOD) {
+        note_method(env, (jmethodID)(uintptr_t)it->id);
+    } else if (it->kind == EARLY_REFLECTED) {
+        note_reflected(env, it->of, (jfieldID)(uintptr_t)it->id);
+    } else {
+        note_field(env, it->of, (jfieldID)(uintptr_t)it->id, it->type, it->is_static);
+    }
+}
+
+void ids_open(JNIEnv *env) {
+    pthread_mutex_lock(&lock);
+    struct early *it = early;
+    early = NULL;
+    is_open = 1;
+    pthread_mutex_unlock(&lock);
+    while (it != NULL) {
+        struct early *next = it->next;
+        note_early(env, it);
+        let_go_of(env, it);
+        it = next;
+    }
+}
+
 void ids_note_field(JNIEnv *env, jclass class, jfieldID field, const char *type, int is_static) {
     struct kept kept;
+    struct early it = {.id = field, .kind = EARLY_FIELD, .is_static = is_static};
     keep(&kept);
-    note_field(env, class, field, type, is_static);
+    if (!is_kept_for_later(env, it, class, type)) {
+        note_field(env, class, field, type, is_static);
+    }
     restore(&kept);
 }
 
 void ids_note_method(JNIEnv *env, jmethodID method) {
     struct kept kept;
     keep(&kept);
-    note_method(env, method);
+    if (!is_kept_for_later(env, (struct early){.id = method, .kind = EARLY_METHOD}, NULL, NULL)) {
+        note_method(env, method);
+    }
     restore(&kept);
 }
 
 void ids_note_reflected(JNIEnv *env, jobject reflected, jfieldID field) {
     struct kept kept;
     keep(&kept);
-    note_reflected(env, reflected, field);
+    if (!is_kept_for_later(env, (struct early){.id = field, .kind = EARLY_REFLECTED}, reflected, NULL)) {
+        note_reflected(env, reflected, field);
+    }
     restore(&kept);
 }
 

@@ -47,6 +47,9 @@ void ids_note_field(JNIEnv *env, jclass class, jfieldID field, const char *type,
 void ids_note_method(JNIEnv *env, jmethodID method);
 void ids_note_reflected(JNIEnv *env, jobject reflected, jfieldID field);
 
+/* The machine may be asked: the IDs that it handed out before are noted. */
+void ids_open(JNIEnv *env);
+
 /* A class is gone, and its IDs with it. */
 void ids_forget_class(struct class_info *class);
 

@@ -3,6 +3,7 @@
  * slots that the running version has: so one build serves all of them.
  */
 #include "table.h"
+#include "sites.h"
 
 #include <stdio.h>
 #include <string.h>
@@ -23,20 +24,67 @@ void (*machine_slot(uint32_t place))(void) {
     return function;
 }
 
-int table_install(JNIEnv *env) {
-    struct JNINativeInterface_ *copy = NULL;
-    if ((*tool)->GetJNIFunctionTable(tool, &machine) != 0 || (*tool)->GetJNIFunctionTable(tool, &copy) != 0) {
+/* How many slots the table of this machine has. */
+static uint32_t count_slots(JNIEnv *env) {
+    return slots_of(machine->GetVersion(env));
+}
+
+static void *slot_in(const struct JNINativeInterface_ *table, uint32_t place) {
+    return (char *)table + place * sizeof slots->wrapper;
+}
+
+/* The machine's table as it is now; NULL where it doesn't give it, which was said. */
+static struct JNINativeInterface_ *table_now(void) {
+    struct JNINativeInterface_ *now = NULL;
+    if ((*tool)->GetJNIFunctionTable(tool, &now) != 0) {
         fprintf(stderr, "jg: the machine doesn't give its function table\n");
+        return NULL;
+    }
+    return now;
+}
+
+/* Puts this table into the machine, and lets it go. */
+static int set_table(struct JNINativeInterface_ *table) {
+    int error = (*tool)->SetJNIFunctionTable(tool, table) != 0;
+    (*tool)->Deallocate(tool, (unsigned char *)table);
+    return error ? -1 : 0;
+}
+
+int table_install(JNIEnv *env) {
+    machine = table_now();
+    struct JNINativeInterface_ *ours = machine ? table_now() : NULL;
+    if (ours == NULL) {
         return -1;
     }
-    uint32_t count = slots_of(machine->GetVersion(env));
+    uint32_t count = count_slots(env);
     for (size_t at = 0; at < slot_count; at++) {
         if (slots[at].place < count) {
-            memcpy((char *)copy + slots[at].place * sizeof slots[at].wrapper, &slots[at].wrapper,
-                   sizeof slots[at].wrapper);
+            memcpy(slot_in(ours, slots[at].place), &slots[at].wrapper, sizeof slots[at].wrapper);
         }
     }
-    int error = (*tool)->SetJNIFunctionTable(tool, copy) != 0;
-    (*tool)->Deallocate(tool, (unsigned char *)copy);
-    return error ? -1 : 0;
+    return set_table(ours);
+}
+
+/*
+ * HotSpot puts functions that it generates into the table while it begins: the fast ones that get a field. They are in
+ * no library, other than the wrappers of another agent, which call the agent's.
+ */
+int table_renew(JNIEnv *env) {
+    struct JNINativeInterface_ *now = table_now();
+    if (now == NULL) {
+        return -1;
+    }
+    uint32_t count = count_slots(env);
+    for (size_t at = 0; at < slot_count; at++) {
+        uintptr_t function = 0, wrapper;
+        memcpy(&wrapper, &slots[at].wrapper, sizeof wrapper);
+        if (slots[at].place < count) {
+            memcpy(&function, slot_in(now, slots[at].place), sizeof function);
+        }
+        if (function != 0 && function != wrapper && *sites_at(function)->library->path == 0) {
+            memcpy(slot_in(machine, slots[at].place), &function, sizeof function);
+            memcpy(slot_in(now, slots[at].place), &slots[at].wrapper, sizeof slots[at].wrapper);
+        }
+    }
+    return set_table(now);
 }

@@ -61,6 +61,9 @@ void (*machine_slot(uint32_t place))(void);
 /* Puts the wrappers into the machine's table: those of slots that this machine has. */
 int table_install(JNIEnv *env);
 
+/* Puts those again that the machine replaced while it began, by functions of its own. */
+int table_renew(JNIEnv *env);
+
 /* Puts the wrappers of the invocation functions into the machine's JavaVM. */
 void invocation_install(void);
 

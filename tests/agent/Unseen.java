@@ -9,6 +9,7 @@ public class Unseen {
     static native void fails();
     static native void within();
     static native void around();
+    static native int early(Object number);
 
     static void caught() {
         try {
@@ -88,6 +89,13 @@ public class Unseen {
                 arms();
                 catches();
             }
+            case "early" -> {
+                System.load(System.getProperty("tool"));
+                if (early(Integer.valueOf(7)) != 22) {
+                    System.err.println("WRONG: the sum");
+                }
+            }
+            case "process" -> ProcessHandle.current().info().arguments();
             case "late" -> late();
             case "frames" -> Bystander.attaches(System.getProperty("judged"));
             default -> {

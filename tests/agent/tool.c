@@ -1,6 +1,7 @@
 /*
  * tool.c: another agent of JVMTI. Its callbacks have frames of locals that end with them. The option says what they do:
- * `makes` leaves locals in the first callback, `deletes` deletes them there, `takes` deletes what it was handed.
+ * `makes` leaves locals in the first callback, `deletes` deletes them there, `takes` deletes what it was handed. With
+ * `early` it is handed IDs and a global reference when the machine is there, which native methods use later.
  */
 #include <jvmti.h>
 #include <string.h>
@@ -58,13 +59,41 @@ JNIEXPORT void JNICALL Java_Unseen_arms(JNIEnv *env, jclass class) {
     (*tool)->SetEventNotificationMode(tool, JVMTI_ENABLE, JVMTI_EVENT_EXCEPTION_CATCH, NULL);
 }
 
+/* What it was handed before the machine's other agents heard that the machine is there. */
+static jclass early;
+static jmethodID hash, of_reflected;
+static jfieldID value, most;
+
+static void JNICALL on_init(jvmtiEnv *of, JNIEnv *env, jthread thread) {
+    jclass integer = E->FindClass(env, "java/lang/Integer");
+    (void)of, (void)thread;
+    early = E->NewGlobalRef(env, integer);
+    hash = E->GetMethodID(env, integer, "hashCode", "()I");
+    value = E->GetFieldID(env, integer, "value", "I");
+    most = E->GetStaticFieldID(env, integer, "MAX_VALUE", "I");
+    of_reflected = E->FromReflectedMethod(env, E->ToReflectedMethod(env, integer, hash, JNI_FALSE));
+}
+
+JNIEXPORT jint JNICALL Java_Unseen_early(JNIEnv *env, jclass class, jobject number) {
+    (void)class;
+    E->GetSuperclass(env, early);
+    jint sum = E->CallIntMethod(env, number, hash) + E->CallIntMethod(env, number, of_reflected) +
+               E->GetIntField(env, number, value) + (E->GetStaticIntField(env, early, most) == 0x7FFFFFFF);
+    E->DeleteGlobalRef(env, early);
+    return sum;
+}
+
 JNIEXPORT jint JNICALL Agent_OnLoad(JavaVM *vm, char *options, void *reserved) {
-    jvmtiEventCallbacks callbacks = {.Exception = on_exception, .ExceptionCatch = on_catch};
+    jvmtiEventCallbacks callbacks = {.VMInit = on_init, .Exception = on_exception, .ExceptionCatch = on_catch};
     jvmtiCapabilities wanted = {.can_generate_exception_events = 1};
     (void)reserved;
     strncpy(option, options, sizeof option - 1);
     if ((*vm)->GetEnv(vm, (void **)&tool, JVMTI_VERSION_11) != JNI_OK ||
         (*tool)->AddCapabilities(tool, &wanted) != 0) {
+        return JNI_ERR;
+    }
+    if (strcmp(option, "early") == 0 &&
+        (*tool)->SetEventNotificationMode(tool, JVMTI_ENABLE, JVMTI_EVENT_VM_INIT, NULL) != 0) {
         return JNI_ERR;
     }
     return (*tool)->SetEventCallbacks(tool, &callbacks, (jint)sizeof callbacks) == 0 ? JNI_OK : JNI_ERR;
