@@ -127,9 +127,9 @@ static int want_events(void) {
     callbacks.MonitorWait = monitors_waits;
     return (*tool)->AddCapabilities(tool, &wanted) != JVMTI_ERROR_NONE ||
            (*tool)->SetEventCallbacks(tool, &callbacks, (jint)sizeof callbacks) != JVMTI_ERROR_NONE ||
-           (is_from_start && enable(JVMTI_EVENT_VM_START)) || enable(JVMTI_EVENT_VM_INIT) || enable(JVMTI_EVENT_VM_DEATH) || enable(JVMTI_EVENT_THREAD_END) ||
-           enable(JVMTI_EVENT_NATIVE_METHOD_BIND) || enable(JVMTI_EVENT_OBJECT_FREE) ||
-           enable(JVMTI_EVENT_MONITOR_WAIT);
+           (is_from_start && enable(JVMTI_EVENT_VM_START)) || enable(JVMTI_EVENT_VM_INIT) ||
+           enable(JVMTI_EVENT_VM_DEATH) || enable(JVMTI_EVENT_THREAD_END) || enable(JVMTI_EVENT_NATIVE_METHOD_BIND) ||
+           enable(JVMTI_EVENT_OBJECT_FREE) || enable(JVMTI_EVENT_MONITOR_WAIT);
 }
 
 /* ---- loading ---- */
