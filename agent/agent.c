@@ -76,7 +76,7 @@ static int start(JNIEnv *env) {
 static void JNICALL on_start(jvmtiEnv *of, JNIEnv *env, jthread thread) {
     (void)of;
     (void)thread;
-    if (table_renew(env) != 0 || start(env) != 0) {
+    if (table_renew() != 0 || start(env) != 0) {
         exit(1);
     }
 }

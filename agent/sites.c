@@ -7,9 +7,11 @@
 #include "sites.h"
 #include "kept.h"
 #include "options.h"
+#include "table.h"
 #include "threads.h"
 
 #include <dlfcn.h>
+#include <execinfo.h>
 #include <link.h>
 #include <pthread.h>
 #include <stdio.h>
@@ -171,6 +173,7 @@ struct looked_up {
     const struct link_map *library;
     const char *symbol; /* of what is exported, or NULL */
     uintptr_t symbol_at;
+    int is_in_table; /* functions of the library stand in the table before the agent's */
 };
 
 /* A program's own name may be no path. */
@@ -200,6 +203,11 @@ static void find_symbol(uintptr_t at, struct looked_up *it) {
     }
 }
 
+static uintptr_t base_of(uintptr_t at) {
+    struct dl_find_object found;
+    return _dl_find_object((void *)at, &found) == 0 ? (uintptr_t)found.dlfo_map_start : 0;
+}
+
 /* dladdr would wait for a lock of the loader's, which a thread holds while a library's constructor runs. */
 static struct looked_up look_up(uintptr_t at) {
     struct looked_up it = {.path = NULL};
@@ -214,6 +222,11 @@ static struct looked_up look_up(uintptr_t at) {
 }
 
 #else
+
+static uintptr_t base_of(uintptr_t at) {
+    Dl_info info;
+    return dladdr((void *)at, &info) ? (uintptr_t)info.dli_fbase : 0;
+}
 
 static struct looked_up look_up(uintptr_t at) {
     struct looked_up it = {.path = NULL};
@@ -231,6 +244,17 @@ static struct looked_up look_up(uintptr_t at) {
 
 #endif
 
+/* Whether the library replaced functions of the table after the agent did, as a tracer does. */
+static int is_in_table(uintptr_t base) {
+    uintptr_t function;
+    for (size_t at = 0; (function = table_foreign(NULL, &at)) != 0; at++) {
+        if (base_of(function) == base) {
+            return 1;
+        }
+    }
+    return 0;
+}
+
 static struct site *make_place(uintptr_t at, const struct looked_up *it) {
     struct site *made = must_make(sizeof *made);
     made->at = at;
@@ -244,7 +268,8 @@ static struct site *make_place(uintptr_t at, const struct looked_up *it) {
             made->symbol = sites_spelled(it->symbol);
             made->in_symbol = at - it->symbol_at;
         }
-        made->is_wrapper = is_passing_on(it->symbol);
+        made->is_in_table = it->is_in_table;
+        made->is_wrapper = made->is_in_table || is_passing_on(it->symbol);
     }
     made->is_judged = made->library->is_judged;
     return made;
@@ -296,6 +321,7 @@ static const struct site *site_at(uintptr_t at, int is_return) {
         struct kept kept;
         keep(&kept);
         struct looked_up it = look_up(at);
+        it.is_in_table = it.path != NULL && it.base != own_base && is_in_table(it.base);
         found = find_or_add(at, &it, is_return);
         free(it.path);
         restore(&kept);
@@ -329,8 +355,31 @@ static uintptr_t above(const struct thread *thread, uintptr_t *frame) {
     return ((const uintptr_t *)next)[1];
 }
 
+/*
+ * The caller of a function that another agent put into the table before the agent's. It may have no frame pointer, so
+ * the unwinder's tables say who called it. A call of that agent's own comes from the machine, or from Java.
+ */
+static const struct site *before_tool(struct thread *thread, const struct site *found) {
+    void *returns[16];
+    struct kept kept;
+    keep(&kept);
+    const struct site *outer = found;
+    int count = backtrace(returns, sizeof returns / sizeof *returns), at = 0;
+    while (at < count && (uintptr_t)returns[at] != found->at) {
+        at++;
+    }
+    for (at++; at < count && outer->library == found->library; at++) {
+        outer = recent(thread, (uintptr_t)returns[at]);
+    }
+    restore(&kept);
+    return outer->library == &NOWHERE || outer->library->is_of_jdk || outer->is_own ? found : outer;
+}
+
 const struct site *sites_find_caller(struct thread *thread, uintptr_t at, uintptr_t frame) {
     const struct site *found = recent(thread, at);
+    if (found->is_in_table) {
+        return before_tool(thread, found);
+    }
     for (int depth = 0; depth < 4 && found->is_wrapper; depth++) {
         uintptr_t next = above(thread, &frame);
         const struct site *outer = next ? recent(thread, next) : NULL;

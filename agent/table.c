@@ -10,6 +10,10 @@
 
 struct JNINativeInterface_ *machine;
 
+/* The table that native code calls, and how many slots it has. */
+static const struct JNINativeInterface_ *in_use;
+static uint32_t place_count;
+
 /* Versions of JNI, and how many slots their tables have. */
 static uint32_t slots_of(jint version) {
     if (version >= 0x00180000) {
@@ -22,11 +26,6 @@ void (*machine_slot(uint32_t place))(void) {
     void (*function)(void);
     memcpy(&function, (const char *)machine + place * sizeof function, sizeof function);
     return function;
-}
-
-/* How many slots the table of this machine has. */
-static uint32_t count_slots(JNIEnv *env) {
-    return slots_of(machine->GetVersion(env));
 }
 
 static void *slot_in(const struct JNINativeInterface_ *table, uint32_t place) {
@@ -56,32 +55,42 @@ int table_install(JNIEnv *env) {
     if (ours == NULL) {
         return -1;
     }
-    uint32_t count = count_slots(env);
+    place_count = slots_of(machine->GetVersion(env));
+    in_use = *env;
     for (size_t at = 0; at < slot_count; at++) {
-        if (slots[at].place < count) {
+        if (slots[at].place < place_count) {
             memcpy(slot_in(ours, slots[at].place), &slots[at].wrapper, sizeof slots[at].wrapper);
         }
     }
     return set_table(ours);
 }
 
+uintptr_t table_foreign(const struct JNINativeInterface_ *table, size_t *at) {
+    for (; *at < slot_count; ++*at) {
+        uintptr_t function = 0, wrapper;
+        memcpy(&wrapper, &slots[*at].wrapper, sizeof wrapper);
+        if (slots[*at].place < place_count) {
+            memcpy(&function, slot_in(table ? table : in_use, slots[*at].place), sizeof function);
+        }
+        if (function != 0 && function != wrapper) {
+            return function;
+        }
+    }
+    return 0;
+}
+
 /*
  * HotSpot puts functions that it generates into the table while it begins: the fast ones that get a field. They are in
  * no library, other than the wrappers of another agent, which call the agent's.
  */
-int table_renew(JNIEnv *env) {
+int table_renew(void) {
     struct JNINativeInterface_ *now = table_now();
+    uintptr_t function;
     if (now == NULL) {
         return -1;
     }
-    uint32_t count = count_slots(env);
-    for (size_t at = 0; at < slot_count; at++) {
-        uintptr_t function = 0, wrapper;
-        memcpy(&wrapper, &slots[at].wrapper, sizeof wrapper);
-        if (slots[at].place < count) {
-            memcpy(&function, slot_in(now, slots[at].place), sizeof function);
-        }
-        if (function != 0 && function != wrapper && *sites_at(function)->library->path == 0) {
+    for (size_t at = 0; (function = table_foreign(now, &at)) != 0; at++) {
+        if (*sites_at(function)->library->path == 0) {
             memcpy(slot_in(machine, slots[at].place), &function, sizeof function);
             memcpy(slot_in(now, slots[at].place), &slots[at].wrapper, sizeof slots[at].wrapper);
         }

@@ -62,7 +62,10 @@ void (*machine_slot(uint32_t place))(void);
 int table_install(JNIEnv *env);
 
 /* Puts those again that the machine replaced while it began, by functions of its own. */
-int table_renew(JNIEnv *env);
+int table_renew(void);
+
+/* The next function from this slot on, in the table or (NULL) in that of the machine, that isn't the agent's; or 0. */
+uintptr_t table_foreign(const struct JNINativeInterface_ *table, size_t *at);
 
 /* Puts the wrappers of the invocation functions into the machine's JavaVM. */
 void invocation_install(void);

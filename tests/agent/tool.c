@@ -1,7 +1,8 @@
 /*
  * tool.c: another agent of JVMTI. Its callbacks have frames of locals that end with them. The option says what they do:
  * `makes` leaves locals in the first callback, `deletes` deletes them there, `takes` deletes what it was handed. With
- * `early` it is handed IDs and a global reference when the machine is there, which native methods use later.
+ * `early` it is handed IDs and a global reference when the machine is there, which native methods use later. With
+ * `wraps` it puts a function of its own into the table then.
  */
 #include <jvmti.h>
 #include <string.h>
@@ -64,9 +65,27 @@ static jclass early;
 static jmethodID hash, of_reflected;
 static jfieldID value, most;
 
+static jniNativeInterface *before; /* the table as it was */
+
+static jsize JNICALL passes_on(JNIEnv *env, jstring text) {
+    jsize length = before->GetStringLength(env, text);
+    return length < 0 ? 0 : length;
+}
+
+static void wrap(void) {
+    jniNativeInterface *after;
+    (*tool)->GetJNIFunctionTable(tool, &before);
+    (*tool)->GetJNIFunctionTable(tool, &after);
+    after->GetStringLength = passes_on;
+    (*tool)->SetJNIFunctionTable(tool, after);
+}
+
 static void JNICALL on_init(jvmtiEnv *of, JNIEnv *env, jthread thread) {
     jclass integer = E->FindClass(env, "java/lang/Integer");
     (void)of, (void)thread;
+    if (strcmp(option, "wraps") == 0) {
+        wrap();
+    }
     early = E->NewGlobalRef(env, integer);
     hash = E->GetMethodID(env, integer, "hashCode", "()I");
     value = E->GetFieldID(env, integer, "value", "I");
@@ -92,7 +111,7 @@ JNIEXPORT jint JNICALL Agent_OnLoad(JavaVM *vm, char *options, void *reserved) {
         (*tool)->AddCapabilities(tool, &wanted) != 0) {
         return JNI_ERR;
     }
-    if (strcmp(option, "early") == 0 &&
+    if ((strcmp(option, "early") == 0 || strcmp(option, "wraps") == 0) &&
         (*tool)->SetEventNotificationMode(tool, JVMTI_ENABLE, JVMTI_EVENT_VM_INIT, NULL) != 0) {
         return JNI_ERR;
     }
