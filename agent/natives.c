@@ -114,6 +114,7 @@ static struct bound {
     jmethodID method;
     void *address;
     void *stub;
+    const struct site *site; /* another one where another library is at the address now */
 } * bounds;
 static size_t bound_count, bound_room;
 
@@ -143,15 +144,15 @@ static void *stub_of(jmethodID method, void *address, const struct site *site) {
         grow_bounds();
     }
     struct bound *bound = bound_of(bounds, bound_room, method, address);
-    if (bound->address == NULL) {
+    bound_count += bound->address == NULL;
+    if (bound->site != site) {
         struct native *native = must_make(sizeof *native);
         memcpy(&native->target, &address, sizeof address);
         native->method = method;
         native->site = site;
         native->is_judged = (uint8_t)native->site->is_judged;
         native->words = LIKELY_WORDS;
-        *bound = (struct bound){method, address, make_stub(native)};
-        bound_count++;
+        *bound = (struct bound){method, address, make_stub(native), site};
     }
     return bound->stub;
 }
@@ -161,6 +162,7 @@ void JNICALL natives_bound(jvmtiEnv *of, JNIEnv *env, jthread thread, jmethodID 
     (void)of;
     (void)env;
     (void)thread;
+    sites_check_unloaded();
     const struct site *site = sites_at((uintptr_t)address);
     pthread_mutex_lock(&lock);
     void *stub = stub_of(method, address, site);

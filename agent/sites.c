@@ -296,6 +296,28 @@ static void grow_places(void) {
     place_room = room;
 }
 
+/* Whether the place is still what was looked up. */
+static int is_same(const struct site *site, const struct site *now) {
+    return site->library == now->library && site->in_symbol == now->in_symbol &&
+           site->is_in_table == now->is_in_table &&
+           (site->symbol ? now->symbol != NULL && strcmp(site->symbol, now->symbol) == 0 : now->symbol == NULL);
+}
+
+/* Puts what was looked up into its place. What names know of another library's stays. Under the lock. */
+static void put_place(struct site **place, uintptr_t at, const struct looked_up *it) {
+    struct site *made = make_place(at, it);
+    if (*place == NULL) {
+        place_count++;
+        *place = made;
+    } else if (is_same(*place, made)) {
+        free((void *)(uintptr_t)made->symbol);
+        free(made);
+    } else {
+        *place = made;
+    }
+    (*place)->generation = sites_generation;
+}
+
 /* The place, if it is known; or made of what was looked up. */
 static const struct site *find_or_add(uintptr_t at, const struct looked_up *it, int is_return) {
     pthread_mutex_lock(&lock);
@@ -303,11 +325,12 @@ static const struct site *find_or_add(uintptr_t at, const struct looked_up *it, 
         grow_places();
     }
     struct site **place = &places[place_in(places, place_room, at)];
-    if (*place == NULL && it != NULL) {
-        *place = make_place(at, it);
-        place_count++;
+    int is_known = *place != NULL && (*place)->generation == sites_generation;
+    if (!is_known && it != NULL) {
+        put_place(place, at, it);
+        is_known = 1;
     }
-    struct site *found = *place;
+    struct site *found = is_known ? *place : NULL;
     if (found != NULL && is_return) {
         found->is_return = 1;
     }
@@ -375,8 +398,25 @@ static const struct site *before_tool(struct thread *thread, const struct site *
     return outer->library == &NOWHERE || outer->library->is_of_jdk || outer->is_own ? found : outer;
 }
 
-const struct site *sites_find_caller(struct thread *thread, uintptr_t at, uintptr_t frame) {
+/*
+ * The place of a call. Where it isn't in the library of the thread's last call, or is the first of a native method,
+ * another library may stand where that one did.
+ */
+static const struct site *called_at(struct thread *thread, uintptr_t at) {
     const struct site *found = recent(thread, at);
+    if (found->library != thread->last_library) {
+        struct kept kept;
+        keep(&kept);
+        sites_check_unloaded();
+        restore(&kept);
+        found = recent(thread, at);
+        thread->last_library = found->library;
+    }
+    return found;
+}
+
+const struct site *sites_find_caller(struct thread *thread, uintptr_t at, uintptr_t frame) {
+    const struct site *found = called_at(thread, at);
     if (found->is_in_table) {
         return before_tool(thread, found);
     }
@@ -403,17 +443,14 @@ static int count_unloaded(struct dl_phdr_info *info, size_t size, void *count) {
 }
 
 void sites_check_unloaded(void) {
-    static unsigned long long known;
+    static _Atomic unsigned long long known;
     unsigned long long count = 0;
     dl_iterate_phdr(count_unloaded, &count);
-    pthread_mutex_lock(&lock);
-    if (count != known) {
-        known = count;
-        memset(places, 0, place_room * sizeof *places);
-        place_count = 0;
+    if (known != count) {
+        /* In this order: who sees the count sees that places are older. */
         sites_generation++;
+        known = count;
     }
-    pthread_mutex_unlock(&lock);
 }
 
 /* ---- opening ---- */

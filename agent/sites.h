@@ -18,13 +18,17 @@ struct library {
     int is_tool; /* an agent of JVMTI: its callbacks have frames of locals, of which nobody tells */
 };
 
-/* A place, of which there is one struct. It stays, also where its library was unloaded. */
+/*
+ * A place, of which there is one struct as long as the same code is there. It stays, also where its library was
+ * unloaded.
+ */
 struct site {
     uintptr_t at;
     uintptr_t offset; /* in its library */
     uintptr_t in_symbol;
     const struct library *library;
-    const char *symbol; /* as it is spelled, or NULL */
+    const char *symbol;  /* as it is spelled, or NULL */
+    uint32_t generation; /* when it was found there last */
     int is_judged;
     int is_wrapper;  /* it stands in a function that only passes calls on */
     int is_in_table; /* its library has functions in the table that are called before the agent's */
@@ -50,7 +54,7 @@ const struct site *sites_at(uintptr_t at);
  */
 const struct site *sites_find_caller(struct thread *thread, uintptr_t at, uintptr_t frame);
 
-/* Forgets all places where a library was unloaded since the last call. */
+/* Where a library was unloaded since the last call, each place is looked up again. */
 void sites_check_unloaded(void);
 
 /* Writes `libdemo.so+0x11cf in Java_Demo_run`. */

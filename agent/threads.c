@@ -239,6 +239,7 @@ int threads_has_pushed(const struct thread *thread) {
 void threads_enter(struct thread *thread, const struct native *native, uintptr_t stack) {
     MAKE_ROOM(thread->activations, thread->depth, thread->activation_room);
     thread->activations[thread->depth++] = (struct activation){stack, native, 0, 0, 0};
+    thread->last_library = NULL;
 }
 
 /* Tells frames that were pushed before what they stand in was told. Between core_lock and core_unlock. */

@@ -85,6 +85,7 @@ struct thread {
     int is_unsure;          /* something may have thrown or cleared one unseen */
     int has_entered;        /* it entered a monitor by MonitorEnter in this session */
     int endings;            /* how often the destructor of its key was called */
+    const struct library *last_library; /* of its last call in the native method that it is in, or NULL */
     struct recent_site recent[RECENT_SITES];
     struct memo memos[MEMOS];
     uint64_t repeated; /* questions that were answered by these */
@@ -137,7 +138,7 @@ static inline const struct site *sites_recent(const struct thread *thread, uintp
     const struct recent_site *recent = &thread->recent[(at >> 1) & (RECENT_SITES - 1)];
     const struct site *site = recent->site;
     int is_found = site != NULL && site->at == at && recent->generation == sites_generation && !site->is_wrapper &&
-                   !site->is_own;
+                   !site->is_own && site->library == thread->last_library;
     return is_found ? site : NULL;
 }
 

@@ -2,6 +2,7 @@
 public class Situations {
     static native void spans(Object lock, int[] numbers);
     static native void leaves(Object object, int[] numbers);
+    static native void plugs(String path);
     static native void dead(String text);
     static native void registers();
     static native void registered();
@@ -73,6 +74,12 @@ public class Situations {
                 while (System.nanoTime() < until) {
                     turn(new Situations(), Integer.parseInt(words[2]));
                     Thread.sleep(words.length > 3 ? Long.parseLong(words[3]) : 0);
+                }
+            }
+            case "plugs" -> {
+                for (int turn = 0; turn < 3; turn++) {
+                    plugs(words[1]);
+                    plugs(words[2]);
                 }
             }
             case "unloads" -> unloads();

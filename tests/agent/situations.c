@@ -1,4 +1,5 @@
 /* situations.c: native code for Situations.java. */
+#include <dlfcn.h>
 #include <jni.h>
 #include <pthread.h>
 #include <stdlib.h>
@@ -99,4 +100,15 @@ JNIEXPORT void JNICALL Java_Situations_crashes(JNIEnv *env, jclass class) {
     E->FindClass(env, "java/lang/Thread");
     E->GetSuperclass(env, class);
     abort();
+}
+
+/* Loads a library, has it make calls, and unloads it. */
+JNIEXPORT void JNICALL Java_Situations_plugs(JNIEnv *env, jclass class, jstring path) {
+    const char *name = E->GetStringUTFChars(env, path, NULL);
+    void *library = dlopen(name, RTLD_NOW);
+    void (*runs)(JNIEnv *, jstring) = (void (*)(JNIEnv *, jstring))dlsym(library, "runs");
+    (void)class;
+    runs(env, path);
+    dlclose(library);
+    E->ReleaseStringUTFChars(env, path, name);
 }
