@@ -162,6 +162,10 @@ void JNICALL natives_bound(jvmtiEnv *of, JNIEnv *env, jthread thread, jmethodID 
     (void)of;
     (void)env;
     (void)thread;
+    if (!is_live && machine != NULL) {
+        /* Before another agent can wrap what the machine put into the table. */
+        table_renew();
+    }
     sites_check_unloaded();
     const struct site *site = sites_at((uintptr_t)address);
     pthread_mutex_lock(&lock);

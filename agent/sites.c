@@ -26,7 +26,7 @@ static struct site **places; /* a hash table, by address */
 static size_t place_count, place_room;
 
 static char *jdk_home;
-static uintptr_t own_base;
+static uintptr_t own_base, machine_base;
 
 static const struct library NOWHERE = {.path = "", .name = "?"};
 
@@ -395,7 +395,7 @@ static const struct site *before_tool(struct thread *thread, const struct site *
         outer = recent(thread, (uintptr_t)returns[at]);
     }
     restore(&kept);
-    return outer->library == &NOWHERE || outer->library->is_of_jdk || outer->is_own ? found : outer;
+    return outer->library == &NOWHERE || outer->library->base == machine_base || outer->is_own ? found : outer;
 }
 
 /*
@@ -463,6 +463,7 @@ static void find_jdk(void) {
     if (dladdr((void *)at, &found) == 0 || found.dli_fname == NULL) {
         return;
     }
+    machine_base = (uintptr_t)found.dli_fbase;
     jdk_home = realpath(found.dli_fname, NULL);
     for (int level = 0; jdk_home != NULL && level < 3; level++) {
         char *slash = strrchr(jdk_home, '/');

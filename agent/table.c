@@ -84,16 +84,22 @@ uintptr_t table_foreign(const struct JNINativeInterface_ *table, size_t *at) {
  * no library, other than the wrappers of another agent, which call the agent's.
  */
 int table_renew(void) {
-    struct JNINativeInterface_ *now = table_now();
+    size_t first = 0, renewed = 0;
+    struct JNINativeInterface_ *now = table_foreign(NULL, &first) != 0 ? table_now() : NULL;
     uintptr_t function;
     if (now == NULL) {
-        return -1;
+        return first < slot_count ? -1 : 0;
     }
-    for (size_t at = 0; (function = table_foreign(now, &at)) != 0; at++) {
+    for (size_t at = first; (function = table_foreign(now, &at)) != 0; at++) {
         if (*sites_at(function)->library->path == 0) {
             memcpy(slot_in(machine, slots[at].place), &function, sizeof function);
             memcpy(slot_in(now, slots[at].place), &slots[at].wrapper, sizeof slots[at].wrapper);
+            renewed++;
         }
     }
-    return set_table(now);
+    if (renewed > 0) {
+        return set_table(now);
+    }
+    (*tool)->Deallocate(tool, (unsigned char *)now);
+    return 0;
 }

@@ -2,7 +2,7 @@
  * tool.c: another agent of JVMTI. Its callbacks have frames of locals that end with them. The option says what they do:
  * `makes` leaves locals in the first callback, `deletes` deletes them there, `takes` deletes what it was handed. With
  * `early` it is handed IDs and a global reference when the machine is there, which native methods use later. With
- * `wraps` it puts a function of its own into the table then.
+ * `wraps` it puts functions of its own into the table then.
  */
 #include <jvmti.h>
 #include <string.h>
@@ -72,11 +72,17 @@ static jsize JNICALL passes_on(JNIEnv *env, jstring text) {
     return length < 0 ? 0 : length;
 }
 
+static jint JNICALL gets(JNIEnv *env, jobject object, jfieldID field) {
+    jint got = before->GetIntField(env, object, field);
+    return got == 0 ? 0 : got;
+}
+
 static void wrap(void) {
     jniNativeInterface *after;
     (*tool)->GetJNIFunctionTable(tool, &before);
     (*tool)->GetJNIFunctionTable(tool, &after);
     after->GetStringLength = passes_on;
+    after->GetIntField = gets;
     (*tool)->SetJNIFunctionTable(tool, after);
 }
 
