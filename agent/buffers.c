@@ -157,6 +157,13 @@ static struct pair *newest_pair(const struct lent *lent, const struct thread *th
     return &lent->pairs[lent->pair_count - 1];
 }
 
+static int has_pair(const struct lent *lent, const struct thread *thread) {
+    spin_lock(&lock);
+    int has = newest_pair(lent, thread)->thread == thread;
+    spin_unlock(&lock);
+    return has;
+}
+
 /* The name of that pair: a buffer that isn't plain has one, open or not. */
 static jg_value newest_name(const struct lent *lent, const struct thread *thread) {
     spin_lock(&lock);
@@ -322,7 +329,11 @@ static void look_at_items(struct lent *lent, const unsigned char *was, const str
     }
 }
 
+/* What was stored. Into a critical buffer only threads with a pair on it may store: another's release says nothing. */
 static void look(struct lent *lent, const struct site *site) {
+    if (is_critical(lent->family) && !has_pair(lent, threads_self())) {
+        return;
+    }
     const unsigned char *was = lent->was ? lent->was : lent->memory;
     if (was != NULL) {
         look_at_items(lent, was, site);
