@@ -75,9 +75,10 @@ static void put_line(const uint8_t *made, int64_t length) {
     }
 }
 
-/* Writes all that was gathered. A device that fails ends the record. */
+/* Writes all that was gathered. A device that fails ends the record. errno is the caller's. */
 static void write_lines(void) {
     size_t done = 0;
+    int kept = errno;
     while (record >= 0 && done < line_size) {
         ssize_t count = write(record, lines + done, line_size - done);
         if (count < 0 && errno != EINTR) {
@@ -87,6 +88,7 @@ static void write_lines(void) {
         }
         done += count > 0 ? (size_t)count : 0;
     }
+    errno = kept;
     line_size = 0;
 }
 

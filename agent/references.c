@@ -6,6 +6,7 @@
  */
 #include "calls.h"
 #include "core.h"
+#include "kept.h"
 #include "names.h"
 #include "objects.h"
 #include "quarantine.h"
@@ -143,7 +144,7 @@ static int name_deleted(struct call *call, jobject handle) {
     return call->known.handle == address_of(handle) || names_find(address_of(handle), &call->known);
 }
 
-static void delete_reference(JNIEnv *env, uint32_t function, jobject handle, uintptr_t at, uintptr_t frame) {
+static void deletes(JNIEnv *env, uint32_t function, jobject handle, uintptr_t at, uintptr_t frame) {
     struct call call;
     uint32_t kind = rows[function].detail;
     if (!call_begins(&call, function, env, at, frame)) {
@@ -163,6 +164,13 @@ static void delete_reference(JNIEnv *env, uint32_t function, jobject handle, uin
         end_reference(&call, &call.known, kind);
     }
     call_drops(&call);
+}
+
+static void delete_reference(JNIEnv *env, uint32_t function, jobject handle, uintptr_t at, uintptr_t frame) {
+    struct kept kept;
+    keep(&kept);
+    deletes(env, function, handle, at, frame);
+    restore(&kept);
 }
 
 void JNICALL wrapped_DeleteLocalRef(JNIEnv *env, jobject reference) {
