@@ -5,7 +5,8 @@
     tools/kit.py try ..          compiles and runs unproved as rt does, with no check of the sources beside it, which
                                  takes a processor as long as the run
 
-What `rt ci` keeps on this machine is taken and given by scripts that load rt as a module from here.
+Scripts load rt as a module from here. Some kits' `rt ci` keeps what it passed, and some keep nothing: there unkept.py
+stands in for what scripts take of the others.
 """
 import importlib.machinery
 import importlib.util
@@ -15,12 +16,17 @@ import sys
 
 
 def load():
-    """Returns rt as a module."""
+    """Returns rt as a module. `is_keeping` in it says whether its `rt ci` keeps what it passed, and takes names."""
     file = os.path.realpath(shutil.which("rt"))
     loader = importlib.machinery.SourceFileLoader("rt", file)
     module = importlib.util.module_from_spec(importlib.util.spec_from_loader("rt", loader))
     sys.modules["rt"] = module
     loader.exec_module(module)
+    module.is_keeping = hasattr(module, "Kept")
+    if not module.is_keeping:
+        import unkept
+
+        unkept.stand_in(module)
     return module
 
 
