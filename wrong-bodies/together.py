@@ -5,8 +5,9 @@ callers go by its contract, as they always do. So a check reads but the function
 
 An edit is about the functions whose text or proof files it changes, about the callers of those whose clauses it
 changes, and about those that its lines `by: PATH` name. Two edits go into one check only where they are about different
-functions. An edit that changes a definition or a lemma goes alone, and so does one that changes text outside of
-functions; where it has no line `by:`, no proof is left out of its check.
+functions, or where the second is about a function alone: then that function is copied under another name, with its
+proof files, and the edit is made in the copy. An edit that changes a definition or a lemma goes alone, and so does one
+that changes text outside of functions; where it has no line `by:`, no proof is left out of its check.
 
 An edit is refused where an error or an open goal stands in a function that it is about, or in that function's proof
 files. Where it goes alone and such a function isn't proved, an error in a lemma counts too.
@@ -25,6 +26,9 @@ REFUSED, LOST, LIMIT, PASSED, BAD, UNSURE = "refused", "lost name", "limit", "NO
 # What antt says where a proof names what an edit took away.
 TAKEN = re.compile(r"has no field|is not in scope|has no `|was not admitted|is no name that rattle asks for")
 
+# What a copied function's name ends with, before the copy's number.
+COPY = "_wrong_"
+
 # What stands in the place of a body, and of a proof.
 NOTHING = b"{ loop {} }"
 HOLE = """use Rattle.{crate}.proofs.{module}.Statement.{{statement}}
@@ -36,13 +40,22 @@ pub {name}_spec : {{M : Type 1}} → statement M
 
 @dataclasses.dataclass
 class Wrong:
-    """A wrong body: its name and edit, what functions it is about, and whether it goes alone, with the whole crate."""
+    """A wrong body: its name and edit, what functions it is about, and whether it goes alone, with the whole crate.
+
+    `own` is the function that it changes and nothing else, or None, and `number` is that of the copy in which it is made;
+    0 where it is made in the function itself."""
 
     name: str
     edit: edits.Edit
     about: set
     is_alone: bool
     is_whole: bool
+    own: str = None
+    number: int = 0
+
+    def paths(self):
+        """What a check calls the functions that it is about."""
+        return {f"{self.own}{COPY}{self.number}"} if self.number else self.about
 
 
 @dataclasses.dataclass
@@ -57,8 +70,18 @@ class Tree:
         return self.crate.folder
 
     def paths_of(self, function):
-        """What a check calls a function of the source."""
+        """What a check calls a function of the source, or a copy of one."""
+        name, copy, number = function.name.partition(COPY)
+        if copy:
+            return {f"{it}{COPY}{number}" for it in self.paths_of(dataclasses.replace(function, name=name))}
         return {it for it in self.calls if function.is_named(it)} or {function.path()}
+
+    def functions(self, path, text):
+        """The functions of a file of src/ with this text."""
+        with tempfile.NamedTemporaryFile("w", suffix=".rt", encoding="utf-8") as it:
+            it.write(text)
+            it.flush()
+            return functions.functions_of(path.removeprefix("src/"), functions.tokens_of([it.name])[0])
 
     def callers_of(self, paths):
         return {it for it, called in self.calls.items() if called & paths and functions.is_of_source(it)}
@@ -126,7 +149,19 @@ def wrong_of(tree, file):
     is_alone |= not found
     found |= {path for it in edit.by for path in tree.calls if path == it or path.endswith(f"::{it}")}
     name = os.path.basename(file)[: -len(".edit")]
-    return Wrong(name, edit, found, is_alone, is_alone and not edit.by), None
+    return Wrong(name, edit, found, is_alone, is_alone and not edit.by, own_of(tree, edit, found)), None
+
+
+def own_of(tree, edit, found):
+    """The one function whose text and proof files the edit changes, and nothing else; or None. A trait's function has no
+    copy, since an impl has just those of its trait."""
+    if len(found) != 1:
+        return None
+    of_changes = [about(tree, path, old, new)[0] | proved_by(tree, path) for path, old, new in edit.changes]
+    own = next(iter(found))
+    places = [it for inside in tree.by_file.values() for it in inside if tree.paths_of(it) == {own}]
+    is_copied = len(places) == 1 and not places[0].of_trait and functions.is_of_source(own)
+    return own if is_copied and all(it == found for it in of_changes) else None
 
 
 def packs_of(tree, wrongs):
@@ -134,17 +169,59 @@ def packs_of(tree, wrongs):
     packs = []
 
     def fits(pack, wrong):
-        if any(it.is_alone or wrong.is_alone or it.about & wrong.about for it in pack):
+        if any(it.is_alone or wrong.is_alone or it.paths() & wrong.paths() for it in pack):
             return False
-        return edits.applied([it.edit for it in [*pack, wrong]], tree.folder())[1] is None
+        return edits.applied([it.edit for it in [*pack, wrong] if not it.number], tree.folder())[1] is None
 
     for wrong in sorted(wrongs, key=lambda it: -len(it.about)):
         pack = next((it for it in packs if fits(it, wrong)), None)
+        if not pack and wrong.own:
+            pack = next((it for it in packs if not it[0].is_alone), None)
+            wrong = dataclasses.replace(wrong, number=len(pack)) if pack else wrong
         if pack:
             pack.append(wrong)
         else:
             packs.append([wrong])
     return packs
+
+
+def renamed(tree, own, text, number):
+    """A proof file of a copied function."""
+    dotted, name = own.replace("::", "."), own.split("::")[-1]
+    text = re.sub(rf"((?:proofs|contracts)\.{re.escape(dotted)})(?!\w)", rf"\g<1>{COPY}{number}", text)
+    return re.sub(rf"\b{name}_spec\b", f"{name}{COPY}{number}_spec", text)
+
+
+def read_text(tree, path, texts):
+    """The text of a file of the crate, as it is in `texts` or else as it stands."""
+    if path in texts:
+        return texts[path]
+    with open(f"{tree.folder()}/{path}", encoding="utf-8") as it:
+        return it.read()
+
+
+def add_copy(tree, wrong, texts):
+    """Adds to the texts a copy of the function that a wrong body is about, in which its edit is made."""
+    edited, _ = edits.applied([wrong.edit], tree.folder())
+    own, name = wrong.own, wrong.own.split("::")[-1]
+    file = next(path for path, inside in tree.by_file.items() if any(tree.paths_of(it) == {own} for it in inside))
+
+    def place_in(text):
+        return next(it for it in tree.functions(file, text) if tree.paths_of(it) == {own})
+
+    source, target = (read_text(tree, file, it) for it in (edited, texts))
+    place = place_in(source)
+    copy = source.encode()[place.start : place.end].decode()
+    copy = re.sub(rf"\bfn {name}\b", f"fn {name}{COPY}{wrong.number}", copy, count=1)
+    end, data = place_in(target).end, target.encode()
+    texts[file] = f"{data[:end].decode()}\n\n{copy}{data[end:].decode()}"
+    folder = f"proofs/{own.replace('::', '/')}"
+    found = [f"{folder}.antt"] if os.path.isfile(f"{tree.folder()}/{folder}.antt") else []
+    for at, _, names in os.walk(f"{tree.folder()}/{folder}"):
+        found += [os.path.relpath(f"{at}/{it}", tree.folder()) for it in names if it.endswith(".antt")]
+    for path in found:
+        text = renamed(tree, own, read_text(tree, path, edited), wrong.number)
+        texts[f"{folder}{COPY}{wrong.number}{path[len(folder) :]}"] = text
 
 
 def leave_out(room, tree, paths):
@@ -181,6 +258,7 @@ def checked(tree, texts, paths, whole, kept):
             if os.path.isdir(f"{crate.folder}/{part}"):
                 shutil.copytree(f"{crate.folder}/{part}", f"{room}/{part}")
         for path, text in texts.items():
+            os.makedirs(os.path.dirname(f"{room}/{path}"), exist_ok=True)
             with open(f"{room}/{path}", "w", encoding="utf-8") as it:
                 it.write(text)
         if not whole:
@@ -236,7 +314,8 @@ def judged(tree, wrong, ran, said, spans):
         if what.startswith("error") or line.startswith("note: src/") and "not proved" in what:
             for path in paths:
                 told.setdefault(path, []).append((bool(TAKEN.search(what)), f"{path}: {what}"))
-    fails = [it for it in sorted(wrong.about) if re.match(r"not proved|no proof", states.get(it, ""))]
+    about_these = wrong.paths()
+    fails = [it for it in sorted(about_these) if re.match(r"not proved|no proof", states.get(it, ""))]
     lemmas = [it for it in told if it not in tree.calls] if wrong.is_alone and fails else []
     real = [text for it in fails + lemmas for is_taken, text in told.get(it, []) if not is_taken]
     # a function that has no proof file, and whose goals the check no longer proves itself
@@ -246,9 +325,9 @@ def judged(tree, wrong, ran, said, spans):
     if fails:
         taken = [text for it in fails for _, text in told.get(it, [])]
         return LOST, [*taken, f"{fails[0]}: {states[fails[0]]}"][0][:200]
-    if any("could not tell" in states.get(it, "") for it in wrong.about) or ran == 3:
+    if any("could not tell" in states.get(it, "") for it in about_these) or ran == 3:
         return LIMIT, next((it for it in lines if "no verdict" in it or "could not tell" in it), "")[:200]
-    lacking = [it for it in sorted(wrong.about) if it not in states]
+    lacking = [it for it in sorted(about_these) if it not in states]
     return (UNSURE, f"nothing was said of {lacking[0]}") if lacking else (PASSED, "")
 
 
@@ -271,8 +350,10 @@ def attempt(tree, pack, kept):
     """Tries the wrong bodies of a pack, and returns for each what came of it and why. `kept` is a folder for what checks
     of this crate admit."""
     whole = any(it.is_whole for it in pack)
-    texts, _ = edits.applied([it.edit for it in pack], tree.folder())
-    paths = {path for it in pack for path in it.about}
+    texts, _ = edits.applied([it.edit for it in pack if not it.number], tree.folder())
+    for wrong in [it for it in pack if it.number]:
+        add_copy(tree, wrong, texts)
+    paths = {path for it in pack for path in it.paths()}
     ran, said, spans = checked(tree, texts, paths, whole, kept)
     if whole:
         return {pack[0].name: judged_whole(ran, said)}, said
