@@ -1,0 +1,1 @@
+"""What tools/jg-page makes a page of."""
