@@ -71,10 +71,12 @@ pub struct Core<A: Allocator = Global> {
 impl<A: Allocator> Drop for Core<A> {
     fn drop(self) {
         let Core {
-            setup: _setup,
+            setup,
             made: _,
-            tables: _tables,
+            tables,
         } = self;
+        drop(setup);
+        drop(tables);
     }
 }
 

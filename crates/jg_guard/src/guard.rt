@@ -67,14 +67,18 @@ pub struct Guard<A: Allocator = Global> {
 impl<A: Allocator> Drop for Guard<A> {
     fn drop(self) {
         let Guard {
-            setup: _setup,
+            setup,
             limit: _,
-            journal: _journal,
-            tables: _tables,
-            findings: _findings,
+            journal,
+            tables,
+            findings,
             peaks: _,
             tally: _,
         } = self;
+        drop(setup);
+        drop(journal);
+        drop(tables);
+        drop(findings);
     }
 }
 
