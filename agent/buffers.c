@@ -665,15 +665,14 @@ static uint32_t family_of(uint32_t function) {
 /* A denied release. Whether the machine makes it, and what is told then. */
 static int give_denied(struct given_back *given) {
     struct lent *lent = given->lent;
-    uint32_t rule = given->call->verdict.rule;
     if (lent == NULL) {
         return 1;
     }
-    if (lent->is_given || rule == 2) {
+    if (lent->is_given || given->call->verdict.rule == 2) {
         /* The machine has its memory already. */
         return 0;
     }
-    if (rule == 11 && lent->family != family_of(given->call->function)) {
+    if (lent->family != family_of(given->call->function)) {
         /* By a function of another kind: HotSpot would free memory that it can't. The buffer stays open. */
         return 0;
     }

@@ -429,7 +429,8 @@ static const char *const REASONS[] = {
 /* Notes whether the answer will be a reference, by a function whose answers are. */
 static void expect_answer(struct call *call, const void *id, enum subject subject, enum fit fit) {
     if (subject == ID_FIELD) {
-        call->is_misread = fit != ID_FITS;
+        /* Of an object that isn't known any bits may be read. */
+        call->is_misread = fit != ID_FITS || call->last.object == NULL;
     } else if (subject == ID_METHOD) {
         char type = ids_type(id);
         call->is_misread = type == 0 ? fit != ID_FITS : type != 'L';

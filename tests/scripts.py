@@ -2,8 +2,7 @@
 answers to the lines before, so that most calls name what is there."""
 import random
 import re
-
-from ends import run
+import subprocess
 
 TYPES = 'Boolean Byte Char Short Int Long'.split()
 RANGES = {'Boolean': (0, 1), 'Byte': (-128, 127), 'Char': (0, 65535), 'Short': (-32768, 32767),
@@ -59,11 +58,17 @@ class Script:
         self.random, self.threads = random.Random(seed), threads
         self.shapes, self.buffers, self.fields, self.sessions = {}, {}, [], {}
         self.lines, self.journal = [], b''
-        while len(self.lines) < lines:
-            self.lines += [self.line() for _ in range(STEP)]
-            self.journal = run(words, self.text()).out
-            for entry in self.journal.decode().split('\n')[-STEP - 1:-1]:
-                self.read(entry)
+        # each line is answered before more is read
+        with subprocess.Popen(words, stdin=subprocess.PIPE, stdout=subprocess.PIPE) as asked:
+            while len(self.lines) < lines:
+                made = [self.line() for _ in range(STEP)]
+                asked.stdin.write(''.join(f'{line}\n' for line in made).encode())
+                asked.stdin.flush()
+                entries = [asked.stdout.readline() for _ in made]
+                self.lines += made
+                self.journal += b''.join(entries)
+                for entry in entries:
+                    self.read(entry.decode().rstrip('\n'))
 
     def text(self):
         return ''.join(line + '\n' for line in self.lines).encode()

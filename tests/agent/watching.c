@@ -4,7 +4,8 @@
  *
  * A file of scripts has these lines:
  *
- *     script NAME THREADS TURNS             after each so many calls the machine collects; never, if that is 0
+ *     script NAME THREADS TURNS             after each so many calls the machine collects; never, if that is 0; and if
+ *                                           it is -1, a thread of its own has it collect again and again
  *     field SLOT CLASS NAME TYPE            an ID that the script may name without having asked for it
  *     op INDEX THREAD PASSES FUNCTION ENVIRONMENT RESULT OPERAND ..
  *     end
@@ -62,6 +63,8 @@ static JavaVM *vm;
 static const struct JNINativeInterface_ *functions;
 static FILE *answers;
 static int turns_of_collection;
+static pthread_mutex_t collecting = PTHREAD_MUTEX_INITIALIZER; /* no region begins while a collection is asked for */
+static volatile int is_playing;
 static const char *record;
 static char script[64];
 
@@ -221,6 +224,21 @@ static void collect(void) {
     if (env != NULL && !functions->ExceptionCheck(env)) {
         functions->CallStaticVoidMethod(env, system_class, gc_method);
     }
+}
+
+/* Collects at moments of its own, while a script is played. */
+static void *collect_on(void *unused) {
+    void *env = NULL;
+    unsigned seed = 1;
+    (*vm)->AttachCurrentThreadAsDaemon(vm, &env, NULL);
+    while (is_playing) {
+        pthread_mutex_lock(&collecting);
+        collect();
+        pthread_mutex_unlock(&collecting);
+        usleep(rand_r(&seed) % 3000);
+    }
+    (*vm)->DetachCurrentThread(vm);
+    return unused;
 }
 
 /* The next op's turn. */
@@ -394,9 +412,13 @@ static void make_one(const struct op *op, struct call *it, int buffer) {
     if (op->passes && is_named(op, "NewObjectArray")) {
         it->references[0] = classes[OBJECT]; /* the element class isn't kept */
     }
+    if (opens) {
+        pthread_mutex_lock(&collecting);
+    }
     op->function->make(it);
     if (opens) {
         opened(op, it, pin, item);
+        pthread_mutex_unlock(&collecting);
     } else if (is_critical) {
         closed(env, buffer);
     }
@@ -522,6 +544,9 @@ static void wait_for_end(void) {
 }
 
 static void play_script(JNIEnv *env, int threads) {
+    pthread_t collector;
+    is_playing = 1;
+    int collects_on = turns_of_collection < 0 && pthread_create(&collector, NULL, collect_on, NULL) == 0;
     for (int at = 1; at <= threads; at++) {
         players[at] = (struct player){.number = at};
         pthread_create(&players[at].thread, NULL, play_thread, &players[at]);
@@ -529,6 +554,10 @@ static void play_script(JNIEnv *env, int threads) {
     wait_for_end();
     for (int at = 1; at <= threads; at++) {
         pthread_join(players[at].thread, NULL);
+    }
+    is_playing = 0;
+    if (collects_on) {
+        pthread_join(collector, NULL);
     }
     for (int at = 1; at < MOST_SLOTS; at++) {
         functions->DeleteGlobalRef(env, slots[at].pin);
