@@ -274,6 +274,15 @@ static void foreign_class(JNIEnv *env, struct other *it) {
 static void foreign_object(JNIEnv *env, struct given *it) {
     in_attached(env, foreign_class, it->object);
 }
+/* An item of the array stands where the field would: what is read is no reference, and nobody may look at it. */
+static void foreign_read(JNIEnv *env, struct other *it) {
+    E->GetObjectField(env, it->reference, it->memory);
+}
+static void foreign_field(JNIEnv *env, struct given *it) {
+    jfieldID text = field(env, it, "text", "Ljava/lang/String;");
+    struct other other = {foreign_read, env, it->numbers, (void *)text, 1};
+    run_other(&other);
+}
 static void handed_over(JNIEnv *env, struct given *it) {
     jobject global = E->NewGlobalRef(env, it->text);
     in_attached(env, foreign_length, global);
@@ -501,6 +510,12 @@ static void buffer_object(JNIEnv *env, struct given *it) {
 static void buffer_function(JNIEnv *env, struct given *it) {
     jint *items = E->GetIntArrayElements(env, it->numbers, NULL);
     E->ReleasePrimitiveArrayCritical(env, it->numbers, items, 0);
+    E->ReleaseIntArrayElements(env, it->numbers, items, 0);
+}
+/* Of a function of another kind and of an object that it isn't for: the machine isn't called, and it stays open. */
+static void buffer_kind(JNIEnv *env, struct given *it) {
+    jint *items = E->GetIntArrayElements(env, it->numbers, NULL);
+    E->ReleaseStringChars(env, (jstring)it->numbers, (const jchar *)items);
     E->ReleaseIntArrayElements(env, it->numbers, items, 0);
 }
 static void buffer_string(JNIEnv *env, struct given *it) {
@@ -1208,6 +1223,7 @@ static const struct {
     {"foreign_string", foreign_string, "5 GetStringLength", NULL, ""},
     {"foreign_global", foreign_global, "5 NewGlobalRef", NULL, ""},
     {"foreign_object", foreign_object, "5 GetObjectClass", NULL, ""},
+    {"foreign_field", foreign_field, "5 GetObjectField", NULL, "A"},
     {"handed_over", handed_over, "", NULL, ""},
     {"dead_local", dead_local, "6 GetStringLength", NULL, ""},
     {"dead_frame", dead_frame, "6 IsSameObject", NULL, ""},
@@ -1250,6 +1266,7 @@ static const struct {
     {"buffer_twice", buffer_twice, "11 ReleaseIntArrayElements", NULL, ""},
     {"buffer_object", buffer_object, "11 ReleaseIntArrayElements", NULL, ""},
     {"buffer_function", buffer_function, "11 ReleasePrimitiveArrayCritical", NULL, ""},
+    {"buffer_kind", buffer_kind, "9 ReleaseStringChars", NULL, ""},
     {"buffer_string", buffer_string, "11 BufferWrite", NULL, ""},
     {"buffer_after", buffer_after, "11 BufferWrite", NULL, "A"},
     {"buffer_right", buffer_right, "", NULL, ""},
