@@ -767,9 +767,18 @@ void call_done(struct call *call) {
     call_drops(call);
 }
 
+/* Whether an exception is pending in the machine. */
+static int has_thrown(JNIEnv *env) {
+    struct kept kept;
+    keep(&kept);
+    int has = machine->ExceptionCheck(env);
+    restore(&kept);
+    return has;
+}
+
 void call_answers(struct call *call, jint answer) {
     jg_value given;
-    if (answer < 0 && call->is_asked && (!call->is_own_env || !machine->ExceptionCheck(call->env))) {
+    if (answer < 0 && call->is_asked && (!call->is_own_env || !has_thrown(call->env))) {
         /* The machine didn't do it. */
         call_drops(call);
         return;

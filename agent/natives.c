@@ -8,6 +8,7 @@
 #include "natives.h"
 #include "calls.h"
 #include "core.h"
+#include "kept.h"
 #include "names.h"
 #include "objects.h"
 #include "options.h"
@@ -351,7 +352,7 @@ static int may_load(struct thread *thread, const struct native *native, const ui
     return passes;
 }
 
-struct entry jg_native_enters(struct native *native, const uint64_t *registers, uintptr_t frame) {
+static struct entry enter(struct native *native, const uint64_t *registers, uintptr_t frame) {
     struct thread *thread = threads_self();
     if (!__atomic_load_n(&native->is_described, __ATOMIC_ACQUIRE)) {
         describe(native, (JNIEnv *)(uintptr_t)registers[0]);
@@ -366,6 +367,14 @@ struct entry jg_native_enters(struct native *native, const uint64_t *registers, 
         tell_entered(thread, native, registers, frame);
     }
     return (struct entry){native->target, native->words};
+}
+
+struct entry jg_native_enters(struct native *native, const uint64_t *registers, uintptr_t frame) {
+    struct kept kept;
+    keep(&kept);
+    struct entry entry = enter(native, registers, frame);
+    restore(&kept);
+    return entry;
 }
 
 /* ---- leaving ---- */
@@ -402,7 +411,7 @@ static void leave_judged(struct thread *thread, const struct native *native, uin
     call_drops(&call);
 }
 
-void jg_native_leaves(struct native *native, uint64_t *results, uintptr_t frame) {
+static void leave(const struct native *native, uint64_t *results, uintptr_t frame) {
     struct thread *thread = threads_self();
     threads_unwind(thread, frame - 1);
     if (thread->depth == 0 || thread->activations[thread->depth - 1].stack != frame) {
@@ -424,6 +433,13 @@ void jg_native_leaves(struct native *native, uint64_t *results, uintptr_t frame)
     }
 }
 
+void jg_native_leaves(struct native *native, uint64_t *results, uintptr_t frame) {
+    struct kept kept;
+    keep(&kept);
+    leave(native, results, frame);
+    restore(&kept);
+}
+
 /* ---- registration ---- */
 
 /* The native method of this name and type, where the setup states it. */
@@ -438,39 +454,54 @@ static jg_value native_named(const struct object *class, const JNINativeMethod *
     return number > 0 ? jg_native((uint32_t)number) : jg_no_native();
 }
 
+/* Asks of each method: the first that is denied decides. How many passed before, or -1 where the call isn't made. */
+static jint ask_methods(struct call *call, jclass class, const JNINativeMethod *methods, jint count,
+                        jg_ticket *tickets) {
+    const struct reference first = call->first;
+    for (jint asked = 0; asked < count; asked++) {
+        call->count = 0;
+        call_operand_of(call, first.name, class);
+        call_operand(call, native_named(first.object, &methods[asked]));
+        if (!call_passes(call)) {
+            return -1;
+        }
+        if (!call->is_asked || call->verdict.rule != 0) {
+            return asked;
+        }
+        tickets[asked] = call->verdict.ticket;
+    }
+    return count;
+}
+
+static void tell_registered(struct call *call, const jg_ticket *tickets, jint count) {
+    jg_value given;
+    for (jint at = 0; at < count; at++) {
+        call->verdict.ticket = tickets[at];
+        call->verdict.rule = 0;
+        call_says(call, jg_nothing(), NULL, &given);
+    }
+}
+
 jint JNICALL wrapped_RegisterNatives(JNIEnv *env, jclass class, const JNINativeMethod *methods, jint count) {
     struct call call;
-    jg_value given;
+    struct kept kept;
     int is_judged = call_begins(&call, JG_FN_RegisterNatives, env, CALLER);
     if (!is_judged || count <= 0 || methods == NULL) {
         return machine->RegisterNatives(env, class, methods, count);
     }
+    keep(&kept);
     jg_ticket *tickets = must_make((size_t)count * sizeof *tickets);
-    jint asked = 0;
     jobject handle = call_object(&call, class);
-    struct reference first = call.first;
-    for (; asked < count; asked++) {
-        /* A question for each method: the first that is denied decides. */
-        call.count = 0;
-        call_operand_of(&call, first.name, class);
-        call_operand(&call, native_named(first.object, &methods[asked]));
-        if (!call_passes(&call)) {
-            free(tickets);
-            return JNI_ERR;
-        }
-        if (!call.is_asked || call.verdict.rule != 0) {
-            break;
-        }
-        tickets[asked] = call.verdict.ticket;
+    jint asked = ask_methods(&call, class, methods, count, tickets), answer = JNI_ERR;
+    restore(&kept);
+    if (asked >= 0) {
+        answer = machine->RegisterNatives(env, handle, methods, count);
     }
-    jint answer = machine->RegisterNatives(env, handle, methods, count);
-    for (jint at = 0; answer == 0 && at < asked; at++) {
-        call.verdict.ticket = tickets[at];
-        call.verdict.rule = 0;
-        call_says(&call, jg_nothing(), NULL, &given);
-    }
+    keep(&kept);
+    tell_registered(&call, tickets, answer == 0 ? asked : 0);
     free(tickets);
     call_drops(&call);
+    restore(&kept);
     return answer;
 }
 

@@ -31,9 +31,18 @@ static pthread_key_t ending;
 static pthread_once_t once = PTHREAD_ONCE_INIT;
 __thread struct thread *threads_current __attribute__((tls_model("initial-exec")));
 
+/*
+ * The machine said that this thread ends, and not that it begins since. What other agents of JVMTI do in it then isn't
+ * judged: it would begin a session of which nobody tells the end.
+ */
+static __thread int has_ended __attribute__((tls_model("initial-exec")));
+
 /* ---- the structs ---- */
 
 void threads_take_number(struct thread *thread) {
+    if (has_ended) {
+        return;
+    }
     pthread_mutex_lock(&lock);
     if (free_count > 0) {
         thread->number = free_numbers[--free_count];
@@ -345,17 +354,14 @@ int threads_attach(struct thread *thread) {
     return error == 0;
 }
 
-void JNICALL threads_ended(jvmtiEnv *of, JNIEnv *env, jthread which) {
-    struct thread *thread = threads_current;
+void JNICALL threads_started(jvmtiEnv *of, JNIEnv *env, jthread which) {
     (void)of;
     (void)env;
     (void)which;
-    if (thread == NULL || !thread->is_attached) {
-        if (thread != NULL) {
-            thread->pushed = 0;
-        }
-        return;
-    }
+    has_ended = 0;
+}
+
+static void end_session(struct thread *thread) {
     core_lock();
     core_tell(jg_fact_of(JG_ENDS, thread->number, jg_nothing(), jg_null(), 0, 0), NULL);
     core_unlock();
@@ -371,6 +377,21 @@ void JNICALL threads_ended(jvmtiEnv *of, JNIEnv *env, jthread which) {
     thread->is_pending = 0;
     objects_drop(thread->waiting.object);
     thread->waiting.object = NULL;
+}
+
+void JNICALL threads_ended(jvmtiEnv *of, JNIEnv *env, jthread which) {
+    struct thread *thread = threads_current;
+    (void)of;
+    (void)env;
+    (void)which;
+    has_ended = 1;
+    if (thread == NULL) {
+        return;
+    }
+    if (thread->is_attached) {
+        end_session(thread);
+    }
+    thread->pushed = 0;
     pthread_mutex_lock(&lock);
     give_number(thread);
     pthread_mutex_unlock(&lock);

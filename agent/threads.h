@@ -96,7 +96,7 @@ extern __thread struct thread *threads_current __attribute__((tls_model("initial
 
 struct thread *threads_make(void);
 
-/* Gives the thread a number. It has none after that where all are taken. */
+/* Gives the thread a number. It has none after that where all are taken, or where the thread ends in the machine. */
 void threads_take_number(struct thread *thread);
 
 /* Whether it has a number, which it is given if need be. Without one it isn't judged. */
@@ -168,6 +168,9 @@ jg_value threads_env_name(const struct thread *thread, JNIEnv *env);
 
 /* The core was told that a session of the thread began, and gave its environment this name. */
 void threads_begun(struct thread *thread, JNIEnv *env, jg_value env_name);
+
+/* The machine says that the thread begins. */
+void JNICALL threads_started(jvmtiEnv *tool, JNIEnv *env, jthread thread);
 
 /* The machine says that the thread ends: the end of its session is told. */
 void JNICALL threads_ended(jvmtiEnv *tool, JNIEnv *env, jthread thread);

@@ -10,6 +10,7 @@ public class Unseen {
     static native void within();
     static native void around();
     static native int early(Object number);
+    static native void twice();
 
     static void caught() {
         try {
@@ -80,6 +81,16 @@ public class Unseen {
         }
     }
 
+    /** Threads that end, of Java's and of the system's. */
+    static void ends() throws Exception {
+        for (int turn = 0; turn < 40; turn++) {
+            Thread thread = new Thread(Unseen::makes);
+            thread.start();
+            thread.join();
+        }
+        twice();
+    }
+
     public static void main(String[] words) throws Exception {
         System.loadLibrary("unseen");
         System.err.println("== " + words[0]);
@@ -97,6 +108,7 @@ public class Unseen {
             }
             case "process" -> ProcessHandle.current().info().arguments();
             case "late" -> late();
+            case "ends" -> ends();
             case "frames" -> Bystander.attaches(System.getProperty("judged"));
             default -> {
                 turn();

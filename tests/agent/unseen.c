@@ -1,5 +1,6 @@
 /* unseen.c: judged code in frames of locals that nobody tells: in callbacks, and in methods without a stub. */
 #include <jni.h>
+#include <pthread.h>
 
 #define E (*env)
 
@@ -45,6 +46,32 @@ JNIEXPORT jint JNICALL Java_Unseen_uses(JNIEnv *env, jclass class, jstring text,
     E->GetObjectClass(env, object);
     E->IsSameObject(env, class, object);
     return E->GetStringLength(env, made) + E->GetStringLength(env, text);
+}
+
+/* The thread attaches twice. The fault is in its second session. */
+static void *attaches(void *machine) {
+    JavaVM *vm = machine;
+    JNIEnv *env;
+    for (int turn = 0; turn < 2; turn++) {
+        if ((*vm)->AttachCurrentThread(vm, (void **)&env, NULL) == JNI_OK) {
+            jstring made = E->NewStringUTF(env, "made");
+            if (turn > 0) {
+                E->DeleteLocalRef(env, made);
+            }
+            E->IsSameObject(env, made, NULL);
+            (*vm)->DetachCurrentThread(vm);
+        }
+    }
+    return NULL;
+}
+
+JNIEXPORT void JNICALL Java_Unseen_twice(JNIEnv *env, jclass class) {
+    pthread_t thread;
+    JavaVM *vm;
+    (void)class;
+    E->GetJavaVM(env, &vm);
+    pthread_create(&thread, NULL, attaches, vm);
+    pthread_join(thread, NULL);
 }
 
 /* Returns while an exception is pending. */
