@@ -85,7 +85,7 @@ static uint64_t nanoseconds(clockid_t clock) {
 static struct object *oldest_grave, **newest_grave = &oldest_grave;
 static struct spin graves_lock;
 
-/* Takes out the oldest one that is to be freed by now; or NULL. One that is held again is only taken out. Under the lock. */
+/* Takes out the oldest one that is to be freed by now, or NULL. What is held again is only taken out. Under the lock. */
 static struct object *take_grave(uint64_t now) {
     /* In nanoseconds. */
     enum { REST = 100000000 };
@@ -103,8 +103,8 @@ static struct object *take_grave(uint64_t now) {
 
 /*
  * Drops what may be the last hold. A thread may have found the object just before, by its tag or by a name that another
- * one ended meanwhile, and hold it only now. So it is freed some time later, however many go at once. For each that goes
- * two are freed at most.
+ * one ended meanwhile, and hold it only now. So it is freed some time later, however many go at once. For each that
+ * goes two are freed at most.
  */
 static void drop_last(struct object *object) {
     struct object *freed = NULL, *other = NULL;

@@ -11,7 +11,7 @@
 
 struct site;
 
-/* A class, by its class object. It is freed with the last struct of its objects, of which a name may hold one longer. */
+/* A class, by its class object. It is freed with the last struct of its objects, which a name may hold longer. */
 struct class_info {
     _Atomic uint32_t holds;   /* by its class object, and by each object that is of it */
     char *signature;          /* as JVMTI spells it: Ljava/lang/String; */

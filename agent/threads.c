@@ -62,10 +62,25 @@ static void give_number(struct thread *thread) {
 }
 
 /* The environment's address may be anything now. */
-static void forget_env(const struct thread *thread) {
+static void forget_env(const struct environment *it) {
     struct name found;
-    if (thread->env != NULL && names_find((uintptr_t)thread->env, &found) && jg_is_same(found.name, thread->env_name)) {
-        names_forget((uintptr_t)thread->env);
+    if (it->env != NULL && names_find((uintptr_t)it->env, &found) && jg_is_same(found.name, it->name)) {
+        names_forget((uintptr_t)it->env);
+    }
+}
+
+/* Keeps the names of some environments, so that it is known whose they were. */
+static void keep_env(struct thread *thread) {
+    struct environment *oldest = &thread->earlier[thread->earlier_next++ % EARLIER];
+    forget_env(oldest);
+    *oldest = (struct environment){thread->env, thread->env_name};
+}
+
+static void forget_envs(const struct thread *thread) {
+    const struct environment newest = {thread->env, thread->env_name};
+    forget_env(&newest);
+    for (size_t at = 0; at < EARLIER; at++) {
+        forget_env(&thread->earlier[at]);
     }
 }
 
@@ -94,7 +109,7 @@ static void let_go(void *which) {
     give_number(thread);
     pthread_mutex_unlock(&lock);
     forget_held(thread);
-    forget_env(thread);
+    forget_envs(thread);
     buffers_thread_ended(thread);
     free(thread->activations);
     free(thread->frames);
@@ -323,7 +338,9 @@ void threads_unwind(struct thread *thread, uintptr_t stack) {
 
 void threads_begun(struct thread *thread, JNIEnv *env, jg_value env_name) {
     struct name before, named = {.handle = (uintptr_t)env, .name = env_name, .state = NAME_SEEN};
-    forget_env(thread);
+    if (thread->env != env) {
+        keep_env(thread);
+    }
     names_put(&named, &before);
     thread->env = env;
     thread->env_name = env_name;

@@ -51,7 +51,13 @@ struct waiting {
     uint32_t count;
 };
 
-enum { MEMOS = 16, MEMO_OPERANDS = 3 };
+/* An environment, and the core's name for it. */
+struct environment {
+    JNIEnv *env;
+    jg_value name;
+};
+
+enum { MEMOS = 16, MEMO_OPERANDS = 3, EARLIER = 4 };
 
 /* A question that passed, and how many facts had been told then. */
 struct memo {
@@ -69,6 +75,8 @@ struct thread {
     int is_attached;              /* a session of it was told */
     jg_value env_name;
     JNIEnv *env;
+    struct environment earlier[EARLIER]; /* those of its sessions before, as far as they stood elsewhere */
+    size_t earlier_next;
     uintptr_t stack_low, stack_high;
     struct activation *activations;
     size_t depth, activation_room;

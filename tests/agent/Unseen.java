@@ -11,6 +11,7 @@ public class Unseen {
     static native void around();
     static native int early(Object number);
     static native void twice();
+    static native void earlier();
 
     static void caught() {
         try {
@@ -109,6 +110,7 @@ public class Unseen {
             case "process" -> ProcessHandle.current().info().arguments();
             case "late" -> late();
             case "ends" -> ends();
+            case "earlier" -> earlier();
             case "frames" -> Bystander.attaches(System.getProperty("judged"));
             default -> {
                 turn();

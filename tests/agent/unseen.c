@@ -1,6 +1,7 @@
 /* unseen.c: judged code in frames of locals that nobody tells: in callbacks, and in methods without a stub. */
 #include <jni.h>
 #include <pthread.h>
+#include <stdlib.h>
 
 #define E (*env)
 
@@ -65,13 +66,50 @@ static void *attaches(void *machine) {
     return NULL;
 }
 
-JNIEXPORT void JNICALL Java_Unseen_twice(JNIEnv *env, jclass class) {
+/* Memory that the machine let go is used, so that an environment doesn't come where an earlier one was. */
+static void use_memory(void) {
+    for (size_t size = 512; size < 8192; size += 16) {
+        for (int count = 0; count < 4; count++) {
+            void *volatile block = malloc(size);
+            (void)block;
+        }
+    }
+}
+
+/* The thread uses the environment of its session before. */
+static void *uses_earlier(void *machine) {
+    JavaVM *vm = machine;
+    JNIEnv *env, *earlier = NULL;
+    for (int turn = 0; turn < 3; turn++) {
+        if ((*vm)->AttachCurrentThread(vm, (void **)&env, NULL) == JNI_OK) {
+            E->NewStringUTF(env, "made");
+            if (earlier != NULL && earlier != env) {
+                (*env)->ExceptionCheck(earlier);
+            }
+            earlier = env;
+            (*vm)->DetachCurrentThread(vm);
+            use_memory();
+        }
+    }
+    return NULL;
+}
+
+static void run(JNIEnv *env, void *(*runs)(void *)) {
     pthread_t thread;
     JavaVM *vm;
-    (void)class;
     E->GetJavaVM(env, &vm);
-    pthread_create(&thread, NULL, attaches, vm);
+    pthread_create(&thread, NULL, runs, vm);
     pthread_join(thread, NULL);
+}
+
+JNIEXPORT void JNICALL Java_Unseen_earlier(JNIEnv *env, jclass class) {
+    (void)class;
+    run(env, uses_earlier);
+}
+
+JNIEXPORT void JNICALL Java_Unseen_twice(JNIEnv *env, jclass class) {
+    (void)class;
+    run(env, attaches);
 }
 
 /* Returns while an exception is pending. */
