@@ -85,7 +85,7 @@ static uint64_t nanoseconds(clockid_t clock) {
 static struct object *oldest_grave, **newest_grave = &oldest_grave;
 static struct spin graves_lock;
 
-/* Takes out the oldest one that is to be freed by now, or NULL. What is held again is only taken out. Under the lock. */
+/* Takes out the oldest that is to be freed by now, or NULL. What is held again is only taken out. Under the lock. */
 static struct object *take_grave(uint64_t now) {
     /* In nanoseconds. */
     enum { REST = 100000000 };

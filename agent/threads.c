@@ -31,16 +31,23 @@ static pthread_key_t ending;
 static pthread_once_t once = PTHREAD_ONCE_INIT;
 __thread struct thread *threads_current __attribute__((tls_model("initial-exec")));
 
-/*
- * The machine said that this thread ends, and not that it begins since. What other agents of JVMTI do in it then isn't
- * judged: it would begin a session of which nobody tells the end.
- */
+/* The machine said that this thread ends, and not that it begins since. */
 static __thread int has_ended __attribute__((tls_model("initial-exec")));
 
 /* ---- the structs ---- */
 
+/*
+ * Whether the machine is about to let this thread go. What other agents of JVMTI do in it then isn't judged: it would
+ * begin a session of which nobody tells the end.
+ */
+static int is_ending(void) {
+    void *env = NULL;
+    has_ended = has_ended && machine_invocation->GetEnv(vm, &env, JNI_VERSION_1_6) == JNI_OK;
+    return has_ended;
+}
+
 void threads_take_number(struct thread *thread) {
-    if (has_ended) {
+    if (is_ending()) {
         return;
     }
     pthread_mutex_lock(&lock);
