@@ -220,6 +220,10 @@ static struct object *found(jobject handle) {
 /* The class object of a class of the setup has the class's number, if none has it yet. Whether it has. */
 static int take_number(struct object *object) {
     int64_t number = object->described ? number_in_setup(object->described->signature) : -1;
+    if (number >= 0 && is_taken[number]) {
+        /* By a class that is gone, perhaps. */
+        objects_tell_gone();
+    }
     if (number < 0 || is_taken[number]) {
         return 0;
     }
