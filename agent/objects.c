@@ -308,6 +308,7 @@ struct meeting {
 
 static struct spin meetings_lock;
 static struct meeting *meetings; /* those that began last stand at the end */
+static _Atomic uint64_t ended_count;
 
 static void free_meeting(JNIEnv *env, struct meeting *meeting) {
     machine->DeleteGlobalRef(env, meeting->handle);
@@ -324,6 +325,7 @@ static void leave(JNIEnv *env, struct meeting *meeting) {
     }
     if (is_last) {
         *link = meeting->next;
+        ended_count++;
     }
     spin_unlock(&meetings_lock);
     if (is_last) {
@@ -381,13 +383,13 @@ static struct object *agreed(JNIEnv *env, struct meeting *meeting) {
     return first;
 }
 
-static struct object *meet(JNIEnv *env, jobject handle) {
+/* Meets an object that had no tag when so many meetings had ended: since then one of this object may have. */
+static struct object *meet(JNIEnv *env, jobject handle, uint64_t ended_before) {
     struct meeting *meeting = join(env, handle);
     if (meeting == NULL) {
         return NULL;
     }
-    /* An earlier meeting of it may have ended since the thread looked. */
-    struct object *object = found(meeting->handle);
+    struct object *object = ended_count != ended_before ? found(meeting->handle) : NULL;
     if (object == NULL) {
         object = agreed(env, meeting);
         if (object != NULL && tell_met(object) == 0 &&
@@ -421,11 +423,11 @@ void objects_throw_again(JNIEnv *env, jthrowable pending) {
  * Meets an object by calls of which -Xcheck:jni has nothing to say: no exception is pending then, and their references
  * are in a frame of their own.
  */
-static struct object *meet_unseen(JNIEnv *env, jobject handle) {
+static struct object *meet_unseen(JNIEnv *env, jobject handle, uint64_t ended_before) {
     enum { ROOM = 4 };
     int has_frame = machine->PushLocalFrame(env, ROOM) == JNI_OK;
     jthrowable pending = objects_put_by(env);
-    struct object *object = meet(env, handle);
+    struct object *object = meet(env, handle, ended_before);
     objects_throw_again(env, pending);
     if (has_frame) {
         machine->PopLocalFrame(env, NULL);
@@ -434,8 +436,9 @@ static struct object *meet_unseen(JNIEnv *env, jobject handle) {
 }
 
 struct object *objects_of(JNIEnv *env, jobject handle) {
+    uint64_t ended_before = ended_count;
     struct object *object = handle ? found(handle) : NULL;
-    return object != NULL || handle == NULL ? object : meet_unseen(env, handle);
+    return object != NULL || handle == NULL ? object : meet_unseen(env, handle, ended_before);
 }
 
 /* A global reference to a class of the machine's. */
