@@ -11,6 +11,7 @@ public class Unseen {
     static native void around();
     static native int early(Object number);
     static native void twice();
+    static native void outlives();
     static native void earlier();
 
     static void caught() {
@@ -19,6 +20,11 @@ public class Unseen {
         } catch (IllegalStateException thrown) {
             // It was thrown to be caught.
         }
+    }
+
+    static void collects() throws InterruptedException {
+        System.gc();
+        Thread.sleep(5);
     }
 
     /** Native methods that a call of `turn` calls, beside a library that isn't judged. */
@@ -100,6 +106,11 @@ public class Unseen {
                 System.load(System.getProperty("tool"));
                 arms();
                 catches();
+            }
+            case "outlives" -> {
+                System.load(System.getProperty("tool"));
+                arms();
+                outlives();
             }
             case "early" -> {
                 System.load(System.getProperty("tool"));

@@ -1,6 +1,7 @@
 /*
  * tool.c: another agent of JVMTI. Its callbacks have frames of locals that end with them. The option says what they do:
- * `makes` leaves locals in the first callback, `deletes` deletes them there, `takes` deletes what it was handed. With
+ * `makes` leaves locals in the first callback, `fills` very many, `deletes` deletes them there, `takes` deletes what it
+ * was handed. With
  * `early` it is handed IDs and a global reference when the machine is there, which native methods use later. With
  * `wraps` it puts functions of its own into the table then. With `ends` it makes calls when a thread ends.
  */
@@ -29,7 +30,7 @@ static void JNICALL on_exception(jvmtiEnv *of, JNIEnv *env, jthread thread, jmet
     (void)of, (void)thread, (void)method, (void)at, (void)catcher, (void)caught_at;
     if (strcmp(option, "takes") != 0) {
         if (is_first) {
-            make_strings(env, 8, strcmp(option, "deletes") == 0);
+            make_strings(env, strcmp(option, "fills") == 0 ? 16000 : 8, strcmp(option, "deletes") == 0);
         }
     } else if (is_first) {
         E->DeleteLocalRef(env, thrown);

@@ -1,7 +1,9 @@
 /* unseen.c: judged code in frames of locals that nobody tells: in callbacks, and in methods without a stub. */
 #include <jni.h>
 #include <pthread.h>
+#include <stdio.h>
 #include <stdlib.h>
+#include <time.h>
 
 #define E (*env)
 
@@ -10,6 +12,28 @@ JNIEXPORT void JNICALL Java_Unseen_catches(JNIEnv *env, jclass class) {
     jmethodID caught = E->GetStaticMethodID(env, class, "caught", "()V");
     E->CallStaticVoidMethod(env, class, caught);
     E->CallStaticVoidMethod(env, class, caught);
+}
+
+static double seconds_of_thread(void) {
+    struct timespec time;
+    clock_gettime(CLOCK_THREAD_CPUTIME_ID, &time);
+    return (double)time.tv_sec + (double)time.tv_nsec * 1e-9;
+}
+
+/* Locals of a callback are gone, and the agent takes them for this method's. Then there are collections. */
+JNIEXPORT void JNICALL Java_Unseen_outlives(JNIEnv *env, jclass class) {
+    jmethodID caught = E->GetStaticMethodID(env, class, "caught", "()V");
+    jmethodID collects = E->GetStaticMethodID(env, class, "collects", "()V");
+    E->CallStaticVoidMethod(env, class, caught);
+    double begun = seconds_of_thread();
+    for (int turn = 0; turn < 20; turn++) {
+        E->DeleteLocalRef(env, E->NewStringUTF(env, "made"));
+        E->CallStaticVoidMethod(env, class, collects);
+    }
+    double took = seconds_of_thread() - begun;
+    if (took > 1.5) {
+        fprintf(stderr, "WRONG: it took %.1f s of the processor\n", took);
+    }
 }
 
 /* The local that is deleted stands in the middle of a block of the machine's. */
