@@ -84,6 +84,7 @@ static void JNICALL on_start(jvmtiEnv *of, JNIEnv *env, jthread thread) {
 static void JNICALL on_end(jvmtiEnv *of, JNIEnv *env) {
     (void)of;
     (void)env;
+    threads_go_on();
     report_end();
     is_live = 0;
 }

@@ -385,6 +385,10 @@ void JNICALL threads_started(jvmtiEnv *of, JNIEnv *env, jthread which) {
     has_ended = 0;
 }
 
+void threads_go_on(void) {
+    has_ended = 0;
+}
+
 static void end_session(struct thread *thread) {
     core_lock();
     core_tell(jg_fact_of(JG_ENDS, thread->number, jg_nothing(), jg_null(), 0, 0), NULL);

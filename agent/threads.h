@@ -180,6 +180,9 @@ void threads_begun(struct thread *thread, JNIEnv *env, jg_value env_name);
 /* The machine says that the thread begins. */
 void JNICALL threads_started(jvmtiEnv *tool, JNIEnv *env, jthread thread);
 
+/* The machine ends, and said that this thread does: what is done in it is judged up to the end all the same. */
+void threads_go_on(void);
+
 /* The machine says that the thread ends: the end of its session is told. */
 void JNICALL threads_ended(jvmtiEnv *tool, JNIEnv *env, jthread thread);
 
