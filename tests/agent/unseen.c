@@ -31,7 +31,7 @@ JNIEXPORT void JNICALL Java_Unseen_outlives(JNIEnv *env, jclass class) {
         E->CallStaticVoidMethod(env, class, collects);
     }
     double took = seconds_of_thread() - begun;
-    if (took > 0.9) {
+    if (took > 0.5) {
         fprintf(stderr, "WRONG: it took %.1f s of the processor\n", took);
     }
 }
