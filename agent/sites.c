@@ -11,7 +11,6 @@
 #include "threads.h"
 
 #include <dlfcn.h>
-#include <execinfo.h>
 #include <link.h>
 #include <pthread.h>
 #include <stdio.h>
@@ -173,7 +172,8 @@ struct looked_up {
     const struct link_map *library;
     const char *symbol; /* of what is exported, or NULL */
     uintptr_t symbol_at;
-    int is_in_table; /* functions of the library stand in the table before the agent's */
+    const void *unwinding; /* the library's tables for the unwinder, or NULL */
+    int is_in_table;       /* functions of the library stand in the table before the agent's */
 };
 
 /* A program's own name may be no path. */
@@ -216,6 +216,7 @@ static struct looked_up look_up(uintptr_t at) {
         it.library = found.dlfo_link_map;
         it.base = (uintptr_t)found.dlfo_map_start;
         it.path = whole_path(it.library->l_name);
+        it.unwinding = found.dlfo_eh_frame;
         find_symbol(at, &it);
     }
     return it;
@@ -228,6 +229,29 @@ static uintptr_t base_of(uintptr_t at) {
     return dladdr((void *)at, &info) ? (uintptr_t)info.dli_fbase : 0;
 }
 
+/* Where the unwinder's tables of a library are. */
+struct tables {
+    uintptr_t base;
+    const void *unwinding;
+};
+
+static int see_tables(struct dl_phdr_info *info, size_t size, void *of) {
+    struct tables *tables = of;
+    (void)size;
+    for (size_t at = 0; info->dlpi_addr == tables->base && at < info->dlpi_phnum; at++) {
+        if (info->dlpi_phdr[at].p_type == PT_GNU_EH_FRAME) {
+            tables->unwinding = (const void *)(info->dlpi_addr + info->dlpi_phdr[at].p_vaddr);
+        }
+    }
+    return tables->unwinding != NULL;
+}
+
+static const void *unwinding_of(const struct link_map *library) {
+    struct tables tables = {library->l_addr, NULL};
+    dl_iterate_phdr(see_tables, &tables);
+    return tables.unwinding;
+}
+
 static struct looked_up look_up(uintptr_t at) {
     struct looked_up it = {.path = NULL};
     Dl_info info;
@@ -238,6 +262,7 @@ static struct looked_up look_up(uintptr_t at) {
         it.path = whole_path(info.dli_fname);
         it.symbol = info.dli_sname;
         it.symbol_at = (uintptr_t)info.dli_saddr;
+        it.unwinding = unwinding_of(it.library);
     }
     return it;
 }
@@ -271,6 +296,9 @@ static struct site *make_place(uintptr_t at, const struct looked_up *it) {
         made->is_in_table = it->is_in_table;
         made->is_wrapper = made->is_in_table || is_passing_on(it->symbol);
     }
+    if (made->is_wrapper) {
+        made->step = unwind_find(it->unwinding, at);
+    }
     made->is_judged = made->library->is_judged;
     return made;
 }
@@ -299,7 +327,7 @@ static void grow_places(void) {
 /* Whether the place is still what was looked up. */
 static int is_same(const struct site *site, const struct site *now) {
     return site->library == now->library && site->in_symbol == now->in_symbol &&
-           site->is_in_table == now->is_in_table &&
+           site->is_in_table == now->is_in_table && memcmp(&site->step, &now->step, sizeof now->step) == 0 &&
            (site->symbol ? now->symbol != NULL && strcmp(site->symbol, now->symbol) == 0 : now->symbol == NULL);
 }
 
@@ -358,6 +386,8 @@ const struct site *sites_at(uintptr_t at) {
 
 /* ---- callers ---- */
 
+enum { MOST_STEPS = 16 };
+
 static const struct site *recent(struct thread *thread, uintptr_t at) {
     struct recent_site *kept = &thread->recent[(at >> 1) & (RECENT_SITES - 1)];
     uint32_t generation = sites_generation;
@@ -366,36 +396,6 @@ static const struct site *recent(struct thread *thread, uintptr_t at) {
         kept->generation = generation;
     }
     return kept->site;
-}
-
-/* The return address above a frame that is laid out by the frame pointer, or 0. */
-static uintptr_t above(const struct thread *thread, uintptr_t *frame) {
-    uintptr_t next = *(const uintptr_t *)*frame;
-    if (next <= *frame || (next & 7) != 0 || next < thread->stack_low || next + 16 > thread->stack_high) {
-        return 0;
-    }
-    *frame = next;
-    return ((const uintptr_t *)next)[1];
-}
-
-/*
- * The caller of a function that another agent put into the table before the agent's. It may have no frame pointer, so
- * the unwinder's tables say who called it. A call of that agent's own comes from the machine, or from Java.
- */
-static const struct site *before_tool(struct thread *thread, const struct site *found) {
-    void *returns[16];
-    struct kept kept;
-    keep(&kept);
-    const struct site *outer = found;
-    int count = backtrace(returns, sizeof returns / sizeof *returns), at = 0;
-    while (at < count && (uintptr_t)returns[at] != found->at) {
-        at++;
-    }
-    for (at++; at < count && outer->library == found->library; at++) {
-        outer = recent(thread, (uintptr_t)returns[at]);
-    }
-    restore(&kept);
-    return outer->library == &NOWHERE || outer->library->base == machine_base || outer->is_own ? found : outer;
 }
 
 /*
@@ -415,18 +415,31 @@ static const struct site *called_at(struct thread *thread, uintptr_t at) {
     return found;
 }
 
-const struct site *sites_find_caller(struct thread *thread, uintptr_t at, uintptr_t frame) {
-    const struct site *found = called_at(thread, at);
-    if (found->is_in_table) {
-        return before_tool(thread, found);
-    }
-    for (int depth = 0; depth < 4 && found->is_wrapper; depth++) {
-        uintptr_t next = above(thread, &frame);
+/*
+ * The place that the functions which only pass a call on were called from, by the unwinder's tables of their libraries.
+ * So are those that another agent put into the table before this one's. A call of that agent's own comes from the
+ * machine, or from Java.
+ */
+static const struct site *above(struct thread *thread, const struct site *first, uintptr_t frame) {
+    const uintptr_t *saved = (const uintptr_t *)frame;
+    struct registers registers = {.stack = frame + 2 * sizeof *saved, .frame = *saved};
+    const struct site *found = first;
+    for (int depth = 0; depth < MOST_STEPS && found->is_wrapper; depth++) {
+        uintptr_t next = unwind_up(&found->step, &registers, thread->stack_low, thread->stack_high);
         const struct site *outer = next ? recent(thread, next) : NULL;
         if (outer == NULL || outer->library == &NOWHERE) {
-            return found;
+            return first->is_in_table ? first : found;
         }
         found = outer;
+    }
+    int is_its_own = first->is_in_table && (found->is_own || found->library->base == machine_base);
+    return is_its_own ? first : found;
+}
+
+const struct site *sites_find_caller(struct thread *thread, uintptr_t at, uintptr_t frame) {
+    const struct site *found = called_at(thread, at);
+    if (found->is_wrapper) {
+        found = above(thread, found, frame);
     }
     if (found->is_own && thread->depth > 0) {
         return thread->activations[thread->depth - 1].native->site;
@@ -508,13 +521,17 @@ void sites_line(const struct site *site, char *text, size_t room) {
         return;
     }
     /* A return address is that of the next instruction, so the call stands before it. A native method has its own. */
-    snprintf(command, sizeof command, "addr2line -e '%s' 0x%lx 2>/dev/null", site->library->path,
+    snprintf(command, sizeof command, "addr2line -i -e '%s' 0x%lx 2>/dev/null", site->library->path,
              (unsigned long)(site->is_return && site->offset ? site->offset - 1 : site->offset));
     FILE *pipe = popen(command, "r");
     if (pipe == NULL) {
         return;
     }
-    if (fgets(line, sizeof line, pipe) != NULL && *line != '?') {
+    /* Of functions that were inlined the outer one comes behind the inner: what C++ has of JNIEnv is passed over. */
+    do {
+        *line = 0;
+    } while (fgets(line, sizeof line, pipe) != NULL && strncmp(name_of(line), "jni.h:", 6) == 0);
+    if (*line != 0 && *line != '?') {
         line[strcspn(line, " \n")] = 0;
         if (strstr(line, ":?") == NULL) {
             snprintf(text, room, " (%s)", name_of(line));

@@ -5,6 +5,7 @@
 #define SITES_H
 
 #include "agent.h"
+#include "unwind.h"
 
 struct thread;
 
@@ -34,6 +35,7 @@ struct site {
     int is_in_table; /* its library has functions in the table that are called before the agent's */
     int is_own;      /* it stands in the agent: the library's code ended by a jump */
     int is_return;   /* a call returns there, and stands before it */
+    struct step step; /* of a wrapper: where its caller is */
 };
 
 /*
