@@ -31,6 +31,7 @@ struct name {
     uint16_t ended_by;
     uint8_t state;
     uint8_t is_believed; /* made by a judged call: nobody else ends it unseen */
+    uint8_t is_in_ring;  /* of names.c alone */
 };
 
 /* The newest name of the handle. Whether there is one. */

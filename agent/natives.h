@@ -13,8 +13,9 @@ struct site;
 struct native {
     void (*target)(void);
     jmethodID method;
+    struct native *next;     /* of the same method, or the next one that is free */
+    void *stub;              /* NULL where none could be made */
     const struct site *site; /* the function's place */
-    char *label;             /* its class, name and type, once they are known */
     char *types;             /* a letter for each argument; L is any reference */
     uint32_t count;          /* how many arguments it has */
     char result;
