@@ -872,3 +872,14 @@ void buffers_end(void (*see)(const struct site *made, uint16_t made_by, jg_value
 __attribute__((constructor)) static void open_zones(void) {
     memset(clean, ZONE_BYTE, sizeof clean);
 }
+
+void buffers_each_site(void (*see)(const struct site *site)) {
+    spin_lock(&lock);
+    for (size_t at = 0; at < list_count; at++) {
+        for (const struct lent *it = lists[at]; it != NULL; it = it->next) {
+            see(it->made);
+            see(it->given);
+        }
+    }
+    spin_unlock(&lock);
+}

@@ -40,4 +40,7 @@ void buffers_thread_ended(struct thread *thread);
 /* Looks at all copies for the last time, and calls the function for each that is open. */
 void buffers_end(void (*see)(const struct site *made, uint16_t made_by, jg_value name, void *with), void *with);
 
+/* Calls the function for the places of all buffers, which may be NULL. */
+void buffers_each_site(void (*see)(const struct site *site));
+
 #endif

@@ -220,3 +220,17 @@ void names_each_global(void (*see)(const struct name *name, void *with), void *w
         spin_unlock(&part->lock);
     }
 }
+
+void names_each_site(void (*see)(const struct site *site)) {
+    for (size_t which = 0; which < PARTS; which++) {
+        struct part *part = &parts[which];
+        spin_lock(&part->lock);
+        for (size_t at = 0; at < part->room; at++) {
+            if (part->names[at].handle != 0) {
+                see(part->names[at].made);
+                see(part->names[at].ended);
+            }
+        }
+        spin_unlock(&part->lock);
+    }
+}

@@ -52,6 +52,9 @@ int names_end(uintptr_t handle, uint64_t number, enum state state, uint16_t by, 
 /* What was held back is dead. Whether it was held back. */
 int names_let_go(uintptr_t handle, uint64_t number);
 
+/* Calls the function for the places of each name, which may be NULL. */
+void names_each_site(void (*see)(const struct site *site));
+
 /* Calls the function for each live global and weak reference. */
 void names_each_global(void (*see)(const struct name *name, void *with), void *with);
 

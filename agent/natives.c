@@ -293,6 +293,20 @@ static void sweep(void) {
     free(list);
 }
 
+/* Also of those that are free: a thread may be on its way out of one. */
+void natives_each_site(void (*see)(const struct site *site)) {
+    pthread_mutex_lock(&lock);
+    for (size_t at = 0; at < bound_room; at++) {
+        for (const struct native *it = bounds[at].natives; it != NULL; it = it->next) {
+            see(it->site);
+        }
+    }
+    for (const struct native *it = free_natives; it != NULL; it = it->next) {
+        see(it->site);
+    }
+    pthread_mutex_unlock(&lock);
+}
+
 void JNICALL natives_bound(jvmtiEnv *of, JNIEnv *env, jthread thread, jmethodID method, void *address,
                            void **replaced) {
     (void)of;

@@ -39,4 +39,7 @@ static inline int natives_are_seen(void) {
 void JNICALL natives_bound(jvmtiEnv *tool, JNIEnv *env, jthread thread, jmethodID method, void *address,
                            void **replaced);
 
+/* Calls the function for the place of each. */
+void natives_each_site(void (*see)(const struct site *site));
+
 #endif
