@@ -922,3 +922,14 @@ void buffers_end(seeing_pair see, void *with) {
 __attribute__((constructor)) static void open_zones(void) {
     memset(clean, ZONE_BYTE, sizeof clean);
 }
+
+void buffers_each_site(void (*see)(const struct site *site)) {
+    spin_lock(&lock);
+    for (size_t at = 0; at < list_count; at++) {
+        for (const struct lent *it = lists[at]; it != NULL; it = it->next) {
+            see(it->made);
+            see(it->given);
+        }
+    }
+    spin_unlock(&lock);
+}

@@ -43,4 +43,7 @@ typedef void (*seeing_pair)(const struct site *made, uint16_t made_by, jg_value 
 /* Looks at all copies for the last time, and calls the function for each pair that is open. */
 void buffers_end(seeing_pair see, void *with);
 
+/* Calls the function for the places of all buffers, which may be NULL. */
+void buffers_each_site(void (*see)(const struct site *site));
+
 #endif

@@ -463,11 +463,11 @@ static void take_argument(struct call *call, jobject handle) {
 }
 
 void call_list(struct call *call, jmethodID method, va_list arguments) {
-    const char *letters = ids_arguments(method);
+    char known[MOST_LETTERS];
     va_list rest;
     va_copy(rest, arguments);
-    for (; letters != NULL && *letters != 0; letters++) {
-        switch (*letters) {
+    for (const char *letter = ids_arguments(method, known) ? known : ""; *letter != 0; letter++) {
+        switch (*letter) {
         case 'L':
             take_argument(call, va_arg(rest, jobject));
             break;
@@ -486,8 +486,11 @@ void call_list(struct call *call, jmethodID method, va_list arguments) {
 }
 
 void call_values(struct call *call, jmethodID method, const jvalue *arguments) {
-    const char *letters = arguments ? ids_arguments(method) : NULL;
-    for (size_t at = 0; letters != NULL && letters[at] != 0; at++) {
+    char letters[MOST_LETTERS] = "";
+    if (arguments != NULL) {
+        ids_arguments(method, letters);
+    }
+    for (size_t at = 0; letters[at] != 0; at++) {
         if (letters[at] == 'L') {
             take_argument(call, arguments[at].l);
         }

@@ -11,6 +11,7 @@
 enum { RECENT_SITES = 64 };
 
 struct recent_site {
+    uintptr_t at;
     const struct site *site;
     uint32_t generation;
 };
@@ -145,7 +146,7 @@ void threads_unwind(struct thread *thread, uintptr_t stack);
 static inline const struct site *sites_recent(const struct thread *thread, uintptr_t at) {
     const struct recent_site *recent = &thread->recent[(at >> 1) & (RECENT_SITES - 1)];
     const struct site *site = recent->site;
-    int is_found = site != NULL && site->at == at && recent->generation == sites_generation && !site->is_wrapper &&
+    int is_found = recent->at == at && site != NULL && recent->generation == sites_generation && !site->is_wrapper &&
                    !site->is_own && site->library == thread->last_library;
     return is_found ? site : NULL;
 }

@@ -64,7 +64,7 @@ public class Situations {
         String situation = words[0];
         System.err.println("== " + situation);
         if (situation.equals("wrapped")) {
-            System.loadLibrary("wrapped");
+            System.loadLibrary(System.getProperty("wrapped"));
             first("text");
             second("text");
         } else if (System.getProperty("library") != null) {
