@@ -84,6 +84,7 @@ static void JNICALL on_start(jvmtiEnv *of, JNIEnv *env, jthread thread) {
 static void JNICALL on_end(jvmtiEnv *of, JNIEnv *env) {
     (void)of;
     (void)env;
+    threads_go_on();
     report_end();
     is_live = 0;
 }
@@ -121,6 +122,7 @@ static int want_events(void) {
     callbacks.VMStart = on_early_start;
     callbacks.VMInit = on_start;
     callbacks.VMDeath = on_end;
+    callbacks.ThreadStart = threads_started;
     callbacks.ThreadEnd = threads_ended;
     callbacks.NativeMethodBind = natives_bound;
     callbacks.ObjectFree = objects_freed;
@@ -128,8 +130,9 @@ static int want_events(void) {
     return (*tool)->AddCapabilities(tool, &wanted) != JVMTI_ERROR_NONE ||
            (*tool)->SetEventCallbacks(tool, &callbacks, (jint)sizeof callbacks) != JVMTI_ERROR_NONE ||
            (is_from_start && enable(JVMTI_EVENT_VM_START)) || enable(JVMTI_EVENT_VM_INIT) ||
-           enable(JVMTI_EVENT_VM_DEATH) || enable(JVMTI_EVENT_THREAD_END) || enable(JVMTI_EVENT_NATIVE_METHOD_BIND) ||
-           enable(JVMTI_EVENT_OBJECT_FREE) || enable(JVMTI_EVENT_MONITOR_WAIT);
+           enable(JVMTI_EVENT_VM_DEATH) || enable(JVMTI_EVENT_THREAD_START) || enable(JVMTI_EVENT_THREAD_END) ||
+           enable(JVMTI_EVENT_NATIVE_METHOD_BIND) || enable(JVMTI_EVENT_OBJECT_FREE) ||
+           enable(JVMTI_EVENT_MONITOR_WAIT);
 }
 
 /* ---- loading ---- */

@@ -6,11 +6,11 @@
  * came of it. What the core knows by names the machine knows by handles and addresses: names.c, objects.c, ids.c and
  * buffers.c map one to the other.
  *
- * Locks, in the order in which they are taken: the lock of meeting (objects.c), then the core's (core.c), then one of
- * the small ones (names, buffers, IDs, sites), which are held for a few instructions. None is held while the machine
- * makes a call of the library, and none but the lock of meeting while the agent calls the machine.
- * A critical buffer has a lock of its own, which is held while its items are copied. None but the small one of buffers
- * is taken then.
+ * Locks, in the order in which they are taken: the core's (core.c), then one of the small ones, which are held for a
+ * few instructions, and last that of the graves (objects.c). None is held while the machine works, whoever called it,
+ * while the loader is asked, or while a block is written: the thread may be suspended there, or wait for a thread that
+ * waits for the lock. A critical buffer has a lock of its own, which is held while its items are copied. None but the
+ * small one of buffers is taken then.
  */
 #ifndef AGENT_H
 #define AGENT_H

@@ -43,7 +43,8 @@ struct lent {
     char shape;
     uint8_t is_plain;   /* no copy: the core isn't told of it */
     uint8_t is_given;   /* it was given back */
-    uint8_t is_held;    /* it stands in the list of those, or is let go */
+    uint8_t is_held;    /* somebody saw to that: it is held back, or is let go */
+    uint8_t is_filled;  /* it is held back, and nobody may store into it any longer */
     uint8_t is_aborted; /* its last release threw away what was stored */
     uint16_t made_by;
     struct object *object;
@@ -603,10 +604,12 @@ static int give_to_machine(struct given_back *given) {
     if (given->mode != JNI_ABORT) {
         copy_back(lent, lent->memory);
     }
+    spin_lock(&lock);
     given->memory = lent->memory;
     if (is_of_string(lent->family) || given->mode != JNI_COMMIT) {
         lent->memory = NULL;
     }
+    spin_unlock(&lock);
     return given->memory != NULL;
 }
 
@@ -741,6 +744,7 @@ static void hold_back(struct lent *lent) {
     memset(lent->block, ZONE_BYTE, ZONE);
     memset(lent->at + lent->bytes, ZONE_BYTE, ZONE);
     spin_lock(&lock);
+    lent->is_filled = 1;
     lent->held = NULL;
     *newest = lent;
     newest = &lent->held;
@@ -847,27 +851,84 @@ void buffers_thread_ended(struct thread *thread) {
     spin_unlock(&lock);
 }
 
-void buffers_end(void (*see)(const struct site *made, uint16_t made_by, jg_value name, void *with), void *with) {
-    is_ended = 1;
+/* All buffers that there are. Others may come and be given back meanwhile, and the table grow; nothing is freed now. */
+static struct lent **all_lent(size_t *count) {
+    struct lent **all = NULL;
+    size_t room = 0;
+    spin_lock(&lock);
+    while (room < lent_count) {
+        room = 2 * lent_count;
+        spin_unlock(&lock);
+        all = must_grow(all, room * sizeof *all);
+        spin_lock(&lock);
+    }
+    *count = 0;
     for (size_t at = 0; at < list_count; at++) {
         for (struct lent *it = lists[at]; it != NULL; it = it->next) {
-            if (it->is_plain) {
-                continue;
-            }
-            if (it->is_given) {
-                look_at_given(it);
-                continue;
-            }
-            if (it->was != NULL || it->memory != NULL) {
-                look(it, it->made);
-            }
-            for (size_t which = 0; which < it->pair_count && see != NULL; which++) {
-                see(it->made, it->made_by, it->pairs[which].name, with);
-            }
+            all[(*count)++] = it;
         }
     }
+    spin_unlock(&lock);
+    return all;
+}
+
+/* What was stored into a buffer, if it is open. Another thread may give the machine's memory back meanwhile. */
+static void look_at_open(struct lent *lent) {
+    unsigned char *was = lent->was ? NULL : must_make(lent->bytes);
+    spin_lock(&lock);
+    int is_open = !lent->is_given && (lent->was != NULL || lent->memory != NULL);
+    if (is_open && was != NULL) {
+        memcpy(was, lent->memory, lent->bytes);
+    }
+    spin_unlock(&lock);
+    if (is_open && was != NULL) {
+        look_at_items(lent, was, lent->made);
+        look_at_zones(lent, lent->made);
+    } else if (is_open) {
+        look(lent, lent->made);
+    }
+    free(was);
+}
+
+/* Its pairs that are open, if it has any. Whether it was given back and is filled. */
+static int see_pairs(const struct lent *lent, seeing_pair see, void *with) {
+    spin_lock(&lock);
+    for (size_t at = 0; at < lent->pair_count && !lent->is_given && see != NULL; at++) {
+        see(lent->made, lent->made_by, lent->pairs[at].name, with);
+    }
+    int is_filled = lent->is_filled;
+    spin_unlock(&lock);
+    return is_filled;
+}
+
+void buffers_end(seeing_pair see, void *with) {
+    is_ended = 1;
+    size_t count;
+    struct lent **all = all_lent(&count);
+    for (size_t at = 0; at < count; at++) {
+        if (all[at]->is_plain) {
+            continue;
+        }
+        if (see_pairs(all[at], see, with)) {
+            look_at_given(all[at]);
+        } else {
+            look_at_open(all[at]);
+        }
+    }
+    free(all);
 }
 
 __attribute__((constructor)) static void open_zones(void) {
     memset(clean, ZONE_BYTE, sizeof clean);
+}
+
+void buffers_each_site(void (*see)(const struct site *site)) {
+    spin_lock(&lock);
+    for (size_t at = 0; at < list_count; at++) {
+        for (const struct lent *it = lists[at]; it != NULL; it = it->next) {
+            see(it->made);
+            see(it->given);
+        }
+    }
+    spin_unlock(&lock);
 }

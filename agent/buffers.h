@@ -37,7 +37,13 @@ void buffers_places(const struct lent *lent, const struct site **made, uint32_t 
 /* The thread has ended: its critical buffers are closed. */
 void buffers_thread_ended(struct thread *thread);
 
-/* Looks at all copies for the last time, and calls the function for each that is open. */
-void buffers_end(void (*see)(const struct site *made, uint16_t made_by, jg_value name, void *with), void *with);
+/* What is called for an open pair: where and by which function it was lent, and its name. */
+typedef void (*seeing_pair)(const struct site *made, uint16_t made_by, jg_value name, void *with);
+
+/* Looks at all copies for the last time, and calls the function for each pair that is open. */
+void buffers_end(seeing_pair see, void *with);
+
+/* Calls the function for the places of all buffers, which may be NULL. */
+void buffers_each_site(void (*see)(const struct site *site));
 
 #endif

@@ -464,11 +464,11 @@ static void take_argument(struct call *call, jobject handle) {
 }
 
 void call_list(struct call *call, jmethodID method, va_list arguments) {
-    const char *letters = ids_arguments(method);
+    char known[MOST_LETTERS];
     va_list rest;
     va_copy(rest, arguments);
-    for (; letters != NULL && *letters != 0; letters++) {
-        switch (*letters) {
+    for (const char *letter = ids_arguments(method, known) ? known : ""; *letter != 0; letter++) {
+        switch (*letter) {
         case 'L':
             take_argument(call, va_arg(rest, jobject));
             break;
@@ -487,8 +487,11 @@ void call_list(struct call *call, jmethodID method, va_list arguments) {
 }
 
 void call_values(struct call *call, jmethodID method, const jvalue *arguments) {
-    const char *letters = arguments ? ids_arguments(method) : NULL;
-    for (size_t at = 0; letters != NULL && letters[at] != 0; at++) {
+    char letters[MOST_LETTERS] = "";
+    if (arguments != NULL) {
+        ids_arguments(method, letters);
+    }
+    for (size_t at = 0; letters[at] != 0; at++) {
         if (letters[at] == 'L') {
             take_argument(call, arguments[at].l);
         }
@@ -768,9 +771,18 @@ void call_done(struct call *call) {
     call_drops(call);
 }
 
+/* Whether an exception is pending in the machine. */
+static int has_thrown(JNIEnv *env) {
+    struct kept kept;
+    keep(&kept);
+    int has = machine->ExceptionCheck(env);
+    restore(&kept);
+    return has;
+}
+
 void call_answers(struct call *call, jint answer) {
     jg_value given;
-    if (answer < 0 && call->is_asked && (!call->is_own_env || !machine->ExceptionCheck(call->env))) {
+    if (answer < 0 && call->is_asked && (!call->is_own_env || !has_thrown(call->env))) {
         /* The machine didn't do it. */
         call_drops(call);
         return;

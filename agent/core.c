@@ -415,11 +415,13 @@ int32_t core_tell_of(jg_fact fact, struct object *object, jg_value *given) {
     if (fact.word == JG_OWNS) {
         free_all(object);
     } else {
+        /* Only of an object that was told to be gone this is the reason. Another would have two numbers. */
         jg_fact met = jg_fact_of(JG_MET, 0, jg_nothing(), jg_null(), object->class_number, object->length);
-        if (object->number < objects_of_setup() || tell_once(&met, &number) < 0) {
+        if (!object->is_gone || object->number < objects_of_setup() || tell_once(&met, &number) < 0) {
             return error;
         }
         object->number = number.number;
+        object->is_gone = 0;
         fact.object = number;
     }
     return tell_once(&fact, given);
@@ -453,9 +455,12 @@ int32_t core_gone(const uint64_t *objects, size_t count, uint64_t *held) {
     if (error == 0 && is_advising) {
         advised(jg_advise_gone(&adviser, NO_PLACE));
     }
-    if (error == 0 && record >= 0) {
+    /* A line has room for so many. */
+    enum { MOST = 2000 };
+    for (size_t at = 0; error == 0 && record >= 0 && at < count; at += MOST) {
         uint8_t *line = line_of_library();
-        put_line(line, jg_gone_line(&core, 0, objects, count, line, JG_LINE));
+        size_t some = count - at < MOST ? count - at : MOST;
+        put_line(line, jg_gone_line(&core, 0, objects + at, some, line, JG_LINE));
         put_text("\n");
     }
     return error;

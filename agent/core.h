@@ -61,7 +61,7 @@ int32_t core_did(const jg_ticket *ticket, jg_value says, struct object *object, 
 /* Tells a fact. Where it can't be it is mended, told again, and counted. 0, or an error. `given` may be NULL. */
 int32_t core_tell(jg_fact fact, jg_value *given);
 
-/* Tells a fact of an object, which is met anew where the core says that it isn't there. */
+/* Tells a fact of an object, which is met anew where the core was told that it is gone. */
 int32_t core_tell_of(jg_fact fact, struct object *object, jg_value *given);
 
 /* Tells that these objects are gone. 0, or JG_IMPOSSIBLE and the place of the first that is held. */

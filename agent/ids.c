@@ -2,39 +2,47 @@
  * ids.c: the IDs of fields and methods that the machine handed out, and whether they fit.
  *
  * HotSpot's ID of an instance field is the field's offset, so fields of many classes may bear one ID. Each known member
- * has a struct here, which stays, so that it can be read without the lock: one whose class is gone is marked, and
- * serves again for the next member of the same ID. What an ID was found to fit is kept by the ID and the class of the
- * operand.
+ * has a struct here until its class is gone. It holds no reference to the class: a method's class the machine says, and
+ * a field's is looked for among the classes that the operand's is below. What an ID was found to fit is kept by the ID
+ * and the class of the operand.
  */
 #include "ids.h"
 #include "kept.h"
 #include "objects.h"
+#include "spin.h"
 
 #include <pthread.h>
 #include <stdlib.h>
 #include <string.h>
 
 struct member {
-    struct member *next; /* of the same place in the table */
+    struct member *next, *before; /* of the same list */
     const void *id;
-    jweak class;                         /* that declares it */
-    struct class_info *_Atomic declared; /* the same; NULL once it is gone */
-    struct member *of_class;             /* the next one that its class declares */
-    char *arguments;
+    struct class_info *declared; /* the class that declares it */
+    struct member *of_class;     /* the next one that its class declares */
     char type;
     uint8_t is_static;
     uint8_t is_method;
     uint8_t is_constructor;
+    char arguments[]; /* of a method, a letter each */
 };
 
+/* Stands round what classes have: their members and what fits them. The lock of a list is taken within. */
 static pthread_mutex_t lock = PTHREAD_MUTEX_INITIALIZER;
 
-/* Lists of members, by their IDs. They are read without the lock, so nothing is taken out of them. */
-enum { LISTS = 1 << 16 };
-static struct member *_Atomic lists[LISTS];
+/* Lists of members, by their IDs. Some lists together have a lock, which stands round what is read of a member too. */
+enum { LISTS = 1 << 16, LIST_LOCKS = 64 };
+static struct member *lists[LISTS];
+static struct spin list_locks[LIST_LOCKS];
 
-static struct member *_Atomic *list_of(const void *id) {
-    return &lists[(uintptr_t)id * 0x9E3779B97F4A7C15u >> 48];
+static size_t list_of(const void *id) {
+    return (size_t)((uintptr_t)id * 0x9E3779B97F4A7C15u >> 48);
+}
+
+static struct spin *lock_list(const void *id) {
+    struct spin *its = &list_locks[list_of(id) % LIST_LOCKS];
+    spin_lock(its);
+    return its;
 }
 
 /* An ID that fits a class, and objects of it. It may be read while it serves again: its serial number is set last. */
@@ -119,79 +127,73 @@ char *ids_letters(const char *signature, char *result) {
     return letters;
 }
 
-/* The member of this ID and kind that the class declares, or NULL. Under the lock. */
-static struct member *member_of(const void *id, const struct class_info *class, int is_static) {
-    struct member *it = class->members;
-    while (it != NULL && (it->id != id || it->is_static != is_static)) {
+/* Whether the class is known to declare such a member. Under the lock. */
+static int has_member(const struct class_info *class, const struct member *like) {
+    const struct member *it = class->members;
+    while (it != NULL && (it->id != like->id || it->is_static != like->is_static)) {
         it = it->of_class;
     }
-    return it;
+    return it != NULL;
 }
 
-/* How many members there are whose class is gone. */
-static size_t unused_count;
+/* Adds such a member to its class and its list, unless it is known. */
+static void put(const struct member *like, const char *arguments) {
+    pthread_mutex_lock(&lock);
+    if (!has_member(like->declared, like)) {
+        struct member *made = must_make(sizeof *made + strlen(arguments) + 1);
+        memcpy(made, like, sizeof *made);
+        strcpy(made->arguments, arguments);
+        made->of_class = like->declared->members;
+        like->declared->members = made;
+        struct spin *its = lock_list(made->id);
+        struct member **list = &lists[list_of(made->id)];
+        made->next = *list;
+        made->before = NULL;
+        if (made->next != NULL) {
+            made->next->before = made;
+        }
+        *list = made;
+        spin_unlock(its);
+    }
+    pthread_mutex_unlock(&lock);
+}
 
-/* A member of this ID whose class is gone, whose struct can serve again. Under the lock. */
-static struct member *unused_of(const void *id) {
-    struct member *it = unused_count > 0 ? *list_of(id) : NULL;
-    while (it != NULL && (it->id != id || it->declared != NULL)) {
+/* Takes the member out of its list, and frees it. Under the lock. */
+static void let_member_go(struct member *member) {
+    struct spin *its = lock_list(member->id);
+    *(member->before ? &member->before->next : &lists[list_of(member->id)]) = member->next;
+    if (member->next != NULL) {
+        member->next->before = member->before;
+    }
+    spin_unlock(its);
+    free(member);
+}
+
+/* Notes a member of this class. */
+static void add(JNIEnv *env, struct member *member, const char *arguments, jclass class) {
+    struct object *object = objects_of(env, class);
+    if (object != NULL && object->described != NULL) {
+        member->declared = object->described;
+        put(member, arguments);
+    }
+}
+
+/* The first member of the ID, or NULL. Under the lock of its list. */
+static const struct member *first_of(const void *id) {
+    const struct member *it = lists[list_of(id)];
+    while (it != NULL && it->id != id) {
         it = it->next;
     }
     return it;
-}
-
-/* Adds the member, unless it is known. Answers what is left over: its class or that of a member that is no more. */
-static jweak put(struct member *member, struct class_info *declared) {
-    if (member_of(member->id, declared, member->is_static) != NULL) {
-        free(member->arguments);
-        return member->class;
-    }
-    struct member *place = unused_of(member->id);
-    jweak unused = NULL;
-    if (place == NULL) {
-        struct member *_Atomic *list = list_of(member->id);
-        place = must_make(sizeof *place);
-        *place = *member;
-        place->next = *list;
-        *list = place;
-    } else {
-        unused = place->class;
-        unused_count--;
-        free(place->arguments);
-        member->next = place->next;
-        *place = *member;
-    }
-    place->of_class = declared->members;
-    declared->members = place;
-    place->declared = declared;
-    return unused;
-}
-
-/* Adds the member of this class. It takes the arguments over. */
-static void add(JNIEnv *env, struct member member, jclass class) {
-    struct object *object = objects_of(env, class);
-    if (object == NULL || object->described == NULL) {
-        free(member.arguments);
-        return;
-    }
-    member.class = machine->NewWeakGlobalRef(env, class);
-    pthread_mutex_lock(&lock);
-    jweak unused = put(&member, object->described);
-    pthread_mutex_unlock(&lock);
-    if (unused != NULL) {
-        machine->DeleteWeakGlobalRef(env, unused);
-    }
 }
 
 /* Whether a method of this ID is known: then nothing need be noted. */
 static int is_noted(const void *id) {
-    pthread_mutex_lock(&lock);
-    struct member *it = *list_of(id);
-    while (it != NULL && (it->id != id || it->declared == NULL)) {
-        it = it->next;
-    }
-    pthread_mutex_unlock(&lock);
-    return it != NULL && it->is_method;
+    struct spin *its = lock_list(id);
+    const struct member *it = first_of(id);
+    int is_method = it != NULL && it->is_method;
+    spin_unlock(its);
+    return is_method;
 }
 
 static void note_field(JNIEnv *env, jclass class, jfieldID field, const char *type, int is_static) {
@@ -200,7 +202,7 @@ static void note_field(JNIEnv *env, jclass class, jfieldID field, const char *ty
         return;
     }
     struct member member = {.id = field, .type = type[0] == '[' ? 'L' : type[0], .is_static = (uint8_t)is_static};
-    add(env, member, declaring);
+    add(env, &member, "", declaring);
     machine->DeleteLocalRef(env, declaring);
     struct object *object = objects_of(env, class);
     if (object != NULL && object->described != NULL) {
@@ -219,9 +221,10 @@ static void note_method(JNIEnv *env, jmethodID method) {
     if ((*tool)->GetMethodName(tool, method, &name, &signature, NULL) == 0 &&
         (*tool)->GetMethodModifiers(tool, method, &modifiers) == 0) {
         struct member member = {.id = method, .is_method = 1, .is_static = (modifiers & 8) != 0};
-        member.arguments = ids_letters(signature, &member.type);
+        char *arguments = ids_letters(signature, &member.type);
         member.is_constructor = strcmp(name, "<init>") == 0;
-        add(env, member, declaring);
+        add(env, &member, arguments, declaring);
+        free(arguments);
     }
     (*tool)->Deallocate(tool, (unsigned char *)name);
     (*tool)->Deallocate(tool, (unsigned char *)signature);
@@ -352,9 +355,9 @@ void ids_note_reflected(JNIEnv *env, jobject reflected, jfieldID field) {
 
 void ids_forget_class(struct class_info *class) {
     pthread_mutex_lock(&lock);
-    for (struct member *it = class->members; it != NULL; it = it->of_class) {
-        it->declared = NULL;
-        unused_count++;
+    for (struct member *it = class->members, *next; it != NULL; it = next) {
+        next = it->of_class;
+        let_member_go(it);
     }
     class->members = NULL;
     for (struct fitting *it = class->fittings, *next; it != NULL; it = next) {
@@ -367,23 +370,6 @@ void ids_forget_class(struct class_info *class) {
 
 /* ---- fitting ---- */
 
-/* Whether the operand is of the member's class: an instance of it, or a class that is the same or below. */
-static int is_of_class(JNIEnv *env, const struct member *member, const struct id_question *question) {
-    jclass declaring = machine->NewLocalRef(env, member->class);
-    int fits = 0;
-    if (declaring != NULL) {
-        if (question->subject == ID_CONSTRUCTOR) {
-            fits = machine->IsSameObject(env, question->handle, declaring);
-        } else if (question->is_class) {
-            fits = machine->IsAssignableFrom(env, question->handle, declaring);
-        } else {
-            fits = machine->IsInstanceOf(env, question->handle, declaring);
-        }
-        machine->DeleteLocalRef(env, declaring);
-    }
-    return fits;
-}
-
 /* The class that decides: the operand's own, or the one that the operand stands for. */
 static struct class_info *deciding(const struct id_question *question) {
     if (question->object == NULL) {
@@ -392,8 +378,8 @@ static struct class_info *deciding(const struct id_question *question) {
     return question->is_class ? question->object->described : question->object->class;
 }
 
-/* How well the member fits; the better, the less. */
-static enum fit fit_of(JNIEnv *env, struct member *member, const struct id_question *question) {
+/* How well a member fits, whose class the operand is of or isn't. */
+static enum fit fit_of(const struct member *member, const struct id_question *question, int is_of_class) {
     int is_method = question->subject == ID_METHOD || question->subject == ID_CONSTRUCTOR;
     if (question->subject != ID_ANY && member->is_method != is_method) {
         return ID_UNKNOWN;
@@ -407,28 +393,127 @@ static enum fit fit_of(JNIEnv *env, struct member *member, const struct id_quest
     if (question->subject == ID_FIELD && member->type != question->letter) {
         return ID_OTHER_TYPE;
     }
-    if (deciding(question) != NULL && !is_of_class(env, member, question)) {
+    if (!is_of_class) {
         return ID_OTHER_CLASS;
     }
     return question->subject == ID_METHOD && member->type != question->letter ? ID_OTHER_RESULT : ID_FITS;
 }
 
 /* Of several members of one ID, which comes nearest is told. */
-static int rank(enum fit fit) {
+static enum fit better_of(enum fit one, enum fit other) {
     static const int RANKS[] = {[ID_FITS] = 0,         [ID_OTHER_RESULT] = 1, [ID_OTHER_TYPE] = 2,
                                 [ID_OTHER_MEMBER] = 3, [ID_OTHER_CLASS] = 4,  [ID_UNKNOWN] = 5};
-    return RANKS[fit];
+    return RANKS[one] < RANKS[other] ? one : other;
+}
+
+/* ---- of methods ---- */
+
+/* Whether the operand is of the method's class: an instance of it, or a class that is the same or below. */
+static int is_of_method_class(JNIEnv *env, const struct member *method, const struct id_question *question) {
+    jclass declaring = NULL;
+    if (question->subject == ID_CONSTRUCTOR) {
+        return deciding(question) == method->declared;
+    }
+    /* The machine refuses the ID where its class is gone meanwhile. */
+    if ((*tool)->GetMethodDeclaringClass(tool, (jmethodID)(uintptr_t)method->id, &declaring) != 0) {
+        return 0;
+    }
+    int fits = question->is_class ? machine->IsAssignableFrom(env, question->handle, declaring)
+                                  : machine->IsInstanceOf(env, question->handle, declaring);
+    machine->DeleteLocalRef(env, declaring);
+    return fits;
+}
+
+/* How well the ID fits as a method's. Each method has an ID of its own. */
+static enum fit fit_of_method(JNIEnv *env, const void *id, const struct id_question *question) {
+    struct member method = {.id = NULL};
+    struct spin *its = lock_list(id);
+    const struct member *it = first_of(id);
+    while (it != NULL && (it->id != id || !it->is_method)) {
+        it = it->next;
+    }
+    if (it != NULL) {
+        memcpy(&method, it, sizeof method);
+    }
+    spin_unlock(its);
+    if (method.id == NULL) {
+        return ID_UNKNOWN;
+    }
+    enum fit fit = fit_of(&method, question, 1);
+    int is_matter_of_class = (fit == ID_FITS || fit == ID_OTHER_RESULT) && deciding(question) != NULL;
+    return is_matter_of_class && !is_of_method_class(env, &method, question) ? ID_OTHER_CLASS : fit;
+}
+
+/* ---- of fields ---- */
+
+/* The classes that have been met among a class and those that it is below. They stay while the operand does. */
+struct supertypes {
+    const struct class_info **classes;
+    size_t count, room;
+    int has_interfaces; /* these too: fields of theirs are static */
+};
+
+static void see_class(JNIEnv *env, jclass class, struct supertypes *to) {
+    jlong tag = 0;
+    jclass *interfaces = NULL;
+    jint count = 0;
+    if ((*tool)->GetTag(tool, class, &tag) == 0 && tag != 0) {
+        const struct object *object = (const struct object *)(uintptr_t)tag;
+        MAKE_ROOM(to->classes, to->count, to->room);
+        to->classes[to->count++] = object->described;
+    }
+    if (to->has_interfaces && (*tool)->GetImplementedInterfaces(tool, class, &count, &interfaces) == 0) {
+        for (jint at = 0; at < count; at++) {
+            see_class(env, interfaces[at], to);
+            machine->DeleteLocalRef(env, interfaces[at]);
+        }
+        (*tool)->Deallocate(tool, (unsigned char *)interfaces);
+    }
+}
+
+static void see_classes(JNIEnv *env, const struct id_question *question, struct supertypes *to) {
+    jclass class = question->is_class ? question->handle : machine->GetObjectClass(env, question->handle);
+    while (class != NULL) {
+        see_class(env, class, to);
+        jclass above = machine->GetSuperclass(env, class);
+        if (class != question->handle) {
+            machine->DeleteLocalRef(env, class);
+        }
+        class = above;
+    }
+}
+
+static int is_among(const struct supertypes *supertypes, const struct class_info *class) {
+    size_t at = 0;
+    while (at < supertypes->count && supertypes->classes[at] != class) {
+        at++;
+    }
+    return at < supertypes->count;
+}
+
+/* How well the ID fits as a field's: of several fields that have it, which comes nearest. */
+static enum fit fit_of_field(JNIEnv *env, const void *id, const struct id_question *question) {
+    struct supertypes supertypes = {.has_interfaces = question->is_static || question->subject == ID_ANY};
+    int is_matter_of_class = deciding(question) != NULL;
+    enum fit best = ID_UNKNOWN;
+    if (is_matter_of_class) {
+        see_classes(env, question, &supertypes);
+    }
+    struct spin *its = lock_list(id);
+    for (const struct member *it = first_of(id); it != NULL && best != ID_FITS; it = it->next) {
+        if (it->id == id && !it->is_method) {
+            int is_of_class = !is_matter_of_class || is_among(&supertypes, it->declared);
+            best = better_of(fit_of(it, question, is_of_class), best);
+        }
+    }
+    spin_unlock(its);
+    free(supertypes.classes);
+    return best;
 }
 
 static enum fit best_of(JNIEnv *env, const void *id, const struct id_question *question) {
-    enum fit best = ID_UNKNOWN;
-    for (struct member *it = *list_of(id); it != NULL && best != ID_FITS; it = it->next) {
-        if (it->id == id && it->declared != NULL) {
-            enum fit found = fit_of(env, it, question);
-            best = rank(found) < rank(best) ? found : best;
-        }
-    }
-    return best;
+    enum fit fit = fit_of_method(env, id, question);
+    return fit == ID_UNKNOWN ? fit_of_field(env, id, question) : fit;
 }
 
 /* The ID isn't known to fit the class: the members that have it are looked at. */
@@ -436,7 +521,9 @@ static __attribute__((noinline)) enum fit find_fit(JNIEnv *env, const void *id, 
                                                    struct class_info *class, uint32_t kind) {
     struct kept kept;
     keep(&kept);
+    jthrowable pending = objects_put_by(env);
     enum fit fit = best_of(env, id, question);
+    objects_throw_again(env, pending);
     if (class != NULL && fit == ID_FITS) {
         note_fitting(id, class, kind);
     }
@@ -455,21 +542,21 @@ enum fit ids_fit(JNIEnv *env, const void *id, const struct id_question *question
     return class != NULL && is_known_to_fit(id, class, kind) ? ID_FITS : find_fit(env, id, question, class, kind);
 }
 
-static const struct member *any_of(const void *id) {
-    for (const struct member *it = *list_of(id); it != NULL; it = it->next) {
-        if (it->id == id && it->declared != NULL) {
-            return it;
-        }
+int ids_arguments(const void *method, char *letters) {
+    struct spin *its = lock_list(method);
+    const struct member *found = first_of(method);
+    int is_known = found != NULL && found->is_method;
+    if (is_known) {
+        strcpy(letters, found->arguments);
     }
-    return NULL;
-}
-
-const char *ids_arguments(const void *method) {
-    const struct member *found = any_of(method);
-    return found ? found->arguments : NULL;
+    spin_unlock(its);
+    return is_known;
 }
 
 char ids_type(const void *id) {
-    const struct member *found = any_of(id);
-    return found ? found->type : 0;
+    struct spin *its = lock_list(id);
+    const struct member *found = first_of(id);
+    char type = found ? found->type : 0;
+    spin_unlock(its);
+    return type;
 }

@@ -36,8 +36,10 @@ enum fit ids_fit(JNIEnv *env, const void *id, const struct id_question *question
 /* Of a method's type as JVMTI spells it: a letter for each argument, L for any reference, and the result's letter. */
 char *ids_letters(const char *signature, char *result);
 
-/* The types of a method's arguments, a letter each; NULL where the ID isn't known. It stays. */
-const char *ids_arguments(const void *method);
+enum { MOST_LETTERS = 256 };
+
+/* The types of a method's arguments, a letter each, and a NUL: so many at most. Whether the ID is known. */
+int ids_arguments(const void *method, char *letters);
 
 /* The type that the ID has, or 0. */
 char ids_type(const void *id);

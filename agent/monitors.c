@@ -248,3 +248,14 @@ void JNICALL monitors_waits(jvmtiEnv *of, JNIEnv *env, jthread which, jobject ha
     }
     core_unlock();
 }
+
+void monitors_each_site(void (*see)(const struct site *site)) {
+    spin_lock(&lock);
+    for (size_t at = 0; at < entered_count; at++) {
+        see(entered[at]->entered);
+    }
+    for (size_t at = 0; at < left_count; at++) {
+        see(left[at].entered);
+    }
+    spin_unlock(&lock);
+}

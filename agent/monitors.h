@@ -21,4 +21,7 @@ void monitors_each_owned(void (*see)(const struct site *made, uint64_t count, vo
 /* The thread's session ended, and it owns no monitor any longer. */
 void monitors_thread_ended(struct thread *thread);
 
+/* Calls the function for the places where monitors were entered. */
+void monitors_each_site(void (*see)(const struct site *site));
+
 #endif

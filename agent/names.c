@@ -2,7 +2,9 @@
  * names.c: the names that the core has for references, by the machine's handles.
  *
  * A hash table in parts, each with a lock of its own. A name that ended stays until its handle has a new one, or until
- * as many others ended after it as the ring has places: so a report can say where a reference was made and ended.
+ * as many others ended after it as the ring has places: so a report can say where a reference was made and ended. The
+ * handle of a native method's argument is a place on a stack, which soon has a new name: while it stands in the ring it
+ * isn't put there again.
  */
 #include "names.h"
 #include "objects.h"
@@ -11,7 +13,10 @@
 #include <stdlib.h>
 #include <string.h>
 
-enum { PARTS = 64, RING = 65536 / PARTS };
+enum { PARTS = 64, RING = 65536 / PARTS, FEWEST_PLACES = 64 };
+
+/* In place of a number in the ring: whatever name the place on a stack has. */
+static const uint64_t ANY_NUMBER = UINT64_MAX;
 
 static struct part {
     struct spin lock;
@@ -49,24 +54,24 @@ static struct name *place_of(const struct part *part, uintptr_t handle) {
     return &part->names[at];
 }
 
-static void grow(struct part *part) {
-    struct part grown = *part;
-    grown.room = part->room ? 2 * part->room : 64;
-    grown.names = must_make(grown.room * sizeof *grown.names);
+/* Gives the part so much room. */
+static void resize(struct part *part, size_t room) {
+    struct part other = *part;
+    other.room = room;
+    other.names = must_make(other.room * sizeof *other.names);
     for (size_t at = 0; at < part->room; at++) {
         if (part->names[at].handle != 0) {
-            *place_of(&grown, part->names[at].handle) = part->names[at];
+            *place_of(&other, part->names[at].handle) = part->names[at];
         }
     }
     free(part->names);
-    part->names = grown.names;
-    part->room = grown.room;
+    part->names = other.names;
+    part->room = other.room;
 }
 
 /* Empties the place, and moves up those behind it that would no longer be found. */
-static void remove_at(struct part *part, size_t hole) {
+static void empty(struct part *part, size_t hole) {
     size_t at = hole;
-    part->count--;
     for (;;) {
         part->names[hole].handle = 0;
         do {
@@ -77,6 +82,15 @@ static void remove_at(struct part *part, size_t hole) {
         } while (((at - home_of(part, part->names[at].handle)) & (part->room - 1)) < ((at - hole) & (part->room - 1)));
         part->names[hole] = part->names[at];
         hole = at;
+    }
+}
+
+/* Takes the name out. All others may have moved then. */
+static void remove_name(struct part *part, const struct name *name) {
+    empty(part, (size_t)(name - part->names));
+    part->count--;
+    if (part->room > FEWEST_PLACES && 8 * part->count < part->room) {
+        resize(part, part->room / 2);
     }
 }
 
@@ -94,7 +108,7 @@ int names_find(uintptr_t handle, struct name *found) {
 int names_put(const struct name *name, struct name *before) {
     struct part *part = part_of(name->handle);
     if (2 * (part->count + 1) > part->room) {
-        grow(part);
+        resize(part, part->room ? 2 * part->room : FEWEST_PLACES);
     }
     struct name *place = place_of(part, name->handle);
     struct object *object = place->handle ? place->object : NULL;
@@ -102,6 +116,7 @@ int names_put(const struct name *name, struct name *before) {
     part->count += place->handle == 0;
     *before = *place;
     *place = *name;
+    place->is_in_ring = before->handle != 0 && before->is_in_ring;
     objects_hold(name->object);
     spin_unlock(&part->lock);
     objects_drop(object);
@@ -114,13 +129,27 @@ void names_forget(uintptr_t handle) {
     struct object *object = NULL;
     if (place != NULL && place->handle == handle) {
         object = place->object;
-        remove_at(part, (size_t)(place - part->names));
+        remove_name(part, place);
     }
     spin_unlock(&part->lock);
     objects_drop(object);
 }
 
-/* The name is one that ended: the one of the part that ended longest ago is forgotten. Under the part's lock. */
+/* Forgets the name that stood longest in the part's ring, if it is dead still. */
+static void forget_oldest(struct part *part, const struct ended *oldest) {
+    struct name *place = place_of(part, oldest->handle);
+    if (place->handle != oldest->handle) {
+        return;
+    }
+    if (oldest->number == ANY_NUMBER) {
+        place->is_in_ring = 0;
+    }
+    if (place->state == NAME_DEAD && (oldest->number == ANY_NUMBER || place->name.number == oldest->number)) {
+        remove_name(part, place);
+    }
+}
+
+/* A name ended: the one of the part that ended longest ago is forgotten. Under the part's lock. */
 static void remember_end(struct part *part, uintptr_t handle, uint64_t number) {
     if (part->ring == NULL) {
         part->ring = must_make(RING * sizeof *part->ring);
@@ -128,12 +157,8 @@ static void remember_end(struct part *part, uintptr_t handle, uint64_t number) {
     struct ended oldest = part->ring[part->ring_next];
     part->ring[part->ring_next] = (struct ended){handle, number};
     part->ring_next = (part->ring_next + 1) % RING;
-    if (oldest.handle == 0) {
-        return;
-    }
-    struct name *place = place_of(part, oldest.handle);
-    if (place->handle == oldest.handle && place->state == NAME_DEAD && place->name.number == oldest.number) {
-        remove_at(part, (size_t)(place - part->names));
+    if (oldest.handle != 0) {
+        forget_oldest(part, &oldest);
     }
 }
 
@@ -149,9 +174,11 @@ static struct object *make_dead(struct part *part, struct name *name) {
     struct object *object = name->object;
     name->state = NAME_DEAD;
     name->object = NULL;
-    /* The handle of an argument is a place on a stack, which soon has a new name: its end need not be remembered. */
     if (name->made_by != JG_FN_NativeEnter) {
         remember_end(part, name->handle, name->name.number);
+    } else if (!name->is_in_ring) {
+        name->is_in_ring = 1;
+        remember_end(part, name->handle, ANY_NUMBER);
     }
     return object;
 }
@@ -188,6 +215,20 @@ void names_each_global(void (*see)(const struct name *name, void *with), void *w
             const struct name *name = &part->names[at];
             if (name->handle != 0 && name->state == NAME_LIVE && name->name.kind != JG_LOCAL) {
                 see(name, with);
+            }
+        }
+        spin_unlock(&part->lock);
+    }
+}
+
+void names_each_site(void (*see)(const struct site *site)) {
+    for (size_t which = 0; which < PARTS; which++) {
+        struct part *part = &parts[which];
+        spin_lock(&part->lock);
+        for (size_t at = 0; at < part->room; at++) {
+            if (part->names[at].handle != 0) {
+                see(part->names[at].made);
+                see(part->names[at].ended);
             }
         }
         spin_unlock(&part->lock);

@@ -31,6 +31,7 @@ struct name {
     uint16_t ended_by;
     uint8_t state;
     uint8_t is_believed; /* made by a judged call: nobody else ends it unseen */
+    uint8_t is_in_ring;  /* of names.c alone */
 };
 
 /* The newest name of the handle. Whether there is one. */
@@ -50,6 +51,9 @@ int names_end(uintptr_t handle, uint64_t number, enum state state, uint16_t by, 
 
 /* What was held back is dead. Whether it was held back. */
 int names_let_go(uintptr_t handle, uint64_t number);
+
+/* Calls the function for the places of each name, which may be NULL. */
+void names_each_site(void (*see)(const struct site *site));
 
 /* Calls the function for each live global and weak reference. */
 void names_each_global(void (*see)(const struct name *name, void *with), void *with);

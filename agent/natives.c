@@ -8,13 +8,13 @@
 #include "natives.h"
 #include "calls.h"
 #include "core.h"
+#include "kept.h"
 #include "names.h"
 #include "objects.h"
 #include "options.h"
 #include "report.h"
 
 #include <pthread.h>
-#include <stdio.h>
 #include <stdlib.h>
 #include <string.h>
 #include <sys/mman.h>
@@ -109,52 +109,203 @@ static void *make_stub(struct native *native) {
 
 #endif
 
-/* The stubs that there are, by method and function: a method that is registered again has its own. */
+/* The methods that were bound. One that is registered again has a struct and a stub for each function. */
 static struct bound {
-    jmethodID method;
-    void *address;
-    void *stub;
-    const struct site *site; /* another one where another library is at the address now */
+    jmethodID method;       /* NULL: an empty place */
+    struct native *natives; /* the newest first */
+    uint64_t sweep;         /* how many sweeps there had been when it was bound last */
 } * bounds;
 static size_t bound_count, bound_room;
 
-static struct bound *bound_of(struct bound *in, size_t room, jmethodID method, const void *address) {
-    size_t at = ((uintptr_t)method * 31 + (uintptr_t)address) * 0x9E3779B97F4A7C15u >> 32 & (room - 1);
-    while (in[at].address != NULL && (in[at].method != method || in[at].address != address)) {
+/* Those whose method or library is gone serve again, with their stubs: nothing that is stale leads out of them. */
+static struct native *free_natives;
+static size_t native_count; /* those that serve */
+
+static struct bound *bound_of(struct bound *in, size_t room, jmethodID method) {
+    size_t at = (uintptr_t)method * 0x9E3779B97F4A7C15u >> 32 & (room - 1);
+    while (in[at].method != NULL && in[at].method != method) {
         at = (at + 1) & (room - 1);
     }
     return &in[at];
 }
 
-static void grow_bounds(void) {
-    size_t room = bound_room ? 2 * bound_room : 1024;
-    struct bound *grown = must_make(room * sizeof *grown);
+/* Makes the table anew, with room for as many methods again. Under the lock. */
+static void renew_bounds(void) {
+    size_t room = 1024, count = 0;
+    while (room < 4 * bound_count) {
+        room *= 2;
+    }
+    struct bound *made = must_make(room * sizeof *made);
     for (size_t at = 0; at < bound_room; at++) {
-        if (bounds[at].address != NULL) {
-            *bound_of(grown, room, bounds[at].method, bounds[at].address) = bounds[at];
+        if (bounds[at].natives != NULL) {
+            *bound_of(made, room, bounds[at].method) = bounds[at];
+            count++;
         }
     }
     free(bounds);
-    bounds = grown;
+    bounds = made;
+    bound_count = count;
     bound_room = room;
 }
 
+/* A struct with a stub, for a function of the method. Under the lock. */
+static struct native *make_native(jmethodID method, void *address) {
+    struct native *native = free_natives;
+    if (native != NULL) {
+        free_natives = native->next;
+    } else {
+        native = must_make(sizeof *native);
+        native->stub = make_stub(native);
+    }
+    memcpy(&native->target, &address, sizeof address);
+    native->method = method;
+    native->words = LIKELY_WORDS;
+    native_count++;
+    return native;
+}
+
+/* It may be that a thread is on its way out of the method yet: so the struct stays what it is. Under the lock. */
+static void let_native_go(struct native *native) {
+    struct native left = {.stub = native->stub, .site = native->site, .next = free_natives};
+    free(native->types);
+    *native = left;
+    free_natives = native;
+    native_count--;
+}
+
+/* The method's struct for the function, at the head of its list; a new one where there is none. Under the lock. */
+static struct native *native_of(struct bound *bound, jmethodID method, void *address) {
+    struct native **link = &bound->natives, *found;
+    while (*link != NULL && memcmp(&(*link)->target, &address, sizeof address) != 0) {
+        link = &(*link)->next;
+    }
+    found = *link;
+    if (found != NULL) {
+        *link = found->next;
+    } else {
+        found = make_native(method, address);
+    }
+    found->next = bound->natives;
+    bound->natives = found;
+    return found;
+}
+
+static uint64_t sweeps;
+
 static void *stub_of(jmethodID method, void *address, const struct site *site) {
     if (2 * (bound_count + 1) > bound_room) {
-        grow_bounds();
+        renew_bounds();
     }
-    struct bound *bound = bound_of(bounds, bound_room, method, address);
-    bound_count += bound->address == NULL;
-    if (bound->site != site) {
-        struct native *native = must_make(sizeof *native);
-        memcpy(&native->target, &address, sizeof address);
-        native->method = method;
-        native->site = site;
-        native->is_judged = (uint8_t)native->site->is_judged;
-        native->words = LIKELY_WORDS;
-        *bound = (struct bound){method, address, make_stub(native), site};
+    struct bound *bound = bound_of(bounds, bound_room, method);
+    bound_count += bound->method == NULL;
+    bound->method = method;
+    bound->sweep = sweeps;
+    struct native *native = native_of(bound, method, address);
+    /* Another library may stand at the address now. */
+    native->site = site;
+    native->is_judged = (uint8_t)site->is_judged;
+    return native->stub;
+}
+
+/* ---- what is gone ---- */
+
+enum { FEWEST_SWEPT = 1024 };
+
+static size_t next_sweep = FEWEST_SWEPT; /* where there are so many */
+static int is_sweeping;
+
+/* A struct that may be let go. */
+struct swept {
+    struct native *native;
+    jmethodID method;
+    int is_newest;
+    int is_gone;
+};
+
+/* All structs, if it is time to look at them. */
+static struct swept *list_natives(size_t *count) {
+    struct swept *list = NULL;
+    size_t room = 0;
+    *count = 0;
+    pthread_mutex_lock(&lock);
+    if (native_count < next_sweep || is_sweeping) {
+        pthread_mutex_unlock(&lock);
+        return NULL;
     }
-    return bound->stub;
+    is_sweeping = 1;
+    sweeps++;
+    for (size_t at = 0; at < bound_room; at++) {
+        for (struct native *it = bounds[at].natives; it != NULL; it = it->next) {
+            MAKE_ROOM(list, *count, room);
+            list[(*count)++] = (struct swept){it, bounds[at].method, it == bounds[at].natives, 0};
+        }
+    }
+    pthread_mutex_unlock(&lock);
+    return list;
+}
+
+/* Whether its method is gone, or was bound to another function since and the library of this one is gone. */
+static int is_gone(const struct swept *it) {
+    jboolean is_native;
+    uintptr_t target;
+    if ((*tool)->IsMethodNative(tool, it->method, &is_native) == JVMTI_ERROR_INVALID_METHODID) {
+        return 1;
+    }
+    memcpy(&target, &it->native->target, sizeof target);
+    return !it->is_newest && sites_at(target) != it->native->site;
+}
+
+/* Takes it out of its method's list, if the method wasn't bound again meanwhile. Under the lock. */
+static void take_out(const struct swept *it) {
+    struct bound *bound = bound_of(bounds, bound_room, it->method);
+    struct native **link = &bound->natives;
+    while (bound->sweep < sweeps && *link != NULL && *link != it->native) {
+        link = &(*link)->next;
+    }
+    if (bound->sweep < sweeps && *link != NULL) {
+        *link = it->native->next;
+        let_native_go(it->native);
+    }
+}
+
+/*
+ * Lets go what is of methods that are gone. It comes where there are twice as many as after the last time, so it costs
+ * each a little.
+ */
+static void sweep(void) {
+    size_t count;
+    struct swept *list = list_natives(&count);
+    if (list == NULL) {
+        return;
+    }
+    for (size_t at = 0; at < count; at++) {
+        list[at].is_gone = is_gone(&list[at]);
+    }
+    pthread_mutex_lock(&lock);
+    for (size_t at = 0; at < count; at++) {
+        if (list[at].is_gone) {
+            take_out(&list[at]);
+        }
+    }
+    renew_bounds();
+    next_sweep = native_count < FEWEST_SWEPT / 2 ? FEWEST_SWEPT : 2 * native_count;
+    is_sweeping = 0;
+    pthread_mutex_unlock(&lock);
+    free(list);
+}
+
+/* Also of those that are free: a thread may be on its way out of one. */
+void natives_each_site(void (*see)(const struct site *site)) {
+    pthread_mutex_lock(&lock);
+    for (size_t at = 0; at < bound_room; at++) {
+        for (const struct native *it = bounds[at].natives; it != NULL; it = it->next) {
+            see(it->site);
+        }
+    }
+    for (const struct native *it = free_natives; it != NULL; it = it->next) {
+        see(it->site);
+    }
+    pthread_mutex_unlock(&lock);
 }
 
 void JNICALL natives_bound(jvmtiEnv *of, JNIEnv *env, jthread thread, jmethodID method, void *address,
@@ -167,6 +318,9 @@ void JNICALL natives_bound(jvmtiEnv *of, JNIEnv *env, jthread thread, jmethodID 
         table_renew();
     }
     sites_check_unloaded();
+    if (is_live) {
+        sweep();
+    }
     const struct site *site = sites_at((uintptr_t)address);
     pthread_mutex_lock(&lock);
     void *stub = stub_of(method, address, site);
@@ -190,14 +344,12 @@ static void read_type(struct native *native, const char *type) {
     native->count = (uint32_t)strlen(native->types);
 }
 
-static void note_label(struct native *native, const char *class, const char *name, const char *type) {
-    size_t room = strlen(class) + strlen(name) + strlen(type) + 2;
-    native->label = must_make(room);
-    int is_class = *class == 'L';
-    snprintf(native->label, room, "%.*s.%s%s", (int)strlen(class) - 2 * is_class, class + is_class, name, type);
-    if (strncmp(class, "Ljdk/internal/loader/", 21) == 0) {
-        native->loads = strncmp(name, "load", 4) == 0 ? LOADS : strncmp(name, "unload", 6) == 0 ? UNLOADS : 0;
+/* Whether the JDK loads or unloads libraries by the method. */
+static uint8_t loads_of(const char *class, const char *name) {
+    if (strncmp(class, "Ljdk/internal/loader/", 21) != 0) {
+        return 0;
     }
+    return strncmp(name, "load", 4) == 0 ? LOADS : strncmp(name, "unload", 6) == 0 ? UNLOADS : 0;
 }
 
 static void describe(struct native *native, JNIEnv *env) {
@@ -214,7 +366,7 @@ static void describe(struct native *native, JNIEnv *env) {
     if (!native->is_described) {
         native->is_static = (modifiers & 8) != 0;
         read_type(native, type);
-        note_label(native, class_name ? class_name : "", name, type);
+        native->loads = loads_of(class_name ? class_name : "", name);
         __atomic_store_n(&native->is_described, 1, __ATOMIC_RELEASE);
     }
     pthread_mutex_unlock(&lock);
@@ -351,7 +503,7 @@ static int may_load(struct thread *thread, const struct native *native, const ui
     return passes;
 }
 
-struct entry jg_native_enters(struct native *native, const uint64_t *registers, uintptr_t frame) {
+static struct entry enter(struct native *native, const uint64_t *registers, uintptr_t frame) {
     struct thread *thread = threads_self();
     if (!__atomic_load_n(&native->is_described, __ATOMIC_ACQUIRE)) {
         describe(native, (JNIEnv *)(uintptr_t)registers[0]);
@@ -366,6 +518,14 @@ struct entry jg_native_enters(struct native *native, const uint64_t *registers, 
         tell_entered(thread, native, registers, frame);
     }
     return (struct entry){native->target, native->words};
+}
+
+struct entry jg_native_enters(struct native *native, const uint64_t *registers, uintptr_t frame) {
+    struct kept kept;
+    keep(&kept);
+    struct entry entry = enter(native, registers, frame);
+    restore(&kept);
+    return entry;
 }
 
 /* ---- leaving ---- */
@@ -402,7 +562,7 @@ static void leave_judged(struct thread *thread, const struct native *native, uin
     call_drops(&call);
 }
 
-void jg_native_leaves(struct native *native, uint64_t *results, uintptr_t frame) {
+static void leave(const struct native *native, uint64_t *results, uintptr_t frame) {
     struct thread *thread = threads_self();
     threads_unwind(thread, frame - 1);
     if (thread->depth == 0 || thread->activations[thread->depth - 1].stack != frame) {
@@ -424,6 +584,13 @@ void jg_native_leaves(struct native *native, uint64_t *results, uintptr_t frame)
     }
 }
 
+void jg_native_leaves(struct native *native, uint64_t *results, uintptr_t frame) {
+    struct kept kept;
+    keep(&kept);
+    leave(native, results, frame);
+    restore(&kept);
+}
+
 /* ---- registration ---- */
 
 /* The native method of this name and type, where the setup states it. */
@@ -438,39 +605,54 @@ static jg_value native_named(const struct object *class, const JNINativeMethod *
     return number > 0 ? jg_native((uint32_t)number) : jg_no_native();
 }
 
+/* Asks of each method: the first that is denied decides. How many passed before, or -1 where the call isn't made. */
+static jint ask_methods(struct call *call, jclass class, const JNINativeMethod *methods, jint count,
+                        jg_ticket *tickets) {
+    const struct reference first = call->first;
+    for (jint asked = 0; asked < count; asked++) {
+        call->count = 0;
+        call_operand_of(call, first.name, class);
+        call_operand(call, native_named(first.object, &methods[asked]));
+        if (!call_passes(call)) {
+            return -1;
+        }
+        if (!call->is_asked || call->verdict.rule != 0) {
+            return asked;
+        }
+        tickets[asked] = call->verdict.ticket;
+    }
+    return count;
+}
+
+static void tell_registered(struct call *call, const jg_ticket *tickets, jint count) {
+    jg_value given;
+    for (jint at = 0; at < count; at++) {
+        call->verdict.ticket = tickets[at];
+        call->verdict.rule = 0;
+        call_says(call, jg_nothing(), NULL, &given);
+    }
+}
+
 jint JNICALL wrapped_RegisterNatives(JNIEnv *env, jclass class, const JNINativeMethod *methods, jint count) {
     struct call call;
-    jg_value given;
+    struct kept kept;
     int is_judged = call_begins(&call, JG_FN_RegisterNatives, env, CALLER);
     if (!is_judged || count <= 0 || methods == NULL) {
         return machine->RegisterNatives(env, class, methods, count);
     }
+    keep(&kept);
     jg_ticket *tickets = must_make((size_t)count * sizeof *tickets);
-    jint asked = 0;
     jobject handle = call_object(&call, class);
-    struct reference first = call.first;
-    for (; asked < count; asked++) {
-        /* A question for each method: the first that is denied decides. */
-        call.count = 0;
-        call_operand_of(&call, first.name, class);
-        call_operand(&call, native_named(first.object, &methods[asked]));
-        if (!call_passes(&call)) {
-            free(tickets);
-            return JNI_ERR;
-        }
-        if (!call.is_asked || call.verdict.rule != 0) {
-            break;
-        }
-        tickets[asked] = call.verdict.ticket;
+    jint asked = ask_methods(&call, class, methods, count, tickets), answer = JNI_ERR;
+    restore(&kept);
+    if (asked >= 0) {
+        answer = machine->RegisterNatives(env, handle, methods, count);
     }
-    jint answer = machine->RegisterNatives(env, handle, methods, count);
-    for (jint at = 0; answer == 0 && at < asked; at++) {
-        call.verdict.ticket = tickets[at];
-        call.verdict.rule = 0;
-        call_says(&call, jg_nothing(), NULL, &given);
-    }
+    keep(&kept);
+    tell_registered(&call, tickets, answer == 0 ? asked : 0);
     free(tickets);
     call_drops(&call);
+    restore(&kept);
     return answer;
 }
 

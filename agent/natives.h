@@ -13,8 +13,9 @@ struct site;
 struct native {
     void (*target)(void);
     jmethodID method;
+    struct native *next;     /* of the same method, or the next one that is free */
+    void *stub;              /* NULL where none could be made */
     const struct site *site; /* the function's place */
-    char *label;             /* its class, name and type, once they are known */
     char *types;             /* a letter for each argument; L is any reference */
     uint32_t count;          /* how many arguments it has */
     char result;
@@ -37,5 +38,8 @@ static inline int natives_are_seen(void) {
 /* The machine binds a native method: a stub takes its place. */
 void JNICALL natives_bound(jvmtiEnv *tool, JNIEnv *env, jthread thread, jmethodID method, void *address,
                            void **replaced);
+
+/* Calls the function for the place of each. */
+void natives_each_site(void (*see)(const struct site *site));
 
 #endif

@@ -2,7 +2,7 @@
  * objects.h: the machine's objects, each of which has a number in the core once it was met, and their classes.
  *
  * An object's tag (JVMTI) is the address of its struct. The collector's callback hands the tag back once the object is
- * gone, and the struct is freed then, as soon as no name refers to it.
+ * gone, and the struct is freed soon after, once no name refers to it.
  */
 #ifndef OBJECTS_H
 #define OBJECTS_H
@@ -11,8 +11,9 @@
 
 struct site;
 
-/* A class, by its class object. */
+/* A class, by its class object. It is freed with the last struct of its objects, which a name may hold longer. */
 struct class_info {
+    _Atomic uint32_t holds;   /* by its class object, and by each object that is of it */
     char *signature;          /* as JVMTI spells it: Ljava/lang/String; */
     uint32_t class_number;    /* by which the core is told of its objects */
     uint64_t serial;          /* no other class has or had it; from 1 */
@@ -23,8 +24,9 @@ struct class_info {
 };
 
 struct object {
-    struct object *next; /* in a list of objects that are gone */
+    struct object *next; /* in a list of objects that are gone, or that nothing holds */
     uint64_t number;
+    uint64_t buried; /* when it was last that nothing held it, in nanoseconds */
     struct class_info *class;     /* of what class it is */
     struct class_info *described; /* of a class object: the class that it stands for */
     uint32_t class_number;
@@ -34,7 +36,9 @@ struct object {
     uint32_t owned;
     int is_entered;             /* it stands in the list of monitors that judged code entered */
     const struct site *entered; /* where that was last */
+    int is_met;                 /* the core was told of it. Under core_lock */
     int is_gone;                /* the core was told so */
+    int is_buried;              /* nothing held it, and it is freed soon (objects.c) */
 };
 
 /* Meets the classes that all others are told by. 0, or a negative number. */
@@ -59,7 +63,7 @@ void JNICALL objects_freed(jvmtiEnv *env, jlong tag);
 /* Tells which objects are gone. Between core_lock and core_unlock. */
 void objects_tell_gone(void);
 
-/* Whether any are to be told. */
+/* Whether any are to be told by now. */
 int objects_are_gone(void);
 
 /* The object that a weak reference named is gone: tells it now, and not again. Between core_lock and core_unlock. */

@@ -210,8 +210,7 @@ static int is_untold(const struct thread *thread) {
 }
 
 /* A library that isn't judged pushed a frame. */
-static void push_unjudged(void) {
-    struct thread *thread = threads_self();
+static void push_unjudged(struct thread *thread) {
     if (is_untold(thread)) {
         thread->activations[thread->depth - 1].pushed++;
     } else if (!thread->is_attached) {
@@ -224,29 +223,34 @@ static void push_unjudged(void) {
     }
 }
 
+/* The machine pushed a frame. The call is NULL where it isn't judged. */
+static void tell_pushed(struct call *call) {
+    struct kept kept;
+    jg_value given;
+    keep(&kept);
+    if (call == NULL) {
+        push_unjudged(threads_self());
+    } else if (call->is_asked && call->verdict.rule == 0) {
+        call_says(call, jg_nothing(), NULL, &given);
+        threads_push(call->thread);
+    } else if (call->is_asked && call->is_own_env) {
+        push_unjudged(call->thread);
+    }
+    restore(&kept);
+}
+
 jint JNICALL wrapped_PushLocalFrame(JNIEnv *env, jint capacity) {
     struct call call;
-    jg_value given;
-    if (!call_begins(&call, JG_FN_PushLocalFrame, env, CALLER)) {
-        jint answer = machine->PushLocalFrame(env, capacity);
-        if (answer == 0) {
-            push_unjudged();
+    int is_judged = call_begins(&call, JG_FN_PushLocalFrame, env, CALLER);
+    if (is_judged) {
+        call_number(&call, capacity);
+        if (!call_passes(&call)) {
+            return JNI_ERR;
         }
-        return answer;
-    }
-    call_number(&call, capacity);
-    if (!call_passes(&call)) {
-        return JNI_ERR;
     }
     jint answer = machine->PushLocalFrame(env, capacity);
-    if (answer != 0 || !call.is_asked) {
-        return answer;
-    }
-    if (call.verdict.rule == 0) {
-        call_says(&call, jg_nothing(), NULL, &given);
-        threads_push(call.thread);
-    } else if (call.is_own_env) {
-        push_unjudged();
+    if (answer == 0) {
+        tell_pushed(is_judged ? &call : NULL);
     }
     return answer;
 }
@@ -259,7 +263,10 @@ static void tell_popped(struct thread *thread, uint16_t function, const struct s
     threads_pop(thread, function, site);
 }
 
-static jobject pop_unjudged(JNIEnv *env, jobject result, uintptr_t at) {
+/* A library that isn't judged pops a frame. */
+static void pop_unjudged(uintptr_t at) {
+    struct kept kept;
+    keep(&kept);
     struct thread *thread = threads_known();
     if (thread != NULL && is_untold(thread)) {
         struct activation *newest = &thread->activations[thread->depth - 1];
@@ -269,47 +276,58 @@ static jobject pop_unjudged(JNIEnv *env, jobject result, uintptr_t at) {
     } else if (thread != NULL && threads_has_pushed(thread)) {
         tell_popped(thread, JG_FN_PopLocalFrame, sites_at(at));
     }
-    return machine->PopLocalFrame(env, result);
+    restore(&kept);
 }
 
-/* The machine pops the frame, and what it answers has the name that the core gave. */
-static jobject pop_passed(struct call *call, jobject result) {
-    threads_pop(call->thread, JG_FN_PopLocalFrame, call->site);
-    jobject kept = machine->PopLocalFrame(call->env, result);
-    if (kept != NULL && call->given.kind == JG_LOCAL) {
-        call_names(call, kept, call->given, call->first.object);
-    }
-    return kept;
-}
-
-static jobject pop_denied(struct call *call, jobject result) {
-    if (call->verdict.rule != 2 && call->is_own_env && threads_has_pushed(call->thread)) {
+/* The machine is about to pop the frame. */
+static void pop(struct call *call) {
+    if (call->is_asked && call->verdict.rule == 0) {
+        threads_pop(call->thread, JG_FN_PopLocalFrame, call->site);
+    } else if (call->verdict.rule != 2 && call->is_own_env && threads_has_pushed(call->thread)) {
         tell_popped(call->thread, JG_FN_PopLocalFrame, call->site);
     }
-    return machine->PopLocalFrame(call->env, result);
+}
+
+/* The machine popped it, and what it answers has the name that the core gave. */
+static void popped(struct call *call, jobject kept) {
+    if (kept != NULL && call->is_asked && call->verdict.rule == 0 && call->given.kind == JG_LOCAL) {
+        call_names(call, kept, call->given, call->first.object);
+    }
+    call_drops(call);
+}
+
+static jobject pop_judged(struct call *call, jobject result) {
+    struct kept kept;
+    jobject answer = NULL;
+    keep(&kept);
+    call_nullable(call, result);
+    call->is_ending = 1;
+    call->kept = call->first.object ? jg_object(call->first.object->number) : jg_null();
+    struct object *object = objects_hold(call->first.object);
+    if (call_passes(call)) {
+        pop(call);
+        restore(&kept);
+        answer = machine->PopLocalFrame(call->env, result);
+        keep(&kept);
+        popped(call, answer);
+    }
+    objects_drop(object);
+    restore(&kept);
+    return answer;
 }
 
 jobject JNICALL wrapped_PopLocalFrame(JNIEnv *env, jobject result) {
     struct call call;
     uintptr_t at = (uintptr_t)__builtin_return_address(0);
     if (!call_begins(&call, JG_FN_PopLocalFrame, env, CALLER)) {
-        return pop_unjudged(env, result, at);
+        pop_unjudged(at);
+        return machine->PopLocalFrame(env, result);
     }
     if (!is_from_start && call.thread->depth == 0 && !threads_has_pushed(call.thread)) {
         core_count(&counts.unseen);
         return machine->PopLocalFrame(env, result);
     }
-    call_nullable(&call, result);
-    call.is_ending = 1;
-    call.kept = call.first.object ? jg_object(call.first.object->number) : jg_null();
-    objects_hold(call.first.object);
-    jobject kept = NULL;
-    if (call_passes(&call)) {
-        kept = call.is_asked && call.verdict.rule == 0 ? pop_passed(&call, result) : pop_denied(&call, result);
-        call_drops(&call);
-    }
-    objects_drop(call.first.object);
-    return kept;
+    return pop_judged(&call, result);
 }
 
 /* ---- exceptions ---- */

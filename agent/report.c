@@ -427,7 +427,9 @@ static void tell(const struct call *call, const struct block *block) {
     pthread_mutex_unlock(&lock);
     if (is_first) {
         struct lines lines = {NULL, 0, 0};
+        sites_read();
         tell_block(&lines, call, block);
+        sites_were_read();
         write_lines(&lines);
         if (options.is_fatal && block->rule != 0) {
             abort();
@@ -501,6 +503,14 @@ void report_advice(const jg_advice *advice) {
     }
 }
 
+void report_each_site(void (*see)(const struct site *site)) {
+    pthread_mutex_lock(&lock);
+    for (size_t at = 0; at < block_count; at++) {
+        see(blocks[at].site);
+    }
+    pthread_mutex_unlock(&lock);
+}
+
 /* ---- leaks ---- */
 
 struct leak {
@@ -539,6 +549,12 @@ static void see_buffer(const struct site *made, uint16_t made_by, jg_value name,
     add_leak(leaks, &leak);
 }
 
+/* By the library's name, and the offset in it. */
+static int compare_places(const struct site *one, const struct site *other) {
+    int names = strcmp(one->library->name, other->library->name);
+    return names != 0 ? names : (one->offset > other->offset) - (one->offset < other->offset);
+}
+
 /* The most come first; of as many those of one function stand together. */
 static int compare_leaks(const void *one, const void *other) {
     const struct leak *a = one, *b = other;
@@ -546,7 +562,7 @@ static int compare_leaks(const void *one, const void *other) {
         return a->count < b->count ? 1 : -1;
     }
     return a->function != b->function ? (a->function < b->function ? -1 : 1)
-                                      : (a->made->at > b->made->at) - (a->made->at < b->made->at);
+                                      : compare_places(a->made, b->made);
 }
 
 static void see_monitor(const struct site *made, uint64_t count, void *leaks) {
@@ -631,6 +647,7 @@ int report_end(void) {
     if (__atomic_exchange_n(&is_told, 1, __ATOMIC_ACQ_REL) != 0) {
         return told > 0 ? options.exit_code : -1;
     }
+    sites_read();
     buffers_end(see_buffer, &leaks);
     names_each_global(see_global, &leaks);
     monitors_each_owned(see_monitor, &leaks);
@@ -640,6 +657,7 @@ int report_end(void) {
         write_lines(&lines);
     }
     tell_counts(&lines);
+    sites_were_read();
     tell_own_faults(&lines);
     write_lines(&lines);
     free(leaks.items);

@@ -28,4 +28,7 @@ int report_end(void);
 /* A line of the agent's, such as `jg: ..`. */
 void report_line(const char *format, ...) __attribute__((format(printf, 1, 2)));
 
+/* Calls the function for the places of all blocks, which may be NULL. */
+void report_each_site(void (*see)(const struct site *site));
+
 #endif

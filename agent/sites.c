@@ -2,18 +2,25 @@
  * sites.c: places in native code, the libraries that they are in, and whose calls are judged.
  *
  * A library is judged if `libs=` names it; without that option all are but the JDK's own and the agent. What is in no
- * library is the machine's own code. An address is looked up once.
+ * library is the machine's own code. An address is looked up once, and again once a library was unloaded. A place that
+ * is there again, wherever its library was loaded, has the same struct as before. Those of libraries that are gone are
+ * let go by and by, where nothing that is kept names them.
  */
 #include "sites.h"
+#include "buffers.h"
 #include "kept.h"
+#include "monitors.h"
+#include "names.h"
+#include "natives.h"
 #include "options.h"
+#include "report.h"
 #include "table.h"
 #include "threads.h"
 
 #include <dlfcn.h>
-#include <execinfo.h>
 #include <link.h>
 #include <pthread.h>
+#include <stdatomic.h>
 #include <stdio.h>
 #include <stdlib.h>
 #include <string.h>
@@ -21,9 +28,19 @@
 _Atomic uint32_t sites_generation = 1;
 
 static pthread_mutex_t lock = PTHREAD_MUTEX_INITIALIZER;
-static struct library *libraries;
-static struct site **places; /* a hash table, by address */
+static struct library *libraries, *free_libraries;
+
+/* What stood at an address, in this generation. */
+static struct place {
+    uintptr_t at;
+    struct site *site; /* NULL: an empty place of the hash table */
+    uint32_t generation;
+} * places;
 static size_t place_count, place_room;
+
+/* All sites, in a hash table of lists by their libraries and offsets. */
+static struct site **lists, *free_sites;
+static size_t list_count, site_count;
 
 static char *jdk_home;
 static uintptr_t own_base, machine_base;
@@ -135,20 +152,23 @@ static int is_tool(const struct link_map *library) {
     return 0;
 }
 
-/* The library of this path that is at this address. Under the lock. */
+/* The library of this path that was loaded by this name. Under the lock. */
 static const struct library *library_of(const char *path, uintptr_t base, const struct link_map *library) {
     for (struct library *it = libraries; it != NULL; it = it->next) {
-        if (it->base == base && strcmp(it->path, path) == 0) {
+        if (strcmp(it->loaded_as, library->l_name) == 0 && strcmp(it->path, path) == 0) {
             return it;
         }
     }
-    struct library *made = must_make(sizeof *made);
-    made->base = base;
+    struct library *made = free_libraries ? free_libraries : must_make(sizeof *made);
+    free_libraries = free_libraries ? free_libraries->next : NULL;
+    made->loaded_as = must_copy(library->l_name);
     made->path = must_copy(path);
     made->name = sites_spelled(name_of(made->path));
     made->is_judged = is_judged(made->path, base);
     made->is_of_jdk = is_of_jdk(made->path);
+    made->is_machine = base == machine_base;
     made->is_tool = is_tool(library);
+    made->is_loaded = 1;
     made->next = libraries;
     libraries = made;
     return made;
@@ -173,7 +193,10 @@ struct looked_up {
     const struct link_map *library;
     const char *symbol; /* of what is exported, or NULL */
     uintptr_t symbol_at;
-    int is_in_table; /* functions of the library stand in the table before the agent's */
+    const void *unwinding; /* the library's tables for the unwinder, or NULL */
+    int is_in_table;   /* functions of the library stand in the table before the agent's */
+    int is_passing_on; /* its function only passes calls on */
+    struct step step;
 };
 
 /* A program's own name may be no path. */
@@ -216,6 +239,7 @@ static struct looked_up look_up(uintptr_t at) {
         it.library = found.dlfo_link_map;
         it.base = (uintptr_t)found.dlfo_map_start;
         it.path = whole_path(it.library->l_name);
+        it.unwinding = found.dlfo_eh_frame;
         find_symbol(at, &it);
     }
     return it;
@@ -228,6 +252,29 @@ static uintptr_t base_of(uintptr_t at) {
     return dladdr((void *)at, &info) ? (uintptr_t)info.dli_fbase : 0;
 }
 
+/* Where the unwinder's tables of a library are. */
+struct tables {
+    uintptr_t base;
+    const void *unwinding;
+};
+
+static int see_tables(struct dl_phdr_info *info, size_t size, void *of) {
+    struct tables *tables = of;
+    (void)size;
+    for (size_t at = 0; info->dlpi_addr == tables->base && at < info->dlpi_phnum; at++) {
+        if (info->dlpi_phdr[at].p_type == PT_GNU_EH_FRAME) {
+            tables->unwinding = (const void *)(info->dlpi_addr + info->dlpi_phdr[at].p_vaddr);
+        }
+    }
+    return tables->unwinding != NULL;
+}
+
+static const void *unwinding_of(const struct link_map *library) {
+    struct tables tables = {library->l_addr, NULL};
+    dl_iterate_phdr(see_tables, &tables);
+    return tables.unwinding;
+}
+
 static struct looked_up look_up(uintptr_t at) {
     struct looked_up it = {.path = NULL};
     Dl_info info;
@@ -238,6 +285,7 @@ static struct looked_up look_up(uintptr_t at) {
         it.path = whole_path(info.dli_fname);
         it.symbol = info.dli_sname;
         it.symbol_at = (uintptr_t)info.dli_saddr;
+        it.unwinding = unwinding_of(it.library);
     }
     return it;
 }
@@ -255,82 +303,121 @@ static int is_in_table(uintptr_t base) {
     return 0;
 }
 
-static struct site *make_place(uintptr_t at, const struct looked_up *it) {
-    struct site *made = must_make(sizeof *made);
-    made->at = at;
-    made->library = &NOWHERE;
-    made->offset = at;
+/* What stands at the address. Under the lock. */
+static struct site site_of(uintptr_t at, const struct looked_up *it) {
+    struct site site = {.library = &NOWHERE, .offset = at, .is_marked = 1};
     if (it->path != NULL) {
-        made->library = library_of(it->path, it->base, it->library);
-        made->offset = at - it->base;
-        made->is_own = it->base == own_base;
+        site.library = library_of(it->path, it->base, it->library);
+        site.offset = at - it->base;
+        site.is_own = it->base == own_base;
         if (it->symbol != NULL) {
-            made->symbol = sites_spelled(it->symbol);
-            made->in_symbol = at - it->symbol_at;
+            site.symbol = it->symbol;
+            site.in_symbol = at - it->symbol_at;
         }
-        made->is_in_table = it->is_in_table;
-        made->is_wrapper = made->is_in_table || is_passing_on(it->symbol);
+        site.is_in_table = it->is_in_table;
+        site.is_wrapper = it->is_in_table || it->is_passing_on;
+        site.step = it->step;
     }
-    made->is_judged = made->library->is_judged;
+    site.is_judged = site.library->is_judged;
+    return site;
+}
+
+static int is_same(const struct site *site, const struct site *like) {
+    return site->library == like->library && site->offset == like->offset && site->in_symbol == like->in_symbol &&
+           site->is_own == like->is_own && site->is_in_table == like->is_in_table &&
+           site->is_wrapper == like->is_wrapper && memcmp(&site->step, &like->step, sizeof site->step) == 0 &&
+           (site->symbol ? like->symbol != NULL && strcmp(site->symbol, like->symbol) == 0 : like->symbol == NULL);
+}
+
+static struct site **list_of(const struct site *site) {
+    size_t key = (uintptr_t)site->library + site->offset * 31;
+    return &lists[key * 0x9E3779B97F4A7C15u >> 32 & (list_count - 1)];
+}
+
+static void grow_lists(void) {
+    struct site **before = lists, *next;
+    size_t count = list_count;
+    list_count = count ? 2 * count : 1024;
+    lists = must_make(list_count * sizeof *lists);
+    for (size_t at = 0; at < count; at++) {
+        for (struct site *it = before[at]; it != NULL; it = next) {
+            struct site **list = list_of(it);
+            next = it->next;
+            it->next = *list;
+            *list = it;
+        }
+    }
+    free(before);
+}
+
+/* The struct of such a site, which is made if there is none. Under the lock. */
+static struct site *find_or_make(const struct site *like) {
+    if (site_count >= list_count) {
+        grow_lists();
+    }
+    struct site **list = list_of(like), *it = *list;
+    while (it != NULL && !is_same(it, like)) {
+        it = it->next;
+    }
+    if (it != NULL) {
+        it->is_marked = 1;
+        return it;
+    }
+    struct site *made = free_sites ? free_sites : must_make(sizeof *made);
+    free_sites = free_sites ? free_sites->next : NULL;
+    *made = *like;
+    made->symbol = like->symbol ? must_copy(like->symbol) : NULL;
+    made->next = *list;
+    *list = made;
+    site_count++;
     return made;
 }
 
-static size_t place_in(struct site **table, size_t room, uintptr_t at) {
+static struct place *place_in(struct place *table, size_t room, uintptr_t at) {
     size_t place = (at * 0x9E3779B97F4A7C15u >> 32) & (room - 1);
-    while (table[place] != NULL && table[place]->at != at) {
+    while (table[place].site != NULL && table[place].at != at) {
         place = (place + 1) & (room - 1);
     }
-    return place;
+    return &table[place];
 }
 
-static void grow_places(void) {
-    size_t room = place_room ? 2 * place_room : 1024;
-    struct site **grown = must_make(room * sizeof *grown);
+/* Makes the table anew, with room for as many places again. What may be there no longer is left out. Under the lock. */
+static void renew_places(void) {
+    size_t count = 0, room = 1024;
     for (size_t at = 0; at < place_room; at++) {
-        if (places[at] != NULL) {
-            grown[place_in(grown, room, places[at]->at)] = places[at];
+        count += places[at].site != NULL && places[at].generation == sites_generation;
+    }
+    while (room < 4 * count) {
+        room *= 2;
+    }
+    struct place *made = must_make(room * sizeof *made);
+    place_count = 0;
+    for (size_t at = 0; at < place_room; at++) {
+        if (places[at].site != NULL && places[at].generation == sites_generation) {
+            *place_in(made, room, places[at].at) = places[at];
+            place_count++;
         }
     }
     free(places);
-    places = grown;
+    places = made;
     place_room = room;
-}
-
-/* Whether the place is still what was looked up. */
-static int is_same(const struct site *site, const struct site *now) {
-    return site->library == now->library && site->in_symbol == now->in_symbol &&
-           site->is_in_table == now->is_in_table &&
-           (site->symbol ? now->symbol != NULL && strcmp(site->symbol, now->symbol) == 0 : now->symbol == NULL);
-}
-
-/* Puts what was looked up into its place. What names know of another library's stays. Under the lock. */
-static void put_place(struct site **place, uintptr_t at, const struct looked_up *it) {
-    struct site *made = make_place(at, it);
-    if (*place == NULL) {
-        place_count++;
-        *place = made;
-    } else if (is_same(*place, made)) {
-        free((void *)(uintptr_t)made->symbol);
-        free(made);
-    } else {
-        *place = made;
-    }
-    (*place)->generation = sites_generation;
 }
 
 /* The place, if it is known; or made of what was looked up. */
 static const struct site *find_or_add(uintptr_t at, const struct looked_up *it, int is_return) {
     pthread_mutex_lock(&lock);
     if (2 * (place_count + 1) > place_room) {
-        grow_places();
+        renew_places();
     }
-    struct site **place = &places[place_in(places, place_room, at)];
-    int is_known = *place != NULL && (*place)->generation == sites_generation;
+    struct place *place = place_in(places, place_room, at);
+    int is_known = place->site != NULL && place->generation == sites_generation;
     if (!is_known && it != NULL) {
-        put_place(place, at, it);
+        const struct site like = site_of(at, it);
+        place_count += place->site == NULL;
+        *place = (struct place){at, find_or_make(&like), sites_generation};
         is_known = 1;
     }
-    struct site *found = is_known ? *place : NULL;
+    struct site *found = is_known ? place->site : NULL;
     if (found != NULL && is_return) {
         found->is_return = 1;
     }
@@ -338,15 +425,167 @@ static const struct site *find_or_add(uintptr_t at, const struct looked_up *it, 
     return found;
 }
 
+/* Looks the address up, and makes its place. */
+static const struct site *add_site(uintptr_t at, int is_return) {
+    struct looked_up it = look_up(at);
+    char *symbol = it.symbol ? sites_spelled(it.symbol) : NULL;
+    if (it.path != NULL) {
+        it.is_in_table = it.base != own_base && is_in_table(it.base);
+        it.is_passing_on = is_passing_on(it.symbol);
+    }
+    if (it.is_in_table || it.is_passing_on) {
+        it.step = unwind_find(it.unwinding, at);
+    }
+    it.symbol = symbol;
+    const struct site *found = find_or_add(at, &it, is_return);
+    free(symbol);
+    free(it.path);
+    return found;
+}
+
+/* ---- what is gone ---- */
+
+enum { FEWEST_SWEPT = 4096 };
+
+/* The names by which libraries are loaded now. */
+struct names_loaded {
+    char **items;
+    size_t count, room;
+};
+
+static int see_loaded(struct dl_phdr_info *info, size_t size, void *names) {
+    struct names_loaded *to = names;
+    (void)size;
+    MAKE_ROOM(to->items, to->count, to->room);
+    to->items[to->count++] = must_copy(info->dlpi_name ? info->dlpi_name : "");
+    return 0;
+}
+
+/* Whether a library is loaded by this name. */
+static int is_loaded(const struct names_loaded *names, const char *name) {
+    size_t at = 0;
+    while (at < names->count && strcmp(names->items[at], name) != 0) {
+        at++;
+    }
+    return at < names->count;
+}
+
+/* Marks the sites of what is loaded, and of what the machine generated. */
+static void mark_loaded(void) {
+    struct names_loaded names = {NULL, 0, 0};
+    dl_iterate_phdr(see_loaded, &names);
+    pthread_mutex_lock(&lock);
+    for (struct library *it = libraries; it != NULL; it = it->next) {
+        it->is_loaded = is_loaded(&names, it->loaded_as);
+    }
+    for (size_t at = 0; at < list_count; at++) {
+        for (struct site *it = lists[at]; it != NULL; it = it->next) {
+            it->is_marked = it->library == &NOWHERE || it->library->is_loaded;
+        }
+    }
+    pthread_mutex_unlock(&lock);
+    for (size_t at = 0; at < names.count; at++) {
+        free(names.items[at]);
+    }
+    free(names.items);
+}
+
+void sites_mark(const struct site *site) {
+    if (site != NULL) {
+        ((struct site *)(uintptr_t)site)->is_marked = 1;
+    }
+}
+
+/* Lets the site go. Its struct stays one of a site, for whoever compares it yet. Under the lock. */
+static void let_site_go(struct site *site) {
+    free((void *)(uintptr_t)site->symbol);
+    *site = (struct site){.library = &NOWHERE, .next = free_sites};
+    free_sites = site;
+    site_count--;
+}
+
+/* Lets libraries go that aren't loaded and have no sites. Under the lock. */
+static void let_libraries_go(void) {
+    for (size_t at = 0; at < list_count; at++) {
+        for (struct site *it = lists[at]; it != NULL; it = it->next) {
+            if (it->library != &NOWHERE) {
+                ((struct library *)(uintptr_t)it->library)->is_loaded = 1;
+            }
+        }
+    }
+    for (struct library **link = &libraries, *it; (it = *link) != NULL;) {
+        if (it->is_loaded) {
+            link = &it->next;
+            continue;
+        }
+        *link = it->next;
+        free(it->loaded_as);
+        free((void *)(uintptr_t)it->path);
+        free((void *)(uintptr_t)it->name);
+        *it = (struct library){.path = "", .name = "?", .next = free_libraries};
+        free_libraries = it;
+    }
+}
+
+static void let_unmarked_go(void) {
+    for (size_t at = 0; at < list_count; at++) {
+        for (struct site **link = &lists[at], *it; (it = *link) != NULL;) {
+            if (it->is_marked) {
+                link = &it->next;
+            } else {
+                *link = it->next;
+                let_site_go(it);
+            }
+        }
+    }
+    let_libraries_go();
+}
+
+static _Atomic int readers;
+
+void sites_read(void) {
+    readers++;
+}
+
+void sites_were_read(void) {
+    readers--;
+}
+
+/*
+ * Lets go the places of libraries that are gone, where nothing names them: neither a reference or buffer, nor a monitor
+ * or a native method, nor a block. Nobody stores such a place anew, for who does so is called from there. Whoever
+ * spells one that is stored has said so (sites_read): then it is done another time. The adviser keeps places to itself.
+ */
+static void sweep(void) {
+    static _Atomic size_t next = FEWEST_SWEPT;
+    static atomic_flag is_sweeping = ATOMIC_FLAG_INIT;
+    if (site_count < next || options.advice || atomic_flag_test_and_set(&is_sweeping)) {
+        return;
+    }
+    sites_check_unloaded();
+    mark_loaded();
+    names_each_site(sites_mark);
+    natives_each_site(sites_mark);
+    buffers_each_site(sites_mark);
+    monitors_each_site(sites_mark);
+    report_each_site(sites_mark);
+    pthread_mutex_lock(&lock);
+    if (readers == 0) {
+        renew_places();
+        let_unmarked_go();
+    }
+    next = site_count < FEWEST_SWEPT / 2 ? FEWEST_SWEPT : 2 * site_count;
+    pthread_mutex_unlock(&lock);
+    atomic_flag_clear(&is_sweeping);
+}
+
 static const struct site *site_at(uintptr_t at, int is_return) {
     const struct site *found = find_or_add(at, NULL, is_return);
     if (found == NULL) {
         struct kept kept;
         keep(&kept);
-        struct looked_up it = look_up(at);
-        it.is_in_table = it.path != NULL && it.base != own_base && is_in_table(it.base);
-        found = find_or_add(at, &it, is_return);
-        free(it.path);
+        found = add_site(at, is_return);
+        sweep();
         restore(&kept);
     }
     return found;
@@ -358,44 +597,31 @@ const struct site *sites_at(uintptr_t at) {
 
 /* ---- callers ---- */
 
+enum { MOST_STEPS = 16 };
+
+/* Whether the thread used the place lately. */
+static int is_recent(const struct recent_site *kept, uintptr_t at) {
+    return kept->generation == sites_generation && kept->at == at && kept->site != NULL;
+}
+
+static struct recent_site *recent_place(struct thread *thread, uintptr_t at) {
+    return &thread->recent[(at >> 1) & (RECENT_SITES - 1)];
+}
+
 static const struct site *recent(struct thread *thread, uintptr_t at) {
-    struct recent_site *kept = &thread->recent[(at >> 1) & (RECENT_SITES - 1)];
-    uint32_t generation = sites_generation;
-    if (kept->site == NULL || kept->site->at != at || kept->generation != generation) {
+    struct recent_site *kept = recent_place(thread, at);
+    if (!is_recent(kept, at)) {
+        uint32_t generation = sites_generation;
         kept->site = site_at(at, 1);
+        kept->at = at;
         kept->generation = generation;
     }
     return kept->site;
 }
 
-/* The return address above a frame that is laid out by the frame pointer, or 0. */
-static uintptr_t above(const struct thread *thread, uintptr_t *frame) {
-    uintptr_t next = *(const uintptr_t *)*frame;
-    if (next <= *frame || (next & 7) != 0 || next < thread->stack_low || next + 16 > thread->stack_high) {
-        return 0;
-    }
-    *frame = next;
-    return ((const uintptr_t *)next)[1];
-}
-
-/*
- * The caller of a function that another agent put into the table before the agent's. It may have no frame pointer, so
- * the unwinder's tables say who called it. A call of that agent's own comes from the machine, or from Java.
- */
-static const struct site *before_tool(struct thread *thread, const struct site *found) {
-    void *returns[16];
-    struct kept kept;
-    keep(&kept);
-    const struct site *outer = found;
-    int count = backtrace(returns, sizeof returns / sizeof *returns), at = 0;
-    while (at < count && (uintptr_t)returns[at] != found->at) {
-        at++;
-    }
-    for (at++; at < count && outer->library == found->library; at++) {
-        outer = recent(thread, (uintptr_t)returns[at]);
-    }
-    restore(&kept);
-    return outer->library == &NOWHERE || outer->library->base == machine_base || outer->is_own ? found : outer;
+/* The same, or NULL of what is in no library: that is code which the machine generated. */
+static const struct site *recent_in_library(struct thread *thread, uintptr_t at) {
+    return is_recent(recent_place(thread, at), at) || base_of(at) != 0 ? recent(thread, at) : NULL;
 }
 
 /*
@@ -415,18 +641,31 @@ static const struct site *called_at(struct thread *thread, uintptr_t at) {
     return found;
 }
 
-const struct site *sites_find_caller(struct thread *thread, uintptr_t at, uintptr_t frame) {
-    const struct site *found = called_at(thread, at);
-    if (found->is_in_table) {
-        return before_tool(thread, found);
-    }
-    for (int depth = 0; depth < 4 && found->is_wrapper; depth++) {
-        uintptr_t next = above(thread, &frame);
-        const struct site *outer = next ? recent(thread, next) : NULL;
+/*
+ * The place that the functions which only pass a call on were called from, by the unwinder's tables of their libraries.
+ * So are those that another agent put into the table before this one's. A call of that agent's own comes from the
+ * machine, or from Java.
+ */
+static const struct site *above(struct thread *thread, const struct site *first, uintptr_t frame) {
+    const uintptr_t *saved = (const uintptr_t *)frame;
+    struct registers registers = {.stack = frame + 2 * sizeof *saved, .frame = *saved};
+    const struct site *found = first;
+    for (int depth = 0; depth < MOST_STEPS && found->is_wrapper; depth++) {
+        uintptr_t next = unwind_up(&found->step, &registers, thread->stack_low, thread->stack_high);
+        const struct site *outer = next ? recent_in_library(thread, next) : NULL;
         if (outer == NULL || outer->library == &NOWHERE) {
-            return found;
+            return first->is_in_table ? first : found;
         }
         found = outer;
+    }
+    int is_its_own = first->is_in_table && (found->is_own || found->library->is_machine);
+    return is_its_own ? first : found;
+}
+
+const struct site *sites_find_caller(struct thread *thread, uintptr_t at, uintptr_t frame) {
+    const struct site *found = called_at(thread, at);
+    if (found->is_wrapper) {
+        found = above(thread, found, frame);
     }
     if (found->is_own && thread->depth > 0) {
         return thread->activations[thread->depth - 1].native->site;
@@ -479,9 +718,6 @@ void sites_open(void) {
         own_base = (uintptr_t)found.dli_fbase;
     }
     find_jdk();
-    pthread_mutex_lock(&lock);
-    grow_places();
-    pthread_mutex_unlock(&lock);
     sites_check_unloaded();
 }
 
@@ -508,13 +744,17 @@ void sites_line(const struct site *site, char *text, size_t room) {
         return;
     }
     /* A return address is that of the next instruction, so the call stands before it. A native method has its own. */
-    snprintf(command, sizeof command, "addr2line -e '%s' 0x%lx 2>/dev/null", site->library->path,
+    snprintf(command, sizeof command, "addr2line -i -e '%s' 0x%lx 2>/dev/null", site->library->path,
              (unsigned long)(site->is_return && site->offset ? site->offset - 1 : site->offset));
     FILE *pipe = popen(command, "r");
     if (pipe == NULL) {
         return;
     }
-    if (fgets(line, sizeof line, pipe) != NULL && *line != '?') {
+    /* Of functions that were inlined the outer one comes behind the inner: what C++ has of JNIEnv is passed over. */
+    do {
+        *line = 0;
+    } while (fgets(line, sizeof line, pipe) != NULL && strncmp(name_of(line), "jni.h:", 6) == 0);
+    if (*line != 0 && *line != '?') {
         line[strcspn(line, " \n")] = 0;
         if (strstr(line, ":?") == NULL) {
             snprintf(text, room, " (%s)", name_of(line));

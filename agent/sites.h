@@ -5,35 +5,39 @@
 #define SITES_H
 
 #include "agent.h"
+#include "unwind.h"
 
 struct thread;
 
 struct library {
     struct library *next;
-    uintptr_t base;
+    char *loaded_as; /* its name in the loader's list */
     const char *path;
     const char *name; /* the end of the path, as it is spelled */
     int is_judged;
     int is_of_jdk;
-    int is_tool; /* an agent of JVMTI: its callbacks have frames of locals, of which nobody tells */
+    int is_machine;
+    int is_tool;   /* an agent of JVMTI: its callbacks have frames of locals, of which nobody tells */
+    int is_loaded; /* of sites.c alone */
 };
 
 /*
- * A place, of which there is one struct as long as the same code is there. It stays, also where its library was
- * unloaded.
+ * A place, of which there is one struct as long as the same code is there or anything that is kept names it: a name, a
+ * buffer, a monitor, a native method or a block.
  */
 struct site {
-    uintptr_t at;
-    uintptr_t offset; /* in its library */
+    struct site *next; /* in a list of sites.c */
+    uintptr_t offset;  /* in its library; where it is in none, the address */
     uintptr_t in_symbol;
     const struct library *library;
-    const char *symbol;  /* as it is spelled, or NULL */
-    uint32_t generation; /* when it was found there last */
+    const char *symbol; /* as it is spelled, or NULL */
     int is_judged;
     int is_wrapper;  /* it stands in a function that only passes calls on */
     int is_in_table; /* its library has functions in the table that are called before the agent's */
     int is_own;      /* it stands in the agent: the library's code ended by a jump */
     int is_return;   /* a call returns there, and stands before it */
+    int is_marked;   /* of sites.c alone */
+    struct step step; /* of a wrapper: where its caller is */
 };
 
 /*
@@ -56,6 +60,16 @@ const struct site *sites_find_caller(struct thread *thread, uintptr_t at, uintpt
 
 /* Where a library was unloaded since the last call, each place is looked up again. */
 void sites_check_unloaded(void);
+
+/*
+ * Between these a site may be spelled that a table had, and whose library may be gone: it isn't let go meanwhile. It is
+ * taken from the table in between.
+ */
+void sites_read(void);
+void sites_were_read(void);
+
+/* A table names this site, or NULL: what each of them calls where it is asked for all that it names. */
+void sites_mark(const struct site *site);
 
 /* Writes `libdemo.so+0x11cf in Java_Demo_run`. */
 void sites_describe(const struct site *site, char *text, size_t room);

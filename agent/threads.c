@@ -31,9 +31,25 @@ static pthread_key_t ending;
 static pthread_once_t once = PTHREAD_ONCE_INIT;
 __thread struct thread *threads_current __attribute__((tls_model("initial-exec")));
 
+/* The machine said that this thread ends, and not that it begins since. */
+static __thread int has_ended __attribute__((tls_model("initial-exec")));
+
 /* ---- the structs ---- */
 
+/*
+ * Whether the machine is about to let this thread go. What other agents of JVMTI do in it then isn't judged: it would
+ * begin a session of which nobody tells the end.
+ */
+static int is_ending(void) {
+    void *env = NULL;
+    has_ended = has_ended && machine_invocation->GetEnv(vm, &env, JNI_VERSION_1_6) == JNI_OK;
+    return has_ended;
+}
+
 void threads_take_number(struct thread *thread) {
+    if (is_ending()) {
+        return;
+    }
     pthread_mutex_lock(&lock);
     if (free_count > 0) {
         thread->number = free_numbers[--free_count];
@@ -53,10 +69,25 @@ static void give_number(struct thread *thread) {
 }
 
 /* The environment's address may be anything now. */
-static void forget_env(const struct thread *thread) {
+static void forget_env(const struct environment *it) {
     struct name found;
-    if (thread->env != NULL && names_find((uintptr_t)thread->env, &found) && jg_is_same(found.name, thread->env_name)) {
-        names_forget((uintptr_t)thread->env);
+    if (it->env != NULL && names_find((uintptr_t)it->env, &found) && jg_is_same(found.name, it->name)) {
+        names_forget((uintptr_t)it->env);
+    }
+}
+
+/* Keeps the names of some environments, so that it is known whose they were. */
+static void keep_env(struct thread *thread) {
+    struct environment *oldest = &thread->earlier[thread->earlier_next++ % EARLIER];
+    forget_env(oldest);
+    *oldest = (struct environment){thread->env, thread->env_name};
+}
+
+static void forget_envs(const struct thread *thread) {
+    const struct environment newest = {thread->env, thread->env_name};
+    forget_env(&newest);
+    for (size_t at = 0; at < EARLIER; at++) {
+        forget_env(&thread->earlier[at]);
     }
 }
 
@@ -85,7 +116,7 @@ static void let_go(void *which) {
     give_number(thread);
     pthread_mutex_unlock(&lock);
     forget_held(thread);
-    forget_env(thread);
+    forget_envs(thread);
     buffers_thread_ended(thread);
     free(thread->activations);
     free(thread->frames);
@@ -314,7 +345,9 @@ void threads_unwind(struct thread *thread, uintptr_t stack) {
 
 void threads_begun(struct thread *thread, JNIEnv *env, jg_value env_name) {
     struct name before, named = {.handle = (uintptr_t)env, .name = env_name, .state = NAME_SEEN};
-    forget_env(thread);
+    if (thread->env != env) {
+        keep_env(thread);
+    }
     names_put(&named, &before);
     thread->env = env;
     thread->env_name = env_name;
@@ -345,17 +378,18 @@ int threads_attach(struct thread *thread) {
     return error == 0;
 }
 
-void JNICALL threads_ended(jvmtiEnv *of, JNIEnv *env, jthread which) {
-    struct thread *thread = threads_current;
+void JNICALL threads_started(jvmtiEnv *of, JNIEnv *env, jthread which) {
     (void)of;
     (void)env;
     (void)which;
-    if (thread == NULL || !thread->is_attached) {
-        if (thread != NULL) {
-            thread->pushed = 0;
-        }
-        return;
-    }
+    has_ended = 0;
+}
+
+void threads_go_on(void) {
+    has_ended = 0;
+}
+
+static void end_session(struct thread *thread) {
     core_lock();
     core_tell(jg_fact_of(JG_ENDS, thread->number, jg_nothing(), jg_null(), 0, 0), NULL);
     core_unlock();
@@ -371,6 +405,21 @@ void JNICALL threads_ended(jvmtiEnv *of, JNIEnv *env, jthread which) {
     thread->is_pending = 0;
     objects_drop(thread->waiting.object);
     thread->waiting.object = NULL;
+}
+
+void JNICALL threads_ended(jvmtiEnv *of, JNIEnv *env, jthread which) {
+    struct thread *thread = threads_current;
+    (void)of;
+    (void)env;
+    (void)which;
+    has_ended = 1;
+    if (thread == NULL) {
+        return;
+    }
+    if (thread->is_attached) {
+        end_session(thread);
+    }
+    thread->pushed = 0;
     pthread_mutex_lock(&lock);
     give_number(thread);
     pthread_mutex_unlock(&lock);

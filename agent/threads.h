@@ -11,6 +11,7 @@
 enum { RECENT_SITES = 64 };
 
 struct recent_site {
+    uintptr_t at;
     const struct site *site;
     uint32_t generation;
 };
@@ -51,7 +52,13 @@ struct waiting {
     uint32_t count;
 };
 
-enum { MEMOS = 16, MEMO_OPERANDS = 3 };
+/* An environment, and the core's name for it. */
+struct environment {
+    JNIEnv *env;
+    jg_value name;
+};
+
+enum { MEMOS = 16, MEMO_OPERANDS = 3, EARLIER = 4 };
 
 /* A question that passed, and how many facts had been told then. */
 struct memo {
@@ -69,6 +76,8 @@ struct thread {
     int is_attached;              /* a session of it was told */
     jg_value env_name;
     JNIEnv *env;
+    struct environment earlier[EARLIER]; /* those of its sessions before, as far as they stood elsewhere */
+    size_t earlier_next;
     uintptr_t stack_low, stack_high;
     struct activation *activations;
     size_t depth, activation_room;
@@ -96,7 +105,7 @@ extern __thread struct thread *threads_current __attribute__((tls_model("initial
 
 struct thread *threads_make(void);
 
-/* Gives the thread a number. It has none after that where all are taken. */
+/* Gives the thread a number. It has none after that where all are taken, or where the thread ends in the machine. */
 void threads_take_number(struct thread *thread);
 
 /* Whether it has a number, which it is given if need be. Without one it isn't judged. */
@@ -137,7 +146,7 @@ void threads_unwind(struct thread *thread, uintptr_t stack);
 static inline const struct site *sites_recent(const struct thread *thread, uintptr_t at) {
     const struct recent_site *recent = &thread->recent[(at >> 1) & (RECENT_SITES - 1)];
     const struct site *site = recent->site;
-    int is_found = site != NULL && site->at == at && recent->generation == sites_generation && !site->is_wrapper &&
+    int is_found = recent->at == at && site != NULL && recent->generation == sites_generation && !site->is_wrapper &&
                    !site->is_own && site->library == thread->last_library;
     return is_found ? site : NULL;
 }
@@ -168,6 +177,12 @@ jg_value threads_env_name(const struct thread *thread, JNIEnv *env);
 
 /* The core was told that a session of the thread began, and gave its environment this name. */
 void threads_begun(struct thread *thread, JNIEnv *env, jg_value env_name);
+
+/* The machine says that the thread begins. */
+void JNICALL threads_started(jvmtiEnv *tool, JNIEnv *env, jthread thread);
+
+/* The machine ends, and said that this thread does: what is done in it is judged up to the end all the same. */
+void threads_go_on(void);
 
 /* The machine says that the thread ends: the end of its session is told. */
 void JNICALL threads_ended(jvmtiEnv *tool, JNIEnv *env, jthread thread);

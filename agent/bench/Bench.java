@@ -1,4 +1,6 @@
+import java.util.ArrayList;
 import java.util.Arrays;
+import java.util.List;
 import java.util.Locale;
 
 /** Times JNI calls: the median of so many samples, in nanoseconds a call. */
@@ -11,12 +13,39 @@ public class Bench {
 
     static native double lengths(String text, int count);
     static native double locals(String text, int count);
-    static native double fields(Bench object, int count);
+    static native double fields(Object object, int count);
     static native double criticals(int[] array, int count);
+    static native double attached(String text, int count);
     static native void empty();
 
     interface Sample {
         double take(int count) throws Exception;
+    }
+
+    /** A class that many loaders have, with a field where this one has its own. */
+    public static class Other {
+        int number = 1;
+    }
+
+    static class Loader extends ClassLoader {
+        Object make(byte[] bytes) throws Exception {
+            return defineClass("Bench$Other", bytes, 0, bytes.length).getDeclaredConstructor().newInstance();
+        }
+    }
+
+    static final int OTHERS = 4000;
+
+    /** Objects of so many classes, of each of which native code has read the field. */
+    static List<Object> others() throws Exception {
+        List<Object> made = new ArrayList<>();
+        try (java.io.InputStream in = Bench.class.getResourceAsStream("Bench$Other.class")) {
+            byte[] bytes = in.readAllBytes();
+            for (int at = 0; at < OTHERS; at++) {
+                made.add(new Loader().make(bytes));
+                fields(made.get(at), 1);
+            }
+        }
+        return made;
     }
 
     static double empties(int count) {
@@ -42,6 +71,7 @@ public class Bench {
         return (System.nanoTime() - begun) / (4.0 * count);
     }
 
+    static final String BESIDE = "GetIntField-beside-" + OTHERS;
     static String only;
 
     static void median(String name, int samples, int count, Sample sample) throws Exception {
@@ -67,7 +97,10 @@ public class Bench {
         median("GetIntField", samples, count, n -> fields(object, n));
         median("critical-64KB", samples, Math.max(1, count / 20), n -> criticals(array, n));
         median("empty-native", samples, count, n -> empties(n));
+        median("GetStringLength-attached", samples, count, n -> attached("a text", n));
         // Each begins four threads, which takes as long as thousands of calls.
         median("GetStringLength-by-4", Math.max(3, samples / 20), 100 * count, n -> together(n));
+        List<Object> others = only == null || only.equals(BESIDE) ? others() : List.of(object);
+        median(BESIDE, samples, count, n -> fields(others.get(others.size() / 2), n));
     }
 }

@@ -1,5 +1,6 @@
 /* bench.c: loops over one JNI function each, timed within native code. */
 #include <jni.h>
+#include <pthread.h>
 #include <stdint.h>
 #include <time.h>
 
@@ -31,7 +32,8 @@ JNIEXPORT jdouble JNICALL Java_Bench_locals(JNIEnv *env, jclass class, jstring t
 }
 
 JNIEXPORT jdouble JNICALL Java_Bench_fields(JNIEnv *env, jclass class, jobject object, jint count) {
-    jfieldID number = E->GetFieldID(env, class, "number", "I");
+    jfieldID number = E->GetFieldID(env, E->GetObjectClass(env, object), "number", "I");
+    (void)class;
     double begun = now();
     for (jint at = 0; at < count; at++) {
         E->GetIntField(env, object, number);
@@ -48,6 +50,35 @@ JNIEXPORT jdouble JNICALL Java_Bench_criticals(JNIEnv *env, jclass class, jintAr
         E->ReleasePrimitiveArrayCritical(env, array, items, 0);
     }
     return (now() - begun) / count;
+}
+
+/* What a thread of the system's own does, and how long each call took. */
+struct work {
+    JavaVM *vm;
+    jobject text;
+    jint count;
+    double time;
+};
+
+static void *works(void *of) {
+    struct work *work = of;
+    JNIEnv *env;
+    (*work->vm)->AttachCurrentThread(work->vm, (void **)&env, NULL);
+    jstring local = E->NewLocalRef(env, work->text);
+    work->time = Java_Bench_lengths(env, NULL, local, work->count);
+    (*work->vm)->DetachCurrentThread(work->vm);
+    return NULL;
+}
+
+JNIEXPORT jdouble JNICALL Java_Bench_attached(JNIEnv *env, jclass class, jstring text, jint count) {
+    struct work work = {.text = E->NewGlobalRef(env, text), .count = count};
+    pthread_t thread;
+    (void)class;
+    E->GetJavaVM(env, &work.vm);
+    pthread_create(&thread, NULL, works, &work);
+    pthread_join(thread, NULL);
+    E->DeleteGlobalRef(env, work.text);
+    return work.time;
 }
 
 JNIEXPORT void JNICALL Java_Bench_empty(JNIEnv *env, jclass class) {

@@ -10,6 +10,7 @@ public class Situations {
     static native void second(String text);
     static native void turn(Situations object, int turns);
     static native void crashes();
+    static native void lends(String text);
 
     int count;
 
@@ -49,11 +50,21 @@ public class Situations {
         }
     }
 
+    /** The program ends while threads are lent buffers. */
+    static void lend() throws Exception {
+        for (int count = 0; count < 3; count++) {
+            Thread thread = new Thread(() -> lends("text"));
+            thread.setDaemon(true);
+            thread.start();
+        }
+        Thread.sleep(200);
+    }
+
     public static void main(String[] words) throws Exception {
         String situation = words[0];
         System.err.println("== " + situation);
         if (situation.equals("wrapped")) {
-            System.loadLibrary("wrapped");
+            System.loadLibrary(System.getProperty("wrapped"));
             first("text");
             second("text");
         } else if (System.getProperty("library") != null) {
@@ -84,6 +95,7 @@ public class Situations {
             }
             case "unloads" -> unloads();
             case "crashes" -> crashes();
+            case "lends" -> lend();
             case "named" -> {
                 Thread.currentThread().setName("a\nthread");
                 dead("text");

@@ -8,6 +8,9 @@ public class Unharmed {
 
     static native void beyond(boolean[] four);
     static native void keeps(String text, int[] numbers);
+    static native void sets();
+    static native void finds(Object one, Object two, Object three, Object four, Object five, Object six, Object seven,
+                             Object eight, Object nine, boolean checks);
     static native void shares(int[] numbers, String wide);
     static native void fields(Object[] objects);
     native void results();
@@ -64,10 +67,20 @@ public class Unharmed {
         System.out.println(Arrays.hashCode(image.getRGB(0, 0, 64, 64, null, 0, 64)));
     }
 
+    /** The first turn links the methods. */
+    static void between() {
+        Object of = Unharmed.class;
+        for (int turn = 0; turn < 3; turn++) {
+            sets();
+            finds(of, of, of, of, of, of, of, of, of, turn > 0);
+        }
+    }
+
     static void run(String name) throws Exception {
         switch (name) {
             case "beyond" -> beyond(new boolean[4]);
             case "keeps" -> keeps("text", new int[8]);
+            case "between" -> between();
             case "results" -> new Unharmed().results();
             case "shares" -> shares(new int[8], "\u4e00\u4e8c");
             case "fields" -> fields(ofManyClasses(1000));

@@ -10,6 +10,9 @@ public class Unseen {
     static native void within();
     static native void around();
     static native int early(Object number);
+    static native void twice();
+    static native void outlives();
+    static native void earlier();
 
     static void caught() {
         try {
@@ -17,6 +20,11 @@ public class Unseen {
         } catch (IllegalStateException thrown) {
             // It was thrown to be caught.
         }
+    }
+
+    static void collects() throws InterruptedException {
+        System.gc();
+        Thread.sleep(5);
     }
 
     /** Native methods that a call of `turn` calls, beside a library that isn't judged. */
@@ -80,6 +88,16 @@ public class Unseen {
         }
     }
 
+    /** Threads that end, of Java's and of the system's. */
+    static void ends() throws Exception {
+        for (int turn = 0; turn < 40; turn++) {
+            Thread thread = new Thread(Unseen::makes);
+            thread.start();
+            thread.join();
+        }
+        twice();
+    }
+
     public static void main(String[] words) throws Exception {
         System.loadLibrary("unseen");
         System.err.println("== " + words[0]);
@@ -89,6 +107,11 @@ public class Unseen {
                 arms();
                 catches();
             }
+            case "outlives" -> {
+                System.load(System.getProperty("tool"));
+                arms();
+                outlives();
+            }
             case "early" -> {
                 System.load(System.getProperty("tool"));
                 if (early(Integer.valueOf(7)) != 22) {
@@ -97,6 +120,8 @@ public class Unseen {
             }
             case "process" -> ProcessHandle.current().info().arguments();
             case "late" -> late();
+            case "ends" -> ends();
+            case "earlier" -> earlier();
             case "frames" -> Bystander.attaches(System.getProperty("judged"));
             default -> {
                 turn();

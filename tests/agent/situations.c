@@ -95,6 +95,14 @@ JNIEXPORT void JNICALL Java_Situations_turn(JNIEnv *env, jclass class, jobject o
     E->DeleteGlobalRef(env, shared);
 }
 
+/* Is lent buffers until the program ends, and gives none back. */
+JNIEXPORT void JNICALL Java_Situations_lends(JNIEnv *env, jclass class, jstring text) {
+    (void)class;
+    for (;;) {
+        E->GetStringUTFChars(env, text, NULL);
+    }
+}
+
 /* The process ends at once, as by a crash. */
 JNIEXPORT void JNICALL Java_Situations_crashes(JNIEnv *env, jclass class) {
     E->FindClass(env, "java/lang/Thread");

@@ -31,6 +31,14 @@ JNIEXPORT void JNICALL Java_Suspended_makes(JNIEnv *env, jclass class) {
     }
 }
 
+/* Other threads have the same objects handed to them at the same time. */
+JNIEXPORT void JNICALL Java_Suspended_shares(JNIEnv *env, jclass class, jobjectArray objects, jint count) {
+    (void)class;
+    for (jint at = 0; at < count; at++) {
+        E->DeleteLocalRef(env, E->GetObjectArrayElement(env, objects, at));
+    }
+}
+
 /* Whether the threads can be suspended. */
 JNIEXPORT jboolean JNICALL Java_Suspended_opens(JNIEnv *env, jclass class) {
     jvmtiCapabilities wanted = {.can_suspend = 1};

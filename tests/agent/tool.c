@@ -1,8 +1,9 @@
 /*
  * tool.c: another agent of JVMTI. Its callbacks have frames of locals that end with them. The option says what they do:
- * `makes` leaves locals in the first callback, `deletes` deletes them there, `takes` deletes what it was handed. With
+ * `makes` leaves locals in the first callback, `fills` very many, `deletes` deletes them there, `takes` deletes what it
+ * was handed. With
  * `early` it is handed IDs and a global reference when the machine is there, which native methods use later. With
- * `wraps` it puts functions of its own into the table then.
+ * `wraps` it puts functions of its own into the table then. With `ends` it makes calls when a thread ends.
  */
 #include <jvmti.h>
 #include <string.h>
@@ -29,7 +30,7 @@ static void JNICALL on_exception(jvmtiEnv *of, JNIEnv *env, jthread thread, jmet
     (void)of, (void)thread, (void)method, (void)at, (void)catcher, (void)caught_at;
     if (strcmp(option, "takes") != 0) {
         if (is_first) {
-            make_strings(env, 8, strcmp(option, "deletes") == 0);
+            make_strings(env, strcmp(option, "fills") == 0 ? 16000 : 8, strcmp(option, "deletes") == 0);
         }
     } else if (is_first) {
         E->DeleteLocalRef(env, thrown);
@@ -50,6 +51,11 @@ static void JNICALL on_catch(jvmtiEnv *of, JNIEnv *env, jthread thread, jmethodI
             E->GetSuperclass(env, class);
         }
     }
+}
+
+static void JNICALL on_thread_end(jvmtiEnv *of, JNIEnv *env, jthread thread) {
+    (void)of, (void)thread;
+    make_strings(env, 2, 1);
 }
 
 /* From here on there are callbacks. */
@@ -109,7 +115,8 @@ JNIEXPORT jint JNICALL Java_Unseen_early(JNIEnv *env, jclass class, jobject numb
 }
 
 JNIEXPORT jint JNICALL Agent_OnLoad(JavaVM *vm, char *options, void *reserved) {
-    jvmtiEventCallbacks callbacks = {.VMInit = on_init, .Exception = on_exception, .ExceptionCatch = on_catch};
+    jvmtiEventCallbacks callbacks = {.VMInit = on_init, .Exception = on_exception, .ExceptionCatch = on_catch,
+                                     .ThreadEnd = on_thread_end};
     jvmtiCapabilities wanted = {.can_generate_exception_events = 1};
     (void)reserved;
     strncpy(option, options, sizeof option - 1);
@@ -119,6 +126,10 @@ JNIEXPORT jint JNICALL Agent_OnLoad(JavaVM *vm, char *options, void *reserved) {
     }
     if ((strcmp(option, "early") == 0 || strcmp(option, "wraps") == 0) &&
         (*tool)->SetEventNotificationMode(tool, JVMTI_ENABLE, JVMTI_EVENT_VM_INIT, NULL) != 0) {
+        return JNI_ERR;
+    }
+    if (strcmp(option, "ends") == 0 &&
+        (*tool)->SetEventNotificationMode(tool, JVMTI_ENABLE, JVMTI_EVENT_THREAD_END, NULL) != 0) {
         return JNI_ERR;
     }
     return (*tool)->SetEventCallbacks(tool, &callbacks, (jint)sizeof callbacks) == 0 ? JNI_OK : JNI_ERR;

@@ -150,6 +150,27 @@ JNIEXPORT void JNICALL Java_Unharmed_keeps(JNIEnv *env, jclass class, jstring te
     pthread_sigmask(SIG_SETMASK, &before, NULL);
 }
 
+/* Leaves locals, so that the agent has work to do when the method returns. */
+JNIEXPORT void JNICALL Java_Unharmed_sets(JNIEnv *env, jclass class) {
+    (void)class;
+    for (int at = 0; at < 300; at++) {
+        E->NewStringUTF(env, "made");
+    }
+    errno = OWN_ERROR;
+}
+
+/* The machine changes errno no more between two native methods than between two calls of its own. */
+JNIEXPORT void JNICALL Java_Unharmed_finds(JNIEnv *env, jclass class, jobject one, jobject two, jobject three,
+                                           jobject four, jobject five, jobject six, jobject seven, jobject eight,
+                                           jobject nine, jboolean checks) {
+    int error = errno;
+    (void)env, (void)class, (void)one, (void)two, (void)three, (void)four, (void)five, (void)six, (void)seven;
+    (void)eight, (void)nine;
+    if (checks && error != OWN_ERROR) {
+        fprintf(stderr, "WRONG: between two native methods errno is %d\n", error);
+    }
+}
+
 /* ---- results that are none ---- */
 
 /* Methods that return no reference, by functions that do: what these answer is no handle, and nobody uses it. */

@@ -1,0 +1,35 @@
+/*
+ * unwind.h: the caller of a function, by the unwinder's tables of its library.
+ */
+#ifndef UNWIND_H
+#define UNWIND_H
+
+#include <stdint.h>
+
+/*
+ * How the frame of a function is left at a place where a call returns to it. Its end is so far above the stack pointer
+ * or the frame pointer, and what it saved stands so far below that end.
+ */
+struct step {
+    int by_frame;   /* the end is counted from the frame pointer */
+    int32_t end;    /* the end of the frame */
+    int32_t caller; /* where the return address is, from there */
+    int32_t saved;  /* where the caller's frame pointer is; 0: it is as it was */
+};
+
+/* The registers that frames are found by, as they are where a call returns. */
+struct registers {
+    uintptr_t stack, frame;
+};
+
+/*
+ * What the tables say of this return address. `table` is the .eh_frame_hdr of its library, or NULL. What they don't
+ * say, or not in the form that compilers choose, is taken for a frame that the frame pointer leads to. It takes no lock
+ * and no memory.
+ */
+struct step unwind_find(const void *table, uintptr_t at);
+
+/* The return address above such a frame, or 0 where it isn't within the stack. The registers are the caller's then. */
+uintptr_t unwind_up(const struct step *step, struct registers *registers, uintptr_t stack_low, uintptr_t stack_high);
+
+#endif
