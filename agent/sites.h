@@ -32,11 +32,11 @@ struct site {
     const struct library *library;
     const char *symbol; /* as it is spelled, or NULL */
     int is_judged;
-    int is_wrapper;  /* it stands in a function that only passes calls on */
-    int is_in_table; /* its library has functions in the table that are called before the agent's */
-    int is_own;      /* it stands in the agent: the library's code ended by a jump */
-    int is_return;   /* a call returns there, and stands before it */
-    int is_marked;   /* of sites.c alone */
+    int is_wrapper;   /* it stands in a function that only passes calls on */
+    int is_in_table;  /* its library has functions in the table that are called before the agent's */
+    int is_own;       /* it stands in the agent: the library's code ended by a jump */
+    int is_return;    /* a call returns there, and stands before it */
+    int is_marked;    /* of sites.c alone */
     struct step step; /* of a wrapper: where its caller is */
 };
 
