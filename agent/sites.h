@@ -49,8 +49,11 @@ char *sites_spelled(const char *name);
 /* Notes where the machine's and the agent's own libraries are. */
 void sites_open(void);
 
-/* The place at this address. */
+/* The place at this address, whose library isn't unloaded meanwhile. */
 const struct site *sites_at(uintptr_t at);
+
+/* Whether a library stands yet where that of the place stood, which was at this address. It may be unloaded any time. */
+int sites_is_there(const struct site *site, uintptr_t at);
 
 /*
  * The place that a wrapper was called from, by its return address and its own frame: above the functions that only pass
