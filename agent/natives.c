@@ -252,7 +252,7 @@ static int is_gone(const struct swept *it) {
         return 1;
     }
     memcpy(&target, &it->native->target, sizeof target);
-    return !it->is_newest && sites_at(target) != it->native->site;
+    return !it->is_newest && !sites_is_there(it->native->site, target);
 }
 
 /* Takes it out of its method's list, if the method wasn't bound again meanwhile. Under the lock. */

@@ -595,6 +595,10 @@ const struct site *sites_at(uintptr_t at) {
     return site_at(at, 0);
 }
 
+int sites_is_there(const struct site *site, uintptr_t at) {
+    return base_of(at) == at - site->offset;
+}
+
 /* ---- callers ---- */
 
 enum { MOST_STEPS = 16 };

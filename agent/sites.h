@@ -32,11 +32,11 @@ struct site {
     const struct library *library;
     const char *symbol; /* as it is spelled, or NULL */
     int is_judged;
-    int is_wrapper;  /* it stands in a function that only passes calls on */
-    int is_in_table; /* its library has functions in the table that are called before the agent's */
-    int is_own;      /* it stands in the agent: the library's code ended by a jump */
-    int is_return;   /* a call returns there, and stands before it */
-    int is_marked;   /* of sites.c alone */
+    int is_wrapper;   /* it stands in a function that only passes calls on */
+    int is_in_table;  /* its library has functions in the table that are called before the agent's */
+    int is_own;       /* it stands in the agent: the library's code ended by a jump */
+    int is_return;    /* a call returns there, and stands before it */
+    int is_marked;    /* of sites.c alone */
     struct step step; /* of a wrapper: where its caller is */
 };
 
@@ -49,8 +49,11 @@ char *sites_spelled(const char *name);
 /* Notes where the machine's and the agent's own libraries are. */
 void sites_open(void);
 
-/* The place at this address. */
+/* The place at this address, whose library isn't unloaded meanwhile. */
 const struct site *sites_at(uintptr_t at);
+
+/* Whether a library stands yet where that of the place stood, which was at this address. It may be unloaded any time. */
+int sites_is_there(const struct site *site, uintptr_t at);
 
 /*
  * The place that a wrapper was called from, by its return address and its own frame: above the functions that only pass

@@ -2,6 +2,7 @@
 #include <dlfcn.h>
 #include <jni.h>
 #include <stdio.h>
+#include <sys/mman.h>
 
 #define E (*env)
 
@@ -70,7 +71,7 @@ JNIEXPORT void JNICALL Java_Comes_uses(JNIEnv *env, jclass class, jclass of, job
     E->DeleteGlobalRef(env, E->NewGlobalRef(env, of));
 }
 
-/* Loads the library, has it make calls and register a native method, and unloads it. */
+/* Loads the library, has it make calls and register a native method, and unloads it. The next stands elsewhere. */
 JNIEXPORT void JNICALL Java_Comes_loads(JNIEnv *env, jclass class, jstring path, jclass of) {
     const char *name = E->GetStringUTFChars(env, path, NULL);
     void *library = dlopen(name, RTLD_NOW);
@@ -79,4 +80,5 @@ JNIEXPORT void JNICALL Java_Comes_loads(JNIEnv *env, jclass class, jstring path,
     E->ReleaseStringUTFChars(env, path, name);
     runs(env, of);
     dlclose(library);
+    mmap(NULL, 4096, PROT_NONE, MAP_PRIVATE | MAP_ANONYMOUS, -1, 0);
 }

@@ -5,6 +5,7 @@ import org.apache.subversion.javahl.*;
 import org.apache.subversion.javahl.types.*;
 
 /** A repository by libsvn-java: streams, callbacks, maps and sets that are made in C++, several clients at once. */
+@SuppressWarnings("deprecation")
 public class Svn {
     static final Revision HEAD = Revision.HEAD;
 
@@ -34,7 +35,6 @@ public class Svn {
         commit(client, copy, "the first");
         Files.writeString(Path.of(file), "one\n2\nthree\nfour\n");
         commit(client, copy, "the second");
-        client.update(Set.of(copy), HEAD, Depth.infinity, false, false, false, false);
     }
 
     static void reads(String folder, String url) throws Exception {
@@ -62,7 +62,7 @@ public class Svn {
         try {
             SVNClient client = client(folder);
             for (int turn = 0; turn < 20; turn++) {
-                client.info(url, HEAD, HEAD, Depth.infinity, false, false, false, null, info -> sum[0] += info.getRev());
+                client.info(url, HEAD, HEAD, Depth.infinity, false, false, false, null, it -> sum[0] += it.getRev());
             }
             client.dispose();
         } catch (Exception unexpected) {
