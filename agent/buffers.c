@@ -120,9 +120,27 @@ static void take_out(struct lent *lent) {
 /* Whether the end is looked at: then other threads may still give back, and nothing is freed. */
 static _Atomic int is_ended;
 
+/* Where copies were that are held no longer: the newest of them. The machine never lent that memory. */
+enum { MOST_FREED = 4096 };
+static const void *_Atomic freed[MOST_FREED];
+static _Atomic size_t freed_count;
+
+/* Whether a copy stood there that was given back. */
+static int was_freed(const void *at) {
+    for (size_t place = 0; place < MOST_FREED; place++) {
+        if (freed[place] == at) {
+            return 1;
+        }
+    }
+    return 0;
+}
+
 static void let_go(struct lent *lent) {
     if (is_ended) {
         return;
+    }
+    if (!lent->is_plain) {
+        freed[freed_count++ % MOST_FREED] = lent->at;
     }
     objects_drop(lent->object);
     pthread_mutex_destroy(&lent->items);
@@ -669,7 +687,7 @@ static uint32_t family_of(uint32_t function) {
 static int give_denied(struct given_back *given) {
     struct lent *lent = given->lent;
     if (lent == NULL) {
-        return 1;
+        return given->memory == NULL || !was_freed(given->memory);
     }
     if (lent->is_given || given->call->verdict.rule == 2) {
         /* The machine has its memory already. */

@@ -4,6 +4,7 @@ public class Situations {
     static native void leaves(Object object, int[] numbers);
     static native void plugs(String path);
     static native void dead(String text);
+    static native void twice(int[] numbers);
     static native void registers();
     static native void registered();
     static native void first(String text);
@@ -76,6 +77,7 @@ public class Situations {
             case "spans" -> spans(new Object(), new int[] {1, 2, 3});
             case "leaves" -> leaves(new Object(), new int[] {1, 2, 3});
             case "dead" -> dead("text");
+            case "twice" -> twice(new int[] {1, 2, 3});
             case "registers" -> {
                 registers();
                 registered();

@@ -43,6 +43,14 @@ JNIEXPORT void JNICALL Java_Situations_dead(JNIEnv *env, jclass class, jstring t
     E->GetStringLength(env, made);
 }
 
+/* Gives memory back twice, of which the agent may hold nothing any longer. */
+JNIEXPORT void JNICALL Java_Situations_twice(JNIEnv *env, jclass class, jintArray numbers) {
+    jint *items = E->GetIntArrayElements(env, numbers, NULL);
+    (void)class;
+    E->ReleaseIntArrayElements(env, numbers, items, 0);
+    E->ReleaseIntArrayElements(env, numbers, items, 0);
+}
+
 static void registered(JNIEnv *env, jclass class) {
     E->GetSuperclass(env, class);
 }
