@@ -55,7 +55,7 @@ class Adviser:
 
     def __init__(self, machine, most, each):
         self.machine, self.most, self.each = machine, most, each
-        # By thread and depth: the latest call of an activation, and the one that is owed a question.
+        # By thread and depth: the latest call of an activation, and the one that is owed a question, and wasn't told.
         self.latest, self.owed = {}, {}
         self.written, self.committed, self.entered = Table(), Table(), Table()
         self.regions, self.calls, self.collections = {}, 0, 0
@@ -77,6 +77,23 @@ class Adviser:
         if source:
             self.advise(kind, line, source.function, source)
 
+    def is_within(self, question):
+        """Whether the question is about a part of a string or an array that lies within its known length."""
+        match question.operands:
+            case ((_, r), (('Number',), start)):
+                count = 1
+            case ((_, r), (('Number',), start), (('Count',), count)):
+                pass
+            case ((_, r), (('Number',), start), (('Items', *_), (count, _))):
+                pass
+            case ((_, r), (('Number',), start), (('Nullable',), None)):
+                count = 1
+            case _:
+                return False
+        _, length = self.machine.objects.get(self.machine.names(question.thread, r), (None, 0))
+        # A start of more than 32 bits is no jsize.
+        return 0 <= start < 2**31 and 0 <= count and start + count <= length
+
     def called(self, line, question, name, text):
         """A question passed, of the function of that name; `text` is its first operand as it stands there."""
         t, row, operands = question.thread, question.row, [value for _, value in question.operands]
@@ -93,8 +110,10 @@ class Adviser:
             self.latest[here] = call
             if row.section == 'Exceptions' and may_be_pending:
                 self.owed.pop(here, None)
-            elif row.throws == 'Untold':
+            elif row.throws == 'Untold' and not self.is_within(question):
                 self.owed[here] = call
+            elif not may_be_pending:
+                self.owed.pop(here, None)
         if ('Writable',) in row.takes and self.machine.is_copy(operands[0]):
             self.written.put(operands[0], call)
         if mode == COMMIT:

@@ -1115,6 +1115,32 @@ static void advised_often(JNIEnv *env, struct given *it) {
         E->ExceptionClear(env);
     }
 }
+/* Three calls after one that nobody asked about. */
+static void advised_once(JNIEnv *env, struct given *it) {
+    call_nothing(env, it);
+    E->GetStringLength(env, it->text);
+    E->GetStringLength(env, it->text);
+    E->GetArrayLength(env, it->numbers);
+}
+/* What lies within can't have thrown. */
+static void advised_within(JNIEnv *env, struct given *it) {
+    jint item;
+    jchar unit;
+    E->GetIntArrayRegion(env, it->numbers, 0, 1, &item);
+    E->SetIntArrayRegion(env, it->numbers, 0, 1, &item);
+    E->GetStringRegion(env, it->text, 0, 1, &unit);
+    E->GetStringLength(env, it->text);
+    jobjectArray objects = E->NewObjectArray(env, 1, it->class, NULL);
+    E->SetObjectArrayElement(env, objects, 0, NULL);
+    E->DeleteLocalRef(env, E->GetObjectArrayElement(env, objects, 0));
+    E->GetStringLength(env, it->text);
+}
+/* An object may be of a class that the array doesn't take. */
+static void advised_element(JNIEnv *env, struct given *it) {
+    jobjectArray objects = E->NewObjectArray(env, 1, it->class, NULL);
+    E->SetObjectArrayElement(env, objects, 0, it->object);
+    E->GetStringLength(env, it->text);
+}
 static void other_commits(JNIEnv *env, struct other *it) {
     jint *items = E->GetIntArrayElements(env, it->reference, NULL);
     E->ReleaseIntArrayElements(env, it->reference, items, JNI_COMMIT);
@@ -1322,6 +1348,9 @@ static const struct {
     {"advised_unchecked", advised_unchecked, "unchecked GetStringLength", NULL, "V"},
     {"advised_checked", advised_checked, "", NULL, "V"},
     {"advised_often", advised_often, "unchecked GetStringLength", NULL, "V"},
+    {"advised_once", advised_once, "unchecked GetStringLength", NULL, "V"},
+    {"advised_within", advised_within, "", NULL, "V"},
+    {"advised_element", advised_element, "unchecked GetStringLength", NULL, "V"},
     {"advised_commit", advised_commit, "committed and kept ReleaseIntArrayElements", NULL, "V"},
     {"advised_commit_at_end", advised_commit_at_end, "committed and kept ReleaseIntArrayElements", NULL, "V"},
     {"advised_release", advised_release, "", NULL, "V"},

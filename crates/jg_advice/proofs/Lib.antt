@@ -2,7 +2,9 @@ mod Counsels
 mod Lefts
 mod Replaced
 mod Reports
+mod Sizes
 mod Standings
 mod Steps
 mod Tellings
+mod Within
 mod Worked

@@ -4,6 +4,7 @@ use Rattle.std.specs.Prelude.{◌&&◌, if◌then◌else◌, option_to_list, sli
 use Rattle.std.specs.Map.{lookup}
 use Rattle.std.proofs.lemmas.List.{append_assoc}
 use Rattle.jg_words.specs.declared.thread.Tid.{Tid}
+use Rattle.jg_policy.specs.Stated.{StatedSetup}
 use Rattle.jg_lists.specs.ByThread.{at}
 use Rattle.jg_lists.specs.ByMaker.{Name, same_name, named, IsThereOnce}
 use Rattle.jg_functions.specs.Columns.{Columns}
@@ -22,15 +23,17 @@ use Rattle.jg_advice.specs.Moments.{Called, Moment, Told, depth}
 use Rattle.jg_advice.specs.Monitors.{entered, entered_by}
 use Rattle.jg_advice.specs.Regions.{bordered, calls_in, collections_in, is_gone, region, region_by}
 use Rattle.jg_advice.specs.Standing.{AdviserState, Stands, kept}
+use Rattle.jg_advice.specs.Throwing.{may_throw}
 
 abbrev pub found : List (ℕ × List (ℕ × Source)) → Name → Option Source
 found table q = lookup (same_name q) (named table)
 
 -- ---- a call
 
-module _ (old : AdviserState) (h : List Moment) (p : Parts) (n : ℕ) (t : Tid) (f : ℕ) (row : Columns) (xs : List Argument) (name : List ℕ) (is : slice_get functions f ≡ Some row) (stands : Stands old h) where
+module _ (old : AdviserState) (h : List Moment) (p : Parts) (n : ℕ) (s : StatedSetup) (t : Tid) (f : ℕ) (row : Columns) (xs : List Argument) (name : List ℕ) (is : slice_get functions f ≡ Some row)
+    (stands : Stands old h) where
   pub call_stands : (new : AdviserState)
-      → ((q : Name) → kept new.doings q ≡ (if same_name (t.0, depth p t.0) q then doing_after (Some row) (source n t f) (kept old.doings q) else kept old.doings q))
+      → ((q : Name) → kept new.doings q ≡ (if same_name (t.0, depth p t.0) q then doing_after (Some row) (may_throw s p t.0 (Some row) xs) (source n t f) (kept old.doings q) else kept old.doings q))
       → ((q : Name) → found new.written q ≡ (if commits q (released_by (Some row) xs) then None
       else (if is_named q (written_by (Some row) xs) && is_copy p (written_by (Some row) xs) then Some (source n t f) else found old.written q)))
       → ((q : Name) → found new.committed q ≡ (if commits q (released_by (Some row) xs) then Some (source n t f) else found old.committed q))
@@ -38,11 +41,11 @@ module _ (old : AdviserState) (h : List Moment) (p : Parts) (n : ℕ) (t : Tid) 
       → new.entered ≡ old.entered → new.regions ≡ old.regions
       → new.calls ≡ (if is_jni row then old.calls + 1 else old.calls)
       → new.collections ≡ (if collects row then old.collections + 1 else old.collections)
-      → Stands new (record { line = n; what = Called t f xs name; parts = p } ∷ h)
+      → Stands new (record { line = n; what = Called s t f xs name; parts = p } ∷ h)
   call_stands new doings writes commitments once entries regions calls collections = record {
     doings = λ q. doings q
-        ∙ ap (λ o. if same_name (t.0, depth p t.0) q then doing_after o (source n t f) (kept old.doings q) else kept old.doings q) (sym is)
-        ∙ ap (λ d. if same_name (t.0, depth p t.0) q then doing_after (slice_get functions f) (source n t f) d else d) (stands.doings q);
+        ∙ ap (λ o. if same_name (t.0, depth p t.0) q then doing_after o (may_throw s p t.0 o xs) (source n t f) (kept old.doings q) else kept old.doings q) (sym is)
+        ∙ ap (λ d. if same_name (t.0, depth p t.0) q then doing_after (slice_get functions f) (may_throw s p t.0 (slice_get functions f) xs) (source n t f) d else d) (stands.doings q);
     written = λ q. writes q
         ∙ ap (λ o. if commits q (released_by o xs) then None else (if is_named q (written_by o xs) && is_copy p (written_by o xs) then Some (source n t f) else found old.written q)) (sym is)
         ∙ ap (λ s. if commits q (released_by (slice_get functions f) xs) then None

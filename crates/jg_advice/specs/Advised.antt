@@ -146,7 +146,7 @@ IsOnFact most m h fact advices = (buffers monitors : List (ℕ × Source))
 
 -- this is told at the moment, of regions that are longer than so many calls
 abbrev pub is_advised_of : ℕ → Moment → List Moment → What → List Advice → Type 0
-is_advised_of most m h (Called t f xs name) advices = advices ≡ on_call m.line t f xs name m.parts h
+is_advised_of most m h (Called s t f xs name) advices = advices ≡ on_call m.line t f xs name m.parts h
 is_advised_of most m h (Told fact) advices = IsOnFact most m h fact advices
 is_advised_of most m h (Went objects) advices = advices ≡ []
 

@@ -63,7 +63,7 @@ is_settled q (End t) = t.0 == q.0
 is_settled q fact = false
 
 abbrev pub written_with : Name → Moment → List Moment → What → Option Source → Option Source
-written_with q m h (Called t f xs name) before =
+written_with q m h (Called s t f xs name) before =
     if commits q (released_by (slice_get functions f) xs) then None
     else (if is_named q (written_by (slice_get functions f) xs)
     && is_copy m.parts (written_by (slice_get functions f) xs) then Some (source m.line t f) else before)
@@ -76,7 +76,7 @@ written q [] = None
 written q (m ∷ h) = written_with q m h m.what (written q h)
 
 abbrev pub committed_with : Name → Moment → What → Option Source → Option Source
-committed_with q m (Called t f xs name) before =
+committed_with q m (Called s t f xs name) before =
     if commits q (released_by (slice_get functions f) xs) then Some (source m.line t f) else before
 committed_with q m (Told fact) before = if is_settled q fact then None else before
 committed_with q m (Went objects) before = before

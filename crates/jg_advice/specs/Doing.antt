@@ -10,7 +10,8 @@ use Rattle.jg_core.specs.declared.fact.Fact.TheVariants.{Begin, End, Enter, Leav
 use Rattle.jg_advice.specs.declared.advice.Source.{Source}
 use Rattle.jg_advice.specs.declared.doing.Doing.{Doing}
 use Rattle.jg_advice.specs.Moments.{What, Called, Told, Went, Moment, depth}
-use Rattle.jg_advice.specs.Functions.{asks, is_jni, throws_untold}
+use Rattle.jg_advice.specs.Functions.{asks, is_jni, wants_none}
+use Rattle.jg_advice.specs.Throwing.{may_throw}
 
 -- nothing yet
 abbrev pub idle : Doing
@@ -20,15 +21,17 @@ idle = record { latest = None; owed = None }
 abbrev pub source : ℕ → Tid → ℕ → Source
 source line t f = record { line = line; tid = t; function = Some f }
 
--- 1: the call that may have thrown, and that nobody asked about since
-abbrev pub owed_after : Columns → Source → Option Source → Option Source
-owed_after row call owed = if asks row then None else (if throws_untold row then Some call else owed)
+-- 1: the call that may have thrown, and that nobody asked about since. A call that may not be made with an exception
+-- pending is told so (`unchecked`, Advised), and what was told is owed no more
+abbrev pub owed_after : Columns → Bool → Source → Option Source → Option Source
+owed_after row throws call owed =
+    if asks row then None else (if throws then Some call else (if wants_none row then None else owed))
 
--- the function of this row was called; the guard's own are no calls of an activation
-abbrev pub doing_after : Option Columns → Source → Doing → Doing
-doing_after None call before = before
-doing_after (Some row) call before =
-    if is_jni row then record { latest = Some call; owed = owed_after row call before.owed } else before
+-- the function of this row was called, and may have thrown or can't have; the guard's own are no calls of an activation
+abbrev pub doing_after : Option Columns → Bool → Source → Doing → Doing
+doing_after None throws call before = before
+doing_after (Some row) throws call before =
+    if is_jni row then record { latest = Some call; owed = owed_after row throws call before.owed } else before
 
 -- the fact begins or ends the activation of that thread and depth, or the thread's session, where the events with it
 -- are p
@@ -40,8 +43,10 @@ restarts q p (Leave t kept) = same_name (t.0, depth p t.0 + 1) q
 restarts q p fact = false
 
 abbrev pub doing_with : Name → Moment → List Moment → What → Doing → Doing
-doing_with q m h (Called t f xs name) before =
-    if same_name (t.0, depth m.parts t.0) q then doing_after (slice_get functions f) (source m.line t f) before
+doing_with q m h (Called s t f xs name) before =
+    if same_name (t.0, depth m.parts t.0) q
+    then doing_after (slice_get functions f) (may_throw s m.parts t.0 (slice_get functions f) xs) (source m.line t f)
+    before
     else before
 doing_with q m h (Told fact) before = if restarts q m.parts fact then idle else before
 doing_with q m h (Went objects) before = before

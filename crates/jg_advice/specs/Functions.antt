@@ -52,7 +52,7 @@ abbrev pub is_untold : Throws → Bool
 is_untold Untold = true
 is_untold throws = false
 
--- it may throw, and its answer doesn't tell
+-- some call of it may throw, and its answer doesn't tell
 abbrev pub throws_untold : Columns → Bool
 throws_untold row = is_jni row && is_untold row.throws
 

@@ -1,5 +1,6 @@
 pub mod Moments
 pub mod Functions
+pub mod Throwing
 pub mod Doing
 pub mod Buffers
 pub mod Regions
@@ -9,3 +10,4 @@ pub mod Standing
 pub mod Texts
 pub mod Noted
 pub mod Told
+pub mod Laws

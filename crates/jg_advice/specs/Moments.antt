@@ -3,15 +3,16 @@ use Rattle.std.specs.Prelude.{ℕ, List, [], ◌∷◌}
 use Rattle.jg_words.specs.declared.object.ObjId.{ObjId}
 use Rattle.jg_words.specs.declared.thread.Tid.{Tid}
 use Rattle.jg_locals.specs.History as locals
+use Rattle.jg_policy.specs.Stated.{StatedSetup}
 use Rattle.jg_questions.specs.declared.argument.Argument.{Argument}
 use Rattle.jg_rules.specs.Parts.{Parts}
 use Rattle.jg_core.specs.declared.fact.Fact.{Fact}
 use Rattle.jg_core.specs.Facts.{all_gone}
 
--- a thread called the function at this place of the table, by a question that broke no rule, with these operands and
--- this text where it hands in a name; a fact was told; or the collector let these objects go
+-- a thread called the function at this place of the table, by a question that broke no rule of this setup, with these
+-- operands and this text where it hands in a name; a fact was told; or the collector let these objects go
 pub data What : Type 0 where
-  Called : (t : Tid) → (function : ℕ) → (operands : List Argument) → (name : List ℕ) → What
+  Called : (s : StatedSetup) → (t : Tid) → (function : ℕ) → (operands : List Argument) → (name : List ℕ) → What
   Told : Fact → What
   Went : List ObjId → What
 
@@ -22,7 +23,7 @@ pub record Moment : Type 0 where
   pub parts : Parts
 
 abbrev pub with_facts_of : What → List Fact → List Fact
-with_facts_of (Called t f xs name) facts = facts
+with_facts_of (Called s t f xs name) facts = facts
 with_facts_of (Told fact) facts = fact ∷ facts
 with_facts_of (Went objects) facts = all_gone objects facts
 

@@ -14,7 +14,7 @@ use Rattle.jg_advice.specs.Doing.{cause}
 
 -- a call of a function of the JNI
 abbrev pub is_call : What → Bool
-is_call (Called t f xs name) = is is_jni f
+is_call (Called s t f xs name) = is is_jni f
 is_call what = false
 
 abbrev pub is_gone : Fact → Bool
@@ -23,7 +23,7 @@ is_gone fact = false
 
 -- the collector ran, or let objects go
 abbrev pub is_collection : What → Bool
-is_collection (Called t f xs name) = is collects f
+is_collection (Called s t f xs name) = is collects f
 is_collection (Told fact) = is_gone fact
 is_collection (Went objects) = true
 

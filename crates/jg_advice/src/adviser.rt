@@ -6,6 +6,7 @@ ghost use Rattle.jg_words.specs.declared.reference.Ref.{Ref as RefOf};
 ghost use Rattle.jg_buffers.specs.declared.family.Family.{Family as FamilyOf};
 ghost use Rattle.jg_core.specs.declared.fact.Fact.TheVariants.{Back, Begin, End, Enter, Free, Gone, Leave, Lend, Own};
 ghost use Rattle.jg_rules.specs.Parts.{Parts};
+ghost use Rattle.jg_rules.specs.View.{ViewTells};
 ghost use Rattle.jg_advice.specs.declared.advice.Advice.{Advice as AdviceOf};
 ghost use Rattle.jg_advice.specs.Advised as advised;
 ghost use Rattle.jg_advice.specs.Moments.{Called, Moment, Told, Went};
@@ -18,6 +19,7 @@ use crate::doing::{Doings, cause, note_call};
 use crate::facts::{grown_by, grown_of, long, push_at_end, push_left};
 use crate::functions::{collects, is_jni, released_by, written_by};
 use crate::monitors::{note_entry, note_exit};
+use crate::parts::{Lengths, may_throw};
 use crate::regions::{Counts, Regions, note_region};
 use crate::tables::clear;
 use jg_core::Fact;
@@ -103,7 +105,7 @@ impl Adviser {
     /// `name` is the text of the name that it hands in, for FindClass, and may be empty for others. `view` is of the
     /// tables as they were judged by. Adds what is advised. Fails for want of memory, and of a function that isn't in
     /// the table.
-    pub fn called<A: Allocator + Clone, S: Store>(
+    pub fn called<A: Allocator + Clone, S: Lengths>(
         &mut self,
         view: &View<'_, A, S>,
         line: u64,
@@ -113,12 +115,14 @@ impl Adviser {
         name: &[u8],
         out: &mut Vec<Advice>,
     ) -> Result<(), AllocError>
-        ensures advised { OnOk result ((h : List Moment) (p : Parts) → Stands self.old h → Sees view.now p
+        ensures advised { OnOk result ((h : List Moment) (p : Parts) → Stands self.old h
+            → ViewTells S.Store.Tells view.now p
             → out.new.items ≡ out.old.items ++ advised.on_call line tid function arguments.now name.now p h) }
-        ensures stands { OnOk result ((h : List Moment) (p : Parts) → Stands self.old h → Sees view.now p
+        ensures stands { OnOk result ((h : List Moment) (p : Parts) → Stands self.old h
+            → ViewTells S.Store.Tells view.now p
             → Stands self.new (record {
               line = line;
-              what = Called tid function arguments.now name.now;
+              what = Called view.now.setup.now tid function arguments.now name.now;
               parts = p;
             } ∷ h)) }
         ensures most { self.new.most ≡ self.old.most }
@@ -137,7 +141,8 @@ impl Adviser {
             function: Some(function),
         };
         let now = (tid.0, view.locals.depth(tid));
-        let before = note_call(&mut self.doings, self.alloc, now, row, call)?;
+        let throws = may_throw(view, tid, row, arguments);
+        let before = note_call(&mut self.doings, self.alloc, now, row, throws, call)?;
         let (buffer, release) = (written_by(row, arguments), released_by(row, arguments));
         push_if(out, unchecked(before, calling, row))?;
         push_if(out, lost(&self.written, calling, release))?;

@@ -2,6 +2,7 @@
 
 ghost use Rattle.std.specs.Prelude.{◌≡◌, ◌++◌, ◌∷◌, [], IfOk, IfSome, List, OnOk, reverse, string_bytes, true};
 ghost use Rattle.jg_rules.specs.Parts.{Parts};
+ghost use Rattle.jg_rules.specs.View.{ViewTells};
 ghost use Rattle.jg_advice.specs.declared.advice.Advice.{Advice as AdviceOf};
 ghost use Rattle.jg_advice.specs.Advised.{AreLeft};
 ghost use Rattle.jg_advice.specs.Moments.{Called, Moment, Told, Went};
@@ -11,6 +12,7 @@ ghost use Rattle.jg_advice.specs.Told.{AreAdvised, Counsels, Tells};
 
 use crate::advice::Advice;
 use crate::adviser::Adviser;
+use crate::parts::Lengths;
 use crate::report::Advices;
 use jg_core::Fact;
 use jg_questions::Argument;
@@ -83,7 +85,7 @@ impl Counsel {
     /// A question passed on this line: the thread calls the function at that place of the table, with these operands.
     /// `name` is the text of the name that it hands in, for FindClass, and may be empty for others. `view` is of the
     /// tables as they were judged by.
-    pub fn called<A: Allocator + Clone, S: Store>(
+    pub fn called<A: Allocator + Clone, S: Lengths>(
         &mut self,
         view: &View<'_, A, S>,
         line: u64,
@@ -92,10 +94,10 @@ impl Counsel {
         arguments: &[Argument],
         name: &[u8],
     )
-        ensures counsels { (h : List Moment) (p : Parts) → Counsels self.old h → Sees view.now p
+        ensures counsels { (h : List Moment) (p : Parts) → Counsels self.old h → ViewTells S.Store.Tells view.now p
             → Counsels self.new (record {
               line = line;
-              what = Called tid function arguments.now name.now;
+              what = Called view.now.setup.now tid function arguments.now name.now;
               parts = p;
             } ∷ h) }
         ensures most { self.new.adviser.most ≡ self.old.adviser.most }

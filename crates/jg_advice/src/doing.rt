@@ -11,7 +11,7 @@ ghost use Rattle.jg_advice.specs.Doing.{cause_by, doing_after, owed_after};
 ghost use Rattle.jg_advice.specs.Standing.{kept, Sees};
 
 use crate::advice::Source;
-use crate::functions::{asks, is_jni, throws_untold};
+use crate::functions::{asks, is_jni, wants_none};
 use jg_functions::Row;
 use jg_lists::ByNumber;
 use jg_lists::by_maker::{ByMaker, add, find};
@@ -19,8 +19,8 @@ use jg_rules::{Store, View};
 use jg_words::Tid;
 use std::alloc::{AllocError, Allocator, Global};
 
-/// What a thread did in an activation: its latest call of the JNI there, and the one of which nobody asked since whether
-/// it threw.
+/// What a thread did in an activation: its latest call of the JNI there, and the one that may have thrown, of which
+/// nobody asked since whether it did, and nobody was told.
 #[derive(Clone, Copy)]
 pub struct Doing {
     pub latest: Option<Source>,
@@ -66,27 +66,29 @@ pub fn cause<A: Allocator + Clone, S: Store>(
     }
 }
 
-fn owed_after(row: &Row, call: Source, owed: Option<Source>) -> Option<Source>
-    ensures { result ≡ owed_after (columns row.now) call owed }
+fn owed_after(row: &Row, throws: bool, call: Source, owed: Option<Source>) -> Option<Source>
+    ensures { result ≡ owed_after (columns row.now) throws call owed }
 {
     if asks(row) {
         None
-    } else if throws_untold(row) {
+    } else if throws {
         Some(call)
+    } else if wants_none(row) {
+        None
     } else {
         owed
     }
 }
 
-fn doing_after(row: &Row, call: Source, before: Doing) -> Doing
-    ensures { result ≡ doing_after (Some (columns row.now)) call before }
+fn doing_after(row: &Row, throws: bool, call: Source, before: Doing) -> Doing
+    ensures { result ≡ doing_after (Some (columns row.now)) throws call before }
 {
     if !is_jni(row) {
         return before;
     }
     Doing {
         latest: Some(call),
-        owed: owed_after(row, call, before.owed),
+        owed: owed_after(row, throws, call, before.owed),
     }
 }
 
@@ -95,51 +97,66 @@ fn note_in(
     numbers: &mut ByNumber<Doing, Global>,
     depth: u64,
     row: &Row,
+    throws: bool,
     call: Source,
 ) -> Option<Doing>
     ensures before { result ≡ at depth numbers.old }
     ensures noted { (q : ℕ) → at q numbers.new ≡ (if depth == q
-        then option_map (doing_after (Some (columns row.now)) call) (at depth numbers.old) else at q numbers.old) }
+        then option_map (doing_after (Some (columns row.now)) throws call) (at depth numbers.old)
+        else at q numbers.old) }
 {
     match numbers.get_mut(depth) {
         None => None,
         Some(doing) => {
             let before = *doing;
-            *doing = doing_after(row, call, before);
+            *doing = doing_after(row, throws, call, before);
             Some(before)
         }
     }
 }
 
 /// The same, of the activation of that thread and depth.
-fn note_known(doings: &mut Doings, name: (u16, u64), row: &Row, call: Source) -> Option<Doing>
+fn note_known(
+    doings: &mut Doings,
+    name: (u16, u64),
+    row: &Row,
+    throws: bool,
+    call: Source,
+) -> Option<Doing>
     ensures before { result ≡ lookup (same_name name) (named doings.old) }
     ensures noted { (q : Name) → lookup (same_name q) (named doings.new) ≡ (if same_name name q
-        then option_map (doing_after (Some (columns row.now)) call) (lookup (same_name name) (named doings.old))
+        then option_map (doing_after (Some (columns row.now)) throws call) (lookup (same_name name) (named doings.old))
         else lookup (same_name q) (named doings.old)) }
 {
     match doings.get_mut(name.0) {
         None => None,
-        Some(numbers) => note_in(numbers, name.1, row, call),
+        Some(numbers) => note_in(numbers, name.1, row, throws, call),
     }
 }
 
-/// The thread makes the call, in the activation of that depth. Answers what it did there before.
+/// The thread makes the call, in the activation of that depth; it may throw or can't. Answers what the thread did there
+/// before.
 pub fn note_call(
     doings: &mut Doings,
     alloc: Global,
     name: (u16, u64),
     row: &Row,
+    throws: bool,
     call: Source,
 ) -> Result<Doing, AllocError>
     ensures before { IfOk result (λ before. before ≡ kept doings.old name) }
     ensures noted { OnOk result ((q : Name) → kept doings.new q ≡ (if same_name name q
-        then doing_after (Some (columns row.now)) call (kept doings.old q) else kept doings.old q)) }
+        then doing_after (Some (columns row.now)) throws call (kept doings.old q) else kept doings.old q)) }
 {
-    match note_known(doings, name, row, call) {
+    match note_known(doings, name, row, throws, call) {
         Some(before) => Ok(before),
         None => {
-            add(doings, &alloc, name, doing_after(row, call, Doing::IDLE))?;
+            add(
+                doings,
+                &alloc,
+                name,
+                doing_after(row, throws, call, Doing::IDLE),
+            )?;
             Ok(Doing::IDLE)
         }
     }

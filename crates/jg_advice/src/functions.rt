@@ -77,7 +77,7 @@ pub(crate) fn wants_none(row: &Row) -> bool
     is_jni(row) && !may_be_pending(row.passes)
 }
 
-/// Whether it may throw, and its answer doesn't tell.
+/// Whether some call of it may throw, and its answer doesn't tell.
 pub(crate) fn throws_untold(row: &Row) -> bool
     ensures { result ≡ spec.throws_untold (columns row.now) }
 {

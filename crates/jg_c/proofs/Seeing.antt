@@ -13,9 +13,15 @@ use Rattle.jg_c.specs.Advising.{Shows}
 told_seen : {A S I : Type 0} (Tells : S → ℕ → List Event → Type 0) (view : View A S I) (p : Parts) → ViewTells Tells view p → Sees view p
 told_seen Tells view p tells = record { locals = tells.locals; buffers = tells.buffers; monitors = tells.monitors }
 
--- of the events that the core's tables stand for it shows what an adviser looks at
+-- it tells of the events that the core's tables stand for
+pub tells_shown : {A S I : Type 0} (Tells : S → ℕ → List Event → Type 0) (view : View A S I) (core : CoreState)
+    → ((facts : List Fact) → CoreStands core facts → ViewTells Tells view (parts_of facts))
+    → (p : Parts) → Shows core p → ViewTells Tells view p
+tells_shown Tells view core tells p (facts, stands, is) =
+    subst (λ (q : Parts). ViewTells Tells view q) (sym is) (tells facts stands)
+
+-- and shows of them what an adviser looks at
 pub sees : {A S I : Type 0} (Tells : S → ℕ → List Event → Type 0) (view : View A S I) (core : CoreState)
     → ((facts : List Fact) → CoreStands core facts → ViewTells Tells view (parts_of facts))
     → (p : Parts) → Shows core p → Sees view p
-sees Tells view core tells p (facts, stands, is) =
-    subst (λ (q : Parts). Sees view q) (sym is) (told_seen Tells view (parts_of facts) (tells facts stands))
+sees Tells view core tells p shown = told_seen Tells view p (tells_shown Tells view core tells p shown)

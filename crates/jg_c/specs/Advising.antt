@@ -1,6 +1,7 @@
 -- What an adviser is told by numbers, and what it answers.
 use Rattle.std.specs.Prelude.{ℕ, ℤ, pos, ◌≡◌, ◌++◌, Bool, true, false, List, [], ◌∷◌, Option, Some, None, Result, Ok, Err, slice_get}
 use Rattle.jg_words.specs.declared.object.ObjId.{ObjId}
+use Rattle.jg_policy.specs.Stated.{StatedSetup}
 use Rattle.jg_functions.specs.Columns.{Columns}
 use Rattle.jg_functions.specs.Table.{functions}
 use Rattle.jg_questions.specs.declared.argument.Argument.{Argument}
@@ -44,9 +45,9 @@ pub record Advises (old new : NotedHeld) (place : ℕ) (what : What) (AreShown :
       → (advices : List Advice) × IsAdvised old.adviser.most (moment place what p) h advices
       × (new.waiting ≡ old.waiting ++ advices)
 
--- the thread calls the function, with these operands and this name
-abbrev pub call_of : Head → List Argument → List ℕ → What
-call_of head xs name = Called head.tid head.function xs name
+-- under the setup the thread calls the function, with these operands and this name
+abbrev pub call_of : StatedSetup → Head → List Argument → List ℕ → What
+call_of s head xs name = Called s head.tid head.function xs name
 
 abbrev pub NotesRow : NotedHeld → NotedHeld → CoreState → ℕ → What → Option Columns → ℤ → Type 0
 NotesRow old new core place call None n = (n ≡ errors.no_function) × (new ≡ old)
@@ -56,7 +57,7 @@ NotesRow old new core place call (Some row) n = (n ≡ errors.done) × Advises o
 abbrev pub NotesCall : NotedHeld → NotedHeld → CoreState → ℕ → Result (Head × List Argument) ℤ → List ℕ → ℤ → Type 0
 NotesCall old new core place (Err why) name n = (n ≡ why) × (new ≡ old)
 NotesCall old new core place (Ok q) name n =
-    NotesRow old new core place (call_of q.0 q.1 name) (slice_get functions q.0.function) n
+    NotesRow old new core place (call_of core.setup q.0 q.1 name) (slice_get functions q.0.function) n
 
 -- the fact is noted; numbers that state none are refused
 abbrev pub NotesFact : NotedHeld → NotedHeld → CoreState → ℕ → Option Fact → ℤ → Type 0

@@ -73,8 +73,8 @@ fn note_passed(
     arguments: &[Argument],
     name: &[u8],
 ) -> Result<(), AllocError>
-    ensures { OnOk result (specs.Advises noted.old noted.new place (specs.call_of head arguments.now name.now)
-        (specs.Shows core.now)) }
+    ensures { OnOk result (specs.Advises noted.old noted.new place
+        (specs.call_of core.now.setup head arguments.now name.now) (specs.Shows core.now)) }
 {
     let view = core.view();
     noted.room.clear();
@@ -100,7 +100,7 @@ fn note_call(
     name: &[u8],
 ) -> i32
     ensures notes { result ≢ errors.no_memory → specs.NotesRow noted.old noted.new core.now place
-        (specs.call_of head arguments.now name.now) (slice_get functions head.function) result }
+        (specs.call_of core.now.setup head arguments.now name.now) (slice_get functions head.function) result }
     ensures numbers { result ≢ errors.closed }
 {
     if !is_function(head.function) {

@@ -1,4 +1,5 @@
--- Advice looks at no operand of a call that isn't about a buffer: what is noted of the call is the same without them.
+-- Advice looks at no operand of a call that is about no string, array or buffer: what is noted of the call is the same
+-- without them.
 use Rattle.std.proofs.Common.{◌≡◌, ◌∙◌, ℕ, Bool, true, false, List, [], ◌∷◌, Option, Some, None, refl, ap, sym}
 use Rattle.std.specs.Prelude.{◌++◌, ◌&&◌, ◌||◌, if◌then◌else◌, nat_eq, not, option_to_list, slice_get}
 use Rattle.std.specs.Cmp.Lexicographic.{pointwise}
@@ -12,6 +13,7 @@ use Rattle.jg_words.specs.Fun.{all, name_of}
 use Rattle.jg_words.proofs.ByName.{each_passes}
 use Rattle.jg_words.proofs.Names.{named-name_of}
 use Rattle.jg_policy.specs.Stated.{StatedSetup}
+use Rattle.jg_lists.specs.ByMaker.{same_name}
 use Rattle.jg_functions.specs.Columns.{Columns}
 use Rattle.jg_functions.specs.Table.{functions}
 use Rattle.jg_rules.specs.Parts.{Parts}
@@ -21,31 +23,35 @@ use Rattle.jg_questions.specs.Written.{arguments_of, row_for}
 use Rattle.jg_questions.proofs.Rows.{effect_of, row_is, takes_of}
 use Rattle.jg_advice.specs.Advised.{lost, misnamed, unchecked}
 use Rattle.jg_advice.specs.Buffers.{commits, is_copy, is_named, released_by, written, written_by, committed}
-use Rattle.jg_advice.specs.Doing.{doing_now, source}
-use Rattle.jg_advice.specs.Functions.{begins_writable, gives_back, is_back, writes}
-use Rattle.jg_advice.specs.Moments.{Called, Moment}
+use Rattle.jg_advice.specs.Doing.{doing, doing_after, doing_now, source}
+use Rattle.jg_advice.specs.Functions.{begins_writable, gives_back, is_back, throws_untold, writes}
+use Rattle.jg_advice.specs.Moments.{Called, Moment, depth}
 use Rattle.jg_advice.specs.Noted.{Noting}
 use Rattle.jg_advice.specs.Standing.{AdviserState, Stands}
+use Rattle.jg_advice.specs.Throwing.{is_within, may_throw, part_of}
 use Rattle.jg_advice.specs.Told.{CounselState, Counsels, Notes}
 use Rattle.jg_counsel.specs.Operands.{operands_seen}
 
--- ---- no other function's row says that it writes to a buffer, or gives one back
+-- ---- no other function's row says that it writes to a buffer, gives one back, or throws where its answer doesn't tell
 
-abbrev is_about_buffers : Fun → Bool
-is_about_buffers (fun.Buffers f) = true
-is_about_buffers f = false
+abbrev is_seen : Fun → Bool
+is_seen (fun.Strings f) = true
+is_seen (fun.Arrays f) = true
+is_seen (fun.Buffers f) = true
+is_seen f = false
 
 abbrev passes : Fun → Bool
-passes f = is_about_buffers f || (not (begins_writable (takes_of f)) && not (is_back (effect_of f)))
+passes f = is_seen f || (not (begins_writable (takes_of f)) && (not (is_back (effect_of f)) && not (throws_untold (row_for f))))
 
 each : (f : Fun) → passes f ≡ true
 each f = each_passes (λ g. pointwise nat_eq (name_of g) (name_of f)) passes all f (named-name_of f) refl
 
-apart : (b w g : Bool) → (b || (not w && not g)) ≡ true → b ≡ false → (w ≡ false) × (g ≡ false)
-apart false false false e plain = (refl, refl)
-apart false false true e plain = absurd (cc)
-apart false true g e plain = absurd (cc)
-apart true w g e plain = absurd (cc)
+apart : (b w g u : Bool) → (b || (not w && (not g && not u))) ≡ true → b ≡ false → (w ≡ false) × (g ≡ false) × (u ≡ false)
+apart false false false false e plain = (refl, refl, refl)
+apart false false false true e plain = absurd (cc)
+apart false false true u e plain = absurd (cc)
+apart false true g u e plain = absurd (cc)
+apart true w g u e plain = absurd (cc)
 
 none_written : (row : Columns) (xs : List Argument) → writes row ≡ false → written_by (Some row) xs ≡ None
 none_written row [] e = refl
@@ -60,25 +66,35 @@ none_released row (x ∷ Buffer b ∷ Number mode ∷ xs) e = ap (λ g. if g the
 none_released row (x ∷ Buffer b ∷ y ∷ xs) e = refl
 none_released row (x ∷ y ∷ xs) e = refl
 
-none_seen : (f : Fun) (row : Columns) (found : Option Columns) (xs : List Argument) → is_about_buffers f ≡ false → row.takes ≡ takes_of f → row.effect ≡ effect_of f → found ≡ Some row
-    → (written_by found xs ≡ None) × (released_by found xs ≡ None)
-none_seen f row found xs plain takes effect is =
-    let both = apart (is_about_buffers f) (begins_writable (takes_of f)) (is_back (effect_of f)) (each f) plain in (
-      ap (λ x. written_by x xs) is ∙ none_written row xs (ap begins_writable takes ∙ both.0),
-      ap (λ x. released_by x xs) is ∙ none_released row xs (ap is_back effect ∙ both.1),
-    )
+-- with its row in the table
+record NoneSeen (s : StatedSetup) (p : Parts) (t : ℕ) (found : Option Columns) (xs : List Argument) : Type 0 where
+  written : written_by found xs ≡ None
+  released : released_by found xs ≡ None
+  thrown : may_throw s p t found xs ≡ false
+
+none_seen : (s : StatedSetup) (p : Parts) (t : ℕ) (f : Fun) (found : Option Columns) (xs : List Argument) → is_seen f ≡ false
+    → (row_for f).takes ≡ takes_of f → (row_for f).effect ≡ effect_of f → found ≡ Some (row_for f) → NoneSeen s p t found xs
+none_seen s p t f found xs plain takes effect is =
+    let none = apart (is_seen f) (begins_writable (takes_of f)) (is_back (effect_of f)) (throws_untold (row_for f)) (each f) plain in
+    record {
+      written = ap (λ x. written_by x xs) is ∙ none_written (row_for f) xs (ap begins_writable takes ∙ none.0);
+      released = ap (λ x. released_by x xs) is ∙ none_released (row_for f) xs (ap is_back effect ∙ none.1);
+      thrown = ap (λ x. may_throw s p t x xs) is ∙ ap (λ b. b && not (is_within s p t (part_of xs))) none.2;
+    }
 
 -- ---- what is noted of a call, by what advice reads of its operands
 
-module _ (n : ℕ) (t : Tid) (f : ℕ) (xs ys : List Argument) (name : List ℕ) (p : Parts) (h : List Moment)
+module _ (n : ℕ) (s : StatedSetup) (t : Tid) (f : ℕ) (xs ys : List Argument) (name : List ℕ) (p : Parts) (h : List Moment)
     (writes_same : written_by (slice_get functions f) xs ≡ written_by (slice_get functions f) ys)
-    (releases_same : released_by (slice_get functions f) xs ≡ released_by (slice_get functions f) ys) where
+    (releases_same : released_by (slice_get functions f) xs ≡ released_by (slice_get functions f) ys)
+    (throws_same : may_throw s p t.0 (slice_get functions f) xs ≡ may_throw s p t.0 (slice_get functions f) ys) where
   abbrev call_with : List Argument → Moment
-  call_with operands = record { line = n; what = Called t f operands name; parts = p }
+  call_with operands = record { line = n; what = Called s t f operands name; parts = p }
 
   stands_alike : (x : AdviserState) → Stands x (call_with xs ∷ h) → Stands x (call_with ys ∷ h)
   stands_alike x stands = record {
-    doings = stands.doings;
+    doings = λ q. stands.doings q
+        ∙ ap (λ b. if same_name (t.0, depth p t.0) q then doing_after (slice_get functions f) b (source n t f) (doing q h) else doing q h) throws_same;
     written = λ q. stands.written q
         ∙ (ap (λ r. if commits q r then None else (if is_named q (written_by (slice_get functions f) xs) && is_copy p (written_by (slice_get functions f) xs) then Some (source n t f) else written q h)) releases_same
         ∙ ap (λ b. if commits q (released_by (slice_get functions f) ys) then None else (if is_named q b && is_copy p b then Some (source n t f) else written q h)) writes_same);
@@ -114,11 +130,14 @@ module _ (n : ℕ) (t : Tid) (f : ℕ) (xs ys : List Argument) (name : List ℕ)
 
 -- who was told a question with the operands that are seen was told it with all of them
 pub with_all : (s : StatedSetup) (p : Parts) (n : ℕ) (t : Tid) (c : Call) (f : ℕ) (name : List ℕ) (h : List Moment) (x : CounselState) → slice_get functions f ≡ Some (row_for (fun_of c))
-    → Counsels x (record { line = n; what = Called t f (operands_seen s p t.0 c) name; parts = p } ∷ h)
-    → Counsels x (record { line = n; what = Called t f (arguments_of s p t.0 c) name; parts = p } ∷ h)
+    → Counsels x (record { line = n; what = Called s t f (operands_seen s p t.0 c) name; parts = p } ∷ h)
+    → Counsels x (record { line = n; what = Called s t f (arguments_of s p t.0 c) name; parts = p } ∷ h)
+with_all s p n t (call.Strings c) f name h x is counsels = counsels
+with_all s p n t (call.Arrays c) f name h x is counsels = counsels
 with_all s p n t (call.Buffers c) f name h x is counsels = counsels
 with_all s p n t c f name h x is counsels =
     let row = row_is (fun_of c) in
-    let none = λ (xs : List Argument). none_seen (fun_of c) (row_for (fun_of c)) (slice_get functions f) xs refl row.takes row.effect is in
+    let none = λ (xs : List Argument). none_seen s p t.0 (fun_of c) (slice_get functions f) xs refl row.takes row.effect is in
     let ys : List Argument = arguments_of s p t.0 c in
-    counsels_alike n t f [] ys name p h ((none []).0 ∙ sym (none ys).0) ((none []).1 ∙ sym (none ys).1) x counsels
+    counsels_alike n s t f [] ys name p h ((none []).written ∙ sym (none ys).written) ((none []).released ∙ sym (none ys).released)
+    ((none []).thrown ∙ sym (none ys).thrown) x counsels

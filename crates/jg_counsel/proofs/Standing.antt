@@ -11,22 +11,18 @@ use Rattle.jg_policy.specs.Stated.{StatedSetup}
 use Rattle.jg_guard.specs.Guard.{next_entry, State}
 use Rattle.jg_script.specs.Entries.{Took}
 use Rattle.jg_functions.specs.Table.{functions}
-use Rattle.jg_heap.specs.Rows.{Rows}
 use Rattle.jg_rules.specs.declared.answer.Answer.{Answer}
-use Rattle.jg_rules.specs.declared.view.View.{View}
 use Rattle.jg_rules.specs.Answers.{answer}
 use Rattle.jg_rules.specs.Effects.{parts}
 use Rattle.jg_rules.specs.Legal.{entry_at, entry_by}
 use Rattle.jg_rules.specs.Parts.{Parts}
 use Rattle.jg_rules.specs.Rules.{verdict}
-use Rattle.jg_rules.specs.View.{ViewStands}
 use Rattle.jg_questions.specs.Written.{arguments_of, row_for}
 use Rattle.jg_core.specs.declared.fact.Fact.{Fact}
 use Rattle.jg_entries.specs.Entries.{outcome_facts}
 use Rattle.jg_facts.specs.declared.foreseen.Foreseen.{Foreseen}
 use Rattle.jg_facts.specs.Foreseen.{Foresees}
 use Rattle.jg_advice.specs.Moments.{Called, Moment}
-use Rattle.jg_advice.specs.Standing.{Sees}
 use Rattle.jg_advice.specs.Told.{CounselState, Counsels}
 use Rattle.jg_counsel.specs.Counselled.{AreMoments, Follows, IsQuestion, name_handed, with_facts}
 
@@ -42,16 +38,12 @@ pub unless_err : {T E P : Type 0} (r : Result T E) → is_err r ≡ false → On
 unless_err (Ok v) free says = says
 unless_err (Err e) free says = absurd (let clash : true ≡ false = free in cc)
 
--- a guard's view is of the tables that advice looks at
-pub seen : {A I : Type 0} (view : View A Rows I) (p : Parts) → ViewStands view p → Sees view p
-seen view p stands = record { locals = stands.locals; buffers = stands.buffers; monitors = stands.monitors }
-
 pub question : (s : StatedSetup) (p : Parts) (n : ℕ) (t : Tid) (call : Call) (place : ℕ) (name : List ℕ) → slice_get functions place ≡ Some (row_for (fun_of call))
-    → name ≡ name_handed call → IsQuestion s p n t call (record { line = n; what = Called t place (arguments_of s p t.0 call) name; parts = p })
+    → name ≡ name_handed call → IsQuestion s p n t call (record { line = n; what = Called s t place (arguments_of s p t.0 call) name; parts = p })
 question s p n t call place name function is = record {
   place = place;
   function = function;
-  is = ap (λ (text : List ℕ). record { line = n; what = Called t place (arguments_of s p t.0 call) text; parts = p }) is;
+  is = ap (λ (text : List ℕ). record { line = n; what = Called s t place (arguments_of s p t.0 call) text; parts = p }) is;
 }
 
 -- ---- one entry more

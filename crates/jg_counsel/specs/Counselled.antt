@@ -34,7 +34,7 @@ pub record IsQuestion (s : StatedSetup) (p : Parts) (n : ℕ) (t : Tid) (call : 
   pub function : slice_get functions place ≡ Some (row_for (fun_of call))
   pub is : m ≡ record {
     line = n;
-    what = Called t place (arguments_of s p t.0 call) (name_handed call);
+    what = Called s t place (arguments_of s p t.0 call) (name_handed call);
     parts = p;
   }
 

@@ -27,7 +27,8 @@ pub(crate) fn name_handed(call: &Call) -> &[u8]
     }
 }
 
-/// Lists the operands of the question that the call is, where it is about a buffer: advice looks at no others.
+/// Lists the operands of the question that the call is, where it is about a string, an array or a buffer: advice looks
+/// at no others.
 pub(crate) fn list_operands<A: Allocator + Clone>(
     view: &View<'_, A>,
     tid: Tid,
@@ -38,7 +39,9 @@ pub(crate) fn list_operands<A: Allocator + Clone>(
         → out.new.items ≡ out.old.items ++ operands_seen view.now.setup.now p tid.0 call.now) }
 {
     match call {
-        Call::Buffers(_) => push_arguments(view, tid, call, out),
+        Call::Strings(_) | Call::Arrays(_) | Call::Buffers(_) => {
+            push_arguments(view, tid, call, out)
+        }
         _ => Ok(()),
     }
 }

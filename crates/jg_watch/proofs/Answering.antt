@@ -91,8 +91,8 @@ replied_line s shown told old new line bytes bytes' n x r result same says stand
     now : Stands new (after x.says x.gone told)
     now = replies.stands told stands
 
-    what : what_of line r.event r.reply x.operands x.gone ≡ what_of line (Some x.says) r.reply x.operands x.gone
-    what = ap (λ e. what_of line e r.reply x.operands x.gone) replies.event
+    what : what_of s line r.event r.reply x.operands x.gone ≡ what_of s line (Some x.says) r.reply x.operands x.gone
+    what = ap (λ e. what_of s line e r.reply x.operands x.gone) replies.event
 
     by : (result : Result Bool Stop) → WritesReply x.answer r.reply (shown_text shown x.event x.note r.reply) bytes bytes' n result
         → AnswersLine s shown told new x.operands x.gone line bytes bytes' n (step_by n r result)
@@ -102,7 +102,7 @@ replied_line s shown told old new line bytes bytes' n x r result same says stand
     by (Err (NoMemory number)) wrote = wrote
     by (Err (Write number)) (agrees, front, is_n) = (
       (
-        answered line r x.operands x.gone (shown_text shown x.event x.note r.reply),
+        answered s line r x.operands x.gone (shown_text shown x.event x.note r.reply),
         after x.says x.gone told,
         refl,
         inr (x, says, record { can = can; is = is }, agrees, operand, what, refl, refl),
@@ -124,7 +124,7 @@ pub comment_line : (s : StatedSetup) (shown : Shown) (told : Told) (new : Watchi
 comment_line s shown told new xs gone line bytes bytes' n (Ok done) comment stands written = (comment_text shown line, told, inl (comment, refl, refl, refl, refl, refl), stands, written)
 comment_line s shown told new xs gone line bytes bytes' n (Err (NoMemory number)) comment stands wrote = wrote
 comment_line s shown told new xs gone line bytes bytes' n (Err (Write number)) comment stands (front, is) =
-    ((answered line (unasked None Nothing) xs gone (comment_text shown line), told, refl, inl (comment, refl, refl, refl, refl, refl), front), is)
+    ((answered s line (unasked None Nothing) xs gone (comment_text shown line), told, refl, inl (comment, refl, refl, refl, refl, refl), front), is)
 comment_line s shown told new xs gone line bytes bytes' n (Err (Faulty number fault)) comment stands wrote = absurd wrote
 comment_line s shown told new xs gone line bytes bytes' n (Err (Limit number)) comment stands wrote = absurd wrote
 comment_line s shown told new xs gone line bytes bytes' n (Err (Read number)) comment stands wrote = absurd wrote

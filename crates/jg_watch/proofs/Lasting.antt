@@ -96,25 +96,25 @@ explains_on lines l old new text (inr had) adds is = by adds.text
 
 -- ---- the facts of what happened
 
-facts_by : (before : Told) (n : ℕ) (line : List ℕ) (xs : List Argument) (gone : List ObjId) (hist : List Moment) → before.facts ≡ facts_of hist → (e : Event) (reply : Reply)
-    → (after e gone before).facts ≡ facts_of (with_moment n (what_of line (Some e) reply xs gone) hist)
-facts_by before n line xs gone hist same (Question t env f) Passed = same
-facts_by before n line xs gone hist same (Question t env f) (Denied rule) = same
-facts_by before n line xs gone hist same (Question t env f) (Environment env') = same
-facts_by before n line xs gone hist same (Question t env f) (Reference r) = same
-facts_by before n line xs gone hist same (Question t env f) (Buffer b) = same
-facts_by before n line xs gone hist same (Question t env f) (Object o) = same
-facts_by before n line xs gone hist same (Question t env f) Nothing = same
-facts_by before n line xs gone hist same (FactTold fact) reply = ap (λ w. fact ∷ w) same
-facts_by before n line xs gone hist same AreGone reply = ap (all_gone gone) same
-facts_by before n line xs gone hist same (Bounds bounds) reply = same
+facts_by : (s : StatedSetup) (before : Told) (n : ℕ) (line : List ℕ) (xs : List Argument) (gone : List ObjId) (hist : List Moment) → before.facts ≡ facts_of hist → (e : Event) (reply : Reply)
+    → (after e gone before).facts ≡ facts_of (with_moment n (what_of s line (Some e) reply xs gone) hist)
+facts_by s before n line xs gone hist same (Question t env f) Passed = same
+facts_by s before n line xs gone hist same (Question t env f) (Denied rule) = same
+facts_by s before n line xs gone hist same (Question t env f) (Environment env') = same
+facts_by s before n line xs gone hist same (Question t env f) (Reference r) = same
+facts_by s before n line xs gone hist same (Question t env f) (Buffer b) = same
+facts_by s before n line xs gone hist same (Question t env f) (Object o) = same
+facts_by s before n line xs gone hist same (Question t env f) Nothing = same
+facts_by s before n line xs gone hist same (FactTold fact) reply = ap (λ w. fact ∷ w) same
+facts_by s before n line xs gone hist same AreGone reply = ap (all_gone gone) same
+facts_by s before n line xs gone hist same (Bounds bounds) reply = same
 
 facts_after : (s : StatedSetup) (shown : Shown) (before told : Told) (l : Answered) (n : ℕ) (hist : List Moment) → before.facts ≡ facts_of hist → IsAnswered s shown before l told
     → told.facts ≡ facts_of (with_moment n l.what hist)
 facts_after s shown before told l n hist same (inl (comment, reply, operand, what, is, out)) =
     ap (λ (t : Told). t.facts) is ∙ same ∙ ap (λ w. facts_of (with_moment n w hist)) (sym what)
 facts_after s shown before told l n hist same (inr (x, says, replied, agrees, operand, what, is, out)) =
-    ap (λ (t : Told). t.facts) is ∙ facts_by before n l.line x.operands x.gone hist same x.says l.reply ∙ ap (λ w. facts_of (with_moment n w hist)) (sym what)
+    ap (λ (t : Told). t.facts) is ∙ facts_by s before n l.line x.operands x.gone hist same x.says l.reply ∙ ap (λ w. facts_of (with_moment n w hist)) (sym what)
 
 facts_told : (s : StatedSetup) (shown : Shown) (lines : List Answered) (told : Told) → AreAnswered s shown lines told → told.facts ≡ facts_of (moments_of lines)
 facts_told s shown [] told is = ap (λ (t : Told). t.facts) is
@@ -128,11 +128,11 @@ pub goes_on : (s read : StatedSetup) (shown : Shown) (input rest rest' bytes bef
     → next.tally ≡ watch.tally → next.denied ≡ watch.denied
     → Adds told_of now_told (if nat_lt next.denied told_of.most then explanation n x.reply x.operand else [])
     → new.tally ≡ counted_at (reply_number x.reply) next.tally → new.denied ≡ denied_after x.reply next.denied → new.core ≡ next.core → new.bounds ≡ next.bounds
-    → ((hist : List Moment) → CounselsIf counsel hist → CoreStands next.core (facts_of (with_moment n (what_of line x.event x.reply xs gone) hist))
-    → CounselsIf advised (with_moment n (what_of line x.event x.reply xs gone) hist))
+    → ((hist : List Moment) → CounselsIf counsel hist → CoreStands next.core (facts_of (with_moment n (what_of read line x.event x.reply xs gone) hist))
+    → CounselsIf advised (with_moment n (what_of read line x.event x.reply xs gone) hist))
     → HasWatched s shown input rest' bytes before' (n + 1) new now_told advised
 goes_on s read shown input rest rest' bytes before before' n watch next new told_of now_told line x xs gone counsel advised h same (taken, (out, told, is, stands, written)) tally denials adds counted denied core bounds advise =
-    let l : Answered = answered line x xs gone out in
+    let l : Answered = answered read line x xs gone out in
     let facts : told.facts ≡ facts_of (with_moment n l.what (moments_of h.lines)) = facts_after read shown h.told told l n (moments_of h.lines) (facts_told s shown h.lines h.told h.answered) is in
     let so_many : next.denied ≡ denials_in h.lines = denials ∙ h.denied in
     record {

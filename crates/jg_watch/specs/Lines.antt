@@ -93,15 +93,15 @@ fourth texts = []
 abbrev pub name_in : List ℕ → List ℕ
 name_in line = fourth (fields line)
 
--- what happened by a line's event that was answered so, as far as advice looks at it
-abbrev pub what_of : List ℕ → Option Event → Reply → List Argument → List ObjId → Option What
-what_of line None reply xs gone = None
-what_of line (Some (Question t env f)) Passed xs gone =
-    Some (Called t f xs (if f == find_class then name_in line else []))
-what_of line (Some (Question t env f)) reply xs gone = None
-what_of line (Some (FactTold fact)) reply xs gone = Some (WasTold fact)
-what_of line (Some AreGone) reply xs gone = Some (Went gone)
-what_of line (Some (Bounds bounds)) reply xs gone = None
+-- what happened by a line's event that was answered so under the setup, as far as advice looks at it
+abbrev pub what_of : StatedSetup → List ℕ → Option Event → Reply → List Argument → List ObjId → Option What
+what_of s line None reply xs gone = None
+what_of s line (Some (Question t env f)) Passed xs gone =
+    Some (Called s t f xs (if f == find_class then name_in line else []))
+what_of s line (Some (Question t env f)) reply xs gone = None
+what_of s line (Some (FactTold fact)) reply xs gone = Some (WasTold fact)
+what_of s line (Some AreGone) reply xs gone = Some (Went gone)
+what_of s line (Some (Bounds bounds)) reply xs gone = None
 
 -- a line, what it was answered, by which operand a question was denied, what happened by it, and what is written of it
 pub record Answered : Type 0 where
@@ -118,7 +118,7 @@ IsAnswered s shown told l told' =
     × (l.out ≡ comment_text shown l.line))
     ⊎ ((x : Said) × Says s l.line x × IsReplied s told x l.reply × Agrees x.answer l.reply
     × (l.operand ≡ operand_denied s told x.says x.operands)
-    × (l.what ≡ what_of l.line (Some x.says) l.reply x.operands x.gone) × (told' ≡ after x.says x.gone told)
+    × (l.what ≡ what_of s l.line (Some x.says) l.reply x.operands x.gone) × (told' ≡ after x.says x.gone told)
     × (l.out ≡ shown_text shown x.event x.note l.reply))
 
 -- these lines, the newest first, were answered one after the other, and told this

@@ -59,13 +59,13 @@ WritesReply told reply text bytes bytes' n (Err (Write number)) = Agrees told re
     × ((k : ℕ) × (k < length text) × Appends bytes bytes' (take k text)) × (number ≡ n)
 WritesReply told reply text bytes bytes' n result = ⊥
 
--- the line was answered so, it lists these, and that is written of it
-abbrev pub answered : List ℕ → Replied → List Argument → List ObjId → List ℕ → Answered
-answered line x xs gone out = record {
+-- the line was answered so under the setup, it lists these, and that is written of it
+abbrev pub answered : StatedSetup → List ℕ → Replied → List Argument → List ObjId → List ℕ → Answered
+answered s line x xs gone out = record {
   line = line;
   reply = x.reply;
   operand = x.operand;
-  what = what_of line x.event x.reply xs gone;
+  what = what_of s line x.event x.reply xs gone;
   out = out;
 }
 
@@ -73,7 +73,7 @@ answered line x xs gone out = record {
 abbrev pub AnswersLine : StatedSetup → Shown → Told → Watching → List Argument → List ObjId → List ℕ
     → Option (List ℕ) → Option (List ℕ) → ℕ → Result Step Stop → Type 0
 AnswersLine s shown told new xs gone line bytes bytes' n (Ok (step.Answered x)) =
-    (out : List ℕ) × (told' : Told) × IsAnswered s shown told (answered line x xs gone out) told'
+    (out : List ℕ) × (told' : Told) × IsAnswered s shown told (answered s line x xs gone out) told'
     × Stands new told' × Appends bytes bytes' out
 AnswersLine s shown told new xs gone line bytes bytes' n (Ok (step.Ended ended)) =
     StopsAt s shown told line bytes bytes' n (Ok ended)
@@ -90,7 +90,7 @@ abbrev pub AnswersNext : StatedSetup → Shown → Told → Watching → List Ar
     → Option (List ℕ) → List ℕ → Option (List ℕ) → Option (List ℕ) → ℕ → Result Step Stop → Type 0
 AnswersNext s shown told new xs gone input input' line bytes bytes' n (Ok (step.Answered x)) =
     Consumes input input' (line ++ 10 ∷ []) × ((out : List ℕ) × (told' : Told)
-    × IsAnswered s shown told (answered line x xs gone out) told' × Stands new told' × Appends bytes bytes' out)
+    × IsAnswered s shown told (answered s line x xs gone out) told' × Stands new told' × Appends bytes bytes' out)
 AnswersNext s shown told new xs gone input input' line bytes bytes' n (Ok (step.Ended ended)) =
     EndsAt s shown told input input' line bytes bytes' n (Ok ended) × IsWhole new told (Ok ended)
 AnswersNext s shown told new xs gone input input' line bytes bytes' n (Err stop) =

@@ -59,7 +59,8 @@ fn note_question<A: Allocator + Clone>(
     ensures counsels { (h : List Moment) → Counsels counsel.old h → CoreStands core.now (facts_of h)
         → Counsels counsel.new (record {
           line = line;
-          what = Called tid function arguments.now (if function == find_class then name_in text.now else []);
+          what = Called core.now.setup tid function arguments.now
+              (if function == find_class then name_in text.now else []);
           parts = parts_of (facts_of h);
         } ∷ h) }
     ensures most { counsel.new.adviser.most ≡ counsel.old.adviser.most }
@@ -95,9 +96,9 @@ fn note_event<A: Allocator + Clone>(
     text: &[u8],
 )
     ensures counsels { (h : List Moment) → Counsels counsel.old h
-        → CoreStands core.now (facts_of (with_moment line (what_of text.now (Some event) reply
+        → CoreStands core.now (facts_of (with_moment line (what_of core.now.setup text.now (Some event) reply
         lists.now.arguments.items lists.now.objects.items) h))
-        → Counsels counsel.new (with_moment line (what_of text.now (Some event) reply
+        → Counsels counsel.new (with_moment line (what_of core.now.setup text.now (Some event) reply
         lists.now.arguments.items lists.now.objects.items) h) }
     ensures most { counsel.new.adviser.most ≡ counsel.old.adviser.most }
     ensures all { counsel.new.noting.all ≡ counsel.old.noting.all }
@@ -125,9 +126,9 @@ pub fn advise<A: Allocator + Clone>(
     text: &[u8],
 )
     ensures counsels { (h : List Moment) → CounselsIf counsel.old h
-        → CoreStands core.now (facts_of (with_moment line (what_of text.now replied.event replied.reply
+        → CoreStands core.now (facts_of (with_moment line (what_of core.now.setup text.now replied.event replied.reply
         lists.now.arguments.items lists.now.objects.items) h))
-        → CounselsIf counsel.new (with_moment line (what_of text.now replied.event replied.reply
+        → CounselsIf counsel.new (with_moment line (what_of core.now.setup text.now replied.event replied.reply
         lists.now.arguments.items lists.now.objects.items) h) }
     ensures advising { advising_of counsel.new ≡ advising_of counsel.old }
 {

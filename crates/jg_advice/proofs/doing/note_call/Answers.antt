@@ -12,7 +12,7 @@ pub returns-in-Some-clause-noted : goal.returns-in-Some-clause-noted
 returns-in-Some-clause-noted c = λ q.
     let old = c.args.doings.now in
     let name = c.args.name in
-    let f = doing_after (Some (columns c.args.row.now)) c.args.call in
+    let f = doing_after (Some (columns c.args.row.now)) c.args.throws c.args.call in
     let was : lookup (same_name name) (named old) ≡ Some c.in-Some.before = search rules in
     doing_put old c.note_known.new.doings name q f
     (c.note_known.ensures.noted q
@@ -23,7 +23,7 @@ pub returns-in_ok-add-in-None-clause-noted : goal.returns-in_ok-add-in-None-clau
 returns-in_ok-add-in-None-clause-noted c = λ q.
     let old = c.args.doings.now in
     let name = c.args.name in
-    let f = doing_after (Some (columns c.args.row.now)) c.args.call in
+    let f = doing_after (Some (columns c.args.row.now)) c.args.throws c.args.call in
     let none : lookup (same_name name) (named old) ≡ None = search rules in
     doing_put old c.add.new.tables name q f
     (c.in_ok-add-in-None.ensures.found q

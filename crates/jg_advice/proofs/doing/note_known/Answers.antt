@@ -19,7 +19,7 @@ pub returns-in-None-clause-noted : goal.returns-in-None-clause-noted
 returns-in-None-clause-noted c = λ q.
     let none : at c.args.name.0 c.args.doings.now ≡ None = search rules in
     ap (λ tables. lookup (same_name q) (named tables)) c.get_mut.follows.holds-at-none
-    ∙ none_changed c.args.name q (doing_after (Some (columns c.args.row.now)) c.args.call) (named c.args.doings.now)
+    ∙ none_changed c.args.name q (doing_after (Some (columns c.args.row.now)) c.args.throws c.args.call) (named c.args.doings.now)
     (lookup-named c.args.name c.args.doings.now c.get_mut.ensures.once ∙ ap (λ found. at c.args.name.1 (table_in found)) none)
 
 pub returns-in-Some-clause-before : goal.returns-in-Some-clause-before
@@ -29,7 +29,7 @@ returns-in-Some-clause-before c =
 
 pub returns-in-Some-clause-noted : goal.returns-in-Some-clause-noted
 returns-in-Some-clause-noted c = λ q.
-    let f = doing_after (Some (columns c.args.row.now)) c.args.call in
+    let f = doing_after (Some (columns c.args.row.now)) c.args.throws c.args.call in
     let is : at c.args.name.0 c.args.doings.now ≡ Some c.in-Some.numbers.now = search rules in
     replaced c.args.name (option_map f (at c.args.name.1 c.in-Some.numbers.now)) c.args.doings.now (c.get_mut.follows.lender c.note_in.new.numbers) c.in-Some.numbers.now c.note_in.new.numbers is
     (c.get_mut.follows.holds c.note_in.new.numbers) c.get_mut.ensures.once c.note_in.ensures.noted q

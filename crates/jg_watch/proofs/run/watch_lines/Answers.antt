@@ -1,4 +1,5 @@
 use Rattle.std.proofs.Common.{◌<◌, ◌-◌, ◌^◌, ◌∙◌, ℕ, List, Option, Ok, Err, ap, arith, refl, subst, sym}
+use Rattle.jg_policy.specs.Stated.{StatedSetup}
 use Rattle.jg_core.specs.Kernel.{CoreStands, CoreState}
 use Rattle.jg_advice.specs.Moments.{Moment, What, facts_of}
 use Rattle.jg_watch.specs.Counselled.{CounselsIf, with_moment}
@@ -48,14 +49,19 @@ loop-line-preserved g c =
     let inv = c.loop-line.invariant in
     let h = still _ c.args.shown _ _ _ _ _ _ _ _ _ inv.watched c.hand_over.ensures.kept in
     let answers = rw c.in-Ok-Answered.field-0-is at (c.in-Ok-Answered.ensures.answers h.told h.stands) in
-    let what : List ℕ → Option What = λ text. what_of text c.in-Ok-Answered.replied.event c.in-Ok-Answered.replied.reply c.answer_next.new.room.lists.arguments.items c.answer_next.new.room.lists.objects.items in
-    let advised = subst (λ (text : List ℕ). (hist : List Moment) → CounselsIf c.loop-line.counsel hist
-    → CoreStands c.watch.inside.core (facts_of (with_moment c.loop-line.line (what text) hist)) → CounselsIf c.advise.new.counsel (with_moment c.loop-line.line (what text) hist))
-    c.deref.ensures.value c.advise.ensures.counsels in
+    let what : StatedSetup → List ℕ → Option What = λ s text. what_of s text c.in-Ok-Answered.replied.event c.in-Ok-Answered.replied.reply c.answer_next.new.room.lists.arguments.items c.answer_next.new.room.lists.objects.items in
+    let setup = ap (λ (w : Watching). w.core.setup) c.watch.view_is ∙ c.answer_next.ensures.setup in
+    let advised = subst (λ (s : StatedSetup). (hist : List Moment) → CounselsIf c.loop-line.counsel hist
+    → CoreStands c.watch.inside.core (facts_of (with_moment c.loop-line.line (what s c.answer_next.new.text.items) hist))
+    → CounselsIf c.advise.new.counsel (with_moment c.loop-line.line (what s c.answer_next.new.text.items) hist)) setup
+    (subst (λ (text : List ℕ). (hist : List Moment) → CounselsIf c.loop-line.counsel hist
+    → CoreStands c.watch.inside.core (facts_of (with_moment c.loop-line.line (what c.watch.inside.core.setup text) hist))
+    → CounselsIf c.advise.new.counsel (with_moment c.loop-line.line (what c.watch.inside.core.setup text) hist))
+    c.deref.ensures.value c.advise.ensures.counsels) in
     record {
       watched = goes_on _ _ c.args.shown _ _ _ _ _ _ _ c.loop-line.watch c.answer_next.new.watch _ _ _ _ c.in-Ok-Answered.replied _ _ _ _ h inv.setup answers c.answer_next.ensures.tally
           c.answer_next.ensures.denied (rw c.denied.ensures at c.note.ensures) c.count.ensures.tally c.count.ensures.denied c.count.ensures.core c.count.ensures.bounds
-          (λ hist counsels stands. advised hist counsels (subst (λ (k : CoreState). CoreStands k (facts_of (with_moment c.loop-line.line (what c.answer_next.new.text.items) hist)))
+          (λ hist counsels stands. advised hist counsels (subst (λ (k : CoreState). CoreStands k (facts_of (with_moment c.loop-line.line (what c.loop-line.watch.core.setup c.answer_next.new.text.items) hist)))
           (sym (ap (λ (w : Watching). w.core) c.watch.view_is)) stands));
       setup = ap (λ (x : CoreState). x.setup) c.count.ensures.core ∙ c.answer_next.ensures.setup ∙ inv.setup;
       most = c.note.ensures.most ∙ inv.most;
