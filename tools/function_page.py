@@ -1,8 +1,8 @@
 #!/usr/bin/env python3
 """Makes docs/FUNCTIONS.md of the table of functions: which rules a call of each can break under the agent.
 
-    tools/functions.py           writes the document on standard output
-    tools/functions.py --check   ends with status 1 if docs/FUNCTIONS.md is another text
+    tools/function_page.py           writes the document on standard output
+    tools/function_page.py --check   ends with status 1 if docs/FUNCTIONS.md is another text
 
 The rules of a function are those by which a question of it is denied in crates/jg_cases/data/questions.cases, where
 each row of the table stands with each rule that it can break. What native code can't do in C is left out
@@ -25,7 +25,7 @@ SINCE = {'V1_1': '1.1', 'V1_2': '1.2', 'V1_4': '1.4', 'V1_6': '1.6', 'V9': '9', 
 HEAD = """# The functions, and what they can break
 
 This page is for users of the [agent](../agent/README.md). It lists the functions of the JNI and of the invocation
-interface, as chapters 4 and 5 of the JNI Specification have them. `tools/functions.py` makes it of the table of
+interface, as chapters 4 and 5 of the JNI Specification have them. `tools/function_page.py` makes it of the table of
 functions.
 
 - *Rules* are those that a call of the function can break, by their numbers in [RULES.md](RULES.md). The agent judges
