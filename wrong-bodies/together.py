@@ -60,11 +60,13 @@ class Wrong:
 
 @dataclasses.dataclass
 class Tree:
-    """A crate as it stands: its functions by file, and by path with those that each calls."""
+    """A crate as it stands: its functions by file, and by path with those that each calls; and what was found of their
+    paths so far."""
 
     crate: object
     by_file: dict
     calls: dict
+    found: dict = dataclasses.field(default_factory=dict)
 
     def folder(self):
         return self.crate.folder
@@ -74,7 +76,10 @@ class Tree:
         name, copy, number = function.name.partition(COPY)
         if copy:
             return {f"{it}{COPY}{number}" for it in self.paths_of(dataclasses.replace(function, name=name))}
-        return {it for it in self.calls if function.is_named(it)} or {function.path()}
+        key = (function.module, function.holder, function.of_trait, function.name)
+        if key not in self.found:
+            self.found[key] = {it for it in self.calls if function.is_named(it)} or {function.path()}
+        return self.found[key]
 
     def functions(self, path, text):
         """The functions of a file of src/ with this text."""
