@@ -2,6 +2,7 @@
 
 A crate is proved as it stands where the last `rt ci` of this tree left its library in `out/`, and no source of it or of
 a crate below it is newer. What scripts keep by a key lies in the user's cache."""
+import functools
 import hashlib
 import os
 import shutil
@@ -12,27 +13,30 @@ CACHE = os.path.join(os.environ.get("XDG_CACHE_HOME") or os.path.expanduser("~/.
 PARTS = ("src", "specs", "proofs")
 
 
+@functools.lru_cache(maxsize=None)
+def changed(name):
+    """When the newest source of this tree's crate was changed."""
+    folders = [f"{TOP}/crates/{name}/{part}" for part in PARTS]
+    return max(os.stat(f"{at}/{it}").st_mtime for top in folders for at, _, names in os.walk(top) for it in names)
+
+
 def is_proved(crate):
     """Whether this tree's `out/` has the library of the crate as it stands, or the crate is none."""
     if not crate.makes_rlib():
         return True
     made = f"{TOP}/crates/{crate.name}/out/rlib/{crate.name}.rlib/format"
-    if not os.path.isfile(made):
-        return False
-    sources = [f"{TOP}/crates/{it.name}/{part}" for it in [crate, *crate.below()] for part in PARTS]
-    changed = [os.stat(f"{at}/{it}").st_mtime for top in sources for at, _, names in os.walk(top) for it in names]
-    return max(changed) < os.stat(made).st_mtime
+    return os.path.isfile(made) and all(changed(it.name) < os.stat(made).st_mtime for it in [crate, *crate.below()])
 
 
 class Kept:
     """What is kept of these crates, which are of a copy of the tree."""
 
     def __init__(self, crates):
-        self.crates = crates
+        self.stamps = {}
 
     def key(self, crate):
         """A sum of all that the crate's proofs stand on."""
-        return stamp_of(crate, {})
+        return stamp_of(crate, self.stamps)
 
     def give(self, crate, of_tests, key):
         """Gives the copy the crate's library, and returns whether it is proved as it stands."""
@@ -65,9 +69,18 @@ class Kept:
 
 
 def stamp_of(crate, known):
-    """A sum of the kit and of all files that the crate stands on."""
-    with open(f"{KIT}/KIT-ID", encoding="utf-8") as it:
-        return hashlib.sha256(f"{it.read()} {crate.stamp()}".encode()).hexdigest()
+    """A sum of the kit and of all files that the crate stands on. `known` has those that were found before."""
+    if crate.name not in known:
+        with open(f"{KIT}/KIT-ID", "rb") as it:
+            found = hashlib.sha256(it.read() + repr(crate.said).encode())
+        folders = [f"{crate.folder}/{part}" for part in PARTS]
+        for file in sorted(f"{at}/{it}" for top in folders for at, _, names in os.walk(top) for it in names):
+            with open(file, "rb") as it:
+                found.update(repr((file[len(crate.folder) :], it.read())).encode())
+        for dep in crate.deps:
+            found.update(stamp_of(dep, known).encode())
+        known[crate.name] = found.hexdigest()
+    return known[crate.name]
 
 
 def copy_crates(top, root):
