@@ -791,13 +791,21 @@ void call_answers(struct call *call, jint answer) {
     call_drops(call);
 }
 
+/* Whether an item was read of what isn't known to be an array of objects. */
+static int is_misread_item(const struct call *call) {
+    const struct object *array = call->first.object;
+    const char *type = array != NULL && array->class != NULL ? array->class->signature : "";
+    return call->function == JG_FN_GetObjectArrayElement &&
+           (type[0] != '[' || (type[1] != 'L' && type[1] != '['));
+}
+
 /* Whether the machine answered a reference. What is none may be any bits, of which it would die if it were asked. */
 static int is_reference(struct call *call, jobject result) {
     if (result == NULL || call->is_misread || !call->is_own_env) {
         return 0;
     }
     if (call->verdict.rule != 0) {
-        return call->unseen == NULL && call_kind(call, result) != JNIInvalidRefType;
+        return call->unseen == NULL && !is_misread_item(call) && call_kind(call, result) != JNIInvalidRefType;
     }
     if (call->unseen != NULL) {
         /* The machine took the ID, so it says what it is of. */

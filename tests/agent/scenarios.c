@@ -283,6 +283,12 @@ static void foreign_field(JNIEnv *env, struct given *it) {
     struct other other = {foreign_read, env, it->numbers, (void *)text, 1};
     run_other(&other);
 }
+static void foreign_item_read(JNIEnv *env, struct other *it) {
+    E->GetObjectArrayElement(env, it->reference, 3);
+}
+static void foreign_item(JNIEnv *env, struct given *it) {
+    in_attached(env, foreign_item_read, it->numbers);
+}
 static void handed_over(JNIEnv *env, struct given *it) {
     jobject global = E->NewGlobalRef(env, it->text);
     in_attached(env, foreign_length, global);
@@ -1250,6 +1256,7 @@ static const struct {
     {"foreign_global", foreign_global, "5 NewGlobalRef", NULL, ""},
     {"foreign_object", foreign_object, "5 GetObjectClass", NULL, ""},
     {"foreign_field", foreign_field, "5 GetObjectField", NULL, "A"},
+    {"foreign_item", foreign_item, "5 GetObjectArrayElement", NULL, "A"},
     {"handed_over", handed_over, "", NULL, ""},
     {"dead_local", dead_local, "6 GetStringLength", NULL, ""},
     {"dead_frame", dead_frame, "6 IsSameObject", NULL, ""},
