@@ -589,7 +589,8 @@ void *buffers_lend(struct call *call, void *memory, jboolean *is_copy) {
 
 /*
  * A critical pair: what of `given` the machine is called with. A commit handed the memory on already, so that it is
- * taken anew where something may have been stored since.
+ * taken anew where something may have been stored since. HotSpot lends its own memory, so what was stored stays also by
+ * JNI_ABORT.
  */
 static int give_critical(struct given_back *given) {
     struct lent *lent = given->lent;
@@ -597,12 +598,10 @@ static int give_critical(struct given_back *given) {
     struct pair *pair = pair_of(lent, given->name);
     unsigned char *memory = pair != NULL && pair->is_machines ? lent->memory : NULL;
     spin_unlock(&lock);
-    if (memory == NULL && given->mode != JNI_ABORT && !is_of_string(lent->family)) {
+    if (memory == NULL && !is_of_string(lent->family)) {
         memory = machine->GetPrimitiveArrayCritical(given->env, given->object, NULL);
     }
-    if (given->mode != JNI_ABORT) {
-        copy_back(lent, memory);
-    }
+    copy_back(lent, memory);
     given->memory = memory;
     spin_lock(&lock);
     pair = pair_of(lent, given->name);

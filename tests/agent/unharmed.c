@@ -210,8 +210,8 @@ static jint item_of(JNIEnv *env, jintArray array, jsize at) {
 
 /* Nested pairs: what is stored by one is read by the other, and nothing is lost however they are released. */
 static void nest(JNIEnv *env, jintArray numbers, jstring wide) {
-    static const jint MODES[][2] = {{0, 0}, {0, JNI_ABORT}, {JNI_ABORT, 0}};
-    for (jint turn = 0; turn < 3; turn++) {
+    static const jint MODES[][2] = {{0, 0}, {0, JNI_ABORT}, {JNI_ABORT, 0}, {JNI_ABORT, JNI_ABORT}};
+    for (jint turn = 0; turn < 4; turn++) {
         jint *outer = E->GetPrimitiveArrayCritical(env, numbers, NULL);
         outer[0] = turn + 10;
         jint *inner = E->GetPrimitiveArrayCritical(env, numbers, NULL);
