@@ -19,7 +19,7 @@ use crate::kernel::{Core, Untold};
 use crate::says::{Given, Says};
 use jg_functions::row_of;
 use jg_objects::Objects;
-use jg_questions::{Argument, Bounds, Verdict, culprit, first_reference, verdict_on};
+use jg_questions::{Argument, Bounds, Broken, Verdict, first_reference, verdict_on};
 use jg_rules::{View, object_named};
 use jg_words::{EnvId, ObjId, Rule, Tid};
 use std::alloc::Allocator;
@@ -112,10 +112,7 @@ impl<A: Allocator + Clone> Core<A> {
             None => Answer::NoFunction,
             Some(row) => match verdict_on(&view, bounds, tid, env, row, arguments) {
                 Verdict::Misfit => Answer::Misfit,
-                Verdict::Broken(rule) => Answer::Denied {
-                    rule,
-                    operand: culprit(&view, bounds, tid, rule, row.takes, arguments),
-                },
+                Verdict::Broken(Broken { rule, operand }) => Answer::Denied { rule, operand },
                 Verdict::Passed(named) => Answer::Passed(Ticket {
                     tid,
                     expected: expected_of(&view, tid, row, named, arguments),
@@ -125,7 +122,13 @@ impl<A: Allocator + Clone> Core<A> {
     }
 
     /// Takes what a passed question implies that returned, by what the machine says of it, and answers the name of what
-    /// it handed out. It is taken as [`Core::did`] takes a call, and refused so.
+    /// it handed out (chapter 4; chapter 5, "Invocation API Functions"). It implies one fact at the most, so all of it
+    /// is taken or nothing. It is [`Untold::Impossible`] where no machine says so of such a call, as that a deletion
+    /// answered an object, and where an operand that it was done to named no object; else it is refused as
+    /// [`Core::tell`] refuses the fact.
+    ///
+    /// An object that the machine answers or throws is told first, by [`Core::meet`] where it is new. What the
+    /// collector let go is told by [`Core::gone`], and what a module was warned of by [`Core::tell`].
     pub fn returned(&mut self, ticket: Ticket, says: Says) -> Result<Given, Untold>
         ensures ok { IfOk result (λ out. Returned self.old self.new ticket says out) }
         ensures err { OnErr result (Stayed self.old self.new) }

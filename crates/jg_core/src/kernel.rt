@@ -6,13 +6,12 @@ ghost use Rattle.jg_threads.specs.History.{sessions, acts_of, Attach};
 ghost use Rattle.jg_words.specs.declared.reference.Kind.TheVariants.{Local};
 ghost use Rattle.jg_words.specs.declared.reference.Ref.TheVariants.{To};
 ghost use Rattle.jg_rules.specs.Names.{next_ref, next_buffer, object_count};
-ghost use Rattle.jg_rules.specs.Rules.{verdict};
 ghost use Rattle.jg_rules.specs.View.{ViewTells};
 ghost use Rattle.jg_objects.specs.Standing.{Tells};
 ghost use Rattle.jg_questions.specs.Kinds.{own_class};
 ghost use Rattle.jg_core.specs.declared.fact.Fact.TheVariants.{Begin, Hand, Leave, Lend, Meet, Pop};
 ghost use Rattle.jg_core.specs.Facts.{first_held, parts_of};
-ghost use Rattle.jg_core.specs.Kernel.{broken, CoreStands, Keeps, Took, TookAll, Stayed, Refuses};
+ghost use Rattle.jg_core.specs.Kernel.{CoreStands, Keeps, Took, TookAll, Stayed, Refuses};
 ghost use Rattle.jg_core.specs.Laws.{handed_out};
 ghost use Rattle.jg_leaks.specs.Left.{AreLeft};
 
@@ -22,7 +21,6 @@ use crate::possible::{can_be, makes};
 use crate::tables::Tables;
 use crate::take::take;
 use jg_buffers::{Buffers, Family};
-use jg_causes::place_meant;
 use jg_globals::Globals;
 use jg_leaks::{Leaks, list_left};
 use jg_locals::Locals;
@@ -30,9 +28,9 @@ use jg_monitors::Monitors;
 use jg_objects::Objects;
 use jg_policy::{Links, Setup};
 use jg_questions::OwnKind;
-use jg_rules::{View, first_broken};
+use jg_rules::View;
 use jg_threads::Threads;
-use jg_words::{BufId, Call, EnvId, Kind, ObjId, Ref, Rule, Tid};
+use jg_words::{BufId, EnvId, Kind, ObjId, Ref, Tid};
 use std::alloc::{AllocError, Allocator, Global};
 use std::marker::Model;
 
@@ -48,15 +46,6 @@ pub enum Untold {
     Full,
     /// It makes something, for which memory ran out.
     NoMemory,
-}
-
-/// The first rule that a call breaks.
-#[derive(Clone, Copy, Debug, PartialEq, Eq)]
-pub struct Broken {
-    pub rule: Rule,
-    /// The first reference among the call's operands, from the left, that breaks it: its place, from 0. `None` where
-    /// the rule speaks of no operand alone.
-    pub operand: Option<usize>,
 }
 
 /// What a virtual machine said, as far as judging calls needs it. It takes memory by what is live, and none by
@@ -158,31 +147,6 @@ impl<A: Allocator + Clone> Core<A> {
         ensures tells { (w : List Fact) → CoreStands self.now w → ViewTells Tells result (parts_of w) }
     {
         self.tables.view(&self.setup)
-    }
-
-    /// The first rule that the call would break now, made by this thread with this environment; `None` where it
-    /// breaks none. A question changes nothing. Ask when the call begins.
-    pub fn judge(&self, tid: Tid, env: Option<EnvId>, call: &Call) -> Option<Rule>
-        ensures { (w : List Fact) → CoreStands self.now w
-            → result ≡ verdict self.now.setup (parts_of w) tid.0 env call.now }
-    {
-        first_broken(&self.tables.view(&self.setup), tid, env, call)
-    }
-
-    /// As [`Core::judge`], with the operand that breaks the rule, the first from the left, where the rule speaks of one
-    /// operand.
-    pub fn judge_by(&self, tid: Tid, env: Option<EnvId>, call: &Call) -> Option<Broken>
-        ensures { (w : List Fact) → CoreStands self.now w
-            → result ≡ broken self.now.setup (parts_of w) tid.0 env call.now }
-    {
-        let view = self.tables.view(&self.setup);
-        match first_broken(&view, tid, env, call) {
-            None => None,
-            Some(rule) => Some(Broken {
-                rule,
-                operand: place_meant(&view, tid, call, rule),
-            }),
-        }
     }
 
     /// Takes a fact. It is refused where it can't be, else where it makes something and the core is full or memory
