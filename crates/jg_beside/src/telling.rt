@@ -122,7 +122,10 @@ fn tell_done(
 /// The module was warned that the entry warned of, if it did.
 fn warn(core: &mut Core, view: &View<'_>, entry: &Entry) -> Result<(), Untold> {
     match home_named(view, entry.tid(), entry.call()) {
-        Some(home) if entry.warned() => core.tell(Fact::Warn(home)),
+        Some(home) if entry.warned() => {
+            core.tell(Fact::Warn(home))?;
+            Ok(())
+        }
         _ => Ok(()),
     }
 }

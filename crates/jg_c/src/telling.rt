@@ -17,27 +17,11 @@ use crate::handle::Handle;
 use crate::session::CoreSession;
 use crate::ticket::{JgTicket, ticket_of};
 use crate::told::of_fact;
-use crate::value::{JgValue, of_buffer, of_environment, of_object, of_reference};
+use crate::value::JgValue;
 use jg_core::{Fact, Says, Ticket, told};
-use jg_record::Reply;
-use jg_watch::tell;
 
 /// What `jg_told` answers where it wrote a fact.
 const WRITTEN: i32 = 1;
-
-/// The name of what was handed out.
-#[inline(always)]
-fn of_reply(reply: Reply) -> JgValue
-    ensures { result ≡ specs.of_reply reply }
-{
-    match reply {
-        Reply::Environment(env) => of_environment(env),
-        Reply::Reference(reference) => of_reference(reference),
-        Reply::Buffer(buffer) => of_buffer(buffer),
-        Reply::Object(object) => of_object(object),
-        Reply::Passed | Reply::Denied(_) | Reply::Nothing => JgValue::NOTHING,
-    }
-}
 
 #[inline(always)]
 fn tell_fact(asked: &mut CoreSession, fact: Fact, given: &mut JgValue) -> i32
@@ -47,9 +31,9 @@ fn tell_fact(asked: &mut CoreSession, fact: Fact, given: &mut JgValue) -> i32
     ensures stayed { result ≢ errors.done → Stayed asked.old.core asked.new.core }
     ensures bounds { asked.new.bounds ≡ asked.old.bounds }
 {
-    match tell(&mut asked.core, fact) {
-        Ok(reply) => {
-            *given = of_reply(reply);
+    match asked.core.tell(fact) {
+        Ok(out) => {
+            *given = of_given(out);
             DONE
         }
         Err(why) => of_untold(why),

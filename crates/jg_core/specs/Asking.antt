@@ -50,12 +50,12 @@ abbrev pub asked : Bounds → StatedSetup → Parts → Tid → Option EnvId →
 asked bounds s p t env function xs = by_row bounds s p t env xs (slice_get functions function)
 
 -- an attachment gives the environment, whether or not the thread had it
-abbrev pub given_by_expected : Parts → Tid → Expected → Option Fact → Given
-given_by_expected p t (Attached begun) fact = env_given p t
-given_by_expected p t expected fact = given_with p fact
+abbrev pub given_by_expected : StatedSetup → Parts → Tid → Expected → Option Fact → Given
+given_by_expected s p t (Attached begun) fact = env_given p t
+given_by_expected s p t expected fact = given_with s p fact
 
-abbrev pub given_for : Parts → Ticket → Option Fact → Given
-given_for p ticket fact = given_by_expected p ticket.tid ticket.expected fact
+abbrev pub given_for : StatedSetup → Parts → Ticket → Option Fact → Given
+given_for s p ticket fact = given_by_expected s p ticket.tid ticket.expected fact
 
 -- the machine's answer implied this, if anything; it was told, and that was handed out
 pub record Returned (old new : CoreState) (ticket : Ticket) (says : Says) (out : Given) : Type 0 where
@@ -63,7 +63,7 @@ pub record Returned (old new : CoreState) (ticket : Ticket) (says : Says) (out :
   pub fact : Option Fact
   pub is : told ticket.tid ticket.expected says ≡ Some fact
   pub stands : (w : List Fact) → CoreStands old w → CoreStands new (told_on fact w)
-  pub answers : (w : List Fact) → CoreStands old w → out ≡ given_for (parts_of w) ticket fact
+  pub answers : (w : List Fact) → CoreStands old w → out ≡ given_for old.setup (parts_of w) ticket fact
 
 -- why nothing was taken: as of a call, exactly where no machine says so, or what it implies can't be; else exactly
 -- where that makes something and the core is full; else where it makes something, for which memory ran out

@@ -37,13 +37,13 @@ use Rattle.jg_buffers.specs.declared.family.Family.TheVariants.{Elements, Chars,
 use Rattle.jg_heap.specs.Reading.{natural}
 use Rattle.jg_rules.specs.Buffers.{is_commit}
 use Rattle.jg_rules.specs.Parts.{Parts}
-use Rattle.jg_rules.specs.Names.{object_named, class_meant, native_meant, next_ref, next_buffer}
+use Rattle.jg_rules.specs.Names.{object_count, object_named, class_meant, native_meant, next_ref, next_buffer}
 use Rattle.jg_core.specs.declared.fact.Fact.{Fact}
-use Rattle.jg_core.specs.declared.fact.Fact.TheVariants.{Begin, End, Enter, Leave, Push, Pop, Ensure, Raise, Calm, Hand, Lost, Lend, Back, Own, Free, Link, Unlink}
+use Rattle.jg_core.specs.declared.fact.Fact.TheVariants.{Begin, End, Enter, Leave, Push, Pop, Ensure, Raise, Calm, Hand, Lost, Lend, Back, Own, Free, Meet, Link, Unlink}
 use Rattle.jg_core.specs.declared.says.Says.{Says}
 use Rattle.jg_core.specs.declared.says.Says.TheVariants.{Done, Null as SaysNull, Object, Items, Threw}
 use Rattle.jg_core.specs.declared.says.Given.{Given}
-use Rattle.jg_core.specs.declared.says.Given.TheVariants.{Nothing, Reference, Buffer, Environment}
+use Rattle.jg_core.specs.declared.says.Given.TheVariants.{Nothing, Reference, Buffer, Environment, Object as TheObject}
 use Rattle.jg_core.specs.Facts.{is_attached, can_be, makes}
 
 -- ---- what is said: None where no machine says so of such a call; else the fact that it implies, if it implies one
@@ -221,20 +221,22 @@ implied s p t (Buffers call) says = buffers_implied p t call says
 
 -- ---- what is handed out with it
 
-abbrev pub given_by : Parts → Fact → Given
-given_by p (Hand t kind o) = Reference (To kind t (next_ref p t.0))
-given_by p (Leave t (Some o)) = Reference (To Local t (next_ref p t.0))
-given_by p (Pop t (Some o)) = Reference (To Local t (next_ref p t.0))
-given_by p (Lend t family o via n) = Buffer (record { maker = t; n = next_buffer p t.0 })
-given_by p x = Nothing
-
 -- t's environment once it is attached
 abbrev pub env_given : Parts → Tid → Given
 env_given p t = Environment (record { tid = t; session = sessions (Attach ∷ acts_of t.0 p.threads) })
 
-abbrev pub given_with : Parts → Option Fact → Given
-given_with p None = Nothing
-given_with p (Some x) = given_by p x
+abbrev pub given_by : StatedSetup → Parts → Fact → Given
+given_by s p (Begin t) = env_given p t
+given_by s p (Hand t kind o) = Reference (To kind t (next_ref p t.0))
+given_by s p (Leave t (Some o)) = Reference (To Local t (next_ref p t.0))
+given_by s p (Pop t (Some o)) = Reference (To Local t (next_ref p t.0))
+given_by s p (Lend t family o via n) = Buffer (record { maker = t; n = next_buffer p t.0 })
+given_by s p (Meet class n) = TheObject (record { 0 = object_count s p })
+given_by s p x = Nothing
+
+abbrev pub given_with : StatedSetup → Parts → Option Fact → Given
+given_with s p None = Nothing
+given_with s p (Some x) = given_by s p x
 
 -- ---- what is told
 

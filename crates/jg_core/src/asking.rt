@@ -84,7 +84,7 @@ fn given_for<A: Allocator + Clone>(
     fact: Option<Fact>,
 ) -> Given
     requires { (t : ℕ) → CanCount view.now.threads.now t }
-    ensures { (p : Parts) → ViewTells Tells view.now p → result ≡ spec.given_for p ticket fact }
+    ensures { (p : Parts) → ViewTells Tells view.now p → result ≡ spec.given_for view.now.setup.now p ticket fact }
 {
     match ticket.expected {
         Expected::Attached(_) => { Given::Environment(view.threads.env_once_attached(ticket.tid)) }
@@ -142,7 +142,7 @@ impl<A: Allocator + Clone> Core<A> {
         let Some(fact) = fact else {
             return Ok(out);
         };
-        match self.tell(fact) {
+        match self.take_fact(fact) {
             Ok(()) => Ok(out),
             Err(why) => Err(why),
         }

@@ -224,7 +224,7 @@ fn kept_given<A: Allocator + Clone>(
     kept: Option<ObjId>,
 ) -> Given
     requires { (t : ℕ) → CanCount view.now.threads.now t }
-    ensures { (p : Parts) → ViewTells Tells view.now p → result ≡ spec.given_by p (Pop tid kept) }
+    ensures { (p : Parts) → ViewTells Tells view.now p → result ≡ spec.given_by view.now.setup.now p (Pop tid kept) }
 {
     match kept {
         None => Given::Nothing,
@@ -233,11 +233,13 @@ fn kept_given<A: Allocator + Clone>(
 }
 
 /// What is handed out with the fact, as the tables are before it.
-fn given_by<A: Allocator + Clone>(view: &View<'_, A, Objects<A>>, fact: Fact) -> Given
+pub(crate) fn given_by<A: Allocator + Clone>(view: &View<'_, A, Objects<A>>, fact: Fact) -> Given
     requires { (t : ℕ) → CanCount view.now.threads.now t }
-    ensures { (p : Parts) → ViewTells Tells view.now p → result ≡ spec.given_by p fact }
+    ensures { (p : Parts) → ViewTells Tells view.now p → result ≡ spec.given_by view.now.setup.now p fact }
 {
     match fact {
+        Fact::Begin(tid) => Given::Environment(view.threads.env_once_attached(tid)),
+        Fact::Meet { .. } => Given::Object(ObjId(view.heap.len())),
         Fact::Hand { tid, kind, .. } => next_reference(view, kind, tid),
         Fact::Leave { tid, kept } => kept_given(view, tid, kept),
         Fact::Pop { tid, kept } => kept_given(view, tid, kept),
@@ -255,7 +257,7 @@ pub(crate) fn given_with<A: Allocator + Clone>(
     fact: Option<Fact>,
 ) -> Given
     requires { (t : ℕ) → CanCount view.now.threads.now t }
-    ensures { (p : Parts) → ViewTells Tells view.now p → result ≡ spec.given_with p fact }
+    ensures { (p : Parts) → ViewTells Tells view.now p → result ≡ spec.given_with view.now.setup.now p fact }
 {
     match fact {
         None => Given::Nothing,

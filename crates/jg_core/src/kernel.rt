@@ -11,13 +11,16 @@ ghost use Rattle.jg_objects.specs.Standing.{Tells};
 ghost use Rattle.jg_questions.specs.Kinds.{own_class};
 ghost use Rattle.jg_core.specs.declared.fact.Fact.TheVariants.{Begin, Hand, Leave, Lend, Meet, Pop};
 ghost use Rattle.jg_core.specs.Facts.{first_held, parts_of};
+ghost use Rattle.jg_core.specs.Implied.{given_by};
 ghost use Rattle.jg_core.specs.Kernel.{CoreStands, Keeps, Took, TookAll, Stayed, Refuses};
 ghost use Rattle.jg_core.specs.Laws.{handed_out};
 ghost use Rattle.jg_leaks.specs.Left.{AreLeft};
 
 use crate::fact::Fact;
 use crate::gone::{StillHeld, let_all_go};
+use crate::implied::given_by;
 use crate::possible::{can_be, makes};
+use crate::says::Given;
 use crate::tables::Tables;
 use crate::take::take;
 use jg_buffers::{Buffers, Family};
@@ -149,9 +152,23 @@ impl<A: Allocator + Clone> Core<A> {
         self.tables.view(&self.setup)
     }
 
-    /// Takes a fact. It is refused where it can't be, else where it makes something and the core is full or memory
-    /// runs out; then nothing has changed. What ends something is never refused for want of either.
-    pub fn tell(&mut self, fact: Fact) -> Result<(), Untold>
+    /// Takes a fact, and answers the name of what it hands out. It is refused where it can't be, else where it makes
+    /// something and the core is full or memory runs out; then nothing has changed. What ends something is never
+    /// refused for want of either.
+    pub fn tell(&mut self, fact: Fact) -> Result<Given, Untold>
+        ensures ok { OnOk result (Took self.old self.new fact) }
+        ensures given { IfOk result (λ out. (w : List Fact) → CoreStands self.old w
+            → out ≡ given_by self.old.setup (parts_of w) fact) }
+        ensures err { OnErr result (Stayed self.old self.new) }
+        ensures why { IfErr result (Refuses self.old fact) }
+    {
+        let out = given_by(&self.tables.view(&self.setup), fact);
+        self.take_fact(fact)?;
+        Ok(out)
+    }
+
+    /// Takes a fact as [`Core::tell`] does.
+    pub(crate) fn take_fact(&mut self, fact: Fact) -> Result<(), Untold>
         ensures ok { OnOk result (Took self.old self.new fact) }
         ensures err { OnErr result (Stayed self.old self.new) }
         ensures why { IfErr result (Refuses self.old fact) }
@@ -190,7 +207,7 @@ impl<A: Allocator + Clone> Core<A> {
         ensures why { IfErr result (Refuses self.old (Begin tid)) }
     {
         let env = self.tables.threads.env_once_attached(tid);
-        self.tell(Fact::Begin(tid))?;
+        self.take_fact(Fact::Begin(tid))?;
         Ok(env)
     }
 
@@ -204,7 +221,7 @@ impl<A: Allocator + Clone> Core<A> {
         ensures why { IfErr result (Refuses self.old (Leave tid kept)) }
     {
         let n = self.tables.threads.next_ref(tid);
-        self.tell(Fact::Leave { tid, kept })?;
+        self.take_fact(Fact::Leave { tid, kept })?;
         Ok(local_of(tid, n, kept))
     }
 
@@ -218,7 +235,7 @@ impl<A: Allocator + Clone> Core<A> {
         ensures why { IfErr result (Refuses self.old (Pop tid kept)) }
     {
         let n = self.tables.threads.next_ref(tid);
-        self.tell(Fact::Pop { tid, kept })?;
+        self.take_fact(Fact::Pop { tid, kept })?;
         Ok(local_of(tid, n, kept))
     }
 
@@ -231,7 +248,7 @@ impl<A: Allocator + Clone> Core<A> {
         ensures why { IfErr result (Refuses self.old (Hand tid kind object)) }
     {
         let n = self.tables.threads.next_ref(tid);
-        self.tell(Fact::Hand { tid, kind, object })?;
+        self.take_fact(Fact::Hand { tid, kind, object })?;
         Ok(Ref::To {
             kind,
             maker: tid,
@@ -256,7 +273,7 @@ impl<A: Allocator + Clone> Core<A> {
         ensures why { IfErr result (Refuses self.old (Lend tid family object via length)) }
     {
         let n = self.tables.threads.next_buf(tid);
-        self.tell(Fact::Lend {
+        self.take_fact(Fact::Lend {
             tid,
             family,
             object,
@@ -276,7 +293,7 @@ impl<A: Allocator + Clone> Core<A> {
         ensures why { IfErr result (Refuses self.old (Meet class length)) }
     {
         let object = ObjId(self.tables.objects.len());
-        self.tell(Fact::Meet { class, length })?;
+        self.take_fact(Fact::Meet { class, length })?;
         Ok(object)
     }
 }
