@@ -27,29 +27,29 @@ use Rattle.jg_questions.specs.Sound.{by_rule, verdict_on}
 use Rattle.jg_questions.specs.Suits.{suits}
 use Rattle.jg_core.specs.declared.asking.Answer.{Answer}
 use Rattle.jg_core.specs.declared.asking.Answer.TheVariants.{Passed as Passes, Denied, Misfit as Misfits}
-use Rattle.jg_core.specs.Asking.{asked, by_row, by_verdict}
+use Rattle.jg_core.specs.Asking.{asked, by_row, by_verdict, denied_ticket}
 use Rattle.jg_core.specs.Expected.{expected_of}
 use Rattle.jg_core.specs.declared.fact.Fact.{Fact}
 use Rattle.jg_core.specs.Facts.{parts_of}
 use Rattle.jg_core.specs.Kernel.{CoreState, CoreStands}
 
-abbrev pub answer_by : Bounds → StatedSetup → Parts → Tid → Columns → List Argument → Verdict → Answer
-answer_by bounds s p t row xs Misfit = Misfits
-answer_by bounds s p t row xs (Broken broken) = Denied broken.rule broken.operand
-answer_by bounds s p t row xs (Passed named) = Passes (record { tid = t; expected = expected_of s p t row row.effect xs })
+abbrev pub answer_by : Bounds → StatedSetup → Parts → Tid → Option EnvId → Columns → List Argument → Verdict → Answer
+answer_by bounds s p t env row xs Misfit = Misfits
+answer_by bounds s p t env row xs (Broken broken) = Denied broken.rule broken.operand (denied_ticket s p t env row xs broken.rule)
+answer_by bounds s p t env row xs (Passed named) = Passes (record { tid = t; expected = expected_of s p t row row.effect xs })
 
-answer_if : (bounds : Bounds) (s : StatedSetup) (p : Parts) (t : Tid) (row : Columns) (xs : List Argument) (suited : Bool) (named : Named) (found : Option Rule)
-    → answer_by bounds s p t row xs (if suited then by_rule named (option_map (with_culprit bounds s p t.0 row.takes xs) found) else Misfit)
-    ≡ (if suited then by_verdict bounds s p t row xs found else Misfits)
-answer_if bounds s p t row xs true named None = refl
-answer_if bounds s p t row xs true named (Some rule) = refl
-answer_if bounds s p t row xs false named found = refl
+answer_if : (bounds : Bounds) (s : StatedSetup) (p : Parts) (t : Tid) (env : Option EnvId) (row : Columns) (xs : List Argument) (suited : Bool) (named : Named) (found : Option Rule)
+    → answer_by bounds s p t env row xs (if suited then by_rule named (option_map (with_culprit bounds s p t.0 row.takes xs) found) else Misfit)
+    ≡ (if suited then by_verdict bounds s p t env row xs found else Misfits)
+answer_if bounds s p t env row xs true named None = refl
+answer_if bounds s p t env row xs true named (Some rule) = refl
+answer_if bounds s p t env row xs false named found = refl
 
 pub answered : (bounds : Bounds) (s : StatedSetup) (p : Parts) (t : Tid) (env : Option EnvId) (function : ℕ) (row : Columns) (xs : List Argument) (out : Verdict)
-    → slice_get functions function ≡ Some row → out ≡ verdict_on bounds s p t.0 env row xs → answer_by bounds s p t row xs out ≡ asked bounds s p t env function xs
+    → slice_get functions function ≡ Some row → out ≡ verdict_on bounds s p t.0 env row xs → answer_by bounds s p t env row xs out ≡ asked bounds s p t env function xs
 answered bounds s p t env function row xs out is_row is =
-    ap (answer_by bounds s p t row xs) is
-    ∙ (answer_if bounds s p t row xs (suits row.takes xs) (names p t.0 (first_reference xs)) (verdict bounds s p t.0 env row xs) ∙ sym (ap (by_row bounds s p t env xs) is_row))
+    ap (answer_by bounds s p t env row xs) is
+    ∙ (answer_if bounds s p t env row xs (suits row.takes xs) (names p t.0 (first_reference xs)) (verdict bounds s p t.0 env row xs) ∙ sym (ap (by_row bounds s p t env xs) is_row))
 
 abbrev named_by : Named → Verdict → Named
 named_by named Misfit = named

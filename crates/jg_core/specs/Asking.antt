@@ -32,19 +32,29 @@ use Rattle.jg_core.specs.declared.asking.Answer.{Answer}
 use Rattle.jg_core.specs.declared.asking.Ended.{Ended}
 use Rattle.jg_core.specs.declared.asking.Answer.TheVariants.{Passed, Denied, NoFunction, Misfit}
 use Rattle.jg_core.specs.Facts.{parts_of}
+use Rattle.jg_core.specs.Denied.{doer, denied_as}
 use Rattle.jg_core.specs.Expected.{expected_of, told}
 use Rattle.jg_core.specs.Implied.{implied, env_given, given_with, told_on, can_imply, implies_making}
 use Rattle.jg_core.specs.Kernel.{CoreState, CoreStands, Stayed}
 
+-- what comes of it if it is made all the same
+abbrev pub denied_ticket : StatedSetup → Parts → Tid → Option EnvId → Columns → List Argument → Rule → Ticket
+denied_ticket s p t env row xs rule = record {
+  tid = doer rule t env;
+  expected = denied_as rule row.effect (doer rule t env) (expected_of s p (doer rule t env) row row.effect xs) xs;
+}
+
 -- a question that breaks no rule, or the first that it breaks, and by which operand
-abbrev pub by_verdict : Bounds → StatedSetup → Parts → Tid → Columns → List Argument → Option Rule → Answer
-by_verdict bounds s p t row xs None = Passed (record { tid = t; expected = expected_of s p t row row.effect xs })
-by_verdict bounds s p t row xs (Some rule) = Denied rule (culprit bounds s p t.0 rule row.takes xs)
+abbrev pub by_verdict : Bounds → StatedSetup → Parts → Tid → Option EnvId → Columns → List Argument → Option Rule
+    → Answer
+by_verdict bounds s p t env row xs None = Passed (record { tid = t; expected = expected_of s p t row row.effect xs })
+by_verdict bounds s p t env row xs (Some rule) =
+    Denied rule (culprit bounds s p t.0 rule row.takes xs) (denied_ticket s p t env row xs rule)
 
 abbrev pub by_row : Bounds → StatedSetup → Parts → Tid → Option EnvId → List Argument → Option Columns → Answer
 by_row bounds s p t env xs None = NoFunction
 by_row bounds s p t env xs (Some row) =
-    if suits row.takes xs then by_verdict bounds s p t row xs (verdict bounds s p t.0 env row xs) else Misfit
+    if suits row.takes xs then by_verdict bounds s p t env row xs (verdict bounds s p t.0 env row xs) else Misfit
 
 abbrev pub asked : Bounds → StatedSetup → Parts → Tid → Option EnvId → ℕ → List Argument → Answer
 asked bounds s p t env function xs = by_row bounds s p t env xs (slice_get functions function)
@@ -125,5 +135,5 @@ abbrev pub AskedAsCalls : Type 0
 AskedAsCalls = (s : StatedSetup) (p : Parts) (t : Tid) (env : Option EnvId) (call : Call) (place : ℕ) → AreStated s p
     → slice_get functions place ≡ Some (row_for (fun_of call))
     → asked written_bounds s p t env place (arguments_of s p t.0 call)
-    ≡ by_verdict written_bounds s p t (row_for (fun_of call)) (arguments_of s p t.0 call)
+    ≡ by_verdict written_bounds s p t env (row_for (fun_of call)) (arguments_of s p t.0 call)
     (call_verdict s p t.0 env call)

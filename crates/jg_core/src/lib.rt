@@ -3,6 +3,7 @@
 #![tactic(auto)]
 
 mod asking;
+mod denied;
 mod expected;
 mod fact;
 mod gone;

@@ -26,7 +26,7 @@ array_at arrays handle = unwrap_or (slice_get arrays handle) NOTHING
 -- what is broken, if anything, by what the core answers
 abbrev pub found_by : Answer → Result (Option Broken) Untold
 found_by (Passed ticket) = Ok None
-found_by (Denied rule operand) = Ok (Some (record { rule = rule; operand = operand }))
+found_by (Denied rule operand ticket) = Ok (Some (record { rule = rule; operand = operand }))
 found_by answer = Err Impossible
 
 -- thread 1 is told that its call of the function with this operand breaks a rule exactly where it does, by all that the

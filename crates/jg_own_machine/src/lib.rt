@@ -115,7 +115,7 @@ impl Machine {
             .ask(UNBOUNDED, THREAD, Some(self.env), function, &[operand])
         {
             Answer::Passed(_) => Ok(None),
-            Answer::Denied { rule, operand } => Ok(Some(Broken { rule, operand })),
+            Answer::Denied { rule, operand, .. } => Ok(Some(Broken { rule, operand })),
             Answer::NoFunction | Answer::Misfit => Err(Untold::Impossible),
         }
     }

@@ -61,7 +61,7 @@ after (event.Bounds bounds) gone told = record told { bounds = bounds }
 -- what a question is answered; none that a line spells is of no function or has a misfit (`SpeltIsJudged` of Laws)
 abbrev pub reply_of : Answer → Reply
 reply_of (answer.Passed ticket) = Passed
-reply_of (answer.Denied rule operand) = Denied rule
+reply_of (answer.Denied rule operand ticket) = Denied rule
 reply_of answer.NoFunction = Nothing
 reply_of answer.Misfit = Nothing
 
@@ -86,7 +86,7 @@ replied s told (event.Bounds bounds) xs = Nothing
 
 -- the operand that breaks the rule, where one does
 abbrev pub operand_of : Answer → List Argument → Option Argument
-operand_of (answer.Denied rule (Some place)) xs = slice_get xs place
+operand_of (answer.Denied rule (Some place) ticket) xs = slice_get xs place
 operand_of x xs = None
 
 -- that of a denied question
