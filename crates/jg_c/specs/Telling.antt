@@ -3,6 +3,8 @@ use Rattle.std.specs.Prelude.{ℕ, ℤ, pos, ◌≡◌, ◌⊎◌, List, Option,
 use Rattle.jg_words.specs.declared.object.ObjId.{ObjId}
 use Rattle.jg_core.specs.declared.fact.Fact.{Fact}
 use Rattle.jg_core.specs.declared.asking.Ticket.{Ticket}
+use Rattle.jg_core.specs.declared.expected.Expected.{Expected}
+use Rattle.jg_core.specs.declared.expected.Expected.TheVariants.{IfEnded}
 use Rattle.jg_core.specs.declared.kernel.Untold.{Untold}
 use Rattle.jg_core.specs.declared.says.Given.{Given}
 use Rattle.jg_core.specs.declared.says.Says.{Says}
@@ -50,6 +52,15 @@ ReturnsBy old new ticket (Some says) given n = Returns old new ticket says given
 abbrev pub Did : CoreHeld → CoreHeld → Option Ticket → Option Says → JgValue → ℤ → Type 0
 Did old new None says given n = n ≡ errors.bad_ticket
 Did old new (Some ticket) says given n = ReturnsBy old new ticket says given n
+
+-- the machine is to say by null whether something has ended
+abbrev pub doubt_of : Expected → ℤ
+doubt_of (IfEnded (Some fact)) = pos 1
+doubt_of expected = pos 0
+
+abbrev pub in_doubt : Option Ticket → ℤ
+in_doubt None = errors.bad_ticket
+in_doubt (Some ticket) = doubt_of ticket.expected
 
 -- ---- the fact of a call that returned
 
