@@ -16,10 +16,17 @@ struct block {
     const char *notice;
     uint64_t count;
     int is_suppressed;
+    int is_told; /* else it was only counted, since `max=` were told */
 };
 
-/* Counts the occurrence. Whether it is to be told: the first, or with `advice=all` each advice. */
-int blocks_count(const struct block *of);
+struct counted {
+    size_t number; /* of the block, from 1 in the order of their first occurrences */
+    int is_told;   /* it is to be told: the first occurrence, or with `advice=all` each advice */
+    int is_over;   /* it is the first that isn't told since `max=` were */
+};
+
+/* Counts the occurrence. */
+struct counted blocks_count(const struct block *of);
 
 /* How many denials came that aren't suppressed. */
 uint64_t blocks_denied(void);
@@ -35,6 +42,12 @@ const char *blocks_function(uint32_t function);
 
 /* The rule's name, the notice's, or that of the kind of advice. */
 void blocks_name(const struct block *block, char *name, size_t room);
+
+/* Whether there is a notice of this name. */
+int blocks_is_notice(const char *name);
+
+/* What the block is: `denial`, `notice` or `advice`. */
+const char *blocks_kind(const struct block *block);
 
 /* What the block begins with: `deny 6 DeadReference: GetStringLength at libdemo.so+0x116d in Java_Demo_deadLocal`. */
 void blocks_head(const struct block *block, char *text, size_t room);

@@ -50,6 +50,22 @@ void told_free(struct told *told) {
     free(told->help);
 }
 
+static void see_event(const char *key, const char *what, const struct event *event, seeing_event see, void *with) {
+    char text[256];
+    if (event->is_told) {
+        snprintf(text, sizeof text, "%s%s%s", what, event->by ? " by " : "", event->by ? event->by : "");
+        see(key, text, event, with);
+    }
+}
+
+void told_each_event(const struct told *told, seeing_event see, void *with) {
+    see_event("made", told->origin == ORIGIN_UNSEEN ? "first used" : "made", &told->made, see, with);
+    see_event("ended", "ended", &told->ended, see, with);
+    see_event("lent", "lent", &told->lent, see, with);
+    see_event("given_back", "given back", &told->given, see, with);
+    see_event("source", told->verb ? told->verb : "", &told->source, see, with);
+}
+
 /* What the library says of a rule or a kind of advice; or NULL. */
 static char *text_of(int64_t (*say)(uint32_t, uint8_t *, size_t), uint32_t number) {
     uint8_t text[1024];
@@ -155,9 +171,9 @@ static void gather_frame(struct told *told, JNIEnv *env, const jvmtiFrameInfo *f
         (*tool)->GetClassSignature(tool, class, &signature, NULL) == 0) {
         (*tool)->GetSourceFileName(tool, class, &source);
         MAKE_ROOM(told->java, told->java_count, told->java_room);
-        told->java[told->java_count++] = (struct java_frame){.class = must_copy(spell_class(signature)),
-                                                             .method = must_copy(name),
-                                                             .source = source ? must_copy(source) : NULL,
+        told->java[told->java_count++] = (struct java_frame){.class = sites_spelled(spell_class(signature)),
+                                                             .method = sites_spelled(name),
+                                                             .source = source ? sites_spelled(source) : NULL,
                                                              .line = (int)line,
                                                              .is_native = frame->location < 0};
     }
