@@ -24,7 +24,9 @@ enum { ZONE = 256, ZONE_BYTE = 0xA5, GIVEN_BYTE = 0xD6, FEWEST_LISTS = 256, MOST
 struct pair {
     const struct thread *thread;
     jg_value name;
-    int is_machines; /* the machine lent its memory for it, and hasn't got it back */
+    int is_machines;         /* the machine lent its memory for it, and hasn't got it back */
+    uint32_t made_by;
+    const struct site *made; /* the place of the first call */
 };
 
 struct lent {
@@ -567,7 +569,7 @@ static void *lend(struct call *call, void *memory, jboolean *is_copy) {
     if (given.kind != JG_BUFFER) {
         return lend_plain(call, memory);
     }
-    const struct pair pair = {call->thread, given, 1};
+    const struct pair pair = {call->thread, given, 1, call->function, call->site};
     struct lent *lent = is_critical(family) ? lend_critical(call, memory, shape, &pair)
                                             : lend_copy(call, memory, count, shape, &pair);
     if (is_copy != NULL) {
@@ -854,6 +856,23 @@ void buffers_places(const struct lent *lent, const struct site **made, uint32_t 
     *given = lent->given;
 }
 
+const struct site *buffers_region(const struct thread *thread, uint32_t *made_by) {
+    const struct pair *oldest = NULL;
+    spin_lock(&lock);
+    for (const struct lent *it = criticals; it != NULL; it = it->critical) {
+        for (size_t at = 0; at < it->pair_count; at++) {
+            const struct pair *pair = &it->pairs[at];
+            if (pair->thread == thread && (oldest == NULL || pair->name.number < oldest->name.number)) {
+                oldest = pair;
+            }
+        }
+    }
+    const struct site *made = oldest ? oldest->made : NULL;
+    *made_by = oldest ? oldest->made_by : 0;
+    spin_unlock(&lock);
+    return made;
+}
+
 void buffers_thread_ended(struct thread *thread) {
     struct lent *next;
     spin_lock(&lock);
@@ -945,6 +964,9 @@ void buffers_each_site(void (*see)(const struct site *site)) {
         for (const struct lent *it = lists[at]; it != NULL; it = it->next) {
             see(it->made);
             see(it->given);
+            for (size_t pair = 0; pair < it->pair_count; pair++) {
+                see(it->pairs[pair].made);
+            }
         }
     }
     spin_unlock(&lock);

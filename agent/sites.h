@@ -61,6 +61,14 @@ int sites_is_there(const struct site *site, uintptr_t at);
  */
 const struct site *sites_find_caller(struct thread *thread, uintptr_t at, uintptr_t frame);
 
+/*
+ * The native stack of a call whose wrapper has this frame: the places from that of the call on down to the native
+ * method, which Java called, or as far as the unwinder's tables lead. How many they are. The frame 0 has none. The
+ * functions that only pass the call on, the agent's own and the machine's aren't among them.
+ */
+size_t sites_stack(const struct thread *thread, const struct site *site, uintptr_t frame, const struct site **stack,
+                   size_t room);
+
 /* Where a library was unloaded since the last call, each place is looked up again. */
 void sites_check_unloaded(void);
 
@@ -79,6 +87,9 @@ void sites_describe(const struct site *site, char *text, size_t room);
 
 /* Writes ` (demo.c:12)` by addr2line, or nothing. It takes long. */
 void sites_line(const struct site *site, char *text, size_t room);
+
+/* Writes `libdemo.so+0x11cf in helper (demo.c:12)`: the function and the line as far as they are had at once. */
+void sites_describe_at_once(const struct site *site, char *text, size_t room);
 
 /* Grows whenever libraries were unloaded. */
 extern _Atomic uint32_t sites_generation;
