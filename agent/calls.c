@@ -455,6 +455,7 @@ void call_id(struct call *call, const void *id, enum subject subject, char lette
     }
     if (fit == ID_OTHER_RESULT) {
         notice(call, "OtherResult", "the function is of another result type than the method");
+        call->method = (jmethodID)(uintptr_t)id;
         fit = ID_FITS;
     }
     call->reason = REASONS[fit];

@@ -789,24 +789,47 @@ void sites_describe(const struct site *site, char *text, size_t room) {
     }
 }
 
-/* What stands in the source there. A return address is that of the next instruction, so the call stands before it. */
-static void find_source(const struct site *site, enum haste haste, struct source *to) {
-    *to->function = *to->line = 0;
-    if (site != NULL && site->library != &NOWHERE) {
-        sources_find(site->library->path, site->is_return && site->offset ? site->offset - 1 : site->offset, haste, to);
+/* A return address is that of the next instruction, so the call stands before it. A native method has its own. */
+static uintptr_t offset_of(const struct site *site) {
+    return site->is_return && site->offset ? site->offset - 1 : site->offset;
+}
+
+/* Finds what stands at the first places, as many as are in one library. How many these are. */
+static size_t find_some(const struct site *const *all, size_t count, struct source *to, size_t room, size_t *found) {
+    enum { MOST = 16 };
+    uintptr_t offsets[MOST];
+    size_t some = 0;
+    while (some < count && some < MOST && all[some]->library == all[0]->library) {
+        offsets[some] = offset_of(all[some]);
+        some++;
     }
+    *found = all[0]->library == &NOWHERE ? 0 : sources_find(all[0]->library->path, offsets, some, AT_ONCE, to, room);
+    return some;
+}
+
+size_t sites_sources(const struct site *const *all, size_t count, struct source *to, size_t room) {
+    size_t total = 0, found;
+    for (size_t done = 0, some; done < count; done += some) {
+        some = find_some(all + done, count - done, to + total, room - total, &found);
+        for (size_t at = 0; at < found; at++) {
+            to[total + at].which += done;
+        }
+        total += found;
+    }
+    return total;
 }
 
 void sites_line(const struct site *site, char *text, size_t room) {
+    enum { MOST_LINES = 200 };
+    static int count;
     struct source source;
-    find_source(site, AT_END, &source);
-    snprintf(text, room, *source.line ? " (%s)" : "", source.line);
-}
-
-void sites_describe_at_once(const struct site *site, char *text, size_t room) {
-    struct source source;
-    find_source(site, AT_ONCE, &source);
-    const char *symbol = *source.function ? source.function : site->symbol ? site->symbol : "";
-    snprintf(text, room, "%s+0x%lx%s%s%s%s%s", site->library->name, (unsigned long)site->offset, *symbol ? " in " : "",
-             symbol, *source.line ? " (" : "", source.line, *source.line ? ")" : "");
+    *text = 0;
+    /* Each is a process of its own, so a report of very many places does without. */
+    if (count++ >= MOST_LINES || site == NULL || site->library == &NOWHERE) {
+        return;
+    }
+    uintptr_t offset = offset_of(site);
+    if (sources_find(site->library->path, &offset, 1, AT_END, &source, 1) > 0 && source.line > 0) {
+        snprintf(text, room, " (%s:%d)", source.file, source.line);
+    }
 }

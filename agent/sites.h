@@ -7,6 +7,7 @@
 #include "agent.h"
 #include "unwind.h"
 
+struct source;
 struct thread;
 
 struct library {
@@ -88,8 +89,8 @@ void sites_describe(const struct site *site, char *text, size_t room);
 /* Writes ` (demo.c:12)` by addr2line, or nothing. It takes long. */
 void sites_line(const struct site *site, char *text, size_t room);
 
-/* Writes `libdemo.so+0x11cf in helper (demo.c:12)`: the function and the line as far as they are had at once. */
-void sites_describe_at_once(const struct site *site, char *text, size_t room);
+/* What stands in the source at these places (sources.h), as far as it is had at once. How many functions these are. */
+size_t sites_sources(const struct site *const *all, size_t count, struct source *to, size_t room);
 
 /* Grows whenever libraries were unloaded. */
 extern _Atomic uint32_t sites_generation;

@@ -1,109 +1,41 @@
 /*
- * sources.c: what stands in the source at a place in a library, by addr2line.
+ * sources.c: what stands in the source at places in a library, by addr2line.
  *
- * An addr2line runs for each library that is asked about, of the newest few, and is asked through a socket. A shell
- * starts it and ends, so it is no child of the program: a program that waits for its children doesn't wait for it. It
- * has no file of the program's, and ends when the socket is closed.
+ * Each time an addr2line is started and waited for. One that ran on would be a child of the program, which might wait
+ * for all of its children, and would take memory for what it has read. It is started as popen does, by no fork.
  */
 #include "sources.h"
 #include "agent.h"
 #include "sites.h"
 
-#include <dirent.h>
 #include <dlfcn.h>
 #include <errno.h>
 #include <fcntl.h>
 #include <poll.h>
-#include <pthread.h>
+#include <signal.h>
 #include <spawn.h>
 #include <stdio.h>
 #include <stdlib.h>
 #include <string.h>
-#include <sys/socket.h>
 #include <sys/stat.h>
 #include <sys/wait.h>
 #include <time.h>
 #include <unistd.h>
 
-/* How many run at once; how long an answer is waited for, in milliseconds; how large a library is asked about at once. */
-enum { MOST_RUNNING = 4, MOST_BYTES = 64 << 20, MOST_ANSWER = 1 << 20 };
+/* How many places are asked about in one go, how large a library at once, and how long an answer may be, in bytes. */
+enum { MOST_ASKED = 16, MOST_LIBRARY = 64 << 20, MOST_ANSWER = 1 << 20 };
+
+/* How long one answer is waited for, and all that are had at once, in milliseconds. */
 static const int MOST_WAITING[] = {[AT_ONCE] = 1000, [AT_END] = 60000};
+enum { MOST_WAITING_AT_ONCE = 3000 };
+static _Atomic int64_t waited;
 
-/* What runs for a library. */
-struct asked {
-    char *path; /* NULL: a free place */
-    int socket; /* -1: it ended, or took too long */
-    uint64_t newest;
-};
-
-static pthread_mutex_t lock = PTHREAD_MUTEX_INITIALIZER; /* held while one is asked */
-static struct asked running[MOST_RUNNING];
-static uint64_t count;
-
-/* Newer C libraries close all files from a number on. */
+/* Newer C libraries close all files from a number on: the program's are none of addr2line's. */
 static int (*closes_from)(posix_spawn_file_actions_t *actions, int from);
 
 void sources_open(void) {
     void *found = dlsym(RTLD_DEFAULT, "posix_spawn_file_actions_addclosefrom_np");
     memcpy(&closes_from, &found, sizeof found);
-}
-
-/* ---- starting ---- */
-
-/* The program's files are none of addr2line's: it would keep them open. Another thread may open one meanwhile. */
-static void close_others(posix_spawn_file_actions_t *actions) {
-    enum { FIRST = 3 };
-    const struct dirent *it;
-    if (closes_from != NULL && closes_from(actions, FIRST) == 0) {
-        return;
-    }
-    DIR *files = opendir("/proc/self/fd");
-    while (files != NULL && (it = readdir(files)) != NULL) {
-        int file = atoi(it->d_name);
-        if (file >= FIRST) {
-            posix_spawn_file_actions_addclose(actions, file);
-        }
-    }
-    if (files != NULL) {
-        closedir(files);
-    }
-}
-
-/* The shell's job reads what the shell was handed, which is /dev/null else. An interrupt isn't for it. */
-static int spawn(const char *path, int socket) {
-    static char shell[] = "sh", option[] = "-c",
-                command[] = "exec 3<&0; addr2line -a -f -i -e \"$0\" <&3 3<&- 2>/dev/null &";
-    char *words[] = {shell, option, command, (char *)(uintptr_t)path, NULL};
-    posix_spawn_file_actions_t actions;
-    posix_spawnattr_t attributes;
-    pid_t process;
-    posix_spawn_file_actions_init(&actions);
-    posix_spawnattr_init(&attributes);
-    posix_spawn_file_actions_adddup2(&actions, socket, STDIN_FILENO);
-    posix_spawn_file_actions_adddup2(&actions, socket, STDOUT_FILENO);
-    posix_spawn_file_actions_addopen(&actions, STDERR_FILENO, "/dev/null", O_WRONLY, 0);
-    close_others(&actions);
-    posix_spawnattr_setflags(&attributes, POSIX_SPAWN_SETPGROUP);
-    int error = posix_spawn(&process, "/bin/sh", &actions, &attributes, words, environ);
-    posix_spawn_file_actions_destroy(&actions);
-    posix_spawnattr_destroy(&attributes);
-    while (error == 0 && waitpid(process, NULL, 0) < 0 && errno == EINTR) {
-    }
-    return error;
-}
-
-/* A socket to an addr2line of the library, or -1. */
-static int start(const char *path) {
-    int ends[2];
-    if (socketpair(AF_UNIX, SOCK_STREAM | SOCK_CLOEXEC, 0, ends) != 0) {
-        return -1;
-    }
-    if (spawn(path, ends[1]) != 0) {
-        close(ends[0]);
-        ends[0] = -1;
-    }
-    close(ends[1]);
-    return ends[0];
 }
 
 /* ---- asking ---- */
@@ -114,100 +46,79 @@ static int64_t milliseconds(void) {
     return (int64_t)now.tv_sec * 1000 + now.tv_nsec / 1000000;
 }
 
-/* Behind each question stands one that has no answer, so that the end of the answer is known. */
-static const char LAST[] = "0xffffffffffffffff";
-
-static int send_question(int socket, uintptr_t offset) {
-    char text[64];
-    size_t size = (size_t)snprintf(text, sizeof text, "0x%lx\n%s\n", (unsigned long)offset, LAST);
-    return send(socket, text, size, MSG_NOSIGNAL) == (ssize_t)size;
-}
-
-/* Whether the text ends with the answer to the last question: its own line, and two more. */
-static int is_whole(const char *text) {
-    const char *at = strstr(text, LAST);
-    for (int lines = 0; lines < 3 && at != NULL; lines++) {
-        at = strchr(at, '\n');
-        at = at ? at + 1 : NULL;
+/* Starts it, with what it writes going into the pipe. An error, or 0. */
+static int spawn(char *const *words, int pipe, pid_t *process) {
+    posix_spawn_file_actions_t actions;
+    posix_spawn_file_actions_init(&actions);
+    posix_spawn_file_actions_addopen(&actions, STDIN_FILENO, "/dev/null", O_RDONLY, 0);
+    posix_spawn_file_actions_adddup2(&actions, pipe, STDOUT_FILENO);
+    posix_spawn_file_actions_addopen(&actions, STDERR_FILENO, "/dev/null", O_WRONLY, 0);
+    if (closes_from != NULL) {
+        closes_from(&actions, STDERR_FILENO + 1);
     }
-    return at != NULL;
+    int error = posix_spawnp(process, words[0], &actions, NULL, words, environ);
+    posix_spawn_file_actions_destroy(&actions);
+    return error;
 }
 
-/* The answer, which the caller frees; or NULL. */
-static char *receive(int socket, int64_t until) {
-    char *text = NULL;
-    size_t size = 0, room = 0;
+/* The process ends, or is ended. Somebody else may have waited for it: then it may be another one's number by now. */
+static void end(pid_t process, int is_done) {
+    pid_t found = is_done ? 0 : waitpid(process, NULL, WNOHANG);
+    if (found == 0 && !is_done) {
+        kill(process, SIGKILL);
+    }
+    while (found == 0 && waitpid(process, NULL, 0) < 0 && errno == EINTR) {
+    }
+}
+
+/* Reads what it writes, up to its end. Whether that came in time. */
+static int read_all(int pipe, int64_t until, char *text) {
+    size_t size = 0;
     for (;;) {
         int64_t left = until - milliseconds();
-        struct pollfd ready = {.fd = socket, .events = POLLIN};
+        struct pollfd ready = {.fd = pipe, .events = POLLIN};
         int answer = left > 0 ? poll(&ready, 1, (int)left) : 0;
-        if (answer < 0 && errno == EINTR) {
+        ssize_t got = answer > 0 ? read(pipe, text + size, MOST_ANSWER - size) : -1;
+        if ((answer < 0 || (answer > 0 && got < 0)) && errno == EINTR) {
             continue;
         }
-        if (size + 1 >= room) {
-            room = room ? 2 * room : 4096;
-            text = must_grow(text, room);
-        }
-        ssize_t got = answer > 0 ? recv(socket, text + size, room - size - 1, 0) : -1;
-        if (got <= 0 || room > MOST_ANSWER) {
-            free(text);
-            return NULL;
-        }
-        size += (size_t)got;
+        size += got > 0 ? (size_t)got : 0;
         text[size] = 0;
-        if (is_whole(text)) {
-            return text;
+        if (got <= 0 || size == MOST_ANSWER) {
+            return got == 0;
         }
     }
 }
 
-static char *ask(struct asked *it, uintptr_t offset, enum haste haste) {
-    char *text = NULL;
-    if (it->socket >= 0 && send_question(it->socket, offset)) {
-        text = receive(it->socket, milliseconds() + MOST_WAITING[haste]);
+/* What it says; or an empty text. */
+static void ask(char *const *words, int limit, char *text) {
+    int ends[2];
+    pid_t process;
+    *text = 0;
+    if (pipe2(ends, O_CLOEXEC) != 0) {
+        return;
     }
-    if (text == NULL && it->socket >= 0) {
-        close(it->socket);
-        it->socket = -1;
+    int error = spawn(words, ends[1], &process);
+    close(ends[1]);
+    if (error == 0) {
+        int is_done = read_all(ends[0], milliseconds() + limit, text);
+        end(process, is_done);
+        *text = is_done ? *text : 0;
     }
-    return text;
+    close(ends[0]);
 }
 
-/* The place for the library; where it has none yet, that of the library which wasn't asked about for longest. */
-static struct asked *place_of(const char *path, int *is_new) {
-    struct asked *oldest = &running[0];
-    *is_new = 0;
-    for (struct asked *it = running; it < running + MOST_RUNNING; it++) {
-        if (it->path != NULL && strcmp(it->path, path) == 0) {
-            return it;
-        }
-        oldest = it->newest < oldest->newest ? it : oldest;
+/* Asks about the places. With each address that it answers, it writes that first. */
+static void ask_about(const char *path, const uintptr_t *offsets, size_t count, int limit, char *text) {
+    static char program[] = "addr2line", address[] = "-a", function[] = "-f", inlined[] = "-i", library[] = "-e";
+    char *words[MOST_ASKED + 7] = {program, address, function, inlined, library, (char *)(uintptr_t)path};
+    char numbers[MOST_ASKED][24];
+    size_t known = 6;
+    for (size_t at = 0; at < count; at++) {
+        snprintf(numbers[at], sizeof numbers[at], "0x%lx", (unsigned long)offsets[at]);
+        words[known++] = numbers[at];
     }
-    if (oldest->path != NULL && oldest->socket >= 0) {
-        close(oldest->socket);
-    }
-    free(oldest->path);
-    *oldest = (struct asked){must_copy(path), -1, 0};
-    *is_new = 1;
-    return oldest;
-}
-
-/* What addr2line says of the place, or NULL. One that ended is started anew at the end alone. */
-static char *answer_of(const char *path, uintptr_t offset, enum haste haste) {
-    int is_new;
-    char *text = NULL;
-    pthread_mutex_lock(&lock);
-    struct asked *it = place_of(path, &is_new);
-    it->newest = ++count;
-    if (it->socket >= 0) {
-        text = ask(it, offset, haste);
-    }
-    if (text == NULL && (is_new || haste == AT_END)) {
-        it->socket = start(path);
-        text = ask(it, offset, haste);
-    }
-    pthread_mutex_unlock(&lock);
-    return text;
+    ask(words, limit, text);
 }
 
 /* ---- reading ---- */
@@ -223,40 +134,55 @@ static void take(const char *text, char *to, size_t room) {
     free(spelled);
 }
 
-/*
- * Of functions that were inlined the outer one comes behind the inner: what C++ has of JNIEnv is passed over. Each has
- * a line for its name and one for its place.
- */
-static void read_answer(char *text, struct source *to) {
-    char *rest = NULL, *function = NULL, *line = NULL;
-    const char *at = strtok_r(text, "\n", &rest);
-    do {
-        function = strtok_r(NULL, "\n", &rest);
-        if (function == NULL || strncmp(function, LAST, sizeof LAST - 1) == 0) {
-            return;
-        }
-        line = strtok_r(NULL, "\n", &rest);
-        if (line == NULL) {
-            return;
-        }
-        char *note = strstr(line, " (discriminator ");
-        if (note != NULL) {
-            *note = 0;
-        }
-        take(*function == '?' ? "" : function, to->function, sizeof to->function);
-        take(*line == '?' || strstr(line, ":?") != NULL ? "" : name_of(line), to->line, sizeof to->line);
-    } while (at != NULL && strncmp(to->line, "jni.h:", 6) == 0);
+/* Of `/home/demo.c:12 (discriminator 2)`. What isn't known is spelled `?`. */
+static void take_line(char *line, struct source *to) {
+    char *number = strrchr(line, ':');
+    to->line = number ? (int)strtol(number + 1, NULL, 10) : 0;
+    if (*line == '?' || to->line <= 0) {
+        *line = 0;
+        to->line = 0;
+    } else {
+        *number = 0;
+    }
+    take(name_of(line), to->file, sizeof to->file);
 }
 
-void sources_find(const char *path, uintptr_t offset, enum haste haste, struct source *to) {
+/* Behind each address, each function has a line for its name and one for its place. */
+static size_t read_answer(char *text, struct source *to, size_t room) {
+    char *rest = NULL, *line;
+    size_t count = 0, addresses = 0;
+    for (char *word = strtok_r(text, "\n", &rest); word != NULL && count < room; word = strtok_r(NULL, "\n", &rest)) {
+        if (strncmp(word, "0x", 2) == 0) {
+            addresses++;
+        } else if (addresses > 0 && (line = strtok_r(NULL, "\n", &rest)) != NULL) {
+            to[count].which = addresses - 1;
+            take(*word == '?' ? "" : word, to[count].function, sizeof to[count].function);
+            take_line(line, &to[count]);
+            count += strcmp(to[count].file, "jni.h") != 0;
+        }
+    }
+    return count;
+}
+
+/* Whether the program may wait for it now. */
+static int is_worth_it(const char *path, enum haste haste) {
     struct stat file;
-    *to->function = *to->line = 0;
-    if (haste == AT_ONCE && (stat(path, &file) != 0 || file.st_size > MOST_BYTES)) {
-        return;
+    return haste == AT_END ||
+           (waited < MOST_WAITING_AT_ONCE && stat(path, &file) == 0 && file.st_size <= MOST_LIBRARY);
+}
+
+size_t sources_find(const char *path, const uintptr_t *offsets, size_t count, enum haste haste, struct source *to,
+                    size_t room) {
+    if (count > MOST_ASKED || !is_worth_it(path, haste)) {
+        return 0;
     }
-    char *text = answer_of(path, offset, haste);
-    if (text != NULL) {
-        read_answer(text, to);
-    }
+    int64_t begun = milliseconds();
+    char *text = must_grow(NULL, MOST_ANSWER + 1);
+    ask_about(path, offsets, count, MOST_WAITING[haste], text);
+    size_t found = read_answer(text, to, room);
     free(text);
+    if (haste == AT_ONCE) {
+        waited += milliseconds() - begun;
+    }
+    return found;
 }

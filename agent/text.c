@@ -52,14 +52,34 @@ static void say_source(struct lines *to, const struct told *told) {
     }
 }
 
+/* `  native: libdemo.so+0x1133 in helper (demo.c:8)`. A function that isn't exported has its name from the source. */
 static void say_native(struct lines *to, const struct native_frame *frame) {
     char place[512];
     sites_describe(frame->site, place, sizeof place);
+    if (frame->function != NULL) {
+        snprintf(place, sizeof place, "%s+0x%lx in %s", frame->site->library->name, (unsigned long)frame->site->offset,
+                 frame->function);
+    }
     if (frame->file != NULL) {
         lines_say(to, "  native: %s (%s:%d)", place, frame->file, frame->line);
     } else {
         lines_say(to, "  native: %s", place);
     }
+}
+
+/* What belongs to rule 3, to rule 4 and to the notice OtherResult. */
+static void say_more(struct lines *to, const struct told *told) {
+    if (told->method != NULL) {
+        lines_say(to, "  method: %s", told->method);
+    }
+    say_event(to, "region begun", &told->region);
+    if (told->pending != NULL) {
+        lines_say(to, "  pending: %s%s%s", told->pending, told->message ? ": " : "", told->message ? told->message : "");
+        if (!told->thrower.is_told) {
+            lines_say(to, "  left by code that isn't judged");
+        }
+    }
+    say_event(to, "left", &told->thrower);
 }
 
 /* `  java: Demo.main (Demo.java:13)` */
@@ -86,6 +106,7 @@ void text_block(struct lines *to, const struct told *told) {
     say_source(to, told);
     say_operand(to, told);
     say_buffer(to, told);
+    say_more(to, told);
     for (size_t at = 0; at < told->reason_count; at++) {
         lines_say(to, "  %s", told->reasons[at]);
     }
