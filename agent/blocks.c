@@ -36,28 +36,33 @@ void blocks_name(const struct block *block, char *name, size_t room) {
     }
 }
 
-void blocks_head(const struct block *block, char *text, size_t room) {
-    char name[64], place[512];
-    blocks_name(block, name, sizeof name);
+void blocks_call(const struct block *block, char *text, size_t room) {
+    char place[512];
     sites_describe(block->site, place, sizeof place);
+    snprintf(text, room, "%s at %s", blocks_function(block->function), place);
+}
+
+void blocks_head(const struct block *block, char *text, size_t room) {
+    char name[64], call[600];
+    blocks_name(block, name, sizeof name);
+    blocks_call(block, call, sizeof call);
     if (block->rule != 0) {
-        snprintf(text, room, "deny %u %s: %s at %s", (unsigned)block->rule, name, blocks_function(block->function),
-                 place);
+        snprintf(text, room, "deny %u %s: %s", (unsigned)block->rule, name, call);
     } else {
-        snprintf(text, room, "%s %s: %s at %s", block->advice ? "advice" : "notice", name,
-                 blocks_function(block->function), place);
+        snprintf(text, room, "%s %s: %s", block->advice ? "advice" : "notice", name, call);
     }
 }
 
 /* ---- counts ---- */
 
 static size_t place_of(const struct block *of) {
-    uint64_t key = (uintptr_t)of->site + of->function * 31u + of->rule + of->advice * 1021u;
+    uint64_t key = (uintptr_t)of->site + of->function * 31u + of->rule + of->advice * 1021u +
+                   (uintptr_t)of->region * 7;
     size_t at = key * 0x9E3779B97F4A7C15u >> 32 & (place_room - 1);
     while (places[at] != 0) {
         const struct block *it = &blocks[places[at] - 1];
         if (it->rule == of->rule && it->advice == of->advice && it->function == of->function && it->site == of->site &&
-            it->notice == of->notice) {
+            it->notice == of->notice && it->region == of->region) {
             break;
         }
         at = (at + 1) & (place_room - 1);
@@ -74,8 +79,18 @@ static void grow_places(void) {
     }
 }
 
+/* The number of the block that is told of this region's beginning; or 0. Under the lock. */
+static size_t head_of(const struct site *region) {
+    for (size_t at = 0; region != NULL && at < block_count; at++) {
+        if (blocks[at].region == region && blocks[at].head == 0 && !blocks[at].is_suppressed) {
+            return at + 1;
+        }
+    }
+    return 0;
+}
+
 /* Under the lock. */
-static int count(const struct block *of) {
+static int count(struct block *of) {
     if (2 * (block_count + 1) > place_room) {
         grow_places();
     }
@@ -83,6 +98,7 @@ static int count(const struct block *of) {
     int is_first = places[place] == 0;
     if (is_first) {
         MAKE_ROOM(blocks, block_count, block_room);
+        of->head = head_of(of->region);
         blocks[block_count] = *of;
         blocks[block_count].is_suppressed = suppress_has(of);
         places[place] = ++block_count;
@@ -93,7 +109,7 @@ static int count(const struct block *of) {
     return (is_first || (of->advice != 0 && options.advice > 1)) && !found->is_suppressed;
 }
 
-int blocks_count(const struct block *of) {
+int blocks_count(struct block *of) {
     pthread_mutex_lock(&lock);
     int is_told = count(of);
     pthread_mutex_unlock(&lock);
@@ -119,6 +135,7 @@ void blocks_each_site(void (*see)(const struct site *site)) {
     pthread_mutex_lock(&lock);
     for (size_t at = 0; at < block_count; at++) {
         see(blocks[at].site);
+        see(blocks[at].region);
     }
     pthread_mutex_unlock(&lock);
 }

@@ -6,6 +6,7 @@
  */
 #include "report.h"
 #include "blocks.h"
+#include "buffers.h"
 #include "calls.h"
 #include "core.h"
 #include "leaks.h"
@@ -48,7 +49,7 @@ static void write_told(struct told *told) {
     lines_write(&lines);
 }
 
-static void tell(const struct call *call, const struct block *block) {
+static void tell(const struct call *call, struct block *block) {
     if (blocks_count(block)) {
         struct told told;
         sites_read();
@@ -61,19 +62,23 @@ static void tell(const struct call *call, const struct block *block) {
 }
 
 void report_denial(const struct call *call) {
-    const struct block block = {.rule = call->verdict.rule, .function = call->function, .site = call->site};
+    struct block block = {.rule = call->verdict.rule, .function = call->function, .site = call->site};
+    uint32_t begun_by;
+    if (block.rule == RULE_OF_REGIONS) {
+        block.region = buffers_region(call->thread, &begun_by);
+    }
     tell(call, &block);
 }
 
 void report_notice(const struct call *call) {
-    const struct block block = {.function = call->function, .site = call->site, .notice = call->notice};
+    struct block block = {.function = call->function, .site = call->site, .notice = call->notice};
     tell(call, &block);
 }
 
 /* Advice on a call has that call's place. Advice on a fact has none, and is about the earlier call. */
 void report_advice(const jg_advice *advice) {
     const jg_spot *spot = advice->told.place != 0 ? &advice->told : &advice->source;
-    const struct block block = {.advice = advice->kind, .function = spot->function, .site = told_spot(spot)};
+    struct block block = {.advice = advice->kind, .function = spot->function, .site = told_spot(spot)};
     if (blocks_count(&block)) {
         struct told told;
         sites_read();
@@ -95,6 +100,19 @@ static void tell_leaks(struct lines *to, const struct leaks *leaks) {
     }
 }
 
+/* `    also GetStringLength at libdemo.so+0x11d0 in Java_Demo_inCritical (demo.c:22), 3 times` */
+static void tell_beside(struct lines *to, const struct block *known, size_t count, size_t head) {
+    char text[600], line[300];
+    for (size_t at = head; known[head - 1].region != NULL && at < count; at++) {
+        if (known[at].head == head && !known[at].is_suppressed) {
+            blocks_call(&known[at], text, sizeof text);
+            sites_line(known[at].site, line, sizeof line);
+            lines_say(to, "    also %s%s, %llu time%s", text, line, (unsigned long long)known[at].count,
+                      known[at].count > 1 ? "s" : "");
+        }
+    }
+}
+
 static void tell_counts(struct lines *to) {
     char head[1024], line[300];
     uint64_t suppressed = 0;
@@ -108,10 +126,14 @@ static void tell_counts(struct lines *to) {
             suppressed += block->count;
             continue;
         }
+        if (block->head != 0) {
+            continue;
+        }
         blocks_head(block, head, sizeof head);
         sites_line(block->site, line, sizeof line);
         lines_say(to, "  %s%s, %llu time%s", head, line, (unsigned long long)block->count,
                   block->count > 1 ? "s" : "");
+        tell_beside(to, known, count, at + 1);
     }
     free(known);
     if (suppressed > 0) {

@@ -92,8 +92,20 @@ static void say_java(struct lines *to, const struct java_frame *frame) {
     }
 }
 
+/* A further call in a region that began where that of an earlier block did. */
+static void say_beside(struct lines *to, const struct told *told) {
+    char call[600], place[512];
+    blocks_call(&told->block, call, sizeof call);
+    sites_describe(told->block.region, place, sizeof place);
+    lines_say(to, "  also %s, in the region begun at %s", call, place);
+}
+
 void text_block(struct lines *to, const struct told *told) {
     char head[1024];
+    if (told->block.head != 0) {
+        say_beside(to, told);
+        return;
+    }
     blocks_head(&told->block, head, sizeof head);
     if (told->thread_name != NULL) {
         lines_say(to, "%s, thread %u (%s)", head, (unsigned)told->thread, told->thread_name);

@@ -17,7 +17,7 @@
 
 /* How many frames are told, and the rules of which a block says something of its own. */
 enum { MOST_FRAMES = 16, MOST_NATIVE = 8 };
-enum { RULE_OF_REGIONS = 3, RULE_OF_PENDING = 4, RULE_OF_IDS = 10, RULE_OF_FRAMES = 15 };
+enum { RULE_OF_PENDING = 4, RULE_OF_IDS = 10, RULE_OF_FRAMES = 15 };
 
 void told_reason(struct told *told, const char *format, ...) {
     char *text = NULL;
