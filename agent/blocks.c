@@ -16,6 +16,7 @@ static pthread_mutex_t lock = PTHREAD_MUTEX_INITIALIZER;
 static struct block *blocks;
 static size_t block_count, block_room;
 static size_t *places, place_room; /* a hash table of blocks: their numbers from 1 */
+static size_t *heads;              /* another one, of those that are told of a region's beginning */
 static uint64_t denied, tellings;
 
 /* ---- words ---- */
@@ -36,16 +37,20 @@ void blocks_name(const struct block *block, char *name, size_t room) {
     }
 }
 
-void blocks_head(const struct block *block, char *text, size_t room) {
-    char name[64], place[512];
-    blocks_name(block, name, sizeof name);
+void blocks_call(const struct block *block, char *text, size_t room) {
+    char place[512];
     sites_describe(block->site, place, sizeof place);
+    snprintf(text, room, "%s at %s", blocks_function(block->function), place);
+}
+
+void blocks_head(const struct block *block, char *text, size_t room) {
+    char name[64], call[600];
+    blocks_name(block, name, sizeof name);
+    blocks_call(block, call, sizeof call);
     if (block->rule != 0) {
-        snprintf(text, room, "deny %u %s: %s at %s", (unsigned)block->rule, name, blocks_function(block->function),
-                 place);
+        snprintf(text, room, "deny %u %s: %s", (unsigned)block->rule, name, call);
     } else {
-        snprintf(text, room, "%s %s: %s at %s", block->advice ? "advice" : "notice", name,
-                 blocks_function(block->function), place);
+        snprintf(text, room, "%s %s: %s", block->advice ? "advice" : "notice", name, call);
     }
 }
 
@@ -66,14 +71,24 @@ const char *blocks_kind(const struct block *block) {
 /* ---- counts ---- */
 
 static size_t place_of(const struct block *of) {
-    uint64_t key = (uintptr_t)of->site + of->function * 31u + of->rule + of->advice * 1021u;
+    uint64_t key = (uintptr_t)of->site + of->function * 31u + of->rule + of->advice * 1021u +
+                   (uintptr_t)of->region * 7;
     size_t at = key * 0x9E3779B97F4A7C15u >> 32 & (place_room - 1);
     while (places[at] != 0) {
         const struct block *it = &blocks[places[at] - 1];
         if (it->rule == of->rule && it->advice == of->advice && it->function == of->function && it->site == of->site &&
-            it->notice == of->notice) {
+            it->notice == of->notice && it->region == of->region) {
             break;
         }
+        at = (at + 1) & (place_room - 1);
+    }
+    return at;
+}
+
+/* The place of the block that is told of this region's beginning, or where it would be. */
+static size_t head_of(const struct site *region) {
+    size_t at = (uintptr_t)region * 0x9E3779B97F4A7C15u >> 32 & (place_room - 1);
+    while (heads[at] != 0 && blocks[heads[at] - 1].region != region) {
         at = (at + 1) & (place_room - 1);
     }
     return at;
@@ -82,23 +97,34 @@ static size_t place_of(const struct block *of) {
 static void grow_places(void) {
     place_room = place_room ? 2 * place_room : 256;
     free(places);
+    free(heads);
     places = must_make(place_room * sizeof *places);
+    heads = must_make(place_room * sizeof *heads);
     for (size_t at = 0; at < block_count; at++) {
-        places[place_of(&blocks[at])] = at + 1;
+        const struct block *it = &blocks[at];
+        places[place_of(it)] = at + 1;
+        if (it->region != NULL && it->head == 0 && !it->is_suppressed) {
+            heads[head_of(it->region)] = at + 1;
+        }
     }
 }
 
 /* The block of the occurrence, which is made if there is none. Under the lock. */
-static size_t find_or_make(const struct block *of) {
+static size_t find_or_make(struct block *of) {
     if (2 * (block_count + 1) > place_room) {
         grow_places();
     }
     size_t place = place_of(of);
     if (places[place] == 0) {
+        size_t *head = &heads[head_of(of->region)];
         MAKE_ROOM(blocks, block_count, block_room);
-        blocks[block_count] = *of;
-        blocks[block_count].is_suppressed = suppress_has(of);
-        places[place] = ++block_count;
+        of->is_suppressed = suppress_has(of);
+        of->head = of->region ? *head : 0;
+        blocks[block_count++] = *of;
+        places[place] = block_count;
+        if (of->region != NULL && *head == 0 && !of->is_suppressed) {
+            *head = block_count;
+        }
     }
     return places[place];
 }
@@ -109,7 +135,7 @@ static int is_over(const struct block *block) {
 }
 
 /* Under the lock. */
-static struct counted count(const struct block *of) {
+static struct counted count(struct block *of) {
     static int was_over;
     struct counted counted = {find_or_make(of), 0, 0};
     struct block *found = &blocks[counted.number - 1];
@@ -128,7 +154,7 @@ static struct counted count(const struct block *of) {
     return counted;
 }
 
-struct counted blocks_count(const struct block *of) {
+struct counted blocks_count(struct block *of) {
     pthread_mutex_lock(&lock);
     struct counted counted = count(of);
     pthread_mutex_unlock(&lock);
@@ -154,6 +180,7 @@ void blocks_each_site(void (*see)(const struct site *site)) {
     pthread_mutex_lock(&lock);
     for (size_t at = 0; at < block_count; at++) {
         see(blocks[at].site);
+        see(blocks[at].region);
     }
     pthread_mutex_unlock(&lock);
 }

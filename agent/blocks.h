@@ -8,12 +8,17 @@
 
 struct site;
 
+/* The rule of calls in critical regions. */
+enum { RULE_OF_REGIONS = 3 };
+
 struct block {
     uint32_t rule;     /* 0: a notice or advice */
     uint32_t advice;   /* its kind; 0: none */
     uint32_t function; /* or JG_NOBODY */
     const struct site *site;
     const char *notice;
+    const struct site *region; /* of a call in a critical region: where that began, or NULL */
+    size_t head;               /* the number of the block beside which it is told, from 1; 0: it is told alone */
     uint64_t count;
     int is_suppressed;
     int is_told; /* else it was only counted, since `max=` were told */
@@ -25,8 +30,11 @@ struct counted {
     int is_over;   /* it is the first that isn't told since `max=` were */
 };
 
-/* Counts the occurrence. */
-struct counted blocks_count(const struct block *of);
+/*
+ * Counts the occurrence. Of the blocks of one region's beginning the first is told alone, and the others beside that: so
+ * their `head` is set.
+ */
+struct counted blocks_count(struct block *of);
 
 /* How many denials came that aren't suppressed. */
 uint64_t blocks_denied(void);
@@ -48,6 +56,9 @@ int blocks_is_notice(const char *name);
 
 /* What the block is: `denial`, `notice` or `advice`. */
 const char *blocks_kind(const struct block *block);
+
+/* The call and its place: `GetStringLength at libdemo.so+0x116d in Java_Demo_deadLocal`. */
+void blocks_call(const struct block *block, char *text, size_t room);
 
 /* What the block begins with: `deny 6 DeadReference: GetStringLength at libdemo.so+0x116d in Java_Demo_deadLocal`. */
 void blocks_head(const struct block *block, char *text, size_t room);

@@ -47,7 +47,7 @@ static struct json begin(const char *kind) {
 }
 
 static void end(struct json *line) {
-    json_end_object(line);
+    json_end(line);
     write_line(line);
 }
 
@@ -80,7 +80,7 @@ static void put_site(struct json *to, const struct site *site, const char *file,
     json_object(to, "site");
     put_place(to, site);
     put_source(to, file, line);
-    json_end_object(to);
+    json_end(to);
 }
 
 /* ---- blocks ---- */
@@ -95,13 +95,16 @@ static void put_block(struct json *to, size_t number, const struct block *block,
     if (block->function < JG_FUNCTIONS) {
         json_text(to, "function", blocks_function(block->function));
     }
+    if (block->head != 0) {
+        json_number(to, "beside", block->head);
+    }
 }
 
 static void put_thread(struct json *to, const struct told *told) {
     json_object(to, "thread");
     json_number(to, "number", told->thread);
     json_text(to, "name", told->thread_name);
-    json_end_object(to);
+    json_end(to);
 }
 
 static void put_operand(struct json *to, const struct told *told) {
@@ -113,7 +116,7 @@ static void put_operand(struct json *to, const struct told *told) {
     json_number(to, "number", told->operand);
     json_text(to, "name", told->operand_name);
     json_text(to, "origin", ORIGINS[told->origin]);
-    json_end_object(to);
+    json_end(to);
 }
 
 /* A call that the block names beside its own. */
@@ -122,14 +125,24 @@ static void put_event(const char *key, const char *text, const struct event *eve
     json_text(to, "text", text);
     json_text(to, "by", event->by);
     put_site(to, event->site, NULL, 0);
-    json_end_object(to);
+    json_end(to);
+}
+
+static void put_pending(struct json *to, const struct told *told) {
+    if (told->pending != NULL) {
+        json_object(to, "pending");
+        json_text(to, "class", told->pending);
+        json_text(to, "message", told->message);
+        json_end(to);
+    }
 }
 
 static void put_native(struct json *to, const struct native_frame *frame) {
     json_object(to, NULL);
     put_place(to, frame->site);
+    json_text(to, "function", frame->function);
     put_source(to, frame->file, frame->line);
-    json_end_object(to);
+    json_end(to);
 }
 
 static void put_java(struct json *to, const struct java_frame *frame) {
@@ -141,7 +154,7 @@ static void put_java(struct json *to, const struct java_frame *frame) {
         json_number(to, "line", (uint64_t)frame->line);
     }
     json_truth(to, "is_native", frame->is_native);
-    json_end_object(to);
+    json_end(to);
 }
 
 static void put_frames(struct json *to, const struct told *told) {
@@ -156,7 +169,7 @@ static void put_frames(struct json *to, const struct told *told) {
         put_java(to, &told->java[at]);
     }
     json_end_list(to);
-    json_end_object(to);
+    json_end(to);
 }
 
 void events_block(size_t number, const struct told *told, const char *message) {
@@ -170,6 +183,8 @@ void events_block(size_t number, const struct told *told, const char *message) {
     put_operand(&line, told);
     told_each_event(told, put_event, &line);
     json_text(&line, "text", told->sentence);
+    json_text(&line, "method", told->method);
+    put_pending(&line, told);
     json_list(&line, "reasons");
     for (size_t at = 0; at < told->reason_count; at++) {
         json_text(&line, NULL, told->reasons[at]);
@@ -207,24 +222,29 @@ void events_said(const char *text) {
 /* ---- the end ---- */
 
 static void write_leak(const struct leak *leak, const struct source_line *source) {
+    char message[600];
     struct json line = begin("leak");
+    leaks_text(leak, message, sizeof message);
     json_text(&line, "of", leaks_word(leak->kind));
     json_number(&line, "count", leak->count);
     json_text(&line, "function", blocks_function(leak->function));
     put_site(&line, leak->made, source->file, source->line);
+    json_text(&line, "message", message);
     end(&line);
 }
 
 static void write_total(size_t number, const struct total *total) {
-    char name[64];
+    char name[64], message[600];
     struct json line = begin("count");
     blocks_name(&total->block, name, sizeof name);
+    blocks_call(&total->block, message, sizeof message);
     json_text(&line, "of", blocks_kind(&total->block));
     put_block(&line, number, &total->block, name);
     put_site(&line, total->block.site, total->source.file, total->source.line);
     json_number(&line, "count", total->block.count);
     json_truth(&line, "is_told", total->block.is_told);
     json_truth(&line, "is_suppressed", total->block.is_suppressed);
+    json_text(&line, "message", message);
     end(&line);
 }
 
@@ -241,14 +261,14 @@ static void put_owner(struct json *to, const struct owner *owner) {
     json_number(to, "noticed", owner->noticed);
     json_number(to, "advised", owner->advised);
     json_number(to, "suppressed", owner->suppressed);
-    json_end_object(to);
+    json_end(to);
 }
 
 static void put_unused(size_t number, const char *words, void *to) {
     json_object(to, NULL);
     json_number(to, "line", number);
     json_text(to, "text", words);
-    json_end_object(to);
+    json_end(to);
 }
 
 static void write_summary(const struct summary *summary) {

@@ -56,8 +56,8 @@ static void put_string(struct json *to, const char *text) {
         size_t size = length_of(at);
         if (size == 0) {
             snprintf(spelled, sizeof spelled, "\\\\x%02x", *at);
-        } else if (*at == '"' || *at == '\\') {
-            snprintf(spelled, sizeof spelled, "\\%c", *at);
+        } else if (*at == '"' || *at == '\\' || *at == '\n') {
+            snprintf(spelled, sizeof spelled, "\\%c", *at == '\n' ? 'n' : *at);
         } else if (*at < 0x20 || *at == 0x7F) {
             snprintf(spelled, sizeof spelled, "\\u%04x", *at);
         } else {
@@ -87,7 +87,7 @@ void json_object(struct json *to, const char *key) {
     put_text(to, "{");
 }
 
-void json_end_object(struct json *to) {
+void json_end(struct json *to) {
     put_text(to, "}");
 }
 
@@ -144,6 +144,10 @@ void json_uri(struct json *to, const char *key, const char *path) {
 
 void json_line(struct json *to) {
     put_text(to, "\n");
+}
+
+void json_stop(struct json *to) {
+    put(to, "", 1);
 }
 
 void json_empty(struct json *json) {

@@ -17,7 +17,7 @@ struct json {
 };
 
 void json_object(struct json *to, const char *key);
-void json_end_object(struct json *to);
+void json_end(struct json *to);
 void json_list(struct json *to, const char *key);
 void json_end_list(struct json *to);
 
@@ -32,8 +32,9 @@ void json_raw(struct json *to, const char *bytes);
 /* The name of a file as a URI: `file:///tmp/a%20b` of `/tmp/a b`, and a relative one of a relative name. */
 void json_uri(struct json *to, const char *key, const char *path);
 
-/* Adds a line feed. */
+/* Adds a line feed; and a NUL, that the bytes are a text of C. */
 void json_line(struct json *to);
+void json_stop(struct json *to);
 
 /* Takes all bytes away, which were written: what is added next goes on behind them. */
 void json_empty(struct json *json);

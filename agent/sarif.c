@@ -7,6 +7,7 @@
 #include "sarif.h"
 #include "head.h"
 #include "json.h"
+#include "leaks.h"
 #include "options.h"
 #include "output.h"
 #include "sites.h"
@@ -19,6 +20,7 @@
 #include <stdlib.h>
 #include <string.h>
 
+static const char LEAK[] = "leak";
 static const char SCHEMA[] = "https://json.schemastore.org/sarif-2.1.0.json";
 
 static pthread_mutex_t lock = PTHREAD_MUTEX_INITIALIZER;
@@ -32,59 +34,74 @@ int sarif_open(void) {
 
 /* ---- places ---- */
 
-/* The items of a place's location: where it is, and what it is called. */
-static void put_native_place(struct json *to, const struct site *site, const struct source_line *source) {
-    char *name = NULL;
+/* Where a place is: in the source, or in the library. */
+static void put_physical(struct json *to, const struct site *site, const struct source_line *source) {
     int is_in_library = site != NULL && *site->library->path != 0;
     if (source->file != NULL && source->line > 0) {
         json_object(to, "physicalLocation");
         json_object(to, "artifactLocation");
         json_uri(to, "uri", source->file);
-        json_end_object(to);
+        json_end(to);
         json_object(to, "region");
         json_number(to, "startLine", (uint64_t)source->line);
-        json_end_object(to);
-        json_end_object(to);
+        json_end(to);
+        json_end(to);
     } else if (site != NULL) {
         json_object(to, "physicalLocation");
         if (is_in_library) {
             json_object(to, "artifactLocation");
             json_uri(to, "uri", site->library->path);
-            json_end_object(to);
+            json_end(to);
         }
         json_object(to, "address");
         json_number(to, is_in_library ? "relativeAddress" : "absoluteAddress", site->offset);
-        json_end_object(to);
-        json_end_object(to);
+        json_end(to);
+        json_end(to);
     }
+}
+
+/* What it is called. */
+static void put_logical(struct json *to, const char *whole, const char *name) {
     json_list(to, "logicalLocations");
     json_object(to, NULL);
+    json_text(to, "fullyQualifiedName", whole);
+    json_text(to, "name", name);
+    json_text(to, "kind", "function");
+    json_end(to);
+    json_end_list(to);
+}
+
+/* The items of a place's location. `function` is its function's name, or NULL. */
+static void put_place(struct json *to, const struct site *site, const char *function,
+                      const struct source_line *source) {
+    char *name = NULL;
+    put_physical(to, site, source);
     if (site == NULL) {
-        json_text(to, "fullyQualifiedName", "an unknown place");
+        put_logical(to, "an unknown place", NULL);
     } else if (asprintf(&name, "%s+0x%lx%s%s", site->library->name, (unsigned long)site->offset,
-                        site->symbol ? " in " : "", site->symbol ? site->symbol : "") >= 0) {
-        json_text(to, "fullyQualifiedName", name);
-        json_text(to, "name", site->symbol);
+                        function ? " in " : "", function ? function : "") >= 0) {
+        put_logical(to, name, function);
         free(name);
     }
-    json_text(to, "kind", "function");
-    json_end_object(to);
-    json_end_list(to);
+}
+
+static const char *symbol_of(const struct site *site) {
+    return site ? site->symbol : NULL;
 }
 
 static void put_message(struct json *to, const char *text) {
     json_object(to, "message");
     json_text(to, "text", text);
-    json_end_object(to);
+    json_end(to);
 }
 
 static void put_related(const char *key, const char *text, const struct event *event, void *to) {
     const struct source_line none = {NULL, 0};
     (void)key;
     json_object(to, NULL);
-    put_native_place(to, event->site, &none);
+    put_place(to, event->site, symbol_of(event->site), &none);
     put_message(to, text);
-    json_end_object(to);
+    json_end(to);
 }
 
 /* ---- frames ---- */
@@ -93,38 +110,24 @@ static void put_native_frame(struct json *to, const struct native_frame *frame) 
     const struct source_line source = {frame->file, frame->line};
     json_object(to, NULL);
     json_object(to, "location");
-    put_native_place(to, frame->site, &source);
-    json_end_object(to);
+    put_place(to, frame->site, frame->function ? frame->function : frame->site->symbol, &source);
+    json_end(to);
     json_text(to, "module", frame->site->library->name);
-    json_end_object(to);
+    json_end(to);
 }
 
 static void put_java_frame(struct json *to, const struct java_frame *frame) {
+    const struct source_line source = {frame->line > 0 ? frame->source : NULL, frame->line};
     char *name = NULL;
     json_object(to, NULL);
     json_object(to, "location");
-    if (frame->source != NULL && frame->line > 0) {
-        json_object(to, "physicalLocation");
-        json_object(to, "artifactLocation");
-        json_uri(to, "uri", frame->source);
-        json_end_object(to);
-        json_object(to, "region");
-        json_number(to, "startLine", (uint64_t)frame->line);
-        json_end_object(to);
-        json_end_object(to);
-    }
-    json_list(to, "logicalLocations");
-    json_object(to, NULL);
+    put_physical(to, NULL, &source);
     if (asprintf(&name, "%s.%s", frame->class, frame->method) >= 0) {
-        json_text(to, "fullyQualifiedName", name);
+        put_logical(to, name, frame->method);
         free(name);
     }
-    json_text(to, "name", frame->method);
-    json_text(to, "kind", "function");
-    json_end_object(to);
-    json_end_list(to);
-    json_end_object(to);
-    json_end_object(to);
+    json_end(to);
+    json_end(to);
 }
 
 static void put_stack(struct json *to, const struct told *told) {
@@ -138,7 +141,7 @@ static void put_stack(struct json *to, const struct told *told) {
         put_java_frame(to, &told->java[at]);
     }
     json_end_list(to);
-    json_end_object(to);
+    json_end(to);
     json_end_list(to);
 }
 
@@ -208,7 +211,7 @@ void sarif_keep(size_t number, const struct told *told, const char *message) {
     if (told->native_count + told->java_count > 0) {
         put_stack(&items, told);
     }
-    json_end(&items);
+    json_stop(&items);
     pthread_mutex_lock(&lock);
     keep_rule(told);
     int is_kept = !items.is_lost && keep_text(number, items.bytes);
@@ -260,7 +263,7 @@ static void put_sentence(struct json *to, const char *key, const char *text) {
     if (text != NULL) {
         json_object(to, key);
         json_text(to, "text", text);
-        json_end_object(to);
+        json_end(to);
     }
 }
 
@@ -275,9 +278,9 @@ static void put_rules(struct json *to, const struct rules *rules) {
         if (it->number != 0) {
             json_object(to, "properties");
             json_number(to, "rule", it->number);
-            json_end_object(to);
+            json_end(to);
         }
-        json_end_object(to);
+        json_end(to);
     }
     json_end_list(to);
 }
@@ -295,14 +298,14 @@ static void end_result(struct json *to, const struct site *site, const struct so
                        const char *print) {
     json_list(to, "locations");
     json_object(to, NULL);
-    put_native_place(to, site, source);
-    json_end_object(to);
+    put_place(to, site, symbol_of(site), source);
+    json_end(to);
     json_end_list(to);
     json_number(to, "occurrenceCount", count);
     json_object(to, "partialFingerprints");
     json_text(to, "place/v1", print);
-    json_end_object(to);
-    json_end_object(to);
+    json_end(to);
+    json_end(to);
     flush(to);
 }
 
@@ -316,21 +319,87 @@ static void put_total(struct json *to, struct rules *rules, size_t number, const
     if (items != NULL) {
         json_raw(to, items);
     } else {
-        char *message = text_place(block);
+        char message[600];
+        blocks_call(block, message, sizeof message);
         put_message(to, message);
-        free(message);
     }
     end_result(to, block->site, &total->source, block->count, print);
     free(print);
 }
 
-/* A leak is one of `leak`, whatever it is of. */
+/* A leak is a result of the rule `leak`, whatever it is of. */
 static void put_leak(struct json *to, struct rules *rules, const struct leak *leak, const struct source_line *source) {
-    const struct block block = {.function = leak->function, .site = leak->made};
-    char *message = text_leak(leak), *place = suppress_line(&block), *print = NULL;
-    begin_result(to, rules, must_copy("leak"), 0, "warning");
+    char message[600], *print = suppress_print(LEAK, leak->function, leak->made);
+    leaks_text(leak, message, sizeof message);
+    begin_result(to, rules, must_copy(LEAK), 0, "warning");
     put_message(to, message);
     end_result(to, leak->made, source, leak->count, print);
-    free(message);
-    free(place);
+    free(print);
+}
+
+static void put_results(struct json *to, struct rules *rules, const struct summary *summary) {
+    json_list(to, "results");
+    for (size_t at = 0; at < summary->total_count; at++) {
+        if (!summary->totals[at].block.is_suppressed) {
+            put_total(to, rules, at + 1, &summary->totals[at]);
+        }
+    }
+    for (size_t at = 0; at < summary->leaks.count; at++) {
+        put_leak(to, rules, &summary->leaks.items[at], &summary->leak_sources[at]);
+    }
+    json_end_list(to);
+}
+
+/* The process, of which it is known here that it came to its end. */
+static void put_invocation(struct json *to, const struct head *head) {
+    json_list(to, "invocations");
+    json_object(to, NULL);
+    json_truth(to, "executionSuccessful", 1);
+    json_number(to, "processId", (uint64_t)head->process);
+    json_object(to, "properties");
+    json_text(to, "jdk", head->jdk);
+    json_text(to, "options", head->options);
+    json_end(to);
+    json_end(to);
+    json_end_list(to);
+}
+
+static void put_tool(struct json *to, const struct head *head, const struct rules *rules) {
+    json_object(to, "tool");
+    json_object(to, "driver");
+    json_text(to, "name", "jg");
+    json_text(to, "version", head->version);
+    put_rules(to, rules);
+    json_end(to);
+    json_end(to);
+}
+
+/* The results come first, since the rules are those of results. */
+void sarif_end(const struct head *head, const struct summary *summary) {
+    struct json text = {NULL, 0, 0, 0, 0};
+    struct rules rules = {.count = 0};
+    if (!output_is_open(&output)) {
+        return;
+    }
+    json_object(&text, NULL);
+    json_text(&text, "$schema", SCHEMA);
+    json_text(&text, "version", "2.1.0");
+    json_list(&text, "runs");
+    json_object(&text, NULL);
+    put_results(&text, &rules, summary);
+    put_tool(&text, head, &rules);
+    put_invocation(&text, head);
+    json_text(&text, "columnKind", "utf16CodeUnits");
+    json_end(&text);
+    json_end_list(&text);
+    json_end(&text);
+    json_line(&text);
+    flush(&text);
+    if (text.is_lost) {
+        fprintf(stderr, "jg: memory ran out for %s, which isn't whole\n", output.path);
+    }
+    for (size_t at = 0; at < rules.count; at++) {
+        free(rules.items[at].name);
+    }
+    json_free(&text);
 }

@@ -98,6 +98,15 @@ static void gather_totals(struct summary *summary) {
         }
     }
     free(known);
+    /* From the last one: so each comes before those that were added, which are later ones. */
+    for (size_t at = summary->total_count; at > 0; at--) {
+        struct total *total = &summary->totals[at - 1];
+        if (total->block.head != 0 && !total->block.is_suppressed) {
+            struct total *head = &summary->totals[total->block.head - 1];
+            total->beside = head->beside;
+            head->beside = at;
+        }
+    }
 }
 
 static void gather_leaks(struct summary *summary, const struct leaks *leaks) {
@@ -109,7 +118,7 @@ static void gather_leaks(struct summary *summary, const struct leaks *leaks) {
 }
 
 void summary_gather(struct summary *summary, const struct leaks *leaks) {
-    *summary = (struct summary){.judged = counts.asked + threads_repeated()};
+    *summary = (struct summary){.judged = counts.asked + threads_repeated(), .denied = counts.denied};
     if (options.lists_leaks) {
         gather_leaks(summary, leaks);
     }

@@ -20,6 +20,7 @@ struct source_line {
 struct total {
     struct block block;
     struct source_line source;
+    size_t beside; /* the number of the next block that is told beside the same one as this, or beside this; or 0 */
 };
 
 /* The blocks of one library that aren't suppressed, and how often they came. */
@@ -37,7 +38,7 @@ struct summary {
     size_t total_count;
     struct owner *owners; /* the most denials come first */
     size_t owner_count;
-    uint64_t judged, suppressed;
+    uint64_t judged, denied, suppressed;
 };
 
 /* Gathers all; the leaks were looked for before. */

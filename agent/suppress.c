@@ -227,18 +227,25 @@ static char *add_word(char *end, const char *word) {
     return end;
 }
 
-char *suppress_line(const struct block *block) {
-    const char *library = block->site ? block->site->library->name : "*";
-    const char *symbol = block->site && block->site->symbol ? block->site->symbol : NULL;
-    const char *function = block->function < JG_FUNCTIONS ? blocks_function(block->function) : "*";
-    char name[64];
-    name_of(block, name, sizeof name);
-    char *line = must_make(4 * (strlen(name) + strlen(function) + strlen(library) + (symbol ? strlen(symbol) : 0)) + 4);
-    char *end = stpcpy(stpcpy(stpcpy(stpcpy(line, name), " "), function), " ");
-    end = add_word(end, library);
-    if (symbol != NULL) {
-        *end++ = ' ';
-        add_word(end, symbol);
+char *suppress_print(const char *rule, uint32_t function, const struct site *site) {
+    const char *library = site ? site->library->name : "*", *symbol = site && site->symbol ? site->symbol : "";
+    const char *name = function < JG_FUNCTIONS ? blocks_function(function) : "*";
+    char *line = malloc(strlen(rule) + strlen(name) + 4 * (strlen(library) + strlen(symbol)) + 4);
+    if (line != NULL) {
+        char *end = add_word(stpcpy(stpcpy(stpcpy(stpcpy(line, rule), " "), name), " "), library);
+        add_word(*symbol ? stpcpy(end, " ") : end, symbol);
     }
     return line;
+}
+
+char *suppress_rule(const struct block *block) {
+    char name[64];
+    name_of(block, name, sizeof name);
+    return strdup(name);
+}
+
+char *suppress_line(const struct block *block) {
+    char name[64];
+    name_of(block, name, sizeof name);
+    return suppress_print(name, block->function, block->site);
 }

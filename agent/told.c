@@ -4,8 +4,10 @@
 #include "told.h"
 #include "buffers.h"
 #include "calls.h"
+#include "exceptions.h"
 #include "names.h"
 #include "sites.h"
+#include "sources.h"
 #include "threads.h"
 
 #include <stdarg.h>
@@ -13,8 +15,9 @@
 #include <stdlib.h>
 #include <string.h>
 
-/* Rule 10 is that of IDs, of which a block says why they don't fit. */
-enum { MOST_FRAMES = 16, RULE_OF_IDS = 10 };
+/* How many frames are told, and the rules of which a block says something of its own. */
+enum { MOST_FRAMES = 16, MOST_NATIVE = 8 };
+enum { RULE_OF_PENDING = 4, RULE_OF_IDS = 10, RULE_OF_FRAMES = 15 };
 
 void told_reason(struct told *told, const char *format, ...) {
     char *text = NULL;
@@ -28,13 +31,19 @@ void told_reason(struct told *told, const char *format, ...) {
     }
 }
 
+static void free_native(struct told *told) {
+    while (told->native_count > 0) {
+        struct native_frame *last = &told->native[--told->native_count];
+        free(last->function);
+        free(last->file);
+    }
+}
+
 void told_free(struct told *told) {
     for (size_t at = 0; at < told->reason_count; at++) {
         free(told->reasons[at]);
     }
-    for (size_t at = 0; at < told->native_count; at++) {
-        free(told->native[at].file);
-    }
+    free_native(told);
     for (size_t at = 0; at < told->java_count; at++) {
         free(told->java[at].class);
         free(told->java[at].method);
@@ -44,6 +53,9 @@ void told_free(struct told *told) {
     free(told->native);
     free(told->java);
     free(told->thread_name);
+    free(told->pending);
+    free(told->message);
+    free(told->method);
     free(told->sentence);
     free(told->verb);
     free(told->rule_text);
@@ -63,6 +75,8 @@ void told_each_event(const struct told *told, seeing_event see, void *with) {
     see_event("ended", "ended", &told->ended, see, with);
     see_event("lent", "lent", &told->lent, see, with);
     see_event("given_back", "given back", &told->given, see, with);
+    see_event("region", "region begun", &told->region, see, with);
+    see_event("left", "left", &told->thrower, see, with);
     see_event("source", told->verb ? told->verb : "", &told->source, see, with);
 }
 
@@ -196,6 +210,100 @@ static void gather_frames(struct told *told, const struct thread *thread) {
     }
 }
 
+static void add_native(struct told *told, const struct site *site, const struct source *source) {
+    if (told->native_count < MOST_NATIVE) {
+        MAKE_ROOM(told->native, told->native_count, told->native_room);
+        told->native[told->native_count++] =
+            (struct native_frame){.site = site,
+                                  .function = *source->function ? must_copy(source->function) : NULL,
+                                  .file = source->line > 0 ? must_copy(source->file) : NULL,
+                                  .line = source->line};
+    }
+}
+
+/* Those of native code, with functions that were inlined; where there is more than the call's own. */
+static void gather_native(struct told *told, const struct call *call) {
+    static const struct source NONE = {0, "", "", 0};
+    const struct site *stack[MOST_NATIVE];
+    struct source sources[2 * MOST_NATIVE];
+    size_t count = sites_stack(call->thread, call->site, call->frame, stack, MOST_NATIVE);
+    size_t found = sites_sources(stack, count, sources, 2 * MOST_NATIVE);
+    for (size_t at = 0; at < count; at++) {
+        size_t before = told->native_count;
+        for (size_t some = 0; some < found; some++) {
+            if (sources[some].which == at) {
+                add_native(told, stack[at], &sources[some]);
+            }
+        }
+        if (told->native_count == before) {
+            add_native(told, stack[at], &NONE);
+        }
+    }
+    if (told->native_count == 1) {
+        free_native(told);
+    }
+}
+
+/* ---- what belongs to a rule or a notice ---- */
+
+static void gather_region(struct told *told, const struct call *call) {
+    uint32_t made_by;
+    const struct site *made = buffers_region(call->thread, &made_by);
+    told->region = (struct event){made != NULL, rows[made_by].name, made};
+}
+
+static void gather_pending(struct told *told, const struct call *call) {
+    struct pending pending;
+    if (is_live && call->is_own_env) {
+        exceptions_describe(call->thread, &pending);
+        told->pending = pending.class ? sites_spelled(pending.class) : NULL;
+        told->message = pending.message ? must_copy(pending.message) : NULL;
+        told->thrower = (struct event){pending.site != NULL, rows[pending.function].name, pending.site};
+        exceptions_forget(&pending);
+    }
+}
+
+static void gather_method(struct told *told, JNIEnv *env, jmethodID method) {
+    char *name = NULL, *type = NULL, *signature = NULL, *whole = NULL;
+    jclass class = NULL;
+    if ((*tool)->GetMethodName(tool, method, &name, &type, NULL) == 0 &&
+        (*tool)->GetMethodDeclaringClass(tool, method, &class) == 0 &&
+        (*tool)->GetClassSignature(tool, class, &signature, NULL) == 0 &&
+        asprintf(&whole, "%s.%s %s", spell_class(signature), name, type) >= 0) {
+        told->method = sites_spelled(whole);
+        free(whole);
+    }
+    (*tool)->Deallocate(tool, (unsigned char *)name);
+    (*tool)->Deallocate(tool, (unsigned char *)type);
+    (*tool)->Deallocate(tool, (unsigned char *)signature);
+    machine->DeleteLocalRef(env, class);
+}
+
+/* What helps: that of rule 15 is about frames. Of the notices only NullText has one. */
+static char *help_of(const struct call *call, const struct block *block) {
+    if (block->rule == RULE_OF_FRAMES && call->function == JG_FN_DetachCurrentThread) {
+        return must_copy("detach a thread that native code attached, once no native method runs in it");
+    }
+    if (block->rule == 0) {
+        int is_null = strcmp(call->notice, "NullText") == 0;
+        return is_null ? must_copy("make no string where there is no text: HotSpot answers NULL") : NULL;
+    }
+    return text_of(jg_help_text, block->rule);
+}
+
+static void gather_more(struct told *told, const struct call *call, const struct block *block) {
+    if (block->rule == RULE_OF_REGIONS) {
+        gather_region(told, call);
+    } else if (block->rule == RULE_OF_PENDING) {
+        gather_pending(told, call);
+    } else if (block->rule == RULE_OF_IDS && call->reason != NULL) {
+        told_reason(told, "%s", call->reason);
+    } else if (block->rule == 0 && call->method != NULL) {
+        gather_method(told, call->env, call->method);
+    }
+    told->help = help_of(call, block);
+}
+
 /* The name of this Java thread; or none. */
 static void gather_thread(struct told *told, const struct thread *thread) {
     jvmtiThreadInfo info;
@@ -221,14 +329,12 @@ void told_of_call(struct told *told, const struct call *call, const struct block
     if (block->rule != 0) {
         gather_operand(told, call);
         gather_buffer(told, call);
-        if (block->rule == RULE_OF_IDS && call->reason != NULL) {
-            told_reason(told, "%s", call->reason);
-        }
         told->rule_text = text_of(jg_rule_text, block->rule);
-        told->help = text_of(jg_help_text, block->rule);
     } else {
         told->sentence = must_copy(call->notice_text);
     }
+    gather_more(told, call, block);
+    gather_native(told, call);
     gather_frames(told, call->thread);
 }
 

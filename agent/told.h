@@ -31,7 +31,8 @@ enum origin {
 /* A frame of native code, from the block's own place outwards; with its line where that is known at once. */
 struct native_frame {
     const struct site *site;
-    char *file; /* or NULL */
+    char *function; /* or NULL: what the library exports there is that of the place */
+    char *file;     /* or NULL */
     int line;
 };
 
@@ -54,6 +55,12 @@ struct told {
     enum origin origin;
     struct event made, ended; /* of the operand */
     struct event lent, given; /* of the buffer that is released or was stored into; given: by no name */
+
+    struct event region;  /* of a call in a critical region: where that began */
+    char *pending;        /* with an exception pending: its class; or NULL */
+    char *message;        /* what it says, or NULL */
+    struct event thrower; /* the call that left it, if it is told */
+    char *method;         /* of another result type than the function, or NULL: `Demo.run ()I` */
 
     char *sentence;      /* what a notice or advice says, or NULL */
     struct event source; /* the earlier call that advice names */
