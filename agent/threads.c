@@ -136,6 +136,14 @@ uint64_t threads_repeated(void) {
     return count;
 }
 
+void threads_each_site(void (*see)(const struct site *site)) {
+    pthread_mutex_lock(&lock);
+    for (const struct thread *it = threads; it != NULL; it = it->next) {
+        see(it->thrower.site);
+    }
+    pthread_mutex_unlock(&lock);
+}
+
 static void make_key(void) {
     pthread_key_create(&ending, let_go);
 }
