@@ -100,10 +100,20 @@ static void tell_leaks(struct lines *to, const struct leaks *leaks) {
     }
 }
 
-/* `    also GetStringLength at libdemo.so+0x11d0 in Java_Demo_inCritical (demo.c:22), 3 times` */
-static void tell_beside(struct lines *to, const struct block *known, size_t count, size_t head) {
+/*
+ * `    in the region begun at libdemo.so+0x11b2 in Java_Demo_inCritical (demo.c:20)` and
+ * `    also GetStringLength at libdemo.so+0x11d0 in Java_Demo_inCritical (demo.c:22), 3 times`
+ */
+static void tell_region(struct lines *to, const struct block *known, size_t count, size_t head) {
     char text[600], line[300];
-    for (size_t at = head; known[head - 1].region != NULL && at < count; at++) {
+    const struct site *region = known[head - 1].region;
+    if (region == NULL) {
+        return;
+    }
+    sites_describe(region, text, sizeof text);
+    sites_line(region, line, sizeof line);
+    lines_say(to, "    in the region begun at %s%s", text, line);
+    for (size_t at = head; at < count; at++) {
         if (known[at].head == head && !known[at].is_suppressed) {
             blocks_call(&known[at], text, sizeof text);
             sites_line(known[at].site, line, sizeof line);
@@ -133,7 +143,7 @@ static void tell_counts(struct lines *to) {
         sites_line(block->site, line, sizeof line);
         lines_say(to, "  %s%s, %llu time%s", head, line, (unsigned long long)block->count,
                   block->count > 1 ? "s" : "");
-        tell_beside(to, known, count, at + 1);
+        tell_region(to, known, count, at + 1);
     }
     free(known);
     if (suppressed > 0) {
