@@ -22,8 +22,8 @@ void wild(JNIEnv *env, jstring made, inner run);
 
 /* Functions of which nothing is known. In the frame pointer stands a place on the stack, or none at all. */
 #define JUNK(name, value)                                                                                              \
-    __asm__(".globl " name "\n.type " name ", @function\n" name ":\n"                                                   \
-            "pushq %rbp\n" value "\ncall *%rdx\npopq %rbp\nret\n.size " name ", . - " name "\n")
+    __asm__(".globl " name "\n.type " name ", @function\n"                                                             \
+            name ": pushq %rbp\n" value "\ncall *%rdx\npopq %rbp\nret\n.size " name ", . - " name "\n")
 JUNK("junk", "leaq 24(%rsp), %rbp");
 JUNK("wild", "movq $0x123456789, %rbp");
 
@@ -280,10 +280,10 @@ static const struct {
 } CASES[] = {
     {"plain", plain}, {"inlines", inlines}, {"aligns", aligns}, {"without_both", without_both},
     {"by_frame_pointer", by_frame_pointer}, {"by_junk", by_junk}, {"by_wild", by_wild}, {"deep", deep},
-    {"threads", threads}, {"calls_back", calls_back}, {"stores", stores}, {"pending_call", pending_call}, {"pending_new", pending_new},
-    {"pending_silent", pending_silent}, {"pending_beside", pending_beside}, {"pending_other", pending_other},
-    {"regions", regions}, {"other_result", other_result}, {"null_text", null_text}, {"detaches", detaches},
-    {"pops", pops},
+    {"threads", threads}, {"calls_back", calls_back}, {"stores", stores}, {"pending_call", pending_call},
+    {"pending_new", pending_new}, {"pending_silent", pending_silent}, {"pending_beside", pending_beside},
+    {"pending_other", pending_other}, {"regions", regions}, {"other_result", other_result},
+    {"null_text", null_text}, {"detaches", detaches}, {"pops", pops},
 };
 
 JNIEXPORT void JNICALL Java_Told_run(JNIEnv *env, jclass class, jstring name, jstring text, jintArray numbers,
