@@ -16,7 +16,8 @@ static pthread_mutex_t lock = PTHREAD_MUTEX_INITIALIZER;
 static struct block *blocks;
 static size_t block_count, block_room;
 static size_t *places, place_room; /* a hash table of blocks: their numbers from 1 */
-static uint64_t told;
+static size_t *heads;              /* another one, of those that are told of a region's beginning */
+static uint64_t denied, tellings;
 
 /* ---- words ---- */
 
@@ -53,6 +54,20 @@ void blocks_head(const struct block *block, char *text, size_t room) {
     }
 }
 
+int blocks_is_notice(const char *name) {
+    static const char *const NOTICES[] = {"OtherResult", "NotThrowable", "NullText", "NotUtf8"};
+    for (size_t at = 0; at < sizeof NOTICES / sizeof *NOTICES; at++) {
+        if (strcmp(NOTICES[at], name) == 0) {
+            return 1;
+        }
+    }
+    return 0;
+}
+
+const char *blocks_kind(const struct block *block) {
+    return block->rule ? "denial" : block->advice ? "advice" : "notice";
+}
+
 /* ---- counts ---- */
 
 static size_t place_of(const struct block *of) {
@@ -70,54 +85,84 @@ static size_t place_of(const struct block *of) {
     return at;
 }
 
+/* The place of the block that is told of this region's beginning, or where it would be. */
+static size_t head_of(const struct site *region) {
+    size_t at = (uintptr_t)region * 0x9E3779B97F4A7C15u >> 32 & (place_room - 1);
+    while (heads[at] != 0 && blocks[heads[at] - 1].region != region) {
+        at = (at + 1) & (place_room - 1);
+    }
+    return at;
+}
+
 static void grow_places(void) {
     place_room = place_room ? 2 * place_room : 256;
     free(places);
+    free(heads);
     places = must_make(place_room * sizeof *places);
+    heads = must_make(place_room * sizeof *heads);
     for (size_t at = 0; at < block_count; at++) {
-        places[place_of(&blocks[at])] = at + 1;
-    }
-}
-
-/* The number of the block that is told of this region's beginning; or 0. Under the lock. */
-static size_t head_of(const struct site *region) {
-    for (size_t at = 0; region != NULL && at < block_count; at++) {
-        if (blocks[at].region == region && blocks[at].head == 0 && !blocks[at].is_suppressed) {
-            return at + 1;
+        const struct block *it = &blocks[at];
+        places[place_of(it)] = at + 1;
+        if (it->region != NULL && it->head == 0 && !it->is_suppressed) {
+            heads[head_of(it->region)] = at + 1;
         }
     }
-    return 0;
 }
 
-/* Under the lock. */
-static int count(struct block *of) {
+/* The block of the occurrence, which is made if there is none. Under the lock. */
+static size_t find_or_make(struct block *of) {
     if (2 * (block_count + 1) > place_room) {
         grow_places();
     }
     size_t place = place_of(of);
-    int is_first = places[place] == 0;
-    if (is_first) {
+    if (places[place] == 0) {
+        size_t *head = &heads[head_of(of->region)];
         MAKE_ROOM(blocks, block_count, block_room);
-        of->head = head_of(of->region);
-        blocks[block_count] = *of;
-        blocks[block_count].is_suppressed = suppress_has(of);
-        places[place] = ++block_count;
+        of->is_suppressed = suppress_has(of);
+        of->head = of->region ? *head : 0;
+        blocks[block_count++] = *of;
+        places[place] = block_count;
+        if (of->region != NULL && *head == 0 && !of->is_suppressed) {
+            *head = block_count;
+        }
     }
-    struct block *found = &blocks[places[place] - 1];
-    found->count++;
-    told += !found->is_suppressed && of->rule != 0;
-    return (is_first || (of->advice != 0 && options.advice > 1)) && !found->is_suppressed;
+    return places[place];
 }
 
-int blocks_count(struct block *of) {
+/* Whether as many were told as `max=` allows. A denial by which the program is ended is told all the same. */
+static int is_over(const struct block *block) {
+    return options.most >= 0 && tellings >= (uint64_t)options.most && !(block->rule && options_is_fatal(block->rule));
+}
+
+/* Under the lock. */
+static struct counted count(struct block *of) {
+    static int was_over;
+    struct counted counted = {find_or_make(of), 0, 0};
+    struct block *found = &blocks[counted.number - 1];
+    found->count++;
+    denied += !found->is_suppressed && of->rule != 0;
+    if (found->is_suppressed || (found->count > 1 && (of->advice == 0 || options.advice < 2))) {
+        return counted;
+    }
+    if (is_over(found)) {
+        counted.is_over = !was_over;
+        was_over = 1;
+        return counted;
+    }
+    tellings++;
+    counted.is_told = found->is_told = 1;
+    return counted;
+}
+
+struct counted blocks_count(struct block *of) {
     pthread_mutex_lock(&lock);
-    int is_told = count(of);
+    struct counted counted = count(of);
     pthread_mutex_unlock(&lock);
-    return is_told;
+    return counted;
 }
 
 uint64_t blocks_denied(void) {
-    return told;
+    return denied;
 }
 
 struct block *blocks_copy(size_t *count) {

@@ -6,7 +6,9 @@
 #include "monitors.h"
 #include "names.h"
 #include "sites.h"
+#include "table.h"
 
+#include <stdio.h>
 #include <stdlib.h>
 #include <string.h>
 
@@ -71,4 +73,11 @@ const char *leaks_word(uint32_t kind) {
                                         [JG_BUFFER] = "buffers",
                                         [JG_OBJECT] = "monitors"};
     return WORDS[kind];
+}
+
+void leaks_text(const struct leak *leak, char *text, size_t room) {
+    char place[512];
+    sites_describe(leak->made, place, sizeof place);
+    snprintf(text, room, "%llu %s of %s at %s", (unsigned long long)leak->count, leaks_word(leak->kind),
+             rows[leak->function].name, place);
 }

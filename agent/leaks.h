@@ -26,4 +26,7 @@ void leaks_find(struct leaks *leaks);
 /* What leaks of the kind are called: `global references`. */
 const char *leaks_word(uint32_t kind);
 
+/* `3 global references of NewGlobalRef at libdemo.so+0x11d0 in Java_Demo_leaves` */
+void leaks_text(const struct leak *leak, char *text, size_t room);
+
 #endif

@@ -9,20 +9,31 @@
 #include "buffers.h"
 #include "calls.h"
 #include "core.h"
+#include "events.h"
+#include "head.h"
 #include "leaks.h"
 #include "lines.h"
 #include "natives.h"
 #include "options.h"
+#include "output.h"
+#include "sarif.h"
 #include "sites.h"
+#include "summary.h"
 #include "suppress.h"
 #include "text.h"
 #include "told.h"
 
 #include <stdarg.h>
+#include <stdio.h>
 #include <stdlib.h>
+#include <string.h>
+
+static struct output suppressing = {NULL, -1}; /* the file of `gen-suppress=` */
 
 int report_open(void) {
-    return lines_open() != 0 || suppress_open() != 0 ? -1 : 0;
+    int is_open = lines_open() == 0 && events_open() == 0 && sarif_open() == 0 &&
+                  output_open(&suppressing, options.suppressing) == 0;
+    return is_open ? suppress_open() : -1;
 }
 
 void report_line(const char *format, ...) {
@@ -31,7 +42,22 @@ void report_line(const char *format, ...) {
     va_start(arguments, format);
     lines_put(&lines, format, arguments);
     va_end(arguments);
+    char *text = lines_text(&lines, "", 1);
     lines_write(&lines);
+    events_said(text);
+    free(text);
+}
+
+void report_begin(void) {
+    const struct head *head = head_make();
+    struct lines lines = {NULL, 0, 0};
+    lines_say(&lines, "version %s, process %ld, JDK %s, %s%s", head->version, (long)head->process, head->jdk,
+              *head->options ? "options " : "no options", head->options);
+    lines_write(&lines);
+    events_head(head);
+    if (head->is_untried) {
+        report_line("the agent was never tried on this JDK, but on 17 and 25");
+    }
 }
 
 void report_each_site(void (*see)(const struct site *site)) {
@@ -40,22 +66,54 @@ void report_each_site(void (*see)(const struct site *site)) {
 
 /* ---- blocks ---- */
 
+/* A line for the file of `suppress=`, and what it is for. */
+static void write_suppression(const struct told *told) {
+    char *comment = text_comment(told), *line = suppress_line(&told->block), *whole = NULL;
+    if (comment != NULL && line != NULL && asprintf(&whole, "%s%s\n\n", comment, line) >= 0) {
+        output_write(&suppressing, whole, strlen(whole));
+        free(whole);
+    }
+    free(comment);
+    free(line);
+}
+
 /* What was gathered is written, and is no longer there. */
-static void write_told(struct told *told) {
+static void write_told(size_t number, struct told *told) {
     struct lines lines = {NULL, 0, 0};
+    char *message = text_message(told);
     text_block(&lines, told);
+    lines_write(&lines);
+    events_block(number, told, message);
+    sarif_keep(number, told, message);
+    if (output_is_open(&suppressing)) {
+        write_suppression(told);
+    }
+    free(message);
     told_free(told);
     sites_were_read();
-    lines_write(&lines);
+}
+
+/* Whether the occurrence is to be told. A forked child counts none. */
+static int counts_in(struct block *block, size_t *number) {
+    if (agent_is_forked()) {
+        return 0;
+    }
+    struct counted counted = blocks_count(block);
+    if (counted.is_over) {
+        report_line("%d blocks were told; further ones are only counted (max=%d)", options.most, options.most);
+    }
+    *number = counted.number;
+    return counted.is_told;
 }
 
 static void tell(const struct call *call, struct block *block) {
-    if (blocks_count(block)) {
+    size_t number;
+    if (counts_in(block, &number)) {
         struct told told;
         sites_read();
         told_of_call(&told, call, block);
-        write_told(&told);
-        if (options.is_fatal && block->rule != 0) {
+        write_told(number, &told);
+        if (block->rule != 0 && options_is_fatal(block->rule)) {
             abort();
         }
     }
@@ -79,76 +137,99 @@ void report_notice(const struct call *call) {
 void report_advice(const jg_advice *advice) {
     const jg_spot *spot = advice->told.place != 0 ? &advice->told : &advice->source;
     struct block block = {.advice = advice->kind, .function = spot->function, .site = told_spot(spot)};
-    if (blocks_count(&block)) {
+    size_t number;
+    if (counts_in(&block, &number)) {
         struct told told;
         sites_read();
         told_of_advice(&told, advice, &block);
-        write_told(&told);
+        write_told(number, &told);
     }
 }
 
 /* ---- the end ---- */
 
-static void tell_leaks(struct lines *to, const struct leaks *leaks) {
-    char place[512], line[300];
-    for (size_t at = 0; at < leaks->count; at++) {
-        const struct leak *it = &leaks->items[at];
-        sites_describe(it->made, place, sizeof place);
-        sites_line(it->made, line, sizeof line);
-        lines_say(to, "leak: %llu %s of %s at %s%s", (unsigned long long)it->count, leaks_word(it->kind),
-                  blocks_function(it->function), place, line);
+/* ` (demo.c:12)`, or nothing. */
+static void line_text(const struct source_line *source, char *text, size_t room) {
+    *text = 0;
+    if (source->file != NULL) {
+        snprintf(text, room, " (%s:%d)", source->file, source->line);
     }
 }
 
-/*
- * `    in the region begun at libdemo.so+0x11b2 in Java_Demo_inCritical (demo.c:20)` and
- * `    also GetStringLength at libdemo.so+0x11d0 in Java_Demo_inCritical (demo.c:22), 3 times`
- */
-static void tell_region(struct lines *to, const struct block *known, size_t count, size_t head) {
+static void tell_leaks(struct lines *to, const struct summary *summary) {
     char text[600], line[300];
-    const struct site *region = known[head - 1].region;
-    if (region == NULL) {
-        return;
+    for (size_t at = 0; at < summary->leaks.count; at++) {
+        leaks_text(&summary->leaks.items[at], text, sizeof text);
+        line_text(&summary->leak_sources[at], line, sizeof line);
+        lines_say(to, "leak: %s%s", text, line);
     }
-    sites_describe(region, text, sizeof text);
-    sites_line(region, line, sizeof line);
-    lines_say(to, "    in the region begun at %s%s", text, line);
-    for (size_t at = head; at < count; at++) {
-        if (known[at].head == head && !known[at].is_suppressed) {
-            blocks_call(&known[at], text, sizeof text);
-            sites_line(known[at].site, line, sizeof line);
-            lines_say(to, "    also %s%s, %llu time%s", text, line, (unsigned long long)known[at].count,
-                      known[at].count > 1 ? "s" : "");
+}
+
+static const char *many(uint64_t count) {
+    return count > 1 ? "s" : "";
+}
+
+/* `    in the region begun at libdemo.so+0x11b2 in Java_Demo_inCritical (demo.c:20)` */
+static void tell_region(struct lines *to, const struct total *total) {
+    char place[512], line[300];
+    if (total->block.region != NULL) {
+        sites_describe(total->block.region, place, sizeof place);
+        line_text(&total->region, line, sizeof line);
+        lines_say(to, "    in the region begun at %s%s", place, line);
+    }
+}
+
+/* `    also GetStringLength at libdemo.so+0x11d0 in Java_Demo_inCritical (demo.c:22), 3 times` */
+static void tell_beside(struct lines *to, const struct summary *summary, size_t number) {
+    char text[600], line[300];
+    for (; number != 0; number = summary->totals[number - 1].beside) {
+        const struct total *total = &summary->totals[number - 1];
+        blocks_call(&total->block, text, sizeof text);
+        line_text(&total->source, line, sizeof line);
+        lines_say(to, "    also %s%s, %llu time%s", text, line, (unsigned long long)total->block.count,
+                  many(total->block.count));
+    }
+}
+
+static void tell_totals(struct lines *to, const struct summary *summary) {
+    char head[1024], line[300];
+    lines_say(to, "%llu calls judged, %llu denied", (unsigned long long)summary->judged,
+              (unsigned long long)summary->denied);
+    for (size_t at = 0; at < summary->total_count; at++) {
+        const struct total *total = &summary->totals[at];
+        if (!total->block.is_suppressed && total->block.head == 0) {
+            blocks_head(&total->block, head, sizeof head);
+            line_text(&total->source, line, sizeof line);
+            lines_say(to, "  %s%s, %llu time%s", head, line, (unsigned long long)total->block.count,
+                      many(total->block.count));
+            tell_region(to, total);
+            tell_beside(to, summary, total->beside);
         }
     }
 }
 
-static void tell_counts(struct lines *to) {
-    char head[1024], line[300];
-    uint64_t suppressed = 0;
-    lines_say(to, "%llu calls judged, %llu denied", (unsigned long long)(counts.asked + threads_repeated()),
-              (unsigned long long)counts.denied);
-    size_t count;
-    struct block *known = blocks_copy(&count);
-    for (size_t at = 0; at < count; at++) {
-        const struct block *block = &known[at];
-        if (block->is_suppressed) {
-            suppressed += block->count;
-            continue;
-        }
-        if (block->head != 0) {
-            continue;
-        }
-        blocks_head(block, head, sizeof head);
-        sites_line(block->site, line, sizeof line);
-        lines_say(to, "  %s%s, %llu time%s", head, line, (unsigned long long)block->count,
-                  block->count > 1 ? "s" : "");
-        tell_region(to, known, count, at + 1);
+/* ` 3 denied,`, or nothing of none. */
+static char *add_count(char *end, uint64_t count, const char *word) {
+    return count > 0 ? end + sprintf(end, " %llu %s,", (unsigned long long)count, word) : end;
+}
+
+/* `  in libdemo.so: 3 denied, 1 noticed (/opt/demo/libdemo.so)` */
+static void tell_owners(struct lines *to, const struct summary *summary) {
+    for (size_t at = 0; at < summary->owner_count; at++) {
+        const struct owner *it = &summary->owners[at];
+        char text[200] = "", *path = sites_spelled(it->library ? it->library->path : "");
+        char *end = add_count(add_count(add_count(text, it->denied, "denied"), it->noticed, "noticed"), it->advised,
+                              "advised");
+        end = add_count(end, it->suppressed, "suppressed");
+        end[-1] = 0;
+        lines_say(to, "  in %s:%s%s%s%s", it->library ? it->library->name : "an unknown place", text,
+                  *path ? " (" : "", path, *path ? ")" : "");
+        free(path);
     }
-    free(known);
-    if (suppressed > 0) {
-        lines_say(to, "  suppressed: %llu", (unsigned long long)suppressed);
-    }
+}
+
+static void tell_unused(size_t number, const char *words, void *to) {
+    lines_say(to, "  suppressed nothing: %s:%zu: %s", options.suppressed, number, words);
 }
 
 /* What wasn't the library's fault. */
@@ -166,24 +247,35 @@ static void tell_own_faults(struct lines *to) {
     }
 }
 
+static void tell_summary(const struct summary *summary) {
+    struct lines lines = {NULL, 0, 0};
+    tell_leaks(&lines, summary);
+    lines_write(&lines);
+    tell_totals(&lines, summary);
+    tell_owners(&lines, summary);
+    if (summary->suppressed > 0) {
+        lines_say(&lines, "  suppressed: %llu", (unsigned long long)summary->suppressed);
+    }
+    suppress_each_unused(tell_unused, &lines);
+    tell_own_faults(&lines);
+    lines_write(&lines);
+    events_end(summary);
+    sarif_end(head_known(), summary);
+}
+
 int report_end(void) {
     static int is_told;
     struct leaks leaks;
-    struct lines lines = {NULL, 0, 0};
-    if (__atomic_exchange_n(&is_told, 1, __ATOMIC_ACQ_REL) != 0) {
-        return blocks_denied() > 0 ? options.exit_code : -1;
+    struct summary summary;
+    if (__atomic_exchange_n(&is_told, 1, __ATOMIC_ACQ_REL) == 0) {
+        sites_read();
+        leaks_find(&leaks);
+        core_advises_at_end();
+        summary_gather(&summary, &leaks);
+        tell_summary(&summary);
+        summary_free(&summary);
+        free(leaks.items);
+        sites_were_read();
     }
-    sites_read();
-    leaks_find(&leaks);
-    core_advises_at_end();
-    if (options.lists_leaks) {
-        tell_leaks(&lines, &leaks);
-        lines_write(&lines);
-    }
-    tell_counts(&lines);
-    sites_were_read();
-    tell_own_faults(&lines);
-    lines_write(&lines);
-    free(leaks.items);
     return blocks_denied() > 0 ? options.exit_code : -1;
 }

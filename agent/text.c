@@ -7,6 +7,7 @@
 #include "told.h"
 
 #include <stdio.h>
+#include <stdlib.h>
 
 /* `  made by NewString at libdemo.so+0x1138 in Java_Demo_deadLocal` */
 static void say_event(struct lines *to, const char *what, const struct event *event) {
@@ -101,18 +102,17 @@ static void say_beside(struct lines *to, const struct told *told) {
     lines_say(to, "  also %s, in the region begun at %s", call, place);
 }
 
-void text_block(struct lines *to, const struct told *told) {
-    char head[1024];
-    if (told->block.head != 0) {
-        say_beside(to, told);
-        return;
-    }
-    blocks_head(&told->block, head, sizeof head);
+/* `GetStringLength at libdemo.so+0x116d in Java_Demo_deadLocal, thread 1 (main)`, behind what the block is. */
+static void say_head(struct lines *to, const char *head, const struct told *told) {
     if (told->thread_name != NULL) {
         lines_say(to, "%s, thread %u (%s)", head, (unsigned)told->thread, told->thread_name);
     } else {
         lines_say(to, "%s, thread %u", head, (unsigned)told->thread);
     }
+}
+
+/* What was wrong, and where it came from. */
+static void say_body(struct lines *to, const struct told *told) {
     if (told->sentence != NULL) {
         lines_say(to, "  %s", told->sentence);
     }
@@ -123,6 +123,17 @@ void text_block(struct lines *to, const struct told *told) {
     for (size_t at = 0; at < told->reason_count; at++) {
         lines_say(to, "  %s", told->reasons[at]);
     }
+}
+
+void text_block(struct lines *to, const struct told *told) {
+    char head[1024];
+    if (told->block.head != 0) {
+        say_beside(to, told);
+        return;
+    }
+    blocks_head(&told->block, head, sizeof head);
+    say_head(to, head, told);
+    say_body(to, told);
     for (size_t at = 0; at < told->native_count; at++) {
         say_native(to, &told->native[at]);
     }
@@ -135,4 +146,23 @@ void text_block(struct lines *to, const struct told *told) {
     if (told->help != NULL) {
         lines_say(to, "  help: %s", told->help);
     }
+}
+
+char *text_message(const struct told *told) {
+    struct lines lines = {NULL, 0, 0};
+    char call[600];
+    blocks_call(&told->block, call, sizeof call);
+    say_head(&lines, call, told);
+    say_body(&lines, told);
+    char *message = lines_text(&lines, "", 1);
+    free(lines.bytes);
+    return message;
+}
+
+char *text_comment(const struct told *told) {
+    struct lines lines = {NULL, 0, 0};
+    text_block(&lines, told);
+    char *comment = lines_text(&lines, "# ", 0);
+    free(lines.bytes);
+    return comment;
 }

@@ -62,6 +62,24 @@ void told_free(struct told *told) {
     free(told->help);
 }
 
+static void see_event(const char *key, const char *what, const struct event *event, seeing_event see, void *with) {
+    char text[256];
+    if (event->is_told) {
+        snprintf(text, sizeof text, "%s%s%s", what, event->by ? " by " : "", event->by ? event->by : "");
+        see(key, text, event, with);
+    }
+}
+
+void told_each_event(const struct told *told, seeing_event see, void *with) {
+    see_event("made", told->origin == ORIGIN_UNSEEN ? "first used" : "made", &told->made, see, with);
+    see_event("ended", "ended", &told->ended, see, with);
+    see_event("lent", "lent", &told->lent, see, with);
+    see_event("given_back", "given back", &told->given, see, with);
+    see_event("region", "region begun", &told->region, see, with);
+    see_event("left", "left", &told->thrower, see, with);
+    see_event("source", told->verb ? told->verb : "", &told->source, see, with);
+}
+
 /* What the library says of a rule or a kind of advice; or NULL. */
 static char *text_of(int64_t (*say)(uint32_t, uint8_t *, size_t), uint32_t number) {
     uint8_t text[1024];
@@ -167,9 +185,9 @@ static void gather_frame(struct told *told, JNIEnv *env, const jvmtiFrameInfo *f
         (*tool)->GetClassSignature(tool, class, &signature, NULL) == 0) {
         (*tool)->GetSourceFileName(tool, class, &source);
         MAKE_ROOM(told->java, told->java_count, told->java_room);
-        told->java[told->java_count++] = (struct java_frame){.class = must_copy(spell_class(signature)),
-                                                             .method = must_copy(name),
-                                                             .source = source ? must_copy(source) : NULL,
+        told->java[told->java_count++] = (struct java_frame){.class = sites_spelled(spell_class(signature)),
+                                                             .method = sites_spelled(name),
+                                                             .source = source ? sites_spelled(source) : NULL,
                                                              .line = (int)line,
                                                              .is_native = frame->location < 0};
     }
@@ -238,20 +256,22 @@ static void gather_pending(struct told *told, const struct call *call) {
     struct pending pending;
     if (is_live && call->is_own_env) {
         exceptions_describe(call->thread, &pending);
-        told->pending = pending.class;
-        told->message = pending.message;
+        told->pending = pending.class ? sites_spelled(pending.class) : NULL;
+        told->message = pending.message ? must_copy(pending.message) : NULL;
         told->thrower = (struct event){pending.site != NULL, rows[pending.function].name, pending.site};
+        exceptions_forget(&pending);
     }
 }
 
 static void gather_method(struct told *told, JNIEnv *env, jmethodID method) {
-    char *name = NULL, *type = NULL, *signature = NULL;
+    char *name = NULL, *type = NULL, *signature = NULL, *whole = NULL;
     jclass class = NULL;
     if ((*tool)->GetMethodName(tool, method, &name, &type, NULL) == 0 &&
         (*tool)->GetMethodDeclaringClass(tool, method, &class) == 0 &&
         (*tool)->GetClassSignature(tool, class, &signature, NULL) == 0 &&
-        asprintf(&told->method, "%s.%s %s", spell_class(signature), name, type) < 0) {
-        told->method = NULL;
+        asprintf(&whole, "%s.%s %s", spell_class(signature), name, type) >= 0) {
+        told->method = sites_spelled(whole);
+        free(whole);
     }
     (*tool)->Deallocate(tool, (unsigned char *)name);
     (*tool)->Deallocate(tool, (unsigned char *)type);

@@ -83,6 +83,13 @@ void told_reason(struct told *told, const char *format, ...) __attribute__((form
 void told_of_call(struct told *told, const struct call *call, const struct block *block);
 void told_of_advice(struct told *told, const jg_advice *advice, const struct block *block);
 
+/*
+ * Calls the function for each call that the block names beside its own: by a key, such as `given_back`, and with a text
+ * that says what it did, such as `made by NewString`.
+ */
+typedef void (*seeing_event)(const char *key, const char *text, const struct event *event, void *with);
+void told_each_event(const struct told *told, seeing_event see, void *with);
+
 void told_free(struct told *told);
 
 /* The place that a spot of the adviser's is. */
