@@ -76,15 +76,11 @@ static void put_place(struct json *to, const struct site *site) {
     free(path);
 }
 
-static void put_site_as(struct json *to, const char *key, const struct site *site, const char *file, int line) {
-    json_object(to, key);
+static void put_site(struct json *to, const struct site *site, const char *file, int line) {
+    json_object(to, "site");
     put_place(to, site);
     put_source(to, file, line);
     json_end(to);
-}
-
-static void put_site(struct json *to, const struct site *site, const char *file, int line) {
-    put_site_as(to, "site", site, file, line);
 }
 
 /* ---- blocks ---- */
@@ -246,7 +242,9 @@ static void write_total(size_t number, const struct total *total) {
     put_block(&line, number, &total->block, name);
     put_site(&line, total->block.site, total->source.file, total->source.line);
     if (total->block.region != NULL) {
-        put_site_as(&line, "region", total->block.region, total->region.file, total->region.line);
+        json_object(&line, "region");
+        put_site(&line, total->block.region, total->region.file, total->region.line);
+        json_end(&line);
     }
     json_number(&line, "count", total->block.count);
     json_truth(&line, "is_told", total->block.is_told);
