@@ -18,7 +18,6 @@
 #include <stdio.h>
 #include <stdlib.h>
 #include <string.h>
-#include <sys/stat.h>
 #include <sys/wait.h>
 #include <time.h>
 #include <unistd.h>
@@ -37,6 +36,7 @@ static int (*closes_from)(posix_spawn_file_actions_t *actions, int from);
 void sources_open(void) {
     void *found = dlsym(RTLD_DEFAULT, "posix_spawn_file_actions_addclosefrom_np");
     memcpy(&closes_from, &found, sizeof found);
+    dlerror(); /* which else says that there is none */
 }
 
 /* ---- asking ---- */
@@ -192,9 +192,13 @@ static size_t read_answer(char *text, int is_named, struct source *to, size_t ro
 
 /* Whether the program may wait for it now. */
 static int is_worth_it(const char *path, enum haste haste) {
-    struct stat file;
-    return haste == AT_END ||
-           (waited < MOST_WAITING_AT_ONCE && stat(path, &file) == 0 && file.st_size <= MOST_LIBRARY);
+    int file = haste == AT_ONCE && waited < MOST_WAITING_AT_ONCE ? open(path, O_RDONLY | O_CLOEXEC) : -1;
+    if (file < 0) {
+        return haste == AT_END;
+    }
+    off_t size = lseek(file, 0, SEEK_END);
+    close(file);
+    return size >= 0 && size <= MOST_LIBRARY;
 }
 
 size_t sources_find(const char *path, const uintptr_t *offsets, size_t count, enum haste haste, struct source *to,
