@@ -18,6 +18,7 @@
 #define JG_NO_CHECKS
 #include "jg.h"
 #include "jg_functions.h"
+#include "older.h"
 
 #include <jni.h>
 #include <jvmti.h>

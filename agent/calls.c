@@ -562,6 +562,7 @@ struct question call_question(const struct call *call) {
 static int ask(struct call *call, struct memo *memo) {
     struct question question = call_question(call);
     const jg_value *kept = call->kept.kind == JG_NOTHING ? NULL : &call->kept;
+    call->thread->asking = call;
     core_lock();
     if (objects_are_gone()) {
         objects_tell_gone();
@@ -569,6 +570,7 @@ static int ask(struct call *call, struct memo *memo) {
     int32_t error = core_ask(&question, &call->verdict, call->is_ending ? &call->given : NULL, kept);
     uint64_t facts = core_facts;
     core_unlock();
+    call->thread->asking = NULL;
     if (memo != NULL && error == 0 && call->verdict.rule == 0) {
         remember(call, memo, facts);
     }

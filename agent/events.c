@@ -241,6 +241,11 @@ static void write_total(size_t number, const struct total *total) {
     json_text(&line, "of", blocks_kind(&total->block));
     put_block(&line, number, &total->block, name);
     put_site(&line, total->block.site, total->source.file, total->source.line);
+    if (total->block.region != NULL) {
+        json_object(&line, "region");
+        put_site(&line, total->block.region, total->region.file, total->region.line);
+        json_end(&line);
+    }
     json_number(&line, "count", total->block.count);
     json_truth(&line, "is_told", total->block.is_told);
     json_truth(&line, "is_suppressed", total->block.is_suppressed);

@@ -169,6 +169,16 @@ static const char *many(uint64_t count) {
     return count > 1 ? "s" : "";
 }
 
+/* `    in the region begun at libdemo.so+0x11b2 in Java_Demo_inCritical (demo.c:20)` */
+static void tell_region(struct lines *to, const struct total *total) {
+    char place[512], line[300];
+    if (total->block.region != NULL) {
+        sites_describe(total->block.region, place, sizeof place);
+        line_text(&total->region, line, sizeof line);
+        lines_say(to, "    in the region begun at %s%s", place, line);
+    }
+}
+
 /* `    also GetStringLength at libdemo.so+0x11d0 in Java_Demo_inCritical (demo.c:22), 3 times` */
 static void tell_beside(struct lines *to, const struct summary *summary, size_t number) {
     char text[600], line[300];
@@ -192,6 +202,7 @@ static void tell_totals(struct lines *to, const struct summary *summary) {
             line_text(&total->source, line, sizeof line);
             lines_say(to, "  %s%s, %llu time%s", head, line, (unsigned long long)total->block.count,
                       many(total->block.count));
+            tell_region(to, total);
             tell_beside(to, summary, total->beside);
         }
     }

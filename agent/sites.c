@@ -207,7 +207,19 @@ static char *whole_path(const char *name) {
     return path ? path : must_copy(name);
 }
 
-#ifdef DLFO_STRUCT_HAS_EH_DBASE /* the C library has _dl_find_object */
+#ifndef DLFO_STRUCT_HAS_EH_DBASE
+/* What these headers lack, nobody looks for (sites_open). */
+struct dl_find_object {
+    void *dlfo_map_start, *dlfo_eh_frame;
+    struct link_map *dlfo_link_map;
+};
+#endif
+
+/*
+ * _dl_find_object of the C library, or NULL: it has one from 2.35 on. dladdr, which then is asked, waits for a lock of
+ * the loader's, which a thread holds while a library's constructor runs.
+ */
+static int (*find_object)(void *, struct dl_find_object *);
 
 /* The exported symbol that the address stands in: of several the one that begins last, and of those the first. */
 static void find_symbol(uintptr_t at, struct looked_up *it) {
@@ -230,32 +242,10 @@ static void find_symbol(uintptr_t at, struct looked_up *it) {
 
 static uintptr_t base_of(uintptr_t at) {
     struct dl_find_object found;
-    return _dl_find_object((void *)at, &found) == 0 ? (uintptr_t)found.dlfo_map_start : 0;
-}
-
-static const void *tables_at(uintptr_t at) {
-    struct dl_find_object found;
-    return _dl_find_object((void *)at, &found) == 0 ? found.dlfo_eh_frame : NULL;
-}
-
-/* dladdr would wait for a lock of the loader's, which a thread holds while a library's constructor runs. */
-static struct looked_up look_up(uintptr_t at) {
-    struct looked_up it = {.path = NULL};
-    struct dl_find_object found;
-    if (_dl_find_object((void *)at, &found) == 0) {
-        it.library = found.dlfo_link_map;
-        it.base = (uintptr_t)found.dlfo_map_start;
-        it.path = whole_path(it.library->l_name);
-        it.unwinding = found.dlfo_eh_frame;
-        find_symbol(at, &it);
-    }
-    return it;
-}
-
-#else
-
-static uintptr_t base_of(uintptr_t at) {
     Dl_info info;
+    if (find_object != NULL) {
+        return find_object((void *)at, &found) == 0 ? (uintptr_t)found.dlfo_map_start : 0;
+    }
     return dladdr((void *)at, &info) ? (uintptr_t)info.dli_fbase : 0;
 }
 
@@ -283,16 +273,27 @@ static const void *unwinding_of(const struct link_map *library) {
 }
 
 static const void *tables_at(uintptr_t at) {
+    struct dl_find_object found;
     Dl_info info;
     void *library = NULL;
+    if (find_object != NULL) {
+        return find_object((void *)at, &found) == 0 ? found.dlfo_eh_frame : NULL;
+    }
     return dladdr1((void *)at, &info, &library, RTLD_DL_LINKMAP) && library != NULL ? unwinding_of(library) : NULL;
 }
 
 static struct looked_up look_up(uintptr_t at) {
     struct looked_up it = {.path = NULL};
+    struct dl_find_object found;
     Dl_info info;
     void *library = NULL;
-    if (dladdr1((void *)at, &info, &library, RTLD_DL_LINKMAP) && info.dli_fname != NULL) {
+    if (find_object != NULL && find_object((void *)at, &found) == 0) {
+        it.library = found.dlfo_link_map;
+        it.base = (uintptr_t)found.dlfo_map_start;
+        it.path = whole_path(it.library->l_name);
+        it.unwinding = found.dlfo_eh_frame;
+        find_symbol(at, &it);
+    } else if (find_object == NULL && dladdr1((void *)at, &info, &library, RTLD_DL_LINKMAP) && info.dli_fname != NULL) {
         it.library = library;
         it.base = (uintptr_t)info.dli_fbase;
         it.path = whole_path(info.dli_fname);
@@ -302,8 +303,6 @@ static struct looked_up look_up(uintptr_t at) {
     }
     return it;
 }
-
-#endif
 
 /* Whether the library replaced functions of the table after the agent did, as a tracer does. */
 static int is_in_table(uintptr_t base) {
@@ -768,11 +767,21 @@ static void find_jdk(void) {
     }
 }
 
+/* A name of version 2.35 that the agent asked for itself would keep it from running over an older C library. */
+static void look_for_find_object(void) {
+#ifdef DLFO_STRUCT_HAS_EH_DBASE
+    void *found = dlsym(RTLD_DEFAULT, "_dl_find_object");
+    memcpy(&find_object, &found, sizeof find_object);
+    dlerror(); /* which else says that there is none */
+#endif
+}
+
 void sites_open(void) {
     Dl_info found;
     if (dladdr(&libraries, &found)) {
         own_base = (uintptr_t)found.dli_fbase;
     }
+    look_for_find_object();
     find_jdk();
     sources_open();
     sites_check_unloaded();

@@ -11,13 +11,13 @@
 #include <dlfcn.h>
 #include <errno.h>
 #include <fcntl.h>
+#include <link.h>
 #include <poll.h>
 #include <signal.h>
 #include <spawn.h>
 #include <stdio.h>
 #include <stdlib.h>
 #include <string.h>
-#include <sys/stat.h>
 #include <sys/wait.h>
 #include <time.h>
 #include <unistd.h>
@@ -36,6 +36,7 @@ static int (*closes_from)(posix_spawn_file_actions_t *actions, int from);
 void sources_open(void) {
     void *found = dlsym(RTLD_DEFAULT, "posix_spawn_file_actions_addclosefrom_np");
     memcpy(&closes_from, &found, sizeof found);
+    dlerror(); /* which else says that there is none */
 }
 
 /* ---- asking ---- */
@@ -147,8 +148,30 @@ static void take_line(char *line, struct source *to) {
     take(name_of(line), to->file, sizeof to->file);
 }
 
+/*
+ * Whether the library has a table of all its functions. Without one addr2line names the exported function that stands
+ * before the place, be it another one.
+ */
+static int has_symbols(const char *path) {
+    ElfW(Ehdr) head = {.e_shnum = 0};
+    ElfW(Shdr) section;
+    int file = open(path, O_RDONLY | O_CLOEXEC), has = 0;
+    if (file < 0) {
+        return 0;
+    }
+    if (pread(file, &head, sizeof head, 0) != sizeof head || memcmp(head.e_ident, ELFMAG, SELFMAG) != 0) {
+        head.e_shnum = 0;
+    }
+    for (size_t at = 0; at < head.e_shnum && !has; at++) {
+        off_t place = (off_t)(head.e_shoff + at * sizeof section);
+        has = pread(file, &section, sizeof section, place) == sizeof section && section.sh_type == SHT_SYMTAB;
+    }
+    close(file);
+    return has;
+}
+
 /* Behind each address, each function has a line for its name and one for its place. */
-static size_t read_answer(char *text, struct source *to, size_t room) {
+static size_t read_answer(char *text, int is_named, struct source *to, size_t room) {
     char *rest = NULL, *line;
     size_t count = 0, addresses = 0;
     for (char *word = strtok_r(text, "\n", &rest); word != NULL && count < room; word = strtok_r(NULL, "\n", &rest)) {
@@ -158,6 +181,9 @@ static size_t read_answer(char *text, struct source *to, size_t room) {
             to[count].which = addresses - 1;
             take(*word == '?' ? "" : word, to[count].function, sizeof to[count].function);
             take_line(line, &to[count]);
+            if (to[count].line == 0 && !is_named) {
+                *to[count].function = 0;
+            }
             count += strcmp(to[count].file, "jni.h") != 0;
         }
     }
@@ -166,9 +192,13 @@ static size_t read_answer(char *text, struct source *to, size_t room) {
 
 /* Whether the program may wait for it now. */
 static int is_worth_it(const char *path, enum haste haste) {
-    struct stat file;
-    return haste == AT_END ||
-           (waited < MOST_WAITING_AT_ONCE && stat(path, &file) == 0 && file.st_size <= MOST_LIBRARY);
+    int file = haste == AT_ONCE && waited < MOST_WAITING_AT_ONCE ? open(path, O_RDONLY | O_CLOEXEC) : -1;
+    if (file < 0) {
+        return haste == AT_END;
+    }
+    off_t size = lseek(file, 0, SEEK_END);
+    close(file);
+    return size >= 0 && size <= MOST_LIBRARY;
 }
 
 size_t sources_find(const char *path, const uintptr_t *offsets, size_t count, enum haste haste, struct source *to,
@@ -179,7 +209,7 @@ size_t sources_find(const char *path, const uintptr_t *offsets, size_t count, en
     int64_t begun = milliseconds();
     char *text = must_grow(NULL, MOST_ANSWER + 1);
     ask_about(path, offsets, count, MOST_WAITING[haste], text);
-    size_t found = read_answer(text, to, room);
+    size_t found = read_answer(text, has_symbols(path), to, room);
     free(text);
     if (haste == AT_ONCE) {
         waited += milliseconds() - begun;

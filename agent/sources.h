@@ -19,8 +19,8 @@ struct source {
 enum haste { AT_ONCE, AT_END };
 
 /*
- * Finds what stands at these offsets of the library: each with the functions that were inlined there, from the innermost
- * outwards. What C++ has of JNIEnv, in jni.h, isn't among them. How many they are.
+ * Finds what stands at these offsets of the library: each with the functions that were inlined there, the innermost
+ * first. What C++ has of JNIEnv, in jni.h, isn't among them. How many they are.
  */
 size_t sources_find(const char *path, const uintptr_t *offsets, size_t count, enum haste haste, struct source *to,
                     size_t room);

@@ -95,6 +95,7 @@ static void gather_totals(struct summary *summary) {
             summary->suppressed += known[at].count;
         } else {
             total->source = line_of(known[at].site);
+            total->region = line_of(known[at].head == 0 ? known[at].region : NULL);
         }
     }
     free(known);
@@ -129,6 +130,7 @@ void summary_gather(struct summary *summary, const struct leaks *leaks) {
 void summary_free(struct summary *summary) {
     for (size_t at = 0; at < summary->total_count; at++) {
         free(summary->totals[at].source.file);
+        free(summary->totals[at].region.file);
     }
     for (size_t at = 0; at < summary->leaks.count; at++) {
         free(summary->leak_sources[at].file);

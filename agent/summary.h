@@ -20,6 +20,7 @@ struct source_line {
 struct total {
     struct block block;
     struct source_line source;
+    struct source_line region; /* where the region began of a call that is told first of it */
     size_t beside; /* the number of the next block that is told beside the same one as this, or beside this; or 0 */
 };
 

@@ -75,7 +75,8 @@ static void say_more(struct lines *to, const struct told *told) {
     }
     say_event(to, "region begun", &told->region);
     if (told->pending != NULL) {
-        lines_say(to, "  pending: %s%s%s", told->pending, told->message ? ": " : "", told->message ? told->message : "");
+        const char *message = told->message ? told->message : "";
+        lines_say(to, "  pending: %s%s%s", told->pending, told->message ? ": " : "", message);
         if (!told->thrower.is_told) {
             lines_say(to, "  left by code that isn't judged");
         }

@@ -8,6 +8,8 @@
 #include "natives.h"
 #include "sites.h"
 
+struct call;
+
 enum { RECENT_SITES = 64 };
 
 struct recent_site {
@@ -97,6 +99,7 @@ struct thread {
     size_t held_first, held_count;
     struct waiting waiting;
     struct thrower thrower;
+    const struct call *asking; /* the call of which the core is asked, or NULL */
     uint64_t newest_serial;
     int is_pending;         /* an exception is, as the core was told */
     int is_unsure;          /* something may have thrown or cleared one unseen */

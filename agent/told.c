@@ -351,6 +351,9 @@ void told_of_advice(struct told *told, const jg_advice *advice, const struct blo
     told->help = text_of(jg_advice_help, advice->kind);
     if (is_here) {
         gather_thread(told, thread);
+        if (thread->asking != NULL && thread->asking->site == block->site) {
+            gather_native(told, thread->asking);
+        }
         gather_frames(told, thread);
     }
     if (advice->told.place != 0 && advice->source.thread != JG_NOBODY) {

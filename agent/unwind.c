@@ -35,7 +35,8 @@ uintptr_t unwind_up(const struct step *step, struct registers *registers, uintpt
     if (step->is_read) {
         end = is_within(end, registers, stack_high) ? word_at(end) : 0;
     }
-    uintptr_t caller = moved(end, step->caller), saved = moved(step->saved_by_frame ? registers->frame : end, step->saved);
+    uintptr_t caller = moved(end, step->caller);
+    uintptr_t saved = moved(step->saved_by_frame ? registers->frame : end, step->saved);
     if (registers->stack < stack_low || end <= registers->stack || end > stack_high || (end & 7) != 0 ||
         !is_within(caller, registers, end) || (step->is_saved && !is_within(saved, registers, end))) {
         return 0;
@@ -277,8 +278,8 @@ static void recall(struct rows *rows, struct reader *from) {
 }
 
 /*
- * An expression that counts from the frame pointer. Functions have those whose stack is aligned anew. Whether it is one:
- * whether it also reads the word that stands there.
+ * An expression that counts from the frame pointer, as functions have whose stack is aligned anew. Whether it is one;
+ * and whether it also reads the word that stands there.
  */
 static int takes_expression(struct reader *from, int64_t *at, int *is_read) {
     enum { COUNTED_FROM_FRAME = 0x76, READ_THERE = 0x06 }; /* DW_OP_breg6, DW_OP_deref */

@@ -12,8 +12,8 @@
  */
 struct step {
     uint8_t by_frame;       /* the end is counted from the frame pointer */
-    uint8_t is_read;        /* the end stands in the frame, there; else it is there */
-    uint8_t saved_by_frame; /* where the caller's frame pointer is is counted from the frame pointer, not from the end */
+    uint8_t is_read;        /* what stands there is the end; else the place itself is */
+    uint8_t saved_by_frame; /* the place of the caller's frame pointer is counted from the frame pointer, too */
     uint8_t is_saved;       /* the caller's frame pointer stands in the frame; else it is as it was */
     int32_t end;            /* the end of the frame */
     int32_t caller;         /* where the return address is, from there */
@@ -26,7 +26,7 @@ struct registers {
 };
 
 /*
- * What the tables say of this return address. `table` is the .eh_frame_hdr of its library, or NULL. Whether they say it,
+ * What the tables say of this return address. `table` is the .eh_frame_hdr of its library, or NULL. Whether they say so
  * in a form that compilers choose. It takes no lock and no memory.
  */
 int unwind_knows(const void *table, uintptr_t at, struct step *step);
