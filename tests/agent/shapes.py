@@ -25,7 +25,7 @@ LINES = {
     'said': {'text': str},
     'leak': {'of': {'global references', 'weak global references', 'buffers', 'monitors'}, 'count': int,
              'function': str, 'site': SITE, 'message': str},
-    'count': {'of': {'denial', 'notice', 'advice'}, **BLOCK, 'count': int, 'is_told': bool, 'is_suppressed': bool,
+    'count': {'of': {'denial', 'notice', 'advice'}, **BLOCK, 'region?': {'site': SITE}, 'count': int, 'is_told': bool, 'is_suppressed': bool,
               'message': str},
     'summary': {'judged': int, 'denied': int, 'suppressed': int, 'unjudged': int, 'impossible': int, 'refused': int,
                 'unseen': int, 'has_stubs': bool, 'libraries': [LIBRARY],
