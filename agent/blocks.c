@@ -2,6 +2,7 @@
  * blocks.c: a block for each rule, function and place, and how often it came.
  */
 #include "blocks.h"
+#include "forks.h"
 #include "options.h"
 #include "sites.h"
 #include "suppress.h"
@@ -183,4 +184,8 @@ void blocks_each_site(void (*see)(const struct site *site)) {
         see(blocks[at].region);
     }
     pthread_mutex_unlock(&lock);
+}
+
+__attribute__((constructor)) static void hold_at_fork(void) {
+    FORKS_HOLD(FORKS_MUTEX, &lock);
 }

@@ -8,6 +8,7 @@
  */
 #include "buffers.h"
 #include "core.h"
+#include "forks.h"
 #include "kept.h"
 #include "names.h"
 #include "objects.h"
@@ -979,4 +980,8 @@ void buffers_each_site(void (*see)(const struct site *site)) {
         }
     }
     spin_unlock(&lock);
+}
+
+__attribute__((constructor)) static void hold_at_fork(void) {
+    FORKS_HOLD(FORKS_SPIN, &lock);
 }

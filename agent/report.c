@@ -100,7 +100,7 @@ static int counts_in(struct block *block, size_t *number) {
     }
     struct counted counted = blocks_count(block);
     if (counted.is_over) {
-        report_line("%d blocks were told; further ones are only counted (max=%d)", options.most, options.most);
+        report_line("max=%d: further blocks are only counted", options.most);
     }
     *number = counted.number;
     return counted.is_told;

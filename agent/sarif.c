@@ -5,6 +5,7 @@
  * place, are known at the end alone. tools/jg-report makes the same of the file of `json=`.
  */
 #include "sarif.h"
+#include "forks.h"
 #include "head.h"
 #include "json.h"
 #include "leaks.h"
@@ -402,4 +403,8 @@ void sarif_end(const struct head *head, const struct summary *summary) {
         free(rules.items[at].name);
     }
     json_free(&text);
+}
+
+__attribute__((constructor)) static void hold_at_fork(void) {
+    FORKS_HOLD(FORKS_MUTEX, &lock);
 }

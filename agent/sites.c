@@ -8,6 +8,7 @@
  */
 #include "sites.h"
 #include "buffers.h"
+#include "forks.h"
 #include "kept.h"
 #include "monitors.h"
 #include "names.h"
@@ -841,4 +842,8 @@ void sites_line(const struct site *site, char *text, size_t room) {
     if (sources_find(site->library->path, &offset, 1, AT_END, &source, 1) > 0 && source.line > 0) {
         snprintf(text, room, " (%s:%d)", source.file, source.line);
     }
+}
+
+__attribute__((constructor)) static void hold_at_fork(void) {
+    FORKS_HOLD(FORKS_MUTEX, &lock);
 }

@@ -8,6 +8,7 @@
 #include "threads.h"
 #include "buffers.h"
 #include "core.h"
+#include "forks.h"
 #include "monitors.h"
 #include "names.h"
 #include "objects.h"
@@ -557,4 +558,8 @@ int threads_hold_local(struct thread *thread, JNIEnv *env, const struct held_loc
         machine->EnsureLocalCapacity(env, ROOM_BESIDE_HELD);
     }
     return 1;
+}
+
+__attribute__((constructor)) static void hold_at_fork(void) {
+    FORKS_HOLD(FORKS_MUTEX, &lock);
 }

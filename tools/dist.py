@@ -100,6 +100,7 @@ def put_all(root, libdir, program, agent, demo, major, prefix):
     if os.path.lexists(link):
         os.remove(link)
     os.symlink('../share/jg/jg-page', link)
+    put(root, 'bin/jg-report', f'{TOP}/tools/jg-report', 0o755)
     pages = f'{TOP}/out/man'
     manual.main(pages)
     for name in manual.PAGES:
