@@ -1,6 +1,6 @@
 /*
- * texts.c: text in JSON, by agent/json.c alone. Each line of standard input is a name, whose bytes are written as a text
- * and as a URI. With a number N the request for memory of that number and all behind it are refused.
+ * texts.c: text in JSON, by agent/json.c alone. Each line of standard input is a name, whose bytes are written as a
+ * text and as a URI. With a number N only the first N requests for memory are granted.
  */
 #include "json.h"
 
