@@ -39,8 +39,8 @@ extern int is_from_start;
 extern _Atomic int is_live;
 
 /*
- * Whether this process is a child that was forked from the machine's. It says nothing, and writes to none of the agent's
- * files. That is asked where something is written, since a child of vfork has the machine's memory.
+ * Whether this process is a child that was forked from the machine's. It says nothing, and writes to none of the
+ * agent's files. That is asked where something is written, since a child of vfork has the machine's memory.
  */
 int agent_is_forked(void);
 

@@ -31,8 +31,8 @@ struct counted {
 };
 
 /*
- * Counts the occurrence. Of the blocks of one region's beginning the first is told alone, and the others beside that: so
- * their `head` is set.
+ * Counts the occurrence. Of the blocks of one region's beginning the first is told alone, and the others beside that:
+ * so their `head` is set.
  */
 struct counted blocks_count(struct block *of);
 

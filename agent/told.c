@@ -80,6 +80,35 @@ void told_each_event(const struct told *told, seeing_event see, void *with) {
     see_event("source", told->verb ? told->verb : "", &told->source, see, with);
 }
 
+/* The ten bits of a surrogate, which the machine writes as three bytes from these on. */
+static uint32_t bits_of(const unsigned char *at) {
+    return (at[1] & 0xFu) << 6 | (at[2] & 0x3Fu);
+}
+
+static int is_surrogate(const unsigned char *at, unsigned char second) {
+    return at[0] == 0xED && (at[1] & 0xF0) == second && (at[2] & 0xC0) == 0x80;
+}
+
+/* The machine's text in one line, and in UTF-8: it writes a character beyond 0xFFFF as two surrogates. */
+static char *spelled(const char *text) {
+    char *made = must_make(strlen(text) + 1), *end = made;
+    for (const unsigned char *at = (const unsigned char *)text; *at != 0;) {
+        if (is_surrogate(at, 0xA0) && is_surrogate(at + 3, 0xB0)) {
+            uint32_t code = 0x10000 + (bits_of(at) << 10 | bits_of(at + 3));
+            *end++ = (char)(0xF0 | code >> 18);
+            *end++ = (char)(0x80 | (code >> 12 & 0x3F));
+            *end++ = (char)(0x80 | (code >> 6 & 0x3F));
+            *end++ = (char)(0x80 | (code & 0x3F));
+            at += 6;
+        } else {
+            *end++ = (char)*at++;
+        }
+    }
+    char *line = sites_spelled(made);
+    free(made);
+    return line;
+}
+
 /* What the library says of a rule or a kind of advice; or NULL. */
 static char *text_of(int64_t (*say)(uint32_t, uint8_t *, size_t), uint32_t number) {
     uint8_t text[1024];
@@ -185,9 +214,9 @@ static void gather_frame(struct told *told, JNIEnv *env, const jvmtiFrameInfo *f
         (*tool)->GetClassSignature(tool, class, &signature, NULL) == 0) {
         (*tool)->GetSourceFileName(tool, class, &source);
         MAKE_ROOM(told->java, told->java_count, told->java_room);
-        told->java[told->java_count++] = (struct java_frame){.class = sites_spelled(spell_class(signature)),
-                                                             .method = sites_spelled(name),
-                                                             .source = source ? sites_spelled(source) : NULL,
+        told->java[told->java_count++] = (struct java_frame){.class = spelled(spell_class(signature)),
+                                                             .method = spelled(name),
+                                                             .source = source ? spelled(source) : NULL,
                                                              .line = (int)line,
                                                              .is_native = frame->location < 0};
     }
@@ -256,7 +285,7 @@ static void gather_pending(struct told *told, const struct call *call) {
     struct pending pending;
     if (is_live && call->is_own_env) {
         exceptions_describe(call->thread, &pending);
-        told->pending = pending.class ? sites_spelled(pending.class) : NULL;
+        told->pending = pending.class ? spelled(pending.class) : NULL;
         told->message = pending.message ? must_copy(pending.message) : NULL;
         told->thrower = (struct event){pending.site != NULL, rows[pending.function].name, pending.site};
         exceptions_forget(&pending);
@@ -270,7 +299,7 @@ static void gather_method(struct told *told, JNIEnv *env, jmethodID method) {
         (*tool)->GetMethodDeclaringClass(tool, method, &class) == 0 &&
         (*tool)->GetClassSignature(tool, class, &signature, NULL) == 0 &&
         asprintf(&whole, "%s.%s %s", spell_class(signature), name, type) >= 0) {
-        told->method = sites_spelled(whole);
+        told->method = spelled(whole);
         free(whole);
     }
     (*tool)->Deallocate(tool, (unsigned char *)name);
@@ -310,7 +339,7 @@ static void gather_thread(struct told *told, const struct thread *thread) {
     if (!is_live || !thread->is_attached || (*tool)->GetThreadInfo(tool, NULL, &info) != 0) {
         return;
     }
-    told->thread_name = sites_spelled(info.name ? info.name : "");
+    told->thread_name = spelled(info.name ? info.name : "");
     (*tool)->Deallocate(tool, (unsigned char *)info.name);
     machine->DeleteLocalRef(thread->env, info.thread_group);
     machine->DeleteLocalRef(thread->env, info.context_class_loader);

@@ -1,8 +1,8 @@
 """The shapes of what the agent writes for tools: its JSON (docs/REPORTS.md), and SARIF 2.1.0 as far as it uses that."""
 import re
 
-# A shape is a type, a list with the shape of its items, a set of words, or the properties of an object. A property whose
-# name ends with `?` may be left out, and no other may be there.
+# A shape is a type, a list with the shape of its items, a set of words, or the properties of an object. A property
+# whose name ends with `?` may be left out, and no other may be there.
 LINE = {'file?': str, 'line?': int}
 SITE = {'library?': str, 'path?': str, 'offset?': int, 'is_return?': bool, 'symbol?': str, **LINE}
 EVENT = {'text': str, 'by?': str, 'site': SITE}
@@ -25,8 +25,8 @@ LINES = {
     'said': {'text': str},
     'leak': {'of': {'global references', 'weak global references', 'buffers', 'monitors'}, 'count': int,
              'function': str, 'site': SITE, 'message': str},
-    'count': {'of': {'denial', 'notice', 'advice'}, **BLOCK, 'region?': {'site': SITE}, 'count': int, 'is_told': bool, 'is_suppressed': bool,
-              'message': str},
+    'count': {'of': {'denial', 'notice', 'advice'}, **BLOCK, 'region?': {'site': SITE}, 'count': int,
+              'is_told': bool, 'is_suppressed': bool, 'message': str},
     'summary': {'judged': int, 'denied': int, 'suppressed': int, 'unjudged': int, 'impossible': int, 'refused': int,
                 'unseen': int, 'has_stubs': bool, 'libraries': [LIBRARY],
                 'unused_suppressions': [{'line': int, 'text': str}]}}
