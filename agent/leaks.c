@@ -12,15 +12,41 @@
 #include <stdlib.h>
 #include <string.h>
 
-static void add_leak(struct leaks *leaks, const struct leak *leak) {
+/* Those of one place, function and kind stand together. */
+static int compare_kinds(const void *one, const void *other) {
+    const struct leak *a = one, *b = other;
+    if (a->made != b->made) {
+        return (uintptr_t)a->made < (uintptr_t)b->made ? -1 : 1;
+    }
+    return a->function != b->function ? (a->function < b->function ? -1 : 1)
+                                      : (a->kind > b->kind) - (a->kind < b->kind);
+}
+
+/* Makes one of those that are alike. */
+static void merge(struct leaks *leaks) {
+    size_t count = 0;
+    if (leaks->count > 0) {
+        qsort(leaks->items, leaks->count, sizeof *leaks->items, compare_kinds);
+    }
     for (size_t at = 0; at < leaks->count; at++) {
-        struct leak *it = &leaks->items[at];
-        if (it->made == leak->made && it->function == leak->function && it->kind == leak->kind) {
-            it->count += leak->count;
-            return;
+        if (count > 0 && compare_kinds(&leaks->items[count - 1], &leaks->items[at]) == 0) {
+            leaks->items[count - 1].count += leaks->items[at].count;
+        } else {
+            leaks->items[count++] = leaks->items[at];
         }
     }
-    MAKE_ROOM(leaks->items, leaks->count, leaks->room);
+    leaks->count = count;
+}
+
+/* They are merged where there is no room, so that many leaks at many places cost no search each. */
+static void add_leak(struct leaks *leaks, const struct leak *leak) {
+    if (leaks->count == leaks->room) {
+        merge(leaks);
+        if (2 * leaks->count >= leaks->room) {
+            leaks->room = leaks->room ? 2 * leaks->room : 1024;
+            leaks->items = must_grow(leaks->items, leaks->room * sizeof *leaks->items);
+        }
+    }
     leaks->items[leaks->count++] = *leak;
 }
 
@@ -62,6 +88,7 @@ void leaks_find(struct leaks *leaks) {
     buffers_end(see_buffer, leaks);
     names_each_global(see_global, leaks);
     monitors_each_owned(see_monitor, leaks);
+    merge(leaks);
     if (leaks->count > 0) {
         qsort(leaks->items, leaks->count, sizeof *leaks->items, compare_leaks);
     }

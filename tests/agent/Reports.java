@@ -4,6 +4,7 @@ public class Reports {
     static native void again(String text);
     static native void others(String text);
     static native void leaves(Object object, int count);
+    static native void leavesMany(Object object);
     static native void crashes(String text);
     static native void many(String text);
     static native void plug(String text);
@@ -17,6 +18,11 @@ public class Reports {
                 case "again" -> again("text");
                 case "others" -> others("text");
                 case "leaves" -> leaves(new Object(), 2);
+                case "leavesMany" -> {
+                    Object object = new Object();
+                    leavesMany(object);
+                    leavesMany(object);
+                }
                 case "crashes" -> crashes("text");
                 case "many" -> many("text");
                 case "plug" -> {

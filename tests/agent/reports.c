@@ -70,6 +70,21 @@ JNIEXPORT void JNICALL Java_Reports_many(JNIEnv *env, jclass class, jstring text
                      : "r14", "rax", "rcx", "rdx", "rsi", "rdi", "r8", "r9", "r10", "r11", "memory", "cc");
 }
 
+/* Leaves global references behind, each of 20,000 made at a place of its own. */
+JNIEXPORT void JNICALL Java_Reports_leavesMany(JNIEnv *env, jclass class, jobject object) {
+    register JNIEnv *of __asm__("rbx") = env;
+    register jobject made __asm__("r12") = object;
+    register void *function __asm__("r13") = (void *)E->NewGlobalRef;
+    (void)class;
+    __asm__ volatile("movq %%rsp, %%r14\n\tsubq $256, %%rsp\n\tandq $-16, %%rsp\n\t"
+                     ".rept 20000\n\t"
+                     "movq %%rbx, %%rdi\n\tmovq %%r12, %%rsi\n\tcall *%%r13\n\t"
+                     ".endr\n\tmovq %%r14, %%rsp"
+                     : "+r"(of), "+r"(made), "+r"(function)
+                     :
+                     : "r14", "rax", "rcx", "rdx", "rsi", "rdi", "r8", "r9", "r10", "r11", "memory", "cc");
+}
+
 /* Loads the library that the environment names by any bytes, and has it make a denied call. */
 JNIEXPORT void JNICALL Java_Reports_plug(JNIEnv *env, jclass class, jstring text) {
     void *library = dlopen(getenv("PLUG"), RTLD_NOW);
