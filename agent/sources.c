@@ -26,8 +26,8 @@
 enum { MOST_ASKED = 16, MOST_LIBRARY = 64 << 20, MOST_ANSWER = 1 << 20 };
 
 /* How long one answer is waited for, and all that are had at once, in milliseconds. */
-static const int MOST_WAITING[] = {[AT_ONCE] = 1000, [AT_END] = 60000};
-enum { MOST_WAITING_AT_ONCE = 3000 };
+static const int MOST_WAITING[] = {[AT_ONCE] = 2000, [AT_END] = 60000};
+enum { MOST_WAITING_AT_ONCE = 6000 };
 static _Atomic int64_t waited;
 
 /* Newer C libraries close all files from a number on: the program's are none of addr2line's. */
