@@ -129,15 +129,20 @@ void json_raw(struct json *to, const char *bytes) {
 void json_uri(struct json *to, const char *key, const char *path) {
     static const char PLAIN[] = "/-._~abcdefghijklmnopqrstuvwxyzABCDEFGHIJKLMNOPQRSTUVWXYZ0123456789";
     char spelled[4];
+    unsigned byte;
     put_key(to, key);
     put_text(to, *path == '/' ? "\"file://" : "\"");
     for (; *path != 0; path++) {
         if (strchr(PLAIN, *path) != NULL) {
             put(to, path, 1);
-        } else {
-            snprintf(spelled, sizeof spelled, "%%%02X", (unsigned char)*path);
-            put_text(to, spelled);
+            continue;
         }
+        byte = (unsigned char)*path;
+        if (sscanf(path, "\\x%2x", &byte) == 1) {
+            path += strlen("xNN");
+        }
+        snprintf(spelled, sizeof spelled, "%%%02X", byte);
+        put_text(to, spelled);
     }
     put_text(to, "\"");
 }

@@ -29,7 +29,10 @@ void json_truth(struct json *to, const char *key, int is_so);
 /* Adds what is JSON already: items of this object. */
 void json_raw(struct json *to, const char *bytes);
 
-/* The name of a file as a URI: `file:///tmp/a%20b` of `/tmp/a b`, and a relative one of a relative name. */
+/*
+ * The name of a file as a URI: `file:///tmp/a%20b` of `/tmp/a b`, and a relative one of a relative name. A byte that is
+ * spelled `\xNN` is that byte again.
+ */
 void json_uri(struct json *to, const char *key, const char *path);
 
 /* Adds a line feed; and a NUL, that the bytes are a text of C. */

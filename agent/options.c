@@ -30,7 +30,7 @@ static const struct option {
 } OPTIONS[] = {
     {"libs", "A:B", TEXT, offsetof(struct options, libraries),
      "judge the calls of these libraries alone, such as demo or libdemo.so\n"
-     "                  (default: of all that aren't the JDK's own)"},
+     "                    (default: of all that aren't the JDK's own)"},
     {"strict", NULL, FLAG, offsetof(struct options, is_strict),
      "don't make a denied call; it answers NULL, 0 or JNI_ERR"},
     {"fatal", NULL, FLAG, offsetof(struct options, is_fatal), "abort at the first denial"},
@@ -69,9 +69,9 @@ static void print_help(void) {
         char head[32];
         const char *form = OPTIONS[at].kind == CHOICE ? "%s[=%s]" : OPTIONS[at].value ? "%s=%s" : "%s%s";
         snprintf(head, sizeof head, form, OPTIONS[at].word, OPTIONS[at].value ? OPTIONS[at].value : "");
-        printf("  %-15s %s\n", head, OPTIONS[at].help);
+        printf("  %-17s %s\n", head, OPTIONS[at].help);
     }
-    printf("  %-15s %s\n", "help", "print this and end");
+    printf("  %-17s %s\n", "help", "print this and end");
 }
 
 static int refuse(const char *word, const char *why) {

@@ -18,6 +18,7 @@
 #include "output.h"
 #include "sarif.h"
 #include "sites.h"
+#include "sources.h"
 #include "summary.h"
 #include "suppress.h"
 #include "text.h"
@@ -80,7 +81,7 @@ static void write_suppression(const struct told *told) {
 /* What was gathered is written, and is no longer there. */
 static void write_told(size_t number, struct told *told) {
     struct lines lines = {NULL, 0, 0};
-    char *message = text_message(told);
+    char *message = options.json || options.sarif ? text_message(told) : NULL;
     text_block(&lines, told);
     lines_write(&lines);
     events_block(number, told, message);
@@ -152,7 +153,7 @@ void report_advice(const jg_advice *advice) {
 static void line_text(const struct source_line *source, char *text, size_t room) {
     *text = 0;
     if (source->file != NULL) {
-        snprintf(text, room, " (%s:%d)", source->file, source->line);
+        snprintf(text, room, " (%s:%d)", sources_name(source->file), source->line);
     }
 }
 

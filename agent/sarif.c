@@ -51,7 +51,9 @@ static void put_physical(struct json *to, const struct site *site, const struct 
         json_object(to, "physicalLocation");
         if (is_in_library) {
             json_object(to, "artifactLocation");
-            json_uri(to, "uri", site->library->path);
+            char *path = sites_spelled(site->library->path);
+            json_uri(to, "uri", path);
+            free(path);
             json_end(to);
         }
         json_object(to, "address");

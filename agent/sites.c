@@ -829,19 +829,15 @@ size_t sites_sources(const struct site *const *all, size_t count, struct source 
     return total;
 }
 
-void sites_line(const struct site *site, char *text, size_t room) {
+int sites_source(const struct site *site, struct source *source) {
     enum { MOST_LINES = 200 };
     static int count;
-    struct source source;
-    *text = 0;
     /* Each is a process of its own, so a report of very many places does without. */
     if (count++ >= MOST_LINES || site == NULL || site->library == &NOWHERE) {
-        return;
+        return 0;
     }
     uintptr_t offset = offset_of(site);
-    if (sources_find(site->library->path, &offset, 1, AT_END, &source, 1) > 0 && source.line > 0) {
-        snprintf(text, room, " (%s:%d)", source.file, source.line);
-    }
+    return sources_find(site->library->path, &offset, 1, AT_END, source, 1) > 0 && source->line > 0;
 }
 
 __attribute__((constructor)) static void hold_at_fork(void) {

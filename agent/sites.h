@@ -86,8 +86,8 @@ void sites_mark(const struct site *site);
 /* Writes `libdemo.so+0x11cf in Java_Demo_run`. */
 void sites_describe(const struct site *site, char *text, size_t room);
 
-/* Writes ` (demo.c:12)` by addr2line, or nothing. It takes long. */
-void sites_line(const struct site *site, char *text, size_t room);
+/* Finds the function and the line of a place by addr2line, which takes long. Whether there are any. */
+int sites_source(const struct site *site, struct source *source);
 
 /* What stands in the source at these places (sources.h), as far as it is had at once. How many functions these are. */
 size_t sites_sources(const struct site *const *all, size_t count, struct source *to, size_t room);

@@ -26,8 +26,8 @@
 enum { MOST_ASKED = 16, MOST_LIBRARY = 64 << 20, MOST_ANSWER = 1 << 20 };
 
 /* How long one answer is waited for, and all that are had at once, in milliseconds. */
-static const int MOST_WAITING[] = {[AT_ONCE] = 1000, [AT_END] = 60000};
-enum { MOST_WAITING_AT_ONCE = 3000 };
+static const int MOST_WAITING[] = {[AT_ONCE] = 2000, [AT_END] = 60000};
+enum { MOST_WAITING_AT_ONCE = 6000 };
 static _Atomic int64_t waited;
 
 /* Newer C libraries close all files from a number on: the program's are none of addr2line's. */
@@ -124,7 +124,7 @@ static void ask_about(const char *path, const uintptr_t *offsets, size_t count, 
 
 /* ---- reading ---- */
 
-static const char *name_of(const char *path) {
+const char *sources_name(const char *path) {
     const char *slash = strrchr(path, '/');
     return slash ? slash + 1 : path;
 }
@@ -145,7 +145,7 @@ static void take_line(char *line, struct source *to) {
     } else {
         *number = 0;
     }
-    take(name_of(line), to->file, sizeof to->file);
+    take(4 * strlen(line) < sizeof to->file ? line : sources_name(line), to->file, sizeof to->file);
 }
 
 /*
@@ -184,7 +184,7 @@ static size_t read_answer(char *text, int is_named, struct source *to, size_t ro
             if (to[count].line == 0 && !is_named) {
                 *to[count].function = 0;
             }
-            count += strcmp(to[count].file, "jni.h") != 0;
+            count += strcmp(sources_name(to[count].file), "jni.h") != 0;
         }
     }
     return count;

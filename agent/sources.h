@@ -11,9 +11,12 @@
 struct source {
     size_t which; /* of the places that were asked about */
     char function[256];
-    char file[256];
-    int line; /* 0: none */
+    char file[512]; /* its path, as the compiler was given it; of a longer one its name alone */
+    int line;       /* 0: none */
 };
+
+/* The end of a path. */
+const char *sources_name(const char *path);
 
 /* At once: the program waits for the answer, so for a short time, and not too often. At the end it may take long. */
 enum haste { AT_ONCE, AT_END };

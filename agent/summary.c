@@ -5,23 +5,16 @@
 #include "core.h"
 #include "options.h"
 #include "sites.h"
+#include "sources.h"
 #include "threads.h"
 
-#include <stdio.h>
 #include <stdlib.h>
 #include <string.h>
 
 static struct source_line line_of(const struct site *site) {
-    struct source_line source = {NULL, 0};
-    char text[300];
-    sites_line(site, text, sizeof text);
-    char *colon = strrchr(text, ':');
-    if (colon != NULL) {
-        *colon = 0;
-        source.file = must_copy(text + 2);
-        source.line = atoi(colon + 1);
-    }
-    return source;
+    struct source found;
+    int is_found = sites_source(site, &found);
+    return (struct source_line){is_found ? must_copy(found.file) : NULL, is_found ? found.line : 0};
 }
 
 /* ---- by library ---- */

@@ -4,6 +4,7 @@
 #include "text.h"
 #include "lines.h"
 #include "sites.h"
+#include "sources.h"
 #include "told.h"
 
 #include <stdio.h>
@@ -62,7 +63,7 @@ static void say_native(struct lines *to, const struct native_frame *frame) {
                  frame->function);
     }
     if (frame->file != NULL) {
-        lines_say(to, "  native: %s (%s:%d)", place, frame->file, frame->line);
+        lines_say(to, "  native: %s (%s:%d)", place, sources_name(frame->file), frame->line);
     } else {
         lines_say(to, "  native: %s", place);
     }
