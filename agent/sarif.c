@@ -154,13 +154,21 @@ enum { MOST_RULES = 64 };
 
 /* What is told by one rule, one notice, or one kind of advice. */
 struct rule {
-    char *name;
-    uint32_t number; /* 0: of no rule of the seventeen */
-    char *text, *help; /* or NULL */
+    char name[MOST_WORD];
+    uint32_t number;         /* 0: of no rule of the seventeen */
+    const char *text, *help; /* or NULL */
 };
 
 static struct rule known[MOST_RULES]; /* of which a block was told */
 static size_t known_count;
+
+static size_t find(const struct rule *rules, size_t count, const char *name) {
+    size_t at = 0;
+    while (at < count && strcmp(rules[at].name, name) != 0) {
+        at++;
+    }
+    return at;
+}
 
 static char *copy(const char *text) {
     return text ? strdup(text) : NULL;
@@ -168,17 +176,12 @@ static char *copy(const char *text) {
 
 /* Under the lock. */
 static void keep_rule(const struct told *told) {
-    char *name = suppress_rule(&told->block);
-    size_t at = 0;
-    while (at < known_count && strcmp(known[at].name, name) != 0) {
-        at++;
-    }
-    if (at == known_count && at < MOST_RULES) {
-        known[known_count++] = (struct rule){name, told->block.rule,
-                                             copy(told->rule_text ? told->rule_text : told->sentence),
-                                             copy(told->help)};
-    } else {
-        free(name);
+    struct rule rule = {.number = told->block.rule};
+    suppress_rule(&told->block, rule.name);
+    if (find(known, known_count, rule.name) == known_count && known_count < MOST_RULES) {
+        rule.text = copy(told->rule_text ? told->rule_text : told->sentence);
+        rule.help = copy(told->help);
+        known[known_count++] = rule;
     }
 }
 
@@ -244,21 +247,18 @@ struct rules {
     size_t count;
 };
 
-/* The rule's place. It is added where it isn't there: with its texts, if a block of it was told. Takes the name. */
-static size_t rule_of(struct rules *rules, char *name, uint32_t number) {
-    size_t at = 0, told = 0;
-    while (at < rules->count && strcmp(rules->items[at].name, name) != 0) {
-        at++;
-    }
+/* The rule's place. It is added where it isn't there: with its texts, if a block of it was told. */
+static size_t rule_of(struct rules *rules, const char *name, uint32_t number) {
+    size_t at = find(rules->items, rules->count, name);
     if (at < rules->count || at == MOST_RULES) {
-        free(name);
         return at;
     }
-    while (told < known_count && strcmp(known[told].name, name) != 0) {
-        told++;
-    }
-    rules->items[rules->count++] = (struct rule){name, number, told < known_count ? known[told].text : NULL,
-                                                 told < known_count ? known[told].help : NULL};
+    struct rule *rule = &rules->items[rules->count++];
+    pthread_mutex_lock(&lock);
+    size_t told = find(known, known_count, name);
+    *rule = told < known_count ? known[told] : (struct rule){.number = number};
+    pthread_mutex_unlock(&lock);
+    snprintf(rule->name, sizeof rule->name, "%s", name);
     return at;
 }
 
@@ -289,7 +289,7 @@ static void put_rules(struct json *to, const struct rules *rules) {
 }
 
 /* What a result begins with. */
-static void begin_result(struct json *to, struct rules *rules, char *rule, uint32_t number, const char *level) {
+static void begin_result(struct json *to, struct rules *rules, const char *rule, uint32_t number, const char *level) {
     json_object(to, NULL);
     json_text(to, "ruleId", rule);
     json_text(to, "level", level);
@@ -314,8 +314,9 @@ static void end_result(struct json *to, const struct site *site, const struct so
 
 static void put_total(struct json *to, struct rules *rules, size_t number, const struct total *total) {
     const struct block *block = &total->block;
-    char *print = suppress_line(block);
-    begin_result(to, rules, suppress_rule(block), block->rule, level_of(block));
+    char *print = suppress_line(block), rule[MOST_WORD];
+    suppress_rule(block, rule);
+    begin_result(to, rules, rule, block->rule, level_of(block));
     pthread_mutex_lock(&lock);
     const char *items = number <= kept_room ? kept[number - 1] : NULL;
     pthread_mutex_unlock(&lock);
@@ -334,7 +335,7 @@ static void put_total(struct json *to, struct rules *rules, size_t number, const
 static void put_leak(struct json *to, struct rules *rules, const struct leak *leak, const struct source_line *source) {
     char message[600], *print = suppress_print(LEAK, leak->function, leak->made);
     leaks_text(leak, message, sizeof message);
-    begin_result(to, rules, must_copy(LEAK), 0, "warning");
+    begin_result(to, rules, LEAK, 0, "warning");
     put_message(to, message);
     end_result(to, leak->made, source, leak->count, print);
     free(print);
@@ -400,9 +401,6 @@ void sarif_end(const struct head *head, const struct summary *summary) {
     flush(&text);
     if (text.is_lost) {
         fprintf(stderr, "jg: memory ran out for %s, which isn't whole\n", output.path);
-    }
-    for (size_t at = 0; at < rules.count; at++) {
-        free(rules.items[at].name);
     }
     json_free(&text);
 }

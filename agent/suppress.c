@@ -30,22 +30,18 @@ static size_t *places, place_room; /* a hash table of them: their numbers from 1
 /* ---- words ---- */
 
 /* The words of a kind of advice stand with `-` between them: committed-and-kept. */
-static void join_words(char *name) {
-    for (; *name != 0; name++) {
-        *name = *name == ' ' ? '-' : *name;
+void suppress_rule(const struct block *block, char *word) {
+    blocks_name(block, word, MOST_WORD);
+    for (; *word != 0; word++) {
+        *word = *word == ' ' ? '-' : *word;
     }
-}
-
-static void name_of(const struct block *block, char *name, size_t room) {
-    blocks_name(block, name, room);
-    join_words(name);
 }
 
 static int is_kind(const char *word) {
     for (uint32_t kind = JG_UNCHECKED; kind <= JG_GROWING; kind++) {
         const struct block block = {.advice = kind};
-        char name[64];
-        name_of(&block, name, sizeof name);
+        char name[MOST_WORD];
+        suppress_rule(&block, name);
         if (strcmp(name, word) == 0) {
             return 1;
         }
@@ -182,14 +178,14 @@ static int has_library(const char *const *of, const char *library) {
 int suppress_has(const struct block *block) {
     const char *library = block->site ? block->site->library->name : "";
     const char *symbol = block->site && block->site->symbol ? block->site->symbol : "";
-    char name[64];
+    char name[MOST_WORD];
     if (suppression_count == 0) {
         return 0;
     }
     if (block->rule != 0) {
         snprintf(name, sizeof name, "%u", (unsigned)block->rule);
     } else {
-        name_of(block, name, sizeof name);
+        suppress_rule(block, name);
     }
     const char *words[WORDS] = {name, blocks_function(block->function), library, symbol};
     int is_found = has_library(words, "*") | has_library(words, library);
@@ -238,14 +234,8 @@ char *suppress_print(const char *rule, uint32_t function, const struct site *sit
     return line;
 }
 
-char *suppress_rule(const struct block *block) {
-    char name[64];
-    name_of(block, name, sizeof name);
-    return strdup(name);
-}
-
 char *suppress_line(const struct block *block) {
-    char name[64];
-    name_of(block, name, sizeof name);
+    char name[MOST_WORD];
+    suppress_rule(block, name);
     return suppress_print(name, block->function, block->site);
 }

@@ -16,12 +16,16 @@ int suppress_open(void);
 /* Whether a line names the block. All that do are used. One thread calls it at a time. */
 int suppress_has(const struct block *block);
 
+enum { MOST_WORD = 64 };
+
+/* The first word of a line that names the block, which has room for MOST_WORD bytes. */
+void suppress_rule(const struct block *block, char *word);
+
 /*
- * The line that names the block, `DeadReference GetStringLength libdemo.so run`, and its first word; and such a line of
- * another word. The caller frees them. NULL where there is no memory.
+ * The whole line, `DeadReference GetStringLength libdemo.so run`, and one of another first word. The caller frees them.
+ * NULL where there is no memory.
  */
 char *suppress_line(const struct block *block);
-char *suppress_rule(const struct block *block);
 char *suppress_print(const char *rule, uint32_t function, const struct site *site);
 
 /* Calls the function for each line that named no block: its number, and its words. */

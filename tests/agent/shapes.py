@@ -1,5 +1,6 @@
 """The shapes of what the agent writes for tools: its JSON (docs/REPORTS.md), and SARIF 2.1.0 as far as it uses that."""
 import re
+import sys
 
 # A shape is a type, a list with the shape of its items, a set of words, or the properties of an object. A property
 # whose name ends with `?` may be left out, and no other may be there.
@@ -126,6 +127,41 @@ def of_sarif(sarif):
         where = it.get('physicalLocation', {'address': 0})
         if 'address' not in where and 'artifactLocation' not in where:
             found.append(f'a location of nothing: {where}')
+    return found
+
+
+# Of which class of SARIF's published model the value of a property is.
+CLASSES = {'runs': 'Run', 'tool': 'Tool', 'driver': 'ToolComponent', 'rules': 'ReportingDescriptor',
+           'shortDescription': 'MultiformatMessageString', 'help': 'MultiformatMessageString',
+           'invocations': 'Invocation', 'results': 'Result', 'message': 'Message', 'locations': 'Location',
+           'relatedLocations': 'Location', 'location': 'Location', 'physicalLocation': 'PhysicalLocation',
+           'artifactLocation': 'ArtifactLocation', 'address': 'Address', 'region': 'Region',
+           'logicalLocations': 'LogicalLocation', 'stacks': 'Stack', 'frames': 'StackFrame'}
+# Where Debian's python3-sarif-python-om has its classes, which were made of the published schema.
+DEBIAN = '/usr/lib/python3/dist-packages'
+
+
+def model():
+    """The classes, or None where they aren't there."""
+    sys.path.append(DEBIAN)
+    try:
+        import sarif_om
+        return sarif_om
+    except ImportError:
+        return None
+    finally:
+        sys.path.remove(DEBIAN)
+
+
+def of_model(classes, value, name='SarifLog'):
+    """What of an object the class of the published model doesn't have, or has and the object lacks."""
+    fields = {it.metadata['schema_property_name']: it for it in getattr(classes, name).__attrs_attrs__}
+    known, needed = fields.keys(), {key for key, it in fields.items() if 'NOTHING' in str(it.default)}
+    found = [f'{name} has {it}' for it in sorted(value.keys() - known)]
+    found += [f'{name} lacks {it}' for it in sorted(needed - value.keys())]
+    for key in value.keys() & CLASSES.keys():
+        items = value[key] if isinstance(value[key], list) else [value[key]]
+        found += [it for item in items for it in of_model(classes, item, CLASSES[key])]
     return found
 
 
