@@ -62,13 +62,15 @@ static int spawn(char *const *words, int pipe, pid_t *process) {
     return error;
 }
 
-/* The process ends, or is ended. Somebody else may have waited for it: then it may be another one's number by now. */
-static void end(pid_t process, int is_done) {
-    pid_t found = is_done ? 0 : waitpid(process, NULL, WNOHANG);
-    if (found == 0 && !is_done) {
+/*
+ * The process wrote all, or takes too long: it is ended. Somebody else may have waited for it, and then its number may
+ * be another one's by now.
+ */
+static void end(pid_t process) {
+    if (waitpid(process, NULL, WNOHANG) == 0) {
         kill(process, SIGKILL);
-    }
-    while (found == 0 && waitpid(process, NULL, 0) < 0 && errno == EINTR) {
+        while (waitpid(process, NULL, 0) < 0 && errno == EINTR) {
+        }
     }
 }
 
@@ -103,7 +105,7 @@ static void ask(char *const *words, int limit, char *text) {
     close(ends[1]);
     if (error == 0) {
         int is_done = read_all(ends[0], milliseconds() + limit, text);
-        end(process, is_done);
+        end(process);
         *text = is_done ? *text : 0;
     }
     close(ends[0]);
