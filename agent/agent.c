@@ -26,6 +26,10 @@ _Atomic int is_live;
 static int is_loaded;
 static pid_t process;
 
+int agent_is_forked(void) {
+    return getpid() != process;
+}
+
 /* ---- memory ---- */
 
 static void *had(void *memory) {
@@ -91,8 +95,7 @@ static void JNICALL on_end(jvmtiEnv *of, JNIEnv *env) {
 
 /* Also where the program ends without destroying the machine. */
 __attribute__((destructor)) static void at_exit(void) {
-    /* A child that was forked ends without a word. */
-    if (!is_loaded || getpid() != process) {
+    if (!is_loaded || agent_is_forked()) {
         return;
     }
     int code = report_end();
@@ -144,6 +147,7 @@ static jint load(JavaVM *machine_vm, const char *words) {
         fprintf(stderr, "jg: the agent is there already\n");
         return JNI_ERR;
     }
+    process = getpid();
     if (options_read(words) != 0 || report_open() != 0) {
         return JNI_ERR;
     }
@@ -160,7 +164,7 @@ static jint load(JavaVM *machine_vm, const char *words) {
         return JNI_ERR;
     }
     is_loaded = 1;
-    process = getpid();
+    report_begin();
     return JNI_OK;
 }
 

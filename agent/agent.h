@@ -18,6 +18,7 @@
 #define JG_NO_CHECKS
 #include "jg.h"
 #include "jg_functions.h"
+#include "older.h"
 
 #include <jni.h>
 #include <jvmti.h>
@@ -36,6 +37,12 @@ extern int is_from_start;
 
 /* Whether the machine is between its start and its end, so that it may be asked about objects. */
 extern _Atomic int is_live;
+
+/*
+ * Whether this process is a child that was forked from the machine's. It says nothing, and writes to none of the
+ * agent's files. That is asked where something is written, since a child of vfork has the machine's memory.
+ */
+int agent_is_forked(void);
 
 /* Memory that must be had: without it the agent says so and aborts. The first is filled with zeros. */
 void *must_make(size_t size);

@@ -8,6 +8,7 @@
  */
 #include "buffers.h"
 #include "core.h"
+#include "forks.h"
 #include "kept.h"
 #include "names.h"
 #include "objects.h"
@@ -24,7 +25,9 @@ enum { ZONE = 256, ZONE_BYTE = 0xA5, GIVEN_BYTE = 0xD6, FEWEST_LISTS = 256, MOST
 struct pair {
     const struct thread *thread;
     jg_value name;
-    int is_machines; /* the machine lent its memory for it, and hasn't got it back */
+    int is_machines;         /* the machine lent its memory for it, and hasn't got it back */
+    uint32_t made_by;
+    const struct site *made; /* the place of the first call */
 };
 
 struct lent {
@@ -274,14 +277,21 @@ static int64_t item_at(const struct lent *lent, const unsigned char *at) {
     }
 }
 
-/* Asks whether this may have been stored, at the place where it was seen. */
-static void ask_store(struct lent *lent, const struct site *site, int64_t index, int64_t value) {
+/* Where it is seen that something was stored: in the call whose wrapper has this frame, if there is one. */
+struct seen {
+    const struct site *site;
+    uintptr_t frame;
+};
+
+/* Asks whether this may have been stored. */
+static void ask_store(struct lent *lent, const struct seen *seen, int64_t index, int64_t value) {
     struct thread *thread = threads_self();
     struct call call;
     if (!threads_is_numbered(thread)) {
         return;
     }
-    call_opens(&call, JG_FN_BufferWrite, thread, site);
+    call_opens(&call, JG_FN_BufferWrite, thread, seen->site);
+    call.frame = seen->frame;
     call.lent = lent;
     call_operand(&call, newest_name(lent, thread));
     call_number(&call, (int32_t)index);
@@ -292,14 +302,14 @@ static void ask_store(struct lent *lent, const struct site *site, int64_t index,
 }
 
 /* One item of a zone that was changed: the nearest behind the end, and the nearest before the beginning. */
-static void look_at_zones(struct lent *lent, const struct site *site) {
+static void look_at_zones(struct lent *lent, const struct seen *seen) {
     const unsigned char *end = lent->at + lent->bytes;
     size_t size = objects_item_size(lent->shape), at = 0;
     if (memcmp(end, clean, ZONE) != 0) {
         while (end[at] == ZONE_BYTE) {
             at++;
         }
-        ask_store(lent, site, (int64_t)((lent->bytes + at) / size), end[at]);
+        ask_store(lent, seen, (int64_t)((lent->bytes + at) / size), end[at]);
         return;
     }
     if (memcmp(lent->block, clean, ZONE) != 0) {
@@ -307,7 +317,7 @@ static void look_at_zones(struct lent *lent, const struct site *site) {
         while (lent->block[at] == ZONE_BYTE) {
             at--;
         }
-        ask_store(lent, site, -(int64_t)((ZONE - at + size - 1) / size), lent->block[at]);
+        ask_store(lent, seen, -(int64_t)((ZONE - at + size - 1) / size), lent->block[at]);
     }
 }
 
@@ -332,13 +342,13 @@ static size_t difference(const unsigned char *one, const unsigned char *other, s
 }
 
 /* Changed items: the first, and those that are no value of the type. */
-static void look_at_items(struct lent *lent, const unsigned char *was, const struct site *site) {
+static void look_at_items(struct lent *lent, const unsigned char *was, const struct seen *seen) {
     size_t size = objects_item_size(lent->shape), told = 0;
     size_t at = difference(lent->at, was, 0, lent->bytes);
     while (at < lent->bytes && told < MOST_TOLD) {
         const unsigned char *item = lent->at + at / size * size;
         if (told == 0 || (lent->shape == 'Z' && *item > 1)) {
-            ask_store(lent, site, (int64_t)(at / size), item_at(lent, item));
+            ask_store(lent, seen, (int64_t)(at / size), item_at(lent, item));
             told++;
         }
         if (lent->shape != 'Z') {
@@ -349,15 +359,15 @@ static void look_at_items(struct lent *lent, const unsigned char *was, const str
 }
 
 /* What was stored. Into a critical buffer only threads with a pair on it may store: another's release says nothing. */
-static void look(struct lent *lent, const struct site *site) {
+static void look(struct lent *lent, const struct seen *seen) {
     if (is_critical(lent->family) && !has_pair(lent, threads_self())) {
         return;
     }
     const unsigned char *was = lent->was ? lent->was : lent->memory;
     if (was != NULL) {
-        look_at_items(lent, was, site);
+        look_at_items(lent, was, seen);
     }
-    look_at_zones(lent, site);
+    look_at_zones(lent, seen);
 }
 
 /* ---- copying ---- */
@@ -567,7 +577,7 @@ static void *lend(struct call *call, void *memory, jboolean *is_copy) {
     if (given.kind != JG_BUFFER) {
         return lend_plain(call, memory);
     }
-    const struct pair pair = {call->thread, given, 1};
+    const struct pair pair = {call->thread, given, 1, call->function, call->site};
     struct lent *lent = is_critical(family) ? lend_critical(call, memory, shape, &pair)
                                             : lend_copy(call, memory, count, shape, &pair);
     if (is_copy != NULL) {
@@ -712,7 +722,8 @@ static int give_judged(struct given_back *given) {
         return 1;
     }
     if (lent != NULL && !lent->is_given) {
-        look(lent, call->site);
+        const struct seen seen = {call->site, call->frame};
+        look(lent, &seen);
     }
     given->name = lent ? newest_name(lent, call->thread) : jg_buffer(call->thread->number, UINT64_MAX);
     call_operand(call, given->name);
@@ -786,12 +797,12 @@ static size_t changed_later(const struct lent *lent) {
 }
 
 static void look_at_given(struct lent *lent) {
-    const struct site *site = lent->given ? lent->given : lent->made;
+    const struct seen seen = {lent->given ? lent->given : lent->made, 0};
     size_t at = changed_later(lent), size = objects_item_size(lent->shape);
     if (at < lent->bytes) {
-        ask_store(lent, site, (int64_t)(at / size), item_at(lent, lent->at + at / size * size));
+        ask_store(lent, &seen, (int64_t)(at / size), item_at(lent, lent->at + at / size * size));
     } else {
-        look_at_zones(lent, site);
+        look_at_zones(lent, &seen);
     }
 }
 
@@ -854,6 +865,23 @@ void buffers_places(const struct lent *lent, const struct site **made, uint32_t 
     *given = lent->given;
 }
 
+const struct site *buffers_region(const struct thread *thread, uint32_t *made_by) {
+    const struct pair *oldest = NULL;
+    spin_lock(&lock);
+    for (const struct lent *it = criticals; it != NULL; it = it->critical) {
+        for (size_t at = 0; at < it->pair_count; at++) {
+            const struct pair *pair = &it->pairs[at];
+            if (pair->thread == thread && (oldest == NULL || pair->name.number < oldest->name.number)) {
+                oldest = pair;
+            }
+        }
+    }
+    const struct site *made = oldest ? oldest->made : NULL;
+    *made_by = oldest ? oldest->made_by : 0;
+    spin_unlock(&lock);
+    return made;
+}
+
 void buffers_thread_ended(struct thread *thread) {
     struct lent *next;
     spin_lock(&lock);
@@ -891,6 +919,7 @@ static struct lent **all_lent(size_t *count) {
 
 /* What was stored into a buffer, if it is open. Another thread may give the machine's memory back meanwhile. */
 static void look_at_open(struct lent *lent) {
+    const struct seen seen = {lent->made, 0};
     unsigned char *was = lent->was ? NULL : must_make(lent->bytes);
     spin_lock(&lock);
     int is_open = !lent->is_given && (lent->was != NULL || lent->memory != NULL);
@@ -899,10 +928,10 @@ static void look_at_open(struct lent *lent) {
     }
     spin_unlock(&lock);
     if (is_open && was != NULL) {
-        look_at_items(lent, was, lent->made);
-        look_at_zones(lent, lent->made);
+        look_at_items(lent, was, &seen);
+        look_at_zones(lent, &seen);
     } else if (is_open) {
-        look(lent, lent->made);
+        look(lent, &seen);
     }
     free(was);
 }
@@ -945,7 +974,14 @@ void buffers_each_site(void (*see)(const struct site *site)) {
         for (const struct lent *it = lists[at]; it != NULL; it = it->next) {
             see(it->made);
             see(it->given);
+            for (size_t pair = 0; pair < it->pair_count; pair++) {
+                see(it->pairs[pair].made);
+            }
         }
     }
     spin_unlock(&lock);
+}
+
+__attribute__((constructor)) static void hold_at_fork(void) {
+    FORKS_HOLD(FORKS_SPIN, &lock);
 }

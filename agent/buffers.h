@@ -34,6 +34,12 @@ void buffers_gave(struct given_back *given);
 /* Where a buffer was lent, by which function, and where it was given back, or NULL. */
 void buffers_places(const struct lent *lent, const struct site **made, uint32_t *made_by, const struct site **given);
 
+/*
+ * Where the critical region of the thread began, and by which function: where the oldest of its critical pairs that are
+ * open was lent. NULL where none is known.
+ */
+const struct site *buffers_region(const struct thread *thread, uint32_t *made_by);
+
 /* The thread has ended: its critical buffers are closed. */
 void buffers_thread_ended(struct thread *thread);
 

@@ -43,9 +43,11 @@ void call_opens(struct call *call, uint32_t function, struct thread *thread, con
 }
 
 /* The call is judged, by a thread that is caught up with. */
-static int begin(struct call *call, uint32_t function, JNIEnv *env, struct thread *thread, const struct site *site) {
+static int begin(struct call *call, uint32_t function, JNIEnv *env, struct thread *thread, const struct site *site,
+                 uintptr_t frame) {
     call_opens(call, function, thread, site);
     call->env = env;
+    call->frame = frame;
     call->is_own_env = thread->is_attached && env == thread->env;
     call->was_pending = thread->is_pending;
     if (call->row->takes_env) {
@@ -65,7 +67,7 @@ static int begin_slowly(struct call *call, uint32_t function, JNIEnv *env, uintp
         if (!threads_is_caught_up(thread, env, frame)) {
             threads_catch_up(thread, env, frame);
         }
-        begin(call, function, env, thread, site);
+        begin(call, function, env, thread, site, frame);
     } else {
         thread->is_unsure = 1;
     }
@@ -83,7 +85,7 @@ int call_begins(struct call *call, uint32_t function, JNIEnv *env, uintptr_t at,
     if (site == NULL || !is_live || thread->number == 0 || !threads_is_caught_up(thread, env, frame)) {
         return begin_slowly(call, function, env, at, frame);
     }
-    return begin(call, function, env, thread, site);
+    return begin(call, function, env, thread, site, frame);
 }
 
 void call_operand_of(struct call *call, jg_value operand, jobject handle) {
@@ -453,6 +455,7 @@ void call_id(struct call *call, const void *id, enum subject subject, char lette
     }
     if (fit == ID_OTHER_RESULT) {
         notice(call, "OtherResult", "the function is of another result type than the method");
+        call->method = (jmethodID)(uintptr_t)id;
         fit = ID_FITS;
     }
     call->reason = REASONS[fit];
@@ -559,6 +562,7 @@ struct question call_question(const struct call *call) {
 static int ask(struct call *call, struct memo *memo) {
     struct question question = call_question(call);
     const jg_value *kept = call->kept.kind == JG_NOTHING ? NULL : &call->kept;
+    call->thread->asking = call;
     core_lock();
     if (objects_are_gone()) {
         objects_tell_gone();
@@ -566,6 +570,7 @@ static int ask(struct call *call, struct memo *memo) {
     int32_t error = core_ask(&question, &call->verdict, call->is_ending ? &call->given : NULL, kept);
     uint64_t facts = core_facts;
     core_unlock();
+    call->thread->asking = NULL;
     if (memo != NULL && error == 0 && call->verdict.rule == 0) {
         remember(call, memo, facts);
     }
@@ -707,10 +712,11 @@ static struct object *thrown_by(struct call *call, jg_value says) {
     return object;
 }
 
-/* Whether the thread has an exception pending, as the core knows now. */
-static void note_pending(struct call *call, jg_value says) {
+/* Whether the thread has an exception pending, as the core knows now. It is this object, or of this class. */
+static void note_pending(struct call *call, jg_value says, const struct object *thrown) {
     if (says.kind == JG_THREW || call->row->effect == EFFECT_RAISES) {
         call->thread->is_pending = 1;
+        call->thread->thrower = (struct thrower){thrown, call->site, call->function};
     } else if (call->row->effect == EFFECT_CALMS) {
         call->thread->is_pending = 0;
     }
@@ -735,7 +741,7 @@ static void tell_answer(struct call *call, jg_value says, struct object *object,
         core_did(&call->verdict.ticket, says, object, given);
         core_unlock();
     }
-    note_pending(call, says);
+    note_pending(call, says, object);
 }
 
 void call_says(struct call *call, jg_value says, struct object *object, jg_value *given) {

@@ -49,6 +49,8 @@ struct call {
     JNIEnv *env;
     const struct row *row;
     const struct site *site;
+    uintptr_t frame;  /* of the wrapper, by which the native stack is found; 0: it isn't */
+    jmethodID method; /* the method, where the function is of another result type; else NULL */
     uint32_t function;
     int is_own_env;  /* the environment is the thread's, so the machine can be asked by it */
     int is_asked;    /* the core was asked; else it is passed on */

@@ -5,6 +5,7 @@
  * is held, and written by one write before the machine makes the call: so a crash loses no line.
  */
 #include "core.h"
+#include "forks.h"
 #include "objects.h"
 #include "options.h"
 #include "report.h"
@@ -75,9 +76,12 @@ static void put_line(const uint8_t *made, int64_t length) {
     }
 }
 
-/* Writes all that was gathered. A device that fails ends the record. errno is the caller's. */
+/*
+ * Writes all that was gathered. A device that fails ends the record. A forked child writes nothing. errno is the
+ * caller's.
+ */
 static void write_lines(void) {
-    size_t done = 0;
+    size_t done = agent_is_forked() ? line_size : 0;
     int kept = errno;
     while (record >= 0 && done < line_size) {
         ssize_t count = write(record, lines + done, line_size - done);
@@ -260,6 +264,7 @@ int core_open(void) {
         return -1;
     }
     is_advising = options.advice;
+    forks_open();
     return open_record();
 }
 
@@ -472,4 +477,8 @@ int core_is_recorded(void) {
 
 int core_needs_all(void) {
     return record >= 0 || is_advising;
+}
+
+__attribute__((constructor)) static void hold_at_fork(void) {
+    FORKS_HOLD(FORKS_CORE, &lock);
 }

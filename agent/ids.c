@@ -7,6 +7,7 @@
  * and the class of the operand.
  */
 #include "ids.h"
+#include "forks.h"
 #include "kept.h"
 #include "objects.h"
 #include "spin.h"
@@ -559,4 +560,11 @@ char ids_type(const void *id) {
     char type = found ? found->type : 0;
     spin_unlock(its);
     return type;
+}
+
+__attribute__((constructor)) static void hold_at_fork(void) {
+    FORKS_HOLD(FORKS_MUTEX, &lock);
+    for (size_t at = 0; at < LIST_LOCKS; at++) {
+        FORKS_HOLD(FORKS_SPIN, &list_locks[at]);
+    }
 }

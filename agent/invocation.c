@@ -22,6 +22,7 @@ static int begins(struct call *call, uint32_t function, uintptr_t at, uintptr_t 
     if (is_judged) {
         threads_catch_up(thread, thread->env, frame);
         call_opens(call, function, thread, site);
+        call->frame = frame;
         call->was_pending = thread->is_pending;
     }
     restore(&kept);

@@ -7,6 +7,7 @@
 #include "monitors.h"
 #include "calls.h"
 #include "core.h"
+#include "forks.h"
 #include "kept.h"
 #include "objects.h"
 #include "spin.h"
@@ -258,4 +259,8 @@ void monitors_each_site(void (*see)(const struct site *site)) {
         see(left[at].entered);
     }
     spin_unlock(&lock);
+}
+
+__attribute__((constructor)) static void hold_at_fork(void) {
+    FORKS_HOLD(FORKS_SPIN, &lock);
 }

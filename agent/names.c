@@ -7,6 +7,7 @@
  * isn't put there again.
  */
 #include "names.h"
+#include "forks.h"
 #include "objects.h"
 #include "spin.h"
 
@@ -232,5 +233,11 @@ void names_each_site(void (*see)(const struct site *site)) {
             }
         }
         spin_unlock(&part->lock);
+    }
+}
+
+__attribute__((constructor)) static void hold_at_fork(void) {
+    for (size_t at = 0; at < PARTS; at++) {
+        FORKS_HOLD(FORKS_SPIN, &parts[at].lock);
     }
 }

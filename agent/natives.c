@@ -8,6 +8,7 @@
 #include "natives.h"
 #include "calls.h"
 #include "core.h"
+#include "forks.h"
 #include "kept.h"
 #include "names.h"
 #include "objects.h"
@@ -669,4 +670,8 @@ jint JNICALL wrapped_UnregisterNatives(JNIEnv *env, jclass class) {
     jint answer = machine->UnregisterNatives(env, class);
     call_drops(&call);
     return answer;
+}
+
+__attribute__((constructor)) static void hold_at_fork(void) {
+    FORKS_HOLD(FORKS_MUTEX, &lock);
 }

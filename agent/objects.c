@@ -7,6 +7,7 @@
  */
 #include "objects.h"
 #include "core.h"
+#include "forks.h"
 #include "ids.h"
 #include "sites.h"
 #include "spin.h"
@@ -623,4 +624,9 @@ void objects_tell_cleared(struct object *object) {
     } else {
         core_count(&counts.impossible);
     }
+}
+
+__attribute__((constructor)) static void hold_at_fork(void) {
+    FORKS_HOLD(FORKS_SPIN, &meetings_lock);
+    FORKS_HOLD(FORKS_LAST, &graves_lock);
 }

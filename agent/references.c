@@ -6,6 +6,7 @@
  */
 #include "calls.h"
 #include "core.h"
+#include "forks.h"
 #include "kept.h"
 #include "names.h"
 #include "objects.h"
@@ -345,4 +346,8 @@ void JNICALL wrapped_ExceptionClear(JNIEnv *env) {
         call_drops(&call);
     }
     machine->ExceptionClear(env);
+}
+
+__attribute__((constructor)) static void hold_at_fork(void) {
+    FORKS_HOLD(FORKS_MUTEX, &lock);
 }

@@ -10,8 +10,11 @@ struct call;
 struct name;
 struct site;
 
-/* Opens the log and reads what is suppressed. 0, or a negative number: it was said why. */
+/* Opens the files that are written, and reads what is suppressed. 0, or a negative number: it was said why. */
 int report_open(void);
+
+/* What a report begins with. The machine's tools are there. */
+void report_begin(void);
 
 /* A call was denied: told at once where it is the first of its rule, function and place, else counted. */
 void report_denial(const struct call *call);

@@ -8,12 +8,14 @@
  */
 #include "sites.h"
 #include "buffers.h"
+#include "forks.h"
 #include "kept.h"
 #include "monitors.h"
 #include "names.h"
 #include "natives.h"
 #include "options.h"
 #include "report.h"
+#include "sources.h"
 #include "table.h"
 #include "threads.h"
 
@@ -205,7 +207,19 @@ static char *whole_path(const char *name) {
     return path ? path : must_copy(name);
 }
 
-#ifdef DLFO_STRUCT_HAS_EH_DBASE /* the C library has _dl_find_object */
+#ifndef DLFO_STRUCT_HAS_EH_DBASE
+/* What these headers lack, nobody looks for (sites_open). */
+struct dl_find_object {
+    void *dlfo_map_start, *dlfo_eh_frame;
+    struct link_map *dlfo_link_map;
+};
+#endif
+
+/*
+ * _dl_find_object of the C library, or NULL: it has one from 2.35 on. dladdr, which then is asked, waits for a lock of
+ * the loader's, which a thread holds while a library's constructor runs.
+ */
+static int (*find_object)(void *, struct dl_find_object *);
 
 /* The exported symbol that the address stands in: of several the one that begins last, and of those the first. */
 static void find_symbol(uintptr_t at, struct looked_up *it) {
@@ -228,27 +242,10 @@ static void find_symbol(uintptr_t at, struct looked_up *it) {
 
 static uintptr_t base_of(uintptr_t at) {
     struct dl_find_object found;
-    return _dl_find_object((void *)at, &found) == 0 ? (uintptr_t)found.dlfo_map_start : 0;
-}
-
-/* dladdr would wait for a lock of the loader's, which a thread holds while a library's constructor runs. */
-static struct looked_up look_up(uintptr_t at) {
-    struct looked_up it = {.path = NULL};
-    struct dl_find_object found;
-    if (_dl_find_object((void *)at, &found) == 0) {
-        it.library = found.dlfo_link_map;
-        it.base = (uintptr_t)found.dlfo_map_start;
-        it.path = whole_path(it.library->l_name);
-        it.unwinding = found.dlfo_eh_frame;
-        find_symbol(at, &it);
-    }
-    return it;
-}
-
-#else
-
-static uintptr_t base_of(uintptr_t at) {
     Dl_info info;
+    if (find_object != NULL) {
+        return find_object((void *)at, &found) == 0 ? (uintptr_t)found.dlfo_map_start : 0;
+    }
     return dladdr((void *)at, &info) ? (uintptr_t)info.dli_fbase : 0;
 }
 
@@ -275,11 +272,28 @@ static const void *unwinding_of(const struct link_map *library) {
     return tables.unwinding;
 }
 
-static struct looked_up look_up(uintptr_t at) {
-    struct looked_up it = {.path = NULL};
+static const void *tables_at(uintptr_t at) {
+    struct dl_find_object found;
     Dl_info info;
     void *library = NULL;
-    if (dladdr1((void *)at, &info, &library, RTLD_DL_LINKMAP) && info.dli_fname != NULL) {
+    if (find_object != NULL) {
+        return find_object((void *)at, &found) == 0 ? found.dlfo_eh_frame : NULL;
+    }
+    return dladdr1((void *)at, &info, &library, RTLD_DL_LINKMAP) && library != NULL ? unwinding_of(library) : NULL;
+}
+
+static struct looked_up look_up(uintptr_t at) {
+    struct looked_up it = {.path = NULL};
+    struct dl_find_object found;
+    Dl_info info;
+    void *library = NULL;
+    if (find_object != NULL && find_object((void *)at, &found) == 0) {
+        it.library = found.dlfo_link_map;
+        it.base = (uintptr_t)found.dlfo_map_start;
+        it.path = whole_path(it.library->l_name);
+        it.unwinding = found.dlfo_eh_frame;
+        find_symbol(at, &it);
+    } else if (find_object == NULL && dladdr1((void *)at, &info, &library, RTLD_DL_LINKMAP) && info.dli_fname != NULL) {
         it.library = library;
         it.base = (uintptr_t)info.dli_fbase;
         it.path = whole_path(info.dli_fname);
@@ -289,8 +303,6 @@ static struct looked_up look_up(uintptr_t at) {
     }
     return it;
 }
-
-#endif
 
 /* Whether the library replaced functions of the table after the agent did, as a tracer does. */
 static int is_in_table(uintptr_t base) {
@@ -568,6 +580,7 @@ static void sweep(void) {
     natives_each_site(sites_mark);
     buffers_each_site(sites_mark);
     monitors_each_site(sites_mark);
+    threads_each_site(sites_mark);
     report_each_site(sites_mark);
     pthread_mutex_lock(&lock);
     if (readers == 0) {
@@ -677,6 +690,44 @@ const struct site *sites_find_caller(struct thread *thread, uintptr_t at, uintpt
     return found;
 }
 
+/* ---- the stack ---- */
+
+/*
+ * How the frame at this return address is left. Where no tables say so, the frame pointer leads out of a function that
+ * sets one. Whether it is known: what a function without either has in that register may be anything.
+ */
+static int knows_step(const struct site *site, uintptr_t at, struct step *step) {
+    if (unwind_knows(tables_at(at), at, step)) {
+        return 1;
+    }
+    *step = unwind_by_frame_pointer();
+    return site->symbol != NULL && unwind_sets_frame_pointer((const unsigned char *)at - site->in_symbol);
+}
+
+size_t sites_stack(const struct thread *thread, const struct site *site, uintptr_t frame, const struct site **stack,
+                   size_t room) {
+    enum { MOST_DEPTH = 64 };
+    size_t count = 0;
+    if (frame == 0) {
+        return 0;
+    }
+    const uintptr_t *saved = (const uintptr_t *)frame;
+    struct registers registers = {.stack = frame + 2 * sizeof *saved, .frame = saved[0]};
+    uintptr_t at = saved[1];
+    for (int depth = 0; depth < MOST_DEPTH && count < room && at != 0 && base_of(at) != 0; depth++) {
+        const struct site *here = site_at(at, 1);
+        struct step step;
+        if (here->is_own || here->library->is_machine) {
+            break;
+        }
+        if (count > 0 || here == site) {
+            stack[count++] = here;
+        }
+        at = knows_step(here, at, &step) ? unwind_up(&step, &registers, thread->stack_low, thread->stack_high) : 0;
+    }
+    return count;
+}
+
 /* ---- unloading ---- */
 
 static int count_unloaded(struct dl_phdr_info *info, size_t size, void *count) {
@@ -716,12 +767,23 @@ static void find_jdk(void) {
     }
 }
 
+/* A name of version 2.35 that the agent asked for itself would keep it from running over an older C library. */
+static void look_for_find_object(void) {
+#ifdef DLFO_STRUCT_HAS_EH_DBASE
+    void *found = dlsym(RTLD_DEFAULT, "_dl_find_object");
+    memcpy(&find_object, &found, sizeof find_object);
+    dlerror(); /* which else says that there is none */
+#endif
+}
+
 void sites_open(void) {
     Dl_info found;
     if (dladdr(&libraries, &found)) {
         own_base = (uintptr_t)found.dli_fbase;
     }
+    look_for_find_object();
     find_jdk();
+    sources_open();
     sites_check_unloaded();
 }
 
@@ -737,32 +799,47 @@ void sites_describe(const struct site *site, char *text, size_t room) {
     }
 }
 
-void sites_line(const struct site *site, char *text, size_t room) {
+/* A return address is that of the next instruction, so the call stands before it. A native method has its own. */
+static uintptr_t offset_of(const struct site *site) {
+    return site->is_return && site->offset ? site->offset - 1 : site->offset;
+}
+
+/* Finds what stands at the first places, as many as are in one library. How many these are. */
+static size_t find_some(const struct site *const *all, size_t count, struct source *to, size_t room, size_t *found) {
+    enum { MOST = 16 };
+    uintptr_t offsets[MOST];
+    size_t some = 0;
+    while (some < count && some < MOST && all[some]->library == all[0]->library) {
+        offsets[some] = offset_of(all[some]);
+        some++;
+    }
+    *found = all[0]->library == &NOWHERE ? 0 : sources_find(all[0]->library->path, offsets, some, AT_ONCE, to, room);
+    return some;
+}
+
+size_t sites_sources(const struct site *const *all, size_t count, struct source *to, size_t room) {
+    size_t total = 0, found;
+    for (size_t done = 0, some; done < count; done += some) {
+        some = find_some(all + done, count - done, to + total, room - total, &found);
+        for (size_t at = 0; at < found; at++) {
+            to[total + at].which += done;
+        }
+        total += found;
+    }
+    return total;
+}
+
+int sites_source(const struct site *site, struct source *source) {
     enum { MOST_LINES = 200 };
     static int count;
-    char command[4400], line[1024];
-    *text = 0;
     /* Each is a process of its own, so a report of very many places does without. */
-    if (count++ >= MOST_LINES || site == NULL || site->library == &NOWHERE ||
-        strpbrk(site->library->path, "'\n\\") != NULL) {
-        return;
+    if (count++ >= MOST_LINES || site == NULL || site->library == &NOWHERE) {
+        return 0;
     }
-    /* A return address is that of the next instruction, so the call stands before it. A native method has its own. */
-    snprintf(command, sizeof command, "addr2line -i -e '%s' 0x%lx 2>/dev/null", site->library->path,
-             (unsigned long)(site->is_return && site->offset ? site->offset - 1 : site->offset));
-    FILE *pipe = popen(command, "r");
-    if (pipe == NULL) {
-        return;
-    }
-    /* Of functions that were inlined the outer one comes behind the inner: what C++ has of JNIEnv is passed over. */
-    do {
-        *line = 0;
-    } while (fgets(line, sizeof line, pipe) != NULL && strncmp(name_of(line), "jni.h:", 6) == 0);
-    if (*line != 0 && *line != '?') {
-        line[strcspn(line, " \n")] = 0;
-        if (strstr(line, ":?") == NULL) {
-            snprintf(text, room, " (%s)", name_of(line));
-        }
-    }
-    pclose(pipe);
+    uintptr_t offset = offset_of(site);
+    return sources_find(site->library->path, &offset, 1, AT_END, source, 1) > 0 && source->line > 0;
+}
+
+__attribute__((constructor)) static void hold_at_fork(void) {
+    FORKS_HOLD(FORKS_MUTEX, &lock);
 }

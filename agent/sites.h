@@ -7,6 +7,7 @@
 #include "agent.h"
 #include "unwind.h"
 
+struct source;
 struct thread;
 
 struct library {
@@ -61,6 +62,14 @@ int sites_is_there(const struct site *site, uintptr_t at);
  */
 const struct site *sites_find_caller(struct thread *thread, uintptr_t at, uintptr_t frame);
 
+/*
+ * The native stack of a call whose wrapper has this frame: the places from that of the call on down to the native
+ * method, which Java called, or as far as the unwinder's tables lead. How many they are. The frame 0 has none. The
+ * functions that only pass the call on, the agent's own and the machine's aren't among them.
+ */
+size_t sites_stack(const struct thread *thread, const struct site *site, uintptr_t frame, const struct site **stack,
+                   size_t room);
+
 /* Where a library was unloaded since the last call, each place is looked up again. */
 void sites_check_unloaded(void);
 
@@ -77,8 +86,11 @@ void sites_mark(const struct site *site);
 /* Writes `libdemo.so+0x11cf in Java_Demo_run`. */
 void sites_describe(const struct site *site, char *text, size_t room);
 
-/* Writes ` (demo.c:12)` by addr2line, or nothing. It takes long. */
-void sites_line(const struct site *site, char *text, size_t room);
+/* Finds the function and the line of a place by addr2line, which takes long. Whether there are any. */
+int sites_source(const struct site *site, struct source *source);
+
+/* What stands in the source at these places (sources.h), as far as it is had at once. How many functions these are. */
+size_t sites_sources(const struct site *const *all, size_t count, struct source *to, size_t room);
 
 /* Grows whenever libraries were unloaded. */
 extern _Atomic uint32_t sites_generation;

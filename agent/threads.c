@@ -8,6 +8,7 @@
 #include "threads.h"
 #include "buffers.h"
 #include "core.h"
+#include "forks.h"
 #include "monitors.h"
 #include "names.h"
 #include "objects.h"
@@ -134,6 +135,14 @@ uint64_t threads_repeated(void) {
     }
     pthread_mutex_unlock(&lock);
     return count;
+}
+
+void threads_each_site(void (*see)(const struct site *site)) {
+    pthread_mutex_lock(&lock);
+    for (const struct thread *it = threads; it != NULL; it = it->next) {
+        see(it->thrower.site);
+    }
+    pthread_mutex_unlock(&lock);
 }
 
 static void make_key(void) {
@@ -549,4 +558,8 @@ int threads_hold_local(struct thread *thread, JNIEnv *env, const struct held_loc
         machine->EnsureLocalCapacity(env, ROOM_BESIDE_HELD);
     }
     return 1;
+}
+
+__attribute__((constructor)) static void hold_at_fork(void) {
+    FORKS_HOLD(FORKS_MUTEX, &lock);
 }

@@ -8,6 +8,8 @@
 #include "natives.h"
 #include "sites.h"
 
+struct call;
+
 enum { RECENT_SITES = 64 };
 
 struct recent_site {
@@ -52,6 +54,13 @@ struct waiting {
     uint32_t count;
 };
 
+/* The judged call that left an exception pending last: of this object, or of this class. It is only compared. */
+struct thrower {
+    const struct object *of;
+    const struct site *site;
+    uint32_t function;
+};
+
 /* An environment, and the core's name for it. */
 struct environment {
     JNIEnv *env;
@@ -89,6 +98,8 @@ struct thread {
     struct held_local *held; /* a ring */
     size_t held_first, held_count;
     struct waiting waiting;
+    struct thrower thrower;
+    const struct call *asking; /* the call of which the core is asked, or NULL */
     uint64_t newest_serial;
     int is_pending;         /* an exception is, as the core was told */
     int is_unsure;          /* something may have thrown or cleared one unseen */
@@ -214,6 +225,9 @@ uint64_t threads_add_local(struct thread *thread, uintptr_t handle, uint64_t num
 
 /* An exception is pending in the machine: tells it, or that none is. Not between core_lock and core_unlock. */
 void threads_check_pending(struct thread *thread, JNIEnv *env);
+
+/* Calls the function for the places that threads keep, which may be NULL. */
+void threads_each_site(void (*see)(const struct site *site));
 
 /* Whether a local reference was held back in place of its deletion. */
 int threads_hold_local(struct thread *thread, JNIEnv *env, const struct held_local *local);

@@ -3,8 +3,9 @@
  *
  * A library that is compiled without frame pointers says in .eh_frame how each function's frame is left (DWARF's call
  * frame information), and .eh_frame_hdr says where that stands for each function. What is read here is what compilers
- * write for functions of x86-64: a frame's end counted from the stack pointer or the frame pointer, and the frame
- * pointer saved in the frame or left as it was.
+ * write for functions of x86-64: a frame's end counted from the stack pointer or the frame pointer, or read there where
+ * the stack is aligned anew, and the frame pointer saved in the frame or left as it was. Unlike the unwinder of libgcc,
+ * it takes no lock, ends nothing that it can't read, and reads no stack but the thread's own.
  */
 #include "unwind.h"
 
@@ -12,7 +13,7 @@
 #include <string.h>
 
 /* A frame as the frame pointer leads to it: the caller's frame pointer, and above it the return address. */
-static const struct step BY_FRAME_POINTER = {.by_frame = 1, .end = 16, .caller = -8, .saved = -16};
+static const struct step BY_FRAME_POINTER = {.by_frame = 1, .is_saved = 1, .end = 16, .caller = -8, .saved = -16};
 
 static uintptr_t word_at(uintptr_t at) {
     uintptr_t word;
@@ -20,21 +21,35 @@ static uintptr_t word_at(uintptr_t at) {
     return word;
 }
 
+static uintptr_t moved(uintptr_t from, int32_t by) {
+    return from + (uintptr_t)(intptr_t)by;
+}
+
+/* Whether a word stands there, between the stack pointer and the end. */
+static int is_within(uintptr_t at, const struct registers *registers, uintptr_t end) {
+    return at >= registers->stack && at < end && end - at >= sizeof at && (at & 7) == 0;
+}
+
 uintptr_t unwind_up(const struct step *step, struct registers *registers, uintptr_t stack_low, uintptr_t stack_high) {
-    uintptr_t end = (step->by_frame ? registers->frame : registers->stack) + (uintptr_t)(intptr_t)step->end;
-    uintptr_t caller = end + (uintptr_t)(intptr_t)step->caller, saved = end + (uintptr_t)(intptr_t)step->saved;
+    uintptr_t end = moved(step->by_frame ? registers->frame : registers->stack, step->end);
+    if (step->is_read) {
+        end = is_within(end, registers, stack_high) ? word_at(end) : 0;
+    }
+    uintptr_t caller = moved(end, step->caller);
+    uintptr_t saved = moved(step->saved_by_frame ? registers->frame : end, step->saved);
     if (registers->stack < stack_low || end <= registers->stack || end > stack_high || (end & 7) != 0 ||
-        caller < registers->stack || caller >= end) {
+        !is_within(caller, registers, end) || (step->is_saved && !is_within(saved, registers, end))) {
         return 0;
     }
-    if (step->saved != 0) {
-        if (saved < registers->stack || saved >= end) {
-            return 0;
-        }
+    if (step->is_saved) {
         registers->frame = word_at(saved);
     }
     registers->stack = end;
     return word_at(caller);
+}
+
+struct step unwind_by_frame_pointer(void) {
+    return BY_FRAME_POINTER;
 }
 
 #if defined(__x86_64__)
@@ -209,18 +224,19 @@ enum { FRAME_POINTER = 6, STACK_POINTER = 7, RETURN_ADDRESS = 16 };
 
 /* Where a register of the caller is. */
 struct rule {
-    enum { AS_IT_WAS, SAVED, LOST } kind;
-    int64_t at; /* from the frame's end */
+    enum { AS_IT_WAS, SAVED, SAVED_BY_FRAME, LOST } kind;
+    int64_t at; /* from the frame's end, or from the frame pointer */
 };
 
 /* What is so from one instruction of the function to another. */
 struct row {
-    uint64_t end_from; /* the register that the frame's end is counted from, or NO_REGISTER */
+    uint64_t end_from; /* the register that the frame's end is counted from, READ or NO_REGISTER */
     int64_t end;
     struct rule frame, caller;
 };
 
-enum { NO_REGISTER = 999, MOST_REMEMBERED = 8 };
+/* READ: the end is the word that stands there, counted from the frame pointer. */
+enum { READ = 998, NO_REGISTER = 999, MOST_REMEMBERED = 8 };
 
 /* The rows of a function, from its first instruction on. */
 struct rows {
@@ -261,6 +277,35 @@ static void recall(struct rows *rows, struct reader *from) {
     }
 }
 
+/*
+ * An expression that counts from the frame pointer, as functions have whose stack is aligned anew. Whether it is one;
+ * and whether it also reads the word that stands there.
+ */
+static int takes_expression(struct reader *from, int64_t *at, int *is_read) {
+    enum { COUNTED_FROM_FRAME = 0x76, READ_THERE = 0x06 }; /* DW_OP_breg6, DW_OP_deref */
+    uint64_t size = take_number(from);
+    struct reader bytes = *from;
+    skip(from, size);
+    bytes.end = from->at;
+    int is_counted = take(&bytes, 1) == COUNTED_FROM_FRAME;
+    *at = take_signed(&bytes);
+    *is_read = bytes.at < bytes.end && take(&bytes, 1) == READ_THERE;
+    return is_counted && !bytes.is_bad && bytes.at == bytes.end;
+}
+
+static void take_end_expression(struct rows *rows, struct reader *from) {
+    int is_read;
+    rows->now.end_from = takes_expression(from, &rows->now.end, &is_read) && is_read ? READ : NO_REGISTER;
+}
+
+/* Where a register is by an expression, or what it is. */
+static void take_register_expression(struct rows *rows, struct reader *from, uint64_t of, int is_place) {
+    struct rule rule = {LOST, 0};
+    int is_read, is_counted = takes_expression(from, &rule.at, &is_read);
+    rule.kind = is_place && is_counted && !is_read ? SAVED_BY_FRAME : LOST;
+    set_rule(rows, of, rule);
+}
+
 /* An instruction about where the frame ends. Whether it is one. */
 static int takes_end(struct rows *rows, struct reader *from, unsigned code) {
     struct row *now = &rows->now;
@@ -283,8 +328,7 @@ static int takes_end(struct rows *rows, struct reader *from, unsigned code) {
         now->end = take_signed(from) * rows->common->data_unit;
         return 1;
     case 0x0F: /* DW_CFA_def_cfa_expression */
-        skip(from, take_number(from));
-        now->end_from = NO_REGISTER;
+        take_end_expression(rows, from);
         return 1;
     default:
         return 0;
@@ -314,8 +358,7 @@ static void take_register(struct rows *rows, struct reader *from, unsigned code)
         break;
     case 0x10: /* DW_CFA_expression, DW_CFA_val_expression */
     case 0x16:
-        skip(from, take_number(from));
-        set_rule(rows, of, LOST_RULE);
+        take_register_expression(rows, from, of, code == 0x10);
         break;
     default: /* DW_CFA_undefined; DW_CFA_register, DW_CFA_val_offset and DW_CFA_val_offset_sf have a number more */
         if (code != 0x07) {
@@ -374,25 +417,35 @@ static int follow(struct rows *rows, struct reader from, uintptr_t at) {
     return !from.is_bad;
 }
 
-/* The row as a step; where it is none, as the frame pointer leads. */
-static struct step step_of(const struct row *row) {
-    if ((row->end_from != FRAME_POINTER && row->end_from != STACK_POINTER) || row->caller.kind != SAVED ||
-        row->frame.kind == LOST || row->end <= 0 || row->end > INT32_MAX || row->caller.at >= 0 ||
-        row->caller.at < INT32_MIN || (row->frame.kind == SAVED && (row->frame.at >= 0 || row->frame.at < INT32_MIN))) {
-        return BY_FRAME_POINTER;
-    }
-    return (struct step){.by_frame = row->end_from == FRAME_POINTER,
-                         .end = (int32_t)row->end,
-                         .caller = (int32_t)row->caller.at,
-                         .saved = row->frame.kind == SAVED ? (int32_t)row->frame.at : 0};
+/* Whether the number can be one of a step, and is below the frame's end where it is counted from there. */
+static int is_distance(int64_t number, int is_below) {
+    return number >= INT32_MIN && number <= INT32_MAX && (!is_below || number < 0);
 }
 
-struct step unwind_find(const void *table, uintptr_t at) {
+/* Whether the row is one that a step can be made of, and the step. */
+static int is_step(const struct row *row, struct step *step) {
+    int by_frame = row->end_from == FRAME_POINTER || row->end_from == READ, is_read = row->end_from == READ;
+    if ((!by_frame && row->end_from != STACK_POINTER) || !is_distance(row->end, 0) || (!is_read && row->end <= 0) ||
+        row->caller.kind != SAVED || !is_distance(row->caller.at, 1) || row->frame.kind == LOST ||
+        !is_distance(row->frame.at, row->frame.kind == SAVED)) {
+        return 0;
+    }
+    *step = (struct step){.by_frame = (uint8_t)by_frame,
+                          .is_read = (uint8_t)is_read,
+                          .saved_by_frame = row->frame.kind == SAVED_BY_FRAME,
+                          .is_saved = row->frame.kind != AS_IT_WAS,
+                          .end = (int32_t)row->end,
+                          .caller = (int32_t)row->caller.at,
+                          .saved = (int32_t)row->frame.at};
+    return 1;
+}
+
+int unwind_knows(const void *table, uintptr_t at, struct step *step) {
     uintptr_t begins;
     /* The call may be the function's last instruction. */
     const unsigned char *entry = at > 0 ? entry_of(table, at - 1, &begins) : NULL;
     if (entry == NULL) {
-        return BY_FRAME_POINTER;
+        return 0;
     }
     struct reader from = bytes_of(entry);
     const unsigned char *place = from.at;
@@ -406,19 +459,38 @@ struct step unwind_find(const void *table, uintptr_t at) {
     struct rows rows = {.common = &common, .place = begins};
     rows.now = (struct row){.end_from = NO_REGISTER, .caller = {LOST, 0}};
     if (size == 0 || from.is_bad || at - 1 - begins >= range || !follow(&rows, common.first, UINTPTR_MAX)) {
-        return BY_FRAME_POINTER;
+        return 0;
     }
     rows.first = rows.now;
     rows.place = begins;
-    return follow(&rows, from, at - 1) ? step_of(&rows.now) : BY_FRAME_POINTER;
+    return follow(&rows, from, at - 1) && is_step(&rows.now, step);
+}
+
+int unwind_sets_frame_pointer(const unsigned char *code) {
+    static const unsigned char LANDING[] = {0xF3, 0x0F, 0x1E, 0xFA}; /* endbr64 */
+    /* pushq %rbp; movq %rsp, %rbp, in its two spellings */
+    static const unsigned char USUAL[] = {0x55, 0x48, 0x89, 0xE5}, OTHER[] = {0x55, 0x48, 0x8B, 0xEC};
+    code += memcmp(code, LANDING, sizeof LANDING) == 0 ? sizeof LANDING : 0;
+    return memcmp(code, USUAL, sizeof USUAL) == 0 || memcmp(code, OTHER, sizeof OTHER) == 0;
 }
 
 #else
 
-struct step unwind_find(const void *table, uintptr_t at) {
+int unwind_knows(const void *table, uintptr_t at, struct step *step) {
     (void)table;
     (void)at;
-    return BY_FRAME_POINTER;
+    (void)step;
+    return 0;
+}
+
+int unwind_sets_frame_pointer(const unsigned char *code) {
+    (void)code;
+    return 0;
 }
 
 #endif
+
+struct step unwind_find(const void *table, uintptr_t at) {
+    struct step step;
+    return unwind_knows(table, at, &step) ? step : BY_FRAME_POINTER;
+}

@@ -1,7 +1,7 @@
 """What a release has, and where it stands: in an archive, or below a prefix. ./jg builds it before.
 
-Below the prefix are bin/jg, the library for C with its headers, jg.pc and a CMake package, the agent, manual pages,
-documents and examples. LIBDIR names the folder of libraries, which is lib where it isn't given."""
+Below the prefix are bin/jg, the library for C with its headers, jg.pc and a CMake package, the agent and its demo,
+manual pages, documents and examples. LIBDIR names the folder of libraries, which is lib where it isn't given."""
 import glob
 import gzip
 import hashlib
@@ -18,6 +18,8 @@ TOP = manual.TOP
 HEADERS = ('jg.h', 'jg_functions.h')
 PAGE = ('jg-page', 'page/__init__.py', 'page/advice.py', 'page/folding.py', 'page/history.py', 'page/page.css',
         'page/page.html', 'page/page.js')
+# The demo of the agent, built: it needs a JRE alone.
+DEMO = ('Demo.class', 'libdemo.so')
 CONFIG = """get_filename_component(_jg_prefix "${CMAKE_CURRENT_LIST_DIR}/@UP@" ABSOLUTE)
 if(NOT TARGET jg::jg)
   add_library(jg::jg SHARED IMPORTED)
@@ -85,17 +87,20 @@ def put_library(root, libdir, major, prefix):
         filled(CONFIG_VERSION, version=manual.version(), series=series))
 
 
-def put_all(root, libdir, program, agent, major, prefix):
+def put_all(root, libdir, program, agent, demo, major, prefix):
     """Puts a whole release below the root."""
     put(root, 'bin/jg', program, 0o755)
     put_library(root, libdir, major, prefix)
     put(root, f'{libdir}/libjg_agent.so', agent, 0o755)
+    for name in DEMO:
+        put(root, f'share/jg/demo/{name}', f'{demo}/{name}')
     for name in PAGE:
         put(root, f'share/jg/{name}', f'{TOP}/tools/{name}', 0o755 if name == 'jg-page' else 0o644)
     link = f'{root}/bin/jg-page'
     if os.path.lexists(link):
         os.remove(link)
     os.symlink('../share/jg/jg-page', link)
+    put(root, 'bin/jg-report', f'{TOP}/tools/jg-report', 0o755)
     pages = f'{TOP}/out/man'
     manual.main(pages)
     for name in manual.PAGES:

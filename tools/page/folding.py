@@ -8,6 +8,7 @@ KINDS = ('sessions', 'natives', 'critical', 'monitors', 'pending', 'locals', 'gl
 MOST_BARS = 8_000  # of each kind
 MOST_MARKS = 20_000
 MOST_OF_A_PLACE = 200
+FIRST_OF_A_PLACE = 100
 MOST_LEAKS = 2_000
 MOST_NAMES = 20  # of a place of leaks
 COLUMNS = 1_000
@@ -61,11 +62,16 @@ def kept_bars(bars, last):
 
 def kept_marks(marks, place):
     """The marks that the page shows, and of each place how many there are."""
-    counts, kept = collections.Counter(), []
-    most = MOST_MARKS if len(marks) <= MOST_MARKS else MOST_OF_A_PLACE
+    counts, seen, kept = collections.Counter(map(place, marks)), collections.Counter(), []
+    if len(marks) <= MOST_MARKS:
+        return marks, counts
     for mark in marks:
-        counts[place(mark)] += 1
-        if counts[place(mark)] <= most and len(kept) < MOST_MARKS:
+        of = place(mark)
+        seen[of] += 1
+        # Behind the first of a place those that are kept lie all over the record.
+        step = -(-(counts[of] - FIRST_OF_A_PLACE) // (MOST_OF_A_PLACE - FIRST_OF_A_PLACE))
+        is_kept = seen[of] <= FIRST_OF_A_PLACE or (seen[of] - FIRST_OF_A_PLACE) % step == 0
+        if is_kept and len(kept) < MOST_MARKS:
             kept.append(mark)
     return kept, counts
 
