@@ -194,14 +194,14 @@ typedef struct jg_ticket {
 
 /* What a question is answered. */
 typedef struct jg_verdict {
-    uint32_t rule;    /* JG_NO_RULE where it breaks none, else the first that it breaks */
+    uint32_t rule;    /* JG_PASSED where it breaks none, else the first that it breaks */
     uint32_t operand; /* of a broken rule: the operand that breaks it, counted from 1, or 0 where none does */
     jg_ticket ticket; /* for jg_did; of a denied call it is for a machine that makes the call all the same */
 } jg_verdict;
 
 /* The rules, as docs/RULES.md numbers them. */
 enum {
-    JG_NO_RULE = 0, JG_WRONG_THREAD, JG_DETACHED, JG_IN_CRITICAL, JG_PENDING, JG_FOREIGN_LOCAL, JG_DEAD_REFERENCE,
+    JG_PASSED = 0, JG_WRONG_THREAD, JG_DETACHED, JG_IN_CRITICAL, JG_PENDING, JG_FOREIGN_LOCAL, JG_DEAD_REFERENCE,
     JG_WRONG_REF_KIND, JG_NULL_REFERENCE, JG_WRONG_TYPE, JG_BAD_FIELD, JG_BAD_BUFFER, JG_BAD_ARGUMENT, JG_PINNED,
     JG_NOT_OWNER, JG_BAD_FRAME, JG_NO_NATIVE_ACCESS, JG_NOT_LINKED
 };
