@@ -200,7 +200,8 @@ static int keep_text(size_t number, char *text) {
     if (kept[number - 1] != NULL) {
         return 0;
     }
-    kept[number - 1] = text;
+    char *small = realloc(text, strlen(text) + 1);
+    kept[number - 1] = small ? small : text;
     return 1;
 }
 
