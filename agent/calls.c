@@ -40,6 +40,8 @@ void call_opens(struct call *call, uint32_t function, struct thread *thread, con
     call->kept = jg_nothing();
     call->unseen = NULL;
     call->reason = call->notice = call->notice_text = NULL;
+    call->method = NULL;
+    call->frame = 0;
 }
 
 /* The call is judged, by a thread that is caught up with. */

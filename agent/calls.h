@@ -49,8 +49,6 @@ struct call {
     JNIEnv *env;
     const struct row *row;
     const struct site *site;
-    uintptr_t frame;  /* of the wrapper, by which the native stack is found; 0: it isn't */
-    jmethodID method; /* the method, where the function is of another result type; else NULL */
     uint32_t function;
     int is_own_env;  /* the environment is the thread's, so the machine can be asked by it */
     int is_asked;    /* the core was asked; else it is passed on */
@@ -79,6 +77,8 @@ struct call {
     const char *reason; /* of an ID that doesn't fit: why, or NULL */
     const char *notice; /* what breaks no rule and is told all the same: its name and a sentence, or NULL */
     const char *notice_text;
+    jmethodID method; /* the method, where the function is of another result type; else NULL */
+    uintptr_t frame;  /* of the wrapper, by which the native stack is found; 0: it isn't */
 };
 
 /* Whether the call is judged. If not, the caller makes it and nothing more. */

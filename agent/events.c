@@ -65,15 +65,13 @@ static void put_place(struct json *to, const struct site *site) {
     if (site == NULL) {
         return;
     }
-    char *path = sites_spelled(site->library->path);
     json_text(to, "library", site->library->name);
-    if (*path != 0) {
-        json_text(to, "path", path);
+    if (*site->library->path != 0) {
+        json_name(to, "path", site->library->path);
     }
     json_number(to, "offset", site->offset);
     json_truth(to, "is_return", site->is_return);
     json_text(to, "symbol", site->symbol);
-    free(path);
 }
 
 static void put_site(struct json *to, const struct site *site, const char *file, int line) {
@@ -256,10 +254,8 @@ static void write_total(size_t number, const struct total *total) {
 static void put_owner(struct json *to, const struct owner *owner) {
     json_object(to, NULL);
     if (owner->library != NULL) {
-        char *path = sites_spelled(owner->library->path);
         json_text(to, "library", owner->library->name);
-        json_text(to, "path", path);
-        free(path);
+        json_name(to, "path", owner->library->path);
     }
     json_number(to, "blocks", owner->blocks);
     json_number(to, "denied", owner->denied);

@@ -49,12 +49,13 @@ static size_t length_of(const unsigned char *at) {
     return 0;
 }
 
-static void put_string(struct json *to, const char *text) {
+/* Where `is_name`, what would break a line is spelled, as sites_spelled does. */
+static void put_string(struct json *to, const char *text, int is_name) {
     char spelled[8];
     put_text(to, "\"");
     for (const unsigned char *at = (const unsigned char *)text; *at != 0;) {
         size_t size = length_of(at);
-        if (size == 0) {
+        if (size == 0 || (is_name && (*at < 0x20 || *at == 0x7F || *at == '\\'))) {
             snprintf(spelled, sizeof spelled, "\\\\x%02x", *at);
         } else if (*at == '"' || *at == '\\' || *at == '\n') {
             snprintf(spelled, sizeof spelled, "\\%c", *at == '\n' ? 'n' : *at);
@@ -77,7 +78,7 @@ static void put_key(struct json *to, const char *key) {
         put_text(to, ",");
     }
     if (key != NULL) {
-        put_string(to, key);
+        put_string(to, key, 0);
         put_text(to, ":");
     }
 }
@@ -103,8 +104,13 @@ void json_end_list(struct json *to) {
 void json_text(struct json *to, const char *key, const char *text) {
     if (text != NULL) {
         put_key(to, key);
-        put_string(to, text);
+        put_string(to, text, 0);
     }
+}
+
+void json_name(struct json *to, const char *key, const char *name) {
+    put_key(to, key);
+    put_string(to, name, 1);
 }
 
 void json_number(struct json *to, const char *key, uint64_t number) {
@@ -126,7 +132,7 @@ void json_raw(struct json *to, const char *bytes) {
     }
 }
 
-void json_uri(struct json *to, const char *key, const char *path) {
+void json_uri(struct json *to, const char *key, const char *path, int is_spelled) {
     static const char PLAIN[] = "/-._~abcdefghijklmnopqrstuvwxyzABCDEFGHIJKLMNOPQRSTUVWXYZ0123456789";
     char spelled[4];
     unsigned byte;
@@ -138,7 +144,7 @@ void json_uri(struct json *to, const char *key, const char *path) {
             continue;
         }
         byte = (unsigned char)*path;
-        if (sscanf(path, "\\x%2x", &byte) == 1) {
+        if (is_spelled && sscanf(path, "\\x%2x", &byte) == 1) {
             path += strlen("xNN");
         }
         snprintf(spelled, sizeof spelled, "%%%02X", byte);

@@ -29,11 +29,14 @@ void json_truth(struct json *to, const char *key, int is_so);
 /* Adds what is JSON already: items of this object. */
 void json_raw(struct json *to, const char *bytes);
 
+/* The same of a name as it is: it is spelled so that it stands in one line. */
+void json_name(struct json *to, const char *key, const char *name);
+
 /*
- * The name of a file as a URI: `file:///tmp/a%20b` of `/tmp/a b`, and a relative one of a relative name. A byte that is
+ * The name of a file as a URI: `file:///tmp/a%20b` of `/tmp/a b`, and a relative one of a relative name. Of one that is
  * spelled `\xNN` is that byte again.
  */
-void json_uri(struct json *to, const char *key, const char *path);
+void json_uri(struct json *to, const char *key, const char *path, int is_spelled);
 
 /* Adds a line feed; and a NUL, that the bytes are a text of C. */
 void json_line(struct json *to);

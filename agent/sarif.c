@@ -41,7 +41,7 @@ static void put_physical(struct json *to, const struct site *site, const struct 
     if (source->file != NULL && source->line > 0) {
         json_object(to, "physicalLocation");
         json_object(to, "artifactLocation");
-        json_uri(to, "uri", source->file);
+        json_uri(to, "uri", source->file, 1);
         json_end(to);
         json_object(to, "region");
         json_number(to, "startLine", (uint64_t)source->line);
@@ -51,9 +51,7 @@ static void put_physical(struct json *to, const struct site *site, const struct 
         json_object(to, "physicalLocation");
         if (is_in_library) {
             json_object(to, "artifactLocation");
-            char *path = sites_spelled(site->library->path);
-            json_uri(to, "uri", path);
-            free(path);
+            json_uri(to, "uri", site->library->path, 0);
             json_end(to);
         }
         json_object(to, "address");
@@ -200,7 +198,8 @@ static int keep_text(size_t number, char *text) {
     if (kept[number - 1] != NULL) {
         return 0;
     }
-    kept[number - 1] = text;
+    char *small = realloc(text, strlen(text) + 1);
+    kept[number - 1] = small ? small : text;
     return 1;
 }
 

@@ -61,22 +61,24 @@ void told_free(struct told *told) {
     free(told->help);
 }
 
-static void see_event(const char *key, const char *what, const struct event *event, seeing_event see, void *with) {
+/* `link` stands between what it did and the function. */
+static void see_event(const char *key, const char *what, const char *link, const struct event *event, seeing_event see,
+                      void *with) {
     char text[256];
     if (event->is_told) {
-        snprintf(text, sizeof text, "%s%s%s", what, event->by ? " by " : "", event->by ? event->by : "");
+        snprintf(text, sizeof text, "%s%s%s", what, event->by ? link : "", event->by ? event->by : "");
         see(key, text, event, with);
     }
 }
 
 void told_each_event(const struct told *told, seeing_event see, void *with) {
-    see_event("made", told->origin == ORIGIN_UNSEEN ? "first used" : "made", &told->made, see, with);
-    see_event("ended", "ended", &told->ended, see, with);
-    see_event("lent", "lent", &told->lent, see, with);
-    see_event("given_back", "given back", &told->given, see, with);
-    see_event("region", "region begun", &told->region, see, with);
-    see_event("left", "left", &told->thrower, see, with);
-    see_event("source", told->verb ? told->verb : "", &told->source, see, with);
+    see_event("made", told->origin == ORIGIN_UNSEEN ? "first used" : "made", " by ", &told->made, see, with);
+    see_event("ended", "ended", " by ", &told->ended, see, with);
+    see_event("lent", "lent", " by ", &told->lent, see, with);
+    see_event("given_back", "given back", " by ", &told->given, see, with);
+    see_event("region", "region begun", " by ", &told->region, see, with);
+    see_event("left", "left", " by ", &told->thrower, see, with);
+    see_event("source", told->verb ? told->verb : "", ": ", &told->source, see, with);
 }
 
 /* The ten bits of a surrogate, which the machine writes as three bytes from these on. */

@@ -141,8 +141,8 @@ def moment():
     return int(given)
 
 
-def newest_symbol(files):
-    """The newest version of the C library's symbols that these files ask for."""
-    said = subprocess.run(['objdump', '-T', *files], capture_output=True, text=True, check=True).stdout
+def newest_symbol(file):
+    """The newest version of the C library's symbols that the file asks for."""
+    said = subprocess.run(['objdump', '-T', file], capture_output=True, text=True, check=True).stdout
     found = {tuple(map(int, it.split('.'))) for it in re.findall(r'GLIBC_([\d.]+)', said)}
     return 'GLIBC_' + '.'.join(map(str, max(found)))

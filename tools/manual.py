@@ -27,6 +27,8 @@ PAGES = {
         (AGENT, 'An example', 'EXAMPLE'), (AGENT, 'Options', 'OPTIONS'), (AGENT, 'What is told', 'WHAT IS TOLD'),
         ('docs/AGENT.md', 'A denied call', 'A DENIED CALL'), ('docs/AGENT.md', 'Notices', 'NOTICES'),
         ('docs/AGENT.md', 'Advice', 'ADVICE'), (AGENT, 'A record', 'A RECORD'),
+        ('docs/REPORTS.md', 'Suppressions', 'SUPPRESSIONS'), ('docs/REPORTS.md', 'JSON', 'JSON'),
+        ('docs/REPORTS.md', 'SARIF', 'SARIF'), ('docs/REPORTS.md', 'Forked children', 'FORKED CHILDREN'),
         ('docs/AGENT.md', "What it can't see", "WHAT IT CAN'T SEE"),
     ], ['jg(1)', 'jg-records(5)', 'java(1)']),
     'jg-records.5': ('jg-records', '5', 'what a machine told a core of jg and asked it', None, [

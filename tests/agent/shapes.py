@@ -13,7 +13,7 @@ FRAMES = {'native': [{**SITE, 'function?': str}],
 TOLD = {**BLOCK, 'thread': {'number': int, 'name?': str},
         'operand?': {'number': int, 'name': str, 'origin?': {'lost', 'unseen', 'made'}},
         'made?': EVENT, 'ended?': EVENT, 'lent?': EVENT, 'given_back?': EVENT, 'region?': EVENT, 'left?': EVENT,
-        'source?': {**EVENT, 'verb': str}, 'text?': str, 'method?': str,
+        'source?': EVENT, 'text?': str, 'method?': str,
         'pending?': {'class': str, 'message?': str}, 'reasons': [str], 'frames': FRAMES, 'rule_text?': str,
         'help?': str, 'message': str}
 LIBRARY = {'library?': str, 'path?': str, 'blocks': int, 'denied': int, 'noticed': int, 'advised': int,
@@ -174,6 +174,11 @@ def keys_in(shape):
         yield from keys_in(shape[0])
 
 
+def keys_of(value):
+    """The keys of an object, and of those in it."""
+    return {key for it in objects_in(value) for key in it}
+
+
 def keys():
-    """All keys of the JSON, and its kinds."""
-    return {'kind', *LINES, *(it for shape in LINES.values() for it in keys_in(shape))}
+    """All keys of the JSON."""
+    return {'kind', *(it for shape in LINES.values() for it in keys_in(shape))}

@@ -24,7 +24,8 @@ static void write_name(const char *name) {
     json_object(&line, NULL);
     json_text(&line, "text", name);
     json_text(&line, "none", NULL);
-    json_uri(&line, "uri", name);
+    json_uri(&line, "uri", name, 0);
+    json_name(&line, "name", name);
     json_list(&line, "list");
     json_number(&line, NULL, UINT64_MAX);
     json_truth(&line, NULL, 1);
