@@ -1,0 +1,55 @@
+"""What documents say of crates, compared with crates.txt and the sources, for tests/documents."""
+
+import glob
+import re
+
+# A crate that is no subject of its own: "`jg_a` on `jg_b`, `jg_c` on `jg_d`" says nothing of `jg_a` and `jg_c`.
+CRATE = r"`jg_\w+`(?! (?:stands )?on\b)"
+SENTENCE = re.compile(rf"`(jg_\w+)` (?:stands )?on ({CRATE}(?:(?:,| and|, and)?(?: on)? {CRATE})*)")
+TABLES = "jg_threads jg_locals jg_globals jg_monitors jg_buffers jg_heap jg_policy".split()
+
+
+def crates_in(text):
+    """The crates of crates.txt, each with those that it lists."""
+    lines = (line.partition(":") for line in text.splitlines() if line.strip())
+    return {name.split()[0]: rest.split() for name, _, rest in lines}
+
+
+def rows_in(document):
+    """Yields crate and text of each row of the tables that say on which other crates one stands."""
+    for table in re.findall(r"^\| [^|]+ \| Stands, beside others, on \|\n\|.*\n((?:\|.*\n)+)", document, re.M):
+        for row in table.splitlines():
+            cells = row.strip("|").split("|")
+            yield re.search(r"jg_\w+", cells[0])[0], cells[1].replace("the seven tables", " ".join(TABLES))
+
+
+def wrong_layers(document, text):
+    """Yields each thing that ARCHITECTURE.md says of crates and crates.txt doesn't."""
+    crates = crates_in(text)
+    bullets = re.findall(r"^- \*\*`(jg_\w+)`\*\*", document, re.M)
+    yield from (f"'The crates' has nothing of {it}" for it in crates if it not in bullets)
+    yield from (f"'The crates' has {it}, which crates.txt hasn't" for it in bullets if it not in crates)
+    flat = " ".join(document.split())
+    for crate, told in [*rows_in(document), *SENTENCE.findall(flat)]:
+        lacking = [it for it in re.findall(r"jg_\w+", told) if it not in crates.get(crate, [])]
+        yield from (f"{crate} stands on {it}, where crates.txt doesn't list it" for it in lacking)
+
+
+def blocks_in(top):
+    """How many `unsafe` blocks each crate has."""
+    found = {}
+    for path in glob.glob(f"{top}/crates/*/src/**/*.rt", recursive=True):
+        crate = path.removeprefix(f"{top}/crates/").split("/")[0]
+        with open(path, encoding="utf-8") as file:
+            code = re.sub(r"//.*", "", file.read())
+        found[crate] = found.get(crate, 0) + len(re.findall(r"\bunsafe \{", code))
+    return {crate: blocks for crate, blocks in found.items() if blocks}
+
+
+def wrong_blocks(top, document, number, number_of):
+    """Yields what DECISIONS.md says of `unsafe` blocks, crate by crate, where the sources have others."""
+    sentence = re.search(rf"has {number} `unsafe` blocks: ([^.]*)\.", " ".join(document.split()))
+    told = re.findall(rf"{number.replace('?P<n>', '')} in `(jg_\w+)`", sentence[2]) if sentence else []
+    told = {crate: number_of(blocks) for blocks, crate in told}
+    if told != blocks_in(top):
+        yield f"it tells `unsafe` blocks as {told}, where the sources have {blocks_in(top)}"
