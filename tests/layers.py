@@ -6,6 +6,9 @@ import re
 # A crate that is no subject of its own: "`jg_a` on `jg_b`, `jg_c` on `jg_d`" says nothing of `jg_a` and `jg_c`.
 CRATE = r"`jg_\w+`(?! (?:stands )?on\b)"
 SENTENCE = re.compile(rf"`(jg_\w+)` (?:stands )?on ({CRATE}(?:(?:,| and|, and)?(?: on)? {CRATE})*)")
+# "`judge_one`, `judge_two` in `judge/references.rt`", of which files are named from these folders.
+NAMED = re.compile(r"((?:`\w+`(?:, | and ))*`\w+`) (?:of `\w+` )?in `([\w/]+\.rt)`")
+FOLDERS = ("", "crates/", "crates/jg_rules/src/", "crates/jg_rules/src/judge/")
 TABLES = "jg_threads jg_locals jg_globals jg_monitors jg_buffers jg_heap jg_policy".split()
 
 
@@ -35,14 +38,27 @@ def wrong_layers(document, text):
         yield from (f"{crate} stands on {it}, where crates.txt doesn't list it" for it in lacking)
 
 
+def code_of(path):
+    """The file's text without its comments."""
+    with open(path, encoding="utf-8") as file:
+        return re.sub(r"//.*", "", file.read())
+
+
+def lost_functions(top, document):
+    """Yields each function or type that ARCHITECTURE.md names in a file which doesn't define it."""
+    for names, file in NAMED.findall(document):
+        texts = [code_of(path) for it in FOLDERS for path in glob.glob(f"{top}/{it}{file}")]
+        for name in re.findall(r"\w+", names) if texts else []:
+            if not any(re.search(rf"\b(?:fn|struct|enum|trait|const) {name}\b", text) for text in texts):
+                yield f"there is no {name} in {file}"
+
+
 def blocks_in(top):
     """How many `unsafe` blocks each crate has."""
     found = {}
     for path in glob.glob(f"{top}/crates/*/src/**/*.rt", recursive=True):
         crate = path.removeprefix(f"{top}/crates/").split("/")[0]
-        with open(path, encoding="utf-8") as file:
-            code = re.sub(r"//.*", "", file.read())
-        found[crate] = found.get(crate, 0) + len(re.findall(r"\bunsafe \{", code))
+        found[crate] = found.get(crate, 0) + len(re.findall(r"\bunsafe \{", code_of(path)))
     return {crate: blocks for crate, blocks in found.items() if blocks}
 
 
