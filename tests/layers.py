@@ -32,6 +32,9 @@ def wrong_layers(document, text):
     bullets = re.findall(r"^- \*\*`(jg_\w+)`\*\*", document, re.M)
     yield from (f"'The crates' has nothing of {it}" for it in crates if it not in bullets)
     yield from (f"'The crates' has {it}, which crates.txt hasn't" for it in bullets if it not in crates)
+    for name, told in re.findall(r"^- \*\*`(\w+)` is (?:called|listed)(.*?)(?=^- |\Z)", document, re.M | re.S):
+        users = [it for it in crates if name in crates[it] and not it.endswith("_trials")]
+        yield from (f"{it} lists {name}, which isn't said" for it in users if f"`{it}`" not in told)
     flat = " ".join(document.split())
     for crate, told in [*rows_in(document), *SENTENCE.findall(flat)]:
         lacking = [it for it in re.findall(r"jg_\w+", told) if it not in crates.get(crate, [])]
