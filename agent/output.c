@@ -6,6 +6,7 @@
 
 #include <errno.h>
 #include <fcntl.h>
+#include <stdatomic.h>
 #include <stdio.h>
 #include <string.h>
 #include <unistd.h>
@@ -37,7 +38,7 @@ int output_write(struct output *to, const char *bytes, size_t size) {
         if (count < 0 && errno != EINTR) {
             int error = errno;
             /* Another thread may be writing to it, so it isn't closed. */
-            if (__atomic_exchange_n(&to->file, -1, __ATOMIC_ACQ_REL) >= 0) {
+            if (atomic_exchange(&to->file, -1) >= 0) {
                 fprintf(stderr, "jg: %s can't be written: %s\n", to->path, strerror(error));
             }
             return 0;
