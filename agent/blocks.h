@@ -8,9 +8,6 @@
 
 struct site;
 
-/* The rule of calls in critical regions. */
-enum { RULE_OF_REGIONS = 3 };
-
 struct block {
     uint32_t rule;     /* 0: a notice or advice */
     uint32_t advice;   /* its kind; 0: none */

@@ -654,11 +654,11 @@ static void end_pair(struct given_back *given, const struct site *site) {
     spin_unlock(&lock);
 }
 
-/* The core is told that the pair is closed, by a call that it wasn't asked of or that it denied. */
-static void tell_given(const struct given_back *given, uint32_t thread) {
+/* The core is told that the pair is closed, by a call that it wasn't asked of. */
+static void tell_given(const struct given_back *given) {
     if (given->mode != JNI_COMMIT) {
         core_lock();
-        core_tell(jg_fact_of(JG_GAVE, thread, given->name, jg_null(), 0, 0), NULL);
+        core_tell(jg_fact_of(JG_GAVE, 0, given->name, jg_null(), 0, 0), NULL);
         core_unlock();
     }
 }
@@ -670,7 +670,7 @@ static int give_unjudged(struct given_back *given) {
         return lent == NULL || lent->is_plain;
     }
     given->name = newest_name(lent, threads_known());
-    tell_given(given, 0);
+    tell_given(given);
     int is_made = give_to_machine(given);
     end_pair(given, NULL);
     return is_made;
@@ -698,7 +698,7 @@ static int give_denied(struct given_back *given) {
     if (lent == NULL) {
         return given->memory == NULL || !was_freed(given->memory);
     }
-    if (lent->is_given || given->call->verdict.rule == 2) {
+    if (lent->is_given || given->call->verdict.rule == JG_DETACHED) {
         /* The machine has its memory already. */
         return 0;
     }
@@ -706,7 +706,7 @@ static int give_denied(struct given_back *given) {
         /* By a function of another kind: HotSpot would free memory that it can't. The buffer stays open. */
         return 0;
     }
-    tell_given(given, given->call->thread->number);
+    call_tells_denied(given->call, jg_null());
     int is_made = give_to_machine(given);
     end_pair(given, given->call->site);
     return is_made;

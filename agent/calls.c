@@ -622,72 +622,48 @@ int call_passes(struct call *call) {
 
 /* ---- telling ---- */
 
-/* The thread that facts of the call are of: its own, or that of the environment that it handed in. */
-static uint32_t told_thread(const struct call *call) {
-    return call->verdict.rule == 1 ? call->env_name.detail : call->thread->number;
-}
-
-/* The fact of a denied call that was made, as of a passed one. Whether there is one. */
-static int fact_of(const struct call *call, jg_value says, jg_fact *fact) {
-    uint32_t thread = told_thread(call);
-    *fact = jg_fact_of(0, thread, jg_nothing(), jg_null(), 0, 0);
-    if (says.kind == JG_THREW) {
-        *fact = jg_fact_of(JG_RAISED, thread, jg_nothing(), jg_object(says.number), 0, 0);
-        return 1;
-    }
-    switch (call->row->effect) {
-    case EFFECT_HANDS:
-        *fact = jg_fact_of(JG_GOT, thread, jg_nothing(), says, call->row->detail, 0);
-        return says.kind == JG_OBJECT;
-    case EFFECT_LENDS:
-        *fact = jg_fact_of(JG_LENT, thread, call->row->detail >= JG_CRITICAL ? call->first.name : jg_null(), jg_null(),
-                           call->row->detail, (uint32_t)says.number);
-        return says.kind == JG_ITEMS;
-    case EFFECT_RAISES:
-        fact->word = JG_RAISED;
-        return call->first.object != NULL;
-    case EFFECT_CALMS:
-        fact->word = JG_CALMED;
-        return 1;
-    case EFFECT_OWNS:
-        fact->word = JG_OWNS;
-        return call->first.object != NULL;
-    default:
+int call_tells_denied(struct call *call, jg_value says) {
+    jg_fact fact;
+    jg_value given;
+    if (jg_told(&call->verdict.ticket, &says, &fact) != 1) {
         return 0;
     }
+    core_lock();
+    core_did(&call->verdict.ticket, says, NULL, &given);
+    core_unlock();
+    return 1;
 }
 
-void call_checks_lost(struct call *call, const struct reference *operand) {
+int call_is_in_doubt(const struct call *call) {
+    return jg_is_in_doubt(&call->verdict.ticket) == 1;
+}
+
+void call_checks_lost(struct call *call) {
+    const struct reference *operand = &call->first;
     struct name known;
     if (operand->name.kind < JG_LOCAL || operand->name.kind > JG_WEAK || !call->is_own_env ||
-        !names_find(address_of(operand->handle), &known) || known.state != NAME_LIVE) {
+        !names_find(address_of(operand->handle), &known) || known.state != NAME_LIVE ||
+        !jg_is_same(known.name, operand->name)) {
         return;
     }
     if (call_kind(call, operand->handle) == JNIInvalidRefType && !is_foreign(call, &known)) {
-        tell_lost(call, known.name);
+        call_tells_denied(call, jg_null());
         names_end(known.handle, known.name.number, NAME_DEAD, (uint16_t)call->function, call->site);
     }
 }
 
-/* A denied call was made: what is told depends on the rule. */
+/* A denied call was made: what is told of it the ticket knows, by the rule. What it ends is told where it is ended. */
 static void tell_denied(struct call *call, jg_value says, struct object *object, jg_value *given) {
-    uint32_t rule = call->verdict.rule;
-    jg_fact fact;
-    if (rule == 5 || rule == 7) {
-        call_checks_lost(call, &call->first);
-    }
-    if (rule == 2 || rule == 5 || rule == 6 || rule == 7 || (rule == 14 && says.kind != JG_THREW)) {
+    if (call->is_ending) {
         return;
     }
-    if (fact_of(call, says, &fact)) {
-        core_lock();
-        if (object != NULL) {
-            core_tell_of(fact, object, given);
-        } else {
-            core_tell(fact, given);
-        }
-        core_unlock();
+    if (call_is_in_doubt(call)) {
+        call_checks_lost(call);
+        return;
     }
+    core_lock();
+    core_did(&call->verdict.ticket, says, object, given);
+    core_unlock();
 }
 
 /* Whether the answer says that nothing was thrown. */

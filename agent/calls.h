@@ -140,8 +140,17 @@ struct reference call_resolve(struct call *call, jobject handle, int wants_objec
 /* What kind of reference the machine says that the handle is; JNIInvalidRefType where it isn't one to be used. */
 jobjectRefType call_kind(const struct call *call, jobject handle);
 
-/* The machine no longer calls the operand valid, after a call that was denied and made: its end is told. */
-void call_checks_lost(struct call *call, const struct reference *operand);
+/*
+ * Tells what comes of a denied call that is made all the same, by what the machine says: what is told by the rule the
+ * verdict's ticket knows. Whether something was told.
+ */
+int call_tells_denied(struct call *call, jg_value says);
+
+/* Whether of such a call the machine is to be asked if something has ended: then jg_null() says so. */
+int call_is_in_doubt(const struct call *call);
+
+/* Of such a call: the machine may no longer call its first operand valid, and then its end is told. */
+void call_checks_lost(struct call *call);
 
 /* The bits of a float and of a double, as a value of a question. */
 static inline int64_t bits_of_float(jfloat value) {

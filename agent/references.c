@@ -127,16 +127,12 @@ static void delete_denied(struct call *call, uint32_t kind, jobject handle) {
     if (is_known && known.state == NAME_HELD) {
         return;
     }
-    uint32_t rule = call->verdict.rule;
-    if (is_known && known.state == NAME_LIVE && rule != 2 && rule != 5 && rule != 6 && rule != 7) {
-        core_lock();
-        core_tell(jg_fact_of(JG_LOST, call->thread->number, known.name, jg_null(), 0, 0), NULL);
-        core_unlock();
+    if (is_known && known.state == NAME_LIVE && call_tells_denied(call, jg_nothing())) {
         names_end(known.handle, known.name.number, NAME_DEAD, (uint16_t)call->function, call->site);
     }
     delete_in_machine(call->env, kind, handle);
-    if (rule == 5 || rule == 7) {
-        call_checks_lost(call, &call->first);
+    if (call_is_in_doubt(call)) {
+        call_checks_lost(call);
     }
 }
 
@@ -282,10 +278,13 @@ static void pop_unjudged(uintptr_t at) {
 
 /* The machine is about to pop the frame. */
 static void pop(struct call *call) {
-    if (call->is_asked && call->verdict.rule == 0) {
+    int has_frame = call->is_own_env && threads_has_pushed(call->thread);
+    if (!call->is_asked) {
+        if (has_frame) {
+            tell_popped(call->thread, JG_FN_PopLocalFrame, call->site);
+        }
+    } else if (call->verdict.rule == JG_PASSED || (has_frame && call_tells_denied(call, jg_null()))) {
         threads_pop(call->thread, JG_FN_PopLocalFrame, call->site);
-    } else if (call->verdict.rule != 2 && call->is_own_env && threads_has_pushed(call->thread)) {
-        tell_popped(call->thread, JG_FN_PopLocalFrame, call->site);
     }
 }
 

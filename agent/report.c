@@ -123,7 +123,7 @@ static void tell(const struct call *call, struct block *block) {
 void report_denial(const struct call *call) {
     struct block block = {.rule = call->verdict.rule, .function = call->function, .site = call->site};
     uint32_t begun_by;
-    if (block.rule == RULE_OF_REGIONS) {
+    if (block.rule == JG_IN_CRITICAL) {
         block.region = buffers_region(call->thread, &begun_by);
     }
     tell(call, &block);

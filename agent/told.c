@@ -15,9 +15,8 @@
 #include <stdlib.h>
 #include <string.h>
 
-/* How many frames are told, and the rules of which a block says something of its own. */
+/* How many frames are told. */
 enum { MOST_FRAMES = 16, MOST_NATIVE = 8 };
-enum { RULE_OF_PENDING = 4, RULE_OF_IDS = 10, RULE_OF_FRAMES = 15 };
 
 void told_reason(struct told *told, const char *format, ...) {
     char *text = NULL;
@@ -312,7 +311,7 @@ static void gather_method(struct told *told, JNIEnv *env, jmethodID method) {
 
 /* What helps: that of rule 15 is about frames. Of the notices only NullText has one. */
 static char *help_of(const struct call *call, const struct block *block) {
-    if (block->rule == RULE_OF_FRAMES && call->function == JG_FN_DetachCurrentThread) {
+    if (block->rule == JG_BAD_FRAME && call->function == JG_FN_DetachCurrentThread) {
         return must_copy("detach a thread that native code attached, once no native method runs in it");
     }
     if (block->rule == 0) {
@@ -323,11 +322,11 @@ static char *help_of(const struct call *call, const struct block *block) {
 }
 
 static void gather_more(struct told *told, const struct call *call, const struct block *block) {
-    if (block->rule == RULE_OF_REGIONS) {
+    if (block->rule == JG_IN_CRITICAL) {
         gather_region(told, call);
-    } else if (block->rule == RULE_OF_PENDING) {
+    } else if (block->rule == JG_PENDING) {
         gather_pending(told, call);
-    } else if (block->rule == RULE_OF_IDS && call->reason != NULL) {
+    } else if (block->rule == JG_BAD_FIELD && call->reason != NULL) {
         told_reason(told, "%s", call->reason);
     } else if (block->rule == 0 && call->method != NULL) {
         gather_method(told, call->env, call->method);

@@ -68,7 +68,7 @@ enum {
     JG_IMPOSSIBLE = -10,   /* the fact can't be: what was told before it says so. It is a mistake of who tells, never of
                               native code */
     JG_FULL = -11,         /* 2^60 facts made something */
-    JG_BAD_TICKET = -12,   /* the ticket is none: no question that passed wrote it */
+    JG_BAD_TICKET = -12,   /* the ticket is none: no question wrote it */
     JG_LIMIT = -13,        /* the journal has as many entries as it may */
     JG_NO_TEXT = -14,      /* a line has no text, or is too long */
     JG_NO_RULE = -15,      /* there is no rule of that number, or no denial to explain */
@@ -183,8 +183,8 @@ enum {
 /* ---- questions ---- */
 
 /*
- * What comes of a call that passed, kept until the machine has answered: it holds no memory, so it may be copied, and
- * dropped where nothing is to be told. Only the library reads its fields.
+ * What comes of a call, kept until the machine has answered: it holds no memory, so it may be copied, and dropped where
+ * nothing is to be told. Only the library reads its fields.
  */
 typedef struct jg_ticket {
     uint32_t expected;
@@ -194,10 +194,17 @@ typedef struct jg_ticket {
 
 /* What a question is answered. */
 typedef struct jg_verdict {
-    uint32_t rule;    /* 0 where it breaks no rule, else the number of the first that it breaks, 1 to 17 */
+    uint32_t rule;    /* JG_PASSED where it breaks none, else the first that it breaks */
     uint32_t operand; /* of a broken rule: the operand that breaks it, counted from 1, or 0 where none does */
-    jg_ticket ticket; /* of a call that passed, for jg_did; else it is none, which jg_did answers by JG_BAD_TICKET */
+    jg_ticket ticket; /* for jg_did; of a denied call it is for a machine that makes the call all the same */
 } jg_verdict;
+
+/* The rules, as docs/RULES.md numbers them. */
+enum {
+    JG_PASSED = 0, JG_WRONG_THREAD, JG_DETACHED, JG_IN_CRITICAL, JG_PENDING, JG_FOREIGN_LOCAL, JG_DEAD_REFERENCE,
+    JG_WRONG_REF_KIND, JG_NULL_REFERENCE, JG_WRONG_TYPE, JG_BAD_FIELD, JG_BAD_BUFFER, JG_BAD_ARGUMENT, JG_PINNED,
+    JG_NOT_OWNER, JG_BAD_FRAME, JG_NO_NATIVE_ACCESS, JG_NOT_LINKED
+};
 
 /*
  * By which numbers rule 12 judges. A real machine bounds nothing: then each is INT32_MAX (jg_no_bounds). They stay as
@@ -233,8 +240,8 @@ int32_t jg_core_close(jg_core *core);
  * them than any before.
  *
  * Where the verdict's rule is 0, let the machine make the call, and then tell what came of it: by jg_did with the
- * verdict's ticket, or by the facts themselves. Where it isn't, the call isn't made, and nothing is told. The ticket is
- * none then.
+ * verdict's ticket, or by the facts themselves. Where it isn't, and the call isn't made, nothing is told. A machine that
+ * makes it all the same tells what came of it by jg_did, too; see jg_is_in_doubt.
  */
 int32_t jg_ask(jg_core *core, uint32_t thread, const jg_value *env, uint32_t function, const jg_value *operands,
                size_t count, jg_verdict *verdict);
@@ -252,7 +259,7 @@ int32_t jg_ending(jg_core *core, uint32_t thread, const jg_value *env, uint32_t 
                   size_t count, jg_verdict *verdict, jg_value *given);
 
 /*
- * Tells what came of a passed call once it has returned, by what the machine says of it: JG_NOTHING it was done,
+ * Tells what came of a call once it has returned, by what the machine says of it: JG_NOTHING it was done,
  * JG_NULL it answered NULL, JG_OBJECT it answered a reference to this object, JG_ITEMS it lent a buffer of so many
  * items, JG_THREW it threw this object. An object must have been met before (jg_met). The name of what the call handed
  * out is written to `given`: a reference, a buffer, after AttachCurrentThread an environment, else JG_NOTHING. 0, or
@@ -260,6 +267,17 @@ int32_t jg_ending(jg_core *core, uint32_t thread, const jg_value *env, uint32_t 
  * JG_NO_MEMORY.
  */
 int32_t jg_did(jg_core *core, const jg_ticket *ticket, const jg_value *says, jg_value *given);
+
+/*
+ * Whether the ticket of a denied call that was made all the same leaves open if something has ended: a reference that
+ * the machine took for one of its own, a buffer that it may have taken back, a frame that it may have popped. 1, and
+ * jg_did takes JG_NULL where it has ended, and JG_NOTHING where it hasn't; else 0, or JG_BAD_TICKET. Of a ticket that is
+ * 0 here jg_did takes what it takes of a passed call, and tells by the rule what came of it: after JG_DETACHED and
+ * JG_DEAD_REFERENCE nothing, after JG_NOT_OWNER an exception alone, after JG_WRONG_THREAD in the thread of the
+ * environment, after all others as of a passed call. Of a denied DetachCurrentThread nothing is told: tell JG_ENDS when
+ * the thread ends. It needs no handle, and may be called by several threads at once.
+ */
+int32_t jg_is_in_doubt(const jg_ticket *ticket);
 
 /*
  * The fact that jg_did tells of this ticket and of what the machine says, so that jg_fact_line can write its line of a
@@ -542,6 +560,10 @@ static inline int32_t jg_checked_did(jg_core *core, const jg_ticket *ticket, con
         return JG_NULL_POINTER;
     }
     return jg_did(core, ticket, says, given);
+}
+
+static inline int32_t jg_checked_is_in_doubt(const jg_ticket *ticket) {
+    return ticket ? jg_is_in_doubt(ticket) : JG_NULL_POINTER;
 }
 
 static inline int32_t jg_checked_told(const jg_ticket *ticket, const jg_value *says, jg_fact *fact) {
@@ -832,6 +854,7 @@ static inline int32_t jg_checked_is_utf8(const uint8_t *text, size_t size) {
 #define jg_ask jg_checked_ask
 #define jg_ending jg_checked_ending
 #define jg_did jg_checked_did
+#define jg_is_in_doubt jg_checked_is_in_doubt
 #define jg_told jg_checked_told
 #define jg_tell jg_checked_tell
 #define jg_gone jg_checked_gone

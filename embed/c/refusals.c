@@ -8,7 +8,7 @@
 static const char SETUP[] = BASE_SETUP "[[class]]\nname = \"app/Main\"\nmodule = \"app\"\n"
                                        "natives = [{ name = \"run\", type = \"()V\" }]\n";
 
-enum { THREAD = 1, ROOM = 256, FILLER = 0xA5, DEAD_REFERENCE = 6 };
+enum { THREAD = 1, ROOM = 256, FILLER = 0xA5 };
 
 /* How many calls were refused, and how many of them otherwise than they must be. */
 static int refusals, wrong;
@@ -244,14 +244,34 @@ static void refuse_operands(known *k) {
 /* ---- what came of calls ---- */
 
 static void refuse_tickets(known *k) {
-    const jg_value nothing = jg_nothing(), dead = jg_local(THREAD, 99);
+    const jg_value nothing = jg_nothing();
+    const jg_ticket zeros = {0, 0, {0, 0, {0, 0, 0}, {0, 0, 0}, 0, 0}};
+    jg_ticket beyond = zeros;
+    beyond.expected = 17;
+    beyond.thread = THREAD;
+    REFUSED(JG_BAD_TICKET, jg_did(&k->core, &zeros, &nothing, &out.given));
+    REFUSED(JG_BAD_TICKET, jg_told(&zeros, &nothing, &out.fact));
+    REFUSED(JG_BAD_TICKET, jg_is_in_doubt(&zeros));
+    REFUSED(JG_BAD_TICKET, jg_did(&k->core, &beyond, &nothing, &out.given));
+}
+
+/* Denied calls that a machine makes all the same. */
+static void tell_denied(known *k) {
+    const jg_value nothing = jg_nothing(), null = jg_null(), dead = jg_local(THREAD, 99), foreign = jg_local(2, 1);
     jg_verdict verdict;
+    jg_fact fact;
     DONE(0, jg_ask(&k->core, THREAD, &k->env, JG_FN_DeleteLocalRef, &dead, 1, &verdict));
-    DONE(DEAD_REFERENCE, (int64_t)verdict.rule);
-    REFUSED(JG_BAD_TICKET, jg_did(&k->core, &verdict.ticket, &nothing, &out.given));
-    REFUSED(JG_BAD_TICKET, jg_told(&verdict.ticket, &nothing, &out.fact));
-    DONE(0, jg_ending(&k->core, THREAD, &k->env, JG_FN_DeleteLocalRef, &dead, 1, &verdict, &out.given));
-    REFUSED(JG_BAD_TICKET, jg_told(&verdict.ticket, &nothing, &out.fact));
+    DONE(JG_DEAD_REFERENCE, (int64_t)verdict.rule);
+    REFUSED(0, jg_is_in_doubt(&verdict.ticket));
+    REFUSED(0, jg_told(&verdict.ticket, &nothing, &out.fact));
+    DONE(0, jg_ask(&k->core, THREAD, &k->env, JG_FN_DeleteLocalRef, &foreign, 1, &verdict));
+    DONE(JG_FOREIGN_LOCAL, (int64_t)verdict.rule);
+    DONE(1, jg_is_in_doubt(&verdict.ticket));
+    REFUSED(0, jg_told(&verdict.ticket, &nothing, &out.fact));
+    DONE(1, jg_told(&verdict.ticket, &null, &fact));
+    DONE(JG_LOST, (int64_t)fact.word);
+    DONE(1, jg_is_same(fact.name, foreign));
+    REFUSED(JG_IMPOSSIBLE, jg_did(&k->core, &verdict.ticket, &null, &out.given));
 }
 
 static void refuse_answers(known *k) {
@@ -464,6 +484,7 @@ static void refuse_null_in_facts(known *k) {
     REFUSED(JG_NULL_POINTER, jg_did(&k->core, NULL, &nothing, &out.given));
     REFUSED(JG_NULL_POINTER, jg_did(&k->core, &verdict.ticket, NULL, &out.given));
     REFUSED(JG_NULL_POINTER, jg_did(&k->core, &verdict.ticket, &nothing, NULL));
+    REFUSED(JG_NULL_POINTER, jg_is_in_doubt(NULL));
     REFUSED(JG_NULL_POINTER, jg_told(NULL, &nothing, &out.fact));
     REFUSED(JG_NULL_POINTER, jg_told(&verdict.ticket, NULL, &out.fact));
     REFUSED(JG_NULL_POINTER, jg_told(&verdict.ticket, &nothing, NULL));
@@ -612,6 +633,7 @@ int main(void) {
     refuse_heads(&k);
     refuse_operands(&k);
     refuse_tickets(&k);
+    tell_denied(&k);
     refuse_answers(&k);
     refuse_facts(&k);
     refuse_impossible(&k);

@@ -4,7 +4,7 @@ mod asked;
 mod prepared;
 mod told;
 
-use crate::asking::asked::{Kind, asked, asked_from_outside, called, judged};
+use crate::asking::asked::{Kind, asked, asked_from_outside, called, denied};
 use crate::asking::prepared::{prepare_core, prepare_guard, read_setup};
 use crate::asking::told::{Pair, fill, let_go, pairs, sessions, strings};
 use jg_core::Core;
@@ -25,8 +25,8 @@ fn call(alloc: Global, kind: &str, count: u64) -> Option<()> {
 /// Asks the core or tells it so many times what is named so.
 fn use_core(alloc: Global, core: &mut Core, mode: &str, kind: &str, count: u64) -> Option<()> {
     match mode {
-        "judge" => judged(core, &Kind::named(kind)?, count),
         "ask" => asked(core, &Kind::named(kind)?, count),
+        "denied" => denied(core, &Kind::named(kind)?, count),
         "outside" => asked_from_outside(alloc, core, count),
         "tell" => pairs(core, &Pair::named(kind)?, count),
         "gone" => let_go(alloc, core, count),

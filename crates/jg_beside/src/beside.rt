@@ -2,9 +2,11 @@
 //! came of it: it must judge as the guard does, name what is handed out as the guard does, and have what the guard has.
 
 use crate::telling::{Before, before_call, handed_out, is_gone, length_in, tell_entry};
-use jg_core::{Checked, Core, Fact};
+use jg_core::{Answer, Checked, Core, Fact, Ticket};
+use jg_facts::{function_of, push_arguments};
 use jg_guard::Guard;
 use jg_policy::Setup;
+use jg_questions::Bounds;
 use jg_rules::View;
 use jg_text::read_begun;
 use jg_words::{Call, Entry, EnvId, ObjId, Tid};
@@ -58,15 +60,16 @@ fn has_thread(core: &mut Core, view: &View<'_>, tid: Tid, numbers: u64) -> bool 
     }
 }
 
-/// What the core has otherwise once it is told of the entry. No local has so great a number.
+/// What the core has otherwise once it is told of the entry, whose question had this ticket if it passed. No local has
+/// so great a number.
 fn other_told(
     core: &mut Core,
     view: &View<'_>,
-    entry: &Entry,
+    (entry, ticket): (&Entry, Option<Ticket>),
     before: &mut Before,
     numbers: u64,
 ) -> Difference {
-    match tell_entry(core, view, entry, before) {
+    match tell_entry(core, view, entry, ticket, before) {
         Err(_) => Some("a core can't be told of it"),
         Ok(given) if given != handed_out(entry) => Some(
             "a core names what is handed out otherwise",
@@ -79,6 +82,25 @@ fn other_told(
     }
 }
 
+/// What the guard bounds.
+const BOUNDS: Bounds = Bounds {
+    capacity: 65_535,
+    length: 1_000_000,
+    items: 1_000,
+};
+
+/// What the core answers to the question that the call is.
+fn ask(
+    core: &Core,
+    view: &View<'_>,
+    alloc: Global,
+    (tid, env, call): (Tid, Option<EnvId>, &Call),
+) -> Result<Answer, AllocError> {
+    let mut operands = Vec::new(alloc);
+    push_arguments(view, tid, call, &mut operands)?;
+    Ok(core.ask(BOUNDS, tid, env, function_of(call), operands.as_slice()))
+}
+
 /// What isn't so where the core is asked about the call, the guard takes it, and the core is told what came of it.
 fn other_call(
     guard: &mut Guard,
@@ -86,7 +108,11 @@ fn other_call(
     alloc: Global,
     (tid, env, call): (Tid, Option<EnvId>, Call),
 ) -> Result<Difference, AllocError> {
-    let asked = core.judge_by(tid, env, &call).map(|broken| broken.rule);
+    let (ticket, rule) = match ask(core, &guard.view(), alloc, (tid, env, &call))? {
+        Answer::Passed(ticket) => (Some(ticket), None),
+        Answer::Denied { rule, .. } => (None, Some(rule)),
+        _ => return Ok(Some("a core knows no such question")),
+    };
     let mut before = before_call(&guard.view(), alloc, tid)?;
     if guard.call(tid, env, call).is_err() {
         return Ok(Some("a guard refuses the call"));
@@ -95,11 +121,11 @@ fn other_call(
     let Some(entry) = guard.journal_entry(count.saturating_sub(1)) else {
         return Ok(Some("a guard has no entry of the call"));
     };
-    if entry.rule() != asked {
+    if entry.rule() != rule {
         return Ok(Some("a core judges the call otherwise"));
     }
     let numbers = (count as u64).saturating_add(1);
-    Ok(other_told(core, &guard.view(), entry, &mut before, numbers))
+    Ok(other_told(core, &guard.view(), (entry, ticket), &mut before, numbers))
 }
 
 /// What isn't so of the journal's calls.

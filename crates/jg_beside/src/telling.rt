@@ -1,6 +1,6 @@
 //! A core is told what an entry of a guard's journal says.
 
-use jg_core::{Core, Fact, Given, Says, Untold};
+use jg_core::{Core, Fact, Given, Says, Ticket, Untold};
 use jg_rules::{View, buffer_named, class_of, home_named, length_of};
 use jg_words::{Call, Entry, Kind, ObjId, Tid, Value, VmCall};
 use std::alloc::{AllocError, Global};
@@ -80,23 +80,23 @@ fn let_go(core: &mut Core, view: &View<'_>, there: &mut Vec<ObjId>) -> Result<Gi
 }
 
 /// A native method was called, and was handed a local reference to its class.
-fn enter(core: &mut Core, entry: &Entry) -> Result<Given, Untold> {
+fn enter(core: &mut Core, entry: &Entry, ticket: Ticket) -> Result<Given, Untold> {
     let Some(class) = entry.object() else {
         return Err(Untold::Impossible);
     };
-    let _nothing = core.did(entry.tid(), entry.call(), Says::Done)?;
+    let _nothing = core.returned(ticket, Says::Done)?;
     Ok(Given::Reference(core.hand(entry.tid(), Kind::Local, class)?))
 }
 
 /// A native method left, and what was pending is pending still.
 fn leave(
     core: &mut Core,
-    entry: &Entry,
+    ticket: Ticket,
     says: Says,
     pending: Option<ObjId>,
 ) -> Result<Given, Untold> {
-    let tid = entry.tid();
-    let given = core.did(tid, entry.call(), says)?;
+    let tid = ticket.tid;
+    let given = core.returned(ticket, says)?;
     if let Some(object) = pending {
         core.tell(Fact::Raise { tid, object })?;
     }
@@ -107,42 +107,46 @@ fn leave(
 fn tell_done(
     core: &mut Core,
     view: &View<'_>,
-    entry: &Entry,
+    (entry, ticket): (&Entry, Ticket),
     says: Says,
     before: &mut Before,
 ) -> Result<Given, Untold> {
     match entry.call() {
         Call::Vm(VmCall::Collect) => let_go(core, view, &mut before.there),
-        Call::Vm(VmCall::NativeEnter { .. }) => enter(core, entry),
-        Call::Vm(VmCall::NativeLeave { .. }) => leave(core, entry, says, before.pending),
-        _ => core.did(entry.tid(), entry.call(), says),
+        Call::Vm(VmCall::NativeEnter { .. }) => enter(core, entry, ticket),
+        Call::Vm(VmCall::NativeLeave { .. }) => leave(core, ticket, says, before.pending),
+        _ => core.returned(ticket, says),
     }
 }
 
 /// The module was warned that the entry warned of, if it did.
 fn warn(core: &mut Core, view: &View<'_>, entry: &Entry) -> Result<(), Untold> {
     match home_named(view, entry.tid(), entry.call()) {
-        Some(home) if entry.warned() => core.tell(Fact::Warn(home)),
+        Some(home) if entry.warned() => {
+            core.tell(Fact::Warn(home))?;
+            Ok(())
+        }
         _ => Ok(()),
     }
 }
 
-/// Tells all that the entry says, and answers the core's name for what was handed out. Nothing comes of a call that
-/// was denied, or that found a monitor busy.
+/// Tells all that the entry says, whose question had this ticket if it passed, and answers the core's name for what was
+/// handed out. Nothing comes of a call that was denied, or that found a monitor busy.
 pub fn tell_entry(
     core: &mut Core,
     view: &View<'_>,
     entry: &Entry,
+    ticket: Option<Ticket>,
     before: &mut Before,
 ) -> Result<Given, Untold> {
-    let Some(value) = entry.value() else {
+    let (Some(value), Some(ticket)) = (entry.value(), ticket) else {
         return Ok(Given::Nothing);
     };
     meet_all(core, view, before.made)?;
     let Some(says) = says_of(view, value, entry.object()) else {
         return Ok(Given::Nothing);
     };
-    let given = tell_done(core, view, entry, says, before)?;
+    let given = tell_done(core, view, (entry, ticket), says, before)?;
     warn(core, view, entry)?;
     Ok(given)
 }

@@ -1,11 +1,11 @@
 -- What a machine says, and what it is given, as C holds them.
 use Rattle.std.specs.Prelude.{ℕ, Option, Some, None, if◌then◌else◌, nat_eq, nat_lt}
 use Rattle.jg_core.specs.declared.says.Given.{Given}
-use Rattle.jg_core.specs.declared.says.Given.TheVariants.{Nothing, Reference, Buffer, Environment}
+use Rattle.jg_core.specs.declared.says.Given.TheVariants.{Nothing, Reference, Buffer, Environment, Object as TheObject}
 use Rattle.jg_core.specs.declared.says.Says.{Says}
 use Rattle.jg_core.specs.declared.says.Says.TheVariants.{Done, Null, Object, Items, Threw}
 use Rattle.jg_c.specs.declared.value.JgValue.{JgValue}
-use Rattle.jg_c.specs.Values.{of_buffer, of_environment, of_reference}
+use Rattle.jg_c.specs.Values.{of_buffer, of_environment, of_object, of_reference}
 
 -- so many items, if 32 bits hold how many
 abbrev pub items_of : ℕ → Option Says
@@ -30,3 +30,4 @@ of_given Nothing = nothing
 of_given (Reference r) = of_reference r
 of_given (Buffer b) = of_buffer b
 of_given (Environment e) = of_environment e
+of_given (TheObject o) = of_object o

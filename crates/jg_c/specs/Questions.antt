@@ -67,8 +67,8 @@ counted (Some n) = if nat_lt n 4294967295 then n + 1 else 0
 abbrev pub IsAnswered : Answer → JgVerdict → ℤ → Type 0
 IsAnswered (Passed ticket) v n =
     (n ≡ errors.done) × (v.rule ≡ 0) × (v.operand ≡ 0) × (ticket_of v.ticket ≡ Some ticket)
-IsAnswered (Denied rule place) v n =
-    (n ≡ errors.done) × (v.rule ≡ number_of rule) × (v.operand ≡ counted place) × (ticket_of v.ticket ≡ None)
+IsAnswered (Denied rule place ticket) v n =
+    (n ≡ errors.done) × (v.rule ≡ number_of rule) × (v.operand ≡ counted place) × (ticket_of v.ticket ≡ Some ticket)
 IsAnswered NoFunction v n = n ≡ errors.no_function
 IsAnswered Misfit v n = n ≡ errors.misfit
 

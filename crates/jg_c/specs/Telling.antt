@@ -3,6 +3,8 @@ use Rattle.std.specs.Prelude.{ℕ, ℤ, pos, ◌≡◌, ◌⊎◌, List, Option,
 use Rattle.jg_words.specs.declared.object.ObjId.{ObjId}
 use Rattle.jg_core.specs.declared.fact.Fact.{Fact}
 use Rattle.jg_core.specs.declared.asking.Ticket.{Ticket}
+use Rattle.jg_core.specs.declared.expected.Expected.{Expected}
+use Rattle.jg_core.specs.declared.expected.Expected.TheVariants.{IfEnded}
 use Rattle.jg_core.specs.declared.kernel.Untold.{Untold}
 use Rattle.jg_core.specs.declared.says.Given.{Given}
 use Rattle.jg_core.specs.declared.says.Says.{Says}
@@ -10,31 +12,20 @@ use Rattle.jg_core.specs.Asking.{Returned, RefusesReturn}
 use Rattle.jg_core.specs.Expected.{told}
 use Rattle.jg_core.specs.Facts.{first_held, parts_of}
 use Rattle.jg_core.specs.Kernel.{CoreStands, Refuses, Took, TookAll}
-use Rattle.jg_record.specs.declared.reply.Reply.{Reply}
-use Rattle.jg_record.specs.declared.reply.Reply.TheVariants.{Environment, Reference, Buffer, Object}
 use Rattle.jg_c.specs.declared.value.JgValue.{JgValue}
 use Rattle.jg_c.specs.Cores.{CoreHeld}
 use Rattle.jg_c.specs.declared.fact.JgFact.{JgFact}
 use Rattle.jg_c.specs.Errors as errors
 use Rattle.jg_c.specs.Facts.{fact_of}
 use Rattle.jg_c.specs.Given.{nothing, of_given}
-use Rattle.jg_watch.specs.Told.{named}
-use Rattle.jg_c.specs.Values.{of_buffer, of_environment, of_object, of_reference}
+use Rattle.jg_core.specs.Implied.{given_by}
 
 -- ---- a fact
-
--- the name of what was handed out
-abbrev pub of_reply : Reply → JgValue
-of_reply (Environment e) = of_environment e
-of_reply (Reference r) = of_reference r
-of_reply (Buffer b) = of_buffer b
-of_reply (Object o) = of_object o
-of_reply reply = nothing
 
 -- the fact was taken, and that is the name of what it handed out
 pub record TakesFact (old new : CoreHeld) (fact : Fact) (given : JgValue) : Type 0 where
   pub took : Took old.core new.core fact
-  pub name : (w : List Fact) → CoreStands old.core w → given ≡ of_reply (named old.core.setup w fact)
+  pub name : (w : List Fact) → CoreStands old.core w → given ≡ of_given (given_by old.core.setup (parts_of w) fact)
 
 abbrev pub TellsFact : CoreHeld → CoreHeld → Fact → JgValue → ℤ → Type 0
 TellsFact old new fact given n =
@@ -61,6 +52,15 @@ ReturnsBy old new ticket (Some says) given n = Returns old new ticket says given
 abbrev pub Did : CoreHeld → CoreHeld → Option Ticket → Option Says → JgValue → ℤ → Type 0
 Did old new None says given n = n ≡ errors.bad_ticket
 Did old new (Some ticket) says given n = ReturnsBy old new ticket says given n
+
+-- the machine is to say by null whether something has ended
+abbrev pub doubt_of : Expected → ℤ
+doubt_of (IfEnded (Some fact)) = pos 1
+doubt_of expected = pos 0
+
+abbrev pub in_doubt : Option Ticket → ℤ
+in_doubt None = errors.bad_ticket
+in_doubt (Some ticket) = doubt_of ticket.expected
 
 -- ---- the fact of a call that returned
 

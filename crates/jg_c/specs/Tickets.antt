@@ -17,18 +17,22 @@ lent f family = option_and_then (λ o. option_map (λ via. expected.Lent family 
 -- what comes of a call, by its number and what it is of
 abbrev pub expected_of : ℕ → JgFact → Option Expected
 expected_of n f =
-    if nat_eq n 0 then Some (expected.Done None)
-    else if nat_eq n 1 then option_map (λ fact. expected.Done (Some fact)) (fact_of f)
-    else if nat_eq n 2 then Some expected.Undone
-    else if nat_eq n 3 then Some (expected.Quiet None)
-    else if nat_eq n 4 then option_map (λ fact. expected.Quiet (Some fact)) (fact_of f)
-    else if nat_eq n 5 then Some (expected.Attached None)
-    else if nat_eq n 6 then option_map (λ fact. expected.Attached (Some fact)) (fact_of f)
-    else if nat_eq n 7 then option_map (λ kind. expected.Handed kind) (kind_of f.first)
-    else if nat_eq n 8 then option_and_then (lent f) (family_of f.first)
-    else if nat_eq n 9 then Some expected.Left
-    else if nat_eq n 10 then Some expected.Popped
-    else if nat_eq n 11 then Some expected.Never
+    if nat_eq n 1 then Some (expected.Done None)
+    else if nat_eq n 2 then option_map (λ fact. expected.Done (Some fact)) (fact_of f)
+    else if nat_eq n 3 then Some expected.Undone
+    else if nat_eq n 4 then Some (expected.Quiet None)
+    else if nat_eq n 5 then option_map (λ fact. expected.Quiet (Some fact)) (fact_of f)
+    else if nat_eq n 6 then Some (expected.Attached None)
+    else if nat_eq n 7 then option_map (λ fact. expected.Attached (Some fact)) (fact_of f)
+    else if nat_eq n 8 then option_map (λ kind. expected.Handed kind) (kind_of f.first)
+    else if nat_eq n 9 then option_and_then (lent f) (family_of f.first)
+    else if nat_eq n 10 then Some expected.Left
+    else if nat_eq n 11 then Some expected.Popped
+    else if nat_eq n 12 then Some expected.Never
+    else if nat_eq n 13 then Some expected.Nothing
+    else if nat_eq n 14 then Some expected.Thrown
+    else if nat_eq n 15 then Some (expected.IfEnded None)
+    else if nat_eq n 16 then option_map (λ fact. expected.IfEnded (Some fact)) (fact_of f)
     else None
 
 -- the ticket that the numbers state, if they state one

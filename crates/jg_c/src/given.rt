@@ -3,7 +3,7 @@
 ghost use Rattle.std.specs.Prelude.{◌≡◌};
 ghost use Rattle.jg_c.specs.Given as specs;
 
-use crate::value::{JgValue, of_buffer, of_environment, of_reference};
+use crate::value::{JgValue, of_buffer, of_environment, of_object, of_reference};
 use jg_core::{Given, Says};
 use jg_words::ObjId;
 
@@ -33,5 +33,6 @@ pub(crate) fn of_given(given: Given) -> JgValue
         Given::Reference(reference) => of_reference(reference),
         Given::Buffer(buffer) => of_buffer(buffer),
         Given::Environment(env) => of_environment(env),
+        Given::Object(object) => of_object(object),
     }
 }

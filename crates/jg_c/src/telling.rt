@@ -17,27 +17,11 @@ use crate::handle::Handle;
 use crate::session::CoreSession;
 use crate::ticket::{JgTicket, ticket_of};
 use crate::told::of_fact;
-use crate::value::{JgValue, of_buffer, of_environment, of_object, of_reference};
-use jg_core::{Fact, Says, Ticket, told};
-use jg_record::Reply;
-use jg_watch::tell;
+use crate::value::JgValue;
+use jg_core::{Expected, Fact, Says, Ticket, told};
 
 /// What `jg_told` answers where it wrote a fact.
 const WRITTEN: i32 = 1;
-
-/// The name of what was handed out.
-#[inline(always)]
-fn of_reply(reply: Reply) -> JgValue
-    ensures { result ≡ specs.of_reply reply }
-{
-    match reply {
-        Reply::Environment(env) => of_environment(env),
-        Reply::Reference(reference) => of_reference(reference),
-        Reply::Buffer(buffer) => of_buffer(buffer),
-        Reply::Object(object) => of_object(object),
-        Reply::Passed | Reply::Denied(_) | Reply::Nothing => JgValue::NOTHING,
-    }
-}
 
 #[inline(always)]
 fn tell_fact(asked: &mut CoreSession, fact: Fact, given: &mut JgValue) -> i32
@@ -47,9 +31,9 @@ fn tell_fact(asked: &mut CoreSession, fact: Fact, given: &mut JgValue) -> i32
     ensures stayed { result ≢ errors.done → Stayed asked.old.core asked.new.core }
     ensures bounds { asked.new.bounds ≡ asked.old.bounds }
 {
-    match tell(&mut asked.core, fact) {
-        Ok(reply) => {
-            *given = of_reply(reply);
+    match asked.core.tell(fact) {
+        Ok(out) => {
+            *given = of_given(out);
             DONE
         }
         Err(why) => of_untold(why),
@@ -167,8 +151,23 @@ pub extern "C" fn jg_told(ticket: &JgTicket, says: &JgValue, fact: &mut JgFact) 
     }
 }
 
-/// Takes what a passed call implies that returned, by what the machine says of it. The name of what it handed out is
-/// written to `given`.
+/// Whether the machine is to be asked, once it made a denied call, if what the ticket's fact is about has ended: 1, and
+/// `jg_did` then takes null where it has; else 0.
+#[unsafe(no_mangle)]
+pub extern "C" fn jg_is_in_doubt(ticket: &JgTicket) -> i32
+    ensures { result ≡ specs.in_doubt (tickets.ticket_of ticket.now) }
+{
+    match ticket_of(ticket) {
+        Some(ticket) => match ticket.expected {
+            Expected::IfEnded(Some(_)) => 1,
+            _ => 0,
+        },
+        None => BAD_TICKET,
+    }
+}
+
+/// Takes what a call implies that returned, by what the machine says of it. The name of what it handed out is written to
+/// `given`.
 #[unsafe(no_mangle)]
 pub extern "C" fn jg_did(
     core: &mut Handle,

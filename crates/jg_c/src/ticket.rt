@@ -8,6 +8,9 @@ use crate::told::{of_fact, of_family, of_kept};
 use crate::value::{kind_of, number_of, of_reference, thread_of};
 use jg_core::{Expected, Ticket};
 
+/// Of this ticket the machine is to say by null whether what the fact is about has ended.
+const IF_ENDED: u32 = 16;
+
 /// A ticket as C keeps it until the machine has answered. C reads and changes nothing in it. It is `jg_ticket` in jg.h.
 #[repr(C)]
 #[derive(Clone, Copy)]
@@ -25,22 +28,26 @@ fn expected_of(number: u32, fact: &JgFact) -> Option<Expected>
     ensures { result ≡ tickets.expected_of number fact.now }
 {
     match number {
-        0 => Some(Expected::Done(None)),
-        1 => Some(Expected::Done(Some(fact_of(fact)?))),
-        2 => Some(Expected::Undone),
-        3 => Some(Expected::Quiet(None)),
-        4 => Some(Expected::Quiet(Some(fact_of(fact)?))),
-        5 => Some(Expected::Attached(None)),
-        6 => Some(Expected::Attached(Some(fact_of(fact)?))),
-        7 => Some(Expected::Handed(kind_of(fact.first)?)),
-        8 => Some(Expected::Lent {
+        1 => Some(Expected::Done(None)),
+        2 => Some(Expected::Done(Some(fact_of(fact)?))),
+        3 => Some(Expected::Undone),
+        4 => Some(Expected::Quiet(None)),
+        5 => Some(Expected::Quiet(Some(fact_of(fact)?))),
+        6 => Some(Expected::Attached(None)),
+        7 => Some(Expected::Attached(Some(fact_of(fact)?))),
+        8 => Some(Expected::Handed(kind_of(fact.first)?)),
+        9 => Some(Expected::Lent {
             family: family_of(fact.first)?,
             object: fact.object.object()?,
             via: fact.name.reference()?,
         }),
-        9 => Some(Expected::Left),
-        10 => Some(Expected::Popped),
-        11 => Some(Expected::Never),
+        10 => Some(Expected::Left),
+        11 => Some(Expected::Popped),
+        12 => Some(Expected::Never),
+        13 => Some(Expected::Nothing),
+        14 => Some(Expected::Thrown),
+        15 => Some(Expected::IfEnded(None)),
+        IF_ENDED => Some(Expected::IfEnded(Some(fact_of(fact)?))),
         _ => None,
     }
 }
@@ -61,19 +68,19 @@ pub(crate) fn of_ticket(ticket: Ticket) -> JgTicket
     ensures { tickets.ticket_of result ≡ Some ticket }
 {
     let (expected, fact) = match ticket.expected {
-        Expected::Done(None) => (0, JgFact::NOTHING),
-        Expected::Done(Some(fact)) => (1, of_fact(fact)),
-        Expected::Undone => (2, JgFact::NOTHING),
-        Expected::Quiet(None) => (3, JgFact::NOTHING),
-        Expected::Quiet(Some(fact)) => (4, of_fact(fact)),
-        Expected::Attached(None) => (5, JgFact::NOTHING),
-        Expected::Attached(Some(fact)) => (6, of_fact(fact)),
+        Expected::Done(None) => (1, JgFact::NOTHING),
+        Expected::Done(Some(fact)) => (2, of_fact(fact)),
+        Expected::Undone => (3, JgFact::NOTHING),
+        Expected::Quiet(None) => (4, JgFact::NOTHING),
+        Expected::Quiet(Some(fact)) => (5, of_fact(fact)),
+        Expected::Attached(None) => (6, JgFact::NOTHING),
+        Expected::Attached(Some(fact)) => (7, of_fact(fact)),
         Expected::Handed(kind) => {
             let fact = JgFact {
                 first: number_of(kind),
                 ..JgFact::NOTHING
             };
-            (7, fact)
+            (8, fact)
         }
         Expected::Lent {
             family,
@@ -86,11 +93,15 @@ pub(crate) fn of_ticket(ticket: Ticket) -> JgTicket
                 first: of_family(family),
                 ..JgFact::NOTHING
             };
-            (8, fact)
+            (9, fact)
         }
-        Expected::Left => (9, JgFact::NOTHING),
-        Expected::Popped => (10, JgFact::NOTHING),
-        Expected::Never => (11, JgFact::NOTHING),
+        Expected::Left => (10, JgFact::NOTHING),
+        Expected::Popped => (11, JgFact::NOTHING),
+        Expected::Never => (12, JgFact::NOTHING),
+        Expected::Nothing => (13, JgFact::NOTHING),
+        Expected::Thrown => (14, JgFact::NOTHING),
+        Expected::IfEnded(None) => (15, JgFact::NOTHING),
+        Expected::IfEnded(Some(fact)) => (IF_ENDED, of_fact(fact)),
     };
     JgTicket {
         expected,

@@ -1,13 +1,11 @@
 //! What a question is answered, as numbers.
 
-ghost use Rattle.std.specs.Prelude.{◌≡◌, ◌≢◌, None, false};
+ghost use Rattle.std.specs.Prelude.{◌≡◌, ◌≢◌, false};
 ghost use Rattle.jg_core.specs.Asking.{is_passed};
 ghost use Rattle.jg_c.specs.Errors as errors;
 ghost use Rattle.jg_c.specs.Questions.{IsAnswered, counted};
-ghost use Rattle.jg_c.specs.Tickets as tickets;
 
 use crate::error::{DONE, MISFIT, NO_FUNCTION};
-use crate::fact::JgFact;
 use crate::ticket::{JgTicket, of_ticket};
 use jg_core::Answer;
 
@@ -19,7 +17,8 @@ pub struct JgVerdict {
     pub rule: u32,
     /// The operand that breaks the rule, counted from 1, or 0 where none does.
     pub operand: u32,
-    /// What comes of a call that passed. Of another one it is no ticket.
+    /// What comes of the call once the machine made it. Of a call that was denied it is what comes of it where the
+    /// machine makes it all the same.
     pub ticket: JgTicket,
 }
 
@@ -33,17 +32,6 @@ fn counted(place: Option<usize>) -> u32
             Ok(place) if place < u32::MAX => place + 1,
             _ => 0,
         },
-    }
-}
-
-/// What is no ticket.
-fn no_ticket() -> JgTicket
-    ensures { tickets.ticket_of result ≡ None }
-{
-    JgTicket {
-        expected: u32::MAX,
-        thread: 0,
-        fact: JgFact::NOTHING,
     }
 }
 
@@ -64,11 +52,15 @@ pub(crate) fn write_answer(answer: Answer, verdict: &mut JgVerdict) -> i32
             };
             DONE
         }
-        Answer::Denied { rule, operand } => {
+        Answer::Denied {
+            rule,
+            operand,
+            ticket,
+        } => {
             *verdict = JgVerdict {
                 rule: u32::from(rule.number()),
                 operand: counted(operand),
-                ticket: no_ticket(),
+                ticket: of_ticket(ticket),
             };
             DONE
         }

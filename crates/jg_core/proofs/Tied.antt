@@ -133,6 +133,6 @@ told_as_calls s p t call says =
 pub asked_as_calls : AskedAsCalls
 asked_as_calls s p t env call place stated is =
     ap (by_row written_bounds s p t env (arguments_of s p t.0 call)) is
-    ∙ (ap (λ b. if b then by_verdict written_bounds s p t (row_for (fun_of call)) (arguments_of s p t.0 call)
+    ∙ (ap (λ b. if b then by_verdict written_bounds s p t env (row_for (fun_of call)) (arguments_of s p t.0 call)
     (verdict written_bounds s p t.0 env (row_for (fun_of call)) (arguments_of s p t.0 call)) else Misfit) (calls_suit s p t.0 call)
-    ∙ ap (by_verdict written_bounds s p t (row_for (fun_of call)) (arguments_of s p t.0 call)) (judged_as_written s p t.0 env call stated))
+    ∙ ap (by_verdict written_bounds s p t env (row_for (fun_of call)) (arguments_of s p t.0 call)) (judged_as_written s p t.0 env call stated))

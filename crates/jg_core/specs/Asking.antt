@@ -32,30 +32,40 @@ use Rattle.jg_core.specs.declared.asking.Answer.{Answer}
 use Rattle.jg_core.specs.declared.asking.Ended.{Ended}
 use Rattle.jg_core.specs.declared.asking.Answer.TheVariants.{Passed, Denied, NoFunction, Misfit}
 use Rattle.jg_core.specs.Facts.{parts_of}
+use Rattle.jg_core.specs.Denied.{doer, denied_as}
 use Rattle.jg_core.specs.Expected.{expected_of, told}
 use Rattle.jg_core.specs.Implied.{implied, env_given, given_with, told_on, can_imply, implies_making}
 use Rattle.jg_core.specs.Kernel.{CoreState, CoreStands, Stayed}
 
+-- what comes of it if it is made all the same
+abbrev pub denied_ticket : StatedSetup → Parts → Tid → Option EnvId → Columns → List Argument → Rule → Ticket
+denied_ticket s p t env row xs rule = record {
+  tid = doer rule t env;
+  expected = denied_as rule row.effect (doer rule t env) (expected_of s p (doer rule t env) row row.effect xs) xs;
+}
+
 -- a question that breaks no rule, or the first that it breaks, and by which operand
-abbrev pub by_verdict : Bounds → StatedSetup → Parts → Tid → Columns → List Argument → Option Rule → Answer
-by_verdict bounds s p t row xs None = Passed (record { tid = t; expected = expected_of s p t row row.effect xs })
-by_verdict bounds s p t row xs (Some rule) = Denied rule (culprit bounds s p t.0 rule row.takes xs)
+abbrev pub by_verdict : Bounds → StatedSetup → Parts → Tid → Option EnvId → Columns → List Argument → Option Rule
+    → Answer
+by_verdict bounds s p t env row xs None = Passed (record { tid = t; expected = expected_of s p t row row.effect xs })
+by_verdict bounds s p t env row xs (Some rule) =
+    Denied rule (culprit bounds s p t.0 rule row.takes xs) (denied_ticket s p t env row xs rule)
 
 abbrev pub by_row : Bounds → StatedSetup → Parts → Tid → Option EnvId → List Argument → Option Columns → Answer
 by_row bounds s p t env xs None = NoFunction
 by_row bounds s p t env xs (Some row) =
-    if suits row.takes xs then by_verdict bounds s p t row xs (verdict bounds s p t.0 env row xs) else Misfit
+    if suits row.takes xs then by_verdict bounds s p t env row xs (verdict bounds s p t.0 env row xs) else Misfit
 
 abbrev pub asked : Bounds → StatedSetup → Parts → Tid → Option EnvId → ℕ → List Argument → Answer
 asked bounds s p t env function xs = by_row bounds s p t env xs (slice_get functions function)
 
 -- an attachment gives the environment, whether or not the thread had it
-abbrev pub given_by_expected : Parts → Tid → Expected → Option Fact → Given
-given_by_expected p t (Attached begun) fact = env_given p t
-given_by_expected p t expected fact = given_with p fact
+abbrev pub given_by_expected : StatedSetup → Parts → Tid → Expected → Option Fact → Given
+given_by_expected s p t (Attached begun) fact = env_given p t
+given_by_expected s p t expected fact = given_with s p fact
 
-abbrev pub given_for : Parts → Ticket → Option Fact → Given
-given_for p ticket fact = given_by_expected p ticket.tid ticket.expected fact
+abbrev pub given_for : StatedSetup → Parts → Ticket → Option Fact → Given
+given_for s p ticket fact = given_by_expected s p ticket.tid ticket.expected fact
 
 -- the machine's answer implied this, if anything; it was told, and that was handed out
 pub record Returned (old new : CoreState) (ticket : Ticket) (says : Says) (out : Given) : Type 0 where
@@ -63,7 +73,7 @@ pub record Returned (old new : CoreState) (ticket : Ticket) (says : Says) (out :
   pub fact : Option Fact
   pub is : told ticket.tid ticket.expected says ≡ Some fact
   pub stands : (w : List Fact) → CoreStands old w → CoreStands new (told_on fact w)
-  pub answers : (w : List Fact) → CoreStands old w → out ≡ given_for (parts_of w) ticket fact
+  pub answers : (w : List Fact) → CoreStands old w → out ≡ given_for old.setup (parts_of w) ticket fact
 
 -- why nothing was taken: as of a call, exactly where no machine says so, or what it implies can't be; else exactly
 -- where that makes something and the core is full; else where it makes something, for which memory ran out
@@ -125,5 +135,5 @@ abbrev pub AskedAsCalls : Type 0
 AskedAsCalls = (s : StatedSetup) (p : Parts) (t : Tid) (env : Option EnvId) (call : Call) (place : ℕ) → AreStated s p
     → slice_get functions place ≡ Some (row_for (fun_of call))
     → asked written_bounds s p t env place (arguments_of s p t.0 call)
-    ≡ by_verdict written_bounds s p t (row_for (fun_of call)) (arguments_of s p t.0 call)
+    ≡ by_verdict written_bounds s p t env (row_for (fun_of call)) (arguments_of s p t.0 call)
     (call_verdict s p t.0 env call)

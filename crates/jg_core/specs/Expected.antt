@@ -1,5 +1,6 @@
--- What comes of a question that breaks no rule, by the row of its function: what is to be told once the machine says
--- what it answered. It is found when the question is asked, since an operand may end before the function returns.
+-- What comes of a call whose question was answered, by the row of its function: what is to be told once the machine says
+-- what it answered. It is found when the question is asked, since an operand may end before the function returns. Where
+-- the question breaks a rule, see Denied.
 use Rattle.std.specs.Prelude.{ℕ, ℤ, if◌then◌else◌, List, Option, Some, None}
 use Rattle.std.specs.Option.{option_map}
 use Rattle.jg_words.specs.declared.thread.Tid.{Tid}
@@ -16,7 +17,7 @@ use Rattle.jg_rules.specs.Names.{object_named, class_meant}
 use Rattle.jg_functions.specs.declared.row.Section.{Section}
 use Rattle.jg_functions.specs.declared.row.Section.TheVariants.{InvocationApiFunctions}
 use Rattle.jg_functions.specs.declared.row.Effect.{Effect}
-use Rattle.jg_functions.specs.declared.row.Effect.TheVariants.{Nothing, Hands, Ends, Lends, GivesBack, Pushes, Pops, Ensures, Raises, Calms, Owns, Frees, Attaches, Detaches, Enters, Leaves, Loads, Links, Unlinks, Collects}
+use Rattle.jg_functions.specs.declared.row.Effect.TheVariants.{Nothing as NothingDone, Hands, Ends, Lends, GivesBack, Pushes, Pops, Ensures, Raises, Calms, Owns, Frees, Attaches, Detaches, Enters, Leaves, Loads, Links, Unlinks, Collects}
 use Rattle.jg_functions.specs.Columns.{Columns}
 use Rattle.jg_questions.specs.declared.argument.Argument.{Argument}
 use Rattle.jg_questions.specs.Asked.{first_reference, first_buffer, first_number}
@@ -24,10 +25,21 @@ use Rattle.jg_questions.specs.Broken.{native_by_name}
 use Rattle.jg_core.specs.declared.fact.Fact.{Fact}
 use Rattle.jg_core.specs.declared.fact.Fact.TheVariants.{Enter, Leave, Push, Pop, Ensure, Raise, Calm, Own, Free}
 use Rattle.jg_core.specs.declared.says.Says.{Says}
+use Rattle.jg_core.specs.declared.says.Says.TheVariants.{Null as SaysNull, Threw}
 use Rattle.jg_core.specs.declared.expected.Expected.{Expected}
-use Rattle.jg_core.specs.declared.expected.Expected.TheVariants.{Done, Undone, Quiet, Attached, Handed, Lent, Left, Popped, Never}
+use Rattle.jg_core.specs.declared.expected.Expected.TheVariants.{Done, Undone, Quiet, Attached, Handed, Lent, Left, Popped, Never, Nothing, Thrown, IfEnded}
 use Rattle.jg_core.specs.Facts.{is_attached}
 use Rattle.jg_core.specs.Implied.{doing, done_only, handing, lending, kept_by, attaching, detaching, linking, unlinking, losing, giving_back}
+
+-- it threw, or nothing is told
+abbrev pub thrown_only : Tid → Says → Option Fact
+thrown_only t (Threw o) = Some (Raise t o)
+thrown_only t says = None
+
+-- the machine says by null that it has ended
+abbrev pub if_ended : Tid → Option Fact → Says → Option Fact
+if_ended t fact SaysNull = fact
+if_ended t fact says = thrown_only t says
 
 -- what the machine's answer implies, where so much was expected
 abbrev pub told : Tid → Expected → Says → Option (Option Fact)
@@ -40,6 +52,9 @@ told t (Lent family object via) says = lending t family (option_map (λ o. o.0) 
 told t Left says = option_map (λ kept. Some (Leave t kept)) (kept_by says)
 told t Popped says = option_map (λ kept. Some (Pop t kept)) (kept_by says)
 told t Never says = None
+told t Nothing says = Some None
+told t Thrown says = Some (thrown_only t says)
+told t (IfEnded fact) says = Some (if_ended t fact says)
 
 -- of an object that an operand names: without one it can't be done
 abbrev pub done_to : (ObjId → Fact) → Option ℕ → Expected
@@ -61,7 +76,7 @@ abbrev pub via_for : Family → Ref → Ref
 via_for family r = if is_critical family then r else Null
 
 abbrev pub expected_of : StatedSetup → Parts → Tid → Columns → Effect → List Argument → Expected
-expected_of s p t row Nothing xs = nothing_done row.section
+expected_of s p t row NothingDone xs = nothing_done row.section
 expected_of s p t row (Hands kind) xs = Handed kind
 expected_of s p t row (Ends kind) xs = Done (losing (first_reference xs))
 expected_of s p t row (Lends family) xs =

@@ -1,6 +1,6 @@
 -- What a call implies that returned, by what the machine says of it: one fact, or nothing. Warnings (JEP 472) are told
 -- by themselves.
-use Rattle.std.specs.Prelude.{ℕ, ℤ, ◌≡◌, ◌↔◌, ◌^◌, Bool, true, false, if◌then◌else◌, List, ◌∷◌, Option, Some, None}
+use Rattle.std.specs.Prelude.{ℕ, ℤ, Bool, true, false, if◌then◌else◌, List, ◌∷◌, Option, Some, None}
 use Rattle.std.specs.Option.{option_map}
 use Rattle.jg_words.specs.declared.thread.Tid.{Tid}
 use Rattle.jg_words.specs.declared.object.ObjId.{ObjId}
@@ -37,17 +37,14 @@ use Rattle.jg_buffers.specs.declared.family.Family.TheVariants.{Elements, Chars,
 use Rattle.jg_heap.specs.Reading.{natural}
 use Rattle.jg_rules.specs.Buffers.{is_commit}
 use Rattle.jg_rules.specs.Parts.{Parts}
-use Rattle.jg_rules.specs.Names.{object_named, class_meant, native_meant, next_ref, next_buffer}
+use Rattle.jg_rules.specs.Names.{object_count, object_named, class_meant, native_meant, next_ref, next_buffer}
 use Rattle.jg_core.specs.declared.fact.Fact.{Fact}
-use Rattle.jg_core.specs.declared.fact.Fact.TheVariants.{Begin, End, Enter, Leave, Push, Pop, Ensure, Raise, Calm, Hand, Lost, Lend, Back, Own, Free, Link, Unlink}
+use Rattle.jg_core.specs.declared.fact.Fact.TheVariants.{Begin, End, Enter, Leave, Push, Pop, Ensure, Raise, Calm, Hand, Lost, Lend, Back, Own, Free, Meet, Link, Unlink}
 use Rattle.jg_core.specs.declared.says.Says.{Says}
 use Rattle.jg_core.specs.declared.says.Says.TheVariants.{Done, Null as SaysNull, Object, Items, Threw}
 use Rattle.jg_core.specs.declared.says.Given.{Given}
-use Rattle.jg_core.specs.declared.says.Given.TheVariants.{Nothing, Reference, Buffer, Environment}
-use Rattle.jg_core.specs.declared.kernel.Untold.{Untold}
-use Rattle.jg_core.specs.declared.kernel.Untold.TheVariants.{Impossible, Full, NoMemory}
-use Rattle.jg_core.specs.Facts.{is_attached, parts_of, can_be, makes}
-use Rattle.jg_core.specs.Kernel.{CoreState, CoreStands}
+use Rattle.jg_core.specs.declared.says.Given.TheVariants.{Nothing, Reference, Buffer, Environment, Object as TheObject}
+use Rattle.jg_core.specs.Facts.{is_attached, can_be, makes}
 
 -- ---- what is said: None where no machine says so of such a call; else the fact that it implies, if it implies one
 
@@ -224,48 +221,28 @@ implied s p t (Buffers call) says = buffers_implied p t call says
 
 -- ---- what is handed out with it
 
-abbrev pub given_by : Parts → Fact → Given
-given_by p (Hand t kind o) = Reference (To kind t (next_ref p t.0))
-given_by p (Leave t (Some o)) = Reference (To Local t (next_ref p t.0))
-given_by p (Pop t (Some o)) = Reference (To Local t (next_ref p t.0))
-given_by p (Lend t family o via n) = Buffer (record { maker = t; n = next_buffer p t.0 })
-given_by p x = Nothing
-
 -- t's environment once it is attached
 abbrev pub env_given : Parts → Tid → Given
 env_given p t = Environment (record { tid = t; session = sessions (Attach ∷ acts_of t.0 p.threads) })
 
-abbrev pub given_with : Parts → Option Fact → Given
-given_with p None = Nothing
-given_with p (Some x) = given_by p x
+abbrev pub given_by : StatedSetup → Parts → Fact → Given
+given_by s p (Begin t) = env_given p t
+given_by s p (Hand t kind o) = Reference (To kind t (next_ref p t.0))
+given_by s p (Leave t (Some o)) = Reference (To Local t (next_ref p t.0))
+given_by s p (Pop t (Some o)) = Reference (To Local t (next_ref p t.0))
+given_by s p (Lend t family o via n) = Buffer (record { maker = t; n = next_buffer p t.0 })
+given_by s p (Meet class n) = TheObject (record { 0 = object_count s p })
+given_by s p x = Nothing
 
--- an attachment gives the environment, whether or not the thread had it
-abbrev pub vm_given : Parts → Tid → VmCall → Option Fact → Given
-vm_given p t AttachCurrentThread fact = env_given p t
-vm_given p t call fact = given_with p fact
-
-abbrev pub given : Parts → Tid → Call → Option Fact → Given
-given p t (Vm call) fact = vm_given p t call fact
-given p t call fact = given_with p fact
+abbrev pub given_with : StatedSetup → Parts → Option Fact → Given
+given_with s p None = Nothing
+given_with s p (Some x) = given_by s p x
 
 -- ---- what is told
 
 abbrev pub told_on : Option Fact → List Fact → List Fact
 told_on None w = w
 told_on (Some x) w = x ∷ w
-
--- the call implies this after these facts, it was told, and that was handed out
-pub record Implies (s : StatedSetup) (new : CoreState) (w : List Fact) (t : Tid) (call : Call) (says : Says)
-    (out : Given) : Type 0 where
-  pub fact : Option Fact
-  pub is : implied s (parts_of w) t call says ≡ Some fact
-  pub stands : CoreStands new (told_on fact w)
-  pub answers : out ≡ given (parts_of w) t call fact
-
--- whatever the core stood for, it stands for that with what the call implies
-pub record Did (old new : CoreState) (t : Tid) (call : Call) (says : Says) (out : Given) : Type 0 where
-  pub setup : new.setup ≡ old.setup
-  pub all : (w : List Fact) → CoreStands old w → Implies old.setup new w t call says out
 
 -- the machine may say so of the call, and what it implies, if anything, can be
 abbrev pub fact_can : StatedSetup → Parts → Option Fact → Bool
@@ -284,17 +261,3 @@ fact_makes (Some x) = makes x
 abbrev pub implies_making : Option (Option Fact) → Bool
 implies_making None = false
 implies_making (Some fact) = fact_makes fact
-
--- what the call implies to a core that stands for these facts
-abbrev pub implied_in : CoreState → List Fact → Tid → Call → Says → Option (Option Fact)
-implied_in c w t call says = implied c.setup (parts_of w) t call says
-
--- why nothing was taken of a call: exactly where no machine says so of it, or what it implies can't be; else exactly
--- where that makes something and the core is full; else where it makes something, for which memory ran out
-pub record RefusesCall (c : CoreState) (t : Tid) (call : Call) (says : Says) (why : Untold) : Type 0 where
-  pub impossible : (w : List Fact) → CoreStands c w
-      → (why ≡ Impossible) ↔ (can_imply c.setup (parts_of w) (implied_in c w t call says) ≡ false)
-  pub full : (w : List Fact) → CoreStands c w
-      → (why ≡ Full) ↔ ((can_imply c.setup (parts_of w) (implied_in c w t call says) ≡ true)
-      × (implies_making (implied_in c w t call says) ≡ true) × (c.made ≡ 2 ^ 60))
-  pub wants : why ≡ NoMemory → (w : List Fact) → CoreStands c w → implies_making (implied_in c w t call says) ≡ true

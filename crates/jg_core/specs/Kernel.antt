@@ -1,9 +1,6 @@
 -- What contracts see of a core.
-use Rattle.std.specs.Prelude.{ℕ, ◌≡◌, ◌≤◌, ◌^◌, ◌↔◌, true, false, List, ◌∷◌, Option, None, Some, nat_lt, ◌⊎◌}
-use Rattle.std.specs.Option.{option_map}
-use Rattle.jg_words.specs.declared.call.Call.{Call}
+use Rattle.std.specs.Prelude.{ℕ, ◌≡◌, ◌≤◌, ◌^◌, ◌↔◌, true, false, List, ◌∷◌, None, Some, nat_lt, ◌⊎◌}
 use Rattle.jg_words.specs.declared.object.ObjId.{ObjId}
-use Rattle.jg_words.specs.declared.thread.EnvId.{EnvId}
 use Rattle.jg_policy.specs.Stated.{StatedSetup, class_count}
 use Rattle.jg_locals.specs.History as locals
 use Rattle.jg_globals.specs.History as globals
@@ -15,11 +12,8 @@ use Rattle.jg_rules.specs.Parts.{Parts, RowsBeside, StandBeside}
 use Rattle.jg_core.specs.declared.fact.Fact.{Fact}
 use Rattle.jg_rules.specs.Holding.{is_root}
 use Rattle.jg_rules.specs.Names.{pending}
-use Rattle.jg_rules.specs.Rules.{verdict}
-use Rattle.jg_causes.specs.Breaches.{place_meant}
 use Rattle.jg_core.specs.declared.gone.Holder.{Holder}
 use Rattle.jg_core.specs.declared.gone.Holder.TheVariants as holder
-use Rattle.jg_core.specs.declared.kernel.Broken.{Broken}
 use Rattle.jg_core.specs.declared.kernel.Untold.{Untold}
 use Rattle.jg_core.specs.declared.kernel.Untold.TheVariants.{Impossible, Full, NoMemory}
 use Rattle.jg_core.specs.Facts.{all_gone, parts_of, can_be, makes, made_in, History}
@@ -77,8 +71,3 @@ Keeps s p o (holder.Reference r) = locals.Holds p.locals o r ⊎ globals.Holds p
 Keeps s p o (holder.Pending t) = pending p t.0 ≡ Some o
 Keeps s p o (holder.Buffer b) = buffers.IsPinOf p.buffers o b
 Keeps s p o (holder.Monitor t) = monitors.owner p.monitors o ≡ Some t.0
-
--- the first rule that the call breaks after these events, and the place of the first operand that breaks it
-abbrev pub broken : StatedSetup → Parts → ℕ → Option EnvId → Call → Option Broken
-broken s p t env call =
-    option_map (λ rule. record { rule = rule; operand = place_meant s p t call rule }) (verdict s p t env call)

@@ -1,9 +1,10 @@
+pub mod Asking
+pub mod Counts
+pub mod Denied
+pub mod Expected
 pub mod Facts
 pub mod Gone
-pub mod Counts
+pub mod Implied
+pub mod Kernel
 pub mod Laws
 pub mod Tables
-pub mod Kernel
-pub mod Implied
-pub mod Expected
-pub mod Asking

@@ -7,24 +7,26 @@ ghost use Rattle.jg_core.specs.Facts.{parts_of};
 ghost use Rattle.jg_core.specs.Kernel.{CoreStands, Stayed};
 ghost use Rattle.jg_core.specs.declared.fact.Fact.{Fact as FactOf};
 ghost use Rattle.jg_core.specs.Asking as spec;
+ghost use Rattle.jg_functions.specs.Columns.{columns};
 ghost use Rattle.jg_objects.specs.Standing.{Tells};
 ghost use Rattle.jg_rules.specs.Parts.{Parts};
 ghost use Rattle.jg_rules.specs.View.{ViewTells};
 ghost use Rattle.jg_threads.specs.Rows.{CanCount};
 
+use crate::denied::{denied_as, doer};
 use crate::expected::{Expected, expected_of, told};
 use crate::fact::Fact;
 use crate::implied::given_with;
 use crate::kernel::{Core, Untold};
 use crate::says::{Given, Says};
-use jg_functions::row_of;
+use jg_functions::{Row, row_of};
 use jg_objects::Objects;
-use jg_questions::{Argument, Bounds, Verdict, culprit, first_reference, verdict_on};
-use jg_rules::{View, object_named};
+use jg_questions::{Argument, Bounds, Broken, Verdict, first_reference, verdict_on};
+use jg_rules::{View, look_up, object_named};
 use jg_words::{EnvId, ObjId, Rule, Tid};
 use std::alloc::Allocator;
 
-/// A question that breaks no rule: by whom it was asked, and what comes of it.
+/// What comes of a call whose question was answered, once the machine made it: in which thread, and what.
 #[derive(Clone, Copy)]
 pub struct Ticket {
     pub tid: Tid,
@@ -36,8 +38,13 @@ pub struct Ticket {
 pub enum Answer {
     /// It breaks no rule.
     Passed(Ticket),
-    /// It breaks this rule first; and the place of the operand, counted from 0, that breaks it, where one does.
-    Denied { rule: Rule, operand: Option<usize> },
+    /// It breaks this rule first; and the place of the operand, counted from 0, that breaks it, where one does. The
+    /// ticket is for a machine that makes the call all the same.
+    Denied {
+        rule: Rule,
+        operand: Option<usize>,
+        ticket: Ticket,
+    },
     /// The table has no such function.
     NoFunction,
     /// The operands aren't as many as the function's, or not of their sorts.
@@ -84,11 +91,32 @@ fn given_for<A: Allocator + Clone>(
     fact: Option<Fact>,
 ) -> Given
     requires { (t : ℕ) → CanCount view.now.threads.now t }
-    ensures { (p : Parts) → ViewTells Tells view.now p → result ≡ spec.given_for p ticket fact }
+    ensures { (p : Parts) → ViewTells Tells view.now p → result ≡ spec.given_for view.now.setup.now p ticket fact }
 {
     match ticket.expected {
         Expected::Attached(_) => { Given::Environment(view.threads.env_once_attached(ticket.tid)) }
         _ => given_with(view, fact),
+    }
+}
+
+/// What comes of a denied call that is made all the same.
+fn denied_ticket<A: Allocator + Clone>(
+    view: &View<'_, A, Objects<A>>,
+    tid: Tid,
+    env: Option<EnvId>,
+    row: &Row,
+    arguments: &[Argument],
+    rule: Rule,
+) -> Ticket
+    ensures { (p : Parts) → ViewTells Tells view.now p → result
+        ≡ spec.denied_ticket view.now.setup.now p tid env (columns row.now) arguments.now rule }
+{
+    let tid = doer(rule, tid, env);
+    let named = look_up(view, tid, first_reference(arguments));
+    let passed = expected_of(view, tid, row, named, arguments);
+    Ticket {
+        tid,
+        expected: denied_as(rule, row.effect, tid, passed, arguments),
     }
 }
 
@@ -112,10 +140,14 @@ impl<A: Allocator + Clone> Core<A> {
             None => Answer::NoFunction,
             Some(row) => match verdict_on(&view, bounds, tid, env, row, arguments) {
                 Verdict::Misfit => Answer::Misfit,
-                Verdict::Broken(rule) => Answer::Denied {
-                    rule,
-                    operand: culprit(&view, bounds, tid, rule, row.takes, arguments),
-                },
+                Verdict::Broken(Broken { rule, operand }) => {
+                    let ticket = denied_ticket(&view, tid, env, row, arguments, rule);
+                    Answer::Denied {
+                        rule,
+                        operand,
+                        ticket,
+                    }
+                }
                 Verdict::Passed(named) => Answer::Passed(Ticket {
                     tid,
                     expected: expected_of(&view, tid, row, named, arguments),
@@ -124,8 +156,14 @@ impl<A: Allocator + Clone> Core<A> {
         }
     }
 
-    /// Takes what a passed question implies that returned, by what the machine says of it, and answers the name of what
-    /// it handed out. It is taken as [`Core::did`] takes a call, and refused so.
+    /// Takes what a question's call implies that returned, by what the machine says of it, and answers the name of what
+    /// it handed out (chapter 4; chapter 5, "Invocation API Functions"). It implies one fact at the most, so all of it
+    /// is taken or nothing. It is [`Untold::Impossible`] where no machine says so of such a call, as that a deletion
+    /// answered an object, and where an operand that it was done to named no object; else it is refused as
+    /// [`Core::tell`] refuses the fact.
+    ///
+    /// An object that the machine answers or throws is told first, by [`Core::meet`] where it is new. What the
+    /// collector let go is told by [`Core::gone`], and what a module was warned of by [`Core::tell`].
     pub fn returned(&mut self, ticket: Ticket, says: Says) -> Result<Given, Untold>
         ensures ok { IfOk result (λ out. Returned self.old self.new ticket says out) }
         ensures err { OnErr result (Stayed self.old self.new) }
@@ -139,7 +177,7 @@ impl<A: Allocator + Clone> Core<A> {
         let Some(fact) = fact else {
             return Ok(out);
         };
-        match self.tell(fact) {
+        match self.take_fact(fact) {
             Ok(()) => Ok(out),
             Err(why) => Err(why),
         }

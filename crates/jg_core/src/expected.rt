@@ -1,4 +1,4 @@
-//! What comes of a question that breaks no rule.
+//! What comes of a call whose question was answered.
 
 ghost use Rattle.std.specs.Prelude.{◌≡◌};
 ghost use Rattle.std.specs.Option.{option_map};
@@ -52,6 +52,32 @@ pub enum Expected {
     Popped,
     /// Nobody calls it.
     Never,
+    /// Nothing is told of it, whatever the machine says.
+    Nothing,
+    /// Nothing is told of it, unless it threw.
+    Thrown,
+    /// That is so, if anything, where the machine says that it has ended, which it says by null; or it threw.
+    IfEnded(Option<Fact>),
+}
+
+/// Nothing is told, unless it threw.
+fn thrown_only(tid: Tid, says: Says) -> Option<Fact>
+    ensures { result ≡ spec.thrown_only tid says }
+{
+    match says {
+        Says::Threw(object) => Some(Fact::Raise { tid, object }),
+        _ => None,
+    }
+}
+
+/// That is so where it has ended.
+fn if_ended(tid: Tid, fact: Option<Fact>, says: Says) -> Option<Fact>
+    ensures { result ≡ spec.if_ended tid fact says }
+{
+    match says {
+        Says::Null => fact,
+        _ => thrown_only(tid, says),
+    }
 }
 
 /// What the machine's answer implies, where so much was expected: None where no machine says so; else the fact, if any.
@@ -72,6 +98,9 @@ pub fn told(tid: Tid, expected: Expected, says: Says) -> Option<Option<Fact>>
         Expected::Left => leaving(tid, says),
         Expected::Popped => popping(tid, says),
         Expected::Never => None,
+        Expected::Nothing => Some(None),
+        Expected::Thrown => Some(thrown_only(tid, says)),
+        Expected::IfEnded(fact) => Some(if_ended(tid, fact, says)),
     }
 }
 
@@ -103,7 +132,7 @@ fn freed(tid: Tid, object: Option<ObjId>) -> Expected
 }
 
 /// The buffer that is given back, if an operand is one.
-fn back(mode: i32, buffer: Option<BufId>) -> Option<Fact>
+pub(crate) fn back(mode: i32, buffer: Option<BufId>) -> Option<Fact>
     ensures { result ≡ spec.back mode buffer }
 {
     match buffer {

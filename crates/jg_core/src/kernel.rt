@@ -6,23 +6,24 @@ ghost use Rattle.jg_threads.specs.History.{sessions, acts_of, Attach};
 ghost use Rattle.jg_words.specs.declared.reference.Kind.TheVariants.{Local};
 ghost use Rattle.jg_words.specs.declared.reference.Ref.TheVariants.{To};
 ghost use Rattle.jg_rules.specs.Names.{next_ref, next_buffer, object_count};
-ghost use Rattle.jg_rules.specs.Rules.{verdict};
 ghost use Rattle.jg_rules.specs.View.{ViewTells};
 ghost use Rattle.jg_objects.specs.Standing.{Tells};
 ghost use Rattle.jg_questions.specs.Kinds.{own_class};
 ghost use Rattle.jg_core.specs.declared.fact.Fact.TheVariants.{Begin, Hand, Leave, Lend, Meet, Pop};
 ghost use Rattle.jg_core.specs.Facts.{first_held, parts_of};
-ghost use Rattle.jg_core.specs.Kernel.{broken, CoreStands, Keeps, Took, TookAll, Stayed, Refuses};
+ghost use Rattle.jg_core.specs.Implied.{given_by};
+ghost use Rattle.jg_core.specs.Kernel.{CoreStands, Keeps, Took, TookAll, Stayed, Refuses};
 ghost use Rattle.jg_core.specs.Laws.{handed_out};
 ghost use Rattle.jg_leaks.specs.Left.{AreLeft};
 
 use crate::fact::Fact;
 use crate::gone::{StillHeld, let_all_go};
+use crate::implied::given_by;
 use crate::possible::{can_be, makes};
+use crate::says::Given;
 use crate::tables::Tables;
 use crate::take::take;
 use jg_buffers::{Buffers, Family};
-use jg_causes::place_meant;
 use jg_globals::Globals;
 use jg_leaks::{Leaks, list_left};
 use jg_locals::Locals;
@@ -30,9 +31,9 @@ use jg_monitors::Monitors;
 use jg_objects::Objects;
 use jg_policy::{Links, Setup};
 use jg_questions::OwnKind;
-use jg_rules::{View, first_broken};
+use jg_rules::View;
 use jg_threads::Threads;
-use jg_words::{BufId, Call, EnvId, Kind, ObjId, Ref, Rule, Tid};
+use jg_words::{BufId, EnvId, Kind, ObjId, Ref, Tid};
 use std::alloc::{AllocError, Allocator, Global};
 use std::marker::Model;
 
@@ -48,15 +49,6 @@ pub enum Untold {
     Full,
     /// It makes something, for which memory ran out.
     NoMemory,
-}
-
-/// The first rule that a call breaks.
-#[derive(Clone, Copy, Debug, PartialEq, Eq)]
-pub struct Broken {
-    pub rule: Rule,
-    /// The first reference among the call's operands, from the left, that breaks it: its place, from 0. `None` where
-    /// the rule speaks of no operand alone.
-    pub operand: Option<usize>,
 }
 
 /// What a virtual machine said, as far as judging calls needs it. It takes memory by what is live, and none by
@@ -160,34 +152,23 @@ impl<A: Allocator + Clone> Core<A> {
         self.tables.view(&self.setup)
     }
 
-    /// The first rule that the call would break now, made by this thread with this environment; `None` where it
-    /// breaks none. A question changes nothing. Ask when the call begins.
-    pub fn judge(&self, tid: Tid, env: Option<EnvId>, call: &Call) -> Option<Rule>
-        ensures { (w : List Fact) → CoreStands self.now w
-            → result ≡ verdict self.now.setup (parts_of w) tid.0 env call.now }
+    /// Takes a fact, and answers the name of what it hands out. It is refused where it can't be, else where it makes
+    /// something and the core is full or memory runs out; then nothing has changed. What ends something is never
+    /// refused for want of either.
+    pub fn tell(&mut self, fact: Fact) -> Result<Given, Untold>
+        ensures ok { OnOk result (Took self.old self.new fact) }
+        ensures given { IfOk result (λ out. (w : List Fact) → CoreStands self.old w
+            → out ≡ given_by self.old.setup (parts_of w) fact) }
+        ensures err { OnErr result (Stayed self.old self.new) }
+        ensures why { IfErr result (Refuses self.old fact) }
     {
-        first_broken(&self.tables.view(&self.setup), tid, env, call)
+        let out = given_by(&self.tables.view(&self.setup), fact);
+        self.take_fact(fact)?;
+        Ok(out)
     }
 
-    /// As [`Core::judge`], with the operand that breaks the rule, the first from the left, where the rule speaks of one
-    /// operand.
-    pub fn judge_by(&self, tid: Tid, env: Option<EnvId>, call: &Call) -> Option<Broken>
-        ensures { (w : List Fact) → CoreStands self.now w
-            → result ≡ broken self.now.setup (parts_of w) tid.0 env call.now }
-    {
-        let view = self.tables.view(&self.setup);
-        match first_broken(&view, tid, env, call) {
-            None => None,
-            Some(rule) => Some(Broken {
-                rule,
-                operand: place_meant(&view, tid, call, rule),
-            }),
-        }
-    }
-
-    /// Takes a fact. It is refused where it can't be, else where it makes something and the core is full or memory
-    /// runs out; then nothing has changed. What ends something is never refused for want of either.
-    pub fn tell(&mut self, fact: Fact) -> Result<(), Untold>
+    /// Takes a fact as [`Core::tell`] does.
+    pub(crate) fn take_fact(&mut self, fact: Fact) -> Result<(), Untold>
         ensures ok { OnOk result (Took self.old self.new fact) }
         ensures err { OnErr result (Stayed self.old self.new) }
         ensures why { IfErr result (Refuses self.old fact) }
@@ -226,7 +207,7 @@ impl<A: Allocator + Clone> Core<A> {
         ensures why { IfErr result (Refuses self.old (Begin tid)) }
     {
         let env = self.tables.threads.env_once_attached(tid);
-        self.tell(Fact::Begin(tid))?;
+        self.take_fact(Fact::Begin(tid))?;
         Ok(env)
     }
 
@@ -240,7 +221,7 @@ impl<A: Allocator + Clone> Core<A> {
         ensures why { IfErr result (Refuses self.old (Leave tid kept)) }
     {
         let n = self.tables.threads.next_ref(tid);
-        self.tell(Fact::Leave { tid, kept })?;
+        self.take_fact(Fact::Leave { tid, kept })?;
         Ok(local_of(tid, n, kept))
     }
 
@@ -254,7 +235,7 @@ impl<A: Allocator + Clone> Core<A> {
         ensures why { IfErr result (Refuses self.old (Pop tid kept)) }
     {
         let n = self.tables.threads.next_ref(tid);
-        self.tell(Fact::Pop { tid, kept })?;
+        self.take_fact(Fact::Pop { tid, kept })?;
         Ok(local_of(tid, n, kept))
     }
 
@@ -267,7 +248,7 @@ impl<A: Allocator + Clone> Core<A> {
         ensures why { IfErr result (Refuses self.old (Hand tid kind object)) }
     {
         let n = self.tables.threads.next_ref(tid);
-        self.tell(Fact::Hand { tid, kind, object })?;
+        self.take_fact(Fact::Hand { tid, kind, object })?;
         Ok(Ref::To {
             kind,
             maker: tid,
@@ -292,7 +273,7 @@ impl<A: Allocator + Clone> Core<A> {
         ensures why { IfErr result (Refuses self.old (Lend tid family object via length)) }
     {
         let n = self.tables.threads.next_buf(tid);
-        self.tell(Fact::Lend {
+        self.take_fact(Fact::Lend {
             tid,
             family,
             object,
@@ -312,7 +293,7 @@ impl<A: Allocator + Clone> Core<A> {
         ensures why { IfErr result (Refuses self.old (Meet class length)) }
     {
         let object = ObjId(self.tables.objects.len());
-        self.tell(Fact::Meet { class, length })?;
+        self.take_fact(Fact::Meet { class, length })?;
         Ok(object)
     }
 }

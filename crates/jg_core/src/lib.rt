@@ -3,7 +3,7 @@
 #![tactic(auto)]
 
 mod asking;
-mod did;
+mod denied;
 mod expected;
 mod fact;
 mod gone;
@@ -19,7 +19,7 @@ pub use asking::{Answer, Ended, Ticket};
 pub use expected::{Expected, told};
 pub use fact::{Checked, Fact};
 pub use gone::{Holder, StillHeld};
-pub use kernel::{Broken, Core, Untold};
+pub use kernel::{Core, Untold};
 pub use promises::{
     classes_are_stated, gone_stays_gone, held_is_here, live_is_here, no_reference_revived,
     no_reference_twice, one_owner, questions_are_judged_as_calls, questions_are_told_as_calls,

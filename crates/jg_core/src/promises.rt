@@ -43,7 +43,7 @@ pub fn classes_are_stated()
     ensures { ClassesStated }
 {}
 
-/// What is told of a call's question that returned is what [`Core::did`](crate::Core::did) takes of the call.
+/// What is told of a call's question that returned is what the call implies.
 pub fn questions_are_told_as_calls()
     ensures { ToldAsCalls }
 {}

@@ -17,7 +17,7 @@ pub enum Says {
     Threw(ObjId),
 }
 
-/// What the core answers: the name that it has for what the call handed out.
+/// What the core answers: the name that it has for what a call or a fact handed out.
 #[derive(Clone, Copy, PartialEq, Eq)]
 pub enum Given {
     Nothing,
@@ -25,4 +25,6 @@ pub enum Given {
     Buffer(BufId),
     /// The environment of the thread that was attached.
     Environment(EnvId),
+    /// The object that was met.
+    Object(ObjId),
 }

@@ -92,4 +92,4 @@ asked_alike s h t env call place legal at =
     let same = facts_read_alike s h legal in
     let stated : AreStated s p = λ o. subst (λ (class : ℕ). class < class_count s) (sym (same.classes o)) (classes_are_stated s h o legal) in
     asked_as_calls s p t env call place stated at
-    ∙ ap (by_verdict written_bounds s p t (row_for (fun_of call)) (arguments_of s p t.0 call)) (judged_alike s h t.0 env call legal)
+    ∙ ap (by_verdict written_bounds s p t env (row_for (fun_of call)) (arguments_of s p t.0 call)) (judged_alike s h t.0 env call legal)

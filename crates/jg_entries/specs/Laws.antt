@@ -45,5 +45,5 @@ abbrev pub AskedAlike : Type 0
 AskedAlike = (s : StatedSetup) (h : List Entry) (t : Tid) (env : Option EnvId) (call : Call) (place : ℕ) → Legal s h
     → slice_get functions place ≡ Some (row_for (fun_of call))
     → asked written_bounds s (parts_of (facts_of s h)) t env place (arguments_of s (parts_of (facts_of s h)) t.0 call)
-    ≡ by_verdict written_bounds s (parts_of (facts_of s h)) t (row_for (fun_of call))
+    ≡ by_verdict written_bounds s (parts_of (facts_of s h)) t env (row_for (fun_of call))
     (arguments_of s (parts_of (facts_of s h)) t.0 call) (verdict s (parts s h) t.0 env call)

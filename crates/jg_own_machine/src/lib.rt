@@ -2,18 +2,17 @@
 #![tactic(auto)]
 
 ghost use Rattle.std.specs.Prelude.{◌≡◌, List, [], ◌∷◌, Some, IfOk, OnOk, OnErr};
-ghost use Rattle.jg_words.specs.declared.call.Call.TheVariants.{Arrays, Refs};
-ghost use Rattle.jg_words.specs.declared.call.arrays.ArraysCall.TheVariants.{GetArrayLength, NewArray};
-ghost use Rattle.jg_words.specs.declared.call.refs.RefsCall.TheVariants.{DeleteLocalRef};
-ghost use Rattle.jg_words.specs.declared.object.Primitive.TheVariants.{Int};
+ghost use Rattle.jg_questions.specs.declared.argument.Argument.TheVariants.{Number, Reference};
 ghost use Rattle.jg_core.specs.declared.fact.Fact.TheVariants.{Begin, Lost};
 ghost use Rattle.jg_core.specs.Facts.{parts_of};
-ghost use Rattle.jg_core.specs.Kernel.{broken, CoreStands, Stayed, Took, TookAll};
-ghost use Rattle.jg_own_machine.specs.Asked.{array_at, IsAsked, IsKnown, IsTold};
+ghost use Rattle.jg_core.specs.Asking.{asked};
+ghost use Rattle.jg_core.specs.Kernel.{CoreStands, Stayed, Took, TookAll};
+ghost use Rattle.jg_own_machine.specs.Asked.{array_at, found_by, IsAsked, IsKnown, IsTold};
 
-use jg_core::{Broken, Checked, Core, Fact, StillHeld, Untold};
+use jg_core::{Answer, Checked, Core, Fact, StillHeld, Untold};
 use jg_policy::Setup;
-use jg_words::{ArraysCall, Call, EnvId, Kind, ObjId, Primitive, Ref, RefsCall, Tid};
+use jg_questions::{Argument, Bounds, Broken};
+use jg_words::{EnvId, Kind, ObjId, Ref, Tid};
 use std::alloc::Global;
 
 /// The machine's only thread.
@@ -21,6 +20,20 @@ const THREAD: Tid = Tid(1);
 
 /// The number of the class of arrays of `int`.
 const INTS: u32 = 8;
+
+/// The places of the functions in the table.
+const DELETE_LOCAL_REF: u16 = 16;
+
+const GET_ARRAY_LENGTH: u16 = 174;
+
+const NEW_INT_ARRAY: u16 = 182;
+
+/// The machine bounds nothing.
+const UNBOUNDED: Bounds = Bounds {
+    capacity: i32::MAX,
+    length: i32::MAX,
+    items: i32::MAX,
+};
 
 /// A handle that the machine hands out.
 pub type Handle = usize;
@@ -91,12 +104,20 @@ impl Machine {
         })
     }
 
-    /// The rule that the call would break now, if it would break one.
-    fn ask(&self, call: Call) -> Option<Broken>
-        ensures { (w : List Fact) → CoreStands self.now.core w
-            → result ≡ broken self.now.core.setup (parts_of w) 1 (Some self.now.env) call }
+    /// The rule that a call of the function with this operand would break now, if it would break one, and the operand
+    /// if that does. `Impossible` where the function has other operands.
+    fn ask(&self, function: u16, operand: Argument) -> Result<Option<Broken>, Untold>
+        ensures { (w : List Fact) → CoreStands self.now.core w → result ≡ found_by
+            (asked UNBOUNDED self.now.core.setup (parts_of w) THREAD (Some self.now.env) function (operand ∷ [])) }
     {
-        self.core.judge_by(THREAD, Some(self.env), &call)
+        match self
+            .core
+            .ask(UNBOUNDED, THREAD, Some(self.env), function, &[operand])
+        {
+            Answer::Passed(_) => Ok(None),
+            Answer::Denied { rule, operand, .. } => Ok(Some(Broken { rule, operand })),
+            Answer::NoFunction | Answer::Misfit => Err(Untold::Impossible),
+        }
     }
 
     /// What is behind the handle.
@@ -108,14 +129,12 @@ impl Machine {
 
     /// Makes an array (chapter 4, `NewIntArray`). The core is told of it before anybody has its handle.
     pub fn new_array(&mut self, length: i32) -> Result<Result<Handle, Broken>, Untold>
-        ensures asked { IsAsked self.old.core self.old.env (Arrays (NewArray Int length)) result }
+        ensures asked { IsAsked self.old.core self.old.env NEW_INT_ARRAY (Number length) result }
         ensures still { IfOk result (λ answer. OnErr answer (self.new ≡ self.old)) }
         ensures told { IfOk result (λ answer. IfOk answer (λ handle. IsTold self.old.core self.new.core
             (array_at self.new.arrays.items handle))) }
     {
-        let element = Primitive::Int;
-        let call = Call::Arrays(ArraysCall::NewArray { element, length });
-        if let Some(broken) = self.ask(call) {
+        if let Some(broken) = self.ask(NEW_INT_ARRAY, Argument::Number(length))? {
             return Ok(Err(broken));
         }
         self.arrays.reserve(1).map_err(|_| Untold::NoMemory)?;
@@ -127,8 +146,8 @@ impl Machine {
 
     /// Reads an array's length (chapter 4, `GetArrayLength`). The core compares it with what it was told.
     pub fn array_length(&mut self, handle: Handle) -> Result<Result<u32, Broken>, Untold>
-        ensures asked { IsAsked self.old.core self.old.env
-            (Arrays (GetArrayLength (array_at self.old.arrays.items handle).name)) result }
+        ensures asked { IsAsked self.old.core self.old.env GET_ARRAY_LENGTH
+            (Reference (array_at self.old.arrays.items handle).name) result }
         ensures still { IfOk result (λ answer. OnErr answer (self.new ≡ self.old)) }
         ensures answered { IfOk result (λ answer. IfOk answer (λ length.
             IsKnown self.old.core (array_at self.old.arrays.items handle).object length)) }
@@ -138,8 +157,7 @@ impl Machine {
             object,
             name,
         } = self.array_at(handle);
-        let call = Call::Arrays(ArraysCall::GetArrayLength { array: name });
-        if let Some(broken) = self.ask(call) {
+        if let Some(broken) = self.ask(GET_ARRAY_LENGTH, Argument::Reference(name))? {
             return Ok(Err(broken));
         }
         let check = Checked::Length { object, length };
@@ -149,16 +167,15 @@ impl Machine {
 
     /// Ends a handle (chapter 4, `DeleteLocalRef`). What ends is told before it does.
     pub fn delete(&mut self, handle: Handle) -> Result<Result<(), Broken>, Untold>
-        ensures asked { IsAsked self.old.core self.old.env
-            (Refs (DeleteLocalRef (array_at self.old.arrays.items handle).name)) result }
+        ensures asked { IsAsked self.old.core self.old.env DELETE_LOCAL_REF
+            (Reference (array_at self.old.arrays.items handle).name) result }
         ensures still { IfOk result (λ answer. OnErr answer (self.new ≡ self.old)) }
         ensures told { IfOk result (λ answer. OnOk answer
             (Took self.old.core self.new.core (Lost (array_at self.old.arrays.items handle).name))) }
         ensures kept { OnErr result (Stayed self.old.core self.new.core) }
     {
         let Array { object, name, .. } = self.array_at(handle);
-        let call = Call::Refs(RefsCall::DeleteLocalRef { of: name });
-        if let Some(broken) = self.ask(call) {
+        if let Some(broken) = self.ask(DELETE_LOCAL_REF, Argument::Reference(name))? {
             return Ok(Err(broken));
         }
         self.garbage.reserve(1).map_err(|_| Untold::NoMemory)?;

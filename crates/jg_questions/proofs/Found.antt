@@ -1,7 +1,10 @@
 -- What one pass over the operands finds is what each rule says of all of them.
-use Rattle.std.proofs.Common.{◌≡◌, ℕ, Bool, true, false, List, [], ◌∷◌, map, refl, ap, ◌∙◌, subst, sym}
+use Rattle.std.proofs.Common.{◌≡◌, ◌∙◌, ◌+◌, ℕ, Bool, true, false, List, [], ◌∷◌, Option, Some, None, map, refl, ap, subst, sym}
 use Rattle.std.specs.Prelude.{◌&&◌, ◌||◌, not, if◌then◌else◌}
 use Rattle.std.specs.List.{list_any}
+use Rattle.std.specs.Option.{is_some, option_or}
+use Rattle.jg_words.specs.declared.rule.Rule.{Rule}
+use Rattle.jg_words.specs.declared.rule.Rule.TheVariants.{ForeignLocal, DeadReference, NullReference, WrongType, BadField, BadBuffer, BadArgument}
 use Rattle.jg_policy.specs.Stated.{StatedSetup}
 use Rattle.jg_rules.specs.Parts.{Parts}
 use Rattle.jg_rules.specs.Names.{names}
@@ -9,29 +12,11 @@ use Rattle.jg_rules.specs.Rules.{is_foreign, is_nothing, is_null}
 use Rattle.jg_functions.specs.declared.row.Takes.{Takes}
 use Rattle.jg_questions.specs.declared.argument.Argument.{Argument}
 use Rattle.jg_questions.specs.declared.faults.Faults.{Faults}
+use Rattle.jg_questions.specs.declared.faults.Places.{Places}
 use Rattle.jg_questions.specs.declared.faults.Beside.{Beside}
 use Rattle.jg_questions.specs.Asked.{judged_of, is_last, paired}
 use Rattle.jg_questions.specs.Broken.{is_wrong_kind, is_unfit, is_wrong_buffer, is_out_of_bounds}
-use Rattle.jg_questions.specs.Faults.{faults_of, faults_in, either, no_faults}
-
-or_assoc : (a b c : Bool) → ((a || b) || c) ≡ (a || (b || c))
-or_assoc true b c = refl
-or_assoc false b c = refl
-
-pub either_assoc : (a b c : Faults) → either (either a b) c ≡ either a (either b c)
-either_assoc a b c =
-    rw (
-      or_assoc a.foreign_local b.foreign_local c.foreign_local,
-      or_assoc a.dead_reference b.dead_reference c.dead_reference,
-      or_assoc a.null_reference b.null_reference c.null_reference,
-      or_assoc a.wrong_type b.wrong_type c.wrong_type,
-      or_assoc a.bad_field b.bad_field c.bad_field,
-      or_assoc a.bad_buffer b.bad_buffer c.bad_buffer,
-      or_assoc a.bad_argument b.bad_argument c.bad_argument,
-    ) refl
-
-pub none_either : (a : Faults) → either no_faults a ≡ a
-none_either a = refl
+use Rattle.jg_questions.specs.Faults.{faults_of, faults_in, either, no_faults, breaks, first_that, places_from, or_here, with_one}
 
 -- what all operands break, rule by rule
 abbrev pub told : StatedSetup → Parts → ℕ → Beside → List (Takes × Argument) → Faults
@@ -49,33 +34,122 @@ pub each_found : (s : StatedSetup) (p : Parts) (t : ℕ) (beside : Beside) (xs :
 each_found s p t beside [] = refl
 each_found s p t beside (x ∷ xs) = ap (either (faults_of s p t beside x.0 x.1)) (each_found s p t beside xs)
 
+-- ---- the places
+
+-- those that were found first, and where there is none the later ones
+abbrev pub joined : Places → Places → Places
+joined a b = record {
+  foreign_local = option_or a.foreign_local b.foreign_local;
+  dead_reference = option_or a.dead_reference b.dead_reference;
+  null_reference = option_or a.null_reference b.null_reference;
+  wrong_type = option_or a.wrong_type b.wrong_type;
+  bad_field = option_or a.bad_field b.bad_field;
+  bad_buffer = option_or a.bad_buffer b.bad_buffer;
+  bad_argument = option_or a.bad_argument b.bad_argument;
+}
+
+or_none : (a : Option ℕ) → option_or a None ≡ a
+or_none None = refl
+or_none (Some n) = refl
+
+or_later : (a : Option ℕ) (n : ℕ) (b : Bool) (later : Option ℕ) → option_or (or_here a n b) later ≡ option_or a (if b then Some n else later)
+or_later (Some i) n true later = refl
+or_later (Some i) n false later = refl
+or_later None n true later = refl
+or_later None n false later = refl
+
 -- one operand more: what was found before it, and what it breaks itself
-one_more : (s : StatedSetup) (p : Parts) (t : ℕ) (beside : Beside) (faults found more all : Faults) (takes : Takes) (x : Argument) (wanted later_takes : List Takes) (rest later : List Argument)
-    → wanted ≡ takes ∷ later_takes → rest ≡ x ∷ later → more ≡ either faults found → found ≡ faults_of s p t beside takes x
-    → either faults (faults_in s p t beside (paired wanted rest)) ≡ all
-    → either more (faults_in s p t beside (paired (if is_last takes then takes ∷ later_takes else later_takes) later)) ≡ all
-one_more s p t beside faults found more all takes x wanted later_takes rest later wanted_is rest_is more_is found_is so_far =
-    let left : Faults = faults_in s p t beside (paired (if is_last takes then takes ∷ later_takes else later_takes) later) in
-    let now : either faults (faults_in s p t beside (paired (takes ∷ later_takes) (x ∷ later))) ≡ all =
-    subst (λ w. either faults (faults_in s p t beside (paired w (x ∷ later))) ≡ all) wanted_is
-    (subst (λ r. either faults (faults_in s p t beside (paired wanted r)) ≡ all) rest_is so_far) in
-    ap (λ f. either f left) more_is ∙ (either_assoc faults found left ∙ (ap (λ f. either faults (either f left)) found_is ∙ now))
+one_joined : (s : StatedSetup) (p : Parts) (t : ℕ) (beside : Beside) (a : Places) (n : ℕ) (x : Takes × Argument) (xs : List (Takes × Argument))
+    → joined (with_one a n (faults_of s p t beside x.0 x.1)) (places_from s p t beside (n + 1) xs) ≡ joined a (places_from s p t beside n (x ∷ xs))
+one_joined s p t beside a n x xs =
+    let f : Faults = faults_of s p t beside x.0 x.1 in
+    let later : Places = places_from s p t beside (n + 1) xs in
+    rw (
+      or_later a.foreign_local n f.foreign_local later.foreign_local,
+      or_later a.dead_reference n f.dead_reference later.dead_reference,
+      or_later a.null_reference n f.null_reference later.null_reference,
+      or_later a.wrong_type n f.wrong_type later.wrong_type,
+      or_later a.bad_field n f.bad_field later.bad_field,
+      or_later a.bad_buffer n f.bad_buffer later.bad_buffer,
+      or_later a.bad_argument n f.bad_argument later.bad_argument,
+    ) refl
 
-pub one_more_of_others : (s : StatedSetup) (p : Parts) (t : ℕ) (beside : Beside) (faults found more all : Faults) (takes : Takes) (x : Argument) (wanted later_takes : List Takes)
-    (rest later : List Argument)
-    → wanted ≡ takes ∷ later_takes → rest ≡ x ∷ later → more ≡ either faults found → found ≡ faults_of s p t beside takes x
-    → either faults (faults_in s p t beside (paired wanted rest)) ≡ all → is_last takes ≡ false
-    → either more (faults_in s p t beside (paired later_takes later)) ≡ all
-one_more_of_others s p t beside faults found more all takes x wanted later_takes rest later wanted_is rest_is more_is found_is so_far last =
-    subst (λ b. either more (faults_in s p t beside (paired (if b then takes ∷ later_takes else later_takes) later)) ≡ all) last
-    (one_more s p t beside faults found more all takes x wanted later_takes rest later wanted_is rest_is more_is found_is so_far)
+one_more : (s : StatedSetup) (p : Parts) (t : ℕ) (beside : Beside) (places more all : Places) (found : Faults) (n : ℕ) (takes : Takes) (x : Argument)
+    (wanted later_takes : List Takes) (rest later : List Argument)
+    → wanted ≡ takes ∷ later_takes → rest ≡ x ∷ later → more ≡ with_one places n found → found ≡ faults_of s p t beside takes x
+    → joined places (places_from s p t beside n (paired wanted rest)) ≡ all
+    → joined more (places_from s p t beside (n + 1) (paired (if is_last takes then takes ∷ later_takes else later_takes) later)) ≡ all
+one_more s p t beside places more all found n takes x wanted later_takes rest later wanted_is rest_is more_is found_is so_far =
+    let left : List (Takes × Argument) = paired (if is_last takes then takes ∷ later_takes else later_takes) later in
+    let now : joined places (places_from s p t beside n (paired (takes ∷ later_takes) (x ∷ later))) ≡ all =
+    subst (λ w. joined places (places_from s p t beside n (paired w (x ∷ later))) ≡ all) wanted_is
+    (subst (λ r. joined places (places_from s p t beside n (paired wanted r)) ≡ all) rest_is so_far) in
+    ap (λ m. joined m (places_from s p t beside (n + 1) left)) (more_is ∙ ap (with_one places n) found_is)
+    ∙ (one_joined s p t beside places n (takes, x) left ∙ now)
 
-pub one_more_argument : (s : StatedSetup) (p : Parts) (t : ℕ) (beside : Beside) (faults found more all : Faults) (takes : Takes) (x : Argument) (wanted later_takes : List Takes)
-    (rest later : List Argument)
-    → wanted ≡ takes ∷ later_takes → rest ≡ x ∷ later → more ≡ either faults found → found ≡ faults_of s p t beside takes x
-    → either faults (faults_in s p t beside (paired wanted rest)) ≡ all → is_last takes ≡ true
-    → either more (faults_in s p t beside (paired wanted later)) ≡ all
-one_more_argument s p t beside faults found more all takes x wanted later_takes rest later wanted_is rest_is more_is found_is so_far last =
-    subst (λ w. either more (faults_in s p t beside (paired w later)) ≡ all) (sym wanted_is)
-    (subst (λ b. either more (faults_in s p t beside (paired (if b then takes ∷ later_takes else later_takes) later)) ≡ all) last
-    (one_more s p t beside faults found more all takes x wanted later_takes rest later wanted_is rest_is more_is found_is so_far))
+pub one_more_of_others : (s : StatedSetup) (p : Parts) (t : ℕ) (beside : Beside) (places more all : Places) (found : Faults) (n : ℕ) (takes : Takes) (x : Argument)
+    (wanted later_takes : List Takes) (rest later : List Argument)
+    → wanted ≡ takes ∷ later_takes → rest ≡ x ∷ later → more ≡ with_one places n found → found ≡ faults_of s p t beside takes x
+    → joined places (places_from s p t beside n (paired wanted rest)) ≡ all → is_last takes ≡ false
+    → joined more (places_from s p t beside (n + 1) (paired later_takes later)) ≡ all
+one_more_of_others s p t beside places more all found n takes x wanted later_takes rest later wanted_is rest_is more_is found_is so_far last =
+    subst (λ b. joined more (places_from s p t beside (n + 1) (paired (if b then takes ∷ later_takes else later_takes) later)) ≡ all) last
+    (one_more s p t beside places more all found n takes x wanted later_takes rest later wanted_is rest_is more_is found_is so_far)
+
+pub one_more_argument : (s : StatedSetup) (p : Parts) (t : ℕ) (beside : Beside) (places more all : Places) (found : Faults) (n : ℕ) (takes : Takes) (x : Argument)
+    (wanted later_takes : List Takes) (rest later : List Argument)
+    → wanted ≡ takes ∷ later_takes → rest ≡ x ∷ later → more ≡ with_one places n found → found ≡ faults_of s p t beside takes x
+    → joined places (places_from s p t beside n (paired wanted rest)) ≡ all → is_last takes ≡ true
+    → joined more (places_from s p t beside (n + 1) (paired wanted later)) ≡ all
+one_more_argument s p t beside places more all found n takes x wanted later_takes rest later wanted_is rest_is more_is found_is so_far last =
+    subst (λ w. joined more (places_from s p t beside (n + 1) (paired w later)) ≡ all) (sym wanted_is)
+    (subst (λ b. joined more (places_from s p t beside (n + 1) (paired (if b then takes ∷ later_takes else later_takes) later)) ≡ all) last
+    (one_more s p t beside places more all found n takes x wanted later_takes rest later wanted_is rest_is more_is found_is so_far))
+
+-- no operand more
+pub no_more : (s : StatedSetup) (p : Parts) (t : ℕ) (beside : Beside) (places all : Places) (n : ℕ) (xs : List (Takes × Argument)) → xs ≡ []
+    → joined places (places_from s p t beside n xs) ≡ all → places ≡ all
+no_more s p t beside places all n xs end so_far =
+    let none : joined places (places_from s p t beside n []) ≡ places = rw (
+      or_none places.foreign_local,
+      or_none places.dead_reference,
+      or_none places.null_reference,
+      or_none places.wrong_type,
+      or_none places.bad_field,
+      or_none places.bad_buffer,
+      or_none places.bad_argument,
+    ) refl in
+    sym none ∙ subst (λ x. joined places (places_from s p t beside n x) ≡ all) end so_far
+
+-- ---- an operand breaks a rule exactly where there is a first one that does
+
+none_breaks : (rule : Rule) → breaks rule no_faults ≡ false
+none_breaks ForeignLocal = refl
+none_breaks DeadReference = refl
+none_breaks NullReference = refl
+none_breaks WrongType = refl
+none_breaks BadField = refl
+none_breaks BadBuffer = refl
+none_breaks BadArgument = refl
+none_breaks rule = refl
+
+either_breaks : (rule : Rule) (a b : Faults) → breaks rule (either a b) ≡ (breaks rule a || breaks rule b)
+either_breaks ForeignLocal a b = refl
+either_breaks DeadReference a b = refl
+either_breaks NullReference a b = refl
+either_breaks WrongType a b = refl
+either_breaks BadField a b = refl
+either_breaks BadBuffer a b = refl
+either_breaks BadArgument a b = refl
+either_breaks rule a b = refl
+
+some_or : (b c : Bool) (n : ℕ) (later : Option ℕ) → is_some later ≡ c → is_some (if b then Some n else later) ≡ (b || c)
+some_or true c n later same = refl
+some_or false c n later same = same
+
+pub there_is_first : (s : StatedSetup) (p : Parts) (t : ℕ) (beside : Beside) (rule : Rule) (n : ℕ) (xs : List (Takes × Argument))
+    → is_some (first_that s p t beside rule n xs) ≡ breaks rule (faults_in s p t beside xs)
+there_is_first s p t beside rule n [] = sym (none_breaks rule)
+there_is_first s p t beside rule n (x ∷ xs) =
+    some_or (breaks rule (faults_of s p t beside x.0 x.1)) (breaks rule (faults_in s p t beside xs)) n (first_that s p t beside rule (n + 1) xs)
+    (there_is_first s p t beside rule (n + 1) xs) ∙ sym (either_breaks rule (faults_of s p t beside x.0 x.1) (faults_in s p t beside xs))

@@ -1,6 +1,7 @@
 -- A question passes whose operands suit and break no rule, where no rule on the caller or on what the function does is broken.
 use Rattle.std.proofs.Common.{◌≡◌, ◌∙◌, ℕ, false, List, Option, None, ap, sym}
 use Rattle.std.specs.Prelude.{if◌then◌else◌}
+use Rattle.std.specs.Option.{option_map}
 use Rattle.jg_words.specs.declared.thread.EnvId.{EnvId}
 use Rattle.jg_policy.specs.Stated.{StatedSetup}
 use Rattle.jg_rules.specs.declared.named.Named.{Named}
@@ -14,9 +15,10 @@ use Rattle.jg_questions.specs.declared.faults.Faults.{Faults}
 use Rattle.jg_questions.specs.declared.question.Verdict.TheVariants.{Misfit, Passed}
 use Rattle.jg_questions.specs.Asked.{first_reference}
 use Rattle.jg_questions.specs.Broken.{verdict, wrong_thread, detached, in_critical, while_pending, wrong_kind, of_effect}
-use Rattle.jg_questions.specs.Faults.{no_faults, of_operands}
+use Rattle.jg_questions.specs.Culprit.{first_broken, with_culprit}
+use Rattle.jg_questions.specs.Faults.{no_faults}
 use Rattle.jg_questions.specs.Sound.{AreSound, by_rule, verdict_on}
-use Rattle.jg_questions.proofs.Split.{after_four}
+use Rattle.jg_questions.proofs.Split.{after_four, of_faults}
 
 pub passes : (bounds : Bounds) (s : StatedSetup) (p : Parts) (t : ℕ) (env : Option EnvId) (row : Columns) (xs : List Argument) (named : Named)
     → wrong_thread t env row ≡ false → detached p t env row ≡ false → in_critical p t row ≡ false → while_pending p t row ≡ false
@@ -25,7 +27,7 @@ pub passes : (bounds : Bounds) (s : StatedSetup) (p : Parts) (t : ℕ) (env : Op
 passes bounds s p t env row xs named own attached outside calm are kind effect =
     let none : verdict bounds s p t env row xs ≡ None =
     after_four bounds s p t env row xs own attached outside calm
-    ∙ (ap (λ (f : Faults). first_there (of_operands f (wrong_kind row.effect (first_reference xs))) (of_effect s p t row.effect (first_reference xs) xs)) are.sound
-    ∙ (ap (λ w. first_there (of_operands no_faults w) (of_effect s p t row.effect (first_reference xs) xs)) kind ∙ effect)) in
-    ap (λ b. if b then by_rule (names p t (first_reference xs)) (verdict bounds s p t env row xs) else Misfit) are.suit
-    ∙ (ap (by_rule (names p t (first_reference xs))) none ∙ ap Passed (sym are.names))
+    ∙ (ap (λ (f : Faults). first_there (of_faults f (wrong_kind row.effect (first_reference xs))) (of_effect s p t row.effect (first_reference xs) xs)) are.sound
+    ∙ (ap (λ w. first_there (of_faults no_faults w) (of_effect s p t row.effect (first_reference xs) xs)) kind ∙ effect)) in
+    ap (λ b. if b then by_rule (names p t (first_reference xs)) (first_broken bounds s p t env row xs) else Misfit) are.suit
+    ∙ (ap (λ r. by_rule (names p t (first_reference xs)) (option_map (with_culprit bounds s p t row.takes xs) r)) none ∙ ap Passed (sym are.names))

@@ -1,5 +1,8 @@
--- What the operands of a question break, each rule for itself: what the code finds in one pass over them.
+-- What the operands of a question break, each rule for itself, and which operand breaks it first: what the code finds in
+-- one pass over them.
 use Rattle.std.specs.Prelude.{ℕ, ◌&&◌, ◌||◌, Bool, false, not, if◌then◌else◌, List, [], ◌∷◌, Option, Some, None}
+use Rattle.std.specs.List.{position_from}
+use Rattle.std.specs.Option.{option_map, option_or}
 use Rattle.jg_words.specs.declared.rule.Rule.{Rule}
 use Rattle.jg_words.specs.declared.rule.Rule.TheVariants.{ForeignLocal, DeadReference, WrongRefKind, NullReference, WrongType, BadField, BadBuffer, BadArgument}
 use Rattle.jg_policy.specs.Stated.{StatedSetup}
@@ -9,8 +12,10 @@ use Rattle.jg_rules.specs.Rules.{is_foreign, is_nothing, is_null}
 use Rattle.jg_functions.specs.declared.row.Takes.{Takes}
 use Rattle.jg_questions.specs.declared.argument.Argument.{Argument}
 use Rattle.jg_questions.specs.declared.faults.Faults.{Faults}
+use Rattle.jg_questions.specs.declared.faults.Places.{Places}
 use Rattle.jg_questions.specs.declared.faults.Beside.{Beside}
 use Rattle.jg_questions.specs.declared.faults.Judged.{Judged}
+use Rattle.jg_questions.specs.declared.judge.Broken.{Broken}
 use Rattle.jg_questions.specs.Asked.{judged_of}
 use Rattle.jg_questions.specs.Broken.{is_wrong_kind, is_unfit, is_wrong_buffer, is_out_of_bounds}
 
@@ -63,15 +68,60 @@ abbrev pub faults_in : StatedSetup → Parts → ℕ → Beside → List (Takes 
 faults_in s p t beside [] = no_faults
 faults_in s p t beside (x ∷ xs) = either (faults_of s p t beside x.0 x.1) (faults_in s p t beside xs)
 
--- the first of rules 5 to 12, where operands break these
-abbrev pub of_operands : Faults → Bool → Option Rule
-of_operands faults is_wrong_kind =
-    if faults.foreign_local then Some ForeignLocal
-    else if faults.dead_reference then Some DeadReference
-    else if is_wrong_kind then Some WrongRefKind
-    else if faults.null_reference then Some NullReference
-    else if faults.wrong_type then Some WrongType
-    else if faults.bad_field then Some BadField
-    else if faults.bad_buffer then Some BadBuffer
-    else if faults.bad_argument then Some BadArgument
-    else None
+-- one operand alone breaks the rule
+abbrev pub breaks : Rule → Faults → Bool
+breaks ForeignLocal faults = faults.foreign_local
+breaks DeadReference faults = faults.dead_reference
+breaks NullReference faults = faults.null_reference
+breaks WrongType faults = faults.wrong_type
+breaks BadField faults = faults.bad_field
+breaks BadBuffer faults = faults.bad_buffer
+breaks BadArgument faults = faults.bad_argument
+breaks rule faults = false
+
+-- the place of the first that does, where the first of these has this place
+abbrev pub first_that : StatedSetup → Parts → ℕ → Beside → Rule → ℕ → List (Takes × Argument) → Option ℕ
+first_that s p t beside rule n xs = position_from (λ x. breaks rule (faults_of s p t beside x.0 x.1)) n xs
+
+abbrev pub places_from : StatedSetup → Parts → ℕ → Beside → ℕ → List (Takes × Argument) → Places
+places_from s p t beside n xs = record {
+  foreign_local = first_that s p t beside ForeignLocal n xs;
+  dead_reference = first_that s p t beside DeadReference n xs;
+  null_reference = first_that s p t beside NullReference n xs;
+  wrong_type = first_that s p t beside WrongType n xs;
+  bad_field = first_that s p t beside BadField n xs;
+  bad_buffer = first_that s p t beside BadBuffer n xs;
+  bad_argument = first_that s p t beside BadArgument n xs;
+}
+
+-- the place that was found, else this one where it breaks the rule
+abbrev pub or_here : Option ℕ → ℕ → Bool → Option ℕ
+or_here found n breaks_it = option_or found (if breaks_it then Some n else None)
+
+abbrev pub with_one : Places → ℕ → Faults → Places
+with_one places n faults = record {
+  foreign_local = or_here places.foreign_local n faults.foreign_local;
+  dead_reference = or_here places.dead_reference n faults.dead_reference;
+  null_reference = or_here places.null_reference n faults.null_reference;
+  wrong_type = or_here places.wrong_type n faults.wrong_type;
+  bad_field = or_here places.bad_field n faults.bad_field;
+  bad_buffer = or_here places.bad_buffer n faults.bad_buffer;
+  bad_argument = or_here places.bad_argument n faults.bad_argument;
+}
+
+-- the operand at this place breaks the rule, where there is one
+abbrev pub by : Rule → Option ℕ → Option Broken
+by rule operand = option_map (λ place. record { rule = rule; operand = Some place }) operand
+
+-- the first of rules 5 to 12, where operands break these; the reference that is deleted stands first
+abbrev pub of_operands : Places → Bool → Option Broken
+of_operands places is_wrong_kind =
+    option_or (option_or (option_or (option_or (option_or (option_or (option_or
+    (by ForeignLocal places.foreign_local)
+    (by DeadReference places.dead_reference))
+    (by WrongRefKind (if is_wrong_kind then Some 0 else None)))
+    (by NullReference places.null_reference))
+    (by WrongType places.wrong_type))
+    (by BadField places.bad_field))
+    (by BadBuffer places.bad_buffer))
+    (by BadArgument places.bad_argument)

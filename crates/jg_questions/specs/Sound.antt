@@ -2,7 +2,6 @@
 use Rattle.std.specs.Prelude.{ℕ, ◌≡◌, true, if◌then◌else◌, List, [], ◌∷◌, Option, Some, None}
 use Rattle.std.specs.Option.{option_or}
 use Rattle.jg_words.specs.declared.thread.EnvId.{EnvId}
-use Rattle.jg_words.specs.declared.rule.Rule.{Rule}
 use Rattle.jg_policy.specs.Stated.{StatedSetup}
 use Rattle.jg_rules.specs.declared.named.Named.{Named}
 use Rattle.jg_rules.specs.Parts.{Parts}
@@ -13,10 +12,12 @@ use Rattle.jg_questions.specs.declared.argument.Argument.{Argument}
 use Rattle.jg_questions.specs.declared.argument.Argument.TheVariants.{Reference}
 use Rattle.jg_questions.specs.declared.argument.Bounds.{Bounds}
 use Rattle.jg_questions.specs.declared.faults.Beside.{Beside}
+use Rattle.jg_questions.specs.declared.judge.Broken.{Broken as BrokenBy}
 use Rattle.jg_questions.specs.declared.question.Verdict.{Verdict}
 use Rattle.jg_questions.specs.declared.question.Verdict.TheVariants.{Misfit, Broken, Passed}
 use Rattle.jg_questions.specs.Asked.{paired, first_reference, first_buffer}
-use Rattle.jg_questions.specs.Broken.{buffer_meant, verdict}
+use Rattle.jg_questions.specs.Broken.{buffer_meant}
+use Rattle.jg_questions.specs.Culprit.{first_broken}
 use Rattle.jg_questions.specs.Faults.{faults_in, no_faults}
 use Rattle.jg_questions.specs.Suits.{suits}
 
@@ -41,11 +42,12 @@ pub record AreSound (bounds : Bounds) (s : StatedSetup) (p : Parts) (t : ℕ) (t
   pub sound : faults_in s p t (beside_of bounds p xs) (paired takes xs) ≡ no_faults
   pub names : named ≡ names p t (first_reference xs)
 
-abbrev pub by_rule : Named → Option Rule → Verdict
+abbrev pub by_rule : Named → Option BrokenBy → Verdict
 by_rule named None = Passed named
-by_rule named (Some rule) = Broken rule
+by_rule named (Some broken) = Broken broken
 
 -- what a question for the function of this row comes to, with these operands
 abbrev pub verdict_on : Bounds → StatedSetup → Parts → ℕ → Option EnvId → Columns → List Argument → Verdict
 verdict_on bounds s p t env row xs =
-    if suits row.takes xs then by_rule (names p t (first_reference xs)) (verdict bounds s p t env row xs) else Misfit
+    if suits row.takes xs then by_rule (names p t (first_reference xs)) (first_broken bounds s p t env row xs)
+    else Misfit

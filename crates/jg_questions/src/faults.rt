@@ -1,4 +1,5 @@
-//! Which of rules 5, 6 and 8 to 12 the operands of a question break, each rule for itself.
+//! Which of rules 5, 6 and 8 to 12 the operands of a question break, each rule for itself, and which operand breaks it
+//! first.
 
 ghost use Rattle.std.specs.Prelude.{◌≡◌, pos};
 ghost use Rattle.std.specs.Option.{is_none};
@@ -23,7 +24,7 @@ use jg_rules::{
 use jg_words::{BufId, ItemType, Ref, Tid};
 use std::alloc::Allocator;
 
-/// Which rules operands break.
+/// Which rules an operand breaks.
 #[derive(Clone, Copy)]
 pub struct Faults {
     pub foreign_local: bool,
@@ -33,6 +34,18 @@ pub struct Faults {
     pub bad_field: bool,
     pub bad_buffer: bool,
     pub bad_argument: bool,
+}
+
+/// Which operand breaks each rule first: its place, counted from 0, where one does.
+#[derive(Clone, Copy)]
+pub struct Places {
+    pub foreign_local: Option<usize>,
+    pub dead_reference: Option<usize>,
+    pub null_reference: Option<usize>,
+    pub wrong_type: Option<usize>,
+    pub bad_field: Option<usize>,
+    pub bad_buffer: Option<usize>,
+    pub bad_argument: Option<usize>,
 }
 
 /// What the rules on references see of an operand.
@@ -245,7 +258,7 @@ fn faults_of_reference<A: Allocator + Clone, S: Store>(
 }
 
 /// What one operand breaks: a reference rules 5 to 9 alone, and every other operand one of rules 10 to 12.
-pub fn faults_of<A: Allocator + Clone, S: Store>(
+fn faults_of<A: Allocator + Clone, S: Store>(
     view: &View<'_, A, S>,
     tid: Tid,
     beside: Beside,
@@ -283,46 +296,72 @@ impl Faults {
         bad_buffer: false,
         bad_argument: false,
     };
+}
 
-    /// What either breaks.
-    fn or(self, other: Faults) -> Faults
-        ensures { result ≡ spec.either self other }
+/// The place that was found, else this one where it breaks the rule.
+fn or_here(found: Option<usize>, place: usize, breaks: bool) -> Option<usize>
+    ensures { result ≡ spec.or_here found place breaks }
+{
+    if found.is_none() && breaks {
+        Some(place)
+    } else {
+        found
+    }
+}
+
+impl Places {
+    /// No rule is broken.
+    const NONE: Places = Places {
+        foreign_local: None,
+        dead_reference: None,
+        null_reference: None,
+        wrong_type: None,
+        bad_field: None,
+        bad_buffer: None,
+        bad_argument: None,
+    };
+
+    /// These, and the operand at this place, which breaks these rules.
+    fn with(self, place: usize, faults: Faults) -> Places
+        ensures { result ≡ spec.with_one self place faults }
     {
-        Faults {
-            foreign_local: self.foreign_local || other.foreign_local,
-            dead_reference: self.dead_reference || other.dead_reference,
-            null_reference: self.null_reference || other.null_reference,
-            wrong_type: self.wrong_type || other.wrong_type,
-            bad_field: self.bad_field || other.bad_field,
-            bad_buffer: self.bad_buffer || other.bad_buffer,
-            bad_argument: self.bad_argument || other.bad_argument,
+        Places {
+            foreign_local: or_here(self.foreign_local, place, faults.foreign_local),
+            dead_reference: or_here(self.dead_reference, place, faults.dead_reference),
+            null_reference: or_here(self.null_reference, place, faults.null_reference),
+            wrong_type: or_here(self.wrong_type, place, faults.wrong_type),
+            bad_field: or_here(self.bad_field, place, faults.bad_field),
+            bad_buffer: or_here(self.bad_buffer, place, faults.bad_buffer),
+            bad_argument: or_here(self.bad_argument, place, faults.bad_argument),
         }
     }
 }
 
-/// What the operands break, each beside what the row says of it.
-pub fn faults_in<A: Allocator + Clone, S: Store>(
+/// Which operand breaks each rule first, each beside what the row says of it.
+pub fn places_in<A: Allocator + Clone, S: Store>(
     view: &View<'_, A, S>,
     tid: Tid,
     beside: Beside,
     takes: &[Takes],
     arguments: &[Argument],
-) -> Faults
-    ensures { (p : Parts) → ViewTells S.Tells view.now p
-        → result ≡ spec.faults_in view.now.setup.now p tid.0 beside (asked.paired takes.now arguments.now) }
+) -> Places
+    ensures { (p : Parts) → ViewTells S.Tells view.now p → result
+        ≡ spec.places_from view.now.setup.now p tid.0 beside 0 (asked.paired takes.now arguments.now) }
 {
-    let mut faults = Faults::NONE;
+    let mut places = Places::NONE;
     let mut wanted = takes;
     let mut rest = arguments;
+    let mut place = 0;
     while let Some((argument, later)) = rest.split_first() {
         let Some((take, more)) = wanted.split_first() else {
-            return faults;
+            return places;
         };
-        faults = faults.or(faults_of(view, tid, beside, *take, *argument));
+        places = places.with(place, faults_of(view, tid, beside, *take, *argument));
+        place += 1;
         if !is_last(*take) {
             wanted = more;
         }
         rest = later;
     }
-    faults
+    places
 }

@@ -1,6 +1,7 @@
-//! The first rule that a question breaks.
+//! The first rule that a question breaks, and which operand breaks it.
 
 ghost use Rattle.std.specs.Prelude.{◌≡◌, ◌<◌, IfSome};
+ghost use Rattle.std.specs.Option.{option_map};
 ghost use Rattle.jg_functions.specs.Columns.{columns};
 ghost use Rattle.jg_policy.specs.Stated.{class_count};
 ghost use Rattle.jg_rules.specs.Rules.{is_linked as is_linked_by};
@@ -8,10 +9,11 @@ ghost use Rattle.jg_rules.specs.Parts.{Parts};
 ghost use Rattle.jg_rules.specs.View.{ViewTells};
 ghost use Rattle.jg_questions.specs.Asked as asked;
 ghost use Rattle.jg_questions.specs.Broken as rules;
+ghost use Rattle.jg_questions.specs.Culprit as culprits;
 ghost use Rattle.jg_questions.specs.Faults as spec;
 
 use crate::argument::{Argument, Bounds};
-use crate::faults::{Beside, Faults, faults_in};
+use crate::faults::{Beside, Places, places_in};
 use crate::firsts::{first_buffer, first_reference, native_by_name};
 use jg_buffers::Info;
 use jg_functions::{Effect, Passes, Row};
@@ -22,6 +24,35 @@ use jg_rules::{
 };
 use jg_words::{EnvId, Kind, Ref, Rule, Tid};
 use std::alloc::Allocator;
+
+/// The first rule that a question breaks.
+#[derive(Clone, Copy, PartialEq, Eq)]
+pub struct Broken {
+    pub rule: Rule,
+    /// The place, counted from 0, of the first operand that breaks it. `None` where the rule is about no operand, as
+    /// rule 1 is about the thread.
+    pub operand: Option<usize>,
+}
+
+/// No operand breaks the rule.
+fn by_none(rule: Rule) -> Option<Broken>
+    ensures { result ≡ culprits.by_none rule }
+{
+    Some(Broken {
+        rule,
+        operand: None,
+    })
+}
+
+/// The operand at this place breaks the rule, where there is one.
+fn by(rule: Rule, operand: Option<usize>) -> Option<Broken>
+    ensures { result ≡ spec.by rule operand }
+{
+    match operand {
+        None => None,
+        Some(_) => Some(Broken { rule, operand }),
+    }
+}
 
 fn is_collection(effect: Effect) -> bool
     ensures { result ≡ rules.is_collection effect }
@@ -247,29 +278,19 @@ pub fn buffer_meant<A: Allocator + Clone, S: Store>(
     }
 }
 
-/// The first of rules 5 to 12.
-fn judge_operands(faults: Faults, is_wrong_kind: bool) -> Option<Rule>
-    ensures { result ≡ spec.of_operands faults is_wrong_kind }
+/// The first of rules 5 to 12. The reference that is deleted stands first.
+fn judge_operands(places: Places, is_wrong_kind: bool) -> Option<Broken>
+    ensures { result ≡ spec.of_operands places is_wrong_kind }
 {
-    if faults.foreign_local {
-        Some(Rule::ForeignLocal)
-    } else if faults.dead_reference {
-        Some(Rule::DeadReference)
-    } else if is_wrong_kind {
-        Some(Rule::WrongRefKind)
-    } else if faults.null_reference {
-        Some(Rule::NullReference)
-    } else if faults.wrong_type {
-        Some(Rule::WrongType)
-    } else if faults.bad_field {
-        Some(Rule::BadField)
-    } else if faults.bad_buffer {
-        Some(Rule::BadBuffer)
-    } else if faults.bad_argument {
-        Some(Rule::BadArgument)
-    } else {
-        None
-    }
+    let deleted = if is_wrong_kind { Some(0) } else { None };
+    by(Rule::ForeignLocal, places.foreign_local)
+        .or(by(Rule::DeadReference, places.dead_reference))
+        .or(by(Rule::WrongRefKind, deleted))
+        .or(by(Rule::NullReference, places.null_reference))
+        .or(by(Rule::WrongType, places.wrong_type))
+        .or(by(Rule::BadField, places.bad_field))
+        .or(by(Rule::BadBuffer, places.bad_buffer))
+        .or(by(Rule::BadArgument, places.bad_argument))
 }
 
 /// The first of rules 13 to 17.
@@ -298,8 +319,33 @@ pub fn judge_effect<A: Allocator + Clone, S: Store>(
     }
 }
 
-/// The first rule that a question for the function of this row breaks, with these operands, as the tables are now; None
-/// where it breaks none.
+/// Which operand breaks one of rules 13 to 17: the reference that is deleted, the object whose monitor is given back,
+/// and the class that native methods are of stand first; a native method's name stands behind its class.
+fn operand_of(rule: Rule) -> Option<usize>
+    ensures { result ≡ culprits.operand_of rule }
+{
+    match rule {
+        Rule::Pinned | Rule::NotOwner | Rule::NoNativeAccess => Some(0),
+        Rule::NotLinked => Some(1),
+        _ => None,
+    }
+}
+
+/// The same rule, with the operand.
+fn with_operand(rule: Option<Rule>) -> Option<Broken>
+    ensures { result ≡ option_map culprits.with_operand rule }
+{
+    match rule {
+        None => None,
+        Some(rule) => Some(Broken {
+            rule,
+            operand: operand_of(rule),
+        }),
+    }
+}
+
+/// The first rule that a question for the function of this row breaks, with these operands, as the tables are now, and
+/// the operand that breaks it; None where it breaks none. It looks each operand up once.
 pub fn first_broken<A: Allocator + Clone, S: Store>(
     view: &View<'_, A, S>,
     bounds: Bounds,
@@ -307,29 +353,29 @@ pub fn first_broken<A: Allocator + Clone, S: Store>(
     env: Option<EnvId>,
     row: &Row,
     arguments: &[Argument],
-) -> Option<Rule>
+) -> Option<Broken>
     ensures { (p : Parts) → ViewTells S.Tells view.now p
-        → result ≡ rules.verdict bounds view.now.setup.now p tid.0 env (columns row.now) arguments.now }
+        → result ≡ culprits.first_broken bounds view.now.setup.now p tid.0 env (columns row.now) arguments.now }
 {
     if is_wrong_thread(tid, env, row) {
-        return Some(Rule::WrongThread);
+        return by_none(Rule::WrongThread);
     }
     if is_detached(view, tid, env, row) {
-        return Some(Rule::Detached);
+        return by_none(Rule::Detached);
     }
     if is_in_critical(view, tid, row) {
-        return Some(Rule::InCritical);
+        return by_none(Rule::InCritical);
     }
     if is_while_pending(view, tid, row) {
-        return Some(Rule::Pending);
+        return by_none(Rule::Pending);
     }
     let via = first_reference(arguments);
     let info = buffer_meant(view, arguments);
     let beside = Beside { bounds, via, info };
-    let faults = faults_in(view, tid, beside, row.takes, arguments);
-    let broken = judge_operands(faults, is_wrong_kind(row.effect, via));
+    let places = places_in(view, tid, beside, row.takes, arguments);
+    let broken = judge_operands(places, is_wrong_kind(row.effect, via));
     if broken.is_some() {
         return broken;
     }
-    judge_effect(view, tid, row.effect, via, arguments)
+    with_operand(judge_effect(view, tid, row.effect, via, arguments))
 }

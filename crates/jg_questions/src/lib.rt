@@ -3,7 +3,6 @@
 #![tactic(auto)]
 
 mod argument;
-mod culprits;
 mod faults;
 mod firsts;
 mod judge;
@@ -14,9 +13,8 @@ mod sound;
 mod suiting;
 
 pub use argument::{Argument, Bounds};
-pub use culprits::culprit;
 pub use firsts::{first_buffer, first_number, first_reference, native_by_name};
-pub use judge::first_broken;
+pub use judge::{Broken, first_broken};
 pub use kinds::{OwnKind, is_class};
 pub use promises::{calls_suit, judged_as_written};
 pub use question::{Verdict, verdict_on};

@@ -12,14 +12,14 @@ ghost use Rattle.jg_questions.specs.Sound as spec;
 use crate::argument::{Argument, Bounds};
 use crate::firsts::first_reference;
 use crate::judge::{
-    first_broken, is_detached, is_in_critical, is_while_pending, is_wrong_kind, is_wrong_thread,
-    judge_effect,
+    Broken, first_broken, is_detached, is_in_critical, is_while_pending, is_wrong_kind,
+    is_wrong_thread, judge_effect,
 };
 use crate::sound::first_of_sound;
 use crate::suiting::suits;
 use jg_functions::{Effect, Row};
 use jg_rules::{Named, Store, View, look_up};
-use jg_words::{EnvId, Rule, Tid};
+use jg_words::{EnvId, Tid};
 use std::alloc::Allocator;
 
 /// What a question comes to.
@@ -27,8 +27,8 @@ use std::alloc::Allocator;
 pub enum Verdict {
     /// The operands aren't as many as the function's, or not of their sorts.
     Misfit,
-    /// It breaks this rule first.
-    Broken(Rule),
+    /// It breaks this rule first, by this operand.
+    Broken(Broken),
     /// It breaks no rule; and what its first reference names, null where it has none.
     Passed(Named),
 }
@@ -105,7 +105,7 @@ pub fn verdict_on<A: Allocator + Clone, S: Store>(
         return Verdict::Misfit;
     }
     match first_broken(view, bounds, tid, env, row, arguments) {
-        Some(rule) => Verdict::Broken(rule),
+        Some(broken) => Verdict::Broken(broken),
         None => Verdict::Passed(look_up(view, tid, first_reference(arguments))),
     }
 }

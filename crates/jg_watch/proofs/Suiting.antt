@@ -68,18 +68,18 @@ all_suit (t ∷ wanted) (word ∷ words) (x ∷ xs) (spells, asks) =
     ap (λ b. b && suits (if is_last t then t ∷ wanted else wanted) xs) (one t word x spells) ∙ all_suit (if is_last t then t ∷ wanted else wanted) words xs asks
 
 -- so is what is asked then
-answered : (bounds : Bounds) (s : StatedSetup) (p : Parts) (t : Tid) (row : Columns) (xs : List Argument) (found : Option Rule)
-    → (reply_of (by_verdict bounds s p t row xs found) ≡ Passed) ⊎ ((rule : Rule) × (reply_of (by_verdict bounds s p t row xs found) ≡ Denied rule))
-answered bounds s p t row xs None = inl refl
-answered bounds s p t row xs (Some rule) = inr (rule, refl)
+answered : (bounds : Bounds) (s : StatedSetup) (p : Parts) (t : Tid) (env : Option EnvId) (row : Columns) (xs : List Argument) (found : Option Rule)
+    → (reply_of (by_verdict bounds s p t env row xs found) ≡ Passed) ⊎ ((rule : Rule) × (reply_of (by_verdict bounds s p t env row xs found) ≡ Denied rule))
+answered bounds s p t env row xs None = inl refl
+answered bounds s p t env row xs (Some rule) = inr (rule, refl)
 
 asked_of : (s : StatedSetup) (told : Told) (t : Tid) (env : Option EnvId) (function : ℕ) (row : Columns) (xs : List Argument) → slice_get functions function ≡ Some row → suits row.takes xs ≡ true
     → replied s told (Question t env function) xs
-    ≡ reply_of (by_verdict told.bounds s (parts_of told.facts) t row xs (verdict told.bounds s (parts_of told.facts) t.0 env row xs))
+    ≡ reply_of (by_verdict told.bounds s (parts_of told.facts) t env row xs (verdict told.bounds s (parts_of told.facts) t.0 env row xs))
 asked_of s told t env function row xs at suit =
     let p = parts_of told.facts in
     ap (λ r. reply_of (by_row told.bounds s p t env xs r)) at
-    ∙ ap (λ b. reply_of (if b then by_verdict told.bounds s p t row xs (verdict told.bounds s p t.0 env row xs) else Misfit)) suit
+    ∙ ap (λ b. reply_of (if b then by_verdict told.bounds s p t env row xs (verdict told.bounds s p t.0 env row xs) else Misfit)) suit
 
 -- no fact is a question
 abbrev is_question : Event → Bool
@@ -124,5 +124,5 @@ is_judged s told text t env function xs gone (inl (t', env', place, row, words, 
     let p = parts_of told.facts in
     let found = verdict told.bounds s p t.0 env row xs in
     subst (λ (reply : Reply). (reply ≡ Passed) ⊎ ((rule : Rule) × (reply ≡ Denied rule))) (sym (asked_of s told t env function row xs at (all_suit row.takes words xs asks)))
-    (answered told.bounds s p t row xs found)
+    (answered told.bounds s p t env row xs found)
 is_judged s told text t env function xs gone (inr (t', v, words, tells_of, tells)) = absurd (let no : ⊥ = cc (told_is s v t' words (Question t env function) gone tells) in no)

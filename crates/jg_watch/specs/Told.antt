@@ -2,20 +2,18 @@
 use Rattle.std.specs.Prelude.{◌≡◌, ℕ, pos, List, [], ◌∷◌, Bool, true, Option, Some, None, slice_get}
 use Rattle.std.specs.Option.{is_none}
 use Rattle.jg_words.specs.declared.object.ObjId.{ObjId}
-use Rattle.jg_words.specs.declared.reference.Ref.{Ref}
-use Rattle.jg_threads.specs.History.{Attach, acts_of, sessions}
 use Rattle.jg_policy.specs.Stated.{StatedSetup}
-use Rattle.jg_rules.specs.Names.{next_buffer, object_count}
 use Rattle.jg_questions.specs.declared.argument.Argument.{Argument}
 use Rattle.jg_questions.specs.declared.argument.Bounds.{Bounds}
 use Rattle.jg_core.specs.declared.asking.Answer.{Answer}
 use Rattle.jg_core.specs.declared.asking.Answer.TheVariants as answer
 use Rattle.jg_core.specs.declared.fact.Fact.{Fact}
-use Rattle.jg_core.specs.declared.fact.Fact.TheVariants.{Begin, Lend, Meet}
+use Rattle.jg_core.specs.declared.says.Given.{Given}
+use Rattle.jg_core.specs.declared.says.Given.TheVariants as given
 use Rattle.jg_core.specs.Asking.{asked}
 use Rattle.jg_core.specs.Facts.{all_gone, can_be, first_held, parts_of}
+use Rattle.jg_core.specs.Implied.{given_by}
 use Rattle.jg_core.specs.Kernel.{CoreState, CoreStands}
-use Rattle.jg_core.specs.Laws.{handed_out}
 use Rattle.jg_record.specs.declared.event.Event.{Event}
 use Rattle.jg_record.specs.declared.event.Event.TheVariants as event
 use Rattle.jg_record.specs.declared.reply.Reply.{Reply}
@@ -63,21 +61,20 @@ after (event.Bounds bounds) gone told = record told { bounds = bounds }
 -- what a question is answered; none that a line spells is of no function or has a misfit (`SpeltIsJudged` of Laws)
 abbrev pub reply_of : Answer → Reply
 reply_of (answer.Passed ticket) = Passed
-reply_of (answer.Denied rule operand) = Denied rule
+reply_of (answer.Denied rule operand ticket) = Denied rule
 reply_of answer.NoFunction = Nothing
 reply_of answer.Misfit = Nothing
 
-abbrev pub reference_reply : Option Ref → Reply
-reference_reply None = Nothing
-reference_reply (Some r) = Reference r
+abbrev pub given_reply : Given → Reply
+given_reply given.Nothing = Nothing
+given_reply (given.Reference r) = Reference r
+given_reply (given.Buffer b) = Buffer b
+given_reply (given.Environment e) = Environment e
+given_reply (given.Object o) = Object o
 
 -- the name of what a fact hands out
 abbrev pub named : StatedSetup → List Fact → Fact → Reply
-named s w (Begin t) =
-    Environment (record { tid = t; session = sessions (Attach ∷ acts_of t.0 (parts_of w).threads) })
-named s w (Lend t family o via n) = Buffer (record { maker = t; n = next_buffer (parts_of w) t.0 })
-named s w (Meet class n) = Object (record { 0 = object_count s (parts_of w) })
-named s w fact = reference_reply (handed_out w fact)
+named s w fact = given_reply (given_by s (parts_of w) fact)
 
 -- what an event is answered
 abbrev pub replied : StatedSetup → Told → Event → List Argument → Reply
@@ -89,7 +86,7 @@ replied s told (event.Bounds bounds) xs = Nothing
 
 -- the operand that breaks the rule, where one does
 abbrev pub operand_of : Answer → List Argument → Option Argument
-operand_of (answer.Denied rule (Some place)) xs = slice_get xs place
+operand_of (answer.Denied rule (Some place) ticket) xs = slice_get xs place
 operand_of x xs = None
 
 -- that of a denied question

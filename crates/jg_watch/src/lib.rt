@@ -15,5 +15,4 @@ pub use ending::{Ended, Stop};
 pub use explanations::Explanations;
 pub use promises::spelt_is_judged;
 pub use run::watch_lines;
-pub use telling::tell;
 pub use watch::{Shown, Watch};

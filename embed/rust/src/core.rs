@@ -29,11 +29,19 @@ impl Bounds {
     };
 }
 
-/// What comes of a call that passed, kept until the machine has answered ([`Core::did`]).
+/// What comes of a call, kept until the machine has answered ([`Core::did`]).
 #[derive(Clone, Copy, Debug, PartialEq, Eq)]
 pub struct Ticket(JgTicket);
 
 impl Ticket {
+    /// Whether the ticket of a denied call that the machine made all the same leaves open if something has ended: a
+    /// reference that it took for one of its own, a buffer that it may have taken back, a frame that it may have popped.
+    /// Then [`Core::did`] takes [`Says::Null`] where it has ended, and [`Says::Done`] where it hasn't.
+    pub fn is_in_doubt(&self) -> bool {
+        // SAFETY: the pointer is that of a value.
+        unsafe { ffi::jg_is_in_doubt(&self.0) == 1 }
+    }
+
     /// The fact that [`Core::did`] tells of this ticket and of what the machine says, so that [`Core::fact_line`] can
     /// write its line of a record; `None` where nothing is told.
     ///
@@ -57,12 +65,14 @@ impl Ticket {
 pub enum Verdict {
     /// It breaks no rule: let the machine make the call, and then tell what came of it.
     Passed(Ticket),
-    /// It breaks this rule first: the call isn't made.
+    /// It breaks this rule first: don't let the machine make the call.
     Denied {
         /// The rule.
         rule: Rule,
         /// The place of the operand that breaks it, counted from 0, where one does.
         operand: Option<usize>,
+        /// What comes of it where the machine makes it all the same ([`Ticket::is_in_doubt`]).
+        ticket: Ticket,
     },
 }
 
@@ -76,6 +86,7 @@ impl Verdict {
         Ok(Verdict::Denied {
             rule,
             operand: operand.and_then(|it| it.checked_sub(1)),
+            ticket: Ticket(verdict.ticket),
         })
     }
 
@@ -232,7 +243,7 @@ impl Core {
         Ok((Verdict::of(verdict)?, Given::of(given)))
     }
 
-    /// Tells what came of a passed call once it has returned, by what the machine says of it. Answers the name of what
+    /// Tells what came of a call once it has returned, by what the machine says of it. Answers the name of what
     /// it handed out.
     pub fn did(&mut self, ticket: &Ticket, says: Says) -> Result<Given, Error> {
         let (says, mut given) = (says.value(), NONE);

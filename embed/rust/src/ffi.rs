@@ -124,6 +124,7 @@ extern "C" {
         says: *const JgValue,
         given: *mut JgValue,
     ) -> i32;
+    pub fn jg_is_in_doubt(ticket: *const JgTicket) -> i32;
     pub fn jg_told(ticket: *const JgTicket, says: *const JgValue, fact: *mut JgFact) -> i32;
     pub fn jg_tell(core: *mut JgCore, fact: *const JgFact, given: *mut JgValue) -> i32;
     pub fn jg_gone(core: *mut JgCore, objects: *const u64, count: usize, held: *mut u64) -> i32;

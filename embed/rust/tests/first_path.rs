@@ -112,8 +112,11 @@ fn a_core_is_told_the_first_path() -> Result<(), Error> {
     let line = told_line(&mut core, &ticket, Says::Done)?;
     assert!(line.ends_with(" lost L1.1"), "{line}");
     let again = core.ask(1, Some(env), Function::GetStringLength, &[local.into()])?;
-    let (rule, operand) = (Rule::DeadReference, Some(0));
-    assert_eq!(again, Verdict::Denied { rule, operand });
+    let Verdict::Denied { rule, operand, ticket } = again else {
+        panic!("a dead reference is used");
+    };
+    assert_eq!((rule, operand), (Rule::DeadReference, Some(0)));
+    assert_eq!((ticket.is_in_doubt(), ticket.told(Says::Done)?), (false, None));
     assert_eq!(core.gone_line(0, &[object])?, "T0 gone O15");
     core.gone(&[object])?;
     assert_eq!(core.gone(&[object]), Err(Error::StillHeld(0)));

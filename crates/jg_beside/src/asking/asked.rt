@@ -1,4 +1,4 @@
-//! Calls, judged by the core, asked about by the table and made by the guard.
+//! Calls, asked about by the table and made by the guard.
 
 use crate::asking::prepared::{ARRAY, ENV, THREAD, local, pass};
 use jg_buffers::Family;
@@ -6,8 +6,9 @@ use jg_core::{Answer, Core};
 use jg_functions::place_of;
 use jg_guard::Guard;
 use jg_questions::{Argument, Bounds};
+use jg_words::Kind::Local;
 use jg_words::{
-    BufId, BuffersCall, Call, EnvId, FieldId, MonitorsCall, ObjectsCall, Primitive, RefsCall,
+    BufId, BuffersCall, Call, EnvId, FieldId, MonitorsCall, ObjectsCall, Primitive, Ref, RefsCall,
     StringsCall, Tid,
 };
 use std::alloc::Global;
@@ -62,28 +63,6 @@ fn release(n: u64) -> Call {
     })
 }
 
-/// Asks about the call so many times.
-fn ask(core: &Core, call: &Call, count: u64) -> Option<()> {
-    for _ in 0..count {
-        if core.judge(THREAD, ENV, call).is_some() {
-            return None;
-        }
-    }
-    Some(())
-}
-
-/// Asks about calls of that kind so many times; of a critical pair about both. None is denied.
-pub fn judged(core: &mut Core, kind: &Kind, count: u64) -> Option<()> {
-    ask(core, &call_of(kind), count)?;
-    if let Kind::Critical = kind {
-        let buffer = core
-            .lend(THREAD, Family::ArrayCritical, ARRAY, local(2), 4)
-            .ok()?;
-        ask(core, &release(buffer.n), count)?;
-    }
-    Some(())
-}
-
 /// What a real machine bounds.
 const UNBOUNDED: Bounds = Bounds {
     capacity: i32::MAX,
@@ -91,37 +70,89 @@ const UNBOUNDED: Bounds = Bounds {
     items: i32::MAX,
 };
 
-/// Asks for the function of that name so many times, with these operands.
-fn ask_for(core: &Core, name: &str, arguments: &[Argument], count: u64) -> Option<()> {
+/// Asks for the function of that name so many times, with these operands. Whether each passes, or none does.
+fn ask_for(
+    core: &Core,
+    name: &str,
+    arguments: &[Argument],
+    passes: bool,
+    count: u64,
+) -> Option<()> {
     let function = place_of(name.as_bytes())?;
     for _ in 0..count {
-        let Answer::Passed(_) = core.ask(UNBOUNDED, THREAD, ENV, function, arguments) else {
-            return None;
+        let does_pass = match core.ask(UNBOUNDED, THREAD, ENV, function, arguments) {
+            Answer::Passed(_) => true,
+            Answer::Denied { .. } => false,
+            _ => return None,
         };
+        if does_pass != passes {
+            return None;
+        }
     }
     Some(())
 }
 
-/// Asks by the table for calls of that kind so many times; of a critical pair for both. None is denied.
+/// Asks for calls of that kind so many times; of a critical pair for both. None is denied.
 pub fn asked(core: &mut Core, kind: &Kind, count: u64) -> Option<()> {
     let first = Argument::Reference(local(1));
     let array = Argument::Reference(local(2));
     let point = Argument::Reference(local(4));
     match kind {
-        Kind::Length => ask_for(core, "GetStringLength", &[first], count),
-        Kind::Local => ask_for(core, "NewLocalRef", &[first], count),
+        Kind::Length => ask_for(core, "GetStringLength", &[first], true, count),
+        Kind::Local => ask_for(core, "NewLocalRef", &[first], true, count),
         Kind::Field => {
             let field = Argument::Id { fits: true };
-            ask_for(core, "GetIntField", &[point, field], count)
+            ask_for(core, "GetIntField", &[point, field], true, count)
         }
-        Kind::Monitor => ask_for(core, "MonitorEnter", &[first], count),
+        Kind::Monitor => ask_for(core, "MonitorEnter", &[first], true, count),
         Kind::Critical => {
-            ask_for(core, "GetPrimitiveArrayCritical", &[array], count)?;
+            ask_for(core, "GetPrimitiveArrayCritical", &[array], true, count)?;
             let buffer = core
                 .lend(THREAD, Family::ArrayCritical, ARRAY, local(2), 4)
                 .ok()?;
             let release = [array, Argument::Buffer(buffer), Argument::Number(0)];
-            ask_for(core, "ReleasePrimitiveArrayCritical", &release, count)
+            ask_for(core, "ReleasePrimitiveArrayCritical", &release, true, count)
+        }
+    }
+}
+
+/// Asks for calls of that kind so many times, each denied: of a dead string, a string of another thread, a field that
+/// isn't the object's, null, a string in the place of an array, and a buffer that isn't lent.
+pub fn denied(core: &Core, kind: &Kind, count: u64) -> Option<()> {
+    let string = Argument::Reference(local(1));
+    let array = Argument::Reference(local(2));
+    let point = Argument::Reference(local(4));
+    let dead = Argument::Reference(local(1_000_000_000));
+    let foreign = Argument::Reference(Ref::To {
+        kind: Local,
+        maker: Tid(2),
+        n: 1,
+    });
+    match kind {
+        Kind::Length => ask_for(core, "GetStringLength", &[dead], false, count),
+        Kind::Local => ask_for(core, "NewLocalRef", &[foreign], false, count),
+        Kind::Field => {
+            let field = Argument::Id { fits: false };
+            ask_for(core, "GetIntField", &[point, field], false, count)
+        }
+        Kind::Monitor => {
+            let null = Argument::Reference(Ref::Null);
+            ask_for(core, "MonitorEnter", &[null], false, count)
+        }
+        Kind::Critical => {
+            ask_for(core, "GetPrimitiveArrayCritical", &[string], false, count)?;
+            let buffer = Argument::Buffer(BufId {
+                maker: THREAD,
+                n: 1_000_000_000,
+            });
+            let release = [array, buffer, Argument::Number(0)];
+            ask_for(
+                core,
+                "ReleasePrimitiveArrayCritical",
+                &release,
+                false,
+                count,
+            )
         }
     }
 }

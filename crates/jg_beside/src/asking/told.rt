@@ -37,7 +37,8 @@ impl Pair {
 }
 
 fn told(core: &mut Core, fact: Fact) -> Option<()> {
-    core.tell(fact).ok()
+    core.tell(fact).ok()?;
+    Some(())
 }
 
 fn handed(core: &mut Core, kind: Kind) -> Option<()> {

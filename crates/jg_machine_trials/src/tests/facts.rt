@@ -2,10 +2,11 @@
 //! a refused fact changes nothing the contract of `Core::tell` says.
 
 use jg_buffers::Family;
-use jg_core::{Core, Fact, Untold};
+use jg_core::{Answer, Core, Fact, Untold};
 use jg_policy::Setup;
+use jg_questions::{Argument, Bounds};
 use jg_row_trials::setups::CLOSED;
-use jg_words::{Call, EnvId, Kind, ObjId, Ref, StringsCall, Tid};
+use jg_words::{EnvId, Kind, ObjId, Ref, Tid};
 use linked_list_allocator::LocalHeap;
 use std::alloc::Global;
 use std::test::Fail;
@@ -17,6 +18,15 @@ const STRING: u32 = 2;
 const FIRST: ObjId = ObjId(15);
 
 const T: Tid = Tid(1);
+
+/// The place of GetStringLength in the table of functions.
+const GET_STRING_LENGTH: u16 = 162;
+
+const UNBOUNDED: Bounds = Bounds {
+    capacity: i32::MAX,
+    length: i32::MAX,
+    items: i32::MAX,
+};
 
 /// The n-th reference that thread 1 was handed, a local one.
 fn local(n: u64) -> Ref {
@@ -51,11 +61,10 @@ fn churn(core: &mut Core<&LocalHeap>) -> bool {
     for n in 0..100_000u64 {
         gone = gone && come_and_go(core, n) == Ok(true);
     }
-    let call = Call::Strings(StringsCall::GetStringLength {
-        string: local(100_000),
-    });
+    let string = Argument::Reference(local(100_000));
     let env = Some(EnvId { tid: T, session: 1 });
-    begun && gone && core.judge(T, env, &call).is_none()
+    let answer = core.ask(UNBOUNDED, T, env, GET_STRING_LENGTH, &[string]);
+    begun && gone && matches!(answer, Answer::Passed(_))
 }
 
 /// Facts that make something, each of another table or of another part of one.

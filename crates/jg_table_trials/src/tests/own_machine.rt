@@ -1,8 +1,9 @@
 //! A run of `jg_own_machine`: what it is told, and what it answers.
 
-use jg_core::{Broken, Untold};
+use jg_core::Untold;
 use jg_own_machine::Machine;
 use jg_policy::Setup;
+use jg_questions::Broken;
 use jg_words::Rule;
 use std::test::Fail;
 
@@ -17,7 +18,7 @@ const DEAD: Broken = Broken {
 /// What a negative length is denied by.
 const NEGATIVE: Broken = Broken {
     rule: Rule::BadArgument,
-    operand: None,
+    operand: Some(0),
 };
 
 /// The length of an array, of one that was never made, and of the first one once its handle ended.

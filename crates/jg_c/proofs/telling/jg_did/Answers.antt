@@ -14,3 +14,8 @@ returns-in-Some-clause-stayed c =
 
 pub returns-in-Some-clause-bounds : goal.returns-in-Some-clause-bounds
 returns-in-Some-clause-bounds c = stepped _ _ _ _ _ c.in-Some.ensures.value (c.core.follows.holds _ _ c.in-Some.ensures.value) c.did.ensures.bounds
+
+pub returns-in-Some-clause-kept : goal.returns-in-Some-clause-kept
+returns-in-Some-clause-kept c =
+    let plain : to_z w32 (of_z w32 c.did.result) ≡ c.did.result = search rules in
+    rw plain c.did.ensures.kept
