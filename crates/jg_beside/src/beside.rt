@@ -3,10 +3,9 @@
 
 use crate::telling::{Before, before_call, handed_out, is_gone, length_in, tell_entry};
 use jg_core::{Answer, Checked, Core, Fact, Ticket};
-use jg_facts::{function_of, push_arguments};
 use jg_guard::Guard;
 use jg_policy::Setup;
-use jg_questions::Bounds;
+use jg_questions::{Bounds, function_of, push_arguments};
 use jg_rules::View;
 use jg_text::read_begun;
 use jg_words::{Call, Entry, EnvId, ObjId, Tid};
@@ -82,13 +81,6 @@ fn other_told(
     }
 }
 
-/// What the guard bounds.
-const BOUNDS: Bounds = Bounds {
-    capacity: 65_535,
-    length: 1_000_000,
-    items: 1_000,
-};
-
 /// What the core answers to the question that the call is.
 fn ask(
     core: &Core,
@@ -98,7 +90,13 @@ fn ask(
 ) -> Result<Answer, AllocError> {
     let mut operands = Vec::new(alloc);
     push_arguments(view, tid, call, &mut operands)?;
-    Ok(core.ask(BOUNDS, tid, env, function_of(call), operands.as_slice()))
+    Ok(core.ask(
+        Bounds::WRITTEN,
+        tid,
+        env,
+        function_of(call),
+        operands.as_slice(),
+    ))
 }
 
 /// What isn't so where the core is asked about the call, the guard takes it, and the core is told what came of it.

@@ -13,6 +13,7 @@ mod fields;
 mod holding;
 mod meanings;
 mod operands;
+mod references;
 mod turns;
 
 pub use breach::{Argument, Breach};

@@ -1,18 +1,34 @@
 //! The rules that speak of one operand each: which one breaks them, and in which way.
 
 ghost use Rattle.std.specs.Prelude.{◌≡◌, option_map, find, position};
-ghost use Rattle.jg_rules.specs.Operands.{listed};
 ghost use Rattle.jg_rules.specs.Parts.{Parts};
 ghost use Rattle.jg_rules.specs.View.{ViewStands, ViewTells};
+ghost use Rattle.jg_rules.specs.Rules.{is_wrong};
 ghost use Rattle.jg_causes.specs.Breaches as breaches;
+ghost use Rattle.jg_causes.specs.Listed.{listed};
 
 use crate::breach::Breach;
+use crate::references::{Operands, operands_of};
 use jg_rules::{
-    Named, Operand, Operands, Store, View, class_of, is_foreign_local, is_not_the_owner,
-    is_wrong_object, look_up, object_named, operands_of, the_object,
+    Named, ObjectType, Operand, Store, View, class_of, is_foreign_local, is_not_the_owner,
+    is_object_of, look_up, object_named, the_object,
 };
 use jg_words::{Call, ObjId, Ref, Rule, Tid};
 use std::alloc::Allocator;
+
+/// Whether it is an object, and not of the type.
+fn is_wrong_object<A: Allocator + Clone, S: Store>(
+    view: &View<'_, A, S>,
+    object_type: ObjectType,
+    named: Named,
+) -> bool
+    ensures { (p : Parts) → ViewTells S.Tells view.now p → result ≡ is_wrong view.now.setup.now p object_type named }
+{
+    match named {
+        Named::Nothing | Named::Null => false,
+        Named::Object(object) => !is_object_of(view, object_type, object),
+    }
+}
 
 /// Whether the operand breaks the rule.
 fn breaks<A: Allocator + Clone, S: Store>(

@@ -22,7 +22,7 @@ use crate::says::{Given, Says};
 use jg_functions::{Row, row_of};
 use jg_objects::Objects;
 use jg_questions::{Argument, Bounds, Broken, Verdict, first_reference, verdict_on};
-use jg_rules::{View, look_up, object_named};
+use jg_rules::{View, object_named};
 use jg_words::{EnvId, ObjId, Rule, Tid};
 use std::alloc::Allocator;
 
@@ -112,11 +112,9 @@ fn denied_ticket<A: Allocator + Clone>(
         ≡ spec.denied_ticket view.now.setup.now p tid env (columns row.now) arguments.now rule }
 {
     let tid = doer(rule, tid, env);
-    let named = look_up(view, tid, first_reference(arguments));
-    let passed = expected_of(view, tid, row, named, arguments);
     Ticket {
         tid,
-        expected: denied_as(rule, row.effect, tid, passed, arguments),
+        expected: denied_as(view, rule, tid, row, arguments),
     }
 }
 
@@ -177,8 +175,8 @@ impl<A: Allocator + Clone> Core<A> {
         let Some(fact) = fact else {
             return Ok(out);
         };
-        match self.take_fact(fact) {
-            Ok(()) => Ok(out),
+        match self.tell(fact) {
+            Ok(_) => Ok(out),
             Err(why) => Err(why),
         }
     }

@@ -11,8 +11,7 @@ ghost use Rattle.jg_rules.specs.View.{ViewStands};
 
 use jg_advice::Counsel;
 use jg_core::Fact;
-use jg_facts::push_arguments;
-use jg_questions::Argument;
+use jg_questions::{Argument, push_arguments};
 use jg_rules::View;
 use jg_words::{Call, ObjectsCall, Tid};
 use std::alloc::{AllocError, Allocator};

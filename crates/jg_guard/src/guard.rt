@@ -29,7 +29,8 @@ use jg_leaks::{Leaks, list_left};
 use jg_locals::Locals;
 use jg_monitors::Monitors;
 use jg_policy::{Links, Setup};
-use jg_rules::{View, first_broken};
+use jg_questions::verdict_on_call;
+use jg_rules::View;
 use jg_threads::Threads;
 use jg_words::{Call, Entry, EnvId, Outcome, Reply, Rule, Tid};
 use std::alloc::{AllocError, Allocator, Global};
@@ -146,7 +147,7 @@ impl<A: Allocator + Clone> Guard<A> {
     pub fn judge(&self, tid: Tid, env: Option<EnvId>, call: &Call) -> Option<Rule>
         ensures { result ≡ verdict self.now.setup (parts self.now.setup self.now.journal) tid.0 env call.now }
     {
-        first_broken(&self.tables.view(&self.setup), tid, env, call)
+        verdict_on_call(&self.tables.view(&self.setup), tid, env, call)
     }
 
     /// The setup and the tables, lent to be asked what holds after the journal.

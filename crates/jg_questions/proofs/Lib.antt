@@ -1,4 +1,5 @@
 pub mod Agreed
+pub mod Called
 pub mod Found
 pub mod Passes
 pub mod Rows

@@ -1,13 +1,12 @@
 -- A question passes whose operands suit and break no rule, where no rule on the caller or on what the function does is broken.
 use Rattle.std.proofs.Common.{◌≡◌, ◌∙◌, ℕ, false, List, Option, None, ap, sym}
 use Rattle.std.specs.Prelude.{if◌then◌else◌}
-use Rattle.std.specs.Option.{option_map}
+use Rattle.std.specs.Option.{option_map, option_or}
 use Rattle.jg_words.specs.declared.thread.EnvId.{EnvId}
 use Rattle.jg_policy.specs.Stated.{StatedSetup}
 use Rattle.jg_rules.specs.declared.named.Named.{Named}
 use Rattle.jg_rules.specs.Parts.{Parts}
 use Rattle.jg_rules.specs.Names.{names}
-use Rattle.jg_rules.proofs.Split.{first_there}
 use Rattle.jg_functions.specs.Columns.{Columns}
 use Rattle.jg_questions.specs.declared.argument.Argument.{Argument}
 use Rattle.jg_questions.specs.declared.argument.Bounds.{Bounds}
@@ -27,7 +26,7 @@ pub passes : (bounds : Bounds) (s : StatedSetup) (p : Parts) (t : ℕ) (env : Op
 passes bounds s p t env row xs named own attached outside calm are kind effect =
     let none : verdict bounds s p t env row xs ≡ None =
     after_four bounds s p t env row xs own attached outside calm
-    ∙ (ap (λ (f : Faults). first_there (of_faults f (wrong_kind row.effect (first_reference xs))) (of_effect s p t row.effect (first_reference xs) xs)) are.sound
-    ∙ (ap (λ w. first_there (of_faults no_faults w) (of_effect s p t row.effect (first_reference xs) xs)) kind ∙ effect)) in
+    ∙ (ap (λ (f : Faults). option_or (of_faults f (wrong_kind row.effect (first_reference xs))) (of_effect s p t row.effect (first_reference xs) xs)) are.sound
+    ∙ (ap (λ w. option_or (of_faults no_faults w) (of_effect s p t row.effect (first_reference xs) xs)) kind ∙ effect)) in
     ap (λ b. if b then by_rule (names p t (first_reference xs)) (first_broken bounds s p t env row xs) else Misfit) are.suit
     ∙ (ap (λ r. by_rule (names p t (first_reference xs)) (option_map (with_culprit bounds s p t row.takes xs) r)) none ∙ ap Passed (sym are.names))

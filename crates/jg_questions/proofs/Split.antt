@@ -9,7 +9,6 @@ use Rattle.jg_words.specs.declared.rule.Rule.{Rule}
 use Rattle.jg_words.specs.declared.rule.Rule.TheVariants.{ForeignLocal, DeadReference, WrongRefKind, NullReference, WrongType, BadField, BadBuffer, BadArgument, Pinned, NotOwner, BadFrame, NoNativeAccess, NotLinked}
 use Rattle.jg_policy.specs.Stated.{StatedSetup}
 use Rattle.jg_rules.specs.Parts.{Parts}
-use Rattle.jg_rules.proofs.Split.{first_there}
 use Rattle.jg_functions.specs.Columns.{Columns}
 use Rattle.jg_functions.specs.declared.row.Takes.{Takes}
 use Rattle.jg_questions.specs.declared.argument.Argument.{Argument}
@@ -40,7 +39,7 @@ of_faults faults is_wrong_kind =
 nested : (a b c d e f g h : Bool) (later : Option Rule)
     → (if a then Some ForeignLocal else if b then Some DeadReference else if c then Some WrongRefKind else if d then Some NullReference else if e then Some WrongType
     else if f then Some BadField else if g then Some BadBuffer else if h then Some BadArgument else later)
-    ≡ first_there (if a then Some ForeignLocal else if b then Some DeadReference else if c then Some WrongRefKind else if d then Some NullReference else if e then Some WrongType
+    ≡ option_or (if a then Some ForeignLocal else if b then Some DeadReference else if c then Some WrongRefKind else if d then Some NullReference else if e then Some WrongType
     else if f then Some BadField else if g then Some BadBuffer else if h then Some BadArgument else None) later
 nested true b c d e f g h later = refl
 nested false true c d e f g h later = refl
@@ -56,7 +55,7 @@ nested false false false false false false false false later = refl
 pub after_four : (bounds : Bounds) (s : StatedSetup) (p : Parts) (t : ℕ) (env : Option EnvId) (row : Columns) (xs : List Argument)
     → wrong_thread t env row ≡ false → detached p t env row ≡ false → in_critical p t row ≡ false → while_pending p t row ≡ false
     → verdict bounds s p t env row xs
-    ≡ first_there (of_faults (faults_in s p t (record { bounds = bounds; via = first_reference xs; info = buffer_meant p (first_buffer xs) }) (paired row.takes xs))
+    ≡ option_or (of_faults (faults_in s p t (record { bounds = bounds; via = first_reference xs; info = buffer_meant p (first_buffer xs) }) (paired row.takes xs))
     (wrong_kind row.effect (first_reference xs))) (of_effect s p t row.effect (first_reference xs) xs)
 after_four bounds s p t env row xs own attached outside calm =
     let beside : Beside = record { bounds = bounds; via = first_reference xs; info = buffer_meant p (first_buffer xs) } in
@@ -64,7 +63,7 @@ after_four bounds s p t env row xs own attached outside calm =
     rw (own, attached, outside, calm)
     (nested f.foreign_local f.dead_reference (wrong_kind row.effect (first_reference xs)) f.null_reference f.wrong_type f.bad_field f.bad_buffer f.bad_argument
     (of_effect s p t row.effect (first_reference xs) xs)
-    ∙ ap (λ (x : Faults). first_there (of_faults x (wrong_kind row.effect (first_reference xs))) (of_effect s p t row.effect (first_reference xs) xs))
+    ∙ ap (λ (x : Faults). option_or (of_faults x (wrong_kind row.effect (first_reference xs))) (of_effect s p t row.effect (first_reference xs) xs))
     (sym (each_found s p t beside (paired row.takes xs))))
 
 -- ---- with the operand that breaks it
@@ -127,7 +126,7 @@ effect_named named false false false true e na nb nc nd ne = ap Some nd
 effect_named named false false false false true na nb nc nd ne = ap Some ne
 effect_named named false false false false false na nb nc nd ne = refl
 
-first_named : (named : Rule → Broken) (found later : Option Rule) → option_map named (first_there found later) ≡ option_or (option_map named found) (option_map named later)
+first_named : (named : Rule → Broken) (found later : Option Rule) → option_map named (option_or found later) ≡ option_or (option_map named found) (option_map named later)
 first_named named (Some rule) later = refl
 first_named named None later = refl
 

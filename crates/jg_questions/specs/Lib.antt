@@ -3,6 +3,7 @@ pub mod Broken
 pub mod Culprit
 pub mod Faults
 pub mod Kinds
+pub mod Listed
 pub mod Sound
 pub mod Suits
 pub mod Written

@@ -34,3 +34,12 @@ pub struct Bounds {
     /// How many items of a region may be read.
     pub items: i32,
 }
+
+impl Bounds {
+    /// What the written machine bounds.
+    pub const WRITTEN: Bounds = Bounds {
+        capacity: 65_535,
+        length: 1_000_000,
+        items: 1_000,
+    };
+}

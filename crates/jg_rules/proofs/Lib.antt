@@ -1,5 +1,4 @@
 pub mod Unmade
 pub mod Kept
 pub mod Objects
-pub mod Split
 pub mod Holders

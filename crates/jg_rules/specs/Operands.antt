@@ -27,8 +27,6 @@ use Rattle.jg_words.specs.Classes.{array_class}
 use Rattle.jg_rules.specs.declared.operand.ObjectType.{ObjectType}
 use Rattle.jg_rules.specs.declared.operand.ObjectType.TheVariants.{AnyObject, ClassObject, PlainClass, ThrowableObject, StringObject, AnyArray, PrimitiveArray, ArrayOf, ObjectArray}
 use Rattle.jg_rules.specs.declared.operand.Operand.{Operand}
-use Rattle.jg_rules.specs.declared.operand.Operands.{Operands}
-use Rattle.jg_rules.specs.declared.operand.Operands.TheVariants.{Nil, One, Two}
 use Rattle.jg_rules.specs.Parts.{Parts}
 use Rattle.jg_rules.specs.Names.{class_of}
 
@@ -37,12 +35,6 @@ required r type = record { reference = r; nullable = false; object_type = type }
 
 abbrev pub optional : Ref → Operand
 optional r = record { reference = r; nullable = true; object_type = AnyObject }
-
--- as the code has them
-abbrev pub listed : Operands → List Operand
-listed Nil = []
-listed (One first) = first ∷ []
-listed (Two first second) = first ∷ second ∷ []
 
 abbrev pub vm_operands : VmCall → List Operand
 vm_operands AttachCurrentThread = []

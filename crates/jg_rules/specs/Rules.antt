@@ -1,5 +1,5 @@
 -- The rules, each as its own definition, and the first that a call breaks.
-use Rattle.std.specs.Prelude.{ℕ, ℤ, pos, ◌==◌, ◌&&◌, ◌||◌, Bool, true, false, not, if◌then◌else◌, nat_lt, int_lt, List, [], ◌∷◌, Option, Some, None, codes}
+use Rattle.std.specs.Prelude.{ℕ, ℤ, pos, ◌==◌, ◌&&◌, ◌||◌, Bool, true, false, not, nat_lt, int_lt, List, [], ◌∷◌, Option, Some, None, codes}
 use Rattle.std.specs.List.{list_any, list_all, find}
 use Rattle.jg_words.specs.Call.{fun_of}
 use Rattle.jg_words.specs.Fun.{needs_env}
@@ -38,7 +38,6 @@ use Rattle.jg_policy.specs.Links as links
 use Rattle.jg_rules.specs.declared.named.Named.{Named}
 use Rattle.jg_rules.specs.declared.named.Named.TheVariants.{Nothing, Null as NamesNull, Object}
 use Rattle.jg_rules.specs.declared.operand.ObjectType.{ObjectType}
-use Rattle.jg_rules.specs.declared.operand.Operand.{Operand}
 use Rattle.jg_rules.specs.Parts.{Parts}
 use Rattle.jg_rules.specs.Numbers.{is_within, is_value_of}
 use Rattle.jg_heap.specs.Reading.{decoded}
@@ -497,31 +496,12 @@ broken BadFrame s p t env call = bad_frame p t call
 broken NoNativeAccess s p t env call = no_access s p t call
 broken NotLinked s p t env call = not_linked s p call
 
--- the rules that each group of functions judges for itself
-abbrev pub own_rules : List Rule
-own_rules = BadField ∷ BadBuffer ∷ BadArgument ∷ Pinned ∷ NotOwner ∷ BadFrame ∷ NoNativeAccess ∷ NotLinked ∷ []
-
 -- the rules in their order
 abbrev pub rules_in_order : List Rule
 rules_in_order =
     WrongThread ∷ Detached ∷ InCritical ∷ Pending ∷ ForeignLocal ∷ DeadReference ∷ WrongRefKind ∷ NullReference
-    ∷ WrongType
-    ∷ own_rules
+    ∷ WrongType ∷ BadField ∷ BadBuffer ∷ BadArgument ∷ Pinned ∷ NotOwner ∷ BadFrame ∷ NoNativeAccess ∷ NotLinked ∷ []
 
 -- the first rule that the call breaks
 abbrev pub verdict : StatedSetup → Parts → ℕ → Option EnvId → Call → Option Rule
 verdict s p t env call = find (λ rule. broken rule s p t env call) rules_in_order
-
--- the first of rules 5 to 9 for a call of these operands
-abbrev pub operands_verdict : StatedSetup → Parts → ℕ → List Operand → Bool → Option Rule
-operands_verdict s p t xs is_wrong_kind =
-    if list_any (λ x. is_foreign t x.reference) xs then Some ForeignLocal
-    else if list_any (λ x. is_nothing (names p t x.reference)) xs then Some DeadReference
-    else if is_wrong_kind then Some WrongRefKind
-    else if list_any (λ x. not x.nullable && is_null (names p t x.reference)) xs then Some NullReference
-    else if list_any (λ x. is_wrong s p x.object_type (names p t x.reference)) xs then Some WrongType
-    else None
-
--- the first of rules 10 to 17; the environment plays no part in them
-abbrev pub own_verdict : StatedSetup → Parts → ℕ → Call → Option Rule
-own_verdict s p t call = find (λ rule. broken rule s p t None call) own_rules

@@ -1,4 +1,4 @@
-//! Buffers that native code was lent: whose one is, and what its items may be.
+//! Buffers that native code was lent: whose one is, what its items may be, and who may use it how.
 
 ghost use Rattle.std.specs.Prelude.{◌≡◌};
 ghost use Rattle.std.specs.Option.{option_map};
@@ -6,13 +6,15 @@ ghost use Rattle.jg_buffers.specs.History.{info_of, is_critical as is_pinning};
 ghost use Rattle.jg_buffers.specs.Rows.{row_of};
 ghost use Rattle.jg_rules.specs.Buffers as buffers_of;
 ghost use Rattle.jg_rules.specs.Parts.{Parts};
+ghost use Rattle.jg_rules.specs.Rules as rules_of;
 ghost use Rattle.jg_rules.specs.View.{ViewTells};
 
+use crate::named::object_named;
 use crate::object::class_of;
 use crate::store::Store;
 use crate::view::View;
 use jg_buffers::{Family, Info};
-use jg_words::{BufId, ItemType, ObjId, Primitive, Tid, element_of};
+use jg_words::{BufId, ItemType, ObjId, Primitive, Ref, Tid, element_of};
 use std::alloc::Allocator;
 
 /// The open buffer of that name, if there is one.
@@ -113,4 +115,59 @@ pub fn is_place(index: i32, length: u64) -> bool
     ensures { result ≡ buffers_of.is_place index length }
 {
     0 <= index && (index as u64) < length
+}
+
+/// Whether the thread may release it as a buffer of the family and of the object that the reference names.
+pub fn is_releasable<A: Allocator + Clone, S: Store>(
+    view: &View<'_, A, S>,
+    tid: Tid,
+    family: Family,
+    object: Ref,
+    buffer: BufId,
+) -> bool
+    ensures { (p : Parts) → ViewTells S.Tells view.now p
+        → result ≡ rules_of.is_releasable p tid.0 family object buffer }
+{
+    match buffer_named(view, buffer) {
+        None => false,
+        Some(info) => {
+            let is_own = is_of_object(object_named(view, tid, object), info);
+            is_of_family(family, info) && is_own && !is_anothers(tid, info)
+        }
+    }
+}
+
+/// Whether it is open, and the thread may read its items.
+pub fn is_readable<A: Allocator + Clone, S: Store>(
+    view: &View<'_, A, S>,
+    tid: Tid,
+    buffer: BufId,
+) -> bool
+    ensures { (p : Parts) → ViewTells S.Tells view.now p → result ≡ rules_of.is_readable p tid.0 buffer }
+{
+    match buffer_named(view, buffer) {
+        None => false,
+        Some(info) => !is_anothers(tid, info),
+    }
+}
+
+/// Whether it is open, and the thread may write its items.
+pub fn is_writable<A: Allocator + Clone, S: Store>(
+    view: &View<'_, A, S>,
+    tid: Tid,
+    buffer: BufId,
+) -> bool
+    ensures { (p : Parts) → ViewTells S.Tells view.now p → result ≡ rules_of.is_writable p tid.0 buffer }
+{
+    match buffer_named(view, buffer) {
+        None => false,
+        Some(info) => is_of_array(info.family) && !is_anothers(tid, info),
+    }
+}
+
+/// Whether it is 0, JNI_COMMIT or JNI_ABORT.
+pub fn is_mode(mode: i32) -> bool
+    ensures { result ≡ buffers_of.is_mode mode }
+{
+    0 <= mode && mode <= 2
 }

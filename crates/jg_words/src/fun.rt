@@ -1,8 +1,7 @@
 //! The functions, by group, and their names.
 
 ghost use Rattle.std.specs.Prelude.{◌≡◌, Some};
-ghost use Rattle.jg_words.specs.Fun.{name_of, needs_env, named};
-ghost use Rattle.jg_words.specs.Passing.{passes_critical, passes_pending};
+ghost use Rattle.jg_words.specs.Fun.{name_of, named};
 ghost use Rattle.jg_words.specs.declared.fun.Fun.{Fun as FunOf};
 
 pub mod arrays;
@@ -154,58 +153,6 @@ impl Fun {
             Fun::Arrays(fun) => fun.name(),
             Fun::Monitors(fun) => fun.name(),
             Fun::Buffers(fun) => fun.name(),
-        }
-    }
-
-    /// Whether it takes an environment.
-    pub fn takes_env(self) -> bool
-        ensures { result ≡ needs_env self }
-    {
-        match self {
-            Fun::Vm(fun) => fun.takes_env(),
-            Fun::Refs(_) => true,
-            Fun::Frames(_) => true,
-            Fun::Exceptions(_) => true,
-            Fun::Objects(_) => true,
-            Fun::Strings(_) => true,
-            Fun::Arrays(_) => true,
-            Fun::Monitors(_) => true,
-            Fun::Buffers(fun) => fun.takes_env(),
-        }
-    }
-
-    /// Whether it may be called inside a critical region (JNI Specification, chapter 4, GetPrimitiveArrayCritical).
-    pub fn passes_in_critical(self) -> bool
-        ensures { result ≡ passes_critical self }
-    {
-        match self {
-            Fun::Vm(_) => false,
-            Fun::Refs(_) => false,
-            Fun::Frames(_) => false,
-            Fun::Exceptions(_) => false,
-            Fun::Objects(_) => false,
-            Fun::Strings(_) => false,
-            Fun::Arrays(_) => false,
-            Fun::Monitors(_) => false,
-            Fun::Buffers(fun) => fun.passes_in_critical(),
-        }
-    }
-
-    /// Whether it may be called with an exception pending (JNI Specification, chapter 2, "Exceptions and Error
-    /// Codes").
-    pub fn passes_pending(self) -> bool
-        ensures { result ≡ passes_pending self }
-    {
-        match self {
-            Fun::Vm(fun) => fun.passes_pending(),
-            Fun::Refs(fun) => fun.passes_pending(),
-            Fun::Frames(fun) => fun.passes_pending(),
-            Fun::Exceptions(fun) => fun.passes_pending(),
-            Fun::Objects(_) => false,
-            Fun::Strings(_) => false,
-            Fun::Arrays(_) => false,
-            Fun::Monitors(fun) => fun.passes_pending(),
-            Fun::Buffers(fun) => fun.passes_pending(),
         }
     }
 

@@ -1,8 +1,7 @@
 //! The functions on buffers: their names, and when each may be called.
 
 ghost use Rattle.std.specs.Prelude.{◌≡◌};
-ghost use Rattle.jg_words.specs.Fun.{buffers_name, buffers_needs_env};
-ghost use Rattle.jg_words.specs.Passing.{buffers_passes_critical, buffers_passes_pending};
+ghost use Rattle.jg_words.specs.Fun.{buffers_name};
 
 use crate::object::Primitive;
 
@@ -53,67 +52,6 @@ impl BuffersFun {
             BuffersFun::ReleaseStringCritical => "ReleaseStringCritical",
             BuffersFun::BufferRead => "BufferRead",
             BuffersFun::BufferWrite => "BufferWrite",
-        }
-    }
-
-    /// Whether it takes an environment.
-    pub fn takes_env(self) -> bool
-        ensures { result ≡ buffers_needs_env self }
-    {
-        match self {
-            BuffersFun::GetArrayElements(_) => true,
-            BuffersFun::ReleaseArrayElements(_) => true,
-            BuffersFun::GetStringChars => true,
-            BuffersFun::ReleaseStringChars => true,
-            BuffersFun::GetStringUTFChars => true,
-            BuffersFun::ReleaseStringUTFChars => true,
-            BuffersFun::GetPrimitiveArrayCritical => true,
-            BuffersFun::ReleasePrimitiveArrayCritical => true,
-            BuffersFun::GetStringCritical => true,
-            BuffersFun::ReleaseStringCritical => true,
-            BuffersFun::BufferRead => false,
-            BuffersFun::BufferWrite => false,
-        }
-    }
-
-    /// Whether it may be called inside a critical region: the four critical functions, and what reads and writes a
-    /// buffer.
-    pub fn passes_in_critical(self) -> bool
-        ensures { result ≡ buffers_passes_critical self }
-    {
-        match self {
-            BuffersFun::GetArrayElements(_) => false,
-            BuffersFun::ReleaseArrayElements(_) => false,
-            BuffersFun::GetStringChars => false,
-            BuffersFun::ReleaseStringChars => false,
-            BuffersFun::GetStringUTFChars => false,
-            BuffersFun::ReleaseStringUTFChars => false,
-            BuffersFun::GetPrimitiveArrayCritical => true,
-            BuffersFun::ReleasePrimitiveArrayCritical => true,
-            BuffersFun::GetStringCritical => true,
-            BuffersFun::ReleaseStringCritical => true,
-            BuffersFun::BufferRead => true,
-            BuffersFun::BufferWrite => true,
-        }
-    }
-
-    /// Whether it may be called with an exception pending.
-    pub fn passes_pending(self) -> bool
-        ensures { result ≡ buffers_passes_pending self }
-    {
-        match self {
-            BuffersFun::GetArrayElements(_) => false,
-            BuffersFun::ReleaseArrayElements(_) => true,
-            BuffersFun::GetStringChars => false,
-            BuffersFun::ReleaseStringChars => true,
-            BuffersFun::GetStringUTFChars => false,
-            BuffersFun::ReleaseStringUTFChars => true,
-            BuffersFun::GetPrimitiveArrayCritical => false,
-            BuffersFun::ReleasePrimitiveArrayCritical => true,
-            BuffersFun::GetStringCritical => false,
-            BuffersFun::ReleaseStringCritical => true,
-            BuffersFun::BufferRead => true,
-            BuffersFun::BufferWrite => true,
         }
     }
 }

@@ -2,7 +2,6 @@
 
 ghost use Rattle.std.specs.Prelude.{◌≡◌};
 ghost use Rattle.jg_words.specs.Fun.{exceptions_name};
-ghost use Rattle.jg_words.specs.Passing.{exceptions_passes_pending};
 
 /// Exceptions (JNI Specification, chapter 4, "Exceptions").
 #[derive(Clone, Copy, PartialEq, Eq)]
@@ -25,19 +24,6 @@ impl ExceptionsFun {
             ExceptionsFun::ExceptionDescribe => "ExceptionDescribe",
             ExceptionsFun::ExceptionClear => "ExceptionClear",
             ExceptionsFun::ExceptionCheck => "ExceptionCheck",
-        }
-    }
-
-    /// Whether it may be called with an exception pending.
-    pub fn passes_pending(self) -> bool
-        ensures { result ≡ exceptions_passes_pending self }
-    {
-        match self {
-            ExceptionsFun::Throw => false,
-            ExceptionsFun::ExceptionOccurred => true,
-            ExceptionsFun::ExceptionDescribe => true,
-            ExceptionsFun::ExceptionClear => true,
-            ExceptionsFun::ExceptionCheck => true,
         }
     }
 }

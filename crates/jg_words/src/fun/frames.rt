@@ -2,7 +2,6 @@
 
 ghost use Rattle.std.specs.Prelude.{◌≡◌};
 ghost use Rattle.jg_words.specs.Fun.{frames_name};
-ghost use Rattle.jg_words.specs.Passing.{frames_passes_pending};
 
 /// Frames of local references (JNI Specification, chapter 4, "Local References").
 #[derive(Clone, Copy, PartialEq, Eq)]
@@ -21,17 +20,6 @@ impl FramesFun {
             FramesFun::PushLocalFrame => "PushLocalFrame",
             FramesFun::PopLocalFrame => "PopLocalFrame",
             FramesFun::EnsureLocalCapacity => "EnsureLocalCapacity",
-        }
-    }
-
-    /// Whether it may be called with an exception pending.
-    pub fn passes_pending(self) -> bool
-        ensures { result ≡ frames_passes_pending self }
-    {
-        match self {
-            FramesFun::PushLocalFrame => true,
-            FramesFun::PopLocalFrame => true,
-            FramesFun::EnsureLocalCapacity => false,
         }
     }
 }

@@ -2,7 +2,6 @@
 
 ghost use Rattle.std.specs.Prelude.{◌≡◌};
 ghost use Rattle.jg_words.specs.Fun.{monitors_name};
-ghost use Rattle.jg_words.specs.Passing.{monitors_passes_pending};
 
 /// Monitors (JNI Specification, chapter 4, "Monitor Operations").
 #[derive(Clone, Copy, PartialEq, Eq)]
@@ -19,16 +18,6 @@ impl MonitorsFun {
         match self {
             MonitorsFun::MonitorEnter => "MonitorEnter",
             MonitorsFun::MonitorExit => "MonitorExit",
-        }
-    }
-
-    /// Whether it may be called with an exception pending.
-    pub fn passes_pending(self) -> bool
-        ensures { result ≡ monitors_passes_pending self }
-    {
-        match self {
-            MonitorsFun::MonitorEnter => false,
-            MonitorsFun::MonitorExit => true,
         }
     }
 }

@@ -2,7 +2,6 @@
 
 ghost use Rattle.std.specs.Prelude.{◌≡◌};
 ghost use Rattle.jg_words.specs.Fun.{refs_name};
-ghost use Rattle.jg_words.specs.Passing.{refs_passes_pending};
 
 /// References (JNI Specification, chapter 4, "Global and Local References").
 #[derive(Clone, Copy, PartialEq, Eq)]
@@ -31,22 +30,6 @@ impl RefsFun {
             RefsFun::DeleteWeakGlobalRef => "DeleteWeakGlobalRef",
             RefsFun::IsSameObject => "IsSameObject",
             RefsFun::GetObjectRefType => "GetObjectRefType",
-        }
-    }
-
-    /// Whether it may be called with an exception pending.
-    pub fn passes_pending(self) -> bool
-        ensures { result ≡ refs_passes_pending self }
-    {
-        match self {
-            RefsFun::NewLocalRef => false,
-            RefsFun::NewGlobalRef => false,
-            RefsFun::NewWeakGlobalRef => false,
-            RefsFun::DeleteLocalRef => true,
-            RefsFun::DeleteGlobalRef => true,
-            RefsFun::DeleteWeakGlobalRef => true,
-            RefsFun::IsSameObject => false,
-            RefsFun::GetObjectRefType => false,
         }
     }
 }
