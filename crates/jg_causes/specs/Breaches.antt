@@ -1,7 +1,7 @@
 -- In which way a call breaks a rule. Where a rule has several parts, the first that fails is told.
 use Rattle.std.specs.Prelude.{ℕ, ℤ, pos, negsuc, ◌==◌, ◌&&◌, Bool, true, false, not, if◌then◌else◌, List, Option, Some, None}
 use Rattle.std.specs.Option.{option_map}
-use Rattle.std.specs.List.{find, position, position}
+use Rattle.std.specs.List.{find, position}
 use Rattle.jg_words.specs.declared.buffer.BufId.{BufId}
 use Rattle.jg_words.specs.declared.thread.Tid.{Tid}
 use Rattle.jg_words.specs.declared.thread.EnvId.{EnvId}
@@ -85,10 +85,6 @@ breaks s p t rule x = false
 -- the first operand, from left to right, that breaks it
 abbrev pub operand_meant : StatedSetup → Parts → ℕ → Call → Rule → Option Operand
 operand_meant s p t call rule = find (breaks s p t rule) (operands call)
-
--- its place among them, from 0
-abbrev pub place_meant : StatedSetup → Parts → ℕ → Call → Rule → Option ℕ
-place_meant s p t call rule = position (breaks s p t rule) (operands call)
 
 abbrev owner_of : Parts → ℕ → Option Tid
 owner_of p o = option_map (λ u. record { 0 = u }) (monitors.owner p.monitors o)

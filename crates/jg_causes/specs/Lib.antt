@@ -3,4 +3,4 @@ pub mod Causes
 pub mod Conditions
 pub mod Laws
 pub mod Turns
-pub mod Listed
+pub mod Referred

@@ -13,7 +13,7 @@ mod fields;
 mod holding;
 mod meanings;
 mod operands;
-mod references;
+mod referred;
 mod turns;
 
 pub use breach::{Argument, Breach};
@@ -22,5 +22,4 @@ pub use cause::conditions_of;
 pub use condition::Condition;
 pub use holding::holds;
 pub use meanings::{ends_once, latest_turned, made_by_its_answer, never_turned, turned_once};
-pub use operands::{operand_meant, place_meant, reference_breach};
 pub use turns::{Turns, turn};

@@ -1,14 +1,16 @@
 //! The rules that speak of one operand each: which one breaks them, and in which way.
 
-ghost use Rattle.std.specs.Prelude.{◌≡◌, option_map, find, position};
+ghost use Rattle.std.specs.Prelude.{◌≡◌, option_map, find, []};
 ghost use Rattle.jg_rules.specs.Parts.{Parts};
 ghost use Rattle.jg_rules.specs.View.{ViewStands, ViewTells};
 ghost use Rattle.jg_rules.specs.Rules.{is_wrong};
 ghost use Rattle.jg_causes.specs.Breaches as breaches;
-ghost use Rattle.jg_causes.specs.Listed.{listed};
+ghost use Rattle.jg_causes.specs.Referred.{also, referred};
 
 use crate::breach::Breach;
-use crate::references::{Operands, operands_of};
+use crate::referred::operand_in;
+use jg_functions::{Takes, row_of};
+use jg_questions::{Argument, Arguments, arguments_of, function_of};
 use jg_rules::{
     Named, ObjectType, Operand, Store, View, class_of, is_foreign_local, is_not_the_owner,
     is_object_of, look_up, object_named, the_object,
@@ -55,59 +57,58 @@ fn breaks<A: Allocator + Clone, S: Store>(
     }
 }
 
-/// The first of the operands, from left to right, that breaks the rule, and its place among them, from 0.
+/// The operand, if there is one, and it breaks the rule.
+fn if_it_breaks<A: Allocator + Clone, S: Store>(
+    view: &View<'_, A, S>,
+    tid: Tid,
+    rule: Rule,
+    operand: Option<Operand>,
+) -> Option<Operand>
+    ensures { (p : Parts) → ViewTells S.Tells view.now p → result
+        ≡ find (breaches.breaks view.now.setup.now p tid.0 rule) (also operand []) }
+{
+    match operand {
+        None => None,
+        Some(operand) => {
+            if breaks(view, tid, rule, operand) {
+                Some(operand)
+            } else {
+                None
+            }
+        }
+    }
+}
+
+/// The first of the references that rules speak of, from left to right, that breaks the rule.
 fn first_of<A: Allocator + Clone, S: Store>(
     view: &View<'_, A, S>,
     tid: Tid,
     rule: Rule,
-    operands: Operands,
-) -> Option<(usize, Operand)>
-    ensures place { (p : Parts) → ViewTells S.Tells view.now p → option_map (λ found. found.0) result
-        ≡ position (breaches.breaks view.now.setup.now p tid.0 rule) (listed operands) }
-    ensures operand { (p : Parts) → ViewTells S.Tells view.now p → option_map (λ found. found.1) result
-        ≡ find (breaches.breaks view.now.setup.now p tid.0 rule) (listed operands) }
+    takes: &[Takes],
+    arguments: &[Argument],
+) -> Option<Operand>
+    ensures { (p : Parts) → ViewTells S.Tells view.now p → result
+        ≡ find (breaches.breaks view.now.setup.now p tid.0 rule) (referred takes.now arguments.now) }
 {
-    match operands {
-        Operands::Nil => None,
-        Operands::One(first) => {
-            if breaks(view, tid, rule, first) {
-                Some((0, first))
-            } else {
-                None
-            }
+    let mut wanted = takes;
+    let mut rest = arguments;
+    while let Some((argument, later)) = rest.split_first() {
+        let Some((take, more)) = wanted.split_first() else {
+            return None;
+        };
+        let found = if_it_breaks(view, tid, rule, operand_in(*take, *argument));
+        if found.is_some() {
+            return found;
         }
-        Operands::Two(first, second) => {
-            if breaks(view, tid, rule, first) {
-                Some((0, first))
-            } else if breaks(view, tid, rule, second) {
-                Some((1, second))
-            } else {
-                None
-            }
-        }
+        wanted = more;
+        rest = later;
     }
-}
-
-/// The place among the call's references, from 0 and from left to right, of the first that breaks the rule, of those
-/// rules that speak of one operand each.
-pub fn place_meant<A: Allocator + Clone, S: Store>(
-    view: &View<'_, A, S>,
-    tid: Tid,
-    call: &Call,
-    rule: Rule,
-) -> Option<usize>
-    ensures { (p : Parts) → ViewTells S.Tells view.now p
-        → result ≡ breaches.place_meant view.now.setup.now p tid.0 call.now rule }
-{
-    match first_of(view, tid, rule, operands_of(call)) {
-        Some((place, _)) => Some(place),
-        None => None,
-    }
+    None
 }
 
 /// The first operand of the call, from left to right, that breaks the rule, of those rules that speak
 /// of one operand each.
-pub fn operand_meant<A: Allocator + Clone>(
+fn operand_meant<A: Allocator + Clone>(
     view: &View<'_, A>,
     tid: Tid,
     call: &Call,
@@ -116,14 +117,21 @@ pub fn operand_meant<A: Allocator + Clone>(
     ensures { (p : Parts) → ViewStands view.now p
         → result ≡ breaches.operand_meant view.now.setup.now p tid.0 call.now rule }
 {
-    match first_of(view, tid, rule, operands_of(call)) {
-        Some((_, operand)) => Some(operand),
-        None => None,
+    let Some(row) = row_of(usize::from(function_of(call))) else {
+        unreachable!()
+    };
+    match arguments_of(view, tid, call) {
+        Arguments::Empty => None,
+        Arguments::One(first) => first_of(view, tid, rule, row.takes, &[first]),
+        Arguments::Two(first, second) => first_of(view, tid, rule, row.takes, &[first, second]),
+        Arguments::Three(first, second, third) => {
+            first_of(view, tid, rule, row.takes, &[first, second, third])
+        }
     }
 }
 
 /// In which way the operand, which breaks the rule, does so.
-pub fn reference_breach<A: Allocator + Clone>(
+fn reference_breach<A: Allocator + Clone>(
     view: &View<'_, A>,
     tid: Tid,
     rule: Rule,
