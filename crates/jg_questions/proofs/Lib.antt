@@ -1,5 +1,6 @@
 pub mod Agreed
 pub mod Called
+pub mod Callers
 pub mod Found
 pub mod Passes
 pub mod Rows

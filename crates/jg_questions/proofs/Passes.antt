@@ -13,19 +13,20 @@ use Rattle.jg_questions.specs.declared.argument.Bounds.{Bounds}
 use Rattle.jg_questions.specs.declared.faults.Faults.{Faults}
 use Rattle.jg_questions.specs.declared.question.Verdict.TheVariants.{Misfit, Passed}
 use Rattle.jg_questions.specs.Asked.{first_reference}
-use Rattle.jg_questions.specs.Broken.{verdict, wrong_thread, detached, in_critical, while_pending, wrong_kind, of_effect}
+use Rattle.jg_questions.specs.Broken.{verdict, by_caller, wrong_kind, of_effect}
 use Rattle.jg_questions.specs.Culprit.{first_broken, with_culprit}
 use Rattle.jg_questions.specs.Faults.{no_faults}
 use Rattle.jg_questions.specs.Sound.{AreSound, by_rule, verdict_on}
+use Rattle.jg_questions.proofs.Callers.{caller_passes}
 use Rattle.jg_questions.proofs.Split.{after_four, of_faults}
 
 pub passes : (bounds : Bounds) (s : StatedSetup) (p : Parts) (t : ℕ) (env : Option EnvId) (row : Columns) (xs : List Argument) (named : Named)
-    → wrong_thread t env row ≡ false → detached p t env row ≡ false → in_critical p t row ≡ false → while_pending p t row ≡ false
-    → AreSound bounds s p t row.takes xs named → wrong_kind row.effect (first_reference xs) ≡ false → of_effect s p t row.effect (first_reference xs) xs ≡ None
+    → by_caller p t env row ≡ None → AreSound bounds s p t row.takes xs named → wrong_kind row.effect (first_reference xs) ≡ false → of_effect s p t row.effect (first_reference xs) xs ≡ None
     → verdict_on bounds s p t env row xs ≡ Passed named
-passes bounds s p t env row xs named own attached outside calm are kind effect =
+passes bounds s p t env row xs named caller are kind effect =
+    let first = caller_passes p t env row caller in
     let none : verdict bounds s p t env row xs ≡ None =
-    after_four bounds s p t env row xs own attached outside calm
+    after_four bounds s p t env row xs first.own first.attached first.outside first.calm
     ∙ (ap (λ (f : Faults). option_or (of_faults f (wrong_kind row.effect (first_reference xs))) (of_effect s p t row.effect (first_reference xs) xs)) are.sound
     ∙ (ap (λ w. option_or (of_faults no_faults w) (of_effect s p t row.effect (first_reference xs) xs)) kind ∙ effect)) in
     ap (λ b. if b then by_rule (names p t (first_reference xs)) (first_broken bounds s p t env row xs) else Misfit) are.suit

@@ -21,6 +21,7 @@ use Rattle.jg_questions.specs.Broken.{verdict, wrong_thread, detached, in_critic
 use Rattle.jg_questions.specs.declared.judge.Broken.{Broken}
 use Rattle.jg_questions.specs.Culprit.{first_broken, with_culprit, with_operand}
 use Rattle.jg_questions.specs.Faults.{faults_in, first_that, places_from, of_operands}
+use Rattle.jg_questions.proofs.Callers.{Passes}
 use Rattle.jg_questions.proofs.Found.{told, each_found, there_is_first}
 
 -- the first of rules 5 to 12, where operands break these
@@ -152,10 +153,7 @@ broken_after_four bounds s p t env row xs own attached outside calm =
 -- a question that breaks none of the first four rules, and what one pass over its operands found
 pub record IsPassedOver (bounds : Bounds) (s : StatedSetup) (p : Parts) (t : ℕ) (env : Option EnvId) (row : Columns) (xs : List Argument) (via : Ref) (info : Option Info)
     (places : Places) (wrong : Bool) (given : Option Broken) : Type 0 where
-  pub own : wrong_thread t env row ≡ false
-  pub attached : detached p t env row ≡ false
-  pub outside : in_critical p t row ≡ false
-  pub calm : while_pending p t row ≡ false
+  pub caller : Passes p t env row
   pub via_is : via ≡ first_reference xs
   pub info_is : info ≡ buffer_meant p (first_buffer xs)
   pub places_are : places ≡ places_from s p t (record { bounds = bounds; via = via; info = info }) 0 (paired row.takes xs)
@@ -187,7 +185,7 @@ by_operand bounds s p t env row xs via info places wrong given found is =
     some_found (of_operands (places_from s p t (record { bounds = bounds; via = first_reference xs; info = buffer_meant p (first_buffer xs) }) 0 (paired row.takes xs))
     (wrong_kind row.effect (first_reference xs))) (option_map with_operand (of_effect s p t row.effect (first_reference xs) xs)) given
     (found_by bounds s p t env row xs via info places wrong given found) is
-    ∙ sym (broken_after_four bounds s p t env row xs found.own found.attached found.outside found.calm)
+    ∙ sym (broken_after_four bounds s p t env row xs found.caller.own found.caller.attached found.caller.outside found.caller.calm)
 
 -- none does
 pub by_effect : (bounds : Bounds) (s : StatedSetup) (p : Parts) (t : ℕ) (env : Option EnvId) (row : Columns) (xs : List Argument) (via : Ref) (info : Option Info) (places : Places) (wrong : Bool)
@@ -199,4 +197,4 @@ by_effect bounds s p t env row xs via info places wrong given later effect found
     ∙ (none_found (of_operands (places_from s p t (record { bounds = bounds; via = first_reference xs; info = buffer_meant p (first_buffer xs) }) 0 (paired row.takes xs))
     (wrong_kind row.effect (first_reference xs))) (option_map with_operand (of_effect s p t row.effect (first_reference xs) xs)) given
     (found_by bounds s p t env row xs via info places wrong given found) is
-    ∙ sym (broken_after_four bounds s p t env row xs found.own found.attached found.outside found.calm)))
+    ∙ sym (broken_after_four bounds s p t env row xs found.caller.own found.caller.attached found.caller.outside found.caller.calm)))

@@ -237,6 +237,15 @@ broken BadFrame bounds s p t env row xs = bad_frame p t row.effect
 broken NoNativeAccess bounds s p t env row xs = no_access s p t row.effect (first_reference xs) xs
 broken NotLinked bounds s p t env row xs = not_linked s p row.effect xs
 
+-- the first of rules 1 to 4, which are about the caller
+abbrev pub by_caller : Parts → ℕ → Option EnvId → Columns → Option Rule
+by_caller p t env row =
+    if wrong_thread t env row then Some WrongThread
+    else if detached p t env row then Some Detached
+    else if in_critical p t row then Some InCritical
+    else if while_pending p t row then Some Pending
+    else None
+
 -- the first of rules 13 to 17
 abbrev pub of_effect : StatedSetup → Parts → ℕ → Effect → Ref → List Argument → Option Rule
 of_effect s p t effect r xs =

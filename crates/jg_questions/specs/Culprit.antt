@@ -15,10 +15,6 @@ use Rattle.jg_questions.specs.Asked.{paired, first_reference, first_buffer}
 use Rattle.jg_questions.specs.Broken.{buffer_meant, verdict}
 use Rattle.jg_questions.specs.Faults.{first_that}
 
--- no operand does
-abbrev pub by_none : Rule → Option Broken
-by_none rule = Some (record { rule = rule; operand = None })
-
 -- of the rules on what the function does: the reference that is deleted, the object whose monitor is given back, and
 -- the class that native methods are of stand first; a native method's name stands behind its class
 abbrev pub operand_of : Rule → Option ℕ

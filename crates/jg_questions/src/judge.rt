@@ -1,7 +1,8 @@
 //! The first rule that a question breaks, and which operand breaks it.
 
-ghost use Rattle.std.specs.Prelude.{◌≡◌, ◌<◌, IfSome};
+ghost use Rattle.std.specs.Prelude.{◌≡◌, ◌<◌, IfSome, Option, None};
 ghost use Rattle.std.specs.Option.{option_map};
+ghost use Rattle.jg_words.specs.declared.thread.EnvId.{EnvId as EnvIdOf};
 ghost use Rattle.jg_functions.specs.Columns.{columns};
 ghost use Rattle.jg_policy.specs.Stated.{class_count};
 ghost use Rattle.jg_rules.specs.Rules.{is_linked as is_linked_by};
@@ -34,16 +35,6 @@ pub struct Broken {
     pub operand: Option<usize>,
 }
 
-/// No operand breaks the rule.
-fn by_none(rule: Rule) -> Option<Broken>
-    ensures { result ≡ culprits.by_none rule }
-{
-    Some(Broken {
-        rule,
-        operand: None,
-    })
-}
-
 /// The operand at this place breaks the rule, where there is one.
 fn by(rule: Rule, operand: Option<usize>) -> Option<Broken>
     ensures { result ≡ spec.by rule operand }
@@ -63,7 +54,7 @@ fn is_collection(effect: Effect) -> bool
     }
 }
 
-pub fn is_wrong_thread(tid: Tid, env: Option<EnvId>, row: &Row) -> bool
+fn is_wrong_thread(tid: Tid, env: Option<EnvId>, row: &Row) -> bool
     ensures { result ≡ rules.wrong_thread tid.0 env (columns row.now) }
 {
     match env {
@@ -72,7 +63,7 @@ pub fn is_wrong_thread(tid: Tid, env: Option<EnvId>, row: &Row) -> bool
     }
 }
 
-pub fn is_detached<A: Allocator + Clone, S: Store>(
+fn is_detached<A: Allocator + Clone, S: Store>(
     view: &View<'_, A, S>,
     tid: Tid,
     env: Option<EnvId>,
@@ -112,7 +103,7 @@ fn passes_pending(passes: Passes) -> bool
     }
 }
 
-pub fn is_in_critical<A: Allocator + Clone, S: Store>(
+fn is_in_critical<A: Allocator + Clone, S: Store>(
     view: &View<'_, A, S>,
     tid: Tid,
     row: &Row,
@@ -122,7 +113,7 @@ pub fn is_in_critical<A: Allocator + Clone, S: Store>(
     !passes_in_critical(row.passes) && view.buffers.in_critical(tid)
 }
 
-pub fn is_while_pending<A: Allocator + Clone, S: Store>(
+fn is_while_pending<A: Allocator + Clone, S: Store>(
     view: &View<'_, A, S>,
     tid: Tid,
     row: &Row,
@@ -344,31 +335,42 @@ fn with_operand(rule: Option<Rule>) -> Option<Broken>
     }
 }
 
-/// The first rule that a question for the function of this row breaks, with these operands, as the tables are now, and
-/// the operand that breaks it; None where it breaks none. It looks each operand up once.
-pub fn first_broken<A: Allocator + Clone, S: Store>(
+/// The first of rules 1 to 4, which are about the caller.
+#[inline(always)]
+pub fn first_of_caller<A: Allocator + Clone, S: Store>(
     view: &View<'_, A, S>,
-    bounds: Bounds,
     tid: Tid,
     env: Option<EnvId>,
     row: &Row,
-    arguments: &[Argument],
-) -> Option<Broken>
-    ensures { (p : Parts) → ViewTells S.Tells view.now p
-        → result ≡ culprits.first_broken bounds view.now.setup.now p tid.0 env (columns row.now) arguments.now }
+) -> Option<Rule>
+    ensures { (p : Parts) → ViewTells S.Tells view.now p → result ≡ rules.by_caller p tid.0 env (columns row.now) }
 {
     if is_wrong_thread(tid, env, row) {
-        return by_none(Rule::WrongThread);
+        Some(Rule::WrongThread)
+    } else if is_detached(view, tid, env, row) {
+        Some(Rule::Detached)
+    } else if is_in_critical(view, tid, row) {
+        Some(Rule::InCritical)
+    } else if is_while_pending(view, tid, row) {
+        Some(Rule::Pending)
+    } else {
+        None
     }
-    if is_detached(view, tid, env, row) {
-        return by_none(Rule::Detached);
-    }
-    if is_in_critical(view, tid, row) {
-        return by_none(Rule::InCritical);
-    }
-    if is_while_pending(view, tid, row) {
-        return by_none(Rule::Pending);
-    }
+}
+
+/// The first rule that a question for the function of this row breaks, with these operands, whose caller breaks none,
+/// and the operand that breaks it; None where it breaks none. It looks each operand up once.
+pub fn first_of_others<A: Allocator + Clone, S: Store>(
+    view: &View<'_, A, S>,
+    bounds: Bounds,
+    tid: Tid,
+    row: &Row,
+    arguments: &[Argument],
+) -> Option<Broken>
+    ensures { (p : Parts) (env : Option EnvIdOf) → ViewTells S.Tells view.now p
+        → rules.by_caller p tid.0 env (columns row.now) ≡ None → result
+        ≡ culprits.first_broken bounds view.now.setup.now p tid.0 env (columns row.now) arguments.now }
+{
     let via = first_reference(arguments);
     let info = buffer_meant(view, arguments);
     let beside = Beside { bounds, via, info };

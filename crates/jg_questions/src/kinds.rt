@@ -97,7 +97,8 @@ fn is_own_array<A: Allocator + Clone, S: Store>(view: &View<'_, A, S>, object: O
     ensures { (p : Parts) → ViewTells S.Tells view.now p
         → result ≡ kinds.is_own_array view.now.setup.now p object.0 }
 {
-    is_own(view, OwnKind::Floats, object) || is_own(view, OwnKind::Doubles, object)
+    let class = class_of(view, object);
+    class == OwnKind::Floats.class_in(view.setup) || class == OwnKind::Doubles.class_in(view.setup)
 }
 
 /// Whether the object is of the kind.

@@ -19,7 +19,7 @@ pub use argument::{Argument, Bounds};
 pub use call::verdict_on_call;
 pub use firsts::{first_buffer, first_number, first_reference, native_by_name};
 pub use function::function_of;
-pub use judge::{Broken, first_broken};
+pub use judge::Broken;
 pub use kinds::{OwnKind, is_class};
 pub use operands::{Arguments, arguments_of, push_arguments};
 pub use promises::{calls_suit, judged_as_written};

@@ -1,25 +1,24 @@
 //! What a question comes to.
 
-ghost use Rattle.std.specs.Prelude.{◌≡◌, false, IfSome, IsTrue, None};
+ghost use Rattle.std.specs.Prelude.{◌≡◌, false, IfSome, IsTrue, Option, None};
+ghost use Rattle.jg_words.specs.declared.thread.EnvId.{EnvId as EnvIdOf};
 ghost use Rattle.jg_functions.specs.Columns.{columns};
 ghost use Rattle.jg_rules.specs.Parts.{Parts};
 ghost use Rattle.jg_rules.specs.View.{ViewTells};
 ghost use Rattle.jg_questions.specs.declared.question.Verdict.TheVariants.{Passed};
 ghost use Rattle.jg_questions.specs.Asked as asked;
 ghost use Rattle.jg_questions.specs.Broken as rules;
+ghost use Rattle.jg_questions.specs.Culprit as culprits;
 ghost use Rattle.jg_questions.specs.Sound as spec;
 
 use crate::argument::{Argument, Bounds};
 use crate::firsts::first_reference;
-use crate::judge::{
-    Broken, first_broken, is_detached, is_in_critical, is_while_pending, is_wrong_kind,
-    is_wrong_thread, judge_effect,
-};
+use crate::judge::{Broken, first_of_caller, first_of_others, is_wrong_kind, judge_effect};
 use crate::sound::first_of_sound;
 use crate::suiting::suits;
 use jg_functions::{Effect, Row};
 use jg_rules::{Named, Store, View, look_up};
-use jg_words::{EnvId, Tid};
+use jg_words::{EnvId, Rule, Tid};
 use std::alloc::Allocator;
 
 /// What a question comes to.
@@ -56,25 +55,20 @@ fn is_sound_effect<A: Allocator + Clone, S: Store>(
     }
 }
 
-/// What the first reference names, if it is found in one pass that the question breaks no rule. None says nothing.
+/// What the first reference names, if it is found in one pass that the question, whose caller breaks no rule, breaks
+/// none. None says nothing.
 #[inline(always)]
 fn passes_with<A: Allocator + Clone, S: Store>(
     view: &View<'_, A, S>,
     bounds: Bounds,
     tid: Tid,
-    env: Option<EnvId>,
     row: &Row,
     arguments: &[Argument],
 ) -> Option<Named>
-    ensures { (p : Parts) → ViewTells S.Tells view.now p → IfSome result (λ named. spec.verdict_on bounds
-        view.now.setup.now p tid.0 env (columns row.now) arguments.now ≡ Passed named) }
+    ensures { (p : Parts) (env : Option EnvIdOf) → ViewTells S.Tells view.now p
+        → rules.by_caller p tid.0 env (columns row.now) ≡ None → IfSome result (λ named.
+        spec.verdict_on bounds view.now.setup.now p tid.0 env (columns row.now) arguments.now ≡ Passed named) }
 {
-    if is_wrong_thread(tid, env, row) || is_detached(view, tid, env, row) {
-        return None;
-    }
-    if is_in_critical(view, tid, row) || is_while_pending(view, tid, row) {
-        return None;
-    }
     let Some(named) = first_of_sound(view, bounds, tid, row.takes, arguments) else {
         return None;
     };
@@ -82,6 +76,28 @@ fn passes_with<A: Allocator + Clone, S: Store>(
         Some(named)
     } else {
         None
+    }
+}
+
+/// The first rule that a question breaks whose operands suit, where this is the first that its caller breaks.
+fn first_broken<A: Allocator + Clone, S: Store>(
+    view: &View<'_, A, S>,
+    bounds: Bounds,
+    tid: Tid,
+    caller: Option<Rule>,
+    row: &Row,
+    arguments: &[Argument],
+) -> Option<Broken>
+    ensures { (p : Parts) (env : Option EnvIdOf) → ViewTells S.Tells view.now p
+        → caller ≡ rules.by_caller p tid.0 env (columns row.now) → result
+        ≡ culprits.first_broken bounds view.now.setup.now p tid.0 env (columns row.now) arguments.now }
+{
+    match caller {
+        Some(rule) => Some(Broken {
+            rule,
+            operand: None,
+        }),
+        None => first_of_others(view, bounds, tid, row, arguments),
     }
 }
 
@@ -98,13 +114,16 @@ pub fn verdict_on<A: Allocator + Clone, S: Store>(
     ensures { (p : Parts) → ViewTells S.Tells view.now p → result
         ≡ spec.verdict_on bounds view.now.setup.now p tid.0 env (columns row.now) arguments.now }
 {
-    if let Some(named) = passes_with(view, bounds, tid, env, row, arguments) {
-        return Verdict::Passed(named);
+    let caller = first_of_caller(view, tid, env, row);
+    if caller.is_none() {
+        if let Some(named) = passes_with(view, bounds, tid, row, arguments) {
+            return Verdict::Passed(named);
+        }
     }
     if !suits(row.takes, arguments) {
         return Verdict::Misfit;
     }
-    match first_broken(view, bounds, tid, env, row, arguments) {
+    match first_broken(view, bounds, tid, caller, row, arguments) {
         Some(broken) => Verdict::Broken(broken),
         None => Verdict::Passed(look_up(view, tid, first_reference(arguments))),
     }

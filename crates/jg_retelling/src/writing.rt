@@ -18,13 +18,6 @@ use jg_words::{Entry, Tid};
 use std::alloc::{Allocator, Global};
 use std::io::Write;
 
-/// What the guard bounds: the room of a frame, the length of an array, and the items of a region.
-const BOUNDS: Bounds = Bounds {
-    capacity: 65_535,
-    length: 1_000_000,
-    items: 1_000,
-};
-
 /// The thread that stands for the virtual machine.
 const MACHINE: Tid = Tid(0);
 
@@ -46,7 +39,7 @@ fn write_bounds<W: Write>(
         arguments: Vec::new(alloc),
         objects: Vec::new(alloc),
     };
-    if let Err(why) = push_line(out, setup, MACHINE, &Event::Bounds(BOUNDS), &lists) {
+    if let Err(why) = push_line(out, setup, MACHINE, &Event::Bounds(Bounds::WRITTEN), &lists) {
         return Err(RetellFault::Unwritten { line: 1, why });
     }
     match write_text(writer, out.as_bytes()) {

@@ -1,11 +1,8 @@
-use Rattle.std.proofs.Common.{◌∙◌, sym}
 use Rattle.jg_functions.specs.Columns.{columns}
 use Rattle.jg_questions.proofs.Passes.{passes}
 use Rattle.jg_questions.proofs.question.passes_with.Goals as goal
 
 pub returns-then-is_sound_effect : goal.returns-then-is_sound_effect
-returns-then-is_sound_effect g c = λ p stands.
-    passes c.args.bounds c.args.view.now.setup.now p c.args.tid.0 c.args.env (columns c.args.row.now) c.args.arguments.now c.in-Some.named (sym c.is_wrong_thread.ensures ∙ c.if-is_wrong_thread.false)
-    (sym (c.is_detached.ensures p stands) ∙ c.if-is_detached.false) (sym (c.is_in_critical.ensures p stands) ∙ c.if-is_in_critical.false)
-    (sym (c.is_while_pending.ensures p stands) ∙ c.if-is_while_pending.false) (c.in-Some.ensures p stands) (c.is_sound_effect.ensures.kind c.if-is_sound_effect.true)
-    (c.is_sound_effect.ensures.rest p stands c.if-is_sound_effect.true)
+returns-then-is_sound_effect g c = λ p env stands caller.
+    passes c.args.bounds c.args.view.now.setup.now p c.args.tid.0 env (columns c.args.row.now) c.args.arguments.now c.in-Some.named caller (c.in-Some.ensures p stands)
+    (c.is_sound_effect.ensures.kind c.if-is_sound_effect.true) (c.is_sound_effect.ensures.rest p stands c.if-is_sound_effect.true)
