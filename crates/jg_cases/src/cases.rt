@@ -1,6 +1,7 @@
 //! Files of cases: each case is tried, and what comes out otherwise is told.
 
 use crate::ends::other_own;
+use crate::functions::try_functions;
 use crate::headings::{Heading, Kind};
 use crate::journals::try_journal;
 use crate::parts::Case;
@@ -71,6 +72,7 @@ fn try_case<T: Threads + Wait + Sync + Files>(
             let text = case.text(Heading::Own).unwrap_or("");
             Ok(Came::of(other_own(rt, alloc, text)?))
         }
+        Kind::Functions => Ok(try_functions(case.text(Heading::Functions).unwrap_or(""))),
     }
 }
 

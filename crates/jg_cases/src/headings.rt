@@ -34,6 +34,7 @@ pub enum Heading {
     Migrated,
     EachByte,
     Own,
+    Functions,
 }
 
 /// What the text of a part may be.
@@ -68,10 +69,12 @@ pub enum Kind {
     Journal,
     /// Something is tried that no run shows.
     Own,
+    /// The table of all functions is compared with a list.
+    Functions,
 }
 
 /// Headings that are written so.
-const PLAIN: [(&str, Heading); 27] = [
+const PLAIN: [(&str, Heading); 28] = [
     ("words", Heading::Words),
     ("in", Heading::Input),
     ("reads", Heading::Reads),
@@ -99,6 +102,7 @@ const PLAIN: [(&str, Heading); 27] = [
     ("migrated", Heading::Migrated),
     ("each byte", Heading::EachByte),
     ("own", Heading::Own),
+    ("functions", Heading::Functions),
 ];
 
 /// Headings that begin so, and go on with a name.
@@ -171,6 +175,7 @@ impl Heading {
                     | Heading::Migrated
                     | Heading::EachByte
                     | Heading::Own
+                    | Heading::Functions
             ),
             Kind::Table => matches!(
                 self,
@@ -188,6 +193,7 @@ impl Heading {
                 Heading::File | Heading::Journal | Heading::Migrated | Heading::EachByte
             ),
             Kind::Own => self.is_same(Heading::Own),
+            Kind::Functions => self.is_same(Heading::Functions),
         }
     }
 }

@@ -7,6 +7,7 @@
 mod cases;
 mod devices;
 mod ends;
+mod functions;
 mod headings;
 mod journals;
 mod parts;

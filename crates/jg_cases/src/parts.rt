@@ -77,6 +77,8 @@ impl<'a> Case<'a> {
             Kind::Journal
         } else if self.has(Heading::Own) {
             Kind::Own
+        } else if self.has(Heading::Functions) {
+            Kind::Functions
         } else {
             Kind::Run
         }

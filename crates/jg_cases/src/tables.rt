@@ -25,6 +25,13 @@ pub struct Came {
 }
 
 impl Came {
+    /// What came of a case before its first row.
+    pub const NONE: Came = Came {
+        difference: None,
+        place: Place::Row(0),
+        rows: 0,
+    };
+
     /// What came of a case that is one row.
     pub fn of(difference: Difference) -> Came {
         Came {
@@ -44,7 +51,7 @@ impl Came {
     }
 
     /// Counts a row.
-    fn count(&mut self, difference: Difference) {
+    pub fn count(&mut self, difference: Difference) {
         self.rows = self.rows.saturating_add(1);
         if self.difference.is_none() && difference.is_some() {
             self.difference = difference;
@@ -138,11 +145,7 @@ pub fn try_table<T: Threads + Wait + Sync>(
         input: Vec::new(alloc),
         said: Vec::new(alloc),
     };
-    let mut came = Came {
-        difference: None,
-        place: Place::Row(0),
-        rows: 0,
-    };
+    let mut came = Came::NONE;
     begin_row(&mut row, case)?;
     try_rows(rt, alloc, case, table, &mut row, &mut came)?;
     Ok(came)
