@@ -25,7 +25,7 @@
  * did nothing. A call that answers an error changes nothing, so it may be made again after JG_NO_MEMORY; a verdict or a
  * name that it would write stays as it was. JG_UNWRITTEN alone comes of a call that was made. The numbers answered that
  * are no errors are lengths in bytes, numbers of rules and classes, or 0. Test with `< 0`: an `if (!jg_call_line(..))`
- * takes an error for an answer.
+ * takes an error for an answer. Compilers warn where an answer isn't used: see JG_MUST_USE.
  *
  * Pointers. Nothing is allocated for the caller, and no pointer is kept once a call has returned: buffers may stand on
  * the stack. What a call writes may not lie in what it reads. A pointer that is null is answered by JG_NULL_POINTER,
@@ -46,12 +46,52 @@
 #include <stddef.h>
 #include <stdint.h>
 
+/* ---- versions ---- */
+
+/*
+ * The number of what a compiled program relies on. The shared library's name ends with it, as in libjg.so.1. It rises
+ * where a program that was compiled with an earlier header could go wrong with the library:
+ *
+ * - a call is gone, or takes or answers something else;
+ * - a struct has other fields, or other places for them;
+ * - a number of this header or of jg_functions.h stands for something else, or is gone;
+ * - a call asks more of its caller, or does less.
+ *
+ * It stays where something is new: a call, a function, a rule, an error, a kind. So expect numbers that this header
+ * doesn't name: an error is each answer below 0, and a broken rule each that isn't 0. It stays, too, where only a text
+ * is another one. A release with another number raises the second number of the version as well (CHANGELOG.md).
+ */
+#define JG_ABI 1
+
+/* JG_ABI by the name of a parameter: jg_core_open and jg_guard_open compare it with the library's. Hand it in as is. */
+#define JG_VERSION JG_ABI
+
+/*
+ * The version of jg that this header is of, as a number: 200 is 0.2.0, and 10203 would be 1.2.3. It is for `#if`, where
+ * a program takes more than one version. jg_version has the text of the library's.
+ */
+#define JG_VERSION_NUMBER 200
+
+/*
+ * Stands before each function whose answer may be an error. A compiler that can do so warns where that isn't used. If
+ * an answer really is of no weight, say so: `if (jg_ends(&core, 1) < 0) {}`. Where JG_MUST_USE is defined before the
+ * header is included, as by `-DJG_MUST_USE=`, that stands in its place.
+ */
+#ifndef JG_MUST_USE
+#if defined(__cplusplus) && __cplusplus >= 201703L
+#define JG_MUST_USE [[nodiscard]]
+#elif defined(__STDC_VERSION__) && __STDC_VERSION__ >= 202311L
+#define JG_MUST_USE [[nodiscard]]
+#elif defined(__GNUC__)
+#define JG_MUST_USE __attribute__((warn_unused_result))
+#else
+#define JG_MUST_USE
+#endif
+#endif
+
 #ifdef __cplusplus
 extern "C" {
 #endif
-
-/* The version of this header, which `jg_core_open` and `jg_guard_open` compare with the library's. Hand it in as is. */
-#define JG_VERSION 1
 
 /* ---- errors ---- */
 
@@ -227,9 +267,11 @@ typedef struct jg_core {
  * setup text"; `size` bytes of UTF-8). `version` is JG_VERSION. 0, or JG_IS_OPEN, JG_BAD_VERSION, JG_NO_MEMORY, or a
  * fault of the setup text; the handle is as it was then.
  */
+JG_MUST_USE
 int32_t jg_core_open(const uint8_t *text, size_t size, const jg_bounds *bounds, uint32_t version, jg_core *core);
 
 /* Lets all go that the core holds; it is closed then, and may be opened again. 0, or JG_CLOSED. */
+JG_MUST_USE
 int32_t jg_core_close(jg_core *core);
 
 /*
@@ -243,6 +285,7 @@ int32_t jg_core_close(jg_core *core);
  * verdict's ticket, or by the facts themselves. Where it isn't, and the call isn't made, nothing is told. A machine that
  * makes it all the same tells what came of it by jg_did, too; see jg_is_in_doubt.
  */
+JG_MUST_USE
 int32_t jg_ask(jg_core *core, uint32_t thread, const jg_value *env, uint32_t function, const jg_value *operands,
                size_t count, jg_verdict *verdict);
 
@@ -255,6 +298,7 @@ int32_t jg_ask(jg_core *core, uint32_t thread, const jg_value *env, uint32_t fun
  * call jg_did after it: the verdict's ticket is for jg_told alone. As jg_ask; and JG_IMPOSSIBLE, JG_FULL. Of a function
  * that hands out something else a passed question is JG_IMPOSSIBLE.
  */
+JG_MUST_USE
 int32_t jg_ending(jg_core *core, uint32_t thread, const jg_value *env, uint32_t function, const jg_value *operands,
                   size_t count, jg_verdict *verdict, jg_value *given);
 
@@ -266,6 +310,7 @@ int32_t jg_ending(jg_core *core, uint32_t thread, const jg_value *env, uint32_t 
  * JG_CLOSED, JG_BAD_TICKET, JG_BAD_VALUE, JG_IMPOSSIBLE (also where no machine says this of such a call), JG_FULL,
  * JG_NO_MEMORY.
  */
+JG_MUST_USE
 int32_t jg_did(jg_core *core, const jg_ticket *ticket, const jg_value *says, jg_value *given);
 
 /*
@@ -277,6 +322,7 @@ int32_t jg_did(jg_core *core, const jg_ticket *ticket, const jg_value *says, jg_
  * environment, after all others as of a passed call. Of a denied DetachCurrentThread nothing is told: tell JG_ENDS when
  * the thread ends. It needs no handle, and may be called by several threads at once.
  */
+JG_MUST_USE
 int32_t jg_is_in_doubt(const jg_ticket *ticket);
 
 /*
@@ -288,12 +334,14 @@ int32_t jg_is_in_doubt(const jg_ticket *ticket);
  * The fact that jg_ending told is that of the verdict's ticket with JG_NOTHING; but of PopLocalFrame and NativeLeave
  * with the object that the first operand named, or with JG_NULL where it named none.
  */
+JG_MUST_USE
 int32_t jg_told(const jg_ticket *ticket, const jg_value *says, jg_fact *fact);
 
 /*
  * Takes a fact, and writes the name of what it hands out to `given`. Tell what ends something before the machine ends
  * it, and what begins something after. 0, or JG_CLOSED, JG_BAD_FACT, JG_IMPOSSIBLE, JG_FULL, JG_NO_MEMORY.
  */
+JG_MUST_USE
 int32_t jg_tell(jg_core *core, const jg_fact *fact, jg_value *given);
 
 /*
@@ -301,6 +349,7 @@ int32_t jg_tell(jg_core *core, const jg_fact *fact, jg_value *given);
  * place of the first that can't be gone is written to `held`, counted from 0. Weak references to them are cleared. 0,
  * or JG_CLOSED, JG_IMPOSSIBLE, JG_NO_MEMORY. Memory runs out only for more objects than were ever told at once.
  */
+JG_MUST_USE
 int32_t jg_gone(jg_core *core, const uint64_t *objects, size_t count, uint64_t *held);
 
 /*
@@ -310,18 +359,22 @@ int32_t jg_gone(jg_core *core, const uint64_t *objects, size_t count, uint64_t *
  * of a question JG_BAD_THREAD, JG_BAD_VALUE, JG_NO_FUNCTION; of a fact JG_BAD_FACT. JG_NO_TEXT: the function isn't in
  * the table or takes other operands, no object can be of the class, or the line would be too long.
  */
+JG_MUST_USE
 int64_t jg_question_line(jg_core *core, uint32_t thread, const jg_value *env, uint32_t function,
                          const jg_value *operands, size_t count, uint8_t *line, size_t room);
+JG_MUST_USE
 int64_t jg_fact_line(jg_core *core, const jg_fact *fact, uint8_t *line, size_t room);
 
 /*
  * The line of objects that are gone at once, by their numbers, told by this thread, which may be 0; as jg_fact_line,
  * and JG_BAD_THREAD. No object at all has no text.
  */
+JG_MUST_USE
 int64_t jg_gone_line(jg_core *core, uint32_t thread, const uint64_t *objects, size_t count, uint8_t *line,
                      size_t room);
 
 /* The line that tells the bounds by which the core judges; as jg_fact_line. It stands before the first question. */
+JG_MUST_USE
 int64_t jg_bounds_line(jg_core *core, uint8_t *line, size_t room);
 
 /*
@@ -329,18 +382,21 @@ int64_t jg_bounds_line(jg_core *core, uint8_t *line, size_t room);
  * monitors. How long the text is, 0 where nothing is left, of which `text` gets the first `room` bytes; else JG_CLOSED,
  * JG_NO_MEMORY.
  */
+JG_MUST_USE
 int64_t jg_core_leaks(jg_core *core, uint8_t *text, size_t room);
 
 /*
  * The number of the setup's class of this name, which is `size` bytes as JNI spells it: java/lang/String. Else
  * JG_CLOSED, JG_NO_NAME, JG_NO_MEMORY.
  */
+JG_MUST_USE
 int64_t jg_class_named(jg_core *core, const uint8_t *name, size_t size);
 
 /*
  * The number, from 1, of the native method of the class of this number that has this name and this type, as run and
  * ()V. Else JG_CLOSED, JG_NO_NAME, also where the setup states no such class, JG_NO_MEMORY.
  */
+JG_MUST_USE
 int64_t jg_native_named(jg_core *core, uint32_t class_number, const uint8_t *name, size_t size, const uint8_t *type,
                         size_t type_size);
 
@@ -348,6 +404,7 @@ int64_t jg_native_named(jg_core *core, uint32_t class_number, const uint8_t *nam
  * The number of the class of objects of this kind (JG_KIND_OBJECT and so on), for objects of classes that the setup
  * doesn't state. Else JG_CLOSED, JG_BAD_VALUE.
  */
+JG_MUST_USE
 int64_t jg_class_of(jg_core *core, uint32_t kind);
 
 /* ---- the adviser ---- */
@@ -398,9 +455,11 @@ enum {
  * Opens a closed handle on an adviser that was told nothing. A critical region is long where more than `most` calls are
  * made in it. 0, or JG_IS_OPEN, JG_NO_MEMORY.
  */
+JG_MUST_USE
 int32_t jg_adviser_open(uint64_t most, jg_adviser *adviser);
 
 /* Lets all go that the adviser holds; it is closed then, and may be opened again. 0, or JG_CLOSED. */
+JG_MUST_USE
 int32_t jg_adviser_close(jg_adviser *adviser);
 
 /*
@@ -408,22 +467,27 @@ int32_t jg_adviser_close(jg_adviser *adviser);
  * FindClass is handed, `size` bytes, and of no weight for other functions. 0, or JG_CLOSED (also of the core),
  * JG_BAD_THREAD, JG_BAD_VALUE, JG_NO_FUNCTION, JG_NO_MEMORY.
  */
+JG_MUST_USE
 int32_t jg_advise_call(jg_adviser *adviser, jg_core *core, uint64_t place, uint32_t thread, uint32_t function,
                        const jg_value *operands, size_t count, const uint8_t *name, size_t size);
 
 /* The core took this fact, and no other since. 0, or JG_CLOSED (also of the core), JG_BAD_FACT, JG_NO_MEMORY. */
+JG_MUST_USE
 int32_t jg_advise_fact(jg_adviser *adviser, jg_core *core, uint64_t place, const jg_fact *fact);
 
 /* The core took a jg_gone. 0, or JG_CLOSED, JG_NO_MEMORY. */
+JG_MUST_USE
 int32_t jg_advise_gone(jg_adviser *adviser, uint64_t place);
 
 /* Advises on what is left at the end of all. 0, or JG_CLOSED, JG_NO_MEMORY. */
+JG_MUST_USE
 int32_t jg_advise_end(jg_adviser *adviser);
 
 /*
  * Takes the oldest advice that wasn't taken yet. 1, and it is written; 0 where there is none; else JG_CLOSED,
  * JG_NO_MEMORY.
  */
+JG_MUST_USE
 int32_t jg_advised(jg_adviser *adviser, jg_advice *advice);
 
 /* ---- the guard ---- */
@@ -433,9 +497,11 @@ typedef struct jg_guard {
 } jg_guard;
 
 /* Opens a closed handle on a guard with an empty journal of at most `limit` entries; as jg_core_open. */
+JG_MUST_USE
 int32_t jg_guard_open(const uint8_t *text, size_t size, uint32_t limit, uint32_t version, jg_guard *guard);
 
 /* Lets all go that the guard holds; it is closed then, and may be opened again. 0, or JG_CLOSED. */
+JG_MUST_USE
 int32_t jg_guard_close(jg_guard *guard);
 
 /*
@@ -444,12 +510,14 @@ int32_t jg_guard_close(jg_guard *guard);
  * is journaled also where the room is too small. Else JG_CLOSED, a fault of the line, JG_LIMIT, JG_NO_MEMORY; then the
  * line is no entry. JG_UNWRITTEN: it is one, and memory ran out for its text; jg_newest_line writes it later.
  */
+JG_MUST_USE
 int64_t jg_call_line(jg_guard *guard, const uint8_t *line, size_t size, uint8_t *entry, size_t room);
 
 /*
  * Writes the line of the journal's newest entry again, as jg_call_line does. How long it is, 0 where the journal is
  * empty; else JG_CLOSED, JG_NO_MEMORY.
  */
+JG_MUST_USE
 int64_t jg_newest_line(jg_guard *guard, uint8_t *entry, size_t room);
 
 /* The most bytes that a line of a journal has, with its line feed. A line of a record has no more. */
@@ -459,15 +527,18 @@ int64_t jg_newest_line(jg_guard *guard, uint8_t *entry, size_t room);
  * The number of the first rule that the line's call would break now, 0 for none; nothing is done or journaled. Else
  * JG_CLOSED, a fault of the line, JG_NO_MEMORY.
  */
+JG_MUST_USE
 int32_t jg_judge_line(jg_guard *guard, const uint8_t *line, size_t size);
 
 /* What the journal leaves behind, as `jg --leaks` lists it; as jg_core_leaks. */
+JG_MUST_USE
 int64_t jg_guard_leaks(jg_guard *guard, uint8_t *text, size_t room);
 
 /*
  * Why the newest denied call was denied, as `jg --explain` says it (docs/EXPLAINING.md); as jg_core_leaks, and
  * JG_NO_RULE where none was.
  */
+JG_MUST_USE
 int64_t jg_guard_explain(jg_guard *guard, uint8_t *text, size_t room);
 
 /* ---- texts ---- */
@@ -475,6 +546,7 @@ int64_t jg_guard_explain(jg_guard *guard, uint8_t *text, size_t room);
 /* These need no handle, and may be called by several threads at once. */
 
 /* The version of jg, such as 0.2.0. How long it is, as above. */
+JG_MUST_USE
 int64_t jg_version(uint8_t *text, size_t room);
 
 /*
@@ -482,29 +554,38 @@ int64_t jg_version(uint8_t *text, size_t room);
  * short, such as `DeadReference`. The other texts are a sentence each, without a line feed, as `jg --explain` says them
  * behind `rule:` and `help:`.
  */
+JG_MUST_USE
 int64_t jg_rule_name(uint32_t rule, uint8_t *text, size_t room);
+JG_MUST_USE
 int64_t jg_rule_text(uint32_t rule, uint8_t *text, size_t room);
+JG_MUST_USE
 int64_t jg_help_text(uint32_t rule, uint8_t *text, size_t room);
 
 /*
  * Of a kind of advice its name, what is amiss, what the earlier call did, and what helps: for JG_UNCHECKED and so on,
  * else JG_BAD_VALUE. A verb is a word, such as `called`. The texts are as `jg` says them.
  */
+JG_MUST_USE
 int64_t jg_advice_name(uint32_t kind, uint8_t *text, size_t room);
+JG_MUST_USE
 int64_t jg_advice_text(uint32_t kind, uint8_t *text, size_t room);
+JG_MUST_USE
 int64_t jg_advice_verb(uint32_t kind, uint8_t *text, size_t room);
+JG_MUST_USE
 int64_t jg_advice_help(uint32_t kind, uint8_t *text, size_t room);
 
 /*
  * The name of the error of this number, as it stands above without JG_: BAD_TICKET. JG_BAD_VALUE where no error has
  * that number.
  */
+JG_MUST_USE
 int64_t jg_error_name(int32_t number, uint8_t *text, size_t room);
 
 /*
  * Whether the bytes are modified UTF-8 (JNI Specification, chapter 3), which NewStringUTF takes: 1 or 0, or
  * JG_NO_MEMORY. The final 0 of a C string isn't one of them.
  */
+JG_MUST_USE
 int32_t jg_is_utf8(const uint8_t *text, size_t size);
 
 #ifdef __cplusplus
@@ -520,6 +601,7 @@ int32_t jg_is_utf8(const uint8_t *text, size_t size);
  */
 #ifndef JG_NO_CHECKS
 
+JG_MUST_USE
 static inline int32_t jg_checked_core_open(const uint8_t *text, size_t size, const jg_bounds *bounds, uint32_t version,
                                            jg_core *core) {
     const uint8_t none = 0;
@@ -529,6 +611,7 @@ static inline int32_t jg_checked_core_open(const uint8_t *text, size_t size, con
     return jg_core_open(text ? text : &none, size, bounds, version, core);
 }
 
+JG_MUST_USE
 static inline int32_t jg_checked_core_close(jg_core *core) {
     if (!core) {
         return JG_NULL_POINTER;
@@ -536,6 +619,7 @@ static inline int32_t jg_checked_core_close(jg_core *core) {
     return jg_core_close(core);
 }
 
+JG_MUST_USE
 static inline int32_t jg_checked_ask(jg_core *core, uint32_t thread, const jg_value *env, uint32_t function,
                                      const jg_value *operands, size_t count, jg_verdict *verdict) {
     const jg_value none = {0, 0, 0};
@@ -545,6 +629,7 @@ static inline int32_t jg_checked_ask(jg_core *core, uint32_t thread, const jg_va
     return jg_ask(core, thread, env, function, operands ? operands : &none, count, verdict);
 }
 
+JG_MUST_USE
 static inline int32_t jg_checked_ending(jg_core *core, uint32_t thread, const jg_value *env, uint32_t function,
                                         const jg_value *operands, size_t count, jg_verdict *verdict,
                                         jg_value *given) {
@@ -555,6 +640,7 @@ static inline int32_t jg_checked_ending(jg_core *core, uint32_t thread, const jg
     return jg_ending(core, thread, env, function, operands ? operands : &none, count, verdict, given);
 }
 
+JG_MUST_USE
 static inline int32_t jg_checked_did(jg_core *core, const jg_ticket *ticket, const jg_value *says, jg_value *given) {
     if (!core || !ticket || !says || !given) {
         return JG_NULL_POINTER;
@@ -562,10 +648,12 @@ static inline int32_t jg_checked_did(jg_core *core, const jg_ticket *ticket, con
     return jg_did(core, ticket, says, given);
 }
 
+JG_MUST_USE
 static inline int32_t jg_checked_is_in_doubt(const jg_ticket *ticket) {
     return ticket ? jg_is_in_doubt(ticket) : JG_NULL_POINTER;
 }
 
+JG_MUST_USE
 static inline int32_t jg_checked_told(const jg_ticket *ticket, const jg_value *says, jg_fact *fact) {
     if (!ticket || !says || !fact) {
         return JG_NULL_POINTER;
@@ -573,6 +661,7 @@ static inline int32_t jg_checked_told(const jg_ticket *ticket, const jg_value *s
     return jg_told(ticket, says, fact);
 }
 
+JG_MUST_USE
 static inline int32_t jg_checked_tell(jg_core *core, const jg_fact *fact, jg_value *given) {
     if (!core || !fact || !given) {
         return JG_NULL_POINTER;
@@ -580,6 +669,7 @@ static inline int32_t jg_checked_tell(jg_core *core, const jg_fact *fact, jg_val
     return jg_tell(core, fact, given);
 }
 
+JG_MUST_USE
 static inline int32_t jg_checked_gone(jg_core *core, const uint64_t *objects, size_t count, uint64_t *held) {
     const uint64_t none = 0;
     if (!core || (!objects && count) || !held) {
@@ -588,6 +678,7 @@ static inline int32_t jg_checked_gone(jg_core *core, const uint64_t *objects, si
     return jg_gone(core, objects ? objects : &none, count, held);
 }
 
+JG_MUST_USE
 static inline int64_t jg_checked_question_line(jg_core *core, uint32_t thread, const jg_value *env, uint32_t function,
                                                const jg_value *operands, size_t count, uint8_t *line, size_t room) {
     const jg_value none = {0, 0, 0};
@@ -599,6 +690,7 @@ static inline int64_t jg_checked_question_line(jg_core *core, uint32_t thread, c
                             room);
 }
 
+JG_MUST_USE
 static inline int64_t jg_checked_fact_line(jg_core *core, const jg_fact *fact, uint8_t *line, size_t room) {
     uint8_t nowhere = 0;
     if (!core || !fact || (!line && room)) {
@@ -607,6 +699,7 @@ static inline int64_t jg_checked_fact_line(jg_core *core, const jg_fact *fact, u
     return jg_fact_line(core, fact, line ? line : &nowhere, room);
 }
 
+JG_MUST_USE
 static inline int64_t jg_checked_gone_line(jg_core *core, uint32_t thread, const uint64_t *objects, size_t count,
                                            uint8_t *line, size_t room) {
     const uint64_t none = 0;
@@ -617,6 +710,7 @@ static inline int64_t jg_checked_gone_line(jg_core *core, uint32_t thread, const
     return jg_gone_line(core, thread, objects ? objects : &none, count, line ? line : &nowhere, room);
 }
 
+JG_MUST_USE
 static inline int64_t jg_checked_bounds_line(jg_core *core, uint8_t *line, size_t room) {
     uint8_t nowhere = 0;
     if (!core || (!line && room)) {
@@ -625,6 +719,7 @@ static inline int64_t jg_checked_bounds_line(jg_core *core, uint8_t *line, size_
     return jg_bounds_line(core, line ? line : &nowhere, room);
 }
 
+JG_MUST_USE
 static inline int64_t jg_checked_core_leaks(jg_core *core, uint8_t *text, size_t room) {
     uint8_t nowhere = 0;
     if (!core || (!text && room)) {
@@ -633,6 +728,7 @@ static inline int64_t jg_checked_core_leaks(jg_core *core, uint8_t *text, size_t
     return jg_core_leaks(core, text ? text : &nowhere, room);
 }
 
+JG_MUST_USE
 static inline int64_t jg_checked_class_named(jg_core *core, const uint8_t *name, size_t size) {
     const uint8_t none = 0;
     if (!core || (!name && size)) {
@@ -641,6 +737,7 @@ static inline int64_t jg_checked_class_named(jg_core *core, const uint8_t *name,
     return jg_class_named(core, name ? name : &none, size);
 }
 
+JG_MUST_USE
 static inline int64_t jg_checked_native_named(jg_core *core, uint32_t class_number, const uint8_t *name, size_t size,
                                               const uint8_t *type, size_t type_size) {
     const uint8_t none = 0;
@@ -650,6 +747,7 @@ static inline int64_t jg_checked_native_named(jg_core *core, uint32_t class_numb
     return jg_native_named(core, class_number, name ? name : &none, size, type ? type : &none, type_size);
 }
 
+JG_MUST_USE
 static inline int64_t jg_checked_class_of(jg_core *core, uint32_t kind) {
     if (!core) {
         return JG_NULL_POINTER;
@@ -657,6 +755,7 @@ static inline int64_t jg_checked_class_of(jg_core *core, uint32_t kind) {
     return jg_class_of(core, kind);
 }
 
+JG_MUST_USE
 static inline int32_t jg_checked_adviser_open(uint64_t most, jg_adviser *adviser) {
     if (!adviser) {
         return JG_NULL_POINTER;
@@ -664,6 +763,7 @@ static inline int32_t jg_checked_adviser_open(uint64_t most, jg_adviser *adviser
     return jg_adviser_open(most, adviser);
 }
 
+JG_MUST_USE
 static inline int32_t jg_checked_adviser_close(jg_adviser *adviser) {
     if (!adviser) {
         return JG_NULL_POINTER;
@@ -671,6 +771,7 @@ static inline int32_t jg_checked_adviser_close(jg_adviser *adviser) {
     return jg_adviser_close(adviser);
 }
 
+JG_MUST_USE
 static inline int32_t jg_checked_advise_call(jg_adviser *adviser, jg_core *core, uint64_t place, uint32_t thread,
                                              uint32_t function, const jg_value *operands, size_t count,
                                              const uint8_t *name, size_t size) {
@@ -683,6 +784,7 @@ static inline int32_t jg_checked_advise_call(jg_adviser *adviser, jg_core *core,
                           name ? name : &nameless, size);
 }
 
+JG_MUST_USE
 static inline int32_t jg_checked_advise_fact(jg_adviser *adviser, jg_core *core, uint64_t place, const jg_fact *fact) {
     if (!adviser || !core || !fact) {
         return JG_NULL_POINTER;
@@ -690,6 +792,7 @@ static inline int32_t jg_checked_advise_fact(jg_adviser *adviser, jg_core *core,
     return jg_advise_fact(adviser, core, place, fact);
 }
 
+JG_MUST_USE
 static inline int32_t jg_checked_advise_gone(jg_adviser *adviser, uint64_t place) {
     if (!adviser) {
         return JG_NULL_POINTER;
@@ -697,6 +800,7 @@ static inline int32_t jg_checked_advise_gone(jg_adviser *adviser, uint64_t place
     return jg_advise_gone(adviser, place);
 }
 
+JG_MUST_USE
 static inline int32_t jg_checked_advise_end(jg_adviser *adviser) {
     if (!adviser) {
         return JG_NULL_POINTER;
@@ -704,6 +808,7 @@ static inline int32_t jg_checked_advise_end(jg_adviser *adviser) {
     return jg_advise_end(adviser);
 }
 
+JG_MUST_USE
 static inline int32_t jg_checked_advised(jg_adviser *adviser, jg_advice *advice) {
     if (!adviser || !advice) {
         return JG_NULL_POINTER;
@@ -711,6 +816,7 @@ static inline int32_t jg_checked_advised(jg_adviser *adviser, jg_advice *advice)
     return jg_advised(adviser, advice);
 }
 
+JG_MUST_USE
 static inline int32_t jg_checked_guard_open(const uint8_t *text, size_t size, uint32_t limit, uint32_t version,
                                             jg_guard *guard) {
     const uint8_t none = 0;
@@ -720,6 +826,7 @@ static inline int32_t jg_checked_guard_open(const uint8_t *text, size_t size, ui
     return jg_guard_open(text ? text : &none, size, limit, version, guard);
 }
 
+JG_MUST_USE
 static inline int32_t jg_checked_guard_close(jg_guard *guard) {
     if (!guard) {
         return JG_NULL_POINTER;
@@ -727,6 +834,7 @@ static inline int32_t jg_checked_guard_close(jg_guard *guard) {
     return jg_guard_close(guard);
 }
 
+JG_MUST_USE
 static inline int64_t jg_checked_call_line(jg_guard *guard, const uint8_t *line, size_t size, uint8_t *entry,
                                            size_t room) {
     const uint8_t none = 0;
@@ -737,6 +845,7 @@ static inline int64_t jg_checked_call_line(jg_guard *guard, const uint8_t *line,
     return jg_call_line(guard, line ? line : &none, size, entry ? entry : &nowhere, room);
 }
 
+JG_MUST_USE
 static inline int64_t jg_checked_newest_line(jg_guard *guard, uint8_t *entry, size_t room) {
     uint8_t nowhere = 0;
     if (!guard || (!entry && room)) {
@@ -745,6 +854,7 @@ static inline int64_t jg_checked_newest_line(jg_guard *guard, uint8_t *entry, si
     return jg_newest_line(guard, entry ? entry : &nowhere, room);
 }
 
+JG_MUST_USE
 static inline int32_t jg_checked_judge_line(jg_guard *guard, const uint8_t *line, size_t size) {
     const uint8_t none = 0;
     if (!guard || (!line && size)) {
@@ -753,6 +863,7 @@ static inline int32_t jg_checked_judge_line(jg_guard *guard, const uint8_t *line
     return jg_judge_line(guard, line ? line : &none, size);
 }
 
+JG_MUST_USE
 static inline int64_t jg_checked_guard_leaks(jg_guard *guard, uint8_t *text, size_t room) {
     uint8_t nowhere = 0;
     if (!guard || (!text && room)) {
@@ -761,6 +872,7 @@ static inline int64_t jg_checked_guard_leaks(jg_guard *guard, uint8_t *text, siz
     return jg_guard_leaks(guard, text ? text : &nowhere, room);
 }
 
+JG_MUST_USE
 static inline int64_t jg_checked_guard_explain(jg_guard *guard, uint8_t *text, size_t room) {
     uint8_t nowhere = 0;
     if (!guard || (!text && room)) {
@@ -769,6 +881,7 @@ static inline int64_t jg_checked_guard_explain(jg_guard *guard, uint8_t *text, s
     return jg_guard_explain(guard, text ? text : &nowhere, room);
 }
 
+JG_MUST_USE
 static inline int64_t jg_checked_version(uint8_t *text, size_t room) {
     uint8_t nowhere = 0;
     if (!text && room) {
@@ -777,6 +890,7 @@ static inline int64_t jg_checked_version(uint8_t *text, size_t room) {
     return jg_version(text ? text : &nowhere, room);
 }
 
+JG_MUST_USE
 static inline int64_t jg_checked_rule_name(uint32_t rule, uint8_t *text, size_t room) {
     uint8_t nowhere = 0;
     if (!text && room) {
@@ -785,6 +899,7 @@ static inline int64_t jg_checked_rule_name(uint32_t rule, uint8_t *text, size_t 
     return jg_rule_name(rule, text ? text : &nowhere, room);
 }
 
+JG_MUST_USE
 static inline int64_t jg_checked_rule_text(uint32_t rule, uint8_t *text, size_t room) {
     uint8_t nowhere = 0;
     if (!text && room) {
@@ -793,6 +908,7 @@ static inline int64_t jg_checked_rule_text(uint32_t rule, uint8_t *text, size_t 
     return jg_rule_text(rule, text ? text : &nowhere, room);
 }
 
+JG_MUST_USE
 static inline int64_t jg_checked_help_text(uint32_t rule, uint8_t *text, size_t room) {
     uint8_t nowhere = 0;
     if (!text && room) {
@@ -801,6 +917,7 @@ static inline int64_t jg_checked_help_text(uint32_t rule, uint8_t *text, size_t 
     return jg_help_text(rule, text ? text : &nowhere, room);
 }
 
+JG_MUST_USE
 static inline int64_t jg_checked_advice_name(uint32_t kind, uint8_t *text, size_t room) {
     uint8_t nowhere = 0;
     if (!text && room) {
@@ -809,6 +926,7 @@ static inline int64_t jg_checked_advice_name(uint32_t kind, uint8_t *text, size_
     return jg_advice_name(kind, text ? text : &nowhere, room);
 }
 
+JG_MUST_USE
 static inline int64_t jg_checked_advice_text(uint32_t kind, uint8_t *text, size_t room) {
     uint8_t nowhere = 0;
     if (!text && room) {
@@ -817,6 +935,7 @@ static inline int64_t jg_checked_advice_text(uint32_t kind, uint8_t *text, size_
     return jg_advice_text(kind, text ? text : &nowhere, room);
 }
 
+JG_MUST_USE
 static inline int64_t jg_checked_advice_verb(uint32_t kind, uint8_t *text, size_t room) {
     uint8_t nowhere = 0;
     if (!text && room) {
@@ -825,6 +944,7 @@ static inline int64_t jg_checked_advice_verb(uint32_t kind, uint8_t *text, size_
     return jg_advice_verb(kind, text ? text : &nowhere, room);
 }
 
+JG_MUST_USE
 static inline int64_t jg_checked_advice_help(uint32_t kind, uint8_t *text, size_t room) {
     uint8_t nowhere = 0;
     if (!text && room) {
@@ -833,6 +953,7 @@ static inline int64_t jg_checked_advice_help(uint32_t kind, uint8_t *text, size_
     return jg_advice_help(kind, text ? text : &nowhere, room);
 }
 
+JG_MUST_USE
 static inline int64_t jg_checked_error_name(int32_t number, uint8_t *text, size_t room) {
     uint8_t nowhere = 0;
     if (!text && room) {
@@ -841,6 +962,7 @@ static inline int64_t jg_checked_error_name(int32_t number, uint8_t *text, size_
     return jg_error_name(number, text ? text : &nowhere, room);
 }
 
+JG_MUST_USE
 static inline int32_t jg_checked_is_utf8(const uint8_t *text, size_t size) {
     const uint8_t nowhere = 0;
     if (!text && size) {
@@ -1036,6 +1158,7 @@ static inline jg_fact jg_fact_of(uint32_t word, uint32_t thread, jg_value name, 
 }
 
 /* Tells a fact. `given` may be null here and below: then the name isn't wanted. */
+JG_MUST_USE
 static inline int32_t jg_tell_of(jg_core *core, jg_fact fact, jg_value *given) {
     jg_value unwanted;
     return jg_tell(core, &fact, given ? given : &unwanted);
@@ -1047,16 +1170,19 @@ static inline int32_t jg_tell_of(jg_core *core, jg_fact fact, jg_value *given) {
  */
 
 /* A session of the thread begins: it has none. `env` gets its environment. */
+JG_MUST_USE
 static inline int32_t jg_begins(jg_core *core, uint32_t thread, jg_value *env) {
     return jg_tell_of(core, jg_fact_of(JG_BEGINS, thread, jg_nothing(), jg_null(), 0, 0), env);
 }
 
 /* The thread's session ends, with all that is open in it. */
+JG_MUST_USE
 static inline int32_t jg_ends(jg_core *core, uint32_t thread) {
     return jg_tell_of(core, jg_fact_of(JG_ENDS, thread, jg_nothing(), jg_null(), 0, 0), NULL);
 }
 
 /* The thread enters a native method, with nothing pending. What it is handed is told after that, by jg_got. */
+JG_MUST_USE
 static inline int32_t jg_enters(jg_core *core, uint32_t thread) {
     return jg_tell_of(core, jg_fact_of(JG_ENTERS, thread, jg_nothing(), jg_null(), 0, 0), NULL);
 }
@@ -1065,40 +1191,48 @@ static inline int32_t jg_enters(jg_core *core, uint32_t thread) {
  * It leaves the method, whose frames and locals end, and nothing is pending. `kept` is jg_null() where Java called the
  * method. Else it is the object that the thread's own native code is handed, of which `local` gets the reference.
  */
+JG_MUST_USE
 static inline int32_t jg_leaves(jg_core *core, uint32_t thread, jg_value kept, jg_value *local) {
     return jg_tell_of(core, jg_fact_of(JG_LEAVES, thread, jg_nothing(), kept, 0, 0), local);
 }
 
 /* It pushed a frame with room for so many local references. */
+JG_MUST_USE
 static inline int32_t jg_pushed(jg_core *core, uint32_t thread, uint32_t room) {
     return jg_tell_of(core, jg_fact_of(JG_PUSHED, thread, jg_nothing(), jg_null(), room, 0), NULL);
 }
 
 /* It popped a frame, whose locals end, and kept the object or jg_null(). `local` gets the reference to what it kept. */
+JG_MUST_USE
 static inline int32_t jg_popped(jg_core *core, uint32_t thread, jg_value kept, jg_value *local) {
     return jg_tell_of(core, jg_fact_of(JG_POPPED, thread, jg_nothing(), kept, 0, 0), local);
 }
 
 /* Its newest frame has room for so many more. */
+JG_MUST_USE
 static inline int32_t jg_ensured(jg_core *core, uint32_t thread, uint32_t room) {
     return jg_tell_of(core, jg_fact_of(JG_ENSURED, thread, jg_nothing(), jg_null(), room, 0), NULL);
 }
 
 /* The object is pending in the thread as its exception; nothing is. */
+JG_MUST_USE
 static inline int32_t jg_raised(jg_core *core, uint32_t thread, jg_value object) {
     return jg_tell_of(core, jg_fact_of(JG_RAISED, thread, jg_nothing(), object, 0, 0), NULL);
 }
 
+JG_MUST_USE
 static inline int32_t jg_calmed(jg_core *core, uint32_t thread) {
     return jg_tell_of(core, jg_fact_of(JG_CALMED, thread, jg_nothing(), jg_null(), 0, 0), NULL);
 }
 
 /* The thread was handed a reference to the object: `kind` is JG_LOCAL, JG_GLOBAL or JG_WEAK. */
+JG_MUST_USE
 static inline int32_t jg_got(jg_core *core, uint32_t thread, uint32_t kind, jg_value object, jg_value *reference) {
     return jg_tell_of(core, jg_fact_of(JG_GOT, thread, jg_nothing(), object, kind, 0), reference);
 }
 
 /* The reference ended. */
+JG_MUST_USE
 static inline int32_t jg_lost(jg_core *core, uint32_t thread, jg_value reference) {
     return jg_tell_of(core, jg_fact_of(JG_LOST, thread, reference, jg_null(), 0, 0), NULL);
 }
@@ -1107,21 +1241,25 @@ static inline int32_t jg_lost(jg_core *core, uint32_t thread, jg_value reference
  * The thread was lent a buffer of the object, of so many items, by a function of the family (JG_BOOLEANS and so on).
  * `by` is the reference that a critical buffer was asked for by, and of the other families jg_null().
  */
+JG_MUST_USE
 static inline int32_t jg_lent(jg_core *core, uint32_t thread, uint32_t family, jg_value object, jg_value by,
                               uint32_t length, jg_value *buffer) {
     return jg_tell_of(core, jg_fact_of(JG_LENT, thread, by, object, family, length), buffer);
 }
 
 /* The buffer was given back. */
+JG_MUST_USE
 static inline int32_t jg_gave(jg_core *core, uint32_t thread, jg_value buffer) {
     return jg_tell_of(core, jg_fact_of(JG_GAVE, thread, buffer, jg_null(), 0, 0), NULL);
 }
 
 /* The thread entered the object's monitor once more; it exited it once. */
+JG_MUST_USE
 static inline int32_t jg_owns(jg_core *core, uint32_t thread, jg_value object) {
     return jg_tell_of(core, jg_fact_of(JG_OWNS, thread, jg_nothing(), object, 0, 0), NULL);
 }
 
+JG_MUST_USE
 static inline int32_t jg_freed(jg_core *core, uint32_t thread, jg_value object) {
     return jg_tell_of(core, jg_fact_of(JG_FREED, thread, jg_nothing(), object, 0, 0), NULL);
 }
@@ -1130,26 +1268,31 @@ static inline int32_t jg_freed(jg_core *core, uint32_t thread, jg_value object) 
  * There is a next object, of the class (jg_class_named, jg_class_of) and so long: an array in items, a string
  * in UTF-16 units, another 0. `object` gets its name: keep it beside the machine's object.
  */
+JG_MUST_USE
 static inline int32_t jg_met(jg_core *core, uint32_t thread, uint32_t class_number, uint32_t length,
                              jg_value *object) {
     return jg_tell_of(core, jg_fact_of(JG_MET, thread, jg_nothing(), jg_null(), class_number, length), object);
 }
 
 /* The collector let one object go. Of several at once, and of which one can't be, jg_gone tells. */
+JG_MUST_USE
 static inline int32_t jg_gone_one(jg_core *core, uint32_t thread, jg_value object) {
     return jg_tell_of(core, jg_fact_of(JG_GONE, thread, jg_nothing(), object, 0, 0), NULL);
 }
 
 /* The native method of the class is linked, by their numbers in the setup; none of the class is. */
+JG_MUST_USE
 static inline int32_t jg_linked(jg_core *core, uint32_t thread, uint32_t class_number, uint32_t native) {
     return jg_tell_of(core, jg_fact_of(JG_LINKED, thread, jg_nothing(), jg_null(), class_number, native), NULL);
 }
 
+JG_MUST_USE
 static inline int32_t jg_unlinked(jg_core *core, uint32_t thread, uint32_t class_number) {
     return jg_tell_of(core, jg_fact_of(JG_UNLINKED, thread, jg_nothing(), jg_null(), class_number, 0), NULL);
 }
 
 /* The module of this number was warned of. */
+JG_MUST_USE
 static inline int32_t jg_warned(jg_core *core, uint32_t thread, uint32_t module_number) {
     return jg_tell_of(core, jg_fact_of(JG_WARNED, thread, jg_nothing(), jg_null(), module_number, 0), NULL);
 }
@@ -1160,14 +1303,17 @@ static inline int32_t jg_warned(jg_core *core, uint32_t thread, uint32_t module_
  * and are JG_IMPOSSIBLE where the core was told otherwise: so a mistake in what is told is found at its first wrong
  * answer.
  */
+JG_MUST_USE
 static inline int32_t jg_is_local(jg_core *core, uint32_t thread, uint64_t number, jg_value object) {
     return jg_tell_of(core, jg_fact_of(JG_IS_LOCAL, thread, jg_local(thread, number), object, 0, 0), NULL);
 }
 
+JG_MUST_USE
 static inline int32_t jg_is_pending(jg_core *core, uint32_t thread, jg_value object) {
     return jg_tell_of(core, jg_fact_of(JG_IS_PENDING, thread, jg_nothing(), object, 0, 0), NULL);
 }
 
+JG_MUST_USE
 static inline int32_t jg_is_length(jg_core *core, uint32_t thread, jg_value object, uint32_t length) {
     return jg_tell_of(core, jg_fact_of(JG_IS_LENGTH, thread, jg_nothing(), object, 0, length), NULL);
 }

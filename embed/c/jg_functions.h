@@ -1,6 +1,6 @@
 /*
  * jg_functions.h: the numbers of the functions that a core is asked about, which jg_ask, jg_ending and
- * jg_question_line take.
+ * jg_question_line take; and the names of functions, rules and errors as C strings.
  *
  * embed/functions wrote this from the table of crates/jg_functions. Behind each function stand its operands: a
  * question has just these, in this order. The operands that the table leaves out, such as the address of an array
@@ -8,6 +8,8 @@
  */
 #ifndef JG_FUNCTIONS_H
 #define JG_FUNCTIONS_H
+
+#include <stdint.h>
 
 /* How many there are. */
 #define JG_FUNCTIONS 243
@@ -517,5 +519,103 @@ enum {
     FN(Collect, 240, "") \
     FN(BufferRead, 241, "bn") \
     FN(BufferWrite, 242, "bnv")
+
+/* RULE(name, number) for each rule, and ERROR(name, number) for each error, which is JG_name in jg.h. */
+#define JG_EACH_RULE(RULE) \
+    RULE(WrongThread, 1) \
+    RULE(Detached, 2) \
+    RULE(InCritical, 3) \
+    RULE(Pending, 4) \
+    RULE(ForeignLocal, 5) \
+    RULE(DeadReference, 6) \
+    RULE(WrongRefKind, 7) \
+    RULE(NullReference, 8) \
+    RULE(WrongType, 9) \
+    RULE(BadField, 10) \
+    RULE(BadBuffer, 11) \
+    RULE(BadArgument, 12) \
+    RULE(Pinned, 13) \
+    RULE(NotOwner, 14) \
+    RULE(BadFrame, 15) \
+    RULE(NoNativeAccess, 16) \
+    RULE(NotLinked, 17)
+
+#define JG_EACH_ERROR(ERROR) \
+    ERROR(CLOSED, -1) \
+    ERROR(IS_OPEN, -2) \
+    ERROR(BAD_VERSION, -3) \
+    ERROR(NO_MEMORY, -4) \
+    ERROR(BAD_THREAD, -5) \
+    ERROR(BAD_VALUE, -6) \
+    ERROR(NO_FUNCTION, -7) \
+    ERROR(MISFIT, -8) \
+    ERROR(BAD_FACT, -9) \
+    ERROR(IMPOSSIBLE, -10) \
+    ERROR(FULL, -11) \
+    ERROR(BAD_TICKET, -12) \
+    ERROR(LIMIT, -13) \
+    ERROR(NO_TEXT, -14) \
+    ERROR(NO_RULE, -15) \
+    ERROR(UNWRITTEN, -16) \
+    ERROR(NO_NAME, -17) \
+    ERROR(NULL_POINTER, -18) \
+    ERROR(NOT_TOML, -32) \
+    ERROR(SETUP_VERSION, -33) \
+    ERROR(UNKNOWN_KEY, -34) \
+    ERROR(MISSING, -35) \
+    ERROR(BAD_TYPE, -36) \
+    ERROR(BAD_MODE, -37) \
+    ERROR(BAD_NAME, -38) \
+    ERROR(DUPLICATE, -39) \
+    ERROR(TOO_MANY, -40) \
+    ERROR(LINE_TOO_LONG, -64) \
+    ERROR(NOT_ASCII, -65) \
+    ERROR(NO_THREAD, -66) \
+    ERROR(NO_ENV, -67) \
+    ERROR(UNKNOWN_FUNCTION, -68) \
+    ERROR(WRONG_COUNT, -69) \
+    ERROR(BAD_OPERAND, -70)
+
+/* ---- names ---- */
+
+/*
+ * The name of a function, of a rule and of an error, as a C string: `GetStringLength`, `DeadReference`, `BAD_TICKET`.
+ * It is empty where none has that number. These need no library and no room.
+ */
+static inline const char *jg_function_string(uint32_t function) {
+#define JG_NAMED(name, number, sorts)                                                                                  \
+    case number:                                                                                                       \
+        return #name;
+    switch (function) {
+        JG_EACH_FUNCTION(JG_NAMED)
+    default:
+        return "";
+    }
+#undef JG_NAMED
+}
+
+static inline const char *jg_rule_string(uint32_t rule) {
+#define JG_NAMED(name, number)                                                                                         \
+    case number:                                                                                                       \
+        return #name;
+    switch (rule) {
+        JG_EACH_RULE(JG_NAMED)
+    default:
+        return "";
+    }
+#undef JG_NAMED
+}
+
+static inline const char *jg_error_string(int64_t error) {
+#define JG_NAMED(name, number)                                                                                         \
+    case number:                                                                                                       \
+        return #name;
+    switch (error) {
+        JG_EACH_ERROR(JG_NAMED)
+    default:
+        return "";
+    }
+#undef JG_NAMED
+}
 
 #endif

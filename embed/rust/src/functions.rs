@@ -1,9 +1,11 @@
-//! The functions that a core is asked about. `embed/functions` wrote this from the table of `crates/jg_functions`.
+//! The functions that a core is asked about, and the names of rules and errors. `embed/functions` wrote this from
+//! the table of `crates/jg_functions`, and from `crates/jg_words` and `crates/jg_c`.
 
 /// A function of the table, by its number there. Its operands stand behind it: a question has just these, in this
 /// order.
 #[derive(Clone, Copy, Debug, PartialEq, Eq, Hash, PartialOrd, Ord)]
 #[repr(u32)]
+#[non_exhaustive]
 pub enum Function {
     /// No operand.
     GetVersion = 0,
@@ -495,7 +497,7 @@ pub enum Function {
 
 impl Function {
     /// All functions, each at the place of its number.
-    pub const ALL: [Function; 243] = [
+    pub const ALL: &'static [Function] = &[
         Function::GetVersion,
         Function::DefineClass,
         Function::FindClass,
@@ -987,4 +989,63 @@ pub(crate) const NAMES: [&str; 243] = [
     "Collect",
     "BufferRead",
     "BufferWrite",
+];
+
+/// The name of each rule, in their order.
+pub(crate) const RULES: [&str; 17] = [
+    "WrongThread",
+    "Detached",
+    "InCritical",
+    "Pending",
+    "ForeignLocal",
+    "DeadReference",
+    "WrongRefKind",
+    "NullReference",
+    "WrongType",
+    "BadField",
+    "BadBuffer",
+    "BadArgument",
+    "Pinned",
+    "NotOwner",
+    "BadFrame",
+    "NoNativeAccess",
+    "NotLinked",
+];
+
+/// The number and the name of each error of `jg.h`.
+pub(crate) const ERRORS: [(i64, &str); 34] = [
+    (-1, "CLOSED"),
+    (-2, "IS_OPEN"),
+    (-3, "BAD_VERSION"),
+    (-4, "NO_MEMORY"),
+    (-5, "BAD_THREAD"),
+    (-6, "BAD_VALUE"),
+    (-7, "NO_FUNCTION"),
+    (-8, "MISFIT"),
+    (-9, "BAD_FACT"),
+    (-10, "IMPOSSIBLE"),
+    (-11, "FULL"),
+    (-12, "BAD_TICKET"),
+    (-13, "LIMIT"),
+    (-14, "NO_TEXT"),
+    (-15, "NO_RULE"),
+    (-16, "UNWRITTEN"),
+    (-17, "NO_NAME"),
+    (-18, "NULL_POINTER"),
+    (-32, "NOT_TOML"),
+    (-33, "SETUP_VERSION"),
+    (-34, "UNKNOWN_KEY"),
+    (-35, "MISSING"),
+    (-36, "BAD_TYPE"),
+    (-37, "BAD_MODE"),
+    (-38, "BAD_NAME"),
+    (-39, "DUPLICATE"),
+    (-40, "TOO_MANY"),
+    (-64, "LINE_TOO_LONG"),
+    (-65, "NOT_ASCII"),
+    (-66, "NO_THREAD"),
+    (-67, "NO_ENV"),
+    (-68, "UNKNOWN_FUNCTION"),
+    (-69, "WRONG_COUNT"),
+    (-70, "BAD_OPERAND"),
 ];
