@@ -1,6 +1,6 @@
 //! Finds `libjg.a`, which the crate is linked with: in the folder that the variable `JG_LIB` names; else in `out/` of
 //! the repository, where `./jg --lib` puts it; else where `jg.pc` says, which `make install` puts beside pkg-config's
-//! other files.
+//! other files. For documents no library is needed: with the feature `docs`, and on docs.rs.
 
 use std::env;
 use std::fs;
@@ -58,6 +58,7 @@ fn value_of(text: &str, name: &str) -> Option<String> {
 fn installed() -> Option<PathBuf> {
     folders().into_iter().find_map(|folder| {
         let text = fs::read_to_string(folder.join("jg.pc")).ok()?;
+        let text = format!("pcfiledir={}\n{text}", folder.display());
         value_of(&text, "libdir").map(PathBuf::from)
     })
 }
@@ -75,7 +76,16 @@ fn folder() -> Option<PathBuf> {
     installed()
 }
 
+/// Whether the crate is only read, as for its documents.
+fn is_for_documents() -> bool {
+    println!("cargo:rerun-if-env-changed=DOCS_RS");
+    env::var_os("CARGO_FEATURE_DOCS").is_some() || env::var_os("DOCS_RS").is_some()
+}
+
 fn main() {
+    if is_for_documents() {
+        return;
+    }
     let Some(folder) = folder() else {
         eprintln!("jg: {LIBRARY} isn't found; set JG_LIB to its folder, or run ./jg --lib, or make install in embed/c");
         exit(1);

@@ -12,6 +12,7 @@ use std::ptr::null_mut;
 /// A kind of advice.
 #[derive(Clone, Copy, Debug, PartialEq, Eq, Hash, PartialOrd, Ord)]
 #[repr(u32)]
+#[non_exhaustive]
 pub enum AdviceKind {
     /// A call after one that may have thrown, and nobody asked whether it did.
     Unchecked = 1,
@@ -31,7 +32,7 @@ pub enum AdviceKind {
 
 impl AdviceKind {
     /// All kinds, in their order.
-    pub const ALL: [AdviceKind; 7] = [
+    pub const ALL: &'static [AdviceKind] = &[
         AdviceKind::Unchecked,
         AdviceKind::WritesLost,
         AdviceKind::CommittedAndKept,
@@ -43,7 +44,8 @@ impl AdviceKind {
 
     fn of_number(number: u32) -> Result<AdviceKind, Error> {
         let found = AdviceKind::ALL
-            .into_iter()
+            .iter()
+            .copied()
             .find(|kind| *kind as u32 == number);
         found.ok_or(Error::Unknown(number.into()))
     }
@@ -89,9 +91,7 @@ impl Spot {
         Some(Spot {
             place: spot.place,
             thread: u16::try_from(spot.thread).ok()?,
-            function: Function::ALL
-                .into_iter()
-                .find(|it| it.number() == spot.function),
+            function: Function::of_number(spot.function),
         })
     }
 }
@@ -138,7 +138,8 @@ const NOWHERE: JgSpot = JgSpot {
 /// adviser.fact(&mut core, 1, Fact::Begins { thread: 1 })?;
 ///
 /// // FindClass of a descriptor, at a place that this program numbers 7.
-/// core.ask(1, Some(env), Function::FindClass, &[jg::Value::name()])?;
+/// let asked = core.ask(1, Some(env), Function::FindClass, &[jg::Value::name()])?;
+/// assert_eq!(asked.rule(), None);
 /// adviser.call(&mut core, 7, 1, Function::FindClass, &[jg::Value::name()], "Ljava/lang/String;")?;
 /// let advice = adviser.advised()?.unwrap();
 /// assert_eq!((advice.kind, advice.told.place), (AdviceKind::DescriptorForName, 7));

@@ -7,6 +7,8 @@ use crate::functions::Function;
 use crate::rule::Rule;
 use crate::text;
 use crate::value::{Buffer, Environment, Given, Kind, Object, Reference, Says, Value, NONE};
+use std::error;
+use std::fmt;
 use std::ptr::null_mut;
 
 /// By which numbers rule 12 judges.
@@ -30,7 +32,11 @@ impl Bounds {
 }
 
 /// What comes of a call, kept until the machine has answered ([`Core::did`]).
-#[derive(Clone, Copy, Debug, PartialEq, Eq)]
+///
+/// A call is told once, so there is one ticket of it. It holds no memory, and may be dropped where nothing is to be
+/// told.
+#[derive(Debug, PartialEq, Eq)]
+#[must_use = "what came of the call is told by `Core::did`"]
 pub struct Ticket(JgTicket);
 
 impl Ticket {
@@ -60,8 +66,34 @@ impl Ticket {
     }
 }
 
+/// Why [`Core::did`] told nothing, and the ticket. By that it may be told again: after [`Error::NoMemory`], or once
+/// what was missing is told.
+#[derive(Debug, PartialEq, Eq)]
+pub struct Untold {
+    /// Why nothing was told.
+    pub error: Error,
+    /// The ticket that was handed in.
+    pub ticket: Ticket,
+}
+
+impl From<Untold> for Error {
+    /// Lets the ticket go.
+    fn from(untold: Untold) -> Error {
+        untold.error
+    }
+}
+
+impl fmt::Display for Untold {
+    fn fmt(&self, out: &mut fmt::Formatter<'_>) -> fmt::Result {
+        self.error.fmt(out)
+    }
+}
+
+impl error::Error for Untold {}
+
 /// What a question is answered.
-#[derive(Clone, Copy, Debug, PartialEq, Eq)]
+#[derive(Debug, PartialEq, Eq)]
+#[must_use = "a verdict says whether the machine may make the call"]
 pub enum Verdict {
     /// It breaks no rule: let the machine make the call, and then tell what came of it.
     Passed(Ticket),
@@ -244,13 +276,15 @@ impl Core {
     }
 
     /// Tells what came of a call once it has returned, by what the machine says of it. Answers the name of what
-    /// it handed out.
-    pub fn did(&mut self, ticket: &Ticket, says: Says) -> Result<Given, Error> {
+    /// it handed out. Where nothing was told it hands the ticket back; `?` lets that go, and passes the [`Error`] on.
+    pub fn did(&mut self, ticket: Ticket, says: Says) -> Result<Given, Untold> {
         let (says, mut given) = (says.value(), NONE);
         // SAFETY: the handle is open, and nobody else uses it.
         let answer = unsafe { ffi::jg_did(&mut self.handle, &ticket.0, &says, &mut given) };
-        answered(answer.into())?;
-        Ok(Given::of(given))
+        match answered(answer.into()) {
+            Ok(_) => Ok(Given::of(given)),
+            Err(error) => Err(Untold { error, ticket }),
+        }
     }
 
     /// Takes a fact. Answers the name of what it hands out. Tell what ends something before the machine ends it, and

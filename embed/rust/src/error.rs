@@ -1,12 +1,13 @@
 //! Why a call did nothing.
 
-use crate::ffi;
-use crate::text;
+use crate::functions;
 use std::error;
 use std::fmt;
 
 /// What is wrong with a setup text (docs/FORMATS.md, "Faults").
 #[derive(Clone, Copy, Debug, PartialEq, Eq)]
+#[must_use]
+#[non_exhaustive]
 pub enum SetupFault {
     /// The text is no TOML document.
     NotToml,
@@ -30,6 +31,8 @@ pub enum SetupFault {
 
 /// What is wrong with a line of a script (docs/FORMATS.md, "Faults of a line").
 #[derive(Clone, Copy, Debug, PartialEq, Eq)]
+#[must_use]
+#[non_exhaustive]
 pub enum LineFault {
     /// It has more than 65,536 bytes.
     LineTooLong,
@@ -49,6 +52,8 @@ pub enum LineFault {
 
 /// Why a call did nothing.
 #[derive(Clone, Copy, Debug, PartialEq, Eq)]
+#[must_use]
+#[non_exhaustive]
 pub enum Error {
     /// The library is of another version than this crate.
     BadVersion,
@@ -141,10 +146,10 @@ impl Error {
     }
 
     /// Its name in `jg.h`, without `JG_`, as `BAD_TICKET`. An unknown error has none.
-    pub fn name(&self) -> Option<String> {
-        let number = i32::try_from(self.number()).ok()?;
-        // SAFETY: the room is as long as is said.
-        text::whole(|bytes, room| unsafe { ffi::jg_error_name(number, bytes, room) }).ok()
+    pub fn name(&self) -> Option<&'static str> {
+        let number = self.number();
+        let found = functions::ERRORS.iter().find(|(it, _)| *it == number);
+        found.map(|(_, name)| *name)
     }
 }
 
@@ -163,6 +168,24 @@ pub(crate) fn found(answer: i64, none: i64) -> Result<Option<u32>, Error> {
         .map_err(|_| Error::of(answer))
 }
 
+impl fmt::Display for SetupFault {
+    /// Writes its name, as docs/FORMATS.md has it.
+    fn fmt(&self, out: &mut fmt::Formatter<'_>) -> fmt::Result {
+        fmt::Debug::fmt(self, out)
+    }
+}
+
+impl error::Error for SetupFault {}
+
+impl fmt::Display for LineFault {
+    /// Writes its name, as docs/FORMATS.md has it.
+    fn fmt(&self, out: &mut fmt::Formatter<'_>) -> fmt::Result {
+        fmt::Debug::fmt(self, out)
+    }
+}
+
+impl error::Error for LineFault {}
+
 impl fmt::Display for Error {
     fn fmt(&self, out: &mut fmt::Formatter<'_>) -> fmt::Result {
         match self {
@@ -180,8 +203,8 @@ impl fmt::Display for Error {
             Error::Unwritten => {
                 out.write_str("the call was made, and there is no memory for its line")
             }
-            Error::Setup(fault) => write!(out, "setup: {fault:?}"),
-            Error::Line(fault) => write!(out, "line: {fault:?}"),
+            Error::Setup(fault) => write!(out, "setup: {fault}"),
+            Error::Line(fault) => write!(out, "line: {fault}"),
             Error::Unknown(answer) => write!(out, "the library answers {answer}"),
         }
     }
@@ -192,6 +215,8 @@ impl error::Error for Error {}
 #[cfg(test)]
 mod tests {
     use super::*;
+    use crate::ffi;
+    use crate::text;
 
     #[test]
     fn each_error_has_a_number_and_a_text() {
@@ -207,9 +232,32 @@ mod tests {
         for (_, error) in ERRORS {
             assert!(error.name().is_some(), "{error}");
         }
-        assert_eq!(Error::BadTicket.name().as_deref(), Some("BAD_TICKET"));
-        assert_eq!(Error::StillHeld(1).name().as_deref(), Some("IMPOSSIBLE"));
+        assert_eq!(Error::BadTicket.name(), Some("BAD_TICKET"));
+        assert_eq!(Error::StillHeld(1).name(), Some("IMPOSSIBLE"));
         assert_eq!(Error::Unknown(-31).name(), None);
+    }
+
+    #[test]
+    fn errors_have_the_names_of_the_library() {
+        for number in -200..=1 {
+            // SAFETY: the room is as long as is said.
+            let named =
+                text::whole(|bytes, room| unsafe { ffi::jg_error_name(number, bytes, room) });
+            let error = Error::of(number.into());
+            assert_eq!(error.name(), named.ok().as_deref(), "{number}");
+        }
+    }
+
+    #[test]
+    fn faults_are_written_by_their_names() {
+        let faults: [Box<dyn error::Error>; 2] =
+            [Box::new(SetupFault::NotToml), Box::new(LineFault::NotAscii)];
+        assert_eq!(
+            faults.map(|it| it.to_string()),
+            ["NotToml", "NotAscii"].map(String::from)
+        );
+        let fault = Error::Setup(SetupFault::BadVersion);
+        assert_eq!(fault.to_string(), "setup: BadVersion");
     }
 
     #[test]

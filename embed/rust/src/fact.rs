@@ -82,6 +82,7 @@ impl Family {
 /// A kind of objects whose class no setup states ([`Core::class_of`](crate::Core::class_of)).
 #[derive(Clone, Copy, Debug, PartialEq, Eq, Hash)]
 #[repr(u32)]
+#[non_exhaustive]
 pub enum ObjectKind {
     /// Of none of the other kinds.
     Object = 0,
@@ -101,6 +102,7 @@ pub enum ObjectKind {
 /// say it all, it is who tells it, and may be 0.
 #[derive(Clone, Copy, Debug, PartialEq, Eq)]
 #[allow(missing_docs)]
+#[non_exhaustive]
 pub enum Fact {
     /// A session of the thread begins. The core gives its environment.
     Begins { thread: u16 },

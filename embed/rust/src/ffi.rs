@@ -90,6 +90,8 @@ pub struct JgAdviser {
     pub at: *mut c_void,
 }
 
+// All of `jg.h` stands here; `jg_rule_name` and `jg_error_name` are called by tests alone.
+#[allow(dead_code)]
 extern "C" {
     pub fn jg_core_open(
         text: *const u8,

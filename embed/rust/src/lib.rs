@@ -9,7 +9,7 @@
 //! tested.
 //!
 //! ```
-//! use jg::{Bounds, Core, Function, Kind, Rule, Says, Value, Verdict};
+//! use jg::{Bounds, Core, Function, Kind, Rule, Verdict};
 //!
 //! const STRING: u32 = 2;
 //!
@@ -24,7 +24,8 @@
 //! // A question before each call. What ends something is told with it.
 //! let length = core.ask(1, Some(env), Function::GetStringLength, &[local.into()])?;
 //! assert!(matches!(length, Verdict::Passed(_)));
-//! core.ending(1, Some(env), Function::DeleteLocalRef, &[local.into()])?;
+//! let (deleted, _) = core.ending(1, Some(env), Function::DeleteLocalRef, &[local.into()])?;
+//! assert_eq!(deleted.rule(), None);
 //! let again = core.ask(1, Some(env), Function::GetStringLength, &[local.into()])?;
 //! assert_eq!(again.rule(), Some(Rule::DeadReference));
 //! # Ok::<(), jg::Error>(())
@@ -46,7 +47,7 @@ mod text;
 mod value;
 
 pub use crate::adviser::{Advice, AdviceKind, Adviser, Spot};
-pub use crate::core::{Bounds, Core, Ticket, Verdict};
+pub use crate::core::{Bounds, Core, Ticket, Untold, Verdict};
 pub use crate::error::{Error, LineFault, SetupFault};
 pub use crate::fact::{Fact, Family, ObjectKind};
 pub use crate::functions::Function;
@@ -68,9 +69,16 @@ impl Function {
         functions::NAMES[self as usize]
     }
 
+    /// The function of that number.
+    pub fn of_number(number: u32) -> Option<Function> {
+        let mut all = Function::ALL.iter().copied();
+        all.find(|it| it.number() == number)
+    }
+
     /// The function of that name.
     pub fn of_name(name: &str) -> Option<Function> {
-        Function::ALL.into_iter().find(|it| it.name() == name)
+        let mut all = Function::ALL.iter().copied();
+        all.find(|it| it.name() == name)
     }
 }
 
@@ -94,3 +102,69 @@ pub fn is_utf8(text: impl AsRef<[u8]>) -> Result<bool, Error> {
     let answer = unsafe { ffi::jg_is_utf8(text.as_ptr(), text.len()) };
     Ok(error::answered(i64::from(answer))? == 1)
 }
+
+/// What the compiler refuses, each beside what it takes.
+///
+/// There is one ticket of a call:
+///
+/// ```
+/// fn needs_eq<T: Eq>() {}
+/// needs_eq::<jg::Ticket>();
+/// ```
+///
+/// ```compile_fail
+/// fn needs_clone<T: Clone>() {}
+/// needs_clone::<jg::Ticket>();
+/// ```
+///
+/// A verdict is used:
+///
+/// ```
+/// #![deny(unused_must_use)]
+/// fn asks(core: &mut jg::Core) -> Result<(), jg::Error> {
+///     let _ = core.ask(1, None, jg::Function::GetVersion, &[])?;
+///     let _ = core.ending(1, None, jg::Function::ExceptionClear, &[])?;
+///     Ok(())
+/// }
+/// ```
+///
+/// ```compile_fail
+/// #![deny(unused_must_use)]
+/// fn asks(core: &mut jg::Core) -> Result<(), jg::Error> {
+///     core.ask(1, None, jg::Function::GetVersion, &[])?;
+///     Ok(())
+/// }
+/// ```
+///
+/// ```compile_fail
+/// #![deny(unused_must_use)]
+/// fn ends(core: &mut jg::Core) -> Result<(), jg::Error> {
+///     core.ending(1, None, jg::Function::ExceptionClear, &[])?;
+///     Ok(())
+/// }
+/// ```
+///
+/// There may be more faults:
+///
+/// ```
+/// fn is_first(fault: jg::SetupFault) -> bool {
+///     use jg::SetupFault::*;
+///     match fault {
+///         NotToml => true,
+///         BadVersion | UnknownKey | Missing | BadType | BadMode | BadName | Duplicate | TooMany => false,
+///         _ => false,
+///     }
+/// }
+/// ```
+///
+/// ```compile_fail
+/// fn is_first(fault: jg::SetupFault) -> bool {
+///     use jg::SetupFault::*;
+///     match fault {
+///         NotToml => true,
+///         BadVersion | UnknownKey | Missing | BadType | BadMode | BadName | Duplicate | TooMany => false,
+///     }
+/// }
+/// ```
+#[cfg(doctest)]
+struct Refused;

@@ -6,6 +6,7 @@ use std::str::FromStr;
 
 /// What a call came to, as its line of the journal tells it (docs/FORMATS.md, "A line of a journal").
 #[derive(Clone, Debug, PartialEq, Eq)]
+#[non_exhaustive]
 pub enum Outcome {
     /// It is done, and there is nothing to answer.
     Done,

@@ -2,12 +2,14 @@
 
 use crate::error::Error;
 use crate::ffi;
+use crate::functions;
 use crate::text;
 use std::fmt;
 
 /// A rule, by its number (docs/RULES.md).
 #[derive(Clone, Copy, Debug, PartialEq, Eq, Hash, PartialOrd, Ord)]
 #[repr(u32)]
+#[non_exhaustive]
 pub enum Rule {
     /// The environment is another thread's, or the caller may not make the call.
     WrongThread = 1,
@@ -47,7 +49,7 @@ pub enum Rule {
 
 impl Rule {
     /// All rules, in their order.
-    pub const ALL: [Rule; 17] = [
+    pub const ALL: &'static [Rule] = &[
         Rule::WrongThread,
         Rule::Detached,
         Rule::InCritical,
@@ -74,18 +76,20 @@ impl Rule {
 
     /// The rule of that number.
     pub fn of_number(number: u32) -> Option<Rule> {
-        Rule::ALL.into_iter().find(|rule| rule.number() == number)
+        Rule::ALL
+            .iter()
+            .copied()
+            .find(|rule| rule.number() == number)
     }
 
     /// Its name, as `DeadReference`.
-    pub fn name(self) -> Result<String, Error> {
-        // SAFETY: the room is as long as is said.
-        text::whole(|bytes, room| unsafe { ffi::jg_rule_name(self.number(), bytes, room) })
+    pub const fn name(self) -> &'static str {
+        functions::RULES[self as usize - 1]
     }
 
     /// What it demands, in a sentence.
     pub fn text(self) -> Result<String, Error> {
-        // SAFETY: as above.
+        // SAFETY: the room is as long as is said.
         text::whole(|bytes, room| unsafe { ffi::jg_rule_text(self.number(), bytes, room) })
     }
 
@@ -99,6 +103,23 @@ impl Rule {
 impl fmt::Display for Rule {
     /// Writes the number and the name, as `6 DeadReference`.
     fn fmt(&self, out: &mut fmt::Formatter<'_>) -> fmt::Result {
-        write!(out, "{} {self:?}", self.number())
+        write!(out, "{} {}", self.number(), self.name())
+    }
+}
+
+#[cfg(test)]
+mod tests {
+    use super::*;
+
+    #[test]
+    fn rules_have_the_names_of_the_library() {
+        for (number, rule) in (1..).zip(Rule::ALL) {
+            // SAFETY: the room is as long as is said.
+            let named =
+                text::whole(|bytes, room| unsafe { ffi::jg_rule_name(number, bytes, room) });
+            assert_eq!(named.as_deref(), Ok(rule.name()));
+            assert_eq!(format!("{rule:?}"), rule.name());
+        }
+        assert_eq!(Rule::ALL.len(), functions::RULES.len());
     }
 }

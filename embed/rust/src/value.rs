@@ -287,6 +287,7 @@ impl From<Buffer> for Value {
 
 /// What a machine says of a call that returned.
 #[derive(Clone, Copy, Debug, PartialEq, Eq)]
+#[non_exhaustive]
 pub enum Says {
     /// It was done.
     Done,
@@ -314,6 +315,7 @@ impl Says {
 
 /// The name of what a call or a fact handed out.
 #[derive(Clone, Copy, Debug, PartialEq, Eq)]
+#[non_exhaustive]
 pub enum Given {
     /// Nothing.
     Nothing,

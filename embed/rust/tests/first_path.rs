@@ -2,7 +2,7 @@
 
 use jg::{
     Bounds, Core, Environment, Error, Fact, Family, Function, Given, Guard, Kind, LineFault,
-    Object, ObjectKind, Outcome, Reference, Rule, Says, SetupFault, Ticket, Value, Verdict,
+    Object, ObjectKind, Outcome, Reference, Rule, Says, SetupFault, Ticket, Untold, Value, Verdict,
 };
 use std::sync::{Mutex, MutexGuard};
 
@@ -86,7 +86,7 @@ fn a_core_is_told_the_first_path() -> Result<(), Error> {
     let Verdict::Passed(attach) = core.ask(1, None, Function::AttachCurrentThread, &[])? else {
         panic!("an attachment is denied");
     };
-    let Given::Environment(env) = core.did(&attach, Says::Done)? else {
+    let Given::Environment(env) = core.did(attach, Says::Done)? else {
         panic!("no environment is given");
     };
     let list = [Value::list(2, true)];
@@ -94,16 +94,16 @@ fn a_core_is_told_the_first_path() -> Result<(), Error> {
         panic!("a string is denied");
     };
     let object = core.met(1, STRING, 2)?;
-    let Given::Reference(local) = core.did(&ticket, Says::Object(object))? else {
+    assert_eq!(
+        told_line(&mut core, &ticket, Says::Object(object))?,
+        "T1 got local O15"
+    );
+    let Given::Reference(local) = core.did(ticket, Says::Object(object))? else {
         panic!("no reference is given");
     };
     assert_eq!(
         (env.to_string(), local.to_string()),
         ("E1.1".into(), "L1.1".into())
-    );
-    assert_eq!(
-        told_line(&mut core, &ticket, Says::Object(object))?,
-        "T1 got local O15"
     );
     let (deleted, _) = core.ending(1, Some(env), Function::DeleteLocalRef, &[local.into()])?;
     let Verdict::Passed(ticket) = deleted else {
@@ -137,7 +137,8 @@ fn the_text_of_embedding_md_is_right() -> Result<(), Error> {
     let env = core.begins(1)?;
     let string = core.met(1, 2, 5)?;
     let local = core.got(1, Kind::Local, string)?;
-    core.ending(1, Some(env), Function::DeleteLocalRef, &[local.into()])?;
+    let (deleted, _) = core.ending(1, Some(env), Function::DeleteLocalRef, &[local.into()])?;
+    assert_eq!(deleted.rule(), None);
     let verdict = core.ask(1, Some(env), Function::GetStringLength, &[local.into()])?;
     assert_eq!(verdict.rule(), Some(Rule::DeadReference));
     Ok(())
@@ -154,14 +155,39 @@ fn a_ticket_holds_what_the_operand_named() -> Result<(), Error> {
         panic!("an entry is denied");
     };
     // While the machine waits for the monitor, a callee ends the reference.
-    core.ending(1, Some(env), Function::DeleteLocalRef, &[local.into()])?;
+    let (deleted, _) = core.ending(1, Some(env), Function::DeleteLocalRef, &[local.into()])?;
+    assert_eq!(deleted.rule(), None);
     let thread = 1;
     assert_eq!(
         ticket.told(Says::Done)?,
         Some(Fact::Owns { thread, object })
     );
-    assert_eq!(core.did(&ticket, Says::Done)?, Given::Nothing);
+    assert_eq!(core.did(ticket, Says::Done)?, Given::Nothing);
     assert_eq!(core.leaks()?, format!("leak M{} T1 1\n", object.0));
+    Ok(())
+}
+
+#[test]
+fn a_ticket_comes_back_where_nothing_is_told() -> Result<(), Error> {
+    let mut core = Core::open(SETUP, Bounds::NONE)?;
+    let env = core.begins(1)?;
+    let list = [Value::list(2, true)];
+    let Verdict::Passed(ticket) = core.ask(1, Some(env), Function::NewString, &list)? else {
+        panic!("a string is denied");
+    };
+    // The string wasn't met yet.
+    let unmet = Says::Object(Object(1000));
+    let Err(untold) = core.did(ticket, unmet) else {
+        panic!("an object is handed out that isn't there");
+    };
+    assert_eq!(untold.error, Error::Impossible);
+    assert_eq!(untold.to_string(), Error::Impossible.to_string());
+    let object = core.met(1, STRING, 2)?;
+    let Untold { ticket, .. } = untold;
+    let Given::Reference(local) = core.did(ticket, Says::Object(object))? else {
+        panic!("no reference is given");
+    };
+    assert_eq!(local.to_string(), "L1.1");
     Ok(())
 }
 
@@ -285,13 +311,13 @@ fn a_core_goes_to_another_thread() -> Result<(), Error> {
 }
 
 #[test]
-fn rules_have_the_names_of_the_library() -> Result<(), Error> {
+fn rules_have_names_and_texts() -> Result<(), Error> {
     for (number, rule) in (1..).zip(Rule::ALL) {
         assert_eq!(
             (rule.number(), Rule::of_number(number)),
-            (number, Some(rule))
+            (number, Some(*rule))
         );
-        assert_eq!(rule.to_string(), format!("{number} {}", rule.name()?));
+        assert_eq!(rule.to_string(), format!("{number} {}", rule.name()));
         assert!(!rule.text()?.is_empty() && !rule.help()?.is_empty());
     }
     assert_eq!(Rule::of_number(18), None);
@@ -313,8 +339,10 @@ fn modified_utf8_is_told_from_other_bytes() -> Result<(), Error> {
 fn functions_have_names_and_numbers() {
     for (number, function) in (0..).zip(Function::ALL) {
         assert_eq!(function.number(), number);
-        assert_eq!(Function::of_name(function.name()), Some(function));
+        assert_eq!(Function::of_name(function.name()), Some(*function));
+        assert_eq!(Function::of_number(number), Some(*function));
     }
     assert_eq!(Function::GetVersion.number(), 0);
     assert_eq!(Function::of_name("Fly"), None);
+    assert_eq!(Function::of_number(u32::MAX), None);
 }
