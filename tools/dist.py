@@ -1,7 +1,7 @@
 """What a release has, and where it stands: in an archive, or below a prefix. ./jg builds it before.
 
-Below the prefix are bin/jg, the library for C with its headers, jg.pc and a CMake package, the agent and its demo,
-manual pages, documents and examples. LIBDIR names the folder of libraries, which is lib where it isn't given."""
+Below the prefix are bin/jg, the library for C as `make install` of embed/c puts it, the agent and its demo, manual
+pages, documents and examples."""
 import glob
 import gzip
 import hashlib
@@ -10,41 +10,16 @@ import os
 import re
 import shutil
 import subprocess
+import sys
 import tarfile
 
 import manual
 
 TOP = manual.TOP
-HEADERS = ('jg.h', 'jg_functions.h')
 PAGE = ('jg-page', 'page/__init__.py', 'page/advice.py', 'page/folding.py', 'page/history.py', 'page/page.css',
         'page/page.html', 'page/page.js')
 # The demo of the agent, built: it needs a JRE alone.
 DEMO = ('Demo.class', 'libdemo.so')
-CONFIG = """get_filename_component(_jg_prefix "${CMAKE_CURRENT_LIST_DIR}/@UP@" ABSOLUTE)
-if(NOT TARGET jg::jg)
-  add_library(jg::jg SHARED IMPORTED)
-  set_target_properties(jg::jg PROPERTIES
-    IMPORTED_LOCATION "${_jg_prefix}/@LIBDIR@/libjg.so.@MAJOR@"
-    IMPORTED_SONAME "libjg.so.@MAJOR@"
-    INTERFACE_INCLUDE_DIRECTORIES "${_jg_prefix}/include")
-  add_library(jg::static STATIC IMPORTED)
-  set_target_properties(jg::static PROPERTIES
-    IMPORTED_LOCATION "${_jg_prefix}/@LIBDIR@/libjg.a"
-    INTERFACE_INCLUDE_DIRECTORIES "${_jg_prefix}/include")
-endif()
-unset(_jg_prefix)
-"""
-# Until 1.0.0 the second number rises where something breaks (CHANGELOG.md).
-CONFIG_VERSION = """set(PACKAGE_VERSION "@VERSION@")
-if(PACKAGE_FIND_VERSION VERSION_GREATER PACKAGE_VERSION OR NOT PACKAGE_FIND_VERSION MATCHES "^@SERIES@(\\\\.|$)")
-  set(PACKAGE_VERSION_COMPATIBLE FALSE)
-else()
-  set(PACKAGE_VERSION_COMPATIBLE TRUE)
-  if(PACKAGE_FIND_VERSION VERSION_EQUAL PACKAGE_VERSION)
-    set(PACKAGE_VERSION_EXACT TRUE)
-  endif()
-endif()
-"""
 
 
 def put(root, path, source, mode=0o644):
@@ -61,36 +36,21 @@ def put(root, path, source, mode=0o644):
     os.chmod(to, mode)
 
 
-def filled(text, **words):
-    return re.sub('@([A-Z]+)@', lambda it: words[it[1].lower()], text).encode()
+def put_library(root, libdir, includedir, prefix):
+    """The library for C, as embed/c/Makefile installs it. Without a prefix jg.pc finds its own."""
+    before = root.removesuffix(prefix or '')
+    places = [f'DESTDIR={before and os.path.abspath(before)}', f'PREFIX={prefix or ""}', f'LIBDIR={libdir}']
+    places += [f'INCLUDEDIR={includedir}', f'RELOCATABLE={"" if prefix else 1}']
+    words = ['make', '-s', '-C', f'{TOP}/embed/c', 'install', f'JG_LIB={TOP}/out', *places]
+    if subprocess.run(words, stdin=subprocess.DEVNULL, check=False).returncode:
+        print('jg: the library for C isn\'t installed', file=sys.stderr)
+        sys.exit(70)
 
 
-def put_library(root, libdir, major, prefix):
-    """The library for C. Without a prefix jg.pc finds its own."""
-    for name in HEADERS:
-        put(root, f'include/{name}', f'{TOP}/embed/c/{name}')
-    put(root, f'{libdir}/libjg.a', f'{TOP}/out/libjg.a')
-    put(root, f'{libdir}/libjg.so.{major}', f'{TOP}/out/libjg.so.{major}', 0o755)
-    link = f'{root}/{libdir}/libjg.so'
-    if os.path.lexists(link):
-        os.remove(link)
-    os.symlink(f'libjg.so.{major}', link)
-    with open(f'{TOP}/embed/c/jg.pc.in', encoding='utf-8') as file:
-        text = file.read().replace('${prefix}/lib', '${prefix}/@LIBDIR@')
-    up = os.path.relpath('/', f'/{libdir}/pkgconfig')
-    own = filled(text, prefix=prefix or '${pcfiledir}/' + up, version=manual.version(), libdir=libdir)
-    put(root, f'{libdir}/pkgconfig/jg.pc', own)
-    words = {'up': os.path.relpath('/', f'/{libdir}/cmake/jg'), 'libdir': libdir, 'major': str(major)}
-    put(root, f'{libdir}/cmake/jg/jg-config.cmake', filled(CONFIG, **words))
-    series = manual.version().rpartition('.')[0].replace('.', '\\\\.')
-    put(root, f'{libdir}/cmake/jg/jg-config-version.cmake',
-        filled(CONFIG_VERSION, version=manual.version(), series=series))
-
-
-def put_all(root, libdir, program, agent, demo, major, prefix):
-    """Puts a whole release below the root."""
+def put_all(root, libdir, includedir, program, agent, demo, prefix):
+    """Puts a whole release below the root. The folders of libraries and of headers are paths below the prefix."""
     put(root, 'bin/jg', program, 0o755)
-    put_library(root, libdir, major, prefix)
+    put_library(root, libdir, includedir, prefix)
     put(root, f'{libdir}/libjg_agent.so', agent, 0o755)
     for name in DEMO:
         put(root, f'share/jg/demo/{name}', f'{demo}/{name}')

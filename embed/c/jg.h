@@ -282,8 +282,9 @@ int32_t jg_core_close(jg_core *core);
  * them than any before.
  *
  * Where the verdict's rule is 0, let the machine make the call, and then tell what came of it: by jg_did with the
- * verdict's ticket, or by the facts themselves. Where it isn't, and the call isn't made, nothing is told. A machine that
- * makes it all the same tells what came of it by jg_did, too; see jg_is_in_doubt.
+ * verdict's ticket, or by the facts themselves. Where nothing came of it, as of a GetStringLength that threw nothing,
+ * nothing need be told. Where the rule isn't 0, and the call isn't made, nothing is told. A machine that makes it all the
+ * same tells what came of it by jg_did, too; see jg_is_in_doubt.
  */
 JG_MUST_USE
 int32_t jg_ask(jg_core *core, uint32_t thread, const jg_value *env, uint32_t function, const jg_value *operands,
