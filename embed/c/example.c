@@ -20,10 +20,8 @@ enum { THREAD = 1, MOST = 8, ROOM = 1024 };
 
 /* Ends the program where a call answers an error. */
 static int64_t must(int64_t answer) {
-    uint8_t name[ROOM];
     if (answer < 0) {
-        int64_t length = jg_error_name((int32_t)answer, name, sizeof name);
-        fprintf(stderr, "example: %.*s\n", length < 0 ? 0 : (int)length, (const char *)name);
+        fprintf(stderr, "example: %s\n", jg_error_string(answer));
         exit(1);
     }
     return answer;
@@ -84,11 +82,10 @@ static void guarded_open(guarded *g) {
 
 /* Says that a call was denied, and why. */
 static void say_denied(const char *function, const jg_verdict *verdict) {
-    uint8_t name[ROOM], demand[ROOM], help[ROOM];
-    int name_length = (int)must(jg_rule_name(verdict->rule, name, sizeof name));
+    uint8_t demand[ROOM], help[ROOM];
     int demand_length = (int)must(jg_rule_text(verdict->rule, demand, sizeof demand));
     int help_length = (int)must(jg_help_text(verdict->rule, help, sizeof help));
-    printf("%s: deny %u %.*s, by operand %u\n", function, (unsigned)verdict->rule, name_length, (const char *)name,
+    printf("%s: deny %u %s, by operand %u\n", function, (unsigned)verdict->rule, jg_rule_string(verdict->rule),
            (unsigned)verdict->operand);
     printf("  rule: %.*s\n", demand_length, (const char *)demand);
     printf("  help: %.*s\n", help_length, (const char *)help);

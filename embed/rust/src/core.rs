@@ -69,6 +69,7 @@ impl Ticket {
 /// Why [`Core::did`] told nothing, and the ticket. By that it may be told again: after [`Error::NoMemory`], or once
 /// what was missing is told.
 #[derive(Debug, PartialEq, Eq)]
+#[must_use]
 pub struct Untold {
     /// Why nothing was told.
     pub error: Error,
