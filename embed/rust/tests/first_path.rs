@@ -232,6 +232,31 @@ fn what_no_machine_says_is_refused_and_no_fact_is_none() -> Result<(), Error> {
 }
 
 #[test]
+fn of_some_calls_nothing_is_told() -> Result<(), Error> {
+    let mut core = Core::open(SETUP, Bounds::NONE)?;
+    let env = core.begins(1)?;
+    let object = core.met(1, STRING, 2)?;
+    let local = Value::from(core.got(1, Kind::Local, object)?);
+    let operands = [local, Value::id(true)];
+    let calls = [
+        (Function::GetStringLength, &operands[..1], Says::Done),
+        (Function::CallIntMethod, &operands[..], Says::Done),
+        (Function::GetObjectField, &operands[..], Says::Null),
+    ];
+    for (function, operands, says) in calls {
+        let Verdict::Passed(ticket) = core.ask(1, Some(env), function, operands)? else {
+            panic!("{function} is denied");
+        };
+        assert_eq!(ticket.told(says)?, None, "{function}");
+        let thread = 1;
+        let raised = Fact::Raised { thread, object };
+        assert_eq!(ticket.told(Says::Threw(object))?, Some(raised));
+        assert_eq!(core.did(ticket, says)?, Given::Nothing);
+    }
+    Ok(())
+}
+
+#[test]
 fn classes_and_native_methods_have_numbers() -> Result<(), Error> {
     let mut core = Core::open(NATIVES, Bounds::NONE)?;
     assert_eq!(core.class_named("java/lang/String")?, Some(STRING));
