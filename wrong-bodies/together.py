@@ -26,9 +26,6 @@ REFUSED, LOST, LIMIT, PASSED, BAD, UNSURE = "refused", "lost name", "limit", "NO
 # What antt says where a proof names what an edit took away.
 TAKEN = re.compile(r"has no field|is not in scope|has no `|was not admitted|is no name that rattle asks for")
 
-# Where a long line of antt's goes on in the next one.
-GOES_ON = re.compile(r"\n  (?=has no )")
-
 # What a copied function's name ends with, before the copy's number.
 COPY = "_wrong_"
 
@@ -311,7 +308,6 @@ def place_of(line, spans, tree):
 
 def judged(tree, wrong, ran, said, spans):
     """What a check says of one of its wrong bodies, and why."""
-    said = GOES_ON.sub(" ", said)
     lines = said.split("\n")
     states = dict(re.findall(rf"^fn {tree.crate.name}::(\S+): (.*)$", said, re.M))
     if not states:
@@ -342,7 +338,7 @@ def judged(tree, wrong, ran, said, spans):
 
 def judged_whole(ran, said):
     """What a check of the whole crate says of its one wrong body."""
-    lines = GOES_ON.sub(" ", said).rstrip("\n").split("\n")
+    lines = said.rstrip("\n").split("\n")
     told = [it for it in lines if re.match(r"(note: )?\S+:\d+:\d+: ", it)]
     errors = [it for it in told if ": error" in it or it.startswith("note: src/") and "not proved" in it]
     real = [it for it in errors if not TAKEN.search(it)]
