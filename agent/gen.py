@@ -11,34 +11,11 @@ import os
 import re
 import sys
 
-HERE = os.path.dirname(os.path.realpath(__file__))
-TABLE = os.path.join(os.path.dirname(HERE), 'crates', 'jg_functions', 'src', 'table.rt')
+sys.dont_write_bytecode = True
+sys.path.append(os.path.join(os.path.dirname(os.path.dirname(os.path.realpath(__file__))), 'tools'))
+import function_table
 
-Row = collections.namedtuple('Row', 'name since takes takes_env passes throws runs effect what')
 Function = collections.namedtuple('Function', 'name slot result parameters')
-
-# ---- the rows
-
-GROUP = re.compile(r'^const \w+: \[Row; (\d+)\] = rows! \{\n(.*?)^\};', re.M | re.S)
-SECTION = re.compile(r'^\w+ (true|false) \{\n(.*?)^\}', re.M | re.S)
-ROW = re.compile(r'^    (\w+) (\w+) \((.*)\) (\w+) (\w+) (\w+) => (\w+)(?:\((.*)\))?;$', re.M)
-OPERAND = re.compile(r'(\w+)(?:\(([^()]*(?:\([^()]*\))?[^()]*)\))?')
-
-
-def rows_of(path):
-    """The rows of the table, in its order."""
-    with open(path, encoding='utf-8') as file:
-        groups = GROUP.findall(file.read())
-    rows = []
-    for count, text in groups:
-        found = [Row(name, since, OPERAND.findall(takes), env == 'true', passes, throws, runs, effect, what)
-                 for env, lines in SECTION.findall(text)
-                 for name, since, takes, passes, throws, runs, effect, what in ROW.findall(lines)]
-        if len(found) != int(count):
-            sys.exit(f'{path}: {len(found)} rows were read where {count} are')
-        rows += found
-    return rows
-
 
 # ---- the prototypes
 
@@ -213,7 +190,7 @@ class Wrapper:
 
     def returned(self):
         """What is told once the machine has answered."""
-        result, effect = self.function.result, self.row.effect
+        result, effect = self.function.result, self.row.effect.name
         if effect == 'Hands':
             return ['return call_hands(&call, result);']
         if effect == 'Lends':
@@ -274,7 +251,7 @@ class Wrapper:
         yield 'buffers_gave(&given);'
 
     def text(self):
-        lines = self.released() if self.row.effect == 'GivesBack' else self.body()
+        lines = self.released() if self.row.effect.name == 'GivesBack' else self.body()
         depth, out = 1, [declared(self.function) + ' {']
         for line in lines:
             depth -= line.startswith('}')
@@ -297,13 +274,14 @@ HEAD = '''/* agent/gen.py wrote this from jni.h and from the table of crates/jg_
 
 def detail(row):
     """What an effect is of: a kind of references, or a family of buffers."""
-    if row.effect in ('Hands', 'Ends'):
-        return f'JG_{row.what.upper()}'
-    return FAMILIES[row.what] if row.effect == 'Lends' else '0'
+    effect, what = row.effect
+    if effect in ('Hands', 'Ends'):
+        return f'JG_{what.upper()}'
+    return FAMILIES[what] if effect == 'Lends' else '0'
 
 
 def described(row):
-    words = [f'"{row.name}"', f'EFFECT_{re.sub(r"(?<=[a-z])(?=[A-Z])", "_", row.effect).upper()}', detail(row),
+    words = [f'"{row.name}"', f'EFFECT_{re.sub(r"(?<=[a-z])(?=[A-Z])", "_", row.effect.name).upper()}', detail(row),
              f'THROWS_{row.throws.upper()}', str(int(row.runs == 'Java')), str(int(row.takes_env)),
              str(int(row.passes in ('Pending', 'Both')))]
     return '    {' + ', '.join(words) + '},'
@@ -312,9 +290,9 @@ def described(row):
 def main():
     words = argparse.ArgumentParser(description=__doc__, formatter_class=argparse.RawDescriptionHelpFormatter)
     words.add_argument('header')
-    words.add_argument('--table', default=TABLE)
+    words.add_argument('--table', default=function_table.TABLE)
     given = words.parse_args()
-    rows = rows_of(given.table)
+    rows = function_table.read(given.table)
     by_name = {row.name: row for row in rows}
     old, newer = functions_of(given.header)
     print(HEAD)

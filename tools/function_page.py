@@ -11,12 +11,11 @@ import os
 import re
 import sys
 
+import function_table
+
 TOP = os.path.dirname(os.path.dirname(os.path.realpath(__file__)))
-TABLE = f'{TOP}/crates/jg_functions/src/table.rt'
 QUESTIONS = f'{TOP}/crates/jg_cases/data/questions.cases'
 DOCUMENT = f'{TOP}/docs/FUNCTIONS.md'
-SECTION = re.compile(r'^(\w+) (true|false) \{\n(.*?)^\}', re.M | re.S)
-ROW = re.compile(r'^    (\w+) (\w+) \((.*)\) (\w+) (\w+) (\w+) => .*;$', re.M)
 QUESTION = re.compile(r'^T\d+ (?:-|E\d+\.\d+) (\w+)(?: .*)? = deny (\d+) \w+', re.M)
 # The functions whose numbers in C may be no number of the rule: capacities, lengths, modes, truths, texts.
 WITH_NUMBERS = re.compile(r'(PushLocalFrame|EnsureLocalCapacity|New\w+Array|Release\w+ArrayElements|NewStringUTF|'
@@ -46,14 +45,12 @@ LEGEND = [('1', 'another thread\'s environment'), ('2', 'no environment, or an e
 
 def sections():
     """The sections of the table in its order: the title, whether an environment is handed in, and the rows."""
-    with open(TABLE, encoding='utf-8') as file:
-        text = file.read()
     found = {}
-    for name, takes_env, lines in SECTION.findall(text):
-        if name != 'Own':
-            title = re.sub(r'(?<=[a-z])(?=[A-Z])', ' ', name)
+    for row in function_table.read():
+        if row.section != 'Own':
+            title = re.sub(r'(?<=[a-z])(?=[A-Z])', ' ', row.section)
             title = title.replace('Vm', 'VM').replace('Nio', 'NIO').replace('Api', 'API')
-            found.setdefault((title, takes_env == 'true'), []).extend(ROW.findall(lines))
+            found.setdefault((title, row.takes_env), []).append(row)
     return found
 
 
@@ -84,10 +81,10 @@ def document():
             *(f'| {number} | {what} |\n' for number, what in LEGEND)]
     for (title, takes_env), rows in sections().items():
         text.append(f'\n## {title}\n\n| Function | Since | Rules | Pending | Critical |\n|---|---|---|---|---|\n')
-        for name, since, _, passes, _, _ in rows:
-            numbers = ', '.join(map(str, under_the_agent(name, of[name], takes_env))) or 'none'
-            text.append(f'| {name} | {SINCE[since]} | {numbers} | {"yes" if passes in ("Pending", "Both") else "no"} | '
-                        f'{"yes" if passes in ("Critical", "Both") else "no"} |\n')
+        for row in rows:
+            numbers = ', '.join(map(str, under_the_agent(row.name, of[row.name], takes_env))) or 'none'
+            pending, critical = ('yes' if row.passes in (it, 'Both') else 'no' for it in ('Pending', 'Critical'))
+            text.append(f'| {row.name} | {SINCE[row.since]} | {numbers} | {pending} | {critical} |\n')
     return ''.join(text)
 
 

@@ -2,7 +2,8 @@
  * bench.c [COUNT]: how many nanoseconds calls of the library take, each made COUNT times (a million), three times over.
  *
  * bench.c WHAT COUNT LIVE: makes one of them COUNT times, beside LIVE other strings that have a reference each, and
- * prints nothing, so that another program can count or time it. WHAT is ask-length, tell-local or call-line.
+ * prints nothing, so that another program can count or time it. WHAT is ask-length, may-length, tell-local or
+ * call-line.
  */
 #define _POSIX_C_SOURCE 199309L
 #include "jg_functions.h"
@@ -40,6 +41,20 @@ static double ask_length(uint32_t count, uint32_t live) {
     took = now();
     for (uint32_t at = 0; at < count; at++) {
         must(jg_ask(&core, THREAD, &env, JG_FN_GetStringLength, &local, 1, &verdict));
+    }
+    took = now() - took;
+    must(jg_core_close(&core));
+    return took;
+}
+
+static double may_length(uint32_t count, uint32_t live) {
+    jg_core core = {NULL};
+    jg_value env, object, local;
+    double took;
+    open_core(&core, live, &env, &object, &local);
+    took = now();
+    for (uint32_t at = 0; at < count; at++) {
+        must(jg_may(&core, THREAD, &env, JG_FN_GetStringLength, &local, 1));
     }
     took = now() - took;
     must(jg_core_close(&core));
@@ -89,6 +104,7 @@ static const struct {
     double (*work)(uint32_t count, uint32_t live);
 } WORKS[] = {
     {"ask-length", "jg_ask of GetStringLength", ask_length},
+    {"may-length", "jg_may of GetStringLength", may_length},
     {"tell-local", "jg_got and jg_lost, both", tell_local},
     {"call-line", "jg_call_line of GetStringLength", call_line},
 };
@@ -112,7 +128,7 @@ static void work_named(const char *name, uint32_t count, uint32_t live) {
             return;
         }
     }
-    end_with(FAULTY, "bench: WHAT is ask-length, tell-local or call-line");
+    end_with(FAULTY, "bench: WHAT is ask-length, may-length, tell-local or call-line");
 }
 
 int main(int argc, char **argv) {

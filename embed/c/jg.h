@@ -167,7 +167,9 @@ enum {
     JG_CLASS = 11,      /* a class's name: detail 1 and number its number in the setup, or detail 0 if it states none */
     JG_NATIVE = 12,     /* a native method: detail 1 and number its number in its class, from 1, or detail 0 */
     JG_NAME = 13,       /* a name of which no rule speaks */
-    JG_LIST = 14,       /* a list: number how many items it has, detail 1 if each is of its type, else 0 */
+    JG_LIST = 14,       /* a list: number how many items it has, detail 1 if each is of its type, else 0. Of NewString
+                           one of more than 2^31 - 1 items is taken as if detail were 0: no jsize counts so many. No
+                           rule speaks of how many items the lists of other functions have */
     JG_ITEMS = 15,      /* what a machine says: it lent a buffer of so many items: number, of 32 bits */
     JG_THREW = 16       /* what a machine says: it threw the object of this number */
 };
@@ -177,6 +179,9 @@ enum {
  * the text follow from 15 on, in its order (jg_class_named). A class object of the setup has its class's number as an
  * object's, and is there from the start. An object of a class that the setup doesn't state is met as one of these
  * kinds, each of which has the number of a class too (jg_class_of).
+ *
+ * Meet each array of references, a `String[]` too, as JG_KIND_OBJECTS. Who meets one as JG_KIND_OBJECT gets false
+ * denials of rule 9 (JG_WRONG_TYPE): of GetArrayLength, GetObjectArrayElement and SetObjectArrayElement.
  */
 enum {
     JG_KIND_OBJECT = 0,      /* of none of the kinds below */
@@ -184,7 +189,8 @@ enum {
     JG_KIND_CLASS = 2,       /* a class object, of a class that is no array's */
     JG_KIND_ARRAY_CLASS = 3, /* a class object, of an array's class */
     JG_KIND_FLOATS = 4,      /* an array of float */
-    JG_KIND_DOUBLES = 5      /* an array of double */
+    JG_KIND_DOUBLES = 5,     /* an array of double */
+    JG_KIND_OBJECTS = 6      /* an array of references: of class 3, [Ljava/lang/Object; */
 };
 
 /* ---- facts ---- */
@@ -224,7 +230,7 @@ enum {
 
 /*
  * What comes of a call, kept until the machine has answered: it holds no memory, so it may be copied, and dropped where
- * nothing is to be told. Only the library reads its fields.
+ * nothing is to be told (jg_tells). Only the library reads its fields.
  */
 typedef struct jg_ticket {
     uint32_t expected;
@@ -256,6 +262,25 @@ typedef struct jg_bounds {
     int32_t items;    /* how many items of a region may be read */
 } jg_bounds;
 
+/* ---- what is held ---- */
+
+/* Why objects aren't gone (jg_gone_held). */
+typedef struct jg_held {
+    uint64_t place;  /* the place in the list, counted from 0, of the first object that can't be gone */
+    uint32_t by;     /* what keeps it: JG_BY_NOTHING and so on; where several do, one of them */
+    uint32_t thread; /* of JG_BY_PENDING and JG_BY_MONITOR the thread, else 0 */
+    jg_value name;   /* of JG_BY_REFERENCE the reference, of JG_BY_BUFFER the buffer, else JG_NOTHING */
+} jg_held;
+
+enum {
+    JG_BY_NOTHING = 0, /* nothing keeps it: the object isn't there, or stands in the list before */
+    JG_BY_SETUP,       /* it is a class object of the setup */
+    JG_BY_REFERENCE,   /* a live local or global reference names it */
+    JG_BY_PENDING,     /* it is pending in the thread */
+    JG_BY_BUFFER,      /* a critical buffer of it is open */
+    JG_BY_MONITOR      /* the thread owns its monitor */
+};
+
 /* ---- the core ---- */
 
 typedef struct jg_core {
@@ -265,10 +290,20 @@ typedef struct jg_core {
 /*
  * Opens a closed handle on a core that was told nothing, under the setup that the text states (docs/FORMATS.md, "The
  * setup text"; `size` bytes of UTF-8). `version` is JG_VERSION. 0, or JG_IS_OPEN, JG_BAD_VERSION, JG_NO_MEMORY, or a
- * fault of the setup text; the handle is as it was then.
+ * fault of the setup text; the handle is as it was then. A text of more than 16,777,216 bytes is JG_TOO_MANY, whatever
+ * its bytes are. jg_setup_fault tells where a text has its fault.
  */
 JG_MUST_USE
 int32_t jg_core_open(const uint8_t *text, size_t size, const jg_bounds *bounds, uint32_t version, jg_core *core);
+
+/*
+ * Where a setup text has its fault and what is wrong there, as `jg --explain` tells it (docs/EXPLAINING.md, "In a
+ * setup"), with a line feed: `line 3, column 7: ..` where it is no TOML, else such as `class 2, field 1: type: ..`.
+ * Call it with a text that an open function refused. How long that is, 0 where the text has no fault, of which `told`
+ * gets the first `room` bytes; else JG_NO_MEMORY. It needs no handle, and may be called by several threads at once.
+ */
+JG_MUST_USE
+int64_t jg_setup_fault(const uint8_t *text, size_t size, uint8_t *told, size_t room);
 
 /* Lets all go that the core holds; it is closed then, and may be opened again. 0, or JG_CLOSED. */
 JG_MUST_USE
@@ -283,12 +318,21 @@ int32_t jg_core_close(jg_core *core);
  *
  * Where the verdict's rule is 0, let the machine make the call, and then tell what came of it: by jg_did with the
  * verdict's ticket, or by the facts themselves. Where nothing came of it, as of a GetStringLength that threw nothing,
- * nothing need be told. Where the rule isn't 0, and the call isn't made, nothing is told. A machine that makes it all the
- * same tells what came of it by jg_did, too; see jg_is_in_doubt.
+ * nothing need be told: see jg_tells. Where the rule isn't 0, and the call isn't made, nothing is told. A machine that
+ * makes it all the same tells what came of it by jg_did, too; see jg_is_in_doubt.
  */
 JG_MUST_USE
 int32_t jg_ask(jg_core *core, uint32_t thread, const jg_value *env, uint32_t function, const jg_value *operands,
                size_t count, jg_verdict *verdict);
+
+/*
+ * Asks as jg_ask does, and answers the number of the rule alone, without a ticket: JG_PASSED, which is 0, where no rule
+ * is broken, else the first that is; or the error that jg_ask answers. It is for calls of which nothing need be told,
+ * and for callers that tell the facts themselves.
+ */
+JG_MUST_USE
+int32_t jg_may(jg_core *core, uint32_t thread, const jg_value *env, uint32_t function, const jg_value *operands,
+               size_t count);
 
 /*
  * Asks, and where no rule is broken takes at once what the call ends, before the machine ends it: for deletions,
@@ -313,6 +357,15 @@ int32_t jg_ending(jg_core *core, uint32_t thread, const jg_value *env, uint32_t 
  */
 JG_MUST_USE
 int32_t jg_did(jg_core *core, const jg_ticket *ticket, const jg_value *says, jg_value *given);
+
+/*
+ * Whether anything may come of the ticket's call that is to be told, where it threw nothing: 1; or 0, and then jg_did
+ * need be called only if it threw; else JG_BAD_TICKET. It is 0 of a GetStringLength, and 1 of a GetObjectField, also
+ * of one that answers NULL. docs/EMBEDDING.md, "Where nothing is told", lists the functions. It needs no handle, and
+ * may be called by several threads at once.
+ */
+JG_MUST_USE
+int32_t jg_tells(const jg_ticket *ticket);
 
 /*
  * Whether the ticket of a denied call that was made all the same leaves open if something has ended: a reference that
@@ -352,6 +405,10 @@ int32_t jg_tell(jg_core *core, const jg_fact *fact, jg_value *given);
  */
 JG_MUST_USE
 int32_t jg_gone(jg_core *core, const uint64_t *objects, size_t count, uint64_t *held);
+
+/* As jg_gone; and with JG_IMPOSSIBLE it also writes what keeps the first object that can't be gone. */
+JG_MUST_USE
+int32_t jg_gone_held(jg_core *core, const uint64_t *objects, size_t count, jg_held *held);
 
 /*
  * Lines of a record (docs/FORMATS.md, "A record"), without line feed and without the core's answer. They change
@@ -403,7 +460,7 @@ int64_t jg_native_named(jg_core *core, uint32_t class_number, const uint8_t *nam
 
 /*
  * The number of the class of objects of this kind (JG_KIND_OBJECT and so on), for objects of classes that the setup
- * doesn't state. Else JG_CLOSED, JG_BAD_VALUE.
+ * doesn't state. Of JG_KIND_OBJECTS it is 3 in each setup. Else JG_CLOSED, JG_BAD_VALUE.
  */
 JG_MUST_USE
 int64_t jg_class_of(jg_core *core, uint32_t kind);
@@ -613,6 +670,16 @@ static inline int32_t jg_checked_core_open(const uint8_t *text, size_t size, con
 }
 
 JG_MUST_USE
+static inline int64_t jg_checked_setup_fault(const uint8_t *text, size_t size, uint8_t *told, size_t room) {
+    const uint8_t none = 0;
+    uint8_t nowhere = 0;
+    if ((!text && size) || (!told && room)) {
+        return JG_NULL_POINTER;
+    }
+    return jg_setup_fault(text ? text : &none, size, told ? told : &nowhere, room);
+}
+
+JG_MUST_USE
 static inline int32_t jg_checked_core_close(jg_core *core) {
     if (!core) {
         return JG_NULL_POINTER;
@@ -628,6 +695,16 @@ static inline int32_t jg_checked_ask(jg_core *core, uint32_t thread, const jg_va
         return JG_NULL_POINTER;
     }
     return jg_ask(core, thread, env, function, operands ? operands : &none, count, verdict);
+}
+
+JG_MUST_USE
+static inline int32_t jg_checked_may(jg_core *core, uint32_t thread, const jg_value *env, uint32_t function,
+                                     const jg_value *operands, size_t count) {
+    const jg_value none = {0, 0, 0};
+    if (!core || !env || (!operands && count)) {
+        return JG_NULL_POINTER;
+    }
+    return jg_may(core, thread, env, function, operands ? operands : &none, count);
 }
 
 JG_MUST_USE
@@ -647,6 +724,11 @@ static inline int32_t jg_checked_did(jg_core *core, const jg_ticket *ticket, con
         return JG_NULL_POINTER;
     }
     return jg_did(core, ticket, says, given);
+}
+
+JG_MUST_USE
+static inline int32_t jg_checked_tells(const jg_ticket *ticket) {
+    return ticket ? jg_tells(ticket) : JG_NULL_POINTER;
 }
 
 JG_MUST_USE
@@ -677,6 +759,15 @@ static inline int32_t jg_checked_gone(jg_core *core, const uint64_t *objects, si
         return JG_NULL_POINTER;
     }
     return jg_gone(core, objects ? objects : &none, count, held);
+}
+
+JG_MUST_USE
+static inline int32_t jg_checked_gone_held(jg_core *core, const uint64_t *objects, size_t count, jg_held *held) {
+    const uint64_t none = 0;
+    if (!core || (!objects && count) || !held) {
+        return JG_NULL_POINTER;
+    }
+    return jg_gone_held(core, objects ? objects : &none, count, held);
 }
 
 JG_MUST_USE
@@ -973,14 +1064,18 @@ static inline int32_t jg_checked_is_utf8(const uint8_t *text, size_t size) {
 }
 
 #define jg_core_open jg_checked_core_open
+#define jg_setup_fault jg_checked_setup_fault
 #define jg_core_close jg_checked_core_close
 #define jg_ask jg_checked_ask
+#define jg_may jg_checked_may
 #define jg_ending jg_checked_ending
 #define jg_did jg_checked_did
+#define jg_tells jg_checked_tells
 #define jg_is_in_doubt jg_checked_is_in_doubt
 #define jg_told jg_checked_told
 #define jg_tell jg_checked_tell
 #define jg_gone jg_checked_gone
+#define jg_gone_held jg_checked_gone_held
 #define jg_question_line jg_checked_question_line
 #define jg_fact_line jg_checked_fact_line
 #define jg_gone_line jg_checked_gone_line
@@ -1124,7 +1219,11 @@ static inline jg_value jg_name(void) {
     return jg_value_of(JG_NAME, 0, 0);
 }
 
-/* A list of so many items, and whether each is of its type (not 0). Of a text in modified UTF-8: whether it is one. */
+/*
+ * A list of so many items, and whether each is of its type (not 0). Of a text in modified UTF-8: whether it is one. A
+ * count of native code that is below 0 becomes more than 2^31 - 1 here. In NewString that breaks rule 12; of a region a
+ * machine throws.
+ */
 static inline jg_value jg_list(uint64_t count, int fits) {
     return jg_value_of(JG_LIST, fits != 0, count);
 }

@@ -1,8 +1,8 @@
 /*
- * record.c [watch|did|advise [SETUP]]: answers the record on standard input as `jg watch` does, by the calls by numbers
- * alone. Each line is read into numbers, and asked by jg_ask or told by jg_tell or jg_gone. The line that the library
- * makes of the numbers must be the record's again. Standard error has why questions were denied, and what is left, as
- * of `jg watch --explain 1000000 --leaks`.
+ * record.c [watch|did|advise|tells [SETUP]]: answers the record on standard input as `jg watch` does, by the calls by
+ * numbers alone. Each line is read into numbers, and asked by jg_ask or told by jg_tell or jg_gone. The line that the
+ * library makes of the numbers must be the record's again, and jg_may must answer the rule of jg_ask. Standard error
+ * has why questions were denied, and what is left, as of `jg watch --explain 1000000 --leaks`.
  *
  * With `did` the note of a question may have two words: whether jg_did or jg_ending tells what came of the call, and
  * what the machine says of it: `-` for nothing, `null`, `O15` an object, `#5` so many items, `!O15` an object that it
@@ -10,6 +10,9 @@
  *
  * With `advise` standard error has the advice alone, as `jg watch --advice all --region 2` tells each, without the
  * counts at the end. An adviser is told each question that passed and each fact, by its line.
+ *
+ * With `tells` standard error has the function of each question that passed, and behind it what jg_tells answers of the
+ * ticket, and nothing else.
  *
  * It reads records that have no fault, and whose lines tell no answers. A `bounds` line may be the first line alone.
  * The setup is that of the file SETUP.
@@ -38,6 +41,9 @@ static int is_did;
 /* Whether advice is told, and by whom: of critical regions of more than two calls. */
 static int is_advising;
 static jg_adviser adviser;
+
+/* Whether standard error has what jg_tells answers. */
+static int is_telling;
 
 static void fail(const record_line *line, const char *why) {
     fflush(stdout);
@@ -271,12 +277,15 @@ static void put_verdict(const record_line *line, const jg_verdict *verdict) {
     char text[128];
     if (verdict->rule == 0) {
         put_text(" = passed");
+        if (is_telling) {
+            fprintf(stderr, "%s %d\n", line->fields[2], (int)must(jg_tells(&verdict->ticket)));
+        }
         return;
     }
     name[must(jg_rule_name(verdict->rule, name, sizeof name - 1))] = 0;
     snprintf(text, sizeof text, " = deny %u %s", (unsigned)verdict->rule, (const char *)name);
     put_text(text);
-    if (!is_advising) {
+    if (!is_advising && !is_telling) {
         explain(line, verdict, (const char *)name);
     }
 }
@@ -452,11 +461,18 @@ static outcome outcome_of(const record_line *line) {
     return of;
 }
 
-/* Writes the line of the fact that was told of the call, if one was, with what the core gave. */
-static void put_told(const jg_ticket *ticket, const jg_value *says, jg_value given) {
+/*
+ * Writes the line of the fact that was told of the call, if one was, with what the core gave. Where jg_tells is 0, and
+ * the call threw nothing, none was.
+ */
+static void put_told(const record_line *line, const jg_ticket *ticket, const jg_value *says, jg_value given) {
     static uint8_t made[JG_LINE];
     jg_fact fact;
-    if (must(jg_told(ticket, says, &fact)) == 1) {
+    int64_t is_told = must(jg_told(ticket, says, &fact));
+    if (says->kind != JG_THREW && must(jg_tells(ticket)) == 0 && (is_told != 0 || given.kind != JG_NOTHING)) {
+        fail(line, "it tells what jg_tells denies");
+    }
+    if (is_told == 1) {
         put(made, (size_t)must(jg_fact_line(&core, &fact, made, sizeof made)));
         put_given(given);
         put_text("\n");
@@ -476,7 +492,7 @@ static void put_answer(const record_line *line, const jg_verdict *verdict, const
     if (!of->is_ending) {
         must(jg_did(&core, &verdict->ticket, &of->says, &given));
     }
-    put_told(&verdict->ticket, &of->says, given);
+    put_told(line, &verdict->ticket, &of->says, given);
 }
 
 static void ask(record_line *line, uint32_t thread) {
@@ -489,10 +505,14 @@ static void ask(record_line *line, uint32_t thread) {
     jg_value given = jg_nothing();
     jg_verdict verdict;
     outcome of = outcome_of(line);
+    int64_t rule = must(jg_may(&core, thread, &env, number, operands, count));
     if (of.is_ending) {
         must(jg_ending(&core, thread, &env, number, operands, count, &verdict, &given));
     } else {
         must(jg_ask(&core, thread, &env, number, operands, count, &verdict));
+    }
+    if (rule != (int64_t)verdict.rule) {
+        fail(line, "jg_may answers another rule");
     }
     if (is_advising && verdict.rule == 0) {
         advise_call(line, thread, number, operands, count);
@@ -606,6 +626,7 @@ int main(int argc, char **argv) {
     }
     is_did = argc > 1 && strcmp(argv[1], "did") == 0;
     is_advising = argc > 1 && strcmp(argv[1], "advise") == 0;
+    is_telling = argc > 1 && strcmp(argv[1], "tells") == 0;
     open_core(&setup, &record);
     must(jg_adviser_open(2, &adviser));
     while ((end = (const char *)memchr(begun, '\n', record.size - (size_t)(begun - record.bytes))) != NULL) {
@@ -617,7 +638,7 @@ int main(int argc, char **argv) {
     if (is_advising) {
         must(jg_advise_end(&adviser));
         say_advice();
-    } else {
+    } else if (!is_telling) {
         say_leaks();
     }
     must(jg_adviser_close(&adviser));

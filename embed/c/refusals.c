@@ -20,6 +20,7 @@ static struct {
     jg_fact fact;
     jg_advice advice;
     uint64_t held;
+    jg_held kept;
     uint8_t text[ROOM];
 } out, filled;
 
@@ -98,10 +99,12 @@ static void refuse_closed_core(void) {
     memset(&ticket, 0, sizeof ticket);
     REFUSED(JG_CLOSED, jg_core_close(&core));
     REFUSED(JG_CLOSED, jg_ask(&core, THREAD, &env, JG_FN_NewLocalRef, &operand, 1, &out.verdict));
+    REFUSED(JG_CLOSED, jg_may(&core, THREAD, &env, JG_FN_NewLocalRef, &operand, 1));
     REFUSED(JG_CLOSED, jg_ending(&core, THREAD, &env, JG_FN_DeleteLocalRef, &operand, 1, &out.verdict, &out.given));
     REFUSED(JG_CLOSED, jg_did(&core, &ticket, &operand, &out.given));
     REFUSED(JG_CLOSED, jg_tell(&core, &fact, &out.given));
     REFUSED(JG_CLOSED, jg_gone(&core, &object, 1, &out.held));
+    REFUSED(JG_CLOSED, jg_gone_held(&core, &object, 1, &out.kept));
     REFUSED(JG_CLOSED, jg_question_line(&core, THREAD, &env, JG_FN_NewLocalRef, &operand, 1, out.text, ROOM));
     REFUSED(JG_CLOSED, jg_fact_line(&core, &fact, out.text, ROOM));
     REFUSED(JG_CLOSED, jg_gone_line(&core, THREAD, &object, 1, out.text, ROOM));
@@ -157,6 +160,58 @@ static const struct {
     {JG_BAD_NAME, BASE_SETUP "[[class]]\nname = \"app.Main\"\nmodule = \"app\"\n"},
     {JG_DUPLICATE, BASE_SETUP "[[class]]\nname = \"java/lang/String\"\nmodule = \"app\"\n"},
 };
+
+/* What is told of the text begins so, and ends with its only line feed. */
+static void expect_place(const uint8_t *text, size_t size, const char *front) {
+    uint8_t told[1024];
+    int64_t length = jg_setup_fault(text, size, told, sizeof told);
+    const uint8_t *feed = (const uint8_t *)memchr(told, '\n', sizeof told);
+    DONE(1, length > 0 && feed == told + length - 1 && memcmp(told, front, strlen(front)) == 0);
+    DONE(length, jg_setup_fault(text, size, NULL, 0));
+}
+
+/* Where faults stand. Of a text without a fault nothing is told. */
+static void tell_places(void) {
+    static const char TWICE[] = BASE_SETUP "[[class]]\nname = \"app/Main\"\nmodule = 1\n";
+    expect_place(jg_bytes("version"), 7, "line 1, column 8: ");
+    expect_place(jg_bytes("\n\n a = \xFF"), 8, "line 3, column 6: ");
+    expect_place(jg_bytes(TWICE), sizeof TWICE - 1, "class 1: module: ");
+    for (size_t at = 0; at < sizeof FAULTY_SETUPS / sizeof *FAULTY_SETUPS; at++) {
+        expect_place(jg_bytes(FAULTY_SETUPS[at].text), strlen(FAULTY_SETUPS[at].text), "");
+    }
+    expect_place(NULL, 0, "");
+    REFUSED(0, jg_setup_fault(jg_bytes(SETUP), sizeof SETUP - 1, out.text, ROOM));
+    REFUSED(JG_NULL_POINTER, jg_setup_fault(NULL, 1, out.text, ROOM));
+    REFUSED(JG_NULL_POINTER, jg_setup_fault(jg_bytes(SETUP), sizeof SETUP - 1, NULL, 1));
+}
+
+/* A text of the most bytes that one may have, which states a setup; and one of a byte more, which doesn't. */
+static void refuse_long(void) {
+    enum { MOST = 16777216 };
+    static const char MORE[] = "more than 16777216 bytes\n";
+    const jg_bounds bounds = jg_no_bounds();
+    uint8_t *text = (uint8_t *)malloc(MOST + 1);
+    jg_core core = {NULL};
+    jg_guard guard = {NULL};
+    if (text == NULL) {
+        end_with(NO_MEMORY, "no memory");
+    }
+    memset(text, ' ', MOST + 1);
+    memcpy(text, SETUP, sizeof SETUP - 1);
+    DONE(0, jg_core_open(text, MOST, &bounds, JG_VERSION, &core));
+    DONE(0, jg_core_close(&core));
+    REFUSED(0, jg_setup_fault(text, MOST, out.text, ROOM));
+    for (int filler = ' '; filler != 0; filler = filler == ' ' ? 0xFF : 0) {
+        memset(text, filler, MOST + 1);
+        REFUSED(filler == ' ' ? JG_MISSING : JG_NOT_TOML, jg_core_open(text, MOST, &bounds, JG_VERSION, &core));
+        REFUSED(JG_TOO_MANY, jg_core_open(text, MOST + 1, &bounds, JG_VERSION, &core));
+        REFUSED(JG_TOO_MANY, jg_guard_open(text, MOST + 1, 1, JG_VERSION, &guard));
+        DONE((int64_t)sizeof MORE - 1, jg_setup_fault(text, MOST + 1, out.text, ROOM));
+        expect_place(text, MOST + 1, MORE);
+    }
+    DONE(1, core.at == NULL && guard.at == NULL);
+    free(text);
+}
 
 static void refuse_setups(void) {
     const jg_bounds bounds = jg_no_bounds();
@@ -217,6 +272,54 @@ static void refuse_heads(known *k) {
     REFUSED(JG_NO_FUNCTION, jg_ending(&k->core, THREAD, env, UINT32_MAX, local, 1, &out.verdict, &out.given));
 }
 
+/* What jg_may answers is what jg_ask writes, or its error. */
+static void expect_same(known *k, uint32_t thread, const jg_value *env, uint32_t function, const jg_value *operands,
+                        size_t count) {
+    jg_verdict verdict;
+    int32_t answer = jg_ask(&k->core, thread, env, function, operands, count, &verdict);
+    DONE(answer < 0 ? answer : (int64_t)verdict.rule, jg_may(&k->core, thread, env, function, operands, count));
+}
+
+static void compare_rules(known *k) {
+    const jg_value none = jg_nothing(), local = k->local, dead = jg_local(THREAD, 99), number = jg_number(1);
+    const jg_value *envs[] = {&k->env, &none, &local}, *operands[] = {&local, &dead, &number};
+    for (uint32_t function = 0; function <= JG_FUNCTIONS; function++) {
+        for (size_t at = 0; at < sizeof envs / sizeof *envs; at++) {
+            expect_same(k, THREAD, envs[at], function, NULL, 0);
+            expect_same(k, THREAD + 1, envs[at], function, operands[at], 1);
+            expect_same(k, THREAD, &k->env, function, operands[at], 1);
+        }
+    }
+    DONE(0, jg_may(&k->core, THREAD, &k->env, JG_FN_GetStringLength, &local, 1));
+    DONE(JG_DEAD_REFERENCE, jg_may(&k->core, THREAD, &k->env, JG_FN_GetStringLength, &dead, 1));
+    REFUSED(JG_BAD_THREAD, jg_may(&k->core, 65536, &k->env, JG_FN_GetStringLength, &local, 1));
+    REFUSED(JG_BAD_VALUE, jg_may(&k->core, THREAD, &local, JG_FN_GetStringLength, &local, 1));
+    REFUSED(JG_NO_FUNCTION, jg_may(&k->core, THREAD, &k->env, JG_FUNCTIONS, &local, 1));
+    REFUSED(JG_MISFIT, jg_may(&k->core, THREAD, &k->env, JG_FN_GetStringLength, &number, 1));
+    REFUSED(JG_NULL_POINTER, jg_may(NULL, THREAD, &k->env, JG_FN_GetStringLength, &local, 1));
+    REFUSED(JG_NULL_POINTER, jg_may(&k->core, THREAD, NULL, JG_FN_GetStringLength, &local, 1));
+    REFUSED(JG_NULL_POINTER, jg_may(&k->core, THREAD, &k->env, JG_FN_GetStringLength, NULL, 1));
+}
+
+/* Lists of as many items as a jsize counts, and of more. Of those that aren't NewString's no rule speaks. */
+static void count_lists(known *k) {
+    static const char LINE[] = "T1 E1.1 NewString 18446744073709551615!";
+    const jg_value most = jg_list(INT32_MAX, 1), more = jg_list((uint64_t)INT32_MAX + 1, 1);
+    const jg_value all = jg_list(UINT64_MAX, 1), unfit = jg_list(3, 0);
+    const jg_value into[] = {k->local, jg_any_number(0), all}, class_file[] = {jg_name(), jg_null(), all};
+    DONE(JG_PASSED, jg_may(&k->core, THREAD, &k->env, JG_FN_NewString, &most, 1));
+    DONE(JG_BAD_ARGUMENT, jg_may(&k->core, THREAD, &k->env, JG_FN_NewString, &more, 1));
+    DONE(JG_BAD_ARGUMENT, jg_may(&k->core, THREAD, &k->env, JG_FN_NewString, &all, 1));
+    DONE(JG_BAD_ARGUMENT, jg_may(&k->core, THREAD, &k->env, JG_FN_NewString, &unfit, 1));
+    DONE(JG_PASSED, jg_may(&k->core, THREAD, &k->env, JG_FN_NewStringUTF, &all, 1));
+    DONE(JG_BAD_ARGUMENT, jg_may(&k->core, THREAD, &k->env, JG_FN_NewStringUTF, &unfit, 1));
+    DONE(JG_PASSED, jg_may(&k->core, THREAD, &k->env, JG_FN_DefineClass, class_file, 3));
+    DONE(JG_WRONG_TYPE, jg_may(&k->core, THREAD, &k->env, JG_FN_SetIntArrayRegion, into, 3));
+    expect_same(k, THREAD, &k->env, JG_FN_NewString, &all, 1);
+    DONE((int64_t)sizeof LINE - 1,
+         jg_question_line(&k->core, THREAD, &k->env, JG_FN_NewString, &all, 1, out.text, ROOM));
+}
+
 static void refuse_operands(known *k) {
     static const uint32_t KINDS[] = {JG_NOTHING, JG_ENVIRONMENT, JG_OBJECT, JG_ITEMS, JG_THREW, 17, UINT32_MAX};
     const jg_value *env = &k->env, far = jg_local(65536, 1), number = jg_number(1);
@@ -252,6 +355,9 @@ static void refuse_tickets(known *k) {
     REFUSED(JG_BAD_TICKET, jg_did(&k->core, &zeros, &nothing, &out.given));
     REFUSED(JG_BAD_TICKET, jg_told(&zeros, &nothing, &out.fact));
     REFUSED(JG_BAD_TICKET, jg_is_in_doubt(&zeros));
+    REFUSED(JG_BAD_TICKET, jg_tells(&zeros));
+    REFUSED(JG_BAD_TICKET, jg_tells(&beyond));
+    REFUSED(JG_NULL_POINTER, jg_tells(NULL));
     REFUSED(JG_BAD_TICKET, jg_did(&k->core, &beyond, &nothing, &out.given));
 }
 
@@ -263,10 +369,12 @@ static void tell_denied(known *k) {
     DONE(0, jg_ask(&k->core, THREAD, &k->env, JG_FN_DeleteLocalRef, &dead, 1, &verdict));
     DONE(JG_DEAD_REFERENCE, (int64_t)verdict.rule);
     REFUSED(0, jg_is_in_doubt(&verdict.ticket));
+    REFUSED(0, jg_tells(&verdict.ticket));
     REFUSED(0, jg_told(&verdict.ticket, &nothing, &out.fact));
     DONE(0, jg_ask(&k->core, THREAD, &k->env, JG_FN_DeleteLocalRef, &foreign, 1, &verdict));
     DONE(JG_FOREIGN_LOCAL, (int64_t)verdict.rule);
     DONE(1, jg_is_in_doubt(&verdict.ticket));
+    DONE(1, jg_tells(&verdict.ticket));
     REFUSED(0, jg_told(&verdict.ticket, &nothing, &out.fact));
     DONE(1, jg_told(&verdict.ticket, &null, &fact));
     DONE(JG_LOST, (int64_t)fact.word);
@@ -290,6 +398,9 @@ static void refuse_answers(known *k) {
     DONE(0, jg_ask(&k->core, THREAD, &k->env, JG_FN_GetStringLength, &k->local, 1, &verdict));
     /* Nothing is told of it, and nothing is written. */
     REFUSED(0, jg_told(&verdict.ticket, &nothing, &out.fact));
+    REFUSED(0, jg_tells(&verdict.ticket));
+    DONE(0, jg_ask(&k->core, THREAD, &k->env, JG_FN_NewLocalRef, &k->local, 1, &verdict));
+    DONE(1, jg_tells(&verdict.ticket));
 }
 
 /* ---- facts ---- */
@@ -314,6 +425,53 @@ static void refuse_facts(known *k) {
         REFUSED(JG_BAD_FACT, jg_tell(&k->core, &facts[at], &out.given));
         REFUSED(JG_BAD_FACT, jg_fact_line(&k->core, &facts[at], out.text, ROOM));
     }
+}
+
+/* The objects aren't gone: this keeps the one at this place. */
+static void expect_held(known *k, const uint64_t *objects, size_t count, jg_held wanted) {
+    uint64_t place = UINT64_MAX;
+    jg_held held;
+    DONE(JG_IMPOSSIBLE, jg_gone_held(&k->core, objects, count, &held));
+    DONE((int64_t)wanted.place, (int64_t)held.place);
+    DONE((int64_t)wanted.by, (int64_t)held.by);
+    DONE((int64_t)wanted.thread, (int64_t)held.thread);
+    DONE(1, jg_is_same(wanted.name, held.name));
+    DONE(JG_IMPOSSIBLE, jg_gone(&k->core, objects, count, &place));
+    DONE((int64_t)wanted.place, (int64_t)place);
+}
+
+static jg_held held_by(uint64_t place, uint32_t by, uint32_t thread, jg_value name) {
+    jg_held held;
+    held.place = place;
+    held.by = by;
+    held.thread = thread;
+    held.name = name;
+    return held;
+}
+
+/* Each thing that keeps an object. */
+static void tell_holders(known *k) {
+    const jg_value none = jg_nothing();
+    const uint64_t two[] = {k->free.number, k->object.number}, twice[] = {k->free.number, k->free.number};
+    const uint64_t class_object = 2, unknown = 1000;
+    jg_value buffer;
+    expect_held(k, &class_object, 1, held_by(0, JG_BY_SETUP, 0, none));
+    expect_held(k, &unknown, 1, held_by(0, JG_BY_NOTHING, 0, none));
+    expect_held(k, twice, 2, held_by(1, JG_BY_NOTHING, 0, none));
+    expect_held(k, two, 2, held_by(1, JG_BY_REFERENCE, 0, k->local));
+    DONE(0, jg_owns(&k->core, THREAD, k->free));
+    expect_held(k, two, 2, held_by(0, JG_BY_MONITOR, THREAD, none));
+    DONE(0, jg_freed(&k->core, THREAD, k->free));
+    DONE(0, jg_raised(&k->core, THREAD, k->free));
+    expect_held(k, two, 2, held_by(0, JG_BY_PENDING, THREAD, none));
+    DONE(0, jg_calmed(&k->core, THREAD));
+    DONE(0, jg_lent(&k->core, THREAD, JG_CRITICAL_STRING, k->free, jg_local(THREAD, 99), 0, &buffer));
+    expect_held(k, two, 2, held_by(0, JG_BY_BUFFER, 0, buffer));
+    DONE(0, jg_gave(&k->core, THREAD, buffer));
+    REFUSED(0, jg_gone_held(&k->core, NULL, 0, &out.kept));
+    REFUSED(JG_NULL_POINTER, jg_gone_held(NULL, two, 2, &out.kept));
+    REFUSED(JG_NULL_POINTER, jg_gone_held(&k->core, NULL, 1, &out.kept));
+    REFUSED(JG_NULL_POINTER, jg_gone_held(&k->core, two, 2, NULL));
 }
 
 static void refuse_impossible(known *k) {
@@ -343,6 +501,8 @@ static void refuse_names(known *k) {
     DONE(15, jg_class_named(&k->core, jg_bytes("app/Main"), 8));
     DONE(1, jg_native_named(&k->core, 15, jg_bytes("run"), 3, jg_bytes("()V"), 3));
     DONE(16 + JG_KIND_DOUBLES, jg_class_of(&k->core, JG_KIND_DOUBLES));
+    DONE(3, jg_class_of(&k->core, JG_KIND_OBJECTS));
+    DONE(3, jg_class_named(&k->core, jg_bytes("[Ljava/lang/Object;"), 19));
     REFUSED(JG_NO_NAME, jg_class_named(&k->core, jg_bytes("app/Main"), 7));
     REFUSED(JG_NO_NAME, jg_class_named(&k->core, jg_bytes("app.Main"), 8));
     REFUSED(JG_NO_NAME, jg_class_named(&k->core, NULL, 0));
@@ -352,8 +512,25 @@ static void refuse_names(known *k) {
     REFUSED(JG_NO_NAME, jg_native_named(&k->core, 0, jg_bytes("run"), 3, jg_bytes("()V"), 3));
     REFUSED(JG_NO_NAME, jg_native_named(&k->core, 16, jg_bytes("run"), 3, jg_bytes("()V"), 3));
     REFUSED(JG_NO_NAME, jg_native_named(&k->core, UINT32_MAX, NULL, 0, NULL, 0));
-    REFUSED(JG_BAD_VALUE, jg_class_of(&k->core, JG_KIND_DOUBLES + 1));
+    REFUSED(JG_BAD_VALUE, jg_class_of(&k->core, JG_KIND_OBJECTS + 1));
     REFUSED(JG_BAD_VALUE, jg_class_of(&k->core, UINT32_MAX));
+}
+
+/* An array of references, met as one and as an object that is none. */
+static void meet_arrays(void) {
+    known k;
+    jg_value met, array[2];
+    open_known(&k);
+    array[1] = jg_any_number(0);
+    DONE(0, jg_met(&k.core, THREAD, (uint32_t)jg_class_of(&k.core, JG_KIND_OBJECTS), 3, &met));
+    DONE(0, jg_got(&k.core, THREAD, JG_LOCAL, met, &array[0]));
+    DONE(JG_PASSED, jg_may(&k.core, THREAD, &k.env, JG_FN_GetArrayLength, array, 1));
+    DONE(JG_PASSED, jg_may(&k.core, THREAD, &k.env, JG_FN_GetObjectArrayElement, array, 2));
+    DONE(0, jg_met(&k.core, THREAD, (uint32_t)jg_class_of(&k.core, JG_KIND_OBJECT), 0, &met));
+    DONE(0, jg_got(&k.core, THREAD, JG_LOCAL, met, &array[0]));
+    DONE(JG_WRONG_TYPE, jg_may(&k.core, THREAD, &k.env, JG_FN_GetArrayLength, array, 1));
+    DONE(JG_WRONG_TYPE, jg_may(&k.core, THREAD, &k.env, JG_FN_GetObjectArrayElement, array, 2));
+    DONE(0, jg_core_close(&k.core));
 }
 
 /* ---- advice ---- */
@@ -632,12 +809,16 @@ int main(void) {
     refuse_openings(&k);
     refuse_heads(&k);
     refuse_operands(&k);
+    compare_rules(&k);
+    count_lists(&k);
     refuse_tickets(&k);
     tell_denied(&k);
     refuse_answers(&k);
     refuse_facts(&k);
     refuse_impossible(&k);
+    tell_holders(&k);
     refuse_names(&k);
+    meet_arrays();
     refuse_null_in_questions(&k);
     refuse_null_in_facts(&k);
     refuse_null_in_texts(&k);
@@ -649,6 +830,8 @@ int main(void) {
     refuse_closed_guard();
     refuse_setups();
     refuse_many();
+    refuse_long();
+    tell_places();
     refuse_null_in_openings();
     refuse_guard();
     refuse_numbers();

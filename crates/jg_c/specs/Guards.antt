@@ -1,5 +1,5 @@
 -- What a guard answers to C.
-use Rattle.std.specs.Prelude.{ℕ, ℤ, pos, ◌≡◌, ◌≢◌, ◌⊎◌, List, [], ◌∷◌, length, Option, Some, None, String, string_bytes}
+use Rattle.std.specs.Prelude.{ℕ, ℤ, pos, ◌≡◌, ◌≢◌, ◌≤◌, ◌⊎◌, List, [], ◌∷◌, length, Option, Some, None, String, string_bytes}
 use Rattle.std.specs.declared.alloc.Global.{Global}
 use Rattle.jg_words.specs.declared.thread.Tid.{Tid}
 use Rattle.jg_words.specs.declared.thread.EnvId.{EnvId}
@@ -29,6 +29,7 @@ use Rattle.jg_c.specs.Lines.{Writes}
 -- the guard is new: its setup is what the bytes state, and its journal is empty, of at most so many entries
 pub record IsNewGuard (text : List ℕ) (limit : ℕ) (g : State) : Type 0 where
   pub stated : States text g.setup
+  pub short : length text ≤ 16777216
   pub limited : g.limit ≡ limit
   pub empty : g.journal ≡ []
 

@@ -5,6 +5,7 @@ pub mod Operands
 pub mod Facts
 pub mod Tickets
 pub mod Given
+pub mod Holders
 pub mod Cores
 pub mod Advisers
 pub mod Sessions

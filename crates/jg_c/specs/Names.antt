@@ -1,11 +1,14 @@
 -- Classes and native methods by what a setup calls them.
-use Rattle.std.specs.Prelude.{ℕ, ℤ, pos, ◌≡◌, ◌⊎◌, List, Option, Some, None, if◌then◌else◌, nat_eq}
+use Rattle.std.specs.Prelude.{ℕ, ℤ, pos, true, ◌≡◌, ◌⊎◌, List, Option, Some, None, if◌then◌else◌, nat_eq}
 use Rattle.jg_words.specs.Name.{IsName}
 use Rattle.jg_policy.specs.Classes.{class_named, native_named}
 use Rattle.jg_policy.specs.Stated.{StatedSetup}
 use Rattle.jg_questions.specs.declared.kinds.OwnKind.{OwnKind}
 use Rattle.jg_questions.specs.declared.kinds.OwnKind.TheVariants.{Object, Throwable, Class, ClassOfArrays, Floats, Doubles}
-use Rattle.jg_questions.specs.Kinds.{own_class}
+use Rattle.jg_questions.specs.Kinds.{is_kind, own_class}
+use Rattle.jg_functions.specs.declared.row.ObjectKind.TheVariants.{ObjectArray}
+use Rattle.jg_rules.specs.Names.{class_of}
+use Rattle.jg_rules.specs.Parts.{Parts}
 use Rattle.jg_c.specs.Errors as errors
 
 -- the number that is found, if one is
@@ -35,6 +38,15 @@ own_kind n =
     else None
 
 -- the number of their class
-abbrev pub class_of_kind : StatedSetup → Option OwnKind → ℤ
-class_of_kind s None = errors.bad_value
-class_of_kind s (Some kind) = pos (own_class s kind)
+abbrev pub class_of_own : StatedSetup → Option OwnKind → ℤ
+class_of_own s None = errors.bad_value
+class_of_own s (Some kind) = pos (own_class s kind)
+
+-- the number of the class of objects of this kind: of 6, which is arrays of objects, that of [Ljava/lang/Object;, which
+-- each setup has
+abbrev pub class_of_kind : StatedSetup → ℕ → ℤ
+class_of_kind s n = if nat_eq n 6 then pos 3 else class_of_own s (own_kind n)
+
+-- each object of the class of this number is one that functions on arrays of objects take
+abbrev pub IsOfObjectArrays : StatedSetup → ℤ → Type 0
+IsOfObjectArrays s n = (p : Parts) (o : ℕ) → pos (class_of s p o) ≡ n → is_kind s p ObjectArray o ≡ true

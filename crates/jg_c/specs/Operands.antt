@@ -1,5 +1,5 @@
 -- The operands of a question, as C holds them.
-use Rattle.std.specs.Prelude.{ℕ, ℤ, Bool, true, false, Option, Some, None, if◌then◌else◌, nat_eq, nat_lt, int_le, ◌&&◌, pos, negsuc}
+use Rattle.std.specs.Prelude.{ℕ, ℤ, Bool, true, false, Option, Some, None, if◌then◌else◌, nat_eq, nat_le, nat_lt, int_le, ◌&&◌, pos, negsuc}
 use Rattle.std.specs.Int.{cast_signed, w64}
 use Rattle.std.specs.Option.{option_map, option_and_then}
 use Rattle.jg_questions.specs.declared.argument.Argument.{Argument}
@@ -26,9 +26,9 @@ narrowed z = if int_le (negsuc 2147483647) z && int_le z (pos 2147483647) then S
 abbrev pub number_of : ℕ → Option ℤ
 number_of n = narrowed (cast_signed w64 n)
 
--- the operand that a value is, if it is one
-abbrev pub operand_of : JgValue → Option Argument
-operand_of v =
+-- the operand that a value is, if it is one; a list of more items than that doesn't fit, whatever is said of them
+abbrev pub operand_of : ℕ → JgValue → Option Argument
+operand_of most v =
     if nat_eq v.kind 5 then option_map (λ b. argument.Buffer b) (buffer_of v)
     else if nat_eq v.kind 8 then option_map (λ n. argument.Number n) (number_of v.number)
     else if nat_eq v.kind 9 then Some (argument.Value (cast_signed w64 v.number))
@@ -36,5 +36,5 @@ operand_of v =
     else if nat_eq v.kind 11 then option_map (λ class. argument.Class class) (stated_of v.detail v.number)
     else if nat_eq v.kind 12 then option_map (λ native. argument.Native native) (stated_of v.detail v.number)
     else if nat_eq v.kind 13 then Some argument.Name
-    else if nat_eq v.kind 14 then option_map (λ fits. argument.List v.number fits) (flag_of v.detail)
+    else if nat_eq v.kind 14 then option_map (λ fits. argument.List v.number (fits && nat_le v.number most)) (flag_of v.detail)
     else option_map (λ r. argument.Reference r) (reference_of v)

@@ -1,5 +1,5 @@
 -- A question as C holds it, and what it is answered.
-use Rattle.std.specs.Prelude.{ℕ, ℤ, ◌+◌, ◌≡◌, ◌⊎◌, List, [], ◌∷◌, Option, Some, None, Result, Ok, Err, if◌then◌else◌, nat_lt}
+use Rattle.std.specs.Prelude.{ℕ, ℤ, pos, ◌+◌, ◌≡◌, ◌⊎◌, List, [], ◌∷◌, Option, Some, None, Result, Ok, Err, if◌then◌else◌, nat_eq, nat_lt}
 use Rattle.std.specs.Option.{option_map, option_and_then}
 use Rattle.jg_words.specs.declared.thread.Tid.{Tid}
 use Rattle.jg_words.specs.declared.thread.EnvId.{EnvId}
@@ -26,10 +26,15 @@ use Rattle.jg_c.specs.Values.{environment_of, thread_of}
 
 -- ---- what is asked
 
+-- how many items a list may have: of NewString as many as a jsize counts, and of other functions as many as are told
+abbrev pub most_items : ℕ → ℕ
+most_items function = if nat_eq function 161 then 2147483647 else 18446744073709551615
+
 -- the operands that the values are, if all are
-abbrev pub operands_of : List JgValue → Option (List Argument)
-operands_of [] = Some []
-operands_of (v ∷ vs) = option_and_then (λ x. option_map (λ xs. x ∷ xs) (operands_of vs)) (operand_of v)
+abbrev pub operands_of : ℕ → List JgValue → Option (List Argument)
+operands_of most [] = Some []
+operands_of most (v ∷ vs) =
+    option_and_then (λ x. option_map (λ xs. x ∷ xs) (operands_of most vs)) (operand_of most v)
 
 -- the place in the table, of which there are at most 65,536
 abbrev pub place_of : ℕ → Option ℕ
@@ -45,7 +50,7 @@ by_operands t env function (Some xs) = by_place t env xs (place_of function)
 
 abbrev by_env : Tid → Option (Option EnvId) → ℕ → List JgValue → Result (Head × List Argument) ℤ
 by_env t None function vs = Err errors.bad_value
-by_env t (Some env) function vs = by_operands t env function (operands_of vs)
+by_env t (Some env) function vs = by_operands t env function (operands_of (most_items function) vs)
 
 abbrev by_thread : Option Tid → JgValue → ℕ → List JgValue → Result (Head × List Argument) ℤ
 by_thread None env function vs = Err errors.bad_thread
@@ -77,6 +82,19 @@ abbrev pub Asks : CoreHeld → Result (Head × List Argument) ℤ → JgVerdict 
 Asks a (Err why) v n = n ≡ why
 Asks a (Ok q) v n = (w : List Fact) → CoreStands a.core w
     → IsAnswered (asked a.bounds a.core.setup (parts_of w) q.0.tid q.0.env q.0.function q.1) v n
+
+-- the answer as a number alone: of the rule that is broken first, 0 where none is
+abbrev pub ruled : Answer → ℤ
+ruled (Passed ticket) = errors.done
+ruled (Denied rule place ticket) = pos (number_of rule)
+ruled NoFunction = errors.no_function
+ruled Misfit = errors.misfit
+
+-- the question was asked of the core as by Asks, and this is the number of its rule
+abbrev pub May : CoreHeld → Result (Head × List Argument) ℤ → ℤ → Type 0
+May a (Err why) n = n ≡ why
+May a (Ok q) n = (w : List Fact) → CoreStands a.core w
+    → n ≡ ruled (asked a.bounds a.core.setup (parts_of w) q.0.tid q.0.env q.0.function q.1)
 
 -- what it ends was taken, or it was answered otherwise, or it was refused
 abbrev pub EndsBy : CoreState → CoreState → Bounds → Head → List Argument → JgVerdict → JgValue → ℤ → Type 0

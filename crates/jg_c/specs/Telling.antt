@@ -1,23 +1,30 @@
 -- What a core is told by numbers.
-use Rattle.std.specs.Prelude.{ℕ, ℤ, pos, ◌≡◌, ◌⊎◌, List, Option, Some, None, map}
+use Rattle.std.specs.Prelude.{ℕ, ℤ, pos, ◌≡◌, ◌⊎◌, Bool, true, false, List, Option, Some, None, map, slice_index_or}
 use Rattle.jg_words.specs.declared.object.ObjId.{ObjId}
 use Rattle.jg_core.specs.declared.fact.Fact.{Fact}
 use Rattle.jg_core.specs.declared.asking.Ticket.{Ticket}
 use Rattle.jg_core.specs.declared.expected.Expected.{Expected}
-use Rattle.jg_core.specs.declared.expected.Expected.TheVariants.{IfEnded}
+use Rattle.jg_core.specs.declared.expected.Expected.TheVariants.{Done, Quiet, Nothing, Thrown, IfEnded}
 use Rattle.jg_core.specs.declared.kernel.Untold.{Untold}
+use Rattle.jg_core.specs.declared.gone.Holder.{Holder}
 use Rattle.jg_core.specs.declared.says.Given.{Given}
+use Rattle.jg_core.specs.declared.says.Given.TheVariants.{Nothing as NothingGiven}
 use Rattle.jg_core.specs.declared.says.Says.{Says}
-use Rattle.jg_core.specs.Asking.{Returned, RefusesReturn}
+use Rattle.jg_core.specs.declared.says.Says.TheVariants.{Threw}
+use Rattle.jg_policy.specs.Stated.{StatedSetup}
+use Rattle.jg_rules.specs.Parts.{Parts}
+use Rattle.jg_core.specs.Asking.{Returned, RefusesReturn, given_for}
 use Rattle.jg_core.specs.Expected.{told}
 use Rattle.jg_core.specs.Facts.{first_held, parts_of}
-use Rattle.jg_core.specs.Kernel.{CoreStands, Refuses, Took, TookAll}
+use Rattle.jg_core.specs.Kernel.{CoreStands, Keeps, Refuses, Took, TookAll}
 use Rattle.jg_c.specs.declared.value.JgValue.{JgValue}
 use Rattle.jg_c.specs.Cores.{CoreHeld}
 use Rattle.jg_c.specs.declared.fact.JgFact.{JgFact}
+use Rattle.jg_c.specs.declared.held.JgHeld.{JgHeld}
 use Rattle.jg_c.specs.Errors as errors
 use Rattle.jg_c.specs.Facts.{fact_of}
-use Rattle.jg_c.specs.Given.{nothing, of_given}
+use Rattle.jg_c.specs.Given.{of_given}
+use Rattle.jg_c.specs.Holders.{holder_of}
 use Rattle.jg_core.specs.Implied.{given_by}
 
 -- ---- a fact
@@ -62,6 +69,28 @@ abbrev pub in_doubt : Option Ticket → ℤ
 in_doubt None = errors.bad_ticket
 in_doubt (Some ticket) = doubt_of ticket.expected
 
+-- something may come of the call, where it threw nothing
+abbrev pub tells_of : Expected → ℤ
+tells_of (Done None) = pos 0
+tells_of (Quiet None) = pos 0
+tells_of Nothing = pos 0
+tells_of Thrown = pos 0
+tells_of (IfEnded None) = pos 0
+tells_of expected = pos 1
+
+abbrev pub tells : Option Ticket → ℤ
+tells None = errors.bad_ticket
+tells (Some ticket) = tells_of ticket.expected
+
+abbrev pub is_throw : Says → Bool
+is_throw (Threw o) = true
+is_throw says = false
+
+-- whatever a machine says of the call but that it threw, no fact comes of it, and nothing is handed out
+abbrev pub TellsNothing : Ticket → Type 0
+TellsNothing ticket = (s : StatedSetup) (p : Parts) (says : Says) (fact : Option Fact) → is_throw says ≡ false
+    → told ticket.tid ticket.expected says ≡ Some fact → (fact ≡ None) × (given_for s p ticket fact ≡ NothingGiven)
+
 -- ---- the fact of a call that returned
 
 -- it is written, or there is none, or no machine says so
@@ -90,3 +119,13 @@ LetsGo old new ns held n =
     × ((w : List Fact) → CoreStands old.core w → first_held old.core.setup (parts_of w) (objects_of ns) ≡ None))
     ⊎ ((n ≡ errors.impossible)
     × ((w : List Fact) → CoreStands old.core w → first_held old.core.setup (parts_of w) (objects_of ns) ≡ Some held))
+
+-- what keeps the object at that place is told
+abbrev pub IsKept : CoreHeld → List ℕ → JgHeld → Type 0
+IsKept old ns held = (by : Holder) × (holder_of held ≡ Some by)
+    × ((w : List Fact) → CoreStands old.core w
+    → Keeps old.core.setup (parts_of w) (slice_index_or (objects_of ns) held.place (record { 0 = 0 })).0 by)
+
+-- all are gone, or the first that can't be is told, and what keeps it
+abbrev pub LetsGoOrKeeps : CoreHeld → CoreHeld → List ℕ → JgHeld → ℤ → Type 0
+LetsGoOrKeeps old new ns held n = LetsGo old new ns held.place n × (n ≡ errors.impossible → IsKept old ns held)

@@ -1,21 +1,23 @@
 //! A core is asked.
 
-ghost use Rattle.std.specs.Prelude.{◌≡◌, ◌≢◌, ◌↔◌, None, false};
-ghost use Rattle.jg_core.specs.Asking.{is_passed};
-ghost use Rattle.jg_core.specs.Kernel.{Stayed};
+ghost use Rattle.std.specs.Prelude.{◌≡◌, ◌≢◌, ◌↔◌, None, false, List};
+ghost use Rattle.jg_core.specs.declared.fact.Fact.{Fact};
+ghost use Rattle.jg_core.specs.Asking.{asked, is_passed};
+ghost use Rattle.jg_core.specs.Facts.{parts_of};
+ghost use Rattle.jg_core.specs.Kernel.{CoreStands, Stayed};
 ghost use Rattle.jg_c.specs.Errors as errors;
 ghost use Rattle.jg_c.specs.Given.{of_given};
-ghost use Rattle.jg_c.specs.Questions.{Asks, Ends, EndsBy, IsAnswered, question_of};
+ghost use Rattle.jg_c.specs.Questions.{Asks, Ends, EndsBy, IsAnswered, May, question_of, ruled};
 ghost use Rattle.jg_c.specs.Sessions.{Of, Steps, core_of};
 
-use crate::error::{CLOSED, DONE, of_untold};
+use crate::error::{CLOSED, DONE, MISFIT, NO_FUNCTION, of_untold};
 use crate::given::of_given;
 use crate::handle::Handle;
 use crate::question::{Head, read_question};
 use crate::session::CoreSession;
 use crate::value::JgValue;
 use crate::verdict::{JgVerdict, write_answer};
-use jg_core::{Core, Ended};
+use jg_core::{Answer, Core, Ended};
 use jg_questions::{Argument, Bounds};
 
 #[inline(always)]
@@ -68,6 +70,76 @@ pub extern "C" fn jg_ask(
 {
     match core.core() {
         Some(asked) => ask(asked, thread, env, function, operands, verdict),
+        None => CLOSED,
+    }
+}
+
+/// The number of the rule that the answer tells, or why there is none.
+#[inline(always)]
+fn rule_in(answer: Answer) -> i32
+    ensures is { result ≡ ruled answer }
+    ensures numbers { (result ≢ errors.closed) × (result ≢ errors.no_memory) }
+{
+    match answer {
+        Answer::Passed(_) => DONE,
+        Answer::Denied { rule, .. } => i32::from(rule.number()),
+        Answer::NoFunction => NO_FUNCTION,
+        Answer::Misfit => MISFIT,
+    }
+}
+
+/// The number of the rule that the question breaks first, or why there is none.
+#[inline(always)]
+fn rule_on(core: &Core, bounds: Bounds, head: Head, arguments: &[Argument]) -> i32
+    ensures rule { (w : List Fact) → CoreStands core.now w → result ≡ ruled (asked bounds core.now.setup (parts_of w)
+        head.tid head.env head.function arguments.now) }
+    ensures numbers { (result ≢ errors.closed) × (result ≢ errors.no_memory) }
+{
+    rule_in(core.ask(bounds, head.tid, head.env, head.function, arguments))
+}
+
+#[inline(always)]
+fn may(
+    asked: &mut CoreSession,
+    thread: u32,
+    env: &JgValue,
+    function: u32,
+    operands: &[JgValue],
+) -> i32
+    ensures may { result ≢ errors.no_memory
+        → May asked.old (question_of thread env.now function operands.now) result }
+    ensures numbers { result ≢ errors.closed }
+    ensures same { asked.new ≡ asked.old }
+{
+    match read_question(thread, env, function, operands, &mut asked.room.arguments) {
+        Ok(head) => rule_on(
+            &asked.core,
+            asked.bounds,
+            head,
+            asked.room.arguments.as_slice(),
+        ),
+        Err(why) => why,
+    }
+}
+
+/// The number of the rule that `jg_ask` of the same question writes, 0 where it breaks none; or what `jg_ask` answers in
+/// its place. It changes nothing and hands out no ticket. It takes memory only where it has more operands than any question
+/// before.
+#[unsafe(no_mangle)]
+pub extern "C" fn jg_may(
+    core: &mut Handle,
+    thread: u32,
+    env: &JgValue,
+    function: u32,
+    operands: &[JgValue],
+) -> i32
+    ensures closed { (result ≡ errors.closed) ↔ (core_of core.old.value ≡ None) }
+    ensures may { result ≢ errors.no_memory → Of (core_of core.old.value)
+        (λ a. May a (question_of thread env.now function operands.now) result) }
+    ensures same { core.new.value ≡ core.old.value }
+{
+    match core.core() {
+        Some(asked) => may(asked, thread, env, function, operands),
         None => CLOSED,
     }
 }

@@ -6,11 +6,12 @@ ghost use Rattle.jg_record.specs.declared.event.Event.TheVariants.{Gone};
 ghost use Rattle.jg_c.specs.Errors as errors;
 ghost use Rattle.jg_c.specs.Lines.{GoneLine, IsLine};
 ghost use Rattle.jg_c.specs.Sessions.{Of, Steps, core_of};
-ghost use Rattle.jg_c.specs.Telling.{LetsGo, objects_of};
+ghost use Rattle.jg_c.specs.Telling.{IsKept, LetsGo, LetsGoOrKeeps, objects_of};
 ghost use Rattle.jg_c.specs.Values as values;
 
 use crate::error::{BAD_THREAD, CLOSED, DONE, IMPOSSIBLE, NO_MEMORY};
 use crate::handle::Handle;
+use crate::held::{JgHeld, of_held};
 use crate::lines::write_line;
 use crate::session::CoreSession;
 use crate::value::thread_of;
@@ -67,6 +68,43 @@ pub extern "C" fn jg_gone(core: &mut Handle, objects: &[u64], held: &mut u64) ->
 {
     match core.core() {
         Some(asked) => let_go(asked, objects, held),
+        None => CLOSED,
+    }
+}
+
+fn let_go_or_keep(asked: &mut CoreSession, objects: &[u64], held: &mut JgHeld) -> i32
+    ensures goes { result ≢ errors.no_memory → LetsGo asked.old asked.new objects.now held.new.place result }
+    ensures by { result ≡ errors.impossible → IsKept asked.old objects.now held.new }
+    ensures kept { result ≢ errors.impossible → held.new ≡ held.old }
+    ensures numbers { result ≢ errors.closed }
+    ensures stayed { result ≢ errors.done → Stayed asked.old.core asked.new.core }
+    ensures bounds { asked.new.bounds ≡ asked.old.bounds }
+{
+    let Ok(()) = read_objects(objects, &mut asked.room.objects) else {
+        return NO_MEMORY;
+    };
+    let Err(still) = asked.core.gone(asked.room.objects.as_slice()) else {
+        return DONE;
+    };
+    *held = of_held(still);
+    IMPOSSIBLE
+}
+
+/// Takes what `jg_gone` takes, and answers as it does. Beside the place of the first object that can't be gone it
+/// writes what keeps that.
+#[unsafe(no_mangle)]
+pub extern "C" fn jg_gone_held(core: &mut Handle, objects: &[u64], held: &mut JgHeld) -> i32
+    ensures closed { (result ≡ errors.closed) ↔ (core_of core.old.value ≡ None) }
+    ensures goes { result ≢ errors.no_memory → Steps (core_of core.old.value) (core_of core.new.value)
+        (λ old new. LetsGoOrKeeps old new objects.now held.new result) }
+    ensures kept { result ≢ errors.impossible → held.new ≡ held.old }
+    ensures stayed { result ≢ errors.done → Steps (core_of core.old.value) (core_of core.new.value)
+        (λ old new. Stayed old.core new.core) }
+    ensures bounds { Steps (core_of core.old.value) (core_of core.new.value) (λ old new. new.bounds ≡ old.bounds) }
+    ensures same { core_of core.old.value ≡ None → core.new.value ≡ core.old.value }
+{
+    match core.core() {
+        Some(asked) => let_go_or_keep(asked, objects, held),
         None => CLOSED,
     }
 }

@@ -1,6 +1,6 @@
 //! A guard answers scripts.
 
-ghost use Rattle.std.specs.Prelude.{◌≡◌, ◌≢◌, ◌↔◌, ◌⊎◌, None, IfOk, IfErr, IfNone, IfSome, List, ℕ, is_some, Some, Box};
+ghost use Rattle.std.specs.Prelude.{◌≡◌, ◌≢◌, ◌≤◌, ◌↔◌, ◌⊎◌, None, IfOk, IfErr, IfNone, IfSome, List, ℕ, is_some, length, Some, Box};
 ghost use Rattle.jg_text.specs.Journal.{entry_text};
 ghost use Rattle.jg_policy.specs.Findings.{States};
 ghost use Rattle.jg_c.specs.Errors as errors;
@@ -27,7 +27,8 @@ use std::alloc::Global;
 
 /// A guard of this setup with an empty journal.
 fn new_guard(alloc: Global, setup: Setup, limit: u32) -> Option<GuardSession>
-    ensures { IfSome result (λ g. (text : List ℕ) → States text setup → IsNewGuard text limit g) }
+    ensures { IfSome result (λ g. (text : List ℕ) → States text setup → length text ≤ 16777216
+        → IsNewGuard text limit g) }
 {
     match Guard::new(alloc, alloc, setup, limit) {
         Ok(guard) => Some(GuardSession { guard }),

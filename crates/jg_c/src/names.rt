@@ -4,7 +4,7 @@ ghost use Rattle.std.specs.Prelude.{◌≡◌, ◌≢◌, ◌↔◌, None, Some,
 ghost use Rattle.jg_words.specs.Name.{IsName};
 ghost use Rattle.jg_c.specs.Errors as errors;
 ghost use Rattle.jg_c.specs.Names as specs;
-ghost use Rattle.jg_c.specs.Names.{IsClassNamed, IsNativeNamed};
+ghost use Rattle.jg_c.specs.Names.{IsClassNamed, IsNativeNamed, IsOfObjectArrays};
 ghost use Rattle.jg_c.specs.Sessions.{Of, core_of};
 
 use crate::error::{BAD_VALUE, CLOSED, NO_MEMORY, NO_NAME};
@@ -124,21 +124,32 @@ fn own_kind(number: u32) -> Option<OwnKind>
     }
 }
 
+/// `JG_KIND_OBJECTS`: arrays of objects. Their class is one of the setup's.
+const OBJECTS: u32 = 6;
+
+/// The class `[Ljava/lang/Object;`.
+const OBJECT_ARRAY: i64 = 3;
+
 fn class_of(core: &Core, kind: u32) -> i64
-    ensures is { result ≡ specs.class_of_kind core.now.setup (specs.own_kind kind) }
+    ensures is { result ≡ specs.class_of_kind core.now.setup kind }
+    ensures objects { kind ≡ 6 → IsOfObjectArrays core.now.setup result }
     ensures numbers { result ≢ errors.closed }
 {
+    if kind == OBJECTS {
+        return OBJECT_ARRAY;
+    }
     match own_kind(kind) {
         Some(kind) => i64::from(core.class_of(kind)),
         None => i64::from(BAD_VALUE),
     }
 }
 
-/// The number of the class of objects of this kind, whose class the setup doesn't state.
+/// The number of the class of objects of this kind, whose own class the setup doesn't state.
 #[unsafe(no_mangle)]
 pub extern "C" fn jg_class_of(core: &mut Handle, kind: u32) -> i64
     ensures closed { (result ≡ errors.closed) ↔ (core_of core.old.value ≡ None) }
-    ensures is { Of (core_of core.old.value) (λ a. result ≡ specs.class_of_kind a.core.setup (specs.own_kind kind)) }
+    ensures is { Of (core_of core.old.value) (λ a. result ≡ specs.class_of_kind a.core.setup kind) }
+    ensures objects { kind ≡ 6 → Of (core_of core.old.value) (λ a. IsOfObjectArrays a.core.setup result) }
     ensures same { core.new.value ≡ core.old.value }
 {
     match core.core() {

@@ -1,6 +1,6 @@
 //! Cores are opened and closed.
 
-ghost use Rattle.std.specs.Prelude.{ℕ, List, ◌≡◌, ◌≢◌, ◌↔◌, is_some, IfOk, IfErr, None, Some, Box};
+ghost use Rattle.std.specs.Prelude.{ℕ, List, ◌≡◌, ◌≢◌, ◌≤◌, ◌↔◌, is_some, length, IfOk, IfErr, OnOk, None, Some, Box};
 ghost use Rattle.jg_policy.specs.Findings.{States};
 ghost use Rattle.jg_c.specs.Errors as errors;
 ghost use Rattle.jg_c.specs.Opened.{IsFresh, IsFaulty, IsOpening, IsUnopened};
@@ -31,11 +31,18 @@ pub struct JgBounds {
     pub items: i32,
 }
 
-/// The setup that the bytes state. Bytes that are no text are no TOML.
+/// The most bytes that a setup text may have.
+pub(crate) const MAX_BYTES: usize = 16_777_216;
+
+/// The setup that the bytes state. Bytes that are no text are no TOML, and too many are no setup, whatever they are.
 pub(crate) fn read_setup(alloc: Global, text: &[u8]) -> Result<Setup, SetupFault>
     ensures stated { IfOk result (States text.now) }
+    ensures short { OnOk result (length text.now ≤ 16777216) }
     ensures refused { IfErr result (IsFaulty text.now) }
 {
+    if text.len() > MAX_BYTES {
+        return Err(SetupFault::TooMany);
+    }
     match str::from_utf8(text) {
         Ok(text) => Setup::read(alloc, text),
         Err(_) => Err(SetupFault::NotToml),
@@ -44,7 +51,7 @@ pub(crate) fn read_setup(alloc: Global, text: &[u8]) -> Result<Setup, SetupFault
 
 /// A core of this setup that was told nothing.
 fn fresh_core(alloc: Global, setup: Setup, bounds: &JgBounds) -> CoreSession
-    ensures { (text : List ℕ) → States text setup
+    ensures { (text : List ℕ) → States text setup → length text ≤ 16777216
         → IsFresh text bounds.now.capacity bounds.now.length bounds.now.items result }
 {
     CoreSession {

@@ -60,10 +60,10 @@ fn number_of(number: u64) -> Option<i32>
     }
 }
 
-/// The operand that the value is, if it is one.
+/// The operand that the value is, if it is one. A list of more than `most` items doesn't fit.
 #[inline(always)]
-pub(crate) fn operand_of(value: JgValue) -> Option<Argument>
-    ensures { result ≡ operands.operand_of value }
+pub(crate) fn operand_of(most: u64, value: JgValue) -> Option<Argument>
+    ensures { result ≡ operands.operand_of most value }
 {
     match value.kind {
         NULL..=WEAK => Some(Argument::Reference(value.reference()?)),
@@ -78,7 +78,7 @@ pub(crate) fn operand_of(value: JgValue) -> Option<Argument>
         NAME => Some(Argument::Name),
         LIST => Some(Argument::List {
             count: value.number,
-            fits: flag_of(value.detail)?,
+            fits: flag_of(value.detail)? && value.number <= most,
         }),
         _ => None,
     }

@@ -2,7 +2,7 @@
 
 ghost use Rattle.std.specs.Prelude.{◌≡◌, ◌≢◌, Some, None, Ok, Err, IfOk, IfErr};
 ghost use Rattle.jg_c.specs.Errors as errors;
-ghost use Rattle.jg_c.specs.Questions.{operands_of, place_of, question_of};
+ghost use Rattle.jg_c.specs.Questions.{most_items, operands_of, place_of, question_of};
 
 use crate::error::{BAD_THREAD, BAD_VALUE, NO_FUNCTION, NO_MEMORY};
 use crate::operand::operand_of;
@@ -18,17 +18,37 @@ pub(crate) struct Head {
     pub(crate) function: u16,
 }
 
-/// Reads the operands into the list, or answers why there are none.
+/// `NewString`, whose list must be a string's.
+const NEW_STRING: u32 = 161;
+
+/// The most items that a jsize counts.
+const MOST_ITEMS: u64 = 2_147_483_647;
+
+/// How many items a list may have that this function takes. No rule speaks of how many those of others than `NewString`
+/// have: where a region has a count below 0, the machine throws.
 #[inline(always)]
-fn read_operands(values: &[JgValue], arguments: &mut Vec<Argument>) -> Result<(), i32>
-    ensures ok { IfOk result (λ done. operands_of values.now ≡ Some arguments.new.items) }
-    ensures err { IfErr result (λ n. n ≢ errors.no_memory → (n ≡ errors.bad_value) × (operands_of values.now ≡ None)) }
+fn most_items(function: u32) -> u64
+    ensures { result ≡ most_items function }
+{
+    if function == NEW_STRING {
+        MOST_ITEMS
+    } else {
+        u64::MAX
+    }
+}
+
+/// Reads the operands into the list, or answers why there are none. A list has at most so many items.
+#[inline(always)]
+fn read_operands(most: u64, values: &[JgValue], arguments: &mut Vec<Argument>) -> Result<(), i32>
+    ensures ok { IfOk result (λ done. operands_of most values.now ≡ Some arguments.new.items) }
+    ensures err { IfErr result (λ n. n ≢ errors.no_memory
+        → (n ≡ errors.bad_value) × (operands_of most values.now ≡ None)) }
     ensures numbers { IfErr result (λ n. (n ≢ errors.closed) × (n ≢ errors.done)) }
 {
     arguments.clear();
     let mut rest = values;
     while let Some((value, later)) = rest.split_first() {
-        let Some(argument) = operand_of(*value) else {
+        let Some(argument) = operand_of(most, *value) else {
             return Err(BAD_VALUE);
         };
         let Ok(()) = arguments.push(argument) else {
@@ -71,7 +91,7 @@ pub(crate) fn read_question(
     let Some(env) = env.environment() else {
         return Err(BAD_VALUE);
     };
-    match read_operands(operands, arguments) {
+    match read_operands(most_items(function), operands, arguments) {
         Ok(()) => match place_of(function) {
             Some(function) => Ok(Head { tid, env, function }),
             None => Err(NO_FUNCTION),

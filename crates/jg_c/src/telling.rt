@@ -1,12 +1,12 @@
 //! A core is told.
 
-ghost use Rattle.std.specs.Prelude.{◌≡◌, ◌≢◌, ◌↔◌, None, Some};
+ghost use Rattle.std.specs.Prelude.{◌≡◌, ◌≢◌, ◌↔◌, None, Some, pos};
 ghost use Rattle.jg_core.specs.Expected.{told as told_of};
 ghost use Rattle.jg_core.specs.Kernel.{Stayed};
 ghost use Rattle.jg_c.specs.Errors as errors;
 ghost use Rattle.jg_c.specs.Facts as facts;
 ghost use Rattle.jg_c.specs.Given as givens;
-ghost use Rattle.jg_c.specs.Sessions.{Steps, core_of};
+ghost use Rattle.jg_c.specs.Sessions.{Of, Steps, core_of};
 ghost use Rattle.jg_c.specs.Telling as specs;
 ghost use Rattle.jg_c.specs.Tickets as tickets;
 
@@ -161,6 +161,22 @@ pub extern "C" fn jg_is_in_doubt(ticket: &JgTicket) -> i32
         Some(ticket) => match ticket.expected {
             Expected::IfEnded(Some(_)) => 1,
             _ => 0,
+        },
+        None => BAD_TICKET,
+    }
+}
+
+/// Whether anything may come of the ticket's call that is to be told, where it threw nothing: 1, or 0 where nothing does.
+#[unsafe(no_mangle)]
+pub extern "C" fn jg_tells(ticket: &JgTicket) -> i32
+    ensures is { result ≡ specs.tells (tickets.ticket_of ticket.now) }
+    ensures nothing { result ≡ pos 0 → Of (tickets.ticket_of ticket.now) specs.TellsNothing }
+{
+    match ticket_of(ticket) {
+        Some(ticket) => match ticket.expected {
+            Expected::Done(None) | Expected::Quiet(None) | Expected::IfEnded(None) => 0,
+            Expected::Nothing | Expected::Thrown => 0,
+            _ => 1,
         },
         None => BAD_TICKET,
     }

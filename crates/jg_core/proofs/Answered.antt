@@ -23,7 +23,7 @@ use Rattle.jg_questions.specs.declared.question.Verdict.TheVariants.{Misfit, Bro
 use Rattle.jg_questions.specs.Asked.{first_reference}
 use Rattle.jg_questions.specs.Broken.{verdict}
 use Rattle.jg_questions.specs.Culprit.{first_broken, with_culprit}
-use Rattle.jg_questions.specs.Sound.{by_rule, verdict_on}
+use Rattle.jg_questions.specs.Question.{by_rule, verdict_on}
 use Rattle.jg_questions.specs.Suits.{suits}
 use Rattle.jg_core.specs.declared.asking.Answer.{Answer}
 use Rattle.jg_core.specs.declared.asking.Answer.TheVariants.{Passed as Passes, Denied, Misfit as Misfits}

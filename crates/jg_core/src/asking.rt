@@ -175,10 +175,8 @@ impl<A: Allocator + Clone> Core<A> {
         let Some(fact) = fact else {
             return Ok(out);
         };
-        match self.tell(fact) {
-            Ok(_) => Ok(out),
-            Err(why) => Err(why),
-        }
+        self.take_fact(fact)?;
+        Ok(out)
     }
 
     /// Asks as [`Core::ask`] does and, where no rule is broken, takes at once what the call ends: so that of two

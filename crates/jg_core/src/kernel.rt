@@ -162,9 +162,18 @@ impl<A: Allocator + Clone> Core<A> {
         ensures err { OnErr result (Stayed self.old self.new) }
         ensures why { IfErr result (Refuses self.old fact) }
     {
-        let view = self.tables.view(&self.setup);
-        let out = given_by(&view, fact);
-        if !can_be(&view, fact) {
+        let out = given_by(&self.tables.view(&self.setup), fact);
+        self.take_fact(fact)?;
+        Ok(out)
+    }
+
+    /// Takes a fact as [`Core::tell`] does, and doesn't answer what it hands out.
+    pub(crate) fn take_fact(&mut self, fact: Fact) -> Result<(), Untold>
+        ensures ok { OnOk result (Took self.old self.new fact) }
+        ensures err { OnErr result (Stayed self.old self.new) }
+        ensures why { IfErr result (Refuses self.old fact) }
+    {
+        if !can_be(&self.tables.view(&self.setup), fact) {
             return Err(Untold::Impossible);
         }
         let made = makes(fact);
@@ -177,7 +186,7 @@ impl<A: Allocator + Clone> Core<A> {
         if made {
             self.made += 1;
         }
-        Ok(out)
+        Ok(())
     }
 
     /// The class of the kind: its number stands behind those of the setup.
@@ -198,7 +207,7 @@ impl<A: Allocator + Clone> Core<A> {
         ensures why { IfErr result (Refuses self.old (Begin tid)) }
     {
         let env = self.tables.threads.env_once_attached(tid);
-        self.tell(Fact::Begin(tid))?;
+        self.take_fact(Fact::Begin(tid))?;
         Ok(env)
     }
 
@@ -212,7 +221,7 @@ impl<A: Allocator + Clone> Core<A> {
         ensures why { IfErr result (Refuses self.old (Leave tid kept)) }
     {
         let n = self.tables.threads.next_ref(tid);
-        self.tell(Fact::Leave { tid, kept })?;
+        self.take_fact(Fact::Leave { tid, kept })?;
         Ok(local_of(tid, n, kept))
     }
 
@@ -226,7 +235,7 @@ impl<A: Allocator + Clone> Core<A> {
         ensures why { IfErr result (Refuses self.old (Pop tid kept)) }
     {
         let n = self.tables.threads.next_ref(tid);
-        self.tell(Fact::Pop { tid, kept })?;
+        self.take_fact(Fact::Pop { tid, kept })?;
         Ok(local_of(tid, n, kept))
     }
 
@@ -239,7 +248,7 @@ impl<A: Allocator + Clone> Core<A> {
         ensures why { IfErr result (Refuses self.old (Hand tid kind object)) }
     {
         let n = self.tables.threads.next_ref(tid);
-        self.tell(Fact::Hand { tid, kind, object })?;
+        self.take_fact(Fact::Hand { tid, kind, object })?;
         Ok(Ref::To {
             kind,
             maker: tid,
@@ -264,7 +273,7 @@ impl<A: Allocator + Clone> Core<A> {
         ensures why { IfErr result (Refuses self.old (Lend tid family object via length)) }
     {
         let n = self.tables.threads.next_buf(tid);
-        self.tell(Fact::Lend {
+        self.take_fact(Fact::Lend {
             tid,
             family,
             object,
@@ -284,7 +293,7 @@ impl<A: Allocator + Clone> Core<A> {
         ensures why { IfErr result (Refuses self.old (Meet class length)) }
     {
         let object = ObjId(self.tables.objects.len());
-        self.tell(Fact::Meet { class, length })?;
+        self.take_fact(Fact::Meet { class, length })?;
         Ok(object)
     }
 }

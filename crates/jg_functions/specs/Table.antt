@@ -165,7 +165,7 @@ first =
     row "IsVirtualThread" V21 (Nullable ∷ []) Usual Never Quiet Nothing ∷ [])
     ++ under Exceptions true (
     row "Throw" V1_1 (throwable ∷ []) Usual Negative Quiet Raises
-    ∷ row "ThrowNew" V1_1 (class ∷ Name ∷ []) Usual Negative Java Nothing
+    ∷ row "ThrowNew" V1_1 (instance_class ∷ Name ∷ []) Usual Negative Java Nothing
     ∷ row "ExceptionOccurred" V1_1 [] Pending Never Quiet (Hands Local)
     ∷ row "ExceptionDescribe" V1_1 [] Pending Never Java Calms
     ∷ row "ExceptionClear" V1_1 [] Pending Never Quiet Calms
@@ -363,8 +363,8 @@ last =
     ++ under ReflectionSupport true (
     row "FromReflectedMethod" V1_2 (object ∷ []) Usual Never Java Nothing
     ∷ row "FromReflectedField" V1_2 (object ∷ []) Usual Never Java Nothing
-    ∷ row "ToReflectedMethod" V1_2 (class ∷ AnyMethod ∷ Number ∷ []) Usual Null Quiet (Hands Local)
-    ∷ row "ToReflectedField" V1_2 (class ∷ AnyField ∷ Number ∷ []) Usual Null Quiet (Hands Local) ∷ [])
+    ∷ row "ToReflectedMethod" V1_2 (class ∷ AnyMethod ∷ Number ∷ []) Usual Null Java (Hands Local)
+    ∷ row "ToReflectedField" V1_2 (class ∷ AnyField ∷ Number ∷ []) Usual Null Java (Hands Local) ∷ [])
     ++ under JavaVmInterface true (
     row "GetJavaVM" V1_1 [] Usual Never Quiet Nothing ∷ [])
     ++ under InvocationApiFunctions false (

@@ -126,7 +126,7 @@ ThreadOperations true {
 }
 Exceptions true {
     Throw V1_1 (THROWABLE) Usual Negative Quiet => Raises;
-    ThrowNew V1_1 (CLASS, Name) Usual Negative Java => Nothing;
+    ThrowNew V1_1 (INSTANCE_CLASS, Name) Usual Negative Java => Nothing;
     ExceptionOccurred V1_1 () Pending Never Quiet => Hands(Local);
     ExceptionDescribe V1_1 () Pending Never Java => Calms;
     ExceptionClear V1_1 () Pending Never Quiet => Calms;
@@ -399,8 +399,8 @@ NioSupport true {
 ReflectionSupport true {
     FromReflectedMethod V1_2 (OBJECT) Usual Never Java => Nothing;
     FromReflectedField V1_2 (OBJECT) Usual Never Java => Nothing;
-    ToReflectedMethod V1_2 (CLASS, AnyMethod, Number) Usual Null Quiet => Hands(Local);
-    ToReflectedField V1_2 (CLASS, AnyField, Number) Usual Null Quiet => Hands(Local);
+    ToReflectedMethod V1_2 (CLASS, AnyMethod, Number) Usual Null Java => Hands(Local);
+    ToReflectedField V1_2 (CLASS, AnyField, Number) Usual Null Java => Hands(Local);
 }
 JavaVmInterface true {
     GetJavaVM V1_1 () Usual Never Quiet => Nothing;

@@ -11,12 +11,9 @@ use Rattle.jg_rules.specs.Names.{names}
 use Rattle.jg_rules.specs.Rules.{is_foreign, is_nothing, is_null}
 use Rattle.jg_functions.specs.declared.row.Takes.{Takes}
 use Rattle.jg_questions.specs.declared.argument.Argument.{Argument}
-use Rattle.jg_questions.specs.declared.faults.Faults.{Faults}
-use Rattle.jg_questions.specs.declared.faults.Places.{Places}
-use Rattle.jg_questions.specs.declared.faults.Beside.{Beside}
-use Rattle.jg_questions.specs.Asked.{judged_of, is_last, paired}
+use Rattle.jg_questions.specs.Asked.{judged_of}
 use Rattle.jg_questions.specs.Broken.{is_wrong_kind, is_unfit, is_wrong_buffer, is_out_of_bounds}
-use Rattle.jg_questions.specs.Faults.{faults_of, faults_in, either, no_faults, breaks, first_that, places_from, or_here, with_one}
+use Rattle.jg_questions.specs.Faults.{Beside, Faults, Places, faults_of, faults_in, either, no_faults, breaks, first_that, places_from, or_here, with_one}
 
 -- what all operands break, rule by rule
 abbrev pub told : StatedSetup → Parts → ℕ → Beside → List (Takes × Argument) → Faults
@@ -59,7 +56,7 @@ or_later None n true later = refl
 or_later None n false later = refl
 
 -- one operand more: what was found before it, and what it breaks itself
-one_joined : (s : StatedSetup) (p : Parts) (t : ℕ) (beside : Beside) (a : Places) (n : ℕ) (x : Takes × Argument) (xs : List (Takes × Argument))
+pub one_joined : (s : StatedSetup) (p : Parts) (t : ℕ) (beside : Beside) (a : Places) (n : ℕ) (x : Takes × Argument) (xs : List (Takes × Argument))
     → joined (with_one a n (faults_of s p t beside x.0 x.1)) (places_from s p t beside (n + 1) xs) ≡ joined a (places_from s p t beside n (x ∷ xs))
 one_joined s p t beside a n x xs =
     let f : Faults = faults_of s p t beside x.0 x.1 in
@@ -73,38 +70,6 @@ one_joined s p t beside a n x xs =
       or_later a.bad_buffer n f.bad_buffer later.bad_buffer,
       or_later a.bad_argument n f.bad_argument later.bad_argument,
     ) refl
-
-one_more : (s : StatedSetup) (p : Parts) (t : ℕ) (beside : Beside) (places more all : Places) (found : Faults) (n : ℕ) (takes : Takes) (x : Argument)
-    (wanted later_takes : List Takes) (rest later : List Argument)
-    → wanted ≡ takes ∷ later_takes → rest ≡ x ∷ later → more ≡ with_one places n found → found ≡ faults_of s p t beside takes x
-    → joined places (places_from s p t beside n (paired wanted rest)) ≡ all
-    → joined more (places_from s p t beside (n + 1) (paired (if is_last takes then takes ∷ later_takes else later_takes) later)) ≡ all
-one_more s p t beside places more all found n takes x wanted later_takes rest later wanted_is rest_is more_is found_is so_far =
-    let left : List (Takes × Argument) = paired (if is_last takes then takes ∷ later_takes else later_takes) later in
-    let now : joined places (places_from s p t beside n (paired (takes ∷ later_takes) (x ∷ later))) ≡ all =
-    subst (λ w. joined places (places_from s p t beside n (paired w (x ∷ later))) ≡ all) wanted_is
-    (subst (λ r. joined places (places_from s p t beside n (paired wanted r)) ≡ all) rest_is so_far) in
-    ap (λ m. joined m (places_from s p t beside (n + 1) left)) (more_is ∙ ap (with_one places n) found_is)
-    ∙ (one_joined s p t beside places n (takes, x) left ∙ now)
-
-pub one_more_of_others : (s : StatedSetup) (p : Parts) (t : ℕ) (beside : Beside) (places more all : Places) (found : Faults) (n : ℕ) (takes : Takes) (x : Argument)
-    (wanted later_takes : List Takes) (rest later : List Argument)
-    → wanted ≡ takes ∷ later_takes → rest ≡ x ∷ later → more ≡ with_one places n found → found ≡ faults_of s p t beside takes x
-    → joined places (places_from s p t beside n (paired wanted rest)) ≡ all → is_last takes ≡ false
-    → joined more (places_from s p t beside (n + 1) (paired later_takes later)) ≡ all
-one_more_of_others s p t beside places more all found n takes x wanted later_takes rest later wanted_is rest_is more_is found_is so_far last =
-    subst (λ b. joined more (places_from s p t beside (n + 1) (paired (if b then takes ∷ later_takes else later_takes) later)) ≡ all) last
-    (one_more s p t beside places more all found n takes x wanted later_takes rest later wanted_is rest_is more_is found_is so_far)
-
-pub one_more_argument : (s : StatedSetup) (p : Parts) (t : ℕ) (beside : Beside) (places more all : Places) (found : Faults) (n : ℕ) (takes : Takes) (x : Argument)
-    (wanted later_takes : List Takes) (rest later : List Argument)
-    → wanted ≡ takes ∷ later_takes → rest ≡ x ∷ later → more ≡ with_one places n found → found ≡ faults_of s p t beside takes x
-    → joined places (places_from s p t beside n (paired wanted rest)) ≡ all → is_last takes ≡ true
-    → joined more (places_from s p t beside (n + 1) (paired wanted later)) ≡ all
-one_more_argument s p t beside places more all found n takes x wanted later_takes rest later wanted_is rest_is more_is found_is so_far last =
-    subst (λ w. joined more (places_from s p t beside (n + 1) (paired w later)) ≡ all) (sym wanted_is)
-    (subst (λ b. joined more (places_from s p t beside (n + 1) (paired (if b then takes ∷ later_takes else later_takes) later)) ≡ all) last
-    (one_more s p t beside places more all found n takes x wanted later_takes rest later wanted_is rest_is more_is found_is so_far))
 
 -- no operand more
 pub no_more : (s : StatedSetup) (p : Parts) (t : ℕ) (beside : Beside) (places all : Places) (n : ℕ) (xs : List (Takes × Argument)) → xs ≡ []

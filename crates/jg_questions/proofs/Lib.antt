@@ -2,9 +2,10 @@ pub mod Agreed
 pub mod Called
 pub mod Callers
 pub mod Found
-pub mod Passes
+pub mod Judged
+pub mod Kept
+pub mod Looked
 pub mod Rows
 pub mod Sorts
-pub mod AllSound
 pub mod Split
 pub mod Stated

@@ -4,7 +4,6 @@ use Rattle.std.specs.Prelude.{if◌then◌else◌}
 use Rattle.std.specs.Option.{is_some, option_map, option_or}
 use Rattle.jg_words.specs.declared.thread.EnvId.{EnvId}
 use Rattle.jg_words.specs.declared.reference.Ref.{Ref}
-use Rattle.jg_buffers.specs.declared.info.Info.{Info}
 use Rattle.jg_words.specs.declared.rule.Rule.{Rule}
 use Rattle.jg_words.specs.declared.rule.Rule.TheVariants.{ForeignLocal, DeadReference, WrongRefKind, NullReference, WrongType, BadField, BadBuffer, BadArgument, Pinned, NotOwner, BadFrame, NoNativeAccess, NotLinked}
 use Rattle.jg_policy.specs.Stated.{StatedSetup}
@@ -13,19 +12,17 @@ use Rattle.jg_functions.specs.Columns.{Columns}
 use Rattle.jg_functions.specs.declared.row.Takes.{Takes}
 use Rattle.jg_questions.specs.declared.argument.Argument.{Argument}
 use Rattle.jg_questions.specs.declared.argument.Bounds.{Bounds}
-use Rattle.jg_questions.specs.declared.faults.Faults.{Faults}
-use Rattle.jg_questions.specs.declared.faults.Beside.{Beside}
-use Rattle.jg_questions.specs.declared.faults.Places.{Places}
 use Rattle.jg_questions.specs.Asked.{paired, first_reference, first_buffer}
-use Rattle.jg_questions.specs.Broken.{verdict, wrong_thread, detached, in_critical, while_pending, wrong_kind, buffer_meant, of_effect, pinned, not_owner, bad_frame, no_access, not_linked}
+use Rattle.jg_questions.specs.Broken.{by_caller, verdict, wrong_thread, detached, in_critical, while_pending, wrong_kind, buffer_meant, of_effect, pinned, not_owner, bad_frame, no_access, not_linked}
 use Rattle.jg_questions.specs.declared.judge.Broken.{Broken}
 use Rattle.jg_questions.specs.Culprit.{first_broken, with_culprit, with_operand}
-use Rattle.jg_questions.specs.Faults.{faults_in, first_that, places_from, of_operands}
-use Rattle.jg_questions.proofs.Callers.{Passes}
+use Rattle.jg_questions.specs.Faults.{Beside, Faults, faults_in, first_that, places_from, of_operands}
+use Rattle.jg_questions.specs.Question.{beside_of}
+use Rattle.jg_questions.proofs.Callers.{caller_passes}
 use Rattle.jg_questions.proofs.Found.{told, each_found, there_is_first}
 
 -- the first of rules 5 to 12, where operands break these
-abbrev pub of_faults : Faults → Bool → Option Rule
+abbrev of_faults : Faults → Bool → Option Rule
 of_faults faults is_wrong_kind =
     if faults.foreign_local then Some ForeignLocal
     else if faults.dead_reference then Some DeadReference
@@ -53,7 +50,7 @@ nested false false false false false false false true later = refl
 nested false false false false false false false false later = refl
 
 -- a question that breaks none of the first four rules
-pub after_four : (bounds : Bounds) (s : StatedSetup) (p : Parts) (t : ℕ) (env : Option EnvId) (row : Columns) (xs : List Argument)
+after_four : (bounds : Bounds) (s : StatedSetup) (p : Parts) (t : ℕ) (env : Option EnvId) (row : Columns) (xs : List Argument)
     → wrong_thread t env row ≡ false → detached p t env row ≡ false → in_critical p t row ≡ false → while_pending p t row ≡ false
     → verdict bounds s p t env row xs
     ≡ option_or (of_faults (faults_in s p t (record { bounds = bounds; via = first_reference xs; info = buffer_meant p (first_buffer xs) }) (paired row.takes xs))
@@ -132,69 +129,20 @@ first_named named (Some rule) later = refl
 first_named named None later = refl
 
 -- a question that breaks none of the first four rules
-broken_after_four : (bounds : Bounds) (s : StatedSetup) (p : Parts) (t : ℕ) (env : Option EnvId) (row : Columns) (xs : List Argument)
-    → wrong_thread t env row ≡ false → detached p t env row ≡ false → in_critical p t row ≡ false → while_pending p t row ≡ false
+pub broken_after_four : (bounds : Bounds) (s : StatedSetup) (p : Parts) (t : ℕ) (env : Option EnvId) (row : Columns) (xs : List Argument) → by_caller p t env row ≡ None
     → first_broken bounds s p t env row xs
-    ≡ option_or (of_operands (places_from s p t (record { bounds = bounds; via = first_reference xs; info = buffer_meant p (first_buffer xs) }) 0 (paired row.takes xs))
-    (wrong_kind row.effect (first_reference xs))) (option_map with_operand (of_effect s p t row.effect (first_reference xs) xs))
-broken_after_four bounds s p t env row xs own attached outside calm =
+    ≡ option_or (of_operands (places_from s p t (beside_of bounds p xs) 0 (paired row.takes xs)) (wrong_kind row.effect (first_reference xs)))
+    (option_map with_operand (of_effect s p t row.effect (first_reference xs) xs))
+broken_after_four bounds s p t env row xs passes =
+    let caller = caller_passes p t env row passes in
     let beside : Beside = record { bounds = bounds; via = first_reference xs; info = buffer_meant p (first_buffer xs) } in
     let r : Ref = first_reference xs in
     let named : Rule → Broken = with_culprit bounds s p t row.takes xs in
     let found : Option Rule = of_faults (faults_in s p t beside (paired row.takes xs)) (wrong_kind row.effect r) in
     let later : Option Rule = of_effect s p t row.effect r xs in
-    ap (option_map named) (after_four bounds s p t env row xs own attached outside calm)
+    ap (option_map named) (after_four bounds s p t env row xs caller.own caller.attached caller.outside caller.calm)
     ∙ (first_named named found later
     ∙ (ap (λ b. option_or b (option_map named later)) (sym (operands_named bounds s p t row.takes xs (wrong_kind row.effect r)))
     ∙ ap (option_or (of_operands (places_from s p t beside 0 (paired row.takes xs)) (wrong_kind row.effect r)))
     (effect_named named (pinned p row.effect r) (not_owner p t row.effect r) (bad_frame p t row.effect) (no_access s p t row.effect r xs) (not_linked s p row.effect xs)
     refl refl refl refl refl)))
-
--- a question that breaks none of the first four rules, and what one pass over its operands found
-pub record IsPassedOver (bounds : Bounds) (s : StatedSetup) (p : Parts) (t : ℕ) (env : Option EnvId) (row : Columns) (xs : List Argument) (via : Ref) (info : Option Info)
-    (places : Places) (wrong : Bool) (given : Option Broken) : Type 0 where
-  pub caller : Passes p t env row
-  pub via_is : via ≡ first_reference xs
-  pub info_is : info ≡ buffer_meant p (first_buffer xs)
-  pub places_are : places ≡ places_from s p t (record { bounds = bounds; via = via; info = info }) 0 (paired row.takes xs)
-  pub wrong_is : wrong ≡ wrong_kind row.effect via
-  pub given_is : given ≡ of_operands places wrong
-
-found_by : (bounds : Bounds) (s : StatedSetup) (p : Parts) (t : ℕ) (env : Option EnvId) (row : Columns) (xs : List Argument) (via : Ref) (info : Option Info) (places : Places) (wrong : Bool)
-    (given : Option Broken) → IsPassedOver bounds s p t env row xs via info places wrong given
-    → given ≡ of_operands (places_from s p t (record { bounds = bounds; via = first_reference xs; info = buffer_meant p (first_buffer xs) }) 0 (paired row.takes xs))
-    (wrong_kind row.effect (first_reference xs))
-found_by bounds s p t env row xs via info places wrong given found =
-    found.given_is ∙ (ap (λ f. of_operands f wrong) found.places_are
-    ∙ (ap (of_operands (places_from s p t (record { bounds = bounds; via = via; info = info }) 0 (paired row.takes xs))) found.wrong_is
-    ∙ (ap (λ r. of_operands (places_from s p t (record { bounds = bounds; via = r; info = info }) 0 (paired row.takes xs)) (wrong_kind row.effect r)) found.via_is
-    ∙ ap (λ i. of_operands (places_from s p t (record { bounds = bounds; via = first_reference xs; info = i }) 0 (paired row.takes xs)) (wrong_kind row.effect (first_reference xs))) found.info_is)))
-
-some_found : (found later given : Option Broken) → given ≡ found → is_some given ≡ true → given ≡ option_or found later
-some_found (Some broken) later given same is = same
-some_found None later given same is = absurd (let none : is_some given ≡ false = ap is_some same in cc)
-
-none_found : (found later given : Option Broken) → given ≡ found → is_some given ≡ false → later ≡ option_or found later
-none_found (Some broken) later given same is = absurd (let some : is_some given ≡ true = ap is_some same in cc)
-none_found None later given same is = refl
-
--- an operand breaks a rule
-pub by_operand : (bounds : Bounds) (s : StatedSetup) (p : Parts) (t : ℕ) (env : Option EnvId) (row : Columns) (xs : List Argument) (via : Ref) (info : Option Info) (places : Places) (wrong : Bool)
-    (given : Option Broken) → IsPassedOver bounds s p t env row xs via info places wrong given → is_some given ≡ true → given ≡ first_broken bounds s p t env row xs
-by_operand bounds s p t env row xs via info places wrong given found is =
-    some_found (of_operands (places_from s p t (record { bounds = bounds; via = first_reference xs; info = buffer_meant p (first_buffer xs) }) 0 (paired row.takes xs))
-    (wrong_kind row.effect (first_reference xs))) (option_map with_operand (of_effect s p t row.effect (first_reference xs) xs)) given
-    (found_by bounds s p t env row xs via info places wrong given found) is
-    ∙ sym (broken_after_four bounds s p t env row xs found.caller.own found.caller.attached found.caller.outside found.caller.calm)
-
--- none does
-pub by_effect : (bounds : Bounds) (s : StatedSetup) (p : Parts) (t : ℕ) (env : Option EnvId) (row : Columns) (xs : List Argument) (via : Ref) (info : Option Info) (places : Places) (wrong : Bool)
-    (given later : Option Broken) (effect : Option Rule) → IsPassedOver bounds s p t env row xs via info places wrong given → is_some given ≡ false
-    → later ≡ option_map with_operand effect → effect ≡ of_effect s p t row.effect via xs → later ≡ first_broken bounds s p t env row xs
-by_effect bounds s p t env row xs via info places wrong given later effect found is later_is effect_is =
-    later_is
-    ∙ (ap (option_map with_operand) (effect_is ∙ ap (λ r. of_effect s p t row.effect r xs) found.via_is)
-    ∙ (none_found (of_operands (places_from s p t (record { bounds = bounds; via = first_reference xs; info = buffer_meant p (first_buffer xs) }) 0 (paired row.takes xs))
-    (wrong_kind row.effect (first_reference xs))) (option_map with_operand (of_effect s p t row.effect (first_reference xs) xs)) given
-    (found_by bounds s p t env row xs via info places wrong given found) is
-    ∙ sym (broken_after_four bounds s p t env row xs found.caller.own found.caller.attached found.caller.outside found.caller.calm)))

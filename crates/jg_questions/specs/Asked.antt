@@ -7,9 +7,14 @@ use Rattle.jg_functions.specs.declared.row.ObjectKind.{ObjectKind}
 use Rattle.jg_functions.specs.declared.row.ObjectKind.TheVariants.{AnyObject}
 use Rattle.jg_functions.specs.declared.row.Takes.{Takes}
 use Rattle.jg_functions.specs.declared.row.Takes.TheVariants.{Reference as TakesReference, Nullable, Arguments}
-use Rattle.jg_questions.specs.declared.faults.Judged.{Judged}
 use Rattle.jg_questions.specs.declared.argument.Argument.{Argument}
 use Rattle.jg_questions.specs.declared.argument.Argument.TheVariants.{Reference, Buffer, Number}
+
+-- what the rules on references see of an operand
+pub record Judged : Type 0 where
+  pub reference : Ref
+  pub nullable : Bool
+  pub kind : ObjectKind
 
 -- a method's arguments are as many as there are
 abbrev pub is_last : Takes → Bool

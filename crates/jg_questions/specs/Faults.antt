@@ -1,23 +1,48 @@
--- What the operands of a question break, each rule for itself, and which operand breaks it first: what the code finds in
--- one pass over them.
-use Rattle.std.specs.Prelude.{ℕ, ◌&&◌, ◌||◌, Bool, false, not, if◌then◌else◌, List, [], ◌∷◌, Option, Some, None}
+-- What the operands of a question break, each rule for itself, and which operand breaks it first.
+use Rattle.std.specs.Prelude.{ℕ, ◌&&◌, ◌||◌, Bool, false, not, if◌then◌else◌, nat_lt, List, [], ◌∷◌, Option, Some, None}
 use Rattle.std.specs.List.{position_from}
 use Rattle.std.specs.Option.{option_map, option_or}
+use Rattle.jg_words.specs.declared.reference.Ref.{Ref}
 use Rattle.jg_words.specs.declared.rule.Rule.{Rule}
 use Rattle.jg_words.specs.declared.rule.Rule.TheVariants.{ForeignLocal, DeadReference, WrongRefKind, NullReference, WrongType, BadField, BadBuffer, BadArgument}
+use Rattle.jg_words.specs.Rule.{number_of}
+use Rattle.jg_buffers.specs.declared.info.Info.{Info}
 use Rattle.jg_policy.specs.Stated.{StatedSetup}
 use Rattle.jg_rules.specs.Parts.{Parts}
 use Rattle.jg_rules.specs.Names.{names}
 use Rattle.jg_rules.specs.Rules.{is_foreign, is_nothing, is_null}
 use Rattle.jg_functions.specs.declared.row.Takes.{Takes}
 use Rattle.jg_questions.specs.declared.argument.Argument.{Argument}
-use Rattle.jg_questions.specs.declared.faults.Faults.{Faults}
-use Rattle.jg_questions.specs.declared.faults.Places.{Places}
-use Rattle.jg_questions.specs.declared.faults.Beside.{Beside}
-use Rattle.jg_questions.specs.declared.faults.Judged.{Judged}
 use Rattle.jg_questions.specs.declared.judge.Broken.{Broken}
-use Rattle.jg_questions.specs.Asked.{judged_of}
+use Rattle.jg_questions.specs.declared.argument.Bounds.{Bounds}
+use Rattle.jg_questions.specs.Asked.{Judged, judged_of}
 use Rattle.jg_questions.specs.Broken.{is_wrong_kind, is_unfit, is_wrong_buffer, is_out_of_bounds}
+
+-- which rules an operand breaks
+pub record Faults : Type 0 where
+  pub foreign_local : Bool
+  pub dead_reference : Bool
+  pub null_reference : Bool
+  pub wrong_type : Bool
+  pub bad_field : Bool
+  pub bad_buffer : Bool
+  pub bad_argument : Bool
+
+-- which operand breaks each rule first: its place, counted from 0, where one does
+pub record Places : Type 0 where
+  pub foreign_local : Option ℕ
+  pub dead_reference : Option ℕ
+  pub null_reference : Option ℕ
+  pub wrong_type : Option ℕ
+  pub bad_field : Option ℕ
+  pub bad_buffer : Option ℕ
+  pub bad_argument : Option ℕ
+
+-- what the operands are judged beside: the reference that a release names, and the buffer that a place counts in
+pub record Beside : Type 0 where
+  pub bounds : Bounds
+  pub via : Ref
+  pub info : Option Info
 
 -- what a reference breaks that is judged so
 abbrev pub of_reference : StatedSetup → Parts → ℕ → Judged → Faults
@@ -41,6 +66,18 @@ faults_of s p t beside takes x = record {
   bad_buffer = is_wrong_buffer p t beside.via takes x;
   bad_argument = is_out_of_bounds beside.bounds s p beside.info takes x;
 }
+
+-- the first of them
+abbrev pub first_of : Faults → Option Rule
+first_of faults =
+    if faults.foreign_local then Some ForeignLocal
+    else if faults.dead_reference then Some DeadReference
+    else if faults.null_reference then Some NullReference
+    else if faults.wrong_type then Some WrongType
+    else if faults.bad_field then Some BadField
+    else if faults.bad_buffer then Some BadBuffer
+    else if faults.bad_argument then Some BadArgument
+    else None
 
 abbrev pub either : Faults → Faults → Faults
 either a b = record {
@@ -125,3 +162,13 @@ of_operands places is_wrong_kind =
     (by BadField places.bad_field))
     (by BadBuffer places.bad_buffer))
     (by BadArgument places.bad_argument)
+
+-- the one of the earlier rule; the one that was found before where both are of one
+abbrev pub sooner : Option Broken → Broken → Broken
+sooner None found = found
+sooner (Some before) found = if nat_lt (number_of found.rule) (number_of before.rule) then found else before
+
+-- what was found before, or what the operand at this place breaks
+abbrev pub with_rule : Option Broken → Option Rule → ℕ → Option Broken
+with_rule before None n = before
+with_rule before (Some rule) n = Some (sooner before (record { rule = rule; operand = Some n }))

@@ -4,6 +4,6 @@ pub mod Culprit
 pub mod Faults
 pub mod Kinds
 pub mod Listed
-pub mod Sound
+pub mod Question
 pub mod Suits
 pub mod Written

@@ -11,6 +11,7 @@ use jg_words::{
     RefsFun, StringsFun, VmFun,
 };
 
+#[inline(always)]
 fn vm_place(fun: VmFun) -> u16
     ensures { slice_get functions result ≡ Some (row_for (Vm fun)) }
 {
@@ -27,6 +28,7 @@ fn vm_place(fun: VmFun) -> u16
     }
 }
 
+#[inline(always)]
 fn refs_place(fun: RefsFun) -> u16
     ensures { slice_get functions result ≡ Some (row_for (Refs fun)) }
 {
@@ -42,6 +44,7 @@ fn refs_place(fun: RefsFun) -> u16
     }
 }
 
+#[inline(always)]
 fn frames_place(fun: FramesFun) -> u16
     ensures { slice_get functions result ≡ Some (row_for (Frames fun)) }
 {
@@ -52,6 +55,7 @@ fn frames_place(fun: FramesFun) -> u16
     }
 }
 
+#[inline(always)]
 fn exceptions_place(fun: ExceptionsFun) -> u16
     ensures { slice_get functions result ≡ Some (row_for (Exceptions fun)) }
 {
@@ -64,6 +68,7 @@ fn exceptions_place(fun: ExceptionsFun) -> u16
     }
 }
 
+#[inline(always)]
 fn objects_place(fun: ObjectsFun) -> u16
     ensures { slice_get functions result ≡ Some (row_for (Objects fun)) }
 {
@@ -90,6 +95,7 @@ fn objects_place(fun: ObjectsFun) -> u16
     }
 }
 
+#[inline(always)]
 fn strings_place(fun: StringsFun) -> u16
     ensures { slice_get functions result ≡ Some (row_for (Strings fun)) }
 {
@@ -102,6 +108,7 @@ fn strings_place(fun: StringsFun) -> u16
     }
 }
 
+#[inline(always)]
 fn arrays_place(fun: ArraysFun) -> u16
     ensures { slice_get functions result ≡ Some (row_for (Arrays fun)) }
 {
@@ -131,6 +138,7 @@ fn arrays_place(fun: ArraysFun) -> u16
     }
 }
 
+#[inline(always)]
 fn monitors_place(fun: MonitorsFun) -> u16
     ensures { slice_get functions result ≡ Some (row_for (Monitors fun)) }
 {
@@ -140,6 +148,7 @@ fn monitors_place(fun: MonitorsFun) -> u16
     }
 }
 
+#[inline(always)]
 fn buffers_place(fun: BuffersFun) -> u16
     ensures { slice_get functions result ≡ Some (row_for (Buffers fun)) }
 {
@@ -169,6 +178,7 @@ fn buffers_place(fun: BuffersFun) -> u16
     }
 }
 
+#[inline(always)]
 fn place_of(fun: Fun) -> u16
     ensures { slice_get functions result ≡ Some (row_for fun) }
 {
@@ -186,6 +196,7 @@ fn place_of(fun: Fun) -> u16
 }
 
 /// The place of the call's function in the table of functions.
+#[inline(always)]
 pub fn function_of(call: &Call) -> u16
     ensures { slice_get functions result ≡ Some (row_for (fun_of call.now)) }
 {

@@ -1,10 +1,10 @@
 //! The first rule that a question breaks, and which operand breaks it.
 
-ghost use Rattle.std.specs.Prelude.{◌≡◌, ◌<◌, IfSome, Option, None};
-ghost use Rattle.std.specs.Option.{option_map};
-ghost use Rattle.jg_words.specs.declared.thread.EnvId.{EnvId as EnvIdOf};
+ghost use Rattle.std.specs.Prelude.{◌≡◌, ◌<◌, ℕ, false, IfSome, IsFalse, List, None};
+ghost use Rattle.std.specs.Option.{option_map, option_or};
+ghost use Rattle.jg_words.specs.declared.reference.Ref.{Ref as RefOf};
 ghost use Rattle.jg_functions.specs.Columns.{columns};
-ghost use Rattle.jg_policy.specs.Stated.{class_count};
+ghost use Rattle.jg_policy.specs.Stated.{StatedSetup, class_count};
 ghost use Rattle.jg_rules.specs.Rules.{is_linked as is_linked_by};
 ghost use Rattle.jg_rules.specs.Parts.{Parts};
 ghost use Rattle.jg_rules.specs.View.{ViewTells};
@@ -12,16 +12,16 @@ ghost use Rattle.jg_questions.specs.Asked as asked;
 ghost use Rattle.jg_questions.specs.Broken as rules;
 ghost use Rattle.jg_questions.specs.Culprit as culprits;
 ghost use Rattle.jg_questions.specs.Faults as spec;
+ghost use Rattle.jg_questions.specs.Faults.{Places};
+ghost use Rattle.jg_questions.specs.declared.argument.Argument.{Argument as ArgumentOf};
 
-use crate::argument::{Argument, Bounds};
-use crate::faults::{Beside, Places, places_in};
-use crate::firsts::{first_buffer, first_reference, native_by_name};
-use jg_buffers::Info;
+use crate::argument::Argument;
+use crate::firsts::{first_reference, native_by_name};
 use jg_functions::{Effect, Passes, Row};
 use jg_policy::{Operation, Setup};
 use jg_rules::{
-    Store, View, buffer_named, class_meant, is_not_the_owner, is_of_another_kind, is_refused_to,
-    is_wrong_caller, object_named,
+    Store, View, class_meant, is_not_the_owner, is_of_another_kind, is_refused_to, is_wrong_caller,
+    object_named,
 };
 use jg_words::{EnvId, Kind, Ref, Rule, Tid};
 use std::alloc::Allocator;
@@ -35,13 +35,13 @@ pub struct Broken {
     pub operand: Option<usize>,
 }
 
-/// The operand at this place breaks the rule, where there is one.
-fn by(rule: Rule, operand: Option<usize>) -> Option<Broken>
-    ensures { result ≡ spec.by rule operand }
+/// The one of the earlier rule; the one that was found before where both are of one.
+pub fn sooner(before: Option<Broken>, found: Broken) -> Broken
+    ensures { result ≡ spec.sooner before found }
 {
-    match operand {
-        None => None,
-        Some(_) => Some(Broken { rule, operand }),
+    match before {
+        Some(before) if before.rule.number() <= found.rule.number() => before,
+        _ => found,
     }
 }
 
@@ -123,7 +123,7 @@ fn is_while_pending<A: Allocator + Clone, S: Store>(
     view.threads.pending(tid).is_some() && !passes_pending(row.passes)
 }
 
-pub fn is_wrong_kind(effect: Effect, reference: Ref) -> bool
+fn is_wrong_kind(effect: Effect, reference: Ref) -> bool
     ensures { result ≡ rules.wrong_kind effect reference }
 {
     match effect {
@@ -255,37 +255,8 @@ fn is_unlinked<A: Allocator + Clone, S: Store>(
     }
 }
 
-/// The open buffer that the first operand means that is a buffer.
-pub fn buffer_meant<A: Allocator + Clone, S: Store>(
-    view: &View<'_, A, S>,
-    arguments: &[Argument],
-) -> Option<Info>
-    ensures { (p : Parts) → ViewTells S.Tells view.now p
-        → result ≡ rules.buffer_meant p (asked.first_buffer arguments.now) }
-{
-    match first_buffer(arguments) {
-        None => None,
-        Some(buffer) => buffer_named(view, buffer),
-    }
-}
-
-/// The first of rules 5 to 12. The reference that is deleted stands first.
-fn judge_operands(places: Places, is_wrong_kind: bool) -> Option<Broken>
-    ensures { result ≡ spec.of_operands places is_wrong_kind }
-{
-    let deleted = if is_wrong_kind { Some(0) } else { None };
-    by(Rule::ForeignLocal, places.foreign_local)
-        .or(by(Rule::DeadReference, places.dead_reference))
-        .or(by(Rule::WrongRefKind, deleted))
-        .or(by(Rule::NullReference, places.null_reference))
-        .or(by(Rule::WrongType, places.wrong_type))
-        .or(by(Rule::BadField, places.bad_field))
-        .or(by(Rule::BadBuffer, places.bad_buffer))
-        .or(by(Rule::BadArgument, places.bad_argument))
-}
-
 /// The first of rules 13 to 17.
-pub fn judge_effect<A: Allocator + Clone, S: Store>(
+fn judge_effect<A: Allocator + Clone, S: Store>(
     view: &View<'_, A, S>,
     tid: Tid,
     effect: Effect,
@@ -358,26 +329,51 @@ pub fn first_of_caller<A: Allocator + Clone, S: Store>(
     }
 }
 
-/// The first rule that a question for the function of this row breaks, with these operands, whose caller breaks none,
-/// and the operand that breaks it; None where it breaks none. It looks each operand up once.
-pub fn first_of_others<A: Allocator + Clone, S: Store>(
+/// Whether rules speak of what the function does. Of most effects they don't.
+fn is_judged(effect: Effect) -> bool
+    ensures kind { IsFalse result → (r : RefOf) → rules.wrong_kind effect r ≡ false }
+    ensures rest { IsFalse result → (s : StatedSetup) (p : Parts) (t : ℕ) (r : RefOf) (xs : List ArgumentOf)
+        → rules.of_effect s p t effect r xs ≡ None }
+{
+    match effect {
+        Effect::Nothing | Effect::Hands(_) | Effect::Lends(_) | Effect::GivesBack => false,
+        Effect::Pushes | Effect::Ensures | Effect::Raises | Effect::Calms | Effect::Owns => false,
+        Effect::Attaches | Effect::Unlinks | Effect::Collects => false,
+        _ => true,
+    }
+}
+
+/// The first rule that a question breaks whose caller breaks none, where its operands break this one first by
+/// themselves; and the operand that breaks it. The reference that is deleted stands first.
+#[inline(always)]
+pub fn first_broken<A: Allocator + Clone, S: Store>(
     view: &View<'_, A, S>,
-    bounds: Bounds,
     tid: Tid,
-    row: &Row,
+    effect: Effect,
+    by_operands: Option<Broken>,
     arguments: &[Argument],
 ) -> Option<Broken>
-    ensures { (p : Parts) (env : Option EnvIdOf) → ViewTells S.Tells view.now p
-        → rules.by_caller p tid.0 env (columns row.now) ≡ None → result
-        ≡ culprits.first_broken bounds view.now.setup.now p tid.0 env (columns row.now) arguments.now }
+    ensures { (p : Parts) (places : Places) → ViewTells S.Tells view.now p
+        → by_operands ≡ spec.of_operands places false → result ≡ option_or
+        (spec.of_operands places (rules.wrong_kind effect (asked.first_reference arguments.now)))
+        (option_map culprits.with_operand (rules.of_effect view.now.setup.now p tid.0 effect
+        (asked.first_reference arguments.now) arguments.now)) }
 {
-    let via = first_reference(arguments);
-    let info = buffer_meant(view, arguments);
-    let beside = Beside { bounds, via, info };
-    let places = places_in(view, tid, beside, row.takes, arguments);
-    let broken = judge_operands(places, is_wrong_kind(row.effect, via));
-    if broken.is_some() {
-        return broken;
+    if !is_judged(effect) {
+        return by_operands;
     }
-    with_operand(judge_effect(view, tid, row.effect, via, arguments))
+    let via = first_reference(arguments);
+    if is_wrong_kind(effect, via) {
+        return Some(sooner(
+            by_operands,
+            Broken {
+                rule: Rule::WrongRefKind,
+                operand: Some(0),
+            },
+        ));
+    }
+    if by_operands.is_some() {
+        return by_operands;
+    }
+    with_operand(judge_effect(view, tid, effect, via, arguments))
 }

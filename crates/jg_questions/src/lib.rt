@@ -10,9 +10,9 @@ mod function;
 mod judge;
 mod kinds;
 mod operands;
+mod pass;
 mod promises;
 mod question;
-mod sound;
 mod suiting;
 
 pub use argument::{Argument, Bounds};

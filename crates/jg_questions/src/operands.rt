@@ -46,6 +46,7 @@ fn native_of<A: Allocator + Clone>(
     Argument::Native(native_meant(view.setup, class, method, signature))
 }
 
+#[inline(always)]
 fn vm_arguments<A: Allocator + Clone>(view: &View<'_, A>, tid: Tid, call: &VmCall) -> Arguments
     ensures { (p : Parts) → ViewStands view.now p
         → listed result ≡ written.vm_arguments view.now.setup.now p tid.0 call.now }
@@ -81,6 +82,7 @@ fn vm_arguments<A: Allocator + Clone>(view: &View<'_, A>, tid: Tid, call: &VmCal
     }
 }
 
+#[inline(always)]
 fn refs_arguments(call: &RefsCall) -> Arguments
     ensures { listed result ≡ written.refs_arguments call.now }
 {
@@ -96,6 +98,7 @@ fn refs_arguments(call: &RefsCall) -> Arguments
     }
 }
 
+#[inline(always)]
 fn frames_arguments(call: &FramesCall) -> Arguments
     ensures { listed result ≡ written.frames_arguments call.now }
 {
@@ -106,6 +109,7 @@ fn frames_arguments(call: &FramesCall) -> Arguments
     }
 }
 
+#[inline(always)]
 fn exceptions_arguments(call: &ExceptionsCall) -> Arguments
     ensures { listed result ≡ written.exceptions_arguments call.now }
 {
@@ -134,6 +138,7 @@ fn field_id<A: Allocator + Clone>(
     }
 }
 
+#[inline(always)]
 fn objects_arguments<A: Allocator + Clone>(
     view: &View<'_, A>,
     tid: Tid,
@@ -206,6 +211,7 @@ fn bytes_of(bytes: &Items) -> Argument
     }
 }
 
+#[inline(always)]
 fn strings_arguments(call: &StringsCall) -> Arguments
     ensures { listed result ≡ written.strings_arguments call.now }
 {
@@ -222,6 +228,7 @@ fn strings_arguments(call: &StringsCall) -> Arguments
     }
 }
 
+#[inline(always)]
 fn arrays_arguments(call: &ArraysCall) -> Arguments
     ensures { listed result ≡ written.arrays_arguments call.now }
 {
@@ -260,6 +267,7 @@ fn arrays_arguments(call: &ArraysCall) -> Arguments
     }
 }
 
+#[inline(always)]
 fn monitors_arguments(call: &MonitorsCall) -> Arguments
     ensures { listed result ≡ written.monitors_arguments call.now }
 {
@@ -269,6 +277,7 @@ fn monitors_arguments(call: &MonitorsCall) -> Arguments
     }
 }
 
+#[inline(always)]
 fn buffers_arguments(call: &BuffersCall) -> Arguments
     ensures { listed result ≡ written.buffers_arguments call.now }
 {
@@ -311,6 +320,7 @@ fn buffers_arguments(call: &BuffersCall) -> Arguments
 }
 
 /// The operands of the question that the call is.
+#[inline(always)]
 pub fn arguments_of<A: Allocator + Clone>(view: &View<'_, A>, tid: Tid, call: &Call) -> Arguments
     ensures { (p : Parts) → ViewStands view.now p
         → listed result ≡ written.arguments_of view.now.setup.now p tid.0 call.now }

@@ -7,7 +7,7 @@ ghost use Rattle.jg_questions.specs.Suits as spec;
 use crate::argument::Argument;
 use jg_functions::Takes;
 
-fn takes_reference(takes: Takes) -> bool
+pub fn takes_reference(takes: Takes) -> bool
     ensures { result ≡ spec.takes_reference takes }
 {
     match takes {
@@ -19,7 +19,7 @@ fn takes_reference(takes: Takes) -> bool
     }
 }
 
-fn takes_buffer(takes: Takes) -> bool
+pub fn takes_buffer(takes: Takes) -> bool
     ensures { result ≡ spec.takes_buffer takes }
 {
     match takes {
@@ -30,7 +30,7 @@ fn takes_buffer(takes: Takes) -> bool
     }
 }
 
-fn takes_number(takes: Takes) -> bool
+pub fn takes_number(takes: Takes) -> bool
     ensures { result ≡ spec.takes_number takes }
 {
     match takes {
@@ -44,7 +44,7 @@ fn takes_number(takes: Takes) -> bool
     }
 }
 
-fn takes_value(takes: Takes) -> bool
+pub fn takes_value(takes: Takes) -> bool
     ensures { result ≡ spec.takes_value takes }
 {
     match takes {

@@ -2,8 +2,9 @@
 
 use crate::error::{answered, found, Error, NO_NAME};
 use crate::fact::{Fact, Family, ObjectKind};
-use crate::ffi::{self, JgBounds, JgCore, JgFact, JgTicket, JgValue, JgVerdict};
+use crate::ffi::{self, JgBounds, JgCore, JgFact, JgHeld, JgTicket, JgValue, JgVerdict};
 use crate::functions::Function;
+use crate::held::Holder;
 use crate::rule::Rule;
 use crate::text;
 use crate::value::{Buffer, Environment, Given, Kind, Object, Reference, Says, Value, NONE};
@@ -40,6 +41,14 @@ impl Bounds {
 pub struct Ticket(JgTicket);
 
 impl Ticket {
+    /// Whether anything may come of the call that is to be told, where it threw nothing. Where nothing may, [`Core::did`]
+    /// need be called only if it threw. It is false of a `GetStringLength`, and true of a `GetObjectField`, also of one
+    /// that answers `NULL`.
+    pub fn tells(&self) -> bool {
+        // SAFETY: the pointer is that of a value.
+        unsafe { ffi::jg_tells(&self.0) != 0 }
+    }
+
     /// Whether the ticket of a denied call that the machine made all the same leaves open if something has ended: a
     /// reference that it took for one of its own, a buffer that it may have taken back, a frame that it may have popped.
     /// Then [`Core::did`] takes [`Says::Null`] where it has ended, and [`Says::Done`] where it hasn't.
@@ -142,6 +151,22 @@ const UNTOLD: JgFact = JgFact {
     second: 0,
 };
 
+/// What the library writes into where an object can't be gone.
+const NOT_HELD: JgHeld = JgHeld {
+    place: 0,
+    by: 0,
+    thread: 0,
+    name: NONE,
+};
+
+/// The error of an object that can't be gone.
+fn still_held(held: JgHeld) -> Error {
+    match (usize::try_from(held.place), Holder::of(held)) {
+        (Ok(place), Some(by)) => Error::StillHeld { place, by },
+        _ => Error::Impossible,
+    }
+}
+
 /// What the library writes a verdict into.
 const UNASKED: JgVerdict = JgVerdict {
     rule: 0,
@@ -193,7 +218,8 @@ fn numbers_of(objects: &[Object]) -> *const u64 {
 }
 
 impl Core {
-    /// A core that was told nothing, under the setup that the text states.
+    /// A core that was told nothing, under the setup that the text states. Where a faulty text has its fault,
+    /// [`setup_fault`](crate::setup_fault) tells.
     pub fn open(setup: &str, bounds: Bounds) -> Result<Core, Error> {
         let mut handle = JgCore { at: null_mut() };
         let bounds = JgBounds {
@@ -245,6 +271,34 @@ impl Core {
         };
         answered(answer.into())?;
         Verdict::of(verdict)
+    }
+
+    /// Asks as [`Core::ask`] does, and answers the rule alone that is broken first, without a ticket; `None` where none
+    /// is. For calls of which nothing need be told, and for callers that tell the facts themselves.
+    pub fn may(
+        &mut self,
+        thread: u16,
+        env: Option<Environment>,
+        function: Function,
+        operands: &[Value],
+    ) -> Result<Option<Rule>, Error> {
+        let env = env_value(env);
+        // SAFETY: as for `ask`.
+        let answer = unsafe {
+            ffi::jg_may(
+                &mut self.handle,
+                thread.into(),
+                &env,
+                function.number(),
+                first_of(operands),
+                operands.len(),
+            )
+        };
+        if answered(answer.into())? == 0 {
+            return Ok(None);
+        }
+        let rule = u32::try_from(answer).ok().and_then(Rule::of_number);
+        rule.map(Some).ok_or(Error::Unknown(answer.into()))
     }
 
     /// Asks, and where no rule is broken takes at once what the call ends: for deletions, releases, `PopLocalFrame`,
@@ -300,10 +354,10 @@ impl Core {
 
     /// Takes that the collector let these objects go: all of them, or none and [`Error::StillHeld`].
     pub fn gone(&mut self, objects: &[Object]) -> Result<(), Error> {
-        let mut held = 0;
+        let mut held = NOT_HELD;
         // SAFETY: the handle is open, nobody else uses it, and the objects are as many as is said.
         let answer = unsafe {
-            ffi::jg_gone(
+            ffi::jg_gone_held(
                 &mut self.handle,
                 numbers_of(objects),
                 objects.len(),
@@ -311,9 +365,7 @@ impl Core {
             )
         };
         match answered(answer.into()) {
-            Err(Error::Impossible) => {
-                Err(Error::StillHeld(usize::try_from(held).unwrap_or_default()))
-            }
+            Err(Error::Impossible) => Err(still_held(held)),
             other => other.map(|_| ()),
         }
     }

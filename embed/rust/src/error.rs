@@ -1,6 +1,7 @@
 //! Why a call did nothing.
 
 use crate::functions;
+use crate::held::Holder;
 use std::error;
 use std::fmt;
 
@@ -67,8 +68,13 @@ pub enum Error {
     BadFact,
     /// The fact can't be: what was told before it says so. It is a mistake of who tells, never of native code.
     Impossible,
-    /// The object at this place of the list, counted from 0, can't be gone.
-    StillHeld(usize),
+    /// An object of the list can't be gone.
+    StillHeld {
+        /// The place of the first that can't be, counted from 0.
+        place: usize,
+        /// What keeps it.
+        by: Holder,
+    },
     /// 2^60 facts made something.
     Full,
     /// The ticket is none.
@@ -195,7 +201,9 @@ impl fmt::Display for Error {
             Error::Misfit => out.write_str("the operands aren't the function's"),
             Error::BadFact => out.write_str("the numbers state no fact"),
             Error::Impossible => out.write_str("the fact can't be"),
-            Error::StillHeld(place) => write!(out, "object {place} of the list can't be gone"),
+            Error::StillHeld { place, by } => {
+                write!(out, "object {place} of the list can't be gone: {by}")
+            }
             Error::Full => out.write_str("2^60 facts made something"),
             Error::BadTicket => out.write_str("the ticket is none"),
             Error::Limit => out.write_str("limit"),
@@ -233,7 +241,11 @@ mod tests {
             assert!(error.name().is_some(), "{error}");
         }
         assert_eq!(Error::BadTicket.name(), Some("BAD_TICKET"));
-        assert_eq!(Error::StillHeld(1).name(), Some("IMPOSSIBLE"));
+        let (place, by) = (1, Holder::Setup);
+        let held = Error::StillHeld { place, by };
+        assert_eq!(held.name(), Some("IMPOSSIBLE"));
+        let text = "object 1 of the list can't be gone: it is a class of the setup";
+        assert_eq!(held.to_string(), text);
         assert_eq!(Error::Unknown(-31).name(), None);
     }
 

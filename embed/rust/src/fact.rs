@@ -96,6 +96,9 @@ pub enum ObjectKind {
     Floats,
     /// An array of double.
     Doubles,
+    /// An array of references, a `String[]` too. Who meets one as [`ObjectKind::Object`] gets false denials of rule 9
+    /// ([`Rule::WrongType`](crate::Rule::WrongType)).
+    Objects,
 }
 
 /// What a machine says is so (docs/FORMATS.md, "A fact"). `thread` is the thread that it is of; where the other fields

@@ -69,6 +69,15 @@ pub struct JgAdvice {
     pub source: JgSpot,
 }
 
+#[repr(C)]
+#[derive(Clone, Copy, Debug, PartialEq, Eq)]
+pub struct JgHeld {
+    pub place: u64,
+    pub by: u32,
+    pub thread: u32,
+    pub name: JgValue,
+}
+
 /// `jg_core`.
 #[repr(C)]
 #[derive(Debug)]
@@ -90,7 +99,8 @@ pub struct JgAdviser {
     pub at: *mut c_void,
 }
 
-// All of `jg.h` stands here; `jg_rule_name` and `jg_error_name` are called by tests alone.
+// All of `jg.h` stands here. `jg_gone` isn't called, since `jg_gone_held` says more; `jg_rule_name` and `jg_error_name`
+// are called by tests alone.
 #[allow(dead_code)]
 extern "C" {
     pub fn jg_core_open(
@@ -100,6 +110,7 @@ extern "C" {
         version: u32,
         core: *mut JgCore,
     ) -> i32;
+    pub fn jg_setup_fault(text: *const u8, size: usize, told: *mut u8, room: usize) -> i64;
     pub fn jg_core_close(core: *mut JgCore) -> i32;
     pub fn jg_ask(
         core: *mut JgCore,
@@ -109,6 +120,14 @@ extern "C" {
         operands: *const JgValue,
         count: usize,
         verdict: *mut JgVerdict,
+    ) -> i32;
+    pub fn jg_may(
+        core: *mut JgCore,
+        thread: u32,
+        env: *const JgValue,
+        function: u32,
+        operands: *const JgValue,
+        count: usize,
     ) -> i32;
     pub fn jg_ending(
         core: *mut JgCore,
@@ -126,10 +145,17 @@ extern "C" {
         says: *const JgValue,
         given: *mut JgValue,
     ) -> i32;
+    pub fn jg_tells(ticket: *const JgTicket) -> i32;
     pub fn jg_is_in_doubt(ticket: *const JgTicket) -> i32;
     pub fn jg_told(ticket: *const JgTicket, says: *const JgValue, fact: *mut JgFact) -> i32;
     pub fn jg_tell(core: *mut JgCore, fact: *const JgFact, given: *mut JgValue) -> i32;
     pub fn jg_gone(core: *mut JgCore, objects: *const u64, count: usize, held: *mut u64) -> i32;
+    pub fn jg_gone_held(
+        core: *mut JgCore,
+        objects: *const u64,
+        count: usize,
+        held: *mut JgHeld,
+    ) -> i32;
     pub fn jg_question_line(
         core: *mut JgCore,
         thread: u32,
@@ -254,6 +280,14 @@ mod tests {
         assert_eq!(offset_of!(JgSpot, function), 12);
         assert_eq!(offset_of!(JgAdvice, told), 8);
         assert_eq!(offset_of!(JgAdvice, source), 24);
+    }
+
+    #[test]
+    fn what_is_held_is_laid_out_as_in_c() {
+        assert_eq!((size_of::<JgHeld>(), align_of::<JgHeld>()), (32, 8));
+        assert_eq!(offset_of!(JgHeld, by), 8);
+        assert_eq!(offset_of!(JgHeld, thread), 12);
+        assert_eq!(offset_of!(JgHeld, name), 16);
     }
 
     #[test]

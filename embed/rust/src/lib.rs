@@ -41,6 +41,7 @@ mod fact;
 mod ffi;
 mod functions;
 mod guard;
+mod held;
 mod outcome;
 mod rule;
 mod text;
@@ -52,6 +53,7 @@ pub use crate::error::{Error, LineFault, SetupFault};
 pub use crate::fact::{Fact, Family, ObjectKind};
 pub use crate::functions::Function;
 pub use crate::guard::Guard;
+pub use crate::held::Holder;
 pub use crate::outcome::{Entry, Outcome};
 pub use crate::rule::Rule;
 pub use crate::value::{Buffer, Environment, Given, Kind, Object, Reference, Says, Value};
@@ -92,6 +94,17 @@ impl fmt::Display for Function {
 pub fn version() -> Result<String, Error> {
     // SAFETY: the room is as long as is said.
     text::whole(|bytes, room| unsafe { ffi::jg_version(bytes, room) })
+}
+
+/// Where the text of a setup has its fault and what is wrong there, as `jg --explain` tells it: `line 3, column 7: ..`
+/// where it is no TOML, else such as `class 2, field 1: type: ..`. `None` where it has none. It is for a text of which
+/// [`Error::Setup`] was answered. Fails only for want of memory.
+pub fn setup_fault(setup: &str) -> Result<Option<String>, Error> {
+    // SAFETY: the text and the room are as long as is said.
+    let told = text::whole(|bytes, room| unsafe {
+        ffi::jg_setup_fault(setup.as_ptr(), setup.len(), bytes, room)
+    })?;
+    Ok(told.strip_suffix('\n').map(String::from))
 }
 
 /// Whether the bytes are modified UTF-8 (JNI Specification, chapter 3), which NewStringUTF takes. Fails only for want of

@@ -267,7 +267,8 @@ impl Value {
         Value(value(NAME, 0, 0))
     }
 
-    /// A list of so many items, and whether each is of its type.
+    /// A list of so many items, and whether each is of its type. In `NewString` one of more than 2^31 - 1 items breaks
+    /// rule 12, since no jsize counts so many. No rule speaks of how many items the lists of other functions have.
     pub const fn list(count: u64, fits: bool) -> Value {
         Value(value(LIST, fits as u32, count))
     }

@@ -1,8 +1,9 @@
 //! The first path, by text and by facts.
 
 use jg::{
-    Bounds, Core, Environment, Error, Fact, Family, Function, Given, Guard, Kind, LineFault,
-    Object, ObjectKind, Outcome, Reference, Rule, Says, SetupFault, Ticket, Untold, Value, Verdict,
+    Bounds, Core, Environment, Error, Fact, Family, Function, Given, Guard, Holder, Kind,
+    LineFault, Object, ObjectKind, Outcome, Reference, Rule, Says, SetupFault, Ticket, Untold,
+    Value, Verdict,
 };
 use std::sync::{Mutex, MutexGuard};
 
@@ -77,6 +78,14 @@ fn a_faulty_line_and_a_faulty_setup_are_refused() -> Result<(), Error> {
     assert_eq!(fly, Err(Error::Line(LineFault::UnknownFunction)));
     let faulty = Guard::open("version", 10).err();
     assert_eq!(faulty, Some(Error::Setup(SetupFault::NotToml)));
+    let place = jg::setup_fault("version")?.expect("the setup is faulty");
+    assert!(place.starts_with("line 1, column 8: "), "{place}");
+    assert_eq!(jg::setup_fault(SETUP)?, None);
+    let long = " ".repeat(16_777_217);
+    let faulty = Core::open(&long, Bounds::NONE).err();
+    assert_eq!(faulty, Some(Error::Setup(SetupFault::TooMany)));
+    let place = jg::setup_fault(&long)?;
+    assert_eq!(place.as_deref(), Some("more than 16777216 bytes"));
     Ok(())
 }
 
@@ -119,7 +128,8 @@ fn a_core_is_told_the_first_path() -> Result<(), Error> {
     assert_eq!((ticket.is_in_doubt(), ticket.told(Says::Done)?), (false, None));
     assert_eq!(core.gone_line(0, &[object])?, "T0 gone O15");
     core.gone(&[object])?;
-    assert_eq!(core.gone(&[object]), Err(Error::StillHeld(0)));
+    let (place, by) = (0, Holder::Nothing);
+    assert_eq!(core.gone(&[object]), Err(Error::StillHeld { place, by }));
     assert_eq!(core.leaks()?, "");
     Ok(())
 }
@@ -248,6 +258,9 @@ fn of_some_calls_nothing_is_told() -> Result<(), Error> {
             panic!("{function} is denied");
         };
         assert_eq!(ticket.told(says)?, None, "{function}");
+        assert_eq!(ticket.tells(), says == Says::Null, "{function}");
+        let rule = core.may(1, Some(env), function, operands)?;
+        assert_eq!(rule, None, "{function}");
         let thread = 1;
         let raised = Fact::Raised { thread, object };
         assert_eq!(ticket.told(Says::Threw(object))?, Some(raised));
@@ -265,6 +278,8 @@ fn classes_and_native_methods_have_numbers() -> Result<(), Error> {
     assert_eq!(core.native_named(15, "run", "()V")?, Some(1));
     assert_eq!(core.native_named(15, "run()V", "")?, None);
     assert_eq!(core.class_of(ObjectKind::Object)?, 16);
+    let array = core.class_of(ObjectKind::Objects)?;
+    assert_eq!(core.class_named("[Ljava/lang/Object;")?, Some(array));
     Ok(())
 }
 
@@ -323,6 +338,66 @@ fn facts_give_names() -> Result<(), Error> {
         object: float,
         length: 3,
     })?;
+    Ok(())
+}
+
+#[test]
+fn arrays_of_references_are_met_by_their_kind() -> Result<(), Error> {
+    let mut core = Core::open(SETUP, Bounds::NONE)?;
+    let env = core.begins(1)?;
+    let rules = [ObjectKind::Objects, ObjectKind::Object].map(|kind| {
+        let class = core.class_of(kind)?;
+        let array = core.met(1, class, 3)?;
+        let local = core.got(1, Kind::Local, array)?;
+        core.may(1, Some(env), Function::GetArrayLength, &[local.into()])
+    });
+    assert_eq!(rules, [Ok(None), Ok(Some(Rule::WrongType))]);
+    Ok(())
+}
+
+#[test]
+fn a_string_has_as_many_items_as_a_jsize_counts() -> Result<(), Error> {
+    let mut core = Core::open(SETUP, Bounds::NONE)?;
+    let env = Some(core.begins(1)?);
+    let most = i32::MAX as u64;
+    let negative = i64::from(-1i32) as u64;
+    for (count, rule) in [
+        (most, None),
+        (most + 1, Some(Rule::BadArgument)),
+        (negative, Some(Rule::BadArgument)),
+    ] {
+        let list = [Value::list(count, true)];
+        assert_eq!(core.may(1, env, Function::NewString, &list)?, rule);
+        assert_eq!(core.ask(1, env, Function::NewString, &list)?.rule(), rule);
+        assert_eq!(core.may(1, env, Function::NewStringUTF, &list)?, None);
+    }
+    assert_eq!(core.may(1, env, Function::NewString, &[]), Err(Error::Misfit));
+    Ok(())
+}
+
+#[test]
+fn what_is_held_is_told_with_its_holder() -> Result<(), Error> {
+    let mut core = Core::open(SETUP, Bounds::NONE)?;
+    core.begins(1)?;
+    let array = core.met(1, INTS, 9)?;
+    let thrown = core.met(1, STRING, 0)?;
+    let gone = |core: &mut Core, objects: &[Object]| core.gone(objects).err();
+    let held = |place, by| Some(Error::StillHeld { place, by });
+    assert_eq!(gone(&mut core, &[array, Object(2)]), held(1, Holder::Setup));
+    assert_eq!(gone(&mut core, &[array, array]), held(1, Holder::Nothing));
+    let local = core.got(1, Kind::Local, array)?;
+    assert_eq!(gone(&mut core, &[thrown, array]), held(1, Holder::Reference(local)));
+    let buffer = core.lent(1, Family::Critical, array, local, 9)?;
+    core.tell(Fact::Lost { thread: 1, reference: local })?;
+    assert_eq!(gone(&mut core, &[array]), held(0, Holder::Buffer(buffer)));
+    core.tell(Fact::Gave { thread: 1, buffer })?;
+    core.tell(Fact::Owns { thread: 1, object: array })?;
+    assert_eq!(gone(&mut core, &[array]), held(0, Holder::Monitor(1)));
+    core.tell(Fact::Freed { thread: 1, object: array })?;
+    core.tell(Fact::Raised { thread: 1, object: thrown })?;
+    assert_eq!(gone(&mut core, &[array, thrown]), held(1, Holder::Pending(1)));
+    core.tell(Fact::Calmed { thread: 1 })?;
+    assert_eq!(gone(&mut core, &[array, thrown]), None);
     Ok(())
 }
 

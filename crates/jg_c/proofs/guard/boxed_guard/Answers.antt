@@ -1,4 +1,4 @@
 use Rattle.jg_c.proofs.guard.boxed_guard.Goals as goal
 
 pub returns-in-Ok-new-clause-fresh : goal.returns-in-Ok-new-clause-fresh
-returns-in-Ok-new-clause-fresh c = rw c.in-Ok-new.ensures.ok (c.in-Some.ensures _ c.in-Ok.ensures.stated)
+returns-in-Ok-new-clause-fresh c = rw c.in-Ok-new.ensures.ok (c.in-Some.ensures _ c.in-Ok.ensures.stated c.in-Ok.ensures.short)

@@ -1,4 +1,4 @@
-use Rattle.std.proofs.Common.{rules, ◌≡◌, List, [], ◌∷◌, Some}
+use Rattle.std.proofs.Common.{rules, ◌≡◌, [], ◌∷◌, Some}
 use Rattle.std.specs.Prelude.{slice_get}
 use Rattle.jg_functions.specs.Columns.{columns}
 use Rattle.jg_functions.specs.Table.{functions}

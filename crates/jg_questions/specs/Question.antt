@@ -1,5 +1,5 @@
--- What one pass finds of a question that breaks no rule, and what a question comes to.
-use Rattle.std.specs.Prelude.{ℕ, ◌≡◌, true, if◌then◌else◌, List, [], ◌∷◌, Option, Some, None}
+-- What one pass over its operands finds of a question, and what the question comes to.
+use Rattle.std.specs.Prelude.{ℕ, ◌≡◌, false, if◌then◌else◌, List, [], ◌∷◌, Option, Some, None}
 use Rattle.std.specs.Option.{option_or}
 use Rattle.jg_words.specs.declared.thread.EnvId.{EnvId}
 use Rattle.jg_policy.specs.Stated.{StatedSetup}
@@ -11,14 +11,14 @@ use Rattle.jg_functions.specs.declared.row.Takes.{Takes}
 use Rattle.jg_questions.specs.declared.argument.Argument.{Argument}
 use Rattle.jg_questions.specs.declared.argument.Argument.TheVariants.{Reference}
 use Rattle.jg_questions.specs.declared.argument.Bounds.{Bounds}
-use Rattle.jg_questions.specs.declared.faults.Beside.{Beside}
 use Rattle.jg_questions.specs.declared.judge.Broken.{Broken as BrokenBy}
+use Rattle.jg_questions.specs.declared.pass.Found.{Found}
 use Rattle.jg_questions.specs.declared.question.Verdict.{Verdict}
 use Rattle.jg_questions.specs.declared.question.Verdict.TheVariants.{Misfit, Broken, Passed}
 use Rattle.jg_questions.specs.Asked.{paired, first_reference, first_buffer}
 use Rattle.jg_questions.specs.Broken.{buffer_meant}
 use Rattle.jg_questions.specs.Culprit.{first_broken}
-use Rattle.jg_questions.specs.Faults.{faults_in, no_faults}
+use Rattle.jg_questions.specs.Faults.{Beside, of_operands, places_from}
 use Rattle.jg_questions.specs.Suits.{suits}
 
 -- what the operands are judged beside
@@ -35,12 +35,11 @@ abbrev pub first_named : Parts → ℕ → List Argument → Option Named
 first_named p t [] = None
 first_named p t (x ∷ xs) = option_or (named_in p t x) (first_named p t xs)
 
--- the operands suit their function, none breaks a rule, and the first reference names this
-pub record AreSound (bounds : Bounds) (s : StatedSetup) (p : Parts) (t : ℕ) (takes : List Takes) (xs : List Argument)
-    (named : Named) : Type 0 where
-  pub suit : suits takes xs ≡ true
-  pub sound : faults_in s p t (beside_of bounds p xs) (paired takes xs) ≡ no_faults
-  pub names : named ≡ names p t (first_reference xs)
+-- what the first reference names, and the first of rules 5, 6 and 8 to 12 that an operand breaks
+pub record AreFound (bounds : Bounds) (s : StatedSetup) (p : Parts) (t : ℕ) (takes : List Takes) (xs : List Argument)
+    (found : Found) : Type 0 where
+  pub named : found.named ≡ names p t (first_reference xs)
+  pub broken : found.broken ≡ of_operands (places_from s p t (beside_of bounds p xs) 0 (paired takes xs)) false
 
 abbrev pub by_rule : Named → Option BrokenBy → Verdict
 by_rule named None = Passed named
