@@ -2,7 +2,7 @@
 """agent/gen.py JNI_H [--table FILE] > wrappers.c
 
 Writes the wrappers that stand in the function table of JNI: one for each function, by its prototype in JNI_H (jni.h of
-the JDK) and by its row in the table of crates/jg_functions, which says what its operands are and what comes of it. A
+the JDK) and by its row in the table of crates/jg_rows, which says what its operands are and what comes of it. A
 function that JNI_H doesn't have, since it is of an older JDK, is written by NEWER. A few functions have wrappers that
 were written by hand (HAND): here they only get their place."""
 import argparse
@@ -262,7 +262,7 @@ class Wrapper:
 
 # ---- the file
 
-HEAD = '''/* agent/gen.py wrote this from jni.h and from the table of crates/jg_functions. */
+HEAD = '''/* agent/gen.py wrote this from jni.h and from the table of crates/jg_rows. */
 #include "calls.h"
 #include "buffers.h"
 #include "ids.h"

@@ -1,5 +1,5 @@
 /*
- * table.h: the function table, and what the agent goes by of the table of crates/jg_functions.
+ * table.h: the function table, and what the agent goes by of the table of crates/jg_rows.
  */
 #ifndef TABLE_H
 #define TABLE_H

@@ -9,7 +9,7 @@ SENTENCE = re.compile(rf"`(jg_\w+)` (?:stands )?on ({CRATE}(?:(?:,| and|, and)?(
 # "`judge_one`, `judge_two` in `judge/references.rt`", of which files are named from these folders.
 NAMED = re.compile(r"((?:`\w+`(?:, | and ))*`\w+`) (?:of `\w+` )?in `([\w/]+\.rt)`")
 FOLDERS = ("", "crates/", "crates/jg_rules/src/", "crates/jg_rules/src/judge/")
-TABLES = "jg_threads jg_locals jg_globals jg_monitors jg_buffers jg_heap jg_policy".split()
+TABLES = "jg_table_threads jg_table_locals jg_table_globals jg_table_monitors jg_table_buffers jg_table_heap jg_policy".split()
 
 
 def crates_in(text):

@@ -1,5 +1,5 @@
 """How the lines of a record are spelt (docs/FORMATS.md, "A record"), and what the model of tests/record.py reads: the
-table of functions, from crates/jg_functions/specs/Table.antt, what rules say, and setups."""
+table of functions, from crates/jg_rows/specs/Table.antt, what rules say, and setups."""
 import collections
 import os
 import re
@@ -37,7 +37,7 @@ def takes_of(text):
 
 def read_table():
     """The row of each function, by its name."""
-    with open(f'{TOP}/crates/jg_functions/specs/Table.antt', encoding='utf-8') as file:
+    with open(f'{TOP}/crates/jg_rows/specs/Table.antt', encoding='utf-8') as file:
         text = ' '.join(re.sub(r'--.*', '', file.read()).split())
     found, section, env = {}, None, None
     for it in ENTRY.finditer(text):
@@ -61,7 +61,7 @@ FUNCTIONS = read_table()
 # ---- what rules say
 
 
-def read_sentences(word, path='crates/jg_telling/specs/Sentences.antt'):
+def read_sentences(word, path='crates/jg_denial_text/specs/Sentences.antt'):
     """What the definitions say by that word of each rule, or of what else the path tells."""
     with open(f'{TOP}/{path}', encoding='utf-8') as file:
         return dict(re.findall(rf'^{word} (\w+) =\s+codes "(.*)"', file.read(), re.M))

@@ -1,5 +1,5 @@
-"""The worked rows as texts: the constants of crates/jg_row_trials, which are proved, and the cases of
-crates/jg_cases/data/rows.cases, which are run."""
+"""The worked rows as texts: the constants of crates/jg_test_rows, which are proved, and the cases of
+crates/jg_test_cases/data/rows.cases, which are run."""
 import re
 
 # A constant that is a text, up to its end; a quotation mark in it stands behind a backslash.

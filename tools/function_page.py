@@ -4,7 +4,7 @@
     tools/function_page.py           writes the document on standard output
     tools/function_page.py --check   ends with status 1 if docs/FUNCTIONS.md is another text
 
-The rules of a function are those by which a question of it is denied in crates/jg_cases/data/questions.cases, where
+The rules of a function are those by which a question of it is denied in crates/jg_test_cases/data/questions.cases, where
 each row of the table stands with each rule that it can break. What native code can't do in C is left out
 (`under_the_agent`)."""
 import os
@@ -14,7 +14,7 @@ import sys
 import function_table
 
 TOP = os.path.dirname(os.path.dirname(os.path.realpath(__file__)))
-QUESTIONS = f'{TOP}/crates/jg_cases/data/questions.cases'
+QUESTIONS = f'{TOP}/crates/jg_test_cases/data/questions.cases'
 DOCUMENT = f'{TOP}/docs/FUNCTIONS.md'
 QUESTION = re.compile(r'^T\d+ (?:-|E\d+\.\d+) (\w+)(?: .*)? = deny (\d+) \w+', re.M)
 # The functions whose numbers in C may be no number of the rule: capacities, lengths, modes, truths, texts.

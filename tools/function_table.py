@@ -1,11 +1,11 @@
-"""Reads the table of functions, crates/jg_functions/src/table.rt. Its definition in specs/ is read by
+"""Reads the table of functions, crates/jg_rows/src/table.rt. Its definition in specs/ is read by
 tests/record_words.py, which has nothing of this: so that of two readers one shows the other's mistakes."""
 import collections
 import os
 import re
 import sys
 
-TABLE = os.path.join(os.path.dirname(os.path.dirname(os.path.realpath(__file__))), 'crates', 'jg_functions', 'src',
+TABLE = os.path.join(os.path.dirname(os.path.dirname(os.path.realpath(__file__))), 'crates', 'jg_rows', 'src',
                      'table.rt')
 GROUP = re.compile(r'^const \w+: \[Row; (\d+)\] = rows! \{\n(.*?)^\};', re.M | re.S)
 SECTION = re.compile(r'^(\w+) (true|false) \{\n(.*?)^\}', re.M | re.S)

@@ -2,7 +2,7 @@
  * jg_functions.h: the numbers of the functions that a core is asked about, which jg_ask, jg_ending and
  * jg_question_line take; and the names of functions, rules and errors as C strings.
  *
- * embed/functions wrote this from the table of crates/jg_functions. Behind each function stand its operands: a
+ * embed/functions wrote this from the table of crates/jg_rows. Behind each function stand its operands: a
  * question has just these, in this order. The operands that the table leaves out, such as the address of an array
  * of jchar, are no operands of a question. GetVersion and the like have none.
  */

@@ -2,10 +2,10 @@
 use Rattle.std.proofs.Common.{◌≡◌, ℕ, Bool, true, false, List, ◌∷◌, [], Some, None, refl, ap, arith}
 use Rattle.std.specs.Prelude.{◌==◌, ◌&&◌, if◌then◌else◌, nat_lt, not}
 use Rattle.std.proofs.lemmas.Bool.Decides.{nat_tests}
-use Rattle.jg_heap.specs.History.{Event, Made, Wrote, Collected, Went, count_of, is_there, making_at}
-use Rattle.jg_heap.specs.Making.{length_in}
-use Rattle.jg_heap.proofs.Callers.{classes_counted}
-use Rattle.jg_objects.specs.History.{length_there}
+use Rattle.jg_table_heap.specs.History.{Event, Made, Wrote, Collected, Went, count_of, is_there, making_at}
+use Rattle.jg_table_heap.specs.Making.{length_in}
+use Rattle.jg_table_heap.proofs.Callers.{classes_counted}
+use Rattle.jg_table_objects.specs.History.{length_there}
 use Rattle.jg_advice.specs.Throwing.{length_here}
 
 -- a class object has no items

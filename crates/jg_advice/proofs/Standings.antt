@@ -7,10 +7,10 @@ use Rattle.jg_words.specs.declared.thread.Tid.{Tid}
 use Rattle.jg_policy.specs.Stated.{StatedSetup}
 use Rattle.jg_lists.specs.ByThread.{at}
 use Rattle.jg_lists.specs.ByMaker.{Name, same_name, named, IsThereOnce}
-use Rattle.jg_functions.specs.Columns.{Columns}
-use Rattle.jg_functions.specs.Table.{functions}
+use Rattle.jg_rows.specs.Columns.{Columns}
+use Rattle.jg_rows.specs.Table.{functions}
 use Rattle.jg_rules.specs.Parts.{Parts}
-use Rattle.jg_questions.specs.declared.argument.Argument.{Argument}
+use Rattle.jg_judge.specs.declared.argument.Argument.{Argument}
 use Rattle.jg_core.specs.declared.fact.Fact.{Fact}
 use Rattle.jg_advice.specs.declared.advice.Advice.{Advice}
 use Rattle.jg_advice.specs.declared.advice.Kind.TheVariants.{CommittedAndKept, MonitorAtDetachment}

@@ -6,7 +6,7 @@ use Rattle.jg_words.specs.declared.object.ObjId.{ObjId}
 use Rattle.jg_words.specs.declared.buffer.BufId.{BufId}
 use Rattle.jg_words.specs.declared.reference.Ref.{Ref}
 use Rattle.jg_words.specs.declared.reference.Kind.{Kind}
-use Rattle.jg_buffers.specs.declared.family.Family.{Family}
+use Rattle.jg_table_buffers.specs.declared.family.Family.{Family}
 use Rattle.jg_rules.specs.Parts.{Parts}
 use Rattle.jg_core.specs.declared.fact.Fact.{Fact}
 use Rattle.jg_core.specs.declared.fact.Fact.TheVariants.{Begin, End, Enter, Leave, Push, Pop, Ensure, Raise, Calm, Hand, Lost, Lend, Back, Own, Free, Meet, Gone, Link, Unlink, Warn, Checked}

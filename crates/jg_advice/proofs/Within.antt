@@ -29,14 +29,14 @@ use Rattle.jg_words.specs.declared.call.monitors.MonitorsCall.TheVariants.{Monit
 use Rattle.jg_words.specs.declared.call.buffers.BuffersCall.{BuffersCall}
 use Rattle.jg_words.specs.declared.call.buffers.BuffersCall.TheVariants.{BufferRead}
 use Rattle.jg_policy.specs.Stated.{StatedSetup, class_count}
-use Rattle.jg_heap.specs.History.{is_there, making_at}
-use Rattle.jg_heap.specs.Making.{length_in}
-use Rattle.jg_heap.specs.Reading.{natural}
+use Rattle.jg_table_heap.specs.History.{is_there, making_at}
+use Rattle.jg_table_heap.specs.Making.{length_in}
+use Rattle.jg_table_heap.specs.Reading.{natural}
 use Rattle.jg_rules.specs.declared.answer.Answer.{Answer}
 use Rattle.jg_rules.specs.Answers.{answer, handed, is_outside, or_outside}
 use Rattle.jg_rules.specs.Names.{length_of, object_named, slot_of, target_in, the_object}
 use Rattle.jg_rules.specs.Parts.{Parts}
-use Rattle.jg_questions.specs.Written.{arguments_of}
+use Rattle.jg_judge.specs.Written.{arguments_of}
 use Rattle.jg_advice.specs.Laws.{HasCharacters, WithinThrowsNothing, is_exception}
 use Rattle.jg_advice.specs.Throwing.{is_up_to, is_within, length_here, part_by, part_of, so_many}
 

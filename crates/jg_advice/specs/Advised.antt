@@ -7,13 +7,13 @@ use Rattle.jg_words.specs.declared.thread.Tid.{Tid}
 use Rattle.jg_words.specs.declared.reference.Kind.TheVariants.{Local}
 use Rattle.jg_lists.specs.ByThread.{at, IsOnce}
 use Rattle.jg_lists.specs.ByMaker.{Name, same_name, IsThereOnce}
-use Rattle.jg_locals.specs.History as locals
-use Rattle.jg_locals.specs.Room.{outgrown}
-use Rattle.jg_buffers.specs.History.{in_critical}
-use Rattle.jg_functions.specs.Columns.{Columns}
-use Rattle.jg_functions.specs.Table.{functions}
+use Rattle.jg_table_locals.specs.History as locals
+use Rattle.jg_table_locals.specs.Room.{outgrown}
+use Rattle.jg_table_buffers.specs.History.{in_critical}
+use Rattle.jg_rows.specs.Columns.{Columns}
+use Rattle.jg_rows.specs.Table.{functions}
 use Rattle.jg_rules.specs.Parts.{Parts}
-use Rattle.jg_questions.specs.declared.argument.Argument.{Argument}
+use Rattle.jg_judge.specs.declared.argument.Argument.{Argument}
 use Rattle.jg_core.specs.declared.fact.Fact.{Fact}
 use Rattle.jg_core.specs.declared.fact.Fact.TheVariants.{Hand, Leave, Pop, End}
 use Rattle.jg_advice.specs.declared.advice.Advice.{Advice}

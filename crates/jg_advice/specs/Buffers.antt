@@ -2,14 +2,14 @@
 use Rattle.std.specs.Prelude.{ℤ, ◌==◌, ◌&&◌, Bool, false, not, if◌then◌else◌, List, [], ◌∷◌, Option, Some, None, slice_get}
 use Rattle.jg_words.specs.declared.buffer.BufId.{BufId}
 use Rattle.jg_lists.specs.ByMaker.{Name, same_name}
-use Rattle.jg_buffers.specs.History.{is_critical}
-use Rattle.jg_heap.specs.Reading.{natural}
-use Rattle.jg_functions.specs.Columns.{Columns}
-use Rattle.jg_functions.specs.Table.{functions}
+use Rattle.jg_table_buffers.specs.History.{is_critical}
+use Rattle.jg_table_heap.specs.Reading.{natural}
+use Rattle.jg_rows.specs.Columns.{Columns}
+use Rattle.jg_rows.specs.Table.{functions}
 use Rattle.jg_rules.specs.Buffers.{buffer_named, is_commit, is_open_and}
 use Rattle.jg_rules.specs.Parts.{Parts}
-use Rattle.jg_questions.specs.declared.argument.Argument.{Argument}
-use Rattle.jg_questions.specs.declared.argument.Argument.TheVariants.{Buffer, Number}
+use Rattle.jg_judge.specs.declared.argument.Argument.{Argument}
+use Rattle.jg_judge.specs.declared.argument.Argument.TheVariants.{Buffer, Number}
 use Rattle.jg_core.specs.declared.fact.Fact.{Fact}
 use Rattle.jg_core.specs.declared.fact.Fact.TheVariants.{Back, End}
 use Rattle.jg_advice.specs.declared.advice.Source.{Source}

@@ -2,8 +2,8 @@
 use Rattle.std.specs.Prelude.{ℕ, ◌+◌, ◌==◌, Bool, false, if◌then◌else◌, List, [], ◌∷◌, Option, Some, None, slice_get}
 use Rattle.jg_words.specs.declared.thread.Tid.{Tid}
 use Rattle.jg_lists.specs.ByMaker.{Name, same_name}
-use Rattle.jg_functions.specs.Columns.{Columns}
-use Rattle.jg_functions.specs.Table.{functions}
+use Rattle.jg_rows.specs.Columns.{Columns}
+use Rattle.jg_rows.specs.Table.{functions}
 use Rattle.jg_rules.specs.Parts.{Parts}
 use Rattle.jg_core.specs.declared.fact.Fact.{Fact}
 use Rattle.jg_core.specs.declared.fact.Fact.TheVariants.{Begin, End, Enter, Leave}

@@ -1,17 +1,17 @@
 -- What the table says of a function, as far as advice looks at it.
 use Rattle.std.specs.Prelude.{ℕ, Bool, true, false, ◌&&◌, not, List, [], ◌∷◌, Option, Some, None, slice_get}
-use Rattle.jg_functions.specs.declared.row.Section.{Section}
-use Rattle.jg_functions.specs.declared.row.Section.TheVariants.{Exceptions, Own}
-use Rattle.jg_functions.specs.declared.row.Passes.{Passes}
-use Rattle.jg_functions.specs.declared.row.Passes.TheVariants.{Usual, Pending, Critical, Both}
-use Rattle.jg_functions.specs.declared.row.Throws.{Throws}
-use Rattle.jg_functions.specs.declared.row.Throws.TheVariants.{Untold}
-use Rattle.jg_functions.specs.declared.row.Effect.{Effect}
-use Rattle.jg_functions.specs.declared.row.Effect.TheVariants.{GivesBack, Collects}
-use Rattle.jg_functions.specs.declared.row.Takes.{Takes}
-use Rattle.jg_functions.specs.declared.row.Takes.TheVariants.{Writable}
-use Rattle.jg_functions.specs.Columns.{Columns}
-use Rattle.jg_functions.specs.Table.{functions}
+use Rattle.jg_rows.specs.declared.row.Section.{Section}
+use Rattle.jg_rows.specs.declared.row.Section.TheVariants.{Exceptions, Own}
+use Rattle.jg_rows.specs.declared.row.Passes.{Passes}
+use Rattle.jg_rows.specs.declared.row.Passes.TheVariants.{Usual, Pending, Critical, Both}
+use Rattle.jg_rows.specs.declared.row.Throws.{Throws}
+use Rattle.jg_rows.specs.declared.row.Throws.TheVariants.{Untold}
+use Rattle.jg_rows.specs.declared.row.Effect.{Effect}
+use Rattle.jg_rows.specs.declared.row.Effect.TheVariants.{GivesBack, Collects}
+use Rattle.jg_rows.specs.declared.row.Takes.{Takes}
+use Rattle.jg_rows.specs.declared.row.Takes.TheVariants.{Writable}
+use Rattle.jg_rows.specs.Columns.{Columns}
+use Rattle.jg_rows.specs.Table.{functions}
 
 abbrev pub meets : (Columns → Bool) → Option Columns → Bool
 meets test None = false

@@ -10,7 +10,7 @@ use Rattle.jg_policy.specs.Stated.{StatedSetup}
 use Rattle.jg_rules.specs.Answers.{answer}
 use Rattle.jg_rules.specs.Names.{length_of, the_object, units_of}
 use Rattle.jg_rules.specs.Parts.{Parts}
-use Rattle.jg_questions.specs.Written.{arguments_of}
+use Rattle.jg_judge.specs.Written.{arguments_of}
 use Rattle.jg_advice.specs.Throwing.{is_within, part_of}
 
 -- the string of which the call reads a region has as many characters as it is long, as it has where no machine of its

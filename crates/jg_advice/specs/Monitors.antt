@@ -2,7 +2,7 @@
 use Rattle.std.specs.Prelude.{◌==◌, ◌&&◌, not, if◌then◌else◌, List, [], ◌∷◌, Option, Some, None}
 use Rattle.jg_words.specs.declared.thread.Tid.{Tid}
 use Rattle.jg_lists.specs.ByMaker.{Name, same_name}
-use Rattle.jg_monitors.specs.History.{owner}
+use Rattle.jg_table_monitors.specs.History.{owner}
 use Rattle.jg_rules.specs.Parts.{Parts}
 use Rattle.jg_core.specs.declared.fact.Fact.{Fact}
 use Rattle.jg_core.specs.declared.fact.Fact.TheVariants.{Own, Free, End}

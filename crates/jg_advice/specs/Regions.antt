@@ -3,7 +3,7 @@
 use Rattle.std.specs.Prelude.{ℕ, ◌-◌, ◌==◌, ◌||◌, Bool, true, false, if◌then◌else◌, nat_lt, List, [], ◌∷◌, Option, Some, None}
 use Rattle.jg_words.specs.declared.thread.Tid.{Tid}
 use Rattle.jg_lists.specs.Acts.{how_many}
-use Rattle.jg_buffers.specs.History.{in_critical}
+use Rattle.jg_table_buffers.specs.History.{in_critical}
 use Rattle.jg_rules.specs.Parts.{Parts}
 use Rattle.jg_core.specs.declared.fact.Fact.{Fact}
 use Rattle.jg_core.specs.declared.fact.Fact.TheVariants.{Lend, Back, End, Gone}

@@ -4,9 +4,9 @@ use Rattle.std.specs.Map.{lookup}
 use Rattle.std.specs.Option.{unwrap_or}
 use Rattle.jg_lists.specs.ByThread.{at}
 use Rattle.jg_lists.specs.ByMaker.{Name, same_name, named, IsThereOnce}
-use Rattle.jg_locals.specs.Standing as local_standing
-use Rattle.jg_buffers.specs.Standing as buffer_standing
-use Rattle.jg_monitors.specs.Standing as monitor_standing
+use Rattle.jg_table_locals.specs.Standing as local_standing
+use Rattle.jg_table_buffers.specs.Standing as buffer_standing
+use Rattle.jg_table_monitors.specs.Standing as monitor_standing
 use Rattle.jg_rules.specs.declared.view.View.{View}
 use Rattle.jg_rules.specs.Parts.{Parts}
 use Rattle.jg_advice.specs.declared.advice.Source.{Source}

@@ -2,7 +2,7 @@
 use Rattle.std.specs.Prelude.{ℕ, List, [], ◌∷◌, ◌++◌, codes, Option, Some, None}
 use Rattle.std.specs.Fmt.{decimal}
 use Rattle.jg_text.specs.Words.{tid_text}
-use Rattle.jg_functions.specs.ByName.{name_at}
+use Rattle.jg_rows.specs.ByName.{name_at}
 use Rattle.jg_advice.specs.declared.advice.Advice.{Advice}
 use Rattle.jg_advice.specs.declared.advice.Source.{Source}
 use Rattle.jg_advice.specs.declared.advice.Kind.{Kind}

@@ -5,14 +5,14 @@ use Rattle.std.specs.Prelude.{ℕ, ℤ, pos, ◌+◌, ◌&&◌, Bool, false, not
 use Rattle.jg_words.specs.declared.reference.Ref.{Ref}
 use Rattle.jg_words.specs.declared.reference.Ref.TheVariants.{Null}
 use Rattle.jg_policy.specs.Stated.{StatedSetup, class_count}
-use Rattle.jg_heap.specs.History.{Event, is_there, making_at}
-use Rattle.jg_heap.specs.Making.{length_in}
-use Rattle.jg_heap.specs.Reading.{natural}
-use Rattle.jg_functions.specs.Columns.{Columns}
+use Rattle.jg_table_heap.specs.History.{Event, is_there, making_at}
+use Rattle.jg_table_heap.specs.Making.{length_in}
+use Rattle.jg_table_heap.specs.Reading.{natural}
+use Rattle.jg_rows.specs.Columns.{Columns}
 use Rattle.jg_rules.specs.Names.{object_named}
 use Rattle.jg_rules.specs.Parts.{Parts}
-use Rattle.jg_questions.specs.declared.argument.Argument.{Argument}
-use Rattle.jg_questions.specs.declared.argument.Argument.TheVariants.{Reference, Number, List as ListOf}
+use Rattle.jg_judge.specs.declared.argument.Argument.{Argument}
+use Rattle.jg_judge.specs.declared.argument.Argument.TheVariants.{Reference, Number, List as ListOf}
 use Rattle.jg_advice.specs.declared.parts.Part.{Part}
 use Rattle.jg_advice.specs.Functions.{meets, throws_untold}
 

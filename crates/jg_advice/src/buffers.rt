@@ -1,7 +1,7 @@
 //! What was written to copies, and what was only committed.
 
 ghost use Rattle.std.specs.Prelude.{◌≡◌, ◌&&◌, if◌then◌else◌, not, None, OnOk, Some};
-ghost use Rattle.jg_buffers.specs.History.{is_critical};
+ghost use Rattle.jg_table_buffers.specs.History.{is_critical};
 ghost use Rattle.std.specs.Map.{lookup};
 ghost use Rattle.jg_lists.specs.ByMaker.{Name, same_name, named, IsThereOnce};
 ghost use Rattle.jg_rules.specs.Parts.{Parts};
@@ -11,10 +11,10 @@ ghost use Rattle.jg_advice.specs.Standing.{Sees};
 use crate::advice::Source;
 use crate::functions::Release;
 use crate::tables::put;
-use jg_buffers::{Family, Info};
-use jg_heap::natural;
 use jg_lists::by_maker::{ByMaker, remove};
 use jg_rules::{Store, View};
+use jg_table_buffers::{Family, Info};
+use jg_table_heap::natural;
 use jg_words::BufId;
 use std::alloc::{AllocError, Allocator, Global};
 

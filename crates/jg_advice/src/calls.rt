@@ -3,7 +3,7 @@
 ghost use Rattle.std.specs.Prelude.{◌≡◌, ◌==◌, ◌++◌, ◌-◌, ◌&&◌, length, OnOk, option_to_list, slice_get, Some};
 ghost use Rattle.std.specs.List.{list_any};
 ghost use Rattle.std.specs.Map.{lookup};
-ghost use Rattle.jg_functions.specs.Columns.{columns};
+ghost use Rattle.jg_rows.specs.Columns.{columns};
 ghost use Rattle.jg_lists.specs.ByMaker.{same_name, named};
 ghost use Rattle.jg_advice.specs.Advised as advised;
 
@@ -11,8 +11,8 @@ use crate::advice::{Advice, Kind, Source};
 use crate::buffers::{Sources, is_abort};
 use crate::doing::Doing;
 use crate::functions::{Release, is_find_class, wants_none};
-use jg_functions::Row;
 use jg_lists::by_maker::find;
+use jg_rows::Row;
 use jg_words::Tid;
 use std::alloc::AllocError;
 

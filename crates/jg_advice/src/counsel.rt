@@ -15,7 +15,7 @@ use crate::adviser::Adviser;
 use crate::parts::Lengths;
 use crate::report::Advices;
 use jg_core::Fact;
-use jg_questions::Argument;
+use jg_judge::Argument;
 use jg_rules::{Store, View};
 use jg_words::{ObjId, Tid};
 use std::alloc::{AllocError, Allocator, Global};

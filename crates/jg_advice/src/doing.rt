@@ -5,16 +5,16 @@ ghost use Rattle.std.specs.Map.{lookup};
 ghost use Rattle.std.specs.Option.{option_map};
 ghost use Rattle.jg_lists.specs.ByThread.{at};
 ghost use Rattle.jg_lists.specs.ByMaker.{Name, named, same_name};
-ghost use Rattle.jg_functions.specs.Columns.{columns};
+ghost use Rattle.jg_rows.specs.Columns.{columns};
 ghost use Rattle.jg_rules.specs.Parts.{Parts};
 ghost use Rattle.jg_advice.specs.Doing.{cause_by, doing_after, owed_after};
 ghost use Rattle.jg_advice.specs.Standing.{kept, Sees};
 
 use crate::advice::Source;
 use crate::functions::{asks, is_jni, wants_none};
-use jg_functions::Row;
 use jg_lists::ByNumber;
 use jg_lists::by_maker::{ByMaker, add, find};
+use jg_rows::Row;
 use jg_rules::{Store, View};
 use jg_words::Tid;
 use std::alloc::{AllocError, Allocator, Global};

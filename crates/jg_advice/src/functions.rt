@@ -1,12 +1,12 @@
 //! What the table says of a function, as far as advice looks at it.
 
 ghost use Rattle.std.specs.Prelude.{◌≡◌, ◌==◌, Some};
-ghost use Rattle.jg_functions.specs.Columns.{columns};
+ghost use Rattle.jg_rows.specs.Columns.{columns};
 ghost use Rattle.jg_advice.specs.Buffers as buffers;
 ghost use Rattle.jg_advice.specs.Functions as spec;
 
-use jg_functions::{Effect, Passes, Row, Section, Takes, Throws};
-use jg_questions::Argument;
+use jg_judge::Argument;
+use jg_rows::{Effect, Passes, Row, Section, Takes, Throws};
 use jg_words::BufId;
 
 /// The place of FindClass in the table of functions.

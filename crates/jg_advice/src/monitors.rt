@@ -4,7 +4,7 @@ ghost use Rattle.std.specs.Prelude.{◌≡◌, ◌&&◌, if◌then◌else◌, no
 ghost use Rattle.std.specs.Map.{lookup};
 ghost use Rattle.std.specs.Option.{option_map};
 ghost use Rattle.jg_core.specs.Facts.{is_owner};
-ghost use Rattle.jg_monitors.specs.History.{owner};
+ghost use Rattle.jg_table_monitors.specs.History.{owner};
 ghost use Rattle.jg_lists.specs.ByMaker.{Name, same_name, named};
 ghost use Rattle.jg_rules.specs.Parts.{Parts};
 ghost use Rattle.jg_advice.specs.Monitors as spec;

@@ -1,18 +1,18 @@
 //! Parts of strings and arrays that calls read or write, and which calls may have thrown.
 
 ghost use Rattle.std.specs.Prelude.{◌≡◌, ◌+◌, ℕ, List, Some};
-ghost use Rattle.jg_functions.specs.Columns.{columns};
-ghost use Rattle.jg_heap.specs.History.{Event};
+ghost use Rattle.jg_rows.specs.Columns.{columns};
+ghost use Rattle.jg_table_heap.specs.History.{Event};
 ghost use Rattle.jg_rules.specs.Parts.{Parts};
 ghost use Rattle.jg_rules.specs.View.{ViewTells};
 ghost use Rattle.jg_advice.specs.Throwing as spec;
 
 use crate::functions::throws_untold;
-use jg_functions::Row;
-use jg_heap::{Heap, natural};
-use jg_objects::Objects;
-use jg_questions::Argument;
+use jg_judge::Argument;
+use jg_rows::Row;
 use jg_rules::{Store, View, object_named};
+use jg_table_heap::{Heap, natural};
+use jg_table_objects::Objects;
 use jg_words::{ObjId, Ref, Tid};
 use std::alloc::Allocator;
 

@@ -2,10 +2,10 @@
 
 ghost use Rattle.std.specs.Prelude.{◌≡◌, ◌++◌, OnOk, string_bytes};
 ghost use Rattle.jg_advice.specs.Texts as texts;
-ghost use Rattle.jg_functions.specs.ByName.{name_at};
+ghost use Rattle.jg_rows.specs.ByName.{name_at};
 
 use crate::advice::{Advice, Kind, Source};
-use jg_functions::row_of;
+use jg_rows::row_of;
 use jg_text::{push_number, push_tid};
 use std::alloc::AllocError;
 

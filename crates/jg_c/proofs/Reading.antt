@@ -2,7 +2,7 @@
 use Rattle.std.proofs.Common.{ℕ, ◌≡◌, ◌∷◌, ◌++◌, ◌∙◌, List, [], Option, Some, None, append_assoc, refl, ap, sym}
 use Rattle.std.specs.Option.{option_map, option_and_then}
 use Rattle.std.proofs.lemmas.List.{append-nil}
-use Rattle.jg_questions.specs.declared.argument.Argument.{Argument}
+use Rattle.jg_judge.specs.declared.argument.Argument.{Argument}
 use Rattle.jg_c.specs.declared.value.JgValue.{JgValue}
 use Rattle.jg_c.specs.Operands.{operand_of}
 use Rattle.jg_c.specs.Questions.{operands_of}

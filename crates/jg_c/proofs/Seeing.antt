@@ -1,6 +1,6 @@
 -- What a core's view shows to an adviser.
 use Rattle.std.proofs.Common.{ℕ, List, sym, subst}
-use Rattle.jg_heap.specs.History.{Event}
+use Rattle.jg_table_heap.specs.History.{Event}
 use Rattle.jg_rules.specs.declared.view.View.{View}
 use Rattle.jg_rules.specs.Parts.{Parts}
 use Rattle.jg_rules.specs.View.{ViewTells}

@@ -2,9 +2,9 @@
 use Rattle.std.specs.Prelude.{ℕ, ℤ, pos, ◌≡◌, ◌++◌, Bool, true, false, List, [], ◌∷◌, Option, Some, None, Result, Ok, Err, slice_get}
 use Rattle.jg_words.specs.declared.object.ObjId.{ObjId}
 use Rattle.jg_policy.specs.Stated.{StatedSetup}
-use Rattle.jg_functions.specs.Columns.{Columns}
-use Rattle.jg_functions.specs.Table.{functions}
-use Rattle.jg_questions.specs.declared.argument.Argument.{Argument}
+use Rattle.jg_rows.specs.Columns.{Columns}
+use Rattle.jg_rows.specs.Table.{functions}
+use Rattle.jg_judge.specs.declared.argument.Argument.{Argument}
 use Rattle.jg_rules.specs.Parts.{Parts}
 use Rattle.jg_core.specs.declared.fact.Fact.{Fact}
 use Rattle.jg_core.specs.Facts.{parts_of}

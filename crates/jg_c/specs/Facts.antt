@@ -5,8 +5,8 @@ use Rattle.jg_words.specs.declared.object.ItemType.TheVariants.{Of, Float, Doubl
 use Rattle.jg_words.specs.declared.object.ObjId.{ObjId}
 use Rattle.jg_words.specs.declared.object.Primitive.TheVariants.{Boolean, Byte, Char, Short, Int, Long}
 use Rattle.jg_words.specs.declared.thread.Tid.{Tid}
-use Rattle.jg_buffers.specs.declared.family.Family.{Family}
-use Rattle.jg_buffers.specs.declared.family.Family.TheVariants.{Elements, Chars, UtfChars, ArrayCritical, StringCritical}
+use Rattle.jg_table_buffers.specs.declared.family.Family.{Family}
+use Rattle.jg_table_buffers.specs.declared.family.Family.TheVariants.{Elements, Chars, UtfChars, ArrayCritical, StringCritical}
 use Rattle.jg_core.specs.declared.fact.Checked.{Checked as CheckedFact}
 use Rattle.jg_core.specs.declared.fact.Checked.TheVariants as checked
 use Rattle.jg_core.specs.declared.fact.Fact.{Fact}

@@ -3,10 +3,10 @@ use Rattle.std.specs.Prelude.{ℕ, ℤ, pos, true, ◌≡◌, ◌⊎◌, List, O
 use Rattle.jg_words.specs.Name.{IsName}
 use Rattle.jg_policy.specs.Classes.{class_named, native_named}
 use Rattle.jg_policy.specs.Stated.{StatedSetup}
-use Rattle.jg_questions.specs.declared.kinds.OwnKind.{OwnKind}
-use Rattle.jg_questions.specs.declared.kinds.OwnKind.TheVariants.{Object, Throwable, Class, ClassOfArrays, Floats, Doubles}
-use Rattle.jg_questions.specs.Kinds.{is_kind, own_class}
-use Rattle.jg_functions.specs.declared.row.ObjectKind.TheVariants.{ObjectArray}
+use Rattle.jg_judge.specs.declared.kinds.OwnKind.{OwnKind}
+use Rattle.jg_judge.specs.declared.kinds.OwnKind.TheVariants.{Object, Throwable, Class, ClassOfArrays, Floats, Doubles}
+use Rattle.jg_judge.specs.Kinds.{is_kind, own_class}
+use Rattle.jg_rows.specs.declared.row.ObjectKind.TheVariants.{ObjectArray}
 use Rattle.jg_rules.specs.Names.{class_of}
 use Rattle.jg_rules.specs.Parts.{Parts}
 use Rattle.jg_c.specs.Errors as errors

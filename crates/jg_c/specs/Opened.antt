@@ -6,7 +6,7 @@ use Rattle.jg_policy.specs.declared.fault.SetupFault.TheVariants.{NotToml, TooMa
 use Rattle.jg_policy.specs.Faults.{IsFirstFault}
 use Rattle.jg_policy.specs.Findings.{text_faults_of, States}
 use Rattle.jg_policy.specs.Stated.{StatedSetup}
-use Rattle.jg_faults.specs.Setups.{TellsSetup}
+use Rattle.jg_fault_text.specs.Setups.{TellsSetup}
 use Rattle.jg_core.specs.Kernel.{CoreStands}
 use Rattle.jg_c.specs.Cores.{CoreHeld}
 use Rattle.jg_c.specs.Errors as errors

@@ -2,8 +2,8 @@
 use Rattle.std.specs.Prelude.{ℕ, ℤ, Bool, true, false, Option, Some, None, if◌then◌else◌, nat_eq, nat_le, nat_lt, int_le, ◌&&◌, pos, negsuc}
 use Rattle.std.specs.Int.{cast_signed, w64}
 use Rattle.std.specs.Option.{option_map, option_and_then}
-use Rattle.jg_questions.specs.declared.argument.Argument.{Argument}
-use Rattle.jg_questions.specs.declared.argument.Argument.TheVariants as argument
+use Rattle.jg_judge.specs.declared.argument.Argument.{Argument}
+use Rattle.jg_judge.specs.declared.argument.Argument.TheVariants as argument
 use Rattle.jg_c.specs.declared.value.JgValue.{JgValue}
 use Rattle.jg_c.specs.Values.{buffer_of, reference_of}
 

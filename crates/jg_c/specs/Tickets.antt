@@ -1,7 +1,7 @@
 -- Tickets as C keeps them.
 use Rattle.std.specs.Prelude.{ℕ, Option, Some, None, if◌then◌else◌, nat_eq}
 use Rattle.std.specs.Option.{option_map, option_and_then}
-use Rattle.jg_buffers.specs.declared.family.Family.{Family}
+use Rattle.jg_table_buffers.specs.declared.family.Family.{Family}
 use Rattle.jg_core.specs.declared.asking.Ticket.{Ticket}
 use Rattle.jg_core.specs.declared.expected.Expected.{Expected}
 use Rattle.jg_core.specs.declared.expected.Expected.TheVariants as expected

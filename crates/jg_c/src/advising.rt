@@ -1,7 +1,7 @@
 //! An adviser is told what a core was asked and told, and what it advises is taken.
 
 ghost use Rattle.std.specs.Prelude.{◌≡◌, ◌≢◌, ◌↔◌, ◌⊎◌, ◌++◌, is_some, slice_get, false, true, None, OnOk};
-ghost use Rattle.jg_functions.specs.Table.{functions};
+ghost use Rattle.jg_rows.specs.Table.{functions};
 ghost use Rattle.jg_advice.specs.Moments.{Told};
 ghost use Rattle.jg_c.specs.Advising as specs;
 ghost use Rattle.jg_c.specs.Errors as errors;
@@ -19,8 +19,8 @@ use crate::session::{AdviserSession, CoreSession, Noted};
 use crate::value::JgValue;
 use jg_advice::Advice;
 use jg_core::{Core, Fact};
-use jg_functions::row_of;
-use jg_questions::Argument;
+use jg_judge::Argument;
+use jg_rows::row_of;
 use std::alloc::AllocError;
 use std::collections::VecDeque;
 

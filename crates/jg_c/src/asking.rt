@@ -18,7 +18,7 @@ use crate::session::CoreSession;
 use crate::value::JgValue;
 use crate::verdict::{JgVerdict, write_answer};
 use jg_core::{Answer, Core, Ended};
-use jg_questions::{Argument, Bounds};
+use jg_judge::{Argument, Bounds};
 
 #[inline(always)]
 fn ask(

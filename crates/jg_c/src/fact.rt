@@ -4,8 +4,8 @@ ghost use Rattle.std.specs.Prelude.{◌≡◌};
 ghost use Rattle.jg_c.specs.Facts as facts;
 
 use crate::value::{JgValue, kind_of, thread_of};
-use jg_buffers::Family;
 use jg_core::{Checked, Fact};
+use jg_table_buffers::Family;
 use jg_words::{ItemType, ObjId, Primitive, Tid};
 
 /// The word of a reference that was handed out.

@@ -10,8 +10,8 @@ use crate::error::{BAD_VERSION, CLOSED, DONE, IS_OPEN, NO_MEMORY, of_setup_fault
 use crate::handle::Handle;
 use crate::session::{CoreSession, Session};
 use jg_core::Core;
+use jg_judge::Bounds;
 use jg_policy::{Setup, SetupFault};
-use jg_questions::Bounds;
 use jg_record::Lists;
 use std::alloc::Global;
 use std::str;

@@ -4,7 +4,7 @@ ghost use Rattle.std.specs.Prelude.{◌≡◌};
 ghost use Rattle.jg_c.specs.Operands as operands;
 
 use crate::value::JgValue;
-use jg_questions::Argument;
+use jg_judge::Argument;
 
 const NULL: u32 = 1;
 

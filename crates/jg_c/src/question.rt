@@ -7,7 +7,7 @@ ghost use Rattle.jg_c.specs.Questions.{most_items, operands_of, place_of, questi
 use crate::error::{BAD_THREAD, BAD_VALUE, NO_FUNCTION, NO_MEMORY};
 use crate::operand::operand_of;
 use crate::value::{JgValue, thread_of};
-use jg_questions::Argument;
+use jg_judge::Argument;
 use jg_words::{EnvId, Tid};
 
 /// A question but for its operands: the thread, its environment, and the function's place in the table.

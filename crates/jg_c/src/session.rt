@@ -3,7 +3,7 @@
 use jg_advice::{Advice, Adviser};
 use jg_core::Core;
 use jg_guard::Guard;
-use jg_questions::Bounds;
+use jg_judge::Bounds;
 use jg_record::Lists;
 use std::collections::VecDeque;
 use std::marker::Model;

@@ -2,14 +2,14 @@
 
 ghost use Rattle.std.specs.Prelude.{◌≡◌};
 ghost use Rattle.jg_words.specs.Rule.{name_of};
-ghost use Rattle.jg_telling.specs.Sentences.{help_of, sentence_of};
+ghost use Rattle.jg_denial_text.specs.Sentences.{help_of, sentence_of};
 ghost use Rattle.jg_c.specs.Lines.{Writes};
 ghost use Rattle.jg_c.specs.Texts as specs;
 ghost use Rattle.jg_c.specs.Texts.{TellsRule};
 
 use crate::copying::copy_out;
 use crate::error::NO_RULE;
-use jg_telling::{help, sentence};
+use jg_denial_text::{help, sentence};
 use jg_version::VERSION;
 use jg_words::Rule;
 

@@ -6,8 +6,8 @@ ghost use Rattle.jg_c.specs.Values as values;
 
 use crate::fact::JgFact;
 use crate::value::{JgValue, number_of, of_buffer, of_object, of_reference};
-use jg_buffers::Family;
 use jg_core::{Checked, Fact};
+use jg_table_buffers::Family;
 use jg_words::{ItemType, ObjId, Primitive, Tid};
 
 /// The numbers of a fact that are the thread's; those that it hasn't are 0.

@@ -1,11 +1,11 @@
 //! Whether bytes are a text, as JNI spells texts.
 
 ghost use Rattle.std.specs.Prelude.{◌≡◌, ◌⊎◌, ℕ, List, pos};
-ghost use Rattle.jg_heap.specs.Spelling.{IsSpelt};
+ghost use Rattle.jg_table_heap.specs.Spelling.{IsSpelt};
 ghost use Rattle.jg_c.specs.Errors as errors;
 
 use crate::error::NO_MEMORY;
-use jg_heap::from_mutf8;
+use jg_table_heap::from_mutf8;
 use std::alloc::Global;
 
 /// What `jg_is_utf8` answers of bytes that are a text, and of others.

@@ -10,21 +10,21 @@ use Rattle.jg_rules.specs.declared.named.Named.{Named}
 use Rattle.jg_rules.specs.Parts.{Parts, RowsBeside, StandBeside}
 use Rattle.jg_rules.specs.View.{ViewTells, rows_in}
 use Rattle.jg_rules.specs.declared.view.View.{View}
-use Rattle.jg_objects.specs.Rows.{Rows}
-use Rattle.jg_objects.specs.Standing.{Tells}
+use Rattle.jg_table_objects.specs.Rows.{Rows}
+use Rattle.jg_table_objects.specs.Standing.{Tells}
 use Rattle.jg_rules.specs.Names.{names}
-use Rattle.jg_functions.specs.Columns.{Columns}
-use Rattle.jg_functions.specs.Table.{functions}
-use Rattle.jg_questions.specs.declared.argument.Argument.{Argument}
-use Rattle.jg_questions.specs.declared.argument.Bounds.{Bounds}
-use Rattle.jg_questions.specs.declared.judge.Broken.{Broken as BrokenBy}
-use Rattle.jg_questions.specs.declared.question.Verdict.{Verdict}
-use Rattle.jg_questions.specs.declared.question.Verdict.TheVariants.{Misfit, Broken, Passed}
-use Rattle.jg_questions.specs.Asked.{first_reference}
-use Rattle.jg_questions.specs.Broken.{verdict}
-use Rattle.jg_questions.specs.Culprit.{first_broken, with_culprit}
-use Rattle.jg_questions.specs.Question.{by_rule, verdict_on}
-use Rattle.jg_questions.specs.Suits.{suits}
+use Rattle.jg_rows.specs.Columns.{Columns}
+use Rattle.jg_rows.specs.Table.{functions}
+use Rattle.jg_judge.specs.declared.argument.Argument.{Argument}
+use Rattle.jg_judge.specs.declared.argument.Bounds.{Bounds}
+use Rattle.jg_judge.specs.declared.judge.Broken.{Broken as BrokenBy}
+use Rattle.jg_judge.specs.declared.question.Verdict.{Verdict}
+use Rattle.jg_judge.specs.declared.question.Verdict.TheVariants.{Misfit, Broken, Passed}
+use Rattle.jg_judge.specs.Asked.{first_reference}
+use Rattle.jg_judge.specs.Broken.{verdict}
+use Rattle.jg_judge.specs.Culprit.{first_broken, with_culprit}
+use Rattle.jg_judge.specs.Question.{by_rule, verdict_on}
+use Rattle.jg_judge.specs.Suits.{suits}
 use Rattle.jg_core.specs.declared.asking.Answer.{Answer}
 use Rattle.jg_core.specs.declared.asking.Answer.TheVariants.{Passed as Passes, Denied, Misfit as Misfits}
 use Rattle.jg_core.specs.Asking.{asked, by_row, by_verdict, denied_ticket}

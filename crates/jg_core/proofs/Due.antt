@@ -6,30 +6,30 @@ use Rattle.jg_words.specs.declared.thread.Tid.{Tid}
 use Rattle.jg_words.specs.declared.object.ObjId.{ObjId}
 use Rattle.jg_words.specs.declared.reference.Ref.{Ref}
 use Rattle.jg_words.proofs.Common.{and_first, and_second}
-use Rattle.jg_buffers.specs.declared.family.Family.{Family}
+use Rattle.jg_table_buffers.specs.declared.family.Family.{Family}
 use Rattle.jg_policy.specs.Stated.{StatedSetup, class_count}
 use Rattle.jg_lists.proofs.Acts.{acts_more}
-use Rattle.jg_threads.specs.History as threads
-use Rattle.jg_threads.specs.declared.row.Row.{Row}
-use Rattle.jg_threads.specs.Rows.{row_of, CanCount}
-use Rattle.jg_threads.specs.Standing as thread_standing
-use Rattle.jg_locals.specs.History.{acts_of, has_session, depth as locals_depth}
-use Rattle.jg_locals.specs.Rows.{Rows, HasFrame, pushed, entered, top}
-use Rattle.jg_locals.specs.Standing as local_standing
-use Rattle.jg_locals.proofs.Callers.{has_frame_law, above_law, pushed_law, entered_law, top_is}
-use Rattle.jg_globals.specs.Rows as global_rows
-use Rattle.jg_globals.specs.Standing as global_standing
-use Rattle.jg_globals.proofs.Callers.{above_law as global_above_law}
-use Rattle.jg_buffers.specs.Rows as buffer_rows
-use Rattle.jg_buffers.specs.Standing as buffer_standing
-use Rattle.jg_buffers.proofs.Callers.{above_law as buffer_above_law}
-use Rattle.jg_monitors.specs.History as monitors
-use Rattle.jg_monitors.specs.Rows as monitor_rows
-use Rattle.jg_monitors.specs.Standing as monitor_standing
-use Rattle.jg_monitors.proofs.Callers.{rows_tell_law}
-use Rattle.jg_heap.specs.History as heap
-use Rattle.jg_objects.specs.Rows as object_rows
-use Rattle.jg_objects.specs.Standing.{Tells}
+use Rattle.jg_table_threads.specs.History as threads
+use Rattle.jg_table_threads.specs.declared.row.Row.{Row}
+use Rattle.jg_table_threads.specs.Rows.{row_of, CanCount}
+use Rattle.jg_table_threads.specs.Standing as thread_standing
+use Rattle.jg_table_locals.specs.History.{acts_of, has_session, depth as locals_depth}
+use Rattle.jg_table_locals.specs.Rows.{Rows, HasFrame, pushed, entered, top}
+use Rattle.jg_table_locals.specs.Standing as local_standing
+use Rattle.jg_table_locals.proofs.Callers.{has_frame_law, above_law, pushed_law, entered_law, top_is}
+use Rattle.jg_table_globals.specs.Rows as global_rows
+use Rattle.jg_table_globals.specs.Standing as global_standing
+use Rattle.jg_table_globals.proofs.Callers.{above_law as global_above_law}
+use Rattle.jg_table_buffers.specs.Rows as buffer_rows
+use Rattle.jg_table_buffers.specs.Standing as buffer_standing
+use Rattle.jg_table_buffers.proofs.Callers.{above_law as buffer_above_law}
+use Rattle.jg_table_monitors.specs.History as monitors
+use Rattle.jg_table_monitors.specs.Rows as monitor_rows
+use Rattle.jg_table_monitors.specs.Standing as monitor_standing
+use Rattle.jg_table_monitors.proofs.Callers.{rows_tell_law}
+use Rattle.jg_table_heap.specs.History as heap
+use Rattle.jg_table_objects.specs.Rows as object_rows
+use Rattle.jg_table_objects.specs.Standing.{Tells}
 use Rattle.jg_rules.specs.Parts.{Parts, RowsBeside}
 use Rattle.jg_rules.specs.Names.{next_ref, next_buffer, open_frames, depth as depth_of, is_here}
 use Rattle.jg_laws.proofs.Kept.{Agreed, agree_of, Below, GlobalsBelow}

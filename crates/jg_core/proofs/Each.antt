@@ -13,16 +13,16 @@ use Rattle.jg_words.proofs.Common.{and_first, and_second}
 use Rattle.jg_words.specs.declared.object.ItemType.TheVariants.{Of}
 use Rattle.jg_policy.specs.Stated.{StatedSetup, class_count}
 use Rattle.jg_policy.specs.Links as links
-use Rattle.jg_threads.specs.History as threads
-use Rattle.jg_locals.specs.History as locals
-use Rattle.jg_globals.specs.History as globals
-use Rattle.jg_buffers.specs.History as buffers
-use Rattle.jg_buffers.specs.declared.family.Family.{Family}
-use Rattle.jg_buffers.specs.declared.family.Family.TheVariants.{Elements}
-use Rattle.jg_monitors.specs.History as monitors
-use Rattle.jg_heap.specs.History as heap
-use Rattle.jg_heap.specs.Making.{Filled, Opaque}
-use Rattle.jg_heap.specs.declared.object.Slot.TheVariants.{Number}
+use Rattle.jg_table_threads.specs.History as threads
+use Rattle.jg_table_locals.specs.History as locals
+use Rattle.jg_table_globals.specs.History as globals
+use Rattle.jg_table_buffers.specs.History as buffers
+use Rattle.jg_table_buffers.specs.declared.family.Family.{Family}
+use Rattle.jg_table_buffers.specs.declared.family.Family.TheVariants.{Elements}
+use Rattle.jg_table_monitors.specs.History as monitors
+use Rattle.jg_table_heap.specs.History as heap
+use Rattle.jg_table_heap.specs.Making.{Filled, Opaque}
+use Rattle.jg_table_heap.specs.declared.object.Slot.TheVariants.{Number}
 use Rattle.jg_rules.specs.Parts.{Parts, nothing_yet}
 use Rattle.jg_rules.specs.Names.{next_ref, next_buffer, depth, open_frames}
 use Rattle.jg_laws.proofs.Lent.{IsLent}

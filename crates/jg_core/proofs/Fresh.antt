@@ -7,10 +7,10 @@ use Rattle.jg_words.specs.declared.reference.Ref.TheVariants.{Null, To}
 use Rattle.jg_words.specs.declared.reference.Kind.{Kind}
 use Rattle.jg_words.specs.declared.reference.Kind.TheVariants.{Local, Global, Weak}
 use Rattle.jg_policy.specs.Stated.{StatedSetup}
-use Rattle.jg_threads.specs.History as threads
-use Rattle.jg_locals.specs.History as locals
-use Rattle.jg_locals.specs.History.{acts_of, live}
-use Rattle.jg_locals.proofs.Callers.{live_below}
+use Rattle.jg_table_threads.specs.History as threads
+use Rattle.jg_table_locals.specs.History as locals
+use Rattle.jg_table_locals.specs.History.{acts_of, live}
+use Rattle.jg_table_locals.proofs.Callers.{live_below}
 use Rattle.jg_rules.specs.Parts.{Parts}
 use Rattle.jg_rules.specs.Names.{next_ref}
 use Rattle.jg_laws.proofs.Kept.{AtLeast, Below, GlobalsBelow, next_more, next_same}

@@ -11,15 +11,15 @@ use Rattle.std.proofs.lemmas.Bool.{or_right}
 use Rattle.jg_words.specs.declared.object.ObjId.{ObjId}
 use Rattle.jg_words.proofs.Common.{or_first_off}
 use Rattle.jg_policy.specs.Stated.{StatedSetup, class_count}
-use Rattle.jg_globals.specs.History as globals
-use Rattle.jg_globals.proofs.Callers.{holds_law}
-use Rattle.jg_heap.specs.History as heap
-use Rattle.jg_objects.specs.History.{is_listed, is_told, told, went}
-use Rattle.jg_heap.specs.Making.{class_in, length_in}
-use Rattle.jg_globals.specs.Standing as global_standing
+use Rattle.jg_table_globals.specs.History as globals
+use Rattle.jg_table_globals.proofs.Callers.{holds_law}
+use Rattle.jg_table_heap.specs.History as heap
+use Rattle.jg_table_objects.specs.History.{is_listed, is_told, told, went}
+use Rattle.jg_table_heap.specs.Making.{class_in, length_in}
+use Rattle.jg_table_globals.specs.Standing as global_standing
 use Rattle.jg_lists.specs.Marks.{Marks}
-use Rattle.jg_objects.specs.Rows.{Rows, mark_in, told_in}
-use Rattle.jg_objects.specs.Standing.{Tells}
+use Rattle.jg_table_objects.specs.Rows.{Rows, mark_in, told_in}
+use Rattle.jg_table_objects.specs.Standing.{Tells}
 use Rattle.jg_rules.specs.Parts.{HoldersStand, Parts, RowsBeside}
 use Rattle.jg_rules.specs.Names.{is_here}
 use Rattle.jg_rules.specs.Holding.{is_root}

@@ -12,19 +12,19 @@ use Rattle.jg_words.proofs.Common.{clash, and_first, and_second, or_first, or_se
 use Rattle.jg_policy.specs.Stated.{StatedSetup, class_count}
 use Rattle.jg_policy.specs.Links as links
 use Rattle.jg_lists.specs.Acts.{by, acts_of, how_many}
-use Rattle.jg_threads.specs.History as threads
-use Rattle.jg_threads.proofs.Callers.{is_pending_law}
-use Rattle.jg_locals.specs.History as locals
-use Rattle.jg_locals.proofs.Callers.{held_law as local_held_law}
-use Rattle.jg_globals.specs.History as globals
-use Rattle.jg_globals.proofs.Callers.{holds_law}
-use Rattle.jg_buffers.specs.History as buffers
-use Rattle.jg_buffers.specs.declared.family.Family.{Family}
-use Rattle.jg_buffers.proofs.Callers.{pinned_object_law}
-use Rattle.jg_monitors.specs.History as monitors
-use Rattle.jg_monitors.proofs.Callers.{held_law}
-use Rattle.jg_heap.specs.History as heap
-use Rattle.jg_heap.specs.Making.{Opaque}
+use Rattle.jg_table_threads.specs.History as threads
+use Rattle.jg_table_threads.proofs.Callers.{is_pending_law}
+use Rattle.jg_table_locals.specs.History as locals
+use Rattle.jg_table_locals.proofs.Callers.{held_law as local_held_law}
+use Rattle.jg_table_globals.specs.History as globals
+use Rattle.jg_table_globals.proofs.Callers.{holds_law}
+use Rattle.jg_table_buffers.specs.History as buffers
+use Rattle.jg_table_buffers.specs.declared.family.Family.{Family}
+use Rattle.jg_table_buffers.proofs.Callers.{pinned_object_law}
+use Rattle.jg_table_monitors.specs.History as monitors
+use Rattle.jg_table_monitors.proofs.Callers.{held_law}
+use Rattle.jg_table_heap.specs.History as heap
+use Rattle.jg_table_heap.specs.Making.{Opaque}
 use Rattle.jg_rules.specs.Parts.{Parts, nothing_yet}
 use Rattle.jg_rules.specs.Names.{depth, is_here, next_buffer, open_frames}
 use Rattle.jg_rules.specs.Holding.{is_root}

@@ -8,10 +8,10 @@ use Rattle.jg_words.specs.declared.reference.Kind.{Kind}
 use Rattle.jg_words.specs.declared.reference.Kind.TheVariants.{Local, Global, Weak}
 use Rattle.jg_words.proofs.Common.{and_second}
 use Rattle.jg_policy.specs.Stated.{StatedSetup}
-use Rattle.jg_monitors.specs.declared.entering.Entering.TheVariants.{Entered}
-use Rattle.jg_monitors.specs.History.{entering, owner}
-use Rattle.jg_monitors.specs.Standing.{AllAllowed}
-use Rattle.jg_monitors.proofs.Callers.{one_owner as one_owner_of, owner_has}
+use Rattle.jg_table_monitors.specs.declared.entering.Entering.TheVariants.{Entered}
+use Rattle.jg_table_monitors.specs.History.{entering, owner}
+use Rattle.jg_table_monitors.specs.Standing.{AllAllowed}
+use Rattle.jg_table_monitors.proofs.Callers.{one_owner as one_owner_of, owner_has}
 use Rattle.jg_rules.specs.Parts.{Parts}
 use Rattle.jg_rules.specs.Names.{is_here}
 use Rattle.jg_laws.proofs.Owners.{alone}

@@ -18,15 +18,15 @@ use Rattle.jg_words.specs.declared.call.arrays.ArraysCall.TheVariants.{NewArray,
 use Rattle.jg_words.specs.declared.call.monitors.MonitorsCall.TheVariants.{MonitorEnter, MonitorExit}
 use Rattle.jg_words.specs.declared.call.buffers.BuffersCall.TheVariants.{GetArrayElements, ReleaseArrayElements, GetStringChars, ReleaseStringChars, GetStringUTFChars, ReleaseStringUTFChars, GetPrimitiveArrayCritical, ReleasePrimitiveArrayCritical, GetStringCritical, ReleaseStringCritical, BufferRead, BufferWrite}
 use Rattle.jg_words.specs.Call.{fun_of}
-use Rattle.jg_buffers.specs.declared.family.Family.TheVariants.{Elements, Chars, UtfChars, ArrayCritical, StringCritical}
+use Rattle.jg_table_buffers.specs.declared.family.Family.TheVariants.{Elements, Chars, UtfChars, ArrayCritical, StringCritical}
 use Rattle.jg_policy.specs.Stated.{StatedSetup}
 use Rattle.jg_rules.specs.Parts.{Parts}
 use Rattle.jg_rules.specs.Names.{object_named}
-use Rattle.jg_questions.specs.Broken.{verdict}
-use Rattle.jg_questions.specs.Written.{arguments_of, row_for, written_bounds}
-use Rattle.jg_questions.proofs.Agreed.{judged_as_written}
-use Rattle.jg_questions.proofs.Sorts.{calls_suit}
-use Rattle.jg_questions.proofs.Rows.{effect_of, row_is}
+use Rattle.jg_judge.specs.Broken.{verdict}
+use Rattle.jg_judge.specs.Written.{arguments_of, row_for, written_bounds}
+use Rattle.jg_judge.proofs.Agreed.{judged_as_written}
+use Rattle.jg_judge.proofs.Sorts.{calls_suit}
+use Rattle.jg_judge.proofs.Rows.{effect_of, row_is}
 use Rattle.jg_core.specs.declared.fact.Fact.{Fact}
 use Rattle.jg_core.specs.declared.fact.Fact.TheVariants.{Raise, Own, Free}
 use Rattle.jg_core.specs.declared.says.Says.{Says}

@@ -9,15 +9,15 @@ use Rattle.jg_policy.specs.Stated.{StatedSetup}
 use Rattle.jg_rules.specs.Parts.{Parts}
 use Rattle.jg_rules.specs.Names.{object_named}
 use Rattle.jg_rules.specs.Rules.{verdict as call_verdict}
-use Rattle.jg_functions.specs.Columns.{Columns}
-use Rattle.jg_functions.specs.Table.{functions}
-use Rattle.jg_questions.specs.declared.argument.Argument.{Argument}
-use Rattle.jg_questions.specs.declared.argument.Bounds.{Bounds}
-use Rattle.jg_questions.specs.Asked.{first_reference}
-use Rattle.jg_questions.specs.Broken.{verdict}
-use Rattle.jg_questions.specs.Culprit.{culprit}
-use Rattle.jg_questions.specs.Suits.{suits}
-use Rattle.jg_questions.specs.Written.{AreStated, arguments_of, row_for, written_bounds}
+use Rattle.jg_rows.specs.Columns.{Columns}
+use Rattle.jg_rows.specs.Table.{functions}
+use Rattle.jg_judge.specs.declared.argument.Argument.{Argument}
+use Rattle.jg_judge.specs.declared.argument.Bounds.{Bounds}
+use Rattle.jg_judge.specs.Asked.{first_reference}
+use Rattle.jg_judge.specs.Broken.{verdict}
+use Rattle.jg_judge.specs.Culprit.{culprit}
+use Rattle.jg_judge.specs.Suits.{suits}
+use Rattle.jg_judge.specs.Written.{AreStated, arguments_of, row_for, written_bounds}
 use Rattle.jg_core.specs.declared.fact.Fact.{Fact}
 use Rattle.jg_core.specs.declared.says.Says.{Says}
 use Rattle.jg_core.specs.declared.says.Says.TheVariants.{Done, Null, Object}

@@ -1,9 +1,9 @@
 -- How large the counts are that events give. No public contract stands on this.
 use Rattle.std.specs.Prelude.{ℕ, ◌+◌, ◌≤◌, Bool, true, false}
-use Rattle.jg_threads.specs.History as threads
-use Rattle.jg_locals.specs.History as locals
-use Rattle.jg_monitors.specs.History as monitors
-use Rattle.jg_heap.specs.History as heap
+use Rattle.jg_table_threads.specs.History as threads
+use Rattle.jg_table_locals.specs.History as locals
+use Rattle.jg_table_monitors.specs.History as monitors
+use Rattle.jg_table_heap.specs.History as heap
 use Rattle.jg_rules.specs.Parts.{Parts}
 
 -- the act raises a count of its thread

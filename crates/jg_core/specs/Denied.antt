@@ -5,10 +5,10 @@ use Rattle.jg_words.specs.declared.thread.EnvId.{EnvId}
 use Rattle.jg_words.specs.declared.reference.Ref.{Ref}
 use Rattle.jg_words.specs.declared.rule.Rule.{Rule}
 use Rattle.jg_words.specs.declared.rule.Rule.TheVariants.{WrongThread, Detached, ForeignLocal, DeadReference, WrongRefKind, NotOwner}
-use Rattle.jg_functions.specs.declared.row.Effect.{Effect}
-use Rattle.jg_functions.specs.declared.row.Effect.TheVariants.{GivesBack, Pops, Detaches}
-use Rattle.jg_questions.specs.declared.argument.Argument.{Argument}
-use Rattle.jg_questions.specs.Asked.{first_reference, first_buffer, first_number}
+use Rattle.jg_rows.specs.declared.row.Effect.{Effect}
+use Rattle.jg_rows.specs.declared.row.Effect.TheVariants.{GivesBack, Pops, Detaches}
+use Rattle.jg_judge.specs.declared.argument.Argument.{Argument}
+use Rattle.jg_judge.specs.Asked.{first_reference, first_buffer, first_number}
 use Rattle.jg_core.specs.declared.fact.Fact.TheVariants.{Pop}
 use Rattle.jg_core.specs.declared.expected.Expected.{Expected}
 use Rattle.jg_core.specs.declared.expected.Expected.TheVariants.{Undone, Lent, Nothing, Thrown, IfEnded}

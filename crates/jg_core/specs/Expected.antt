@@ -1,6 +1,6 @@
--- What comes of a call whose question was answered, by the row of its function: what is to be told once the machine says
--- what it answered. It is found when the question is asked, since an operand may end before the function returns. Where
--- the question breaks a rule, see Denied.
+-- What comes of a call whose question was answered, by the row of its function: what is to be told once the machine
+-- says what it answered. It is found when the question is asked, since an operand may end before the function returns.
+-- Where the question breaks a rule, see Denied.
 use Rattle.std.specs.Prelude.{ℕ, ℤ, if◌then◌else◌, List, Option, Some, None}
 use Rattle.std.specs.Option.{option_map}
 use Rattle.jg_words.specs.declared.thread.Tid.{Tid}
@@ -9,19 +9,19 @@ use Rattle.jg_words.specs.declared.reference.Ref.{Ref}
 use Rattle.jg_words.specs.declared.reference.Ref.TheVariants.{Null}
 use Rattle.jg_words.specs.declared.buffer.BufId.{BufId}
 use Rattle.jg_policy.specs.Stated.{StatedSetup}
-use Rattle.jg_buffers.specs.declared.family.Family.{Family}
-use Rattle.jg_buffers.specs.History.{is_critical}
-use Rattle.jg_heap.specs.Reading.{natural}
+use Rattle.jg_table_buffers.specs.declared.family.Family.{Family}
+use Rattle.jg_table_buffers.specs.History.{is_critical}
+use Rattle.jg_table_heap.specs.Reading.{natural}
 use Rattle.jg_rules.specs.Parts.{Parts}
 use Rattle.jg_rules.specs.Names.{object_named, class_meant}
-use Rattle.jg_functions.specs.declared.row.Section.{Section}
-use Rattle.jg_functions.specs.declared.row.Section.TheVariants.{InvocationApiFunctions}
-use Rattle.jg_functions.specs.declared.row.Effect.{Effect}
-use Rattle.jg_functions.specs.declared.row.Effect.TheVariants.{Nothing as NothingDone, Hands, Ends, Lends, GivesBack, Pushes, Pops, Ensures, Raises, Calms, Owns, Frees, Attaches, Detaches, Enters, Leaves, Loads, Links, Unlinks, Collects}
-use Rattle.jg_functions.specs.Columns.{Columns}
-use Rattle.jg_questions.specs.declared.argument.Argument.{Argument}
-use Rattle.jg_questions.specs.Asked.{first_reference, first_buffer, first_number}
-use Rattle.jg_questions.specs.Broken.{native_by_name}
+use Rattle.jg_rows.specs.declared.row.Section.{Section}
+use Rattle.jg_rows.specs.declared.row.Section.TheVariants.{InvocationApiFunctions}
+use Rattle.jg_rows.specs.declared.row.Effect.{Effect}
+use Rattle.jg_rows.specs.declared.row.Effect.TheVariants.{Nothing as NothingDone, Hands, Ends, Lends, GivesBack, Pushes, Pops, Ensures, Raises, Calms, Owns, Frees, Attaches, Detaches, Enters, Leaves, Loads, Links, Unlinks, Collects}
+use Rattle.jg_rows.specs.Columns.{Columns}
+use Rattle.jg_judge.specs.declared.argument.Argument.{Argument}
+use Rattle.jg_judge.specs.Asked.{first_reference, first_buffer, first_number}
+use Rattle.jg_judge.specs.Broken.{native_by_name}
 use Rattle.jg_core.specs.declared.fact.Fact.{Fact}
 use Rattle.jg_core.specs.declared.fact.Fact.TheVariants.{Enter, Leave, Push, Pop, Ensure, Raise, Calm, Own, Free}
 use Rattle.jg_core.specs.declared.says.Says.{Says}

@@ -10,20 +10,20 @@ use Rattle.jg_words.specs.declared.reference.Kind.TheVariants.{Local, Global, We
 use Rattle.jg_policy.specs.Stated.{StatedSetup, class_count}
 use Rattle.jg_policy.specs.Classes.{module_names, native_at}
 use Rattle.jg_policy.specs.Links as links
-use Rattle.jg_threads.specs.History as threads
-use Rattle.jg_locals.specs.History as locals
-use Rattle.jg_globals.specs.History as globals
-use Rattle.jg_buffers.specs.History as buffers
-use Rattle.jg_buffers.specs.declared.family.Family.{Family}
-use Rattle.jg_monitors.specs.History as monitors
-use Rattle.jg_heap.specs.History as heap
-use Rattle.jg_heap.specs.Making.{Opaque}
+use Rattle.jg_table_threads.specs.History as threads
+use Rattle.jg_table_locals.specs.History as locals
+use Rattle.jg_table_globals.specs.History as globals
+use Rattle.jg_table_buffers.specs.History as buffers
+use Rattle.jg_table_buffers.specs.declared.family.Family.{Family}
+use Rattle.jg_table_monitors.specs.History as monitors
+use Rattle.jg_table_heap.specs.History as heap
+use Rattle.jg_table_heap.specs.Making.{Opaque}
 use Rattle.jg_rules.specs.Parts.{Parts, nothing_yet}
 use Rattle.jg_rules.specs.Names.{names, next_ref, next_buffer, depth, open_frames, pending, is_here, length_of}
 use Rattle.jg_rules.specs.Buffers.{buffer_named}
 use Rattle.jg_rules.specs.Rules.{is_nothing}
 use Rattle.jg_rules.specs.Holding.{is_root}
-use Rattle.jg_questions.specs.Kinds.{is_class}
+use Rattle.jg_judge.specs.Kinds.{is_class}
 use Rattle.jg_core.specs.declared.fact.Fact.{Fact}
 use Rattle.jg_core.specs.declared.fact.Fact.TheVariants.{Begin, End, Enter, Leave, Push, Pop, Ensure, Raise, Calm, Hand, Lost, Lend, Back, Own, Free, Meet, Gone, Link, Unlink, Warn, Checked}
 use Rattle.jg_core.specs.declared.fact.Checked.{Checked as Check}

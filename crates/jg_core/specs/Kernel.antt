@@ -2,12 +2,12 @@
 use Rattle.std.specs.Prelude.{ℕ, ◌≡◌, ◌≤◌, ◌^◌, ◌↔◌, true, false, List, ◌∷◌, None, Some, nat_lt, ◌⊎◌}
 use Rattle.jg_words.specs.declared.object.ObjId.{ObjId}
 use Rattle.jg_policy.specs.Stated.{StatedSetup, class_count}
-use Rattle.jg_locals.specs.History as locals
-use Rattle.jg_globals.specs.History as globals
-use Rattle.jg_buffers.specs.History as buffers
-use Rattle.jg_monitors.specs.History as monitors
-use Rattle.jg_objects.specs.Rows.{Rows, mark_in}
-use Rattle.jg_objects.specs.Standing.{Tells}
+use Rattle.jg_table_locals.specs.History as locals
+use Rattle.jg_table_globals.specs.History as globals
+use Rattle.jg_table_buffers.specs.History as buffers
+use Rattle.jg_table_monitors.specs.History as monitors
+use Rattle.jg_table_objects.specs.Rows.{Rows, mark_in}
+use Rattle.jg_table_objects.specs.Standing.{Tells}
 use Rattle.jg_rules.specs.Parts.{Parts, RowsBeside, StandBeside}
 use Rattle.jg_core.specs.declared.fact.Fact.{Fact}
 use Rattle.jg_rules.specs.Holding.{is_root}

@@ -8,10 +8,10 @@ use Rattle.jg_words.specs.declared.reference.Kind.TheVariants.{Local}
 use Rattle.jg_words.specs.declared.reference.Ref.{Ref}
 use Rattle.jg_words.specs.declared.reference.Ref.TheVariants.{To}
 use Rattle.jg_policy.specs.Stated.{StatedSetup, class_count}
-use Rattle.jg_monitors.specs.History as monitors
+use Rattle.jg_table_monitors.specs.History as monitors
 use Rattle.jg_rules.specs.Names.{is_here, next_ref, object_named}
 use Rattle.jg_rules.specs.Holding.{is_root}
-use Rattle.jg_questions.specs.Written.{AreStated}
+use Rattle.jg_judge.specs.Written.{AreStated}
 use Rattle.jg_core.specs.declared.fact.Fact.{Fact}
 use Rattle.jg_core.specs.declared.fact.Fact.TheVariants.{Leave, Pop, Hand, Meet, Gone}
 use Rattle.jg_core.specs.Facts.{parts_of, History}

@@ -1,12 +1,12 @@
 -- What the core's helpers say of its tables. No public contract stands on this.
 use Rattle.std.specs.Prelude.{ℕ, ◌≡◌, ◌^◌, true}
 use Rattle.jg_policy.specs.Stated.{StatedSetup, class_count}
-use Rattle.jg_threads.specs.History as threads
-use Rattle.jg_locals.specs.History as locals
-use Rattle.jg_globals.specs.Laws as global_laws
-use Rattle.jg_buffers.specs.Laws as buffer_laws
-use Rattle.jg_objects.specs.Rows.{Rows}
-use Rattle.jg_objects.specs.Standing.{Tells}
+use Rattle.jg_table_threads.specs.History as threads
+use Rattle.jg_table_locals.specs.History as locals
+use Rattle.jg_table_globals.specs.Laws as global_laws
+use Rattle.jg_table_buffers.specs.Laws as buffer_laws
+use Rattle.jg_table_objects.specs.Rows.{Rows}
+use Rattle.jg_table_objects.specs.Standing.{Tells}
 use Rattle.jg_rules.specs.Parts.{Parts, RowsBeside, StandBeside}
 use Rattle.jg_rules.specs.Names.{next_ref, next_buffer}
 use Rattle.jg_laws.specs.Laws.{AgreeInNatives}

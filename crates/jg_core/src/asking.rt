@@ -7,11 +7,11 @@ ghost use Rattle.jg_core.specs.Facts.{parts_of};
 ghost use Rattle.jg_core.specs.Kernel.{CoreStands, Stayed};
 ghost use Rattle.jg_core.specs.declared.fact.Fact.{Fact as FactOf};
 ghost use Rattle.jg_core.specs.Asking as spec;
-ghost use Rattle.jg_functions.specs.Columns.{columns};
-ghost use Rattle.jg_objects.specs.Standing.{Tells};
+ghost use Rattle.jg_rows.specs.Columns.{columns};
+ghost use Rattle.jg_table_objects.specs.Standing.{Tells};
 ghost use Rattle.jg_rules.specs.Parts.{Parts};
 ghost use Rattle.jg_rules.specs.View.{ViewTells};
-ghost use Rattle.jg_threads.specs.Rows.{CanCount};
+ghost use Rattle.jg_table_threads.specs.Rows.{CanCount};
 
 use crate::denied::{denied_as, doer};
 use crate::expected::{Expected, expected_of, told};
@@ -19,10 +19,10 @@ use crate::fact::Fact;
 use crate::implied::given_with;
 use crate::kernel::{Core, Untold};
 use crate::says::{Given, Says};
-use jg_functions::{Row, row_of};
-use jg_objects::Objects;
-use jg_questions::{Argument, Bounds, Broken, Verdict, first_reference, verdict_on};
+use jg_judge::{Argument, Bounds, Broken, Verdict, first_reference, verdict_on};
+use jg_rows::{Row, row_of};
 use jg_rules::{View, object_named};
+use jg_table_objects::Objects;
 use jg_words::{EnvId, ObjId, Rule, Tid};
 use std::alloc::Allocator;
 

@@ -1,9 +1,9 @@
 //! What is told where the machine makes a denied call all the same.
 
 ghost use Rattle.std.specs.Prelude.{◌≡◌};
-ghost use Rattle.jg_functions.specs.Columns.{columns};
-ghost use Rattle.jg_objects.specs.Standing.{Tells};
-ghost use Rattle.jg_questions.specs.Asked as asked;
+ghost use Rattle.jg_rows.specs.Columns.{columns};
+ghost use Rattle.jg_table_objects.specs.Standing.{Tells};
+ghost use Rattle.jg_judge.specs.Asked as asked;
 ghost use Rattle.jg_rules.specs.Parts.{Parts};
 ghost use Rattle.jg_rules.specs.View.{ViewTells};
 ghost use Rattle.jg_core.specs.Denied as spec;
@@ -12,10 +12,10 @@ ghost use Rattle.jg_core.specs.Expected.{expected_of as expected_by};
 use crate::expected::{Expected, back, expected_of};
 use crate::fact::Fact;
 use crate::implied::losing;
-use jg_functions::{Effect, Row};
-use jg_objects::Objects;
-use jg_questions::{Argument, first_buffer, first_number, first_reference};
+use jg_judge::{Argument, first_buffer, first_number, first_reference};
+use jg_rows::{Effect, Row};
 use jg_rules::{View, look_up};
+use jg_table_objects::Objects;
 use jg_words::{EnvId, Rule, Tid};
 use std::alloc::Allocator;
 

@@ -2,9 +2,9 @@
 
 ghost use Rattle.std.specs.Prelude.{◌≡◌};
 ghost use Rattle.std.specs.Option.{option_map};
-ghost use Rattle.jg_functions.specs.Columns.{columns};
-ghost use Rattle.jg_objects.specs.Standing.{Tells};
-ghost use Rattle.jg_questions.specs.Asked.{first_reference as first_reference_of};
+ghost use Rattle.jg_rows.specs.Columns.{columns};
+ghost use Rattle.jg_table_objects.specs.Standing.{Tells};
+ghost use Rattle.jg_judge.specs.Asked.{first_reference as first_reference_of};
 ghost use Rattle.jg_rules.specs.Names.{names, object_in as object_of};
 ghost use Rattle.jg_rules.specs.Parts.{Parts};
 ghost use Rattle.jg_rules.specs.View.{ViewTells};
@@ -18,12 +18,12 @@ use crate::implied::{
 };
 use crate::possible::is_critical;
 use crate::says::Says;
-use jg_buffers::Family;
-use jg_functions::{Effect, Row, Section};
-use jg_heap::natural;
-use jg_objects::Objects;
-use jg_questions::{Argument, first_buffer, first_number, first_reference, native_by_name};
+use jg_judge::{Argument, first_buffer, first_number, first_reference, native_by_name};
+use jg_rows::{Effect, Row, Section};
 use jg_rules::{Named, View, class_meant};
+use jg_table_buffers::Family;
+use jg_table_heap::natural;
+use jg_table_objects::Objects;
 use jg_words::{BufId, Kind, ObjId, Ref, Tid};
 use std::alloc::Allocator;
 

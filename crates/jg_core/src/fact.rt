@@ -1,6 +1,6 @@
 //! What a virtual machine says is so.
 
-use jg_buffers::Family;
+use jg_table_buffers::Family;
 use jg_words::{BufId, Kind, ObjId, Ref, Tid};
 
 /// What a virtual machine says is so, at the moment when it is so. No rule refuses a fact.
@@ -73,7 +73,7 @@ pub enum Fact {
         object: ObjId,
     },
     /// There is an object that wasn't told of: the next, of this class, and of so many characters or items. The class
-    /// goes by its number in the setup, or is that of a kind ([`OwnKind`](jg_questions::OwnKind)) whose class the setup
+    /// goes by its number in the setup, or is that of a kind ([`OwnKind`](jg_judge::OwnKind)) whose class the setup
     /// doesn't state.
     Meet {
         class: u32,

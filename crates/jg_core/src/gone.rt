@@ -2,11 +2,11 @@
 
 ghost use Rattle.std.specs.Prelude.{◌≡◌, ◌<◌, ◌==◌, ◌&&◌, ◌++◌, if◌then◌else◌, true, false, ℕ, List, None, Some, IfSome, IfErr, OnOk, OnErr, length, map, slice_index_or};
 ghost use Rattle.std.specs.List.{list_any};
-ghost use Rattle.jg_globals.specs.History.{Clear, Event};
-ghost use Rattle.jg_globals.specs.Standing.{Stands};
+ghost use Rattle.jg_table_globals.specs.History.{Clear, Event};
+ghost use Rattle.jg_table_globals.specs.Standing.{Stands};
 ghost use Rattle.jg_lists.specs.Marks.{Marks};
-ghost use Rattle.jg_objects.specs.History.{is_listed};
-ghost use Rattle.jg_objects.specs.Rows.{IsButMarks, mark_in};
+ghost use Rattle.jg_table_objects.specs.History.{is_listed};
+ghost use Rattle.jg_table_objects.specs.Rows.{IsButMarks, mark_in};
 ghost use Rattle.jg_rules.specs.Holding.{is_root};
 ghost use Rattle.jg_rules.specs.Parts.{HoldersStand, Parts};
 ghost use Rattle.jg_rules.specs.View.{rows_in};
@@ -16,11 +16,11 @@ ghost use Rattle.jg_core.specs.Gone.{first_unfit, gone_on, is_set, is_unset};
 ghost use Rattle.jg_core.specs.Tables.{Stand, rows_of};
 
 use crate::tables::Tables;
-use jg_globals::Globals;
 use jg_lists::Marking;
-use jg_objects::{Before, Marker, Objects};
 use jg_policy::Setup;
 use jg_rules::{View, mark_roots};
+use jg_table_globals::Globals;
+use jg_table_objects::{Before, Marker, Objects};
 use jg_words::{BufId, ObjId, Ref, Tid};
 use std::alloc::Allocator;
 use std::marker::Brand;

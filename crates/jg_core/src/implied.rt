@@ -2,11 +2,11 @@
 
 ghost use Rattle.std.specs.Prelude.{◌≡◌, ℕ, Some, None};
 ghost use Rattle.std.specs.Option.{option_map};
-ghost use Rattle.jg_objects.specs.Standing.{Tells};
+ghost use Rattle.jg_table_objects.specs.Standing.{Tells};
 ghost use Rattle.jg_rules.specs.Names as names_of;
 ghost use Rattle.jg_rules.specs.Parts.{Parts};
 ghost use Rattle.jg_rules.specs.View.{ViewTells};
-ghost use Rattle.jg_threads.specs.Rows.{CanCount};
+ghost use Rattle.jg_table_threads.specs.Rows.{CanCount};
 ghost use Rattle.jg_core.specs.declared.fact.Fact.TheVariants.{Leave, Lend, Pop};
 ghost use Rattle.jg_core.specs.declared.says.Given.TheVariants.{Reference};
 ghost use Rattle.jg_words.specs.declared.reference.Ref.TheVariants.{To};
@@ -14,10 +14,10 @@ ghost use Rattle.jg_core.specs.Implied as spec;
 
 use crate::fact::Fact;
 use crate::says::{Given, Says};
-use jg_buffers::Family;
-use jg_heap::natural;
-use jg_objects::Objects;
 use jg_rules::View;
+use jg_table_buffers::Family;
+use jg_table_heap::natural;
+use jg_table_objects::Objects;
 use jg_words::{BufId, Kind, ObjId, Ref, Tid};
 use std::alloc::Allocator;
 

@@ -2,9 +2,9 @@
 
 ghost use Rattle.std.specs.Prelude.{◌≡◌};
 ghost use Rattle.std.specs.Option.{option_map};
-ghost use Rattle.jg_buffers.specs.History as buffers_of;
-ghost use Rattle.jg_monitors.specs.History.{owner};
-ghost use Rattle.jg_objects.specs.Standing.{Tells};
+ghost use Rattle.jg_table_buffers.specs.History as buffers_of;
+ghost use Rattle.jg_table_monitors.specs.History.{owner};
+ghost use Rattle.jg_table_objects.specs.Standing.{Tells};
 ghost use Rattle.jg_rules.specs.Names as names_of;
 ghost use Rattle.jg_rules.specs.Parts.{Parts};
 ghost use Rattle.jg_rules.specs.View.{ViewTells};
@@ -12,10 +12,10 @@ ghost use Rattle.jg_core.specs.declared.fact.Fact.TheVariants.{Gone, Leave, Pop}
 ghost use Rattle.jg_core.specs.Facts as facts;
 
 use crate::fact::{Checked, Fact};
-use jg_buffers::Family;
-use jg_objects::Objects;
-use jg_questions::is_class;
+use jg_judge::is_class;
 use jg_rules::{Named, View, buffer_named, is_root, look_up};
+use jg_table_buffers::Family;
+use jg_table_objects::Objects;
 use jg_words::{ObjId, Ref, Tid};
 use std::alloc::Allocator;
 

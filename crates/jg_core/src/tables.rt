@@ -1,13 +1,13 @@
 //! The tables of a core.
 
-use jg_buffers::{Buffers, Unseen};
-use jg_globals::Globals;
-use jg_locals::Locals;
-use jg_monitors::Monitors;
-use jg_objects::Objects;
 use jg_policy::{Links, Setup};
 use jg_rules::View;
-use jg_threads::Threads;
+use jg_table_buffers::{Buffers, Unseen};
+use jg_table_globals::Globals;
+use jg_table_locals::Locals;
+use jg_table_monitors::Monitors;
+use jg_table_objects::Objects;
+use jg_table_threads::Threads;
 use std::alloc::Allocator;
 
 /// What is so by the facts that were told.

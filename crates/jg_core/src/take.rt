@@ -1,11 +1,11 @@
 //! What a fact does to the tables, where it can be.
 
 ghost use Rattle.std.specs.Prelude.{◌≡◌, ◌<◌, ◌≤◌, Some, None, ℕ, List, ◌∷◌, IsOk, OnOk, OnErr, true};
-ghost use Rattle.jg_buffers.specs.History.{Event, Opened};
-ghost use Rattle.jg_buffers.specs.Rows.{IsAbove};
-ghost use Rattle.jg_buffers.specs.Standing.{Stands};
-ghost use Rattle.jg_locals.specs.Rows.{spare};
-ghost use Rattle.jg_objects.specs.Rows.{mark_in};
+ghost use Rattle.jg_table_buffers.specs.History.{Event, Opened};
+ghost use Rattle.jg_table_buffers.specs.Rows.{IsAbove};
+ghost use Rattle.jg_table_buffers.specs.Standing.{Stands};
+ghost use Rattle.jg_table_locals.specs.Rows.{spare};
+ghost use Rattle.jg_table_objects.specs.Rows.{mark_in};
 ghost use Rattle.jg_rules.specs.Parts.{Parts};
 ghost use Rattle.jg_words.specs.declared.reference.Kind.TheVariants.{Local};
 ghost use Rattle.jg_core.specs.declared.fact.Fact.TheVariants.{Begin, End, Enter, Free, Gone, Leave, Lend, Lost, Meet, Own, Pop};
@@ -15,9 +15,9 @@ ghost use Rattle.jg_core.specs.Tables.{HasSession, IsDue, Stand, Takes, rows_of}
 use crate::fact::Fact;
 use crate::possible::is_critical;
 use crate::tables::Tables;
-use jg_buffers::{Buffers, Family, Unseen};
-use jg_monitors::Entering;
 use jg_policy::Setup;
+use jg_table_buffers::{Buffers, Family, Unseen};
+use jg_table_monitors::Entering;
 use jg_words::{Kind, ObjId, Ref, Tid};
 use std::alloc::{AllocError, Allocator};
 

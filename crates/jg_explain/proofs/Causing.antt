@@ -8,7 +8,7 @@ use Rattle.jg_words.specs.Entry.{Entry, rule_in}
 use Rattle.jg_words.specs.declared.rule.Rule.{Rule}
 use Rattle.jg_lists.proofs.Oldest.{oldest, oldest_more, oldest_before}
 use Rattle.jg_policy.specs.Stated.{StatedSetup}
-use Rattle.jg_causes.specs.declared.condition.Condition.{Condition}
+use Rattle.jg_breaches.specs.declared.condition.Condition.{Condition}
 use Rattle.jg_explain.specs.declared.denials.Denial.{Denial}
 use Rattle.jg_explain.specs.declared.watching.Watch.{Watch}
 use Rattle.jg_guard.specs.Guard.{State}

@@ -6,15 +6,15 @@ use Rattle.jg_words.specs.declared.thread.Tid.{Tid}
 use Rattle.jg_words.specs.declared.object.ObjId.{ObjId}
 use Rattle.jg_words.specs.declared.reference.Ref.TheVariants.{Null, To}
 use Rattle.jg_words.specs.declared.reference.Kind.TheVariants.{Local, Global, Weak}
-use Rattle.jg_globals.specs.History as globals
-use Rattle.jg_globals.specs.declared.target.Target.TheVariants.{Object, Cleared}
+use Rattle.jg_table_globals.specs.History as globals
+use Rattle.jg_table_globals.specs.declared.target.Target.TheVariants.{Object, Cleared}
 use Rattle.jg_rules.specs.Names.{named_by_target, object_in}
 use Rattle.jg_words.specs.declared.value.Value.{Value}
 use Rattle.jg_words.specs.declared.value.Value.TheVariants.{Ok as Done, Number, Truth, Null as NullAnswer, Reference, Buffer, Field, Environment, List as Listed, Busy, Detached, Throw}
 use Rattle.jg_rules.specs.Effects.{value_globals}
 use Rattle.std.proofs.lemmas.Bool.Decides.{nat_tests}
 use Rattle.std.proofs.Math.Bool.{or-true}
-use Rattle.jg_causes.proofs.Making.{no_some}
+use Rattle.jg_breaches.proofs.Making.{no_some}
 use Rattle.jg_laws.proofs.Steps.{make_no_global}
 
 -- the weak reference is not in being, or it is cleared

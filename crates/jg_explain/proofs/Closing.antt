@@ -4,11 +4,11 @@ use Rattle.std.specs.Prelude.{◌==◌, if◌then◌else◌}
 use Rattle.std.proofs.lemmas.Bool.Decides.{nat_tests}
 use Rattle.jg_words.specs.Entry.{Entry}
 use Rattle.jg_policy.specs.Stated.{StatedSetup}
-use Rattle.jg_threads.specs.History as threads
-use Rattle.jg_locals.proofs.Callers.{each_thread}
-use Rattle.jg_buffers.specs.History.{Buffer, Event, Opened, Wrote, Closed, ReleaseAll, copied_only, opened, is_same}
-use Rattle.jg_buffers.specs.Laws.{IsOpenedBelow}
-use Rattle.jg_buffers.proofs.Callers.{still_lent}
+use Rattle.jg_table_threads.specs.History as threads
+use Rattle.jg_table_locals.proofs.Callers.{each_thread}
+use Rattle.jg_table_buffers.specs.History.{Buffer, Event, Opened, Wrote, Closed, ReleaseAll, copied_only, opened, is_same}
+use Rattle.jg_table_buffers.specs.Laws.{IsOpenedBelow}
+use Rattle.jg_table_buffers.proofs.Callers.{still_lent}
 use Rattle.jg_rules.specs.Parts.{Parts}
 use Rattle.jg_rules.specs.Names.{next_buffer}
 use Rattle.jg_rules.specs.Effects.{parts}

@@ -8,14 +8,14 @@ use Rattle.jg_words.specs.Entry.{Entry}
 use Rattle.jg_words.specs.declared.reference.Ref.TheVariants.{Null, To}
 use Rattle.jg_words.proofs.Common.{clash}
 use Rattle.jg_policy.specs.Stated.{StatedSetup}
-use Rattle.jg_buffers.specs.History.{opened}
+use Rattle.jg_table_buffers.specs.History.{opened}
 use Rattle.jg_lists.proofs.Oldest.{oldest, oldest_more}
 use Rattle.jg_rules.specs.Effects.{parts}
 use Rattle.jg_rules.specs.Legal.{Legal}
-use Rattle.jg_causes.specs.declared.condition.Condition.{Condition}
-use Rattle.jg_causes.specs.declared.condition.Condition.TheVariants.{IsAttached, IsPresent, HasPending, Names, NamesObject, IsOpen, Owns, IsOwned, HasFrame, InNative, IsLinked}
-use Rattle.jg_causes.specs.Turns.{still}
-use Rattle.jg_causes.proofs.Making.{made_by_its_answer}
+use Rattle.jg_breaches.specs.declared.condition.Condition.{Condition}
+use Rattle.jg_breaches.specs.declared.condition.Condition.TheVariants.{IsAttached, IsPresent, HasPending, Names, NamesObject, IsOpen, Owns, IsOwned, HasFrame, InNative, IsLinked}
+use Rattle.jg_breaches.specs.Turns.{still}
+use Rattle.jg_breaches.proofs.Making.{made_by_its_answer}
 use Rattle.jg_explain.specs.Explained.{after, turns_before, was}
 use Rattle.jg_explain.specs.Followed.{GaveOther, Was, comes_once, given_in, was_given}
 use Rattle.jg_explain.proofs.Giving.{buffer_numbered, buffer_still_given, ref_numbered, ref_still_given}

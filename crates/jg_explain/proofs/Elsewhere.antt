@@ -11,14 +11,14 @@ use Rattle.jg_words.specs.declared.object.ObjId.{ObjId}
 use Rattle.jg_words.specs.Entry.{Entry}
 use Rattle.jg_policy.specs.Stated.{StatedSetup}
 use Rattle.jg_policy.specs.Links as links
-use Rattle.jg_monitors.specs.History as monitors
+use Rattle.jg_table_monitors.specs.History as monitors
 use Rattle.jg_rules.specs.Parts.{Parts}
 use Rattle.jg_rules.specs.Access.{native_class, home_of}
 use Rattle.jg_rules.specs.Rules.{is_by}
 use Rattle.jg_rules.specs.Effects.{after, parts, call_links, call_monitors, if_effective, is_effective, warning}
-use Rattle.jg_causes.specs.declared.condition.Condition.{Condition}
-use Rattle.jg_causes.specs.declared.condition.Condition.TheVariants.{IsAttached, IsPresent, HasPending, Names, NamesObject, IsOpen, Owns, IsOwned, HasFrame, InNative, IsLinked}
-use Rattle.jg_causes.specs.Conditions.{holds}
+use Rattle.jg_breaches.specs.declared.condition.Condition.{Condition}
+use Rattle.jg_breaches.specs.declared.condition.Condition.TheVariants.{IsAttached, IsPresent, HasPending, Names, NamesObject, IsOpen, Owns, IsOwned, HasFrame, InNative, IsLinked}
+use Rattle.jg_breaches.specs.Conditions.{holds}
 use Rattle.jg_explain.specs.Followed.{can_turn, may_turn, moves_links, moves_monitors, turns_by}
 use Rattle.jg_explain.proofs.Others.{others_keep}
 

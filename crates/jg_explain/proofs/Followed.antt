@@ -3,7 +3,7 @@ use Rattle.std.proofs.Common.{◌≡◌, ℕ, List, [], ◌∷◌, ◌++◌, len
 use Rattle.std.proofs.lemmas.List.Elements.{All-append, All-cons, All-nil}
 use Rattle.std.proofs.Math.Seq.{take-append_seam}
 use Rattle.jg_guard.specs.Guard.{State}
-use Rattle.jg_causes.specs.declared.condition.Condition.{Condition}
+use Rattle.jg_breaches.specs.declared.condition.Condition.{Condition}
 use Rattle.jg_explain.specs.Explained.{IsFront}
 use Rattle.jg_explain.specs.Followed.{IsSteady, begun_steady}
 use Rattle.jg_explain.proofs.Fronts.{after_front}

@@ -12,7 +12,7 @@ use Rattle.jg_rules.specs.Legal.{Legal, entry_at}
 use Rattle.jg_guard.specs.Guard.{State, Takes}
 use Rattle.jg_laws.proofs.Fresh.{Legal-before}
 use Rattle.jg_lists.proofs.Oldest.{oldest, oldest_more, oldest_before}
-use Rattle.jg_causes.specs.declared.condition.Condition.{Condition}
+use Rattle.jg_breaches.specs.declared.condition.Condition.{Condition}
 use Rattle.jg_explain.specs.Explained.{IsFront, after, was}
 
 -- the entry's call, made again after the entries before it, makes the entry again

@@ -15,7 +15,7 @@ use Rattle.jg_words.specs.declared.value.Value.TheVariants.{Reference, Buffer as
 use Rattle.jg_words.specs.declared.rule.Rule.{Rule}
 use Rattle.jg_words.specs.declared.call.Call.{Call}
 use Rattle.jg_policy.specs.Stated.{StatedSetup}
-use Rattle.jg_buffers.specs.History.{Buffer, opened}
+use Rattle.jg_table_buffers.specs.History.{Buffer, opened}
 use Rattle.jg_rules.specs.Parts.{Parts}
 use Rattle.jg_rules.specs.Names.{next_ref, next_buffer}
 use Rattle.jg_rules.specs.Effects.{parts}

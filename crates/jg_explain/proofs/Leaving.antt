@@ -5,7 +5,7 @@ use Rattle.std.proofs.lemmas.List.{length-map}
 use Rattle.std.proofs.Math.Seq.{take-append_seam}
 use Rattle.jg_words.specs.Entry.{Entry}
 use Rattle.jg_policy.specs.Stated.{StatedSetup}
-use Rattle.jg_causes.specs.declared.condition.Condition.{Condition}
+use Rattle.jg_breaches.specs.declared.condition.Condition.{Condition}
 use Rattle.jg_explain.specs.declared.left.Left.{Left}
 use Rattle.jg_explain.specs.declared.watching.Watch.{Watch}
 use Rattle.jg_explain.specs.Explained.{known, turns_before, was}

@@ -8,7 +8,7 @@ use Rattle.jg_words.specs.declared.rule.Rule.{Rule}
 use Rattle.jg_lists.proofs.Oldest.{oldest}
 use Rattle.jg_policy.specs.Stated.{StatedSetup}
 use Rattle.jg_rules.specs.Effects.{parts}
-use Rattle.jg_causes.specs.Breaches.{breach_of}
+use Rattle.jg_breaches.specs.Breaches.{breach_of}
 use Rattle.jg_explain.specs.Explained.{Cause, IsNewestAt, cause_at, cause_by, causes, causes_at, causes_of}
 use Rattle.jg_explain.specs.Texts.{cause_text}
 use Rattle.jg_explain.proofs.Causing.{causes_next}

@@ -15,8 +15,8 @@ use Rattle.jg_words.specs.declared.call.Call.{Call}
 use Rattle.jg_words.specs.declared.entry.Outcome.TheVariants.{Passed}
 use Rattle.jg_words.specs.declared.entry.Reply.{Reply}
 use Rattle.jg_policy.specs.Stated.{StatedSetup}
-use Rattle.jg_locals.specs.History.{acts_of, live}
-use Rattle.jg_globals.specs.History as globals
+use Rattle.jg_table_locals.specs.History.{acts_of, live}
+use Rattle.jg_table_globals.specs.History as globals
 use Rattle.jg_rules.specs.declared.named.Named.TheVariants.{Nothing}
 use Rattle.jg_rules.specs.Parts.{Parts}
 use Rattle.jg_rules.specs.Names.{named_by, named_by_target, object_in, object_named}
@@ -26,9 +26,9 @@ use Rattle.jg_rules.specs.Answers.{answer}
 use Rattle.jg_rules.specs.Legal.{Legal, entry_by}
 use Rattle.jg_laws.specs.Histories.{reference_in, reference_of}
 use Rattle.jg_laws.proofs.Steps.{makes_none}
-use Rattle.jg_causes.specs.declared.condition.Condition.TheVariants.{Names, NamesObject}
-use Rattle.jg_causes.specs.Conditions.{holds}
-use Rattle.jg_causes.proofs.Making.{made_by_its_answer, no_some, no_global_if}
+use Rattle.jg_breaches.specs.declared.condition.Condition.TheVariants.{Names, NamesObject}
+use Rattle.jg_breaches.specs.Conditions.{holds}
+use Rattle.jg_breaches.proofs.Making.{made_by_its_answer, no_some, no_global_if}
 use Rattle.jg_explain.proofs.Onces.{is_there}
 use Rattle.jg_explain.proofs.Clearing.{by_value, none_kept, none_names}
 

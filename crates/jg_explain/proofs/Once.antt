@@ -3,8 +3,8 @@ use Rattle.std.proofs.Common.{◌≡◌, ◌+◌, ◌-◌, ◌<◌, ◌≤◌, �
 use Rattle.jg_words.specs.Entry.{Entry}
 use Rattle.jg_words.proofs.Common.{clash}
 use Rattle.jg_lists.proofs.Oldest.{oldest}
-use Rattle.jg_causes.specs.declared.turns.Turns.{Turns}
-use Rattle.jg_causes.specs.Turns.{turns, turned, same, still}
+use Rattle.jg_breaches.specs.declared.turns.Turns.{Turns}
+use Rattle.jg_breaches.specs.Turns.{turns, turned, same, still}
 use Rattle.jg_explain.proofs.Turning.{turns_more}
 
 -- it doesn't hold at first, and where it held and doesn't any more, it never does again

@@ -10,7 +10,7 @@ use Rattle.jg_words.specs.declared.reference.Kind.TheVariants.{Local, Global, We
 use Rattle.jg_words.specs.declared.reference.Ref.TheVariants.{To}
 use Rattle.jg_words.specs.declared.thread.Tid.{Tid}
 use Rattle.jg_policy.specs.Stated.{StatedSetup}
-use Rattle.jg_buffers.specs.History.{Buffer, opened, info_of}
+use Rattle.jg_table_buffers.specs.History.{Buffer, opened, info_of}
 use Rattle.jg_rules.specs.Parts.{nothing_yet}
 use Rattle.jg_rules.specs.declared.named.Named.TheVariants.{Nothing}
 use Rattle.jg_rules.specs.Names.{object_in, object_named}
@@ -18,10 +18,10 @@ use Rattle.jg_rules.specs.Rules.{is_nothing}
 use Rattle.jg_rules.specs.Effects.{parts}
 use Rattle.jg_rules.specs.Legal.{Legal}
 use Rattle.jg_laws.proofs.Fresh.{no_reference_revived}
-use Rattle.jg_causes.specs.declared.condition.Condition.{Condition}
-use Rattle.jg_causes.specs.declared.condition.Condition.TheVariants.{IsOpen, Names, NamesObject}
-use Rattle.jg_causes.specs.Conditions.{holds}
-use Rattle.jg_causes.proofs.Making.{ends_once}
+use Rattle.jg_breaches.specs.declared.condition.Condition.{Condition}
+use Rattle.jg_breaches.specs.declared.condition.Condition.TheVariants.{IsOpen, Names, NamesObject}
+use Rattle.jg_breaches.specs.Conditions.{holds}
+use Rattle.jg_breaches.proofs.Making.{ends_once}
 use Rattle.jg_lists.proofs.Oldest.{oldest}
 use Rattle.jg_explain.specs.Explained.{after}
 use Rattle.jg_explain.proofs.Closing.{closes_once}

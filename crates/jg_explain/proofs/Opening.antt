@@ -16,8 +16,8 @@ use Rattle.jg_words.specs.declared.entry.Outcome.TheVariants.{Passed, Denied}
 use Rattle.jg_words.specs.declared.value.Value.{Value}
 use Rattle.jg_words.specs.declared.value.Value.TheVariants.{Buffer as Lent}
 use Rattle.jg_policy.specs.Stated.{StatedSetup}
-use Rattle.jg_heap.specs.Reading.{natural}
-use Rattle.jg_buffers.specs.History.{Buffer, Event, opened, is_same}
+use Rattle.jg_table_heap.specs.Reading.{natural}
+use Rattle.jg_table_buffers.specs.History.{Buffer, Event, opened, is_same}
 use Rattle.jg_rules.specs.Parts.{Parts}
 use Rattle.jg_rules.specs.Names.{next_buffer}
 use Rattle.jg_rules.specs.Buffers.{buffer_named, is_commit}

@@ -7,15 +7,15 @@ use Rattle.jg_words.specs.declared.entry.Outcome.TheVariants.{Passed, Denied}
 use Rattle.jg_words.specs.declared.object.ObjId.{ObjId}
 use Rattle.jg_words.specs.declared.thread.Tid.{Tid}
 use Rattle.jg_policy.specs.Stated.{StatedSetup}
-use Rattle.jg_threads.specs.History as threads
-use Rattle.jg_locals.specs.History as locals
+use Rattle.jg_table_threads.specs.History as threads
+use Rattle.jg_table_locals.specs.History as locals
 use Rattle.jg_lists.specs.Acts.{acts_of, by}
 use Rattle.jg_lists.proofs.Acts.{acts_others}
 use Rattle.jg_rules.specs.Parts.{Parts}
 use Rattle.jg_rules.specs.Effects.{after, call_locals, call_threads, if_effective, is_effective, value_locals, value_threads}
-use Rattle.jg_causes.specs.declared.condition.Condition.{Condition}
-use Rattle.jg_causes.specs.declared.condition.Condition.TheVariants.{IsAttached, IsPresent, HasPending, Names, NamesObject, IsOpen, Owns, IsOwned, HasFrame, InNative, IsLinked}
-use Rattle.jg_causes.specs.Conditions.{holds}
+use Rattle.jg_breaches.specs.declared.condition.Condition.{Condition}
+use Rattle.jg_breaches.specs.declared.condition.Condition.TheVariants.{IsAttached, IsPresent, HasPending, Names, NamesObject, IsOpen, Owns, IsOwned, HasFrame, InNative, IsLinked}
+use Rattle.jg_breaches.specs.Conditions.{holds}
 
 -- what another thread's call does, in the acts of t
 threads_kept : (s : StatedSetup) (p : Parts) (t u : ℕ) (call : Call) (o : Outcome) (object : Option ObjId) → t ≢ u → threads.acts_of t (after s u call o object p).threads ≡ threads.acts_of t p.threads

@@ -5,8 +5,8 @@ use Rattle.std.proofs.lemmas.List.Elements.{All-map, All-weaker}
 use Rattle.jg_words.specs.Entry.{Entry}
 use Rattle.jg_lists.proofs.Oldest.{oldest, oldest_more}
 use Rattle.jg_policy.specs.Stated.{StatedSetup}
-use Rattle.jg_causes.specs.declared.turns.Turns.{Turns}
-use Rattle.jg_causes.specs.Turns.{turned, same}
+use Rattle.jg_breaches.specs.declared.turns.Turns.{Turns}
+use Rattle.jg_breaches.specs.Turns.{turned, same}
 use Rattle.jg_explain.specs.declared.steady.Steady.{Steady}
 use Rattle.jg_explain.specs.Explained.{after, as_it_was, turns_before, was}
 use Rattle.jg_explain.specs.Followed.{IsSteady, asked_steady, asked_when, can_turn}

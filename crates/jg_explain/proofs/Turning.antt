@@ -6,9 +6,9 @@ use Rattle.std.proofs.lemmas.Option.{slice_get_cases}
 use Rattle.jg_words.specs.Entry.{Entry}
 use Rattle.jg_lists.proofs.Oldest.{oldest, oldest_more, length-oldest}
 use Rattle.jg_policy.specs.Stated.{StatedSetup}
-use Rattle.jg_causes.specs.declared.condition.Condition.{Condition}
-use Rattle.jg_causes.specs.declared.turns.Turns.{Turns}
-use Rattle.jg_causes.specs.Turns.{turns, turned, same}
+use Rattle.jg_breaches.specs.declared.condition.Condition.{Condition}
+use Rattle.jg_breaches.specs.declared.turns.Turns.{Turns}
+use Rattle.jg_breaches.specs.Turns.{turns, turned, same}
 use Rattle.jg_explain.specs.Explained.{after, was, turns_before}
 
 more_at : (test : List Entry → Bool) (h : List Entry) (n : ℕ) (x : Entry) → n < length h → slice_get (reverse h) n ≡ Some x

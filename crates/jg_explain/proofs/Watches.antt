@@ -7,8 +7,8 @@ use Rattle.std.proofs.lemmas.Bool.{ltb-true, ltb-false}
 use Rattle.jg_words.specs.Entry.{Entry}
 use Rattle.jg_policy.specs.Stated.{StatedSetup}
 use Rattle.jg_guard.specs.Guard.{State}
-use Rattle.jg_causes.specs.declared.turns.Turns.{Turns}
-use Rattle.jg_causes.specs.Turns.{turned, same}
+use Rattle.jg_breaches.specs.declared.turns.Turns.{Turns}
+use Rattle.jg_breaches.specs.Turns.{turned, same}
 use Rattle.jg_explain.specs.declared.watching.Watch.{Watch}
 use Rattle.jg_explain.specs.Explained.{as_it_was, after, was, turns_before, IsFront}
 use Rattle.jg_explain.specs.Watched.{watched, asked_if, asked_at}

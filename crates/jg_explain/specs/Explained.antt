@@ -6,13 +6,13 @@ use Rattle.jg_words.specs.Entry.{Entry, rule_in}
 use Rattle.jg_policy.specs.Stated.{StatedSetup}
 use Rattle.jg_rules.specs.Effects.{parts}
 use Rattle.jg_guard.specs.Guard.{State}
-use Rattle.jg_causes.specs.declared.breach.Breach.{Breach}
-use Rattle.jg_causes.specs.declared.condition.Condition.{Condition}
-use Rattle.jg_causes.specs.declared.turns.Turns.{Turns}
-use Rattle.jg_causes.specs.Breaches.{breach_of}
-use Rattle.jg_causes.specs.Causes.{conditions}
-use Rattle.jg_causes.specs.Conditions.{holds}
-use Rattle.jg_causes.specs.Turns.{still, turns}
+use Rattle.jg_breaches.specs.declared.breach.Breach.{Breach}
+use Rattle.jg_breaches.specs.declared.condition.Condition.{Condition}
+use Rattle.jg_breaches.specs.declared.turns.Turns.{Turns}
+use Rattle.jg_breaches.specs.Breaches.{breach_of}
+use Rattle.jg_breaches.specs.Causes.{conditions}
+use Rattle.jg_breaches.specs.Conditions.{holds}
+use Rattle.jg_breaches.specs.Turns.{still, turns}
 use Rattle.jg_explain.specs.declared.denials.Denial.{Denial}
 use Rattle.jg_explain.specs.declared.explaining.Explanation.{Explanation}
 use Rattle.jg_explain.specs.declared.watching.Watch.{Watch}

@@ -14,12 +14,12 @@ use Rattle.jg_rules.specs.Parts.{Parts}
 use Rattle.jg_rules.specs.Names.{next_ref, next_buffer}
 use Rattle.jg_rules.specs.Effects.{parts}
 use Rattle.jg_guard.specs.Guard.{State}
-use Rattle.jg_causes.specs.declared.condition.Condition.{Condition}
-use Rattle.jg_causes.specs.declared.condition.Condition.TheVariants.{IsAttached, IsPresent, HasPending, Names, NamesObject, IsOpen, Owns, IsOwned, HasFrame, InNative, IsLinked}
+use Rattle.jg_breaches.specs.declared.condition.Condition.{Condition}
+use Rattle.jg_breaches.specs.declared.condition.Condition.TheVariants.{IsAttached, IsPresent, HasPending, Names, NamesObject, IsOpen, Owns, IsOwned, HasFrame, InNative, IsLinked}
 use Rattle.jg_explain.specs.declared.steady.Steady.{Steady}
 use Rattle.jg_explain.specs.declared.traces.Seen.{Seen}
 use Rattle.jg_explain.specs.declared.traces.Trace.{Trace}
-use Rattle.jg_causes.specs.Turns.{turned, same, still}
+use Rattle.jg_breaches.specs.Turns.{turned, same, still}
 use Rattle.jg_explain.specs.Explained.{after, as_it_was, turns_before, was}
 
 -- ---- conditions that come to hold once, and cease once

@@ -7,10 +7,10 @@ use Rattle.jg_words.specs.declared.reference.Ref.TheVariants.{Null, To}
 use Rattle.jg_words.specs.declared.thread.Tid.{Tid}
 use Rattle.jg_words.specs.Entry.{Entry}
 use Rattle.jg_policy.specs.Stated.{StatedSetup}
-use Rattle.jg_monitors.specs.declared.owned_monitor.OwnedMonitor.{OwnedMonitor}
+use Rattle.jg_table_monitors.specs.declared.owned_monitor.OwnedMonitor.{OwnedMonitor}
 use Rattle.jg_text.specs.Words.{buf_text, ref_text, tid_text}
-use Rattle.jg_causes.specs.declared.condition.Condition.{Condition}
-use Rattle.jg_causes.specs.declared.condition.Condition.TheVariants.{IsOpen, Names, Owns}
+use Rattle.jg_breaches.specs.declared.condition.Condition.{Condition}
+use Rattle.jg_breaches.specs.declared.condition.Condition.TheVariants.{IsOpen, Names, Owns}
 use Rattle.jg_explain.specs.declared.left.Left.{Left}
 use Rattle.jg_explain.specs.declared.left.Left.TheVariants.{Reference, Buffer, Monitor}
 use Rattle.jg_explain.specs.declared.watching.Watch.{Watch}

@@ -6,13 +6,13 @@ use Rattle.jg_words.specs.declared.rule.Rule.{Rule}
 use Rattle.jg_words.specs.Entry.{Entry}
 use Rattle.jg_policy.specs.Stated.{StatedSetup}
 use Rattle.jg_text.specs.Words.{buf_text}
-use Rattle.jg_causes.specs.declared.breach.Breach.{Breach}
-use Rattle.jg_causes.specs.declared.breach.Breach.TheVariants.{InRegion, PinnedReference}
-use Rattle.jg_causes.specs.declared.condition.Condition.{Condition}
-use Rattle.jg_causes.specs.declared.condition.Condition.TheVariants.{IsOpen}
-use Rattle.jg_telling.specs.Breaches.{breach_text, subject_text}
-use Rattle.jg_telling.specs.Moments.{begun_text, ended_text, moment_text}
-use Rattle.jg_telling.specs.Sentences.{denial_text, rule_text}
+use Rattle.jg_breaches.specs.declared.breach.Breach.{Breach}
+use Rattle.jg_breaches.specs.declared.breach.Breach.TheVariants.{InRegion, PinnedReference}
+use Rattle.jg_breaches.specs.declared.condition.Condition.{Condition}
+use Rattle.jg_breaches.specs.declared.condition.Condition.TheVariants.{IsOpen}
+use Rattle.jg_denial_text.specs.Breaches.{breach_text, subject_text}
+use Rattle.jg_denial_text.specs.Moments.{begun_text, ended_text, moment_text}
+use Rattle.jg_denial_text.specs.Sentences.{denial_text, rule_text}
 use Rattle.jg_explain.specs.declared.watching.Watch.{Watch}
 use Rattle.jg_explain.specs.Explained.{Cause, causes, all_known}
 

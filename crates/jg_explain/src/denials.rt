@@ -5,7 +5,7 @@ ghost use Rattle.jg_explain.specs.Explained.{AreWithin, IsFront, causes, causes_
 
 use crate::replaying::replay_entry;
 use crate::watching::Watch;
-use jg_causes::{Breach, Condition, Turns, breach_of, conditions_of};
+use jg_breaches::{Breach, Condition, Turns, breach_of, conditions_of};
 use jg_guard::{Guard, NoMemory};
 use jg_words::{Entry, Rule};
 use std::alloc::{AllocError, Allocator, Global};

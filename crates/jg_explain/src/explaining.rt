@@ -9,7 +9,7 @@ use crate::following::watch_each;
 use crate::replaying::{replay_entry, replaying_guard};
 use crate::texts::push_explanations;
 use crate::watching::{Watch, watch_until};
-use jg_causes::Breach;
+use jg_breaches::Breach;
 use jg_guard::{Guard, NoMemory};
 use jg_words::Rule;
 use std::alloc::{Allocator, Global};

@@ -19,7 +19,7 @@ use crate::steady::{Steady, ask_steady, begin_steady, find_steady};
 use crate::suspects::Suspects;
 use crate::traces::{Seen, Trace, conclude, see_each, trace_each, untraced};
 use crate::watching::{Watch, watch_until};
-use jg_causes::Condition;
+use jg_breaches::Condition;
 use jg_guard::{Guard, NoMemory};
 use jg_words::Ref;
 use std::alloc::{AllocError, Allocator, Global};

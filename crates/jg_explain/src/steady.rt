@@ -6,7 +6,7 @@ ghost use Rattle.jg_words.specs.Entry.{Entry as Entries};
 ghost use Rattle.jg_explain.specs.Followed.{IsSteady, asked_steady, begun_steady, can_turn as can_turn_at, may_turn as may_turn_by, moves_links as may_link, moves_monitors as may_move};
 
 use crate::watching::holds_now;
-use jg_causes::{Condition, Turns, turn};
+use jg_breaches::{Condition, Turns, turn};
 use jg_guard::Guard;
 use jg_words::{Call, Entry, Tid, VmCall};
 use std::alloc::Allocator;

@@ -2,7 +2,7 @@
 //! asked for, and where too little is suspected the answer isn't told by what was seen.
 
 use crate::traces::Trace;
-use jg_causes::Condition;
+use jg_breaches::Condition;
 use jg_lists::by_maker::{ByMaker, add, find};
 use jg_words::{
     BufId, BuffersCall, Call, Entry, FramesCall, Kind, Ref, RefsCall, Tid, Value, VmCall,

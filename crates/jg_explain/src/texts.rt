@@ -6,10 +6,12 @@ ghost use Rattle.jg_explain.specs.Texts as texts;
 
 use crate::denials::Denial;
 use crate::watching::Watch;
-use jg_causes::{Breach, Condition, Turns};
+use jg_breaches::{Breach, Condition, Turns};
+use jg_denial_text::{
+    begun, ended, push_breach, push_denial, push_moment, push_rule, push_subject,
+};
 use jg_guard::Guard;
 use jg_policy::Setup;
-use jg_telling::{begun, ended, push_breach, push_denial, push_moment, push_rule, push_subject};
 use jg_text::push_buf;
 use jg_words::Entry;
 use std::alloc::{AllocError, Allocator};

@@ -8,12 +8,12 @@ ghost use Rattle.jg_rules.specs.Effects.{parts};
 ghost use Rattle.jg_rules.specs.Legal.{Legal};
 ghost use Rattle.jg_rules.specs.Parts.{Parts};
 ghost use Rattle.jg_rules.specs.View.{ViewStands};
-ghost use Rattle.jg_causes.specs.Turns.{still};
+ghost use Rattle.jg_breaches.specs.Turns.{still};
 ghost use Rattle.jg_explain.specs.Explained.{IsFront, known, turns_before, was};
 ghost use Rattle.jg_explain.specs.Followed.{IsSeen, IsTraced, comes_once, given_in, given_ref, was_given};
 
 use crate::watching::{Watch, holds_now};
-use jg_causes::{Condition, Turns};
+use jg_breaches::{Condition, Turns};
 use jg_guard::Guard;
 use jg_rules::View;
 use jg_words::{BufId, Ref};

@@ -5,7 +5,7 @@ ghost use Rattle.jg_explain.specs.Explained.{IsFront, after};
 ghost use Rattle.jg_explain.specs.Watched.{watched, begun_with, asked_at};
 
 use crate::replaying::replay_entry;
-use jg_causes::{Condition, Turns, holds, turn};
+use jg_breaches::{Condition, Turns, holds, turn};
 use jg_guard::{Guard, NoMemory};
 use std::alloc::Allocator;
 

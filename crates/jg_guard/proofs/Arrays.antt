@@ -12,14 +12,14 @@ use Rattle.jg_words.specs.declared.value.Thrown.{Thrown}
 use Rattle.jg_words.specs.declared.call.Call.TheVariants.{Arrays}
 use Rattle.jg_words.specs.declared.call.arrays.ArraysCall.TheVariants.{GetArrayRegion, SetArrayRegion, GetObjectArrayElement, SetObjectArrayElement}
 use Rattle.jg_policy.specs.Stated.{StatedSetup}
-use Rattle.jg_heap.specs.declared.object.Slot.{Slot}
-use Rattle.jg_heap.specs.declared.object.Slot.TheVariants.{Object as ToObject}
-use Rattle.jg_heap.specs.Making.{Filled, IsPrimitiveArray}
+use Rattle.jg_table_heap.specs.declared.object.Slot.{Slot}
+use Rattle.jg_table_heap.specs.declared.object.Slot.TheVariants.{Object as ToObject}
+use Rattle.jg_table_heap.specs.Making.{Filled, IsPrimitiveArray}
 use Rattle.jg_words.specs.Classes.{array_class}
-use Rattle.jg_heap.specs.Rows.{Rows}
-use Rattle.jg_heap.specs.History.{Event, Made, Wrote}
-use Rattle.jg_heap.specs.Standing.{Stands}
-use Rattle.jg_heap.specs.Reading.{natural}
+use Rattle.jg_table_heap.specs.Rows.{Rows}
+use Rattle.jg_table_heap.specs.History.{Event, Made, Wrote}
+use Rattle.jg_table_heap.specs.Standing.{Stands}
+use Rattle.jg_table_heap.specs.Reading.{natural}
 use Rattle.jg_rules.specs.declared.answer.Answer.{Answer}
 use Rattle.jg_rules.specs.declared.named.Named.{Named}
 use Rattle.jg_rules.specs.declared.operand.ObjectType.TheVariants.{ArrayOf, ObjectArray}

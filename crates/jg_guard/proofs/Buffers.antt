@@ -13,19 +13,19 @@ use Rattle.jg_words.specs.declared.reference.Ref.TheVariants.{Null, To}
 use Rattle.jg_words.specs.declared.call.Call.TheVariants.{Buffers}
 use Rattle.jg_words.specs.declared.call.buffers.BuffersCall.TheVariants.{GetArrayElements, ReleaseArrayElements, BufferRead, BufferWrite}
 use Rattle.jg_policy.specs.Stated.{StatedSetup, class_count}
-use Rattle.jg_heap.specs.Making.{Making, class_in, IsPrimitiveArray}
+use Rattle.jg_table_heap.specs.Making.{Making, class_in, IsPrimitiveArray}
 use Rattle.jg_words.specs.Classes.{array_class}
 use Rattle.jg_words.proofs.Common.{and_first}
 use Rattle.jg_words.specs.declared.object.ItemType.TheVariants.{Of, Float, Double}
-use Rattle.jg_heap.specs.Rows.{count_in, class_at, length_at}
-use Rattle.jg_heap.specs.Reading.{natural}
-use Rattle.jg_heap.specs.History.{making_at}
-use Rattle.jg_buffers.specs.History.{Buffer, Event, Opened, copy_with, opened, content, contents, info_of, is_critical, is_null}
-use Rattle.jg_buffers.specs.Rows.{Rows, copy_length}
-use Rattle.jg_buffers.specs.Standing.{Stands}
-use Rattle.jg_buffers.specs.declared.family.Family.{Family}
-use Rattle.jg_buffers.specs.declared.family.Family.TheVariants.{Elements, Chars, UtfChars, ArrayCritical, StringCritical}
-use Rattle.jg_buffers.specs.declared.info.Info.{Info}
+use Rattle.jg_table_heap.specs.Rows.{count_in, class_at, length_at}
+use Rattle.jg_table_heap.specs.Reading.{natural}
+use Rattle.jg_table_heap.specs.History.{making_at}
+use Rattle.jg_table_buffers.specs.History.{Buffer, Event, Opened, copy_with, opened, content, contents, info_of, is_critical, is_null}
+use Rattle.jg_table_buffers.specs.Rows.{Rows, copy_length}
+use Rattle.jg_table_buffers.specs.Standing.{Stands}
+use Rattle.jg_table_buffers.specs.declared.family.Family.{Family}
+use Rattle.jg_table_buffers.specs.declared.family.Family.TheVariants.{Elements, Chars, UtfChars, ArrayCritical, StringCritical}
+use Rattle.jg_table_buffers.specs.declared.info.Info.{Info}
 use Rattle.jg_rules.specs.declared.named.Named.{Named}
 use Rattle.jg_rules.specs.declared.operand.ObjectType.TheVariants.{StringObject, PrimitiveArray}
 use Rattle.jg_rules.specs.Parts.{Parts, TableRows, TablesStand}

@@ -7,16 +7,16 @@ use Rattle.std.proofs.lemmas.Bool.Decides.{nat_tests}
 use Rattle.std.proofs.lemmas.Option.{get_or_from_slice_get}
 use Rattle.jg_lists.specs.Marks.{Marks}
 use Rattle.jg_policy.specs.Stated.{StatedSetup, class_count}
-use Rattle.jg_globals.specs.History as globals
-use Rattle.jg_globals.specs.Rows as global_rows
-use Rattle.jg_globals.specs.Standing as global_standing
-use Rattle.jg_heap.specs.Rows as heap_rows
-use Rattle.jg_heap.specs.Standing as heap_standing
+use Rattle.jg_table_globals.specs.History as globals
+use Rattle.jg_table_globals.specs.Rows as global_rows
+use Rattle.jg_table_globals.specs.Standing as global_standing
+use Rattle.jg_table_heap.specs.Rows as heap_rows
+use Rattle.jg_table_heap.specs.Standing as heap_standing
 use Rattle.jg_guard.specs.Settled.{collected_on}
-use Rattle.jg_heap.specs.History.{Event, Collected, count_of, gone_at, held_at, going as going_at}
-use Rattle.jg_heap.specs.Standing.{MarksRoots, MarksHeld}
-use Rattle.jg_heap.proofs.Callers.{roots_law, rows_law}
-use Rattle.jg_heap.specs.Rows.{count_in}
+use Rattle.jg_table_heap.specs.History.{Event, Collected, count_of, gone_at, held_at, going as going_at}
+use Rattle.jg_table_heap.specs.Standing.{MarksRoots, MarksHeld}
+use Rattle.jg_table_heap.proofs.Callers.{roots_law, rows_law}
+use Rattle.jg_table_heap.specs.Rows.{count_in}
 use Rattle.jg_rules.specs.Parts.{Parts, TableRows, TablesStand}
 use Rattle.jg_rules.specs.Holding.{is_root, roots, going}
 

@@ -15,22 +15,22 @@ use Rattle.jg_words.specs.declared.value.Value.TheVariants.{Ok as Done, Referenc
 use Rattle.jg_words.specs.declared.call.Call.{Call}
 use Rattle.jg_words.specs.declared.call.Call.TheVariants.{Vm, Refs, Frames, Exceptions, Objects, Strings, Arrays, Monitors, Buffers}
 use Rattle.jg_policy.specs.Stated.{StatedSetup}
-use Rattle.jg_threads.specs.History as threads
-use Rattle.jg_threads.specs.declared.row.Row.{Row}
-use Rattle.jg_threads.specs.Rows.{row_of, CanCount}
-use Rattle.jg_threads.specs.Standing as thread_standing
-use Rattle.jg_locals.specs.History.{acts_of, has_session, depth, IsMadeBelow}
-use Rattle.jg_locals.specs.Rows.{Rows, HasFrame, pushed, entered, top, spare}
-use Rattle.jg_locals.specs.Standing as local_standing
-use Rattle.jg_locals.proofs.Callers.{has_frame_law, above_law, pushed_law, entered_law, top_is}
-use Rattle.jg_globals.proofs.Callers.{above_law as global_above_law}
-use Rattle.jg_buffers.specs.Rows as buffer_rows
-use Rattle.jg_buffers.specs.Standing as buffer_standing
-use Rattle.jg_buffers.proofs.Callers.{above_law as buffer_above_law}
-use Rattle.jg_monitors.specs.History as monitors
-use Rattle.jg_monitors.specs.Rows as monitor_rows
-use Rattle.jg_monitors.specs.Standing as monitor_standing
-use Rattle.jg_monitors.proofs.Callers.{rows_tell_law, bounded_law}
+use Rattle.jg_table_threads.specs.History as threads
+use Rattle.jg_table_threads.specs.declared.row.Row.{Row}
+use Rattle.jg_table_threads.specs.Rows.{row_of, CanCount}
+use Rattle.jg_table_threads.specs.Standing as thread_standing
+use Rattle.jg_table_locals.specs.History.{acts_of, has_session, depth, IsMadeBelow}
+use Rattle.jg_table_locals.specs.Rows.{Rows, HasFrame, pushed, entered, top, spare}
+use Rattle.jg_table_locals.specs.Standing as local_standing
+use Rattle.jg_table_locals.proofs.Callers.{has_frame_law, above_law, pushed_law, entered_law, top_is}
+use Rattle.jg_table_globals.proofs.Callers.{above_law as global_above_law}
+use Rattle.jg_table_buffers.specs.Rows as buffer_rows
+use Rattle.jg_table_buffers.specs.Standing as buffer_standing
+use Rattle.jg_table_buffers.proofs.Callers.{above_law as buffer_above_law}
+use Rattle.jg_table_monitors.specs.History as monitors
+use Rattle.jg_table_monitors.specs.Rows as monitor_rows
+use Rattle.jg_table_monitors.specs.Standing as monitor_standing
+use Rattle.jg_table_monitors.proofs.Callers.{rows_tell_law, bounded_law}
 use Rattle.jg_rules.specs.Parts.{Parts, TableRows, TablesStand}
 use Rattle.jg_rules.specs.Names.{next_ref, next_buffer, open_frames, object_in, depth as depth_of}
 use Rattle.std.specs.Option.{unwrap_or}

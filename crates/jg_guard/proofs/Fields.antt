@@ -5,7 +5,7 @@ use Rattle.std.specs.Option.{option_map}
 use Rattle.std.proofs.lemmas.Bool.Decides.{nat_tests}
 use Rattle.std.proofs.lemmas.List.{map_more}
 use Rattle.std.proofs.lemmas.Option.{slice_get-get_or}
-use Rattle.jg_heap.specs.declared.object.Slot.{Slot}
+use Rattle.jg_table_heap.specs.declared.object.Slot.{Slot}
 use Rattle.jg_policy.specs.Stated.{StatedMember}
 use Rattle.jg_policy.specs.Classes.{member_type}
 use Rattle.jg_rules.specs.Effects.{first_value}

@@ -12,8 +12,8 @@ use Rattle.jg_words.specs.declared.reference.Kind.{Kind}
 use Rattle.jg_words.specs.declared.reference.Kind.TheVariants.{Local, Global, Weak}
 use Rattle.jg_policy.specs.Stated.{StatedSetup}
 use Rattle.jg_policy.specs.Stated.{class_count}
-use Rattle.jg_buffers.specs.History.{same_ref, is_same}
-use Rattle.jg_heap.specs.History.{gone_at, others_in_being}
+use Rattle.jg_table_buffers.specs.History.{same_ref, is_same}
+use Rattle.jg_table_heap.specs.History.{gone_at, others_in_being}
 use Rattle.jg_leaks.specs.Left.{is_left}
 use Rattle.jg_rules.specs.Parts.{Parts}
 use Rattle.jg_rules.specs.Effects.{parts}
@@ -26,10 +26,10 @@ use Rattle.jg_rules.proofs.Holders.{holders_stand}
 use Rattle.jg_leaks.proofs.Once.{all_listed, buffers_listed, refs_of}
 use Rattle.std.proofs.lemmas.List.{length-append, length-map}
 use Rattle.jg_lists.specs.Acts.{once_if}
-use Rattle.jg_locals.specs.Rows.{local_ref}
-use Rattle.jg_globals.specs.Rows.{strong_ref, weak_ref}
-use Rattle.jg_buffers.specs.Rows.{name_of}
-use Rattle.jg_buffers.proofs.Callers.{same_ref_is, ref_self}
+use Rattle.jg_table_locals.specs.Rows.{local_ref}
+use Rattle.jg_table_globals.specs.Rows.{strong_ref, weak_ref}
+use Rattle.jg_table_buffers.specs.Rows.{name_of}
+use Rattle.jg_table_buffers.proofs.Callers.{same_ref_is, ref_self}
 
 numbered : (kind : Kind) (m k : Tid) (n o : ℕ) → m.0 ≡ k.0 → n ≡ o → To kind m n ≡ To kind k o
 numbered kind m k n o maker number = ap (λ (i : ℕ). To kind (record { 0 = i }) n) maker ∙ ap (λ (i : ℕ). To kind k i) number

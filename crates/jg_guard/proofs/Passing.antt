@@ -26,8 +26,8 @@ use Rattle.jg_guard.specs.Tables.{IsOrdinary, IsDue, IsAnswered}
 use Rattle.jg_words.specs.declared.value.Value.{Value}
 use Rattle.jg_words.specs.declared.object.ObjId.{ObjId}
 use Rattle.std.specs.Prelude.{Bool, ◌&&◌}
-use Rattle.jg_locals.specs.History.{acts_of}
-use Rattle.jg_locals.specs.Room.{crowded}
+use Rattle.jg_table_locals.specs.History.{acts_of}
+use Rattle.jg_table_locals.specs.Room.{crowded}
 
 -- the events of a sound guard's journal
 pub ordinary : (state : State) (rows : TableRows) → IsSound state rows → IsOrdinary (parts state.setup state.journal)

@@ -8,8 +8,8 @@ use Rattle.jg_words.specs.declared.object.FieldId.{FieldId}
 use Rattle.jg_words.specs.declared.object.Primitive.{Primitive}
 use Rattle.jg_policy.specs.Stated.{StatedSetup}
 use Rattle.jg_policy.specs.Classes.{field_type}
-use Rattle.jg_heap.specs.Making.{HasFields}
-use Rattle.jg_heap.specs.Rows.{count_in, class_at as class_in_row, length_at}
+use Rattle.jg_table_heap.specs.Making.{HasFields}
+use Rattle.jg_table_heap.specs.Rows.{count_in, class_at as class_in_row, length_at}
 use Rattle.jg_rules.specs.declared.named.Named.{Named}
 use Rattle.jg_rules.specs.declared.named.Named.TheVariants.{Nothing, Null as NamesNull, Object}
 use Rattle.jg_rules.specs.Parts.{Parts, TableRows, TablesStand}

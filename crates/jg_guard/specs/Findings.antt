@@ -4,8 +4,8 @@ use Rattle.jg_words.specs.declared.call.Call.{Call}
 use Rattle.jg_words.specs.declared.call.Call.TheVariants.{Vm}
 use Rattle.jg_words.specs.declared.call.vm.VmCall.TheVariants.{Collect}
 use Rattle.jg_policy.specs.Stated.{StatedSetup, class_count}
-use Rattle.jg_heap.specs.Rows.{Rows}
-use Rattle.jg_heap.specs.Standing.{AreListed, MarksHeld}
+use Rattle.jg_table_heap.specs.Rows.{Rows}
+use Rattle.jg_table_heap.specs.Standing.{AreListed, MarksHeld}
 use Rattle.jg_rules.specs.Parts.{Parts}
 use Rattle.jg_rules.specs.Holding.{roots, going}
 use Rattle.jg_guard.specs.declared.collect.Findings.{Findings}

@@ -4,7 +4,7 @@ use Rattle.jg_words.specs.declared.buffer.BufId.{BufId}
 use Rattle.jg_words.specs.declared.reference.Ref.{Ref}
 use Rattle.jg_words.specs.Entry.{Entry}
 use Rattle.jg_policy.specs.Stated.{StatedSetup, class_count}
-use Rattle.jg_heap.specs.History.{others_in_being}
+use Rattle.jg_table_heap.specs.History.{others_in_being}
 use Rattle.jg_rules.specs.Parts.{Parts}
 use Rattle.jg_rules.specs.Effects.{parts}
 use Rattle.jg_guard.specs.declared.peaks.Peaks.{Peaks}

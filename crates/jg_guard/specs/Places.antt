@@ -3,8 +3,8 @@
 use Rattle.std.specs.Prelude.{ℕ, ◌≡◌, ◌+◌, ◌<◌, ◌++◌, true, false, List, ◌∷◌, length, Some, None}
 use Rattle.jg_words.specs.declared.reference.Ref.{Ref}
 use Rattle.jg_words.specs.Entry.{Entry}
-use Rattle.jg_buffers.specs.History as buffers
-use Rattle.jg_monitors.specs.History as monitors
+use Rattle.jg_table_buffers.specs.History as buffers
+use Rattle.jg_table_monitors.specs.History as monitors
 use Rattle.jg_rules.specs.Names.{object_named}
 use Rattle.jg_rules.specs.Effects.{parts}
 use Rattle.jg_rules.specs.Legal.{Legal}

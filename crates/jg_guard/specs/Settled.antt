@@ -4,13 +4,13 @@ use Rattle.jg_words.specs.declared.object.ObjId.{ObjId}
 use Rattle.jg_words.specs.declared.value.Value.{Value}
 use Rattle.jg_words.specs.declared.value.Thrown.{Thrown}
 use Rattle.jg_words.specs.declared.entry.Reply.{Reply}
-use Rattle.jg_threads.specs.History as threads
-use Rattle.jg_locals.specs.History as locals
-use Rattle.jg_globals.specs.History as globals
-use Rattle.jg_heap.specs.History as heap
-use Rattle.jg_heap.specs.Making.{Plain}
+use Rattle.jg_table_threads.specs.History as threads
+use Rattle.jg_table_locals.specs.History as locals
+use Rattle.jg_table_globals.specs.History as globals
+use Rattle.jg_table_heap.specs.History as heap
+use Rattle.jg_table_heap.specs.Making.{Plain}
 use Rattle.jg_rules.specs.Parts.{Parts}
-use Rattle.jg_buffers.specs.History as buffers
+use Rattle.jg_table_buffers.specs.History as buffers
 use Rattle.jg_rules.specs.Effects.{warning, deletes_local, linking, unlinking}
 use Rattle.jg_words.specs.Classes.{class_thrown}
 use Rattle.jg_rules.specs.Holding.{roots, going}

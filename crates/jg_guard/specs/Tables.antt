@@ -13,14 +13,14 @@ use Rattle.jg_words.specs.declared.value.Value.TheVariants.{Ok as Done, Referenc
 use Rattle.jg_words.specs.declared.entry.Reply.{Reply}
 use Rattle.jg_words.specs.declared.call.Call.{Call}
 use Rattle.jg_policy.specs.Stated.{StatedSetup, class_count}
-use Rattle.jg_threads.specs.History as threads
-use Rattle.jg_threads.specs.Rows.{row_of, CanCount}
-use Rattle.jg_locals.specs.History as locals
-use Rattle.jg_locals.specs.Rows.{HasFrame, spare}
-use Rattle.jg_globals.specs.Rows.{IsAbove}
-use Rattle.jg_globals.specs.Laws as global_laws
-use Rattle.jg_buffers.specs.Laws as buffer_laws
-use Rattle.jg_buffers.specs.History as buffers
+use Rattle.jg_table_threads.specs.History as threads
+use Rattle.jg_table_threads.specs.Rows.{row_of, CanCount}
+use Rattle.jg_table_locals.specs.History as locals
+use Rattle.jg_table_locals.specs.Rows.{HasFrame, spare}
+use Rattle.jg_table_globals.specs.Rows.{IsAbove}
+use Rattle.jg_table_globals.specs.Laws as global_laws
+use Rattle.jg_table_buffers.specs.Laws as buffer_laws
+use Rattle.jg_table_buffers.specs.History as buffers
 use Rattle.jg_rules.specs.Parts.{Parts, TableRows, TablesStand}
 use Rattle.jg_rules.specs.Names.{next_ref, next_buffer}
 use Rattle.jg_rules.specs.Effects.{is_effective}

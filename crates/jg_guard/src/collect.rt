@@ -3,12 +3,12 @@
 
 ghost use Rattle.std.specs.Prelude.{◌≡◌, ◌==◌, ◌<◌, ◌^◌, ◌++◌, ℕ, false, List, map, slice_get, Some, OnOk, OnErr};
 ghost use Rattle.std.specs.List.{list_any};
-ghost use Rattle.jg_globals.specs.History as globals_of;
-ghost use Rattle.jg_globals.specs.Standing as globals_standing;
-ghost use Rattle.jg_heap.specs.History as heap_of;
-ghost use Rattle.jg_heap.specs.Rows.{count_in};
-ghost use Rattle.jg_heap.specs.Standing as heap_standing;
-ghost use Rattle.jg_heap.specs.Standing.{AreListed, MarksHeld};
+ghost use Rattle.jg_table_globals.specs.History as globals_of;
+ghost use Rattle.jg_table_globals.specs.Standing as globals_standing;
+ghost use Rattle.jg_table_heap.specs.History as heap_of;
+ghost use Rattle.jg_table_heap.specs.Rows.{count_in};
+ghost use Rattle.jg_table_heap.specs.Standing as heap_standing;
+ghost use Rattle.jg_table_heap.specs.Standing.{AreListed, MarksHeld};
 ghost use Rattle.jg_rules.specs.Parts.{Parts, TablesStand};
 ghost use Rattle.jg_rules.specs.Holding.{roots, going};
 ghost use Rattle.jg_rules.specs.View.{ViewStands};
@@ -21,10 +21,10 @@ ghost use Rattle.jg_guard.specs.Findings.{Finds, IsReady};
 ghost use Rattle.jg_guard.specs.Settled.{collected_on};
 
 use crate::tables::Tables;
-use jg_globals::Globals;
-use jg_heap::Heap;
 use jg_lists::ObjectMarks;
 use jg_rules::{View, mark_roots};
+use jg_table_globals::Globals;
+use jg_table_heap::Heap;
 use jg_words::{Call, ObjId, VmCall};
 use std::alloc::{AllocError, Allocator};
 

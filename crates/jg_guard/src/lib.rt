@@ -15,5 +15,5 @@ mod tally;
 
 pub use guard::{Guard, NoMemory, Refusal};
 pub use jg_leaks::Leaks;
-pub use jg_monitors::OwnedMonitor;
+pub use jg_table_monitors::OwnedMonitor;
 pub use peaks::Peaks;

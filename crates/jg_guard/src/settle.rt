@@ -4,9 +4,9 @@
 ghost use Rattle.std.specs.Prelude.{◌≡◌, ◌<◌, ◌&&◌, ◌⊎◌, true, false, None, OnOk, OnErr, IsTrue};
 ghost use Rattle.std.specs.Option.{option_map};
 ghost use Rattle.jg_policy.specs.Stated.{StatedSetup};
-ghost use Rattle.jg_locals.specs.History.{acts_of};
-ghost use Rattle.jg_locals.specs.Room.{crowded};
-ghost use Rattle.jg_threads.specs.Rows.{row_of, CanCount};
+ghost use Rattle.jg_table_locals.specs.History.{acts_of};
+ghost use Rattle.jg_table_locals.specs.Room.{crowded};
+ghost use Rattle.jg_table_threads.specs.Rows.{row_of, CanCount};
 ghost use Rattle.jg_rules.specs.Parts.{Parts, TablesStand};
 ghost use Rattle.jg_rules.specs.View.{ViewStands};
 ghost use Rattle.jg_rules.specs.Answers.{handed, thrown};
@@ -16,8 +16,8 @@ ghost use Rattle.jg_guard.specs.Tables.{rows_of, StillStand, CanHandOut, CanMake
 ghost use Rattle.jg_guard.specs.Settled.{local_on, strong_on, weak_on, thrown_on, warned_on, saying_of};
 
 use crate::tables::Tables;
-use jg_heap::Shape;
 use jg_rules::{Answer, View};
+use jg_table_heap::Shape;
 use jg_words::{Kind, ObjId, Ref, Reply, Thrown, Tid, Value};
 use std::alloc::{AllocError, Allocator};
 

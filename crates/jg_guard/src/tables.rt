@@ -1,13 +1,13 @@
 //! The state of the machine, as the guard keeps it.
 
-use jg_buffers::Buffers;
-use jg_globals::Globals;
-use jg_heap::Heap;
-use jg_locals::Locals;
-use jg_monitors::Monitors;
 use jg_policy::{Links, Setup};
 use jg_rules::View;
-use jg_threads::Threads;
+use jg_table_buffers::Buffers;
+use jg_table_globals::Globals;
+use jg_table_heap::Heap;
+use jg_table_locals::Locals;
+use jg_table_monitors::Monitors;
+use jg_table_threads::Threads;
 use std::alloc::{Allocator, Global};
 
 /// The state of the machine, a handle to the memory that it takes, and one to the memory that

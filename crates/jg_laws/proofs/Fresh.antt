@@ -16,13 +16,13 @@ use Rattle.jg_words.specs.declared.rule.Rule.{Rule}
 use Rattle.jg_words.specs.Entry.{Entry}
 use Rattle.jg_words.specs.declared.call.Call.{Call}
 use Rattle.jg_policy.specs.Stated.{StatedSetup}
-use Rattle.jg_threads.specs.History as threads
-use Rattle.jg_locals.specs.History.{Act, Start, Make, Push, Ensure, Delete, Pop, End, Event, by, acts_of, Making, making, seen_after, live, local_if_live, object_of, survives, Enter, Leave}
-use Rattle.jg_locals.proofs.Callers.{acts_more, acts_same, each_thread, live_below}
-use Rattle.jg_globals.specs.declared.target.Target.{Target}
-use Rattle.jg_globals.specs.declared.target.Target.TheVariants.{Object as ToObject, Cleared}
-use Rattle.jg_globals.specs.History as globals
-use Rattle.jg_globals.specs.Laws as global_laws
+use Rattle.jg_table_threads.specs.History as threads
+use Rattle.jg_table_locals.specs.History.{Act, Start, Make, Push, Ensure, Delete, Pop, End, Event, by, acts_of, Making, making, seen_after, live, local_if_live, object_of, survives, Enter, Leave}
+use Rattle.jg_table_locals.proofs.Callers.{acts_more, acts_same, each_thread, live_below}
+use Rattle.jg_table_globals.specs.declared.target.Target.{Target}
+use Rattle.jg_table_globals.specs.declared.target.Target.TheVariants.{Object as ToObject, Cleared}
+use Rattle.jg_table_globals.specs.History as globals
+use Rattle.jg_table_globals.specs.Laws as global_laws
 use Rattle.jg_rules.specs.declared.named.Named.{Named}
 use Rattle.jg_rules.specs.declared.named.Named.TheVariants.{Nothing}
 use Rattle.jg_rules.specs.Parts.{Parts}

@@ -32,18 +32,18 @@ use Rattle.jg_words.specs.declared.call.buffers.BuffersCall.TheVariants.{GetArra
 use Rattle.jg_words.specs.declared.call.monitors.MonitorsCall.TheVariants.{MonitorEnter, MonitorExit}
 use Rattle.jg_policy.specs.Stated.{StatedSetup, class_count}
 use Rattle.jg_policy.specs.Classes.{class_named, class_at, fields_in, field_type}
-use Rattle.jg_globals.specs.History as globals
-use Rattle.jg_threads.specs.History as threads
-use Rattle.jg_monitors.specs.History as monitors
-use Rattle.jg_monitors.specs.declared.entering.Entering.{Entering}
-use Rattle.jg_monitors.specs.declared.entering.Entering.TheVariants.{Entered, Busy as KeptOut}
-use Rattle.jg_heap.specs.declared.object.Slot.{Slot}
-use Rattle.jg_heap.specs.declared.object.Slot.TheVariants.{Number, Object as Pointer}
-use Rattle.jg_heap.specs.Making.{Making, Plain, Text, Filled, Opaque, class_in, length_in, slots_in}
+use Rattle.jg_table_globals.specs.History as globals
+use Rattle.jg_table_threads.specs.History as threads
+use Rattle.jg_table_monitors.specs.History as monitors
+use Rattle.jg_table_monitors.specs.declared.entering.Entering.{Entering}
+use Rattle.jg_table_monitors.specs.declared.entering.Entering.TheVariants.{Entered, Busy as KeptOut}
+use Rattle.jg_table_heap.specs.declared.object.Slot.{Slot}
+use Rattle.jg_table_heap.specs.declared.object.Slot.TheVariants.{Number, Object as Pointer}
+use Rattle.jg_table_heap.specs.Making.{Making, Plain, Text, Filled, Opaque, class_in, length_in, slots_in}
 use Rattle.jg_words.specs.Classes.{array_class}
-use Rattle.jg_heap.specs.Reading.{natural, decoded}
-use Rattle.jg_heap.specs.History as heap
-use Rattle.jg_heap.proofs.Callers.{classes_law, gone_law, classes_counted}
+use Rattle.jg_table_heap.specs.Reading.{natural, decoded}
+use Rattle.jg_table_heap.specs.History as heap
+use Rattle.jg_table_heap.proofs.Callers.{classes_law, gone_law, classes_counted}
 use Rattle.jg_rules.specs.declared.answer.Answer.{Answer}
 use Rattle.jg_rules.specs.declared.named.Named.{Named}
 use Rattle.jg_rules.specs.declared.named.Named.TheVariants.{Nothing, Null as NamesNull, Object}

@@ -18,18 +18,18 @@ use Rattle.jg_words.specs.declared.call.objects.ObjectsCall.TheVariants.{FindCla
 use Rattle.jg_words.specs.declared.call.strings.StringsCall.TheVariants.{NewString, NewStringUTF, GetStringLength, GetStringUTFLength, GetStringRegion}
 use Rattle.jg_words.specs.declared.call.arrays.ArraysCall.TheVariants.{NewArray, GetArrayLength, GetArrayRegion, SetArrayRegion, NewObjectArray, GetObjectArrayElement, SetObjectArrayElement}
 use Rattle.jg_words.specs.declared.call.buffers.BuffersCall.TheVariants.{GetArrayElements, ReleaseArrayElements, GetStringChars, ReleaseStringChars, GetStringUTFChars, ReleaseStringUTFChars, GetPrimitiveArrayCritical, ReleasePrimitiveArrayCritical, GetStringCritical, ReleaseStringCritical, BufferRead, BufferWrite}
-use Rattle.jg_buffers.specs.declared.info.Info.{Info}
-use Rattle.jg_buffers.specs.History as buffers
+use Rattle.jg_table_buffers.specs.declared.info.Info.{Info}
+use Rattle.jg_table_buffers.specs.History as buffers
 use Rattle.jg_policy.specs.Stated.{StatedSetup, StatedMember, class_count}
 use Rattle.jg_policy.specs.Classes.{is_class_type}
-use Rattle.jg_globals.specs.History as globals
-use Rattle.jg_threads.specs.History as threads
-use Rattle.jg_heap.specs.declared.object.Slot.{Slot}
-use Rattle.jg_heap.specs.declared.object.Slot.TheVariants.{Number, Object as Pointer}
-use Rattle.jg_heap.specs.Making.{Making, Filled, class_in}
+use Rattle.jg_table_globals.specs.History as globals
+use Rattle.jg_table_threads.specs.History as threads
+use Rattle.jg_table_heap.specs.declared.object.Slot.{Slot}
+use Rattle.jg_table_heap.specs.declared.object.Slot.TheVariants.{Number, Object as Pointer}
+use Rattle.jg_table_heap.specs.Making.{Making, Filled, class_in}
 use Rattle.jg_words.specs.Classes.{array_class}
-use Rattle.jg_heap.specs.Reading.{natural}
-use Rattle.jg_heap.specs.History as heap
+use Rattle.jg_table_heap.specs.Reading.{natural}
+use Rattle.jg_table_heap.specs.History as heap
 use Rattle.jg_rules.specs.declared.named.Named.{Named}
 use Rattle.jg_rules.specs.declared.named.Named.TheVariants.{Nothing, Null as NamesNull, Object}
 use Rattle.jg_rules.specs.Parts.{Parts}

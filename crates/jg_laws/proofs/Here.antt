@@ -5,12 +5,12 @@ use Rattle.std.specs.List.{list_any}
 use Rattle.std.proofs.lemmas.Bool.Decides.{nat_tests}
 use Rattle.jg_words.specs.declared.object.ObjId.{ObjId}
 use Rattle.jg_words.proofs.Common.{or_middle}
-use Rattle.jg_heap.specs.declared.object.Slot.{Slot}
-use Rattle.jg_heap.specs.declared.object.Slot.TheVariants.{Number, Object}
-use Rattle.jg_heap.specs.Making.{Making, class_in, slots_in, slot_in}
-use Rattle.jg_heap.specs.History.{Event, Made, Wrote, Collected, count_of, making_at, value_at, gone_at, held_by, held_at, going, region_writes}
-use Rattle.jg_heap.specs.Standing.{held_objects}
-use Rattle.jg_heap.proofs.Callers.{roots_law, held_law, gone_past}
+use Rattle.jg_table_heap.specs.declared.object.Slot.{Slot}
+use Rattle.jg_table_heap.specs.declared.object.Slot.TheVariants.{Number, Object}
+use Rattle.jg_table_heap.specs.Making.{Making, class_in, slots_in, slot_in}
+use Rattle.jg_table_heap.specs.History.{Event, Made, Wrote, Collected, count_of, making_at, value_at, gone_at, held_by, held_at, going, region_writes}
+use Rattle.jg_table_heap.specs.Standing.{held_objects}
+use Rattle.jg_table_heap.proofs.Callers.{roots_law, held_law, gone_past}
 
 -- it was made, and isn't gone
 abbrev pub Here : ℕ → List Event → ℕ → Type 0

@@ -2,16 +2,16 @@
 use Rattle.std.proofs.Common.{ℕ, ◌≡◌, ◌+◌, ◌<◌, ◌≤◌, Bool, true, false, List, [], ◌∷◌, ◌++◌, refl, subst, sym, ap, ◌∙◌, arith}
 use Rattle.jg_words.specs.Entry.{Entry}
 use Rattle.jg_policy.specs.Stated.{StatedSetup}
-use Rattle.jg_threads.specs.History as threads
-use Rattle.jg_locals.specs.History.{Act, Start, Make, Push, Ensure, Enter, Delete, Pop, Leave, End, Event, by, acts_of, session, has_session, is_enter, is_leave, IsMadeBelow}
-use Rattle.jg_locals.proofs.Callers.{acts_more, acts_same, each_thread}
+use Rattle.jg_table_threads.specs.History as threads
+use Rattle.jg_table_locals.specs.History.{Act, Start, Make, Push, Ensure, Enter, Delete, Pop, Leave, End, Event, by, acts_of, session, has_session, is_enter, is_leave, IsMadeBelow}
+use Rattle.jg_table_locals.proofs.Callers.{acts_more, acts_same, each_thread}
 use Rattle.jg_rules.specs.Parts.{Parts}
 use Rattle.jg_rules.specs.Names.{next_ref}
 use Rattle.jg_rules.specs.Effects.{parts}
 use Rattle.jg_rules.specs.Legal.{Legal}
 use Rattle.jg_laws.specs.Laws.{Agree, AgreeInNatives}
-use Rattle.jg_globals.specs.History as globals
-use Rattle.jg_globals.specs.Laws as global_laws
+use Rattle.jg_table_globals.specs.History as globals
+use Rattle.jg_table_globals.specs.Laws as global_laws
 use Rattle.jg_laws.proofs.Acts.{did_more, did_same, refs_same}
 use Rattle.jg_laws.proofs.Steps.{Steps, each_legal, make_no_global}
 

@@ -8,12 +8,12 @@ use Rattle.jg_words.specs.declared.object.Primitive.{Primitive}
 use Rattle.jg_words.specs.declared.object.Primitive.TheVariants.{Boolean, Byte, Char, Short, Int, Long}
 use Rattle.jg_words.specs.declared.reference.Ref.{Ref}
 use Rattle.jg_policy.specs.Stated.{StatedSetup, class_count}
-use Rattle.jg_heap.specs.Making.{IsPrimitiveArray}
+use Rattle.jg_table_heap.specs.Making.{IsPrimitiveArray}
 use Rattle.jg_words.specs.Classes.{array_class}
 use Rattle.jg_words.specs.declared.object.ItemType.TheVariants.{Of}
-use Rattle.jg_heap.specs.Spelling.{spelt}
-use Rattle.jg_buffers.specs.History.{Buffer, copy_with, pin_through}
-use Rattle.jg_buffers.specs.declared.family.Family.TheVariants.{Elements, Chars, UtfChars, ArrayCritical, StringCritical}
+use Rattle.jg_table_heap.specs.Spelling.{spelt}
+use Rattle.jg_table_buffers.specs.History.{Buffer, copy_with, pin_through}
+use Rattle.jg_table_buffers.specs.declared.family.Family.TheVariants.{Elements, Chars, UtfChars, ArrayCritical, StringCritical}
 use Rattle.jg_rules.specs.declared.named.Named.{Named}
 use Rattle.jg_rules.specs.declared.operand.ObjectType.TheVariants.{StringObject, PrimitiveArray, ArrayOf}
 use Rattle.jg_rules.specs.Parts.{Parts}

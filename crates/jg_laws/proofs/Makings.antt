@@ -15,14 +15,14 @@ use Rattle.jg_words.specs.declared.call.objects.ObjectsCall.TheVariants.{FindCla
 use Rattle.jg_words.specs.declared.call.strings.StringsCall.TheVariants.{NewString, NewStringUTF, GetStringLength, GetStringUTFLength, GetStringRegion}
 use Rattle.jg_words.specs.declared.call.arrays.ArraysCall.TheVariants.{NewArray, GetArrayLength, GetArrayRegion, SetArrayRegion, NewObjectArray, GetObjectArrayElement, SetObjectArrayElement}
 use Rattle.jg_words.specs.declared.call.buffers.BuffersCall.TheVariants.{GetArrayElements, ReleaseArrayElements, GetStringChars, ReleaseStringChars, GetStringUTFChars, ReleaseStringUTFChars, GetPrimitiveArrayCritical, ReleasePrimitiveArrayCritical, GetStringCritical, ReleaseStringCritical, BufferRead, BufferWrite}
-use Rattle.jg_buffers.specs.declared.info.Info.{Info}
-use Rattle.jg_buffers.specs.History as buffers
+use Rattle.jg_table_buffers.specs.declared.info.Info.{Info}
+use Rattle.jg_table_buffers.specs.History as buffers
 use Rattle.jg_policy.specs.Stated.{StatedSetup, class_count}
 use Rattle.jg_policy.specs.Classes.{class_at, fields_in}
-use Rattle.jg_heap.specs.History.{Event, Made, Wrote, Collected, Went, count_of, making_at, region_writes}
-use Rattle.jg_heap.specs.Making.{Making, Plain, Text, Filled, Opaque, class_in, length_in}
+use Rattle.jg_table_heap.specs.History.{Event, Made, Wrote, Collected, Went, count_of, making_at, region_writes}
+use Rattle.jg_table_heap.specs.Making.{Making, Plain, Text, Filled, Opaque, class_in, length_in}
 use Rattle.jg_words.specs.Classes.{array_class}
-use Rattle.jg_heap.specs.Reading.{natural}
+use Rattle.jg_table_heap.specs.Reading.{natural}
 use Rattle.jg_rules.specs.Parts.{Parts}
 use Rattle.jg_rules.specs.Names.{class_of, length_of, the_object}
 use Rattle.jg_rules.specs.Buffers.{buffer_named, writes_back}

@@ -7,17 +7,17 @@ use Rattle.jg_words.specs.declared.reference.Ref.{Ref}
 use Rattle.jg_words.specs.declared.reference.Ref.TheVariants.{Null, To}
 use Rattle.jg_words.specs.declared.reference.Kind.TheVariants.{Local, Global, Weak}
 use Rattle.jg_words.proofs.Common.{or_first, or_second, or_third}
-use Rattle.jg_globals.specs.declared.target.Target.{Target}
-use Rattle.jg_globals.specs.declared.target.Target.TheVariants.{Object as ToObject, Cleared}
-use Rattle.jg_globals.specs.History as globals
-use Rattle.jg_globals.proofs.Callers.{holds_law}
-use Rattle.jg_threads.specs.History as threads
-use Rattle.jg_threads.proofs.Callers.{is_pending_law}
-use Rattle.jg_locals.specs.History as locals
-use Rattle.jg_locals.proofs.Callers.{held_law as local_held_law}
-use Rattle.jg_heap.specs.History as heap
-use Rattle.jg_buffers.specs.History as buffers
-use Rattle.jg_monitors.specs.History as monitors
+use Rattle.jg_table_globals.specs.declared.target.Target.{Target}
+use Rattle.jg_table_globals.specs.declared.target.Target.TheVariants.{Object as ToObject, Cleared}
+use Rattle.jg_table_globals.specs.History as globals
+use Rattle.jg_table_globals.proofs.Callers.{holds_law}
+use Rattle.jg_table_threads.specs.History as threads
+use Rattle.jg_table_threads.proofs.Callers.{is_pending_law}
+use Rattle.jg_table_locals.specs.History as locals
+use Rattle.jg_table_locals.proofs.Callers.{held_law as local_held_law}
+use Rattle.jg_table_heap.specs.History as heap
+use Rattle.jg_table_buffers.specs.History as buffers
+use Rattle.jg_table_monitors.specs.History as monitors
 use Rattle.jg_policy.specs.Stated.{StatedSetup, class_count}
 use Rattle.jg_rules.specs.declared.named.Named.TheVariants.{Nothing}
 use Rattle.jg_rules.specs.Parts.{Parts}

@@ -12,11 +12,11 @@ use Rattle.jg_words.specs.declared.call.Call.TheVariants.{Vm, Refs, Frames, Exce
 use Rattle.jg_words.specs.declared.call.vm.VmCall.TheVariants.{AttachCurrentThread, DetachCurrentThread, GetEnv, NativeEnter, NativeLeave, LoadLibrary, RegisterNatives, UnregisterNatives, Collect}
 use Rattle.jg_words.specs.declared.call.monitors.MonitorsCall.TheVariants.{MonitorEnter, MonitorExit}
 use Rattle.jg_policy.specs.Stated.{StatedSetup}
-use Rattle.jg_monitors.specs.declared.entering.Entering.{Entering}
-use Rattle.jg_monitors.specs.declared.entering.Entering.TheVariants.{Entered, Busy}
-use Rattle.jg_monitors.specs.History.{Event, by, Enter, count, owner, entering}
-use Rattle.jg_monitors.specs.Standing.{IsAllowed, AllAllowed}
-use Rattle.jg_monitors.proofs.Callers.{one_owner as one_owner_of, owner_has, all_free}
+use Rattle.jg_table_monitors.specs.declared.entering.Entering.{Entering}
+use Rattle.jg_table_monitors.specs.declared.entering.Entering.TheVariants.{Entered, Busy}
+use Rattle.jg_table_monitors.specs.History.{Event, by, Enter, count, owner, entering}
+use Rattle.jg_table_monitors.specs.Standing.{IsAllowed, AllAllowed}
+use Rattle.jg_table_monitors.proofs.Callers.{one_owner as one_owner_of, owner_has, all_free}
 use Rattle.jg_rules.specs.declared.named.Named.{Named}
 use Rattle.jg_rules.specs.declared.named.Named.TheVariants.{Nothing, Null as NamesNull, Object}
 use Rattle.jg_rules.specs.Parts.{Parts}

@@ -25,18 +25,18 @@ use Rattle.jg_words.specs.declared.call.buffers.BuffersCall.{BuffersCall}
 use Rattle.jg_words.specs.declared.call.buffers.BuffersCall.TheVariants.{GetArrayElements, ReleaseArrayElements, GetStringChars, ReleaseStringChars, GetStringUTFChars, ReleaseStringUTFChars, GetPrimitiveArrayCritical, ReleasePrimitiveArrayCritical, GetStringCritical, ReleaseStringCritical, BufferRead, BufferWrite}
 use Rattle.jg_words.proofs.Common.{clash, or_fourth, or_middle}
 use Rattle.jg_policy.specs.Stated.{StatedSetup, class_count}
-use Rattle.jg_threads.specs.History as threads
-use Rattle.jg_locals.specs.History as locals
-use Rattle.jg_locals.proofs.Callers.{acts_same}
-use Rattle.jg_globals.specs.declared.target.Target.TheVariants.{Object as ToObject, Cleared}
-use Rattle.jg_globals.specs.History as globals
-use Rattle.jg_heap.specs.History as heap
-use Rattle.jg_heap.specs.Reading.{natural}
-use Rattle.jg_heap.proofs.Callers.{roots_law}
-use Rattle.jg_monitors.specs.History as monitors
-use Rattle.jg_buffers.specs.History as buffers
-use Rattle.jg_buffers.specs.History.{Buffer, Event, Opened, Wrote, Closed, ReleaseAll, opened, is_same, is_critical}
-use Rattle.jg_buffers.proofs.Callers.{critical_law, pinned_law, pinned_object_law, still_lent}
+use Rattle.jg_table_threads.specs.History as threads
+use Rattle.jg_table_locals.specs.History as locals
+use Rattle.jg_table_locals.proofs.Callers.{acts_same}
+use Rattle.jg_table_globals.specs.declared.target.Target.TheVariants.{Object as ToObject, Cleared}
+use Rattle.jg_table_globals.specs.History as globals
+use Rattle.jg_table_heap.specs.History as heap
+use Rattle.jg_table_heap.specs.Reading.{natural}
+use Rattle.jg_table_heap.proofs.Callers.{roots_law}
+use Rattle.jg_table_monitors.specs.History as monitors
+use Rattle.jg_table_buffers.specs.History as buffers
+use Rattle.jg_table_buffers.specs.History.{Buffer, Event, Opened, Wrote, Closed, ReleaseAll, opened, is_same, is_critical}
+use Rattle.jg_table_buffers.proofs.Callers.{critical_law, pinned_law, pinned_object_law, still_lent}
 use Rattle.jg_rules.specs.declared.named.Named.TheVariants.{Nothing}
 use Rattle.jg_rules.specs.Parts.{Parts}
 use Rattle.jg_rules.specs.Names.{names, named_by, object_in, object_named, next_ref}

@@ -25,14 +25,14 @@ use Rattle.jg_rules.specs.Parts.{Parts}
 use Rattle.jg_rules.specs.Names.{object_named, the_object, object_count, class_of, length_of, units_of, slot_of, target_in, session, pending, class_meant, native_meant, field_meant}
 use Rattle.jg_rules.specs.Effects.{done_by}
 use Rattle.jg_laws.specs.Proper.{ProperAnswer}
-use Rattle.jg_monitors.specs.History as monitors
-use Rattle.jg_monitors.specs.declared.entering.Entering.{Entering}
-use Rattle.jg_monitors.specs.declared.entering.Entering.TheVariants.{Entered, Busy}
+use Rattle.jg_table_monitors.specs.History as monitors
+use Rattle.jg_table_monitors.specs.declared.entering.Entering.{Entering}
+use Rattle.jg_table_monitors.specs.declared.entering.Entering.TheVariants.{Entered, Busy}
 use Rattle.jg_policy.specs.declared.access.Operation.{Operation}
 use Rattle.jg_policy.specs.declared.access.Operation.TheVariants.{Link}
 use Rattle.jg_rules.specs.Answers.{answer, entered, handed, present_env, plain, saying, admitted, unless_pending, registered, class_found, field_found, field_value, or_outside, is_outside}
 use Rattle.jg_policy.specs.Classes.{class_named}
-use Rattle.jg_heap.specs.Reading.{natural}
+use Rattle.jg_table_heap.specs.Reading.{natural}
 use Rattle.jg_words.specs.declared.value.Thrown.TheVariants.{ArrayIndexOutOfBounds, StringIndexOutOfBounds}
 
 local_proper : (s : StatedSetup) (p : Parts) (t : Tid) (call : Call) (found : Option ℕ) → needs_env (fun_of call) ≡ true → ProperAnswer s p t call (handed p t Local found)

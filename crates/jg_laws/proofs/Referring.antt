@@ -5,13 +5,13 @@ use Rattle.std.specs.List.{list_any}
 use Rattle.std.proofs.lemmas.Bool.{or_from}
 use Rattle.jg_words.specs.declared.object.ObjId.{ObjId}
 use Rattle.jg_words.proofs.Common.{not_and_parts}
-use Rattle.jg_globals.specs.History as globals
-use Rattle.jg_globals.specs.History.{is_same, clears, unless_cleared, after_making}
-use Rattle.jg_globals.specs.declared.target.Target.TheVariants.{Object as ToObject, Cleared}
-use Rattle.jg_threads.specs.History as threads
-use Rattle.jg_threads.specs.History.{pending}
-use Rattle.jg_locals.specs.History.{Act, Start, Make, Push, Ensure, Enter, Delete, Pop, Leave, End, Event, by, acts_of, depth, frames, how_many, is_enter, is_leave, is_push, is_pop, Making, Local, making, seen_after, done_here, ends, survives, local_if_live, object_of, live}
-use Rattle.jg_locals.proofs.Callers.{acts_more, acts_same, each_thread}
+use Rattle.jg_table_globals.specs.History as globals
+use Rattle.jg_table_globals.specs.History.{is_same, clears, unless_cleared, after_making}
+use Rattle.jg_table_globals.specs.declared.target.Target.TheVariants.{Object as ToObject, Cleared}
+use Rattle.jg_table_threads.specs.History as threads
+use Rattle.jg_table_threads.specs.History.{pending}
+use Rattle.jg_table_locals.specs.History.{Act, Start, Make, Push, Ensure, Enter, Delete, Pop, Leave, End, Event, by, acts_of, depth, frames, how_many, is_enter, is_leave, is_push, is_pop, Making, Local, making, seen_after, done_here, ends, survives, local_if_live, object_of, live}
+use Rattle.jg_table_locals.proofs.Callers.{acts_more, acts_same, each_thread}
 use Rattle.jg_laws.proofs.Acts.{did_more, did_same}
 
 -- ---- locals

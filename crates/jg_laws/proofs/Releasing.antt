@@ -5,8 +5,8 @@ use Rattle.std.specs.Option.{option_map}
 use Rattle.std.proofs.lemmas.Bool.{not-false}
 use Rattle.jg_words.specs.declared.buffer.BufId.{BufId}
 use Rattle.jg_words.specs.declared.reference.Ref.{Ref}
-use Rattle.jg_buffers.specs.History.{Buffer, opened, info_of}
-use Rattle.jg_buffers.specs.declared.family.Family.{Family}
+use Rattle.jg_table_buffers.specs.History.{Buffer, opened, info_of}
+use Rattle.jg_table_buffers.specs.declared.family.Family.{Family}
 use Rattle.jg_rules.specs.Parts.{Parts}
 use Rattle.jg_rules.specs.Names.{names, object_named, the_object}
 use Rattle.jg_rules.specs.Buffers.{is_open_and, family_number, is_of_family, is_of_object, is_anothers}

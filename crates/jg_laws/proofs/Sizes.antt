@@ -18,14 +18,14 @@ use Rattle.jg_words.specs.declared.call.refs.RefsCall.TheVariants.{NewLocalRef, 
 use Rattle.jg_words.specs.declared.call.frames.FramesCall.TheVariants.{PushLocalFrame, PopLocalFrame, EnsureLocalCapacity}
 use Rattle.jg_words.specs.declared.call.monitors.MonitorsCall.TheVariants.{MonitorEnter, MonitorExit}
 use Rattle.jg_words.specs.declared.call.exceptions.ExceptionsCall.TheVariants.{Throw, ExceptionOccurred, ExceptionDescribe, ExceptionClear, ExceptionCheck}
-use Rattle.jg_threads.specs.History as threads
-use Rattle.jg_locals.specs.History as locals
-use Rattle.jg_locals.specs.History.{Act, acts_of, is_push, done_at, frames}
-use Rattle.jg_heap.specs.History as heap
+use Rattle.jg_table_threads.specs.History as threads
+use Rattle.jg_table_locals.specs.History as locals
+use Rattle.jg_table_locals.specs.History.{Act, acts_of, is_push, done_at, frames}
+use Rattle.jg_table_heap.specs.History as heap
 use Rattle.jg_rules.specs.Parts.{Parts}
 use Rattle.jg_rules.specs.Effects.{parts, after, is_effective, if_effective, call_threads, call_locals, call_monitors, value_threads, value_locals, started, deletes_local}
 use Rattle.jg_policy.specs.Stated.{StatedSetup}
-use Rattle.jg_monitors.specs.History as monitors
+use Rattle.jg_table_monitors.specs.History as monitors
 
 effective-le : {E : Type 0} (b : Bool) (events : List E) (n : ℕ) → length events ≤ n → length (if_effective b events) ≤ n
 effective-le false events n few = omega arith

@@ -20,25 +20,25 @@ use Rattle.jg_words.specs.declared.call.frames.FramesCall.TheVariants.{PushLocal
 use Rattle.jg_words.specs.declared.call.exceptions.ExceptionsCall.TheVariants.{Throw, ExceptionOccurred, ExceptionDescribe, ExceptionClear, ExceptionCheck}
 use Rattle.jg_words.specs.declared.call.buffers.BuffersCall.TheVariants.{GetArrayElements, ReleaseArrayElements, GetStringChars, ReleaseStringChars, GetStringUTFChars, ReleaseStringUTFChars, GetPrimitiveArrayCritical, ReleasePrimitiveArrayCritical, GetStringCritical, ReleaseStringCritical, BufferRead, BufferWrite}
 use Rattle.jg_words.specs.declared.buffer.BufId.{BufId}
-use Rattle.jg_buffers.specs.declared.info.Info.{Info}
+use Rattle.jg_table_buffers.specs.declared.info.Info.{Info}
 use Rattle.jg_policy.specs.Stated.{StatedSetup}
 use Rattle.jg_policy.specs.Links as links
-use Rattle.jg_threads.specs.History as threads
-use Rattle.jg_locals.specs.History as locals
-use Rattle.jg_globals.specs.History as globals
-use Rattle.jg_buffers.specs.History as buffers
-use Rattle.jg_monitors.specs.History as monitors
-use Rattle.jg_heap.specs.History as heap
+use Rattle.jg_table_threads.specs.History as threads
+use Rattle.jg_table_locals.specs.History as locals
+use Rattle.jg_table_globals.specs.History as globals
+use Rattle.jg_table_buffers.specs.History as buffers
+use Rattle.jg_table_monitors.specs.History as monitors
+use Rattle.jg_table_heap.specs.History as heap
 use Rattle.jg_rules.specs.Parts.{Parts, nothing_yet}
 use Rattle.jg_rules.specs.Names.{names, next_ref, next_buffer, open_frames, depth, the_object, length_of, units_of, items_of}
 use Rattle.jg_rules.specs.Access.{native_class, home_of}
 use Rattle.jg_rules.specs.Buffers.{buffer_named, is_commit}
-use Rattle.jg_heap.specs.Spelling.{spelt}
-use Rattle.jg_heap.specs.Reading.{natural}
+use Rattle.jg_table_heap.specs.Spelling.{spelt}
+use Rattle.jg_table_heap.specs.Reading.{natural}
 use Rattle.jg_words.specs.declared.call.buffers.BuffersCall.{BuffersCall}
 use Rattle.jg_words.proofs.Common.{clash}
 use Rattle.jg_words.specs.declared.object.ItemType.TheVariants.{Of}
-use Rattle.jg_buffers.specs.declared.family.Family.TheVariants.{Elements, Chars, UtfChars, ArrayCritical, StringCritical}
+use Rattle.jg_table_buffers.specs.declared.family.Family.TheVariants.{Elements, Chars, UtfChars, ArrayCritical, StringCritical}
 use Rattle.jg_rules.specs.Effects.{parts, after, started, deletes_local, call_globals, call_buffers, call_monitors, call_heap, call_links, done_by, done_if, is_effective, warning, value_heap, settled, closed, wrote_copy}
 use Rattle.jg_rules.specs.Rules.{verdict}
 use Rattle.jg_rules.specs.Holding.{going}

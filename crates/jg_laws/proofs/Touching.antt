@@ -19,13 +19,13 @@ use Rattle.jg_words.specs.declared.call.arrays.ArraysCall.TheVariants.{NewArray,
 use Rattle.jg_words.specs.declared.call.buffers.BuffersCall.TheVariants.{GetArrayElements, ReleaseArrayElements, GetStringChars, ReleaseStringChars, GetStringUTFChars, ReleaseStringUTFChars, GetPrimitiveArrayCritical, ReleasePrimitiveArrayCritical, GetStringCritical, ReleaseStringCritical, BufferRead, BufferWrite}
 use Rattle.jg_words.specs.declared.object.ItemType.TheVariants.{Of}
 use Rattle.jg_policy.specs.Stated.{StatedSetup}
-use Rattle.jg_heap.specs.Reading.{natural}
-use Rattle.jg_heap.specs.History as heap
-use Rattle.jg_heap.specs.declared.object.Slot.TheVariants.{Number}
-use Rattle.jg_buffers.specs.declared.family.Family.{Family}
-use Rattle.jg_buffers.specs.declared.family.Family.TheVariants.{Elements, Chars, UtfChars, ArrayCritical, StringCritical}
-use Rattle.jg_buffers.specs.declared.info.Info.{Info}
-use Rattle.jg_buffers.specs.History.{Buffer, Event, Opened, Wrote, Closed, ReleaseAll, opened, contents, info_of, is_critical}
+use Rattle.jg_table_heap.specs.Reading.{natural}
+use Rattle.jg_table_heap.specs.History as heap
+use Rattle.jg_table_heap.specs.declared.object.Slot.TheVariants.{Number}
+use Rattle.jg_table_buffers.specs.declared.family.Family.{Family}
+use Rattle.jg_table_buffers.specs.declared.family.Family.TheVariants.{Elements, Chars, UtfChars, ArrayCritical, StringCritical}
+use Rattle.jg_table_buffers.specs.declared.info.Info.{Info}
+use Rattle.jg_table_buffers.specs.History.{Buffer, Event, Opened, Wrote, Closed, ReleaseAll, opened, contents, info_of, is_critical}
 use Rattle.jg_rules.specs.declared.operand.ObjectType.{ObjectType}
 use Rattle.jg_rules.specs.declared.operand.ObjectType.TheVariants.{AnyObject, StringObject, PrimitiveArray, ArrayOf, ObjectArray}
 use Rattle.jg_rules.specs.declared.operand.Operand.{Operand}

@@ -12,19 +12,19 @@ use Rattle.jg_words.specs.declared.call.Call.TheVariants.{Vm}
 use Rattle.jg_words.specs.declared.call.vm.VmCall.TheVariants.{NativeEnter}
 use Rattle.jg_policy.specs.Stated.{StatedSetup, class_count}
 use Rattle.jg_policy.specs.Classes.{class_at, class_named, fields_in}
-use Rattle.jg_threads.specs.History as threads
-use Rattle.jg_locals.specs.History as locals
-use Rattle.jg_heap.specs.History as heap
-use Rattle.jg_heap.specs.Making.{Making, Plain, Text, Filled, Opaque}
-use Rattle.jg_heap.specs.Making.{class_in, units_in, length_in, IsPrimitiveArray}
+use Rattle.jg_table_threads.specs.History as threads
+use Rattle.jg_table_locals.specs.History as locals
+use Rattle.jg_table_heap.specs.History as heap
+use Rattle.jg_table_heap.specs.Making.{Making, Plain, Text, Filled, Opaque}
+use Rattle.jg_table_heap.specs.Making.{class_in, units_in, length_in, IsPrimitiveArray}
 use Rattle.jg_words.specs.Classes.{array_class}
 use Rattle.jg_words.specs.declared.object.ItemType.TheVariants.{Of, Float, Double}
-use Rattle.jg_heap.specs.Spelling.{spelt}
-use Rattle.jg_buffers.specs.History as buffers
-use Rattle.jg_buffers.specs.Laws.{CriticalBuffer}
-use Rattle.jg_buffers.specs.declared.family.Family.{Family}
-use Rattle.jg_buffers.specs.declared.family.Family.TheVariants.{Elements, Chars, UtfChars, ArrayCritical, StringCritical}
-use Rattle.jg_monitors.specs.History as monitors
+use Rattle.jg_table_heap.specs.Spelling.{spelt}
+use Rattle.jg_table_buffers.specs.History as buffers
+use Rattle.jg_table_buffers.specs.Laws.{CriticalBuffer}
+use Rattle.jg_table_buffers.specs.declared.family.Family.{Family}
+use Rattle.jg_table_buffers.specs.declared.family.Family.TheVariants.{Elements, Chars, UtfChars, ArrayCritical, StringCritical}
+use Rattle.jg_table_monitors.specs.History as monitors
 use Rattle.jg_rules.specs.Parts.{Parts}
 use Rattle.jg_rules.specs.Names.{object_named, next_ref, class_of, length_of, native_meant}
 use Rattle.jg_policy.specs.declared.access.Operation.TheVariants.{Link}

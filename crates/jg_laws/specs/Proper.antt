@@ -14,7 +14,7 @@ use Rattle.jg_rules.specs.declared.answer.Answer.{Answer}
 use Rattle.jg_rules.specs.Parts.{Parts}
 use Rattle.jg_rules.specs.Names.{object_count, next_ref, next_buffer}
 use Rattle.jg_rules.specs.Effects.{done_by, call_buffers}
-use Rattle.jg_buffers.specs.History as buffers
+use Rattle.jg_table_buffers.specs.History as buffers
 
 -- a buffer is opened
 abbrev pub opens_one : List buffers.Event → Bool

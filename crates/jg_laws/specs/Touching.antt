@@ -14,8 +14,8 @@ use Rattle.jg_words.specs.declared.call.Call.TheVariants.{Vm, Refs, Frames, Exce
 use Rattle.jg_words.specs.declared.call.buffers.BuffersCall.{BuffersCall}
 use Rattle.jg_words.specs.declared.call.buffers.BuffersCall.TheVariants.{GetArrayElements, ReleaseArrayElements, GetStringChars, ReleaseStringChars, GetStringUTFChars, ReleaseStringUTFChars, GetPrimitiveArrayCritical, ReleasePrimitiveArrayCritical, GetStringCritical, ReleaseStringCritical, BufferRead, BufferWrite}
 use Rattle.jg_policy.specs.Stated.{StatedSetup}
-use Rattle.jg_heap.specs.History as heap
-use Rattle.jg_buffers.specs.History as buffers
+use Rattle.jg_table_heap.specs.History as heap
+use Rattle.jg_table_buffers.specs.History as buffers
 use Rattle.jg_rules.specs.Parts.{Parts}
 use Rattle.jg_rules.specs.Names.{object_named}
 use Rattle.jg_rules.specs.Operands.{operands}

@@ -9,20 +9,20 @@ use Rattle.jg_words.specs.declared.reference.Ref.TheVariants.{Null, To}
 use Rattle.jg_words.specs.declared.reference.Kind.TheVariants.{Local, Global, Weak}
 use Rattle.jg_words.specs.declared.buffer.BufId.{BufId}
 use Rattle.jg_policy.proofs.Counting.{how_many-reordered}
-use Rattle.jg_locals.specs.History as locals
-use Rattle.jg_locals.specs.Rows.{is_local, local_ref}
-use Rattle.jg_locals.specs.Standing as local_standing
-use Rattle.jg_globals.specs.History as globals
-use Rattle.jg_globals.specs.declared.target.Target.{Target}
-use Rattle.jg_globals.specs.Rows.{is_strong, is_weak, strong_ref, weak_ref}
-use Rattle.jg_globals.specs.Standing as global_standing
-use Rattle.jg_buffers.specs.History.{Buffer, same_ref, is_same, opened}
-use Rattle.jg_buffers.specs.Rows.{is_buffer, name_of}
-use Rattle.jg_buffers.specs.Standing as buffer_standing
-use Rattle.jg_monitors.specs.History as monitors
-use Rattle.jg_monitors.specs.Rows.{is_of, owned_monitor}
-use Rattle.jg_monitors.specs.declared.owned_monitor.OwnedMonitor.{OwnedMonitor}
-use Rattle.jg_monitors.specs.Standing as monitor_standing
+use Rattle.jg_table_locals.specs.History as locals
+use Rattle.jg_table_locals.specs.Rows.{is_local, local_ref}
+use Rattle.jg_table_locals.specs.Standing as local_standing
+use Rattle.jg_table_globals.specs.History as globals
+use Rattle.jg_table_globals.specs.declared.target.Target.{Target}
+use Rattle.jg_table_globals.specs.Rows.{is_strong, is_weak, strong_ref, weak_ref}
+use Rattle.jg_table_globals.specs.Standing as global_standing
+use Rattle.jg_table_buffers.specs.History.{Buffer, same_ref, is_same, opened}
+use Rattle.jg_table_buffers.specs.Rows.{is_buffer, name_of}
+use Rattle.jg_table_buffers.specs.Standing as buffer_standing
+use Rattle.jg_table_monitors.specs.History as monitors
+use Rattle.jg_table_monitors.specs.Rows.{is_of, owned_monitor}
+use Rattle.jg_table_monitors.specs.declared.owned_monitor.OwnedMonitor.{OwnedMonitor}
+use Rattle.jg_table_monitors.specs.Standing as monitor_standing
 use Rattle.jg_rules.specs.Parts.{HoldersStand, Parts, RowsBeside}
 use Rattle.jg_leaks.specs.Left.{ListsRefs, ListsBuffers, ListsMonitors, monitor_owned}
 

@@ -6,15 +6,15 @@ use Rattle.jg_words.specs.declared.reference.Ref.{Ref}
 use Rattle.jg_words.specs.declared.reference.Ref.TheVariants.{Null, To}
 use Rattle.jg_words.specs.declared.reference.Kind.TheVariants.{Local, Global, Weak}
 use Rattle.jg_words.specs.declared.buffer.BufId.{BufId}
-use Rattle.jg_locals.specs.History as locals
-use Rattle.jg_globals.specs.History as globals
-use Rattle.jg_buffers.specs.History as buffers
-use Rattle.jg_buffers.specs.History.{same_ref, is_same}
-use Rattle.jg_buffers.specs.Keys.{pair_cmp}
-use Rattle.jg_buffers.specs.Ordered.{buffer_key}
-use Rattle.jg_monitors.specs.History as monitors
-use Rattle.jg_monitors.specs.Rows.{Ascends}
-use Rattle.jg_monitors.specs.declared.owned_monitor.OwnedMonitor.{OwnedMonitor}
+use Rattle.jg_table_locals.specs.History as locals
+use Rattle.jg_table_globals.specs.History as globals
+use Rattle.jg_table_buffers.specs.History as buffers
+use Rattle.jg_table_buffers.specs.History.{same_ref, is_same}
+use Rattle.jg_table_buffers.specs.Keys.{pair_cmp}
+use Rattle.jg_table_buffers.specs.Ordered.{buffer_key}
+use Rattle.jg_table_monitors.specs.History as monitors
+use Rattle.jg_table_monitors.specs.Rows.{Ascends}
+use Rattle.jg_table_monitors.specs.declared.owned_monitor.OwnedMonitor.{OwnedMonitor}
 use Rattle.jg_rules.specs.Parts.{Parts}
 
 -- a local that is live for its maker, or a global or weak reference in being, of which a weak one may be cleared (JNI

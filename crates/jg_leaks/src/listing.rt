@@ -5,8 +5,8 @@ ghost use Rattle.jg_rules.specs.Parts.{HoldersStand, Parts};
 ghost use Rattle.jg_rules.specs.View.{rows_in};
 ghost use Rattle.jg_leaks.specs.Left.{AreLeft, BuffersAscend, ListsBuffers, ListsRefs, RefsAscend, ref_key};
 
-use jg_monitors::OwnedMonitor;
 use jg_rules::{Store, View};
+use jg_table_monitors::OwnedMonitor;
 use jg_words::{BufId, Ref};
 use std::alloc::{AllocError, Allocator, Global};
 

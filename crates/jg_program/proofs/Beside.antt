@@ -5,10 +5,10 @@ use Rattle.std.specs.Option.{is_some}
 use Rattle.jg_words.specs.Entry.{Entry}
 use Rattle.jg_policy.specs.Stated.{StatedSetup}
 use Rattle.jg_script.specs.Beside.{FollowsIf}
-use Rattle.jg_counsel.specs.declared.counselling.Counselling.{Counselling}
+use Rattle.jg_guard_advice.specs.declared.counselling.Counselling.{Counselling}
 use Rattle.jg_advice.specs.Moments.{Moment}
 use Rattle.jg_advice.specs.Told.{Tells as Advises}
-use Rattle.jg_counsel.specs.Counselled.{AreMoments, Counselled, Follows}
+use Rattle.jg_guard_advice.specs.Counselled.{AreMoments, Counselled, Follows}
 use Rattle.jg_program.specs.declared.reporting.Reporting.{Reporting}
 use Rattle.jg_program.specs.Advising.{SaysAdvice, SaysAsked, StandsBeside, is_advised}
 

@@ -1,6 +1,6 @@
 -- What is told of a stop, and how a setup's file is refused.
 use Rattle.std.proofs.Common.{◌≡◌, ◌⊎◌, inl, inr, ℕ, Bool, true, false, List, [], Option, Result, Ok, Err, IfOk, OnErr, codes, unwrap_or, refl, sym, subst}
-use Rattle.jg_faults.specs.Setups.{TellsSetup}
+use Rattle.jg_fault_text.specs.Setups.{TellsSetup}
 use Rattle.jg_policy.specs.declared.fault.SetupFault.{SetupFault}
 use Rattle.jg_policy.specs.declared.fault.SetupFault.TheVariants.{TooMany, NoMemory as NoRoom}
 use Rattle.jg_program.specs.declared.stop.ProgramEnd.{ProgramEnd}

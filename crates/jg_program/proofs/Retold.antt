@@ -4,8 +4,8 @@ use Rattle.std.specs.Prelude.{IsOk}
 use Rattle.std.specs.Io.KnownBytes.{Appends}
 use Rattle.jg_words.specs.Entry.{Entry}
 use Rattle.jg_policy.specs.Stated.{StatedSetup}
-use Rattle.jg_retelling.specs.declared.fault.RetellFault.{RetellFault}
-use Rattle.jg_retelling.specs.Retold.{RetellsJournal, Stops}
+use Rattle.jg_journal_record.specs.declared.fault.RetellFault.{RetellFault}
+use Rattle.jg_journal_record.specs.Retold.{RetellsJournal, Stops}
 use Rattle.jg_script.specs.declared.replay.Replayed.{Replayed}
 use Rattle.jg_script.specs.declared.replay.Verdict.{Verdict}
 use Rattle.jg_script.specs.declared.replay.Verdict.TheVariants as verdict

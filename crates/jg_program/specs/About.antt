@@ -1,8 +1,8 @@
 -- What is told of where the work stopped.
 use Rattle.std.specs.Prelude.{ℕ, ◌≡◌, List, [], ◌++◌, codes, Option, Result, Ok, Err}
 use Rattle.std.specs.Fmt.{decimal}
-use Rattle.jg_faults.specs.Lines.{Tells}
-use Rattle.jg_faults.specs.Setups.{TellsSetup}
+use Rattle.jg_fault_text.specs.Lines.{Tells}
+use Rattle.jg_fault_text.specs.Setups.{TellsSetup}
 use Rattle.jg_script.specs.declared.replay.Replayed.{Replayed}
 use Rattle.jg_script.specs.declared.replay.Replayed.TheVariants.{Differs}
 use Rattle.jg_script.specs.declared.run_fault.RunFault.TheVariants.{Script}

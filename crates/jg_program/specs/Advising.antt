@@ -5,8 +5,8 @@ use Rattle.jg_words.specs.Entry.{Entry}
 use Rattle.jg_policy.specs.Stated.{StatedSetup}
 use Rattle.jg_advice.specs.Moments.{Moment}
 use Rattle.jg_advice.specs.Told.{Tells as Advises}
-use Rattle.jg_counsel.specs.declared.counselling.Counselling.{Counselling}
-use Rattle.jg_counsel.specs.Counselled.{AreMoments, Counselled}
+use Rattle.jg_guard_advice.specs.declared.counselling.Counselling.{Counselling}
+use Rattle.jg_guard_advice.specs.Counselled.{AreMoments, Counselled}
 use Rattle.jg_args.specs.declared.asked.Advising.{Advising}
 use Rattle.jg_args.specs.declared.asked.Advising.TheVariants.{Never, Once, Each}
 use Rattle.jg_program.specs.declared.reporting.Reporting.{Reporting}

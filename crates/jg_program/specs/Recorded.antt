@@ -5,7 +5,7 @@ use Rattle.std.specs.Io.KnownBytes.{Appends, Keeps}
 use Rattle.jg_words.specs.declared.buffer.BufId.{BufId}
 use Rattle.jg_words.specs.declared.reference.Ref.{Ref}
 use Rattle.jg_policy.specs.Stated.{StatedSetup}
-use Rattle.jg_monitors.specs.declared.owned_monitor.OwnedMonitor.{OwnedMonitor}
+use Rattle.jg_table_monitors.specs.declared.owned_monitor.OwnedMonitor.{OwnedMonitor}
 use Rattle.jg_leaks.specs.Left.{AreLeft}
 use Rattle.jg_core.specs.Facts.{parts_of}
 use Rattle.jg_record.specs.Parts.{AreParts}

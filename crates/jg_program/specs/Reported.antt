@@ -7,7 +7,7 @@ use Rattle.jg_words.specs.declared.buffer.BufId.{BufId}
 use Rattle.jg_words.specs.declared.reference.Ref.{Ref}
 use Rattle.jg_words.specs.Entry.{Entry, rule_in}
 use Rattle.jg_policy.specs.Stated.{StatedSetup}
-use Rattle.jg_monitors.specs.declared.owned_monitor.OwnedMonitor.{OwnedMonitor}
+use Rattle.jg_table_monitors.specs.declared.owned_monitor.OwnedMonitor.{OwnedMonitor}
 use Rattle.jg_rules.specs.Effects.{parts}
 use Rattle.jg_leaks.specs.Left.{AreLeft}
 use Rattle.jg_explain.specs.Left.{all_left_text}

@@ -4,9 +4,9 @@ use Rattle.std.specs.Io.KnownBytes.{Appends, Keeps}
 use Rattle.jg_words.specs.Entry.{Entry}
 use Rattle.jg_policy.specs.Stated.{StatedSetup}
 use Rattle.jg_record.specs.declared.unwritten.Unwritten.TheVariants as unwritten
-use Rattle.jg_retelling.specs.declared.fault.RetellFault.{RetellFault}
-use Rattle.jg_retelling.specs.declared.fault.RetellFault.TheVariants as retell
-use Rattle.jg_retelling.specs.Retold.{RetellsJournal, Stops}
+use Rattle.jg_journal_record.specs.declared.fault.RetellFault.{RetellFault}
+use Rattle.jg_journal_record.specs.declared.fault.RetellFault.TheVariants as retell
+use Rattle.jg_journal_record.specs.Retold.{RetellsJournal, Stops}
 use Rattle.jg_script.specs.declared.run_fault.RunFault.{RunFault}
 use Rattle.jg_script.specs.declared.run_fault.RunFault.TheVariants.{Limit, NoMemory, Write}
 use Rattle.jg_script.specs.declared.replay.Replayed.{Replayed}

@@ -8,10 +8,10 @@ ghost use Rattle.jg_program.specs.Reported.{EndsTelling, IsToldIf};
 
 use crate::stop::{ProgramEnd, ProgramStop, Status, quietly, telling};
 use jg_args::{ArgsFault, refused_word};
-use jg_faults::push_line_fault;
+use jg_denial_text::push_quoted;
+use jg_fault_text::push_line_fault;
 use jg_guard::Guard;
 use jg_script::{Difference, Replayed, RunFault, ScriptFault, outcome_in, read_call};
-use jg_telling::push_quoted;
 use jg_text::{front_of_call, push_answer, push_number};
 use std::alloc::{AllocError, Global};
 

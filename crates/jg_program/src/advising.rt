@@ -8,8 +8,8 @@ ghost use Rattle.jg_program.specs.Advising.{is_advised, SaysAdvice, StandsBeside
 ghost use Rattle.jg_words.specs.Entry.{Entry};
 
 use crate::reporting::Reporting;
-use jg_counsel::{Counselling, counsel_journal};
 use jg_guard::{Guard, NoMemory};
+use jg_guard_advice::{Counselling, counsel_journal};
 use std::alloc::{AllocError, Global};
 
 /// What stands beside a guard that took no call yet, where advice is asked for. Fails for want of memory.

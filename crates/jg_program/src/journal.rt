@@ -18,8 +18,8 @@ use crate::advising::{advice_of, begin_counselling};
 use crate::reporting::{Reporting, report};
 use crate::stop::{ProgramEnd, ProgramStop, Status, quietly};
 use itoa::Buffer;
-use jg_counsel::Counselling;
 use jg_guard::Guard;
+use jg_guard_advice::Counselling;
 use jg_policy::Setup;
 use jg_script::{
     DeviceFailed, HandsOn, Replayed, RunFault, Verdict, Watched, replay_beside, write_text,

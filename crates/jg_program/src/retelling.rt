@@ -7,9 +7,9 @@ ghost use Rattle.jg_program.specs.Retold.{EndsFacts, RetellsLines, SaysRead, Tel
 use crate::journal::{end_without_guard, status_of, write_difference};
 use crate::stop::{ProgramEnd, ProgramStop, quietly};
 use jg_guard::Guard;
+use jg_journal_record::{RetellFault, retell_journal};
 use jg_policy::Setup;
 use jg_record::Unwritten;
-use jg_retelling::{RetellFault, retell_journal};
 use jg_script::{HandsOn, Replayed, RunFault, Verdict, Watched};
 use std::alloc::Global;
 use std::io::{BufRead, Write};

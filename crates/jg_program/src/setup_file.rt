@@ -3,7 +3,7 @@
 ghost use Rattle.std.specs.Prelude.{◌≡◌, ◌≢◌, ◌⊎◌, ◌<◌, ◌≤◌, codes, length, true, IfOk, IfErr, OnErr, OnOk, string_bytes};
 ghost use Rattle.std.specs.IoError.{error_kind};
 ghost use Rattle.std.specs.declared.io.ErrorKind.TheVariants.{OutOfMemory};
-ghost use Rattle.jg_faults.specs.Setups.{TellsSetup};
+ghost use Rattle.jg_fault_text.specs.Setups.{TellsSetup};
 ghost use Rattle.jg_policy.specs.declared.fault.SetupFault.TheVariants.{NoMemory, TooMany};
 ghost use Rattle.jg_program.specs.declared.stop.ProgramStop.TheVariants.{Setup as Faulty, SetupRead};
 ghost use Rattle.jg_program.specs.Ended.{EndsRefused};
@@ -11,7 +11,7 @@ ghost use Rattle.jg_program.specs.Reported.{EndsTelling, IsToldIf};
 ghost use Rattle.jg_program.specs.StatedBy.{base_setup, Gives, IsFront, IsStated};
 
 use crate::stop::{ProgramEnd, ProgramStop, quietly, telling};
-use jg_faults::push_setup_fault;
+use jg_fault_text::push_setup_fault;
 use jg_policy::{Setup, SetupFault};
 use std::alloc::{AllocError, Global};
 use std::io;

@@ -3,10 +3,10 @@ use Rattle.std.proofs.Common.{◌≡◌, ◌∷◌, ◌++◌, ℕ, Bool, true, f
 use Rattle.std.specs.Prelude.{Result, Ok, Err}
 use Rattle.std.specs.Result.{is_ok, is_err}
 use Rattle.std.proofs.lemmas.List.{append-nil}
-use Rattle.jg_functions.specs.declared.row.Takes.{Takes}
-use Rattle.jg_questions.specs.declared.argument.Argument.{Argument}
-use Rattle.jg_questions.specs.Asked.{is_last}
-use Rattle.jg_questions.specs.Suits.{are_none}
+use Rattle.jg_rows.specs.declared.row.Takes.{Takes}
+use Rattle.jg_judge.specs.declared.argument.Argument.{Argument}
+use Rattle.jg_judge.specs.Asked.{is_last}
+use Rattle.jg_judge.specs.Suits.{are_none}
 use Rattle.jg_record.specs.Operands.{Asks, Spells, sort_of}
 
 -- what is left to read goes on with what was read: whatever operands the rest are, the whole are those read and these;

@@ -8,9 +8,9 @@ use Rattle.jg_policy.specs.Stated.{StatedSetup}
 use Rattle.jg_text.specs.Words.{tid_text, env_text, FitsTid, FitsEnv}
 use Rattle.jg_text.specs.Faults.{fields}
 use Rattle.jg_text.proofs.Laws.{tids_same}
-use Rattle.jg_functions.specs.ByName.{name_at}
-use Rattle.jg_functions.specs.Columns.{Columns}
-use Rattle.jg_questions.specs.declared.argument.Argument.{Argument}
+use Rattle.jg_rows.specs.ByName.{name_at}
+use Rattle.jg_rows.specs.Columns.{Columns}
+use Rattle.jg_judge.specs.declared.argument.Argument.{Argument}
 use Rattle.jg_record.specs.declared.event.Event.{Event}
 use Rattle.jg_record.specs.declared.fault.RecordFault.{RecordFault}
 use Rattle.jg_record.specs.declared.fault.RecordFault.TheVariants.{LineTooLong, NotAscii, NoThread, NoEvent, UnknownFunction, WrongCount, BadOperand, NoMemory}

@@ -15,14 +15,14 @@ use Rattle.jg_words.specs.declared.reference.Ref.{Ref}
 use Rattle.jg_words.specs.declared.buffer.BufId.{BufId}
 use Rattle.jg_words.specs.declared.object.Primitive.TheVariants.{Boolean, Byte, Char, Short, Int, Long}
 use Rattle.jg_words.specs.declared.object.ItemType.TheVariants.{Of, Float, Double}
-use Rattle.jg_buffers.specs.declared.family.Family.{Family}
-use Rattle.jg_buffers.specs.declared.family.Family.TheVariants.{Elements, Chars, UtfChars, ArrayCritical, StringCritical}
+use Rattle.jg_table_buffers.specs.declared.family.Family.{Family}
+use Rattle.jg_table_buffers.specs.declared.family.Family.TheVariants.{Elements, Chars, UtfChars, ArrayCritical, StringCritical}
 use Rattle.jg_text.specs.Words.{ref_text, buf_text, FitsRef, FitsBuf, of_ref, of_number, of_buffer}
 use Rattle.jg_text.proofs.Laws.{IsVisible, seen_number, seen_signed, seen_word}
-use Rattle.jg_functions.specs.Columns.{Columns}
-use Rattle.jg_functions.specs.Table.{functions}
-use Rattle.jg_questions.specs.declared.argument.Argument.{Argument}
-use Rattle.jg_questions.specs.declared.argument.Argument.TheVariants as argument
+use Rattle.jg_rows.specs.Columns.{Columns}
+use Rattle.jg_rows.specs.Table.{functions}
+use Rattle.jg_judge.specs.declared.argument.Argument.{Argument}
+use Rattle.jg_judge.specs.declared.argument.Argument.TheVariants as argument
 use Rattle.jg_record.specs.Words.{object_text, kept_text, stated_text, list_text, FitsObject, FitsKept, FitsStated}
 use Rattle.jg_record.specs.Texts.{kind_word, family_word, argument_text, FitsArgument}
 

@@ -4,10 +4,10 @@ use Rattle.std.specs.Prelude.{◌&&◌}
 use Rattle.std.specs.List.{AllByRecursion}
 use Rattle.std.proofs.lemmas.Bool.{and_parts}
 use Rattle.std.proofs.lemmas.Bool.Decides.{nat_tests}
-use Rattle.jg_functions.specs.declared.row.Takes.{Takes}
-use Rattle.jg_questions.specs.declared.argument.Argument.{Argument}
-use Rattle.jg_questions.specs.declared.argument.Argument.TheVariants as argument
-use Rattle.jg_questions.specs.Asked.{is_last}
+use Rattle.jg_rows.specs.declared.row.Takes.{Takes}
+use Rattle.jg_judge.specs.declared.argument.Argument.{Argument}
+use Rattle.jg_judge.specs.declared.argument.Argument.TheVariants as argument
+use Rattle.jg_judge.specs.Asked.{is_last}
 use Rattle.jg_record.specs.declared.operands.Sort.{Sort}
 use Rattle.jg_record.specs.declared.operands.Sort.TheVariants as sort
 use Rattle.jg_record.specs.Operands.{Asks, Spells, sort_of}

@@ -11,13 +11,13 @@ use Rattle.jg_words.specs.declared.object.ItemType.TheVariants.{Of, Float, Doubl
 use Rattle.jg_words.specs.declared.reference.Kind.{Kind}
 use Rattle.jg_words.specs.declared.reference.Kind.TheVariants as kind
 use Rattle.jg_policy.specs.Stated.{StatedSetup, class_count}
-use Rattle.jg_buffers.specs.declared.family.Family.{Family}
-use Rattle.jg_buffers.specs.declared.family.Family.TheVariants as family
+use Rattle.jg_table_buffers.specs.declared.family.Family.{Family}
+use Rattle.jg_table_buffers.specs.declared.family.Family.TheVariants as family
 use Rattle.jg_text.specs.Words.{ref_text, buf_text}
 use Rattle.jg_text.proofs.Laws.{IsVisible, seen_number}
-use Rattle.jg_questions.specs.declared.kinds.OwnKind.{OwnKind}
-use Rattle.jg_questions.specs.declared.kinds.OwnKind.TheVariants as own
-use Rattle.jg_questions.specs.Kinds.{own_place, is_class}
+use Rattle.jg_judge.specs.declared.kinds.OwnKind.{OwnKind}
+use Rattle.jg_judge.specs.declared.kinds.OwnKind.TheVariants as own
+use Rattle.jg_judge.specs.Kinds.{own_place, is_class}
 use Rattle.jg_core.specs.declared.fact.Fact.{Fact as FactOf}
 use Rattle.jg_core.specs.declared.fact.Fact.TheVariants as fact
 use Rattle.jg_core.specs.declared.fact.Checked.TheVariants as checked

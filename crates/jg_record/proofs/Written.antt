@@ -12,11 +12,11 @@ use Rattle.jg_policy.specs.Stated.{StatedSetup}
 use Rattle.jg_text.specs.Words.{tid_text, env_text, FitsTid}
 use Rattle.jg_text.specs.Pieces.{after_spaces}
 use Rattle.jg_text.proofs.Laws.{IsVisible, seen_tid, seen_env}
-use Rattle.jg_functions.specs.ByName.{name_at}
-use Rattle.jg_functions.specs.Columns.{Columns}
-use Rattle.jg_functions.specs.Table.{functions}
-use Rattle.jg_questions.specs.declared.argument.Argument.{Argument}
-use Rattle.jg_questions.specs.declared.argument.Bounds.{Bounds as BoundsOf}
+use Rattle.jg_rows.specs.ByName.{name_at}
+use Rattle.jg_rows.specs.Columns.{Columns}
+use Rattle.jg_rows.specs.Table.{functions}
+use Rattle.jg_judge.specs.declared.argument.Argument.{Argument}
+use Rattle.jg_judge.specs.declared.argument.Bounds.{Bounds as BoundsOf}
 use Rattle.jg_record.specs.declared.event.Event.{Event}
 use Rattle.jg_record.specs.declared.event.Event.TheVariants.{Question, Fact, Gone, Bounds}
 use Rattle.jg_record.specs.declared.verb.Verb.TheVariants as verb

@@ -10,14 +10,14 @@ use Rattle.jg_words.specs.declared.buffer.BufId.{BufId}
 use Rattle.jg_words.specs.declared.reference.Kind.{Kind}
 use Rattle.jg_words.specs.declared.reference.Ref.{Ref}
 use Rattle.jg_policy.specs.Stated.{StatedSetup, class_count}
-use Rattle.jg_buffers.specs.declared.family.Family.{Family}
+use Rattle.jg_table_buffers.specs.declared.family.Family.{Family}
 use Rattle.jg_text.specs.Words.{tid_text, env_text, ref_text, buf_text, FitsTid, FitsEnv, FitsRef, FitsBuf}
 use Rattle.jg_text.specs.Faults.{fields}
-use Rattle.jg_functions.specs.Columns.{Columns}
-use Rattle.jg_functions.specs.Table.{functions}
-use Rattle.jg_questions.specs.declared.argument.Argument.{Argument}
-use Rattle.jg_questions.specs.declared.kinds.OwnKind.{OwnKind}
-use Rattle.jg_questions.specs.Kinds.{own_class}
+use Rattle.jg_rows.specs.Columns.{Columns}
+use Rattle.jg_rows.specs.Table.{functions}
+use Rattle.jg_judge.specs.declared.argument.Argument.{Argument}
+use Rattle.jg_judge.specs.declared.kinds.OwnKind.{OwnKind}
+use Rattle.jg_judge.specs.Kinds.{own_class}
 use Rattle.jg_core.specs.declared.fact.Fact.TheVariants as fact
 use Rattle.jg_core.specs.declared.fact.Checked.TheVariants as checked
 use Rattle.jg_record.specs.declared.event.Event.{Event}

@@ -8,12 +8,12 @@ use Rattle.jg_words.specs.Name.{IsName}
 use Rattle.jg_words.specs.declared.buffer.BufId.{BufId}
 use Rattle.jg_words.specs.declared.reference.Ref.{Ref}
 use Rattle.jg_text.specs.Words.{ref_text, buf_text, FitsRef, FitsBuf}
-use Rattle.jg_functions.specs.declared.row.Takes.{Takes}
-use Rattle.jg_functions.specs.declared.row.Takes.TheVariants as takes
-use Rattle.jg_questions.specs.declared.argument.Argument.{Argument}
-use Rattle.jg_questions.specs.declared.argument.Argument.TheVariants as argument
-use Rattle.jg_questions.specs.Asked.{is_last}
-use Rattle.jg_questions.specs.Suits.{are_none}
+use Rattle.jg_rows.specs.declared.row.Takes.{Takes}
+use Rattle.jg_rows.specs.declared.row.Takes.TheVariants as takes
+use Rattle.jg_judge.specs.declared.argument.Argument.{Argument}
+use Rattle.jg_judge.specs.declared.argument.Argument.TheVariants as argument
+use Rattle.jg_judge.specs.Asked.{is_last}
+use Rattle.jg_judge.specs.Suits.{are_none}
 use Rattle.jg_record.specs.declared.operands.Sort.{Sort}
 use Rattle.jg_record.specs.declared.operands.Sort.TheVariants.{Reference, Buffer, Bounded, Number, Value, Id, Class, Native, Name, List as ListOf}
 use Rattle.jg_record.specs.Words.{stated_text, id_text, list_text, FitsStated}

@@ -4,11 +4,11 @@ use Rattle.jg_words.specs.declared.thread.Tid.{Tid}
 use Rattle.jg_words.specs.declared.thread.EnvId.{EnvId}
 use Rattle.jg_words.specs.declared.object.ObjId.{ObjId}
 use Rattle.jg_policy.specs.Stated.{StatedSetup}
-use Rattle.jg_functions.specs.declared.row.Takes.{Takes}
-use Rattle.jg_functions.specs.ByName.{name_at}
-use Rattle.jg_functions.specs.Columns.{Columns}
-use Rattle.jg_functions.specs.Table.{functions}
-use Rattle.jg_questions.specs.declared.argument.Argument.{Argument}
+use Rattle.jg_rows.specs.declared.row.Takes.{Takes}
+use Rattle.jg_rows.specs.ByName.{name_at}
+use Rattle.jg_rows.specs.Columns.{Columns}
+use Rattle.jg_rows.specs.Table.{functions}
+use Rattle.jg_judge.specs.declared.argument.Argument.{Argument}
 use Rattle.jg_record.specs.declared.event.Event.{Event}
 use Rattle.jg_record.specs.declared.event.Event.TheVariants.{Question}
 use Rattle.jg_record.specs.declared.fault.RecordFault.{RecordFault}

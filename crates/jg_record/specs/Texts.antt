@@ -10,18 +10,18 @@ use Rattle.jg_words.specs.declared.object.ItemType.TheVariants.{Of, Float, Doubl
 use Rattle.jg_words.specs.declared.reference.Kind.{Kind}
 use Rattle.jg_words.specs.declared.reference.Kind.TheVariants.{Local, Global, Weak}
 use Rattle.jg_policy.specs.Stated.{StatedSetup, class_count}
-use Rattle.jg_buffers.specs.declared.family.Family.{Family}
-use Rattle.jg_buffers.specs.declared.family.Family.TheVariants.{Elements, Chars, UtfChars, ArrayCritical, StringCritical}
+use Rattle.jg_table_buffers.specs.declared.family.Family.{Family}
+use Rattle.jg_table_buffers.specs.declared.family.Family.TheVariants.{Elements, Chars, UtfChars, ArrayCritical, StringCritical}
 use Rattle.jg_text.specs.Words.{env_text, ref_text, buf_text, FitsEnv, FitsRef, FitsBuf}
-use Rattle.jg_functions.specs.declared.row.Takes.{Takes}
-use Rattle.jg_functions.specs.ByName.{name_at}
-use Rattle.jg_functions.specs.Columns.{Columns}
-use Rattle.jg_functions.specs.Table.{functions}
-use Rattle.jg_questions.specs.declared.argument.Argument.{Argument}
-use Rattle.jg_questions.specs.declared.argument.Argument.TheVariants as argument
-use Rattle.jg_questions.specs.Asked.{is_last}
-use Rattle.jg_questions.specs.Suits.{are_none}
-use Rattle.jg_questions.specs.Kinds.{is_class}
+use Rattle.jg_rows.specs.declared.row.Takes.{Takes}
+use Rattle.jg_rows.specs.ByName.{name_at}
+use Rattle.jg_rows.specs.Columns.{Columns}
+use Rattle.jg_rows.specs.Table.{functions}
+use Rattle.jg_judge.specs.declared.argument.Argument.{Argument}
+use Rattle.jg_judge.specs.declared.argument.Argument.TheVariants as argument
+use Rattle.jg_judge.specs.Asked.{is_last}
+use Rattle.jg_judge.specs.Suits.{are_none}
+use Rattle.jg_judge.specs.Kinds.{is_class}
 use Rattle.jg_core.specs.declared.fact.Fact.{Fact as FactOf}
 use Rattle.jg_core.specs.declared.fact.Fact.TheVariants as fact
 use Rattle.jg_core.specs.declared.fact.Checked.{Checked}

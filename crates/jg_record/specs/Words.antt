@@ -7,10 +7,10 @@ use Rattle.jg_words.specs.declared.object.Primitive.TheVariants.{Boolean, Byte, 
 use Rattle.jg_words.specs.declared.object.ItemType.TheVariants.{Of, Float, Double}
 use Rattle.jg_words.specs.declared.reference.Kind.{Kind}
 use Rattle.jg_words.specs.declared.reference.Kind.TheVariants as kind
-use Rattle.jg_buffers.specs.declared.family.Family.{Family}
-use Rattle.jg_buffers.specs.declared.family.Family.TheVariants as family
-use Rattle.jg_questions.specs.declared.kinds.OwnKind.{OwnKind}
-use Rattle.jg_questions.specs.declared.kinds.OwnKind.TheVariants as own
+use Rattle.jg_table_buffers.specs.declared.family.Family.{Family}
+use Rattle.jg_table_buffers.specs.declared.family.Family.TheVariants as family
+use Rattle.jg_judge.specs.declared.kinds.OwnKind.{OwnKind}
+use Rattle.jg_judge.specs.declared.kinds.OwnKind.TheVariants as own
 use Rattle.jg_record.specs.declared.verb.Verb.{Verb}
 use Rattle.jg_record.specs.declared.verb.Verb.TheVariants.{Begins, Ends, Enters, Leaves, Pushed, Popped, Ensured, Raised, Calmed, Got, Lost, Lent, Gave, Owns, Freed, Met, Gone, Linked, Unlinked, Warned, Local, Pending, Length, Bounds}
 

@@ -6,7 +6,7 @@ use Rattle.jg_words.specs.declared.object.ObjId.{ObjId}
 use Rattle.jg_policy.specs.Stated.{StatedSetup}
 use Rattle.jg_text.specs.Words.{tid_text}
 use Rattle.jg_text.specs.Faults.{fields}
-use Rattle.jg_questions.specs.declared.argument.Argument.{Argument}
+use Rattle.jg_judge.specs.declared.argument.Argument.{Argument}
 use Rattle.jg_core.specs.declared.fact.Fact.{Fact as FactOf}
 use Rattle.jg_core.specs.declared.fact.Fact.TheVariants as fact
 use Rattle.jg_core.specs.declared.fact.Checked.{Checked}

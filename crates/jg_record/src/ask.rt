@@ -3,16 +3,16 @@
 ghost use Rattle.std.specs.Prelude.{◌≡◌, ◌<◌, ◌^◌, ◌++◌, ◌∷◌, OnOk, map, slice_get, string_bytes};
 ghost use Rattle.std.specs.List.{AllByRecursion};
 ghost use Rattle.jg_text.specs.Words.{FitsEnv, env_text};
-ghost use Rattle.jg_functions.specs.ByName.{name_at};
-ghost use Rattle.jg_functions.specs.Table.{functions};
+ghost use Rattle.jg_rows.specs.ByName.{name_at};
+ghost use Rattle.jg_rows.specs.Table.{functions};
 ghost use Rattle.jg_record.specs.Texts as texts;
 ghost use Rattle.jg_record.specs.Texts.{FitsArgument, appended, argument_text};
 ghost use Rattle.jg_record.specs.Words.{list_text};
 
 use crate::operands::{Sort, sort_of};
 use crate::push;
-use jg_functions::{Takes, row_of};
-use jg_questions::{Argument, are_none, is_last};
+use jg_judge::{Argument, are_none, is_last};
+use jg_rows::{Takes, row_of};
 use jg_words::EnvId;
 use std::alloc::AllocError;
 

@@ -1,7 +1,7 @@
 //! What a line of a record says.
 
 use jg_core::Fact;
-use jg_questions::{Argument, Bounds};
+use jg_judge::{Argument, Bounds};
 use jg_words::{EnvId, ObjId, Tid};
 
 /// What a line says. The operands of a question, and the objects that are gone, stand in [`Lists`].

@@ -5,8 +5,8 @@ ghost use Rattle.std.specs.List.{list_any};
 ghost use Rattle.std.specs.Option.{option_copied};
 ghost use Rattle.jg_words.specs.Name.{IsName};
 ghost use Rattle.jg_text.specs.Pieces.{rest_fields};
-ghost use Rattle.jg_questions.specs.declared.argument.Argument.{Argument as ArgumentOf};
-ghost use Rattle.jg_questions.specs.Asked as asked;
+ghost use Rattle.jg_judge.specs.declared.argument.Argument.{Argument as ArgumentOf};
+ghost use Rattle.jg_judge.specs.Asked as asked;
 ghost use Rattle.jg_record.specs.Operands as spec;
 ghost use Rattle.jg_record.specs.Operands.{Asks, Spells};
 ghost use Rattle.jg_record.specs.Pieces.{IsOperandFault};
@@ -14,8 +14,8 @@ ghost use Rattle.jg_record.specs.declared.operands.Sort.TheVariants as sort;
 
 use crate::fault::RecordFault;
 use crate::word::read_stated;
-use jg_functions::Takes;
-use jg_questions::{Argument, are_none, is_last};
+use jg_judge::{Argument, are_none, is_last};
+use jg_rows::Takes;
 use jg_text::{next_field, read_buf, read_number, read_ref, signed_number, small_signed_number};
 use jg_words::MAX_NAME;
 

@@ -13,9 +13,9 @@ use crate::facts::{is_told_count, read_told};
 use crate::fault::RecordFault;
 use crate::operands::{is_count, read_operands};
 use crate::verb::{Verb, verb_named};
-use jg_functions::{place_of, row_of};
+use jg_judge::Argument;
 use jg_policy::Setup;
-use jg_questions::Argument;
+use jg_rows::{place_of, row_of};
 use jg_text::{MAX_LINE, count_fields, cut, first_env, first_tid, is_printable};
 use jg_words::{EnvId, ObjId, Tid};
 

@@ -11,10 +11,10 @@ ghost use Rattle.jg_record.specs.Texts.{FitsChecked, FitsFact, appended, checked
 ghost use Rattle.jg_record.specs.Writing as writing;
 
 use crate::push;
-use jg_buffers::Family;
 use jg_core::{Checked, Fact};
+use jg_judge::{Bounds, is_class};
 use jg_policy::Setup;
-use jg_questions::{Bounds, is_class};
+use jg_table_buffers::Family;
 use jg_words::{BufId, ItemType, Kind, ObjId, Primitive, Ref, Tid};
 use std::alloc::AllocError;
 

@@ -6,8 +6,8 @@ ghost use Rattle.jg_words.specs.declared.object.ObjId.{ObjId as ObjIdOf};
 ghost use Rattle.jg_record.specs.Words as words;
 ghost use Rattle.jg_record.specs.Words.{FitsKept, FitsObject, FitsStated, kept_text, object_text, stated_text};
 
-use jg_buffers::Family;
-use jg_questions::OwnKind;
+use jg_judge::OwnKind;
+use jg_table_buffers::Family;
 use jg_text::read_number;
 use jg_words::{ItemType, Kind, ObjId, Primitive};
 

@@ -1,6 +1,6 @@
 -- What the whole set of tables says of those that hold objects.
 use Rattle.std.proofs.Common.{ℕ, List}
-use Rattle.jg_heap.specs.History.{Event}
+use Rattle.jg_table_heap.specs.History.{Event}
 use Rattle.jg_policy.specs.Stated.{StatedSetup}
 use Rattle.jg_rules.specs.Parts.{HoldersStand, Parts, RowsBeside, StandBeside}
 

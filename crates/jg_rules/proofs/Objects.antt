@@ -7,13 +7,13 @@ use Rattle.std.proofs.lemmas.List.{length-map}
 use Rattle.std.proofs.lemmas.List.FromFn.{length-map-range_with_len}
 use Rattle.std.proofs.lemmas.Bool.Decides.{nat_tests}
 use Rattle.jg_policy.specs.Stated.{StatedSetup, class_count}
-use Rattle.jg_heap.specs.declared.object.Slot.{Slot}
-use Rattle.jg_heap.specs.declared.object.Slot.TheVariants.{Number}
-use Rattle.jg_heap.specs.Making.{class_in, length_in}
-use Rattle.jg_heap.specs.Rows.{Rows, count_in, class_at, gone_in, length_at}
-use Rattle.jg_heap.specs.History.{Event, class_there, count_of, gone_at, making_at, value_at}
-use Rattle.jg_heap.specs.Laws.{RowsTell}
-use Rattle.jg_heap.proofs.Callers.{rows_law}
+use Rattle.jg_table_heap.specs.declared.object.Slot.{Slot}
+use Rattle.jg_table_heap.specs.declared.object.Slot.TheVariants.{Number}
+use Rattle.jg_table_heap.specs.Making.{class_in, length_in}
+use Rattle.jg_table_heap.specs.Rows.{Rows, count_in, class_at, gone_in, length_at}
+use Rattle.jg_table_heap.specs.History.{Event, class_there, count_of, gone_at, making_at, value_at}
+use Rattle.jg_table_heap.specs.Laws.{RowsTell}
+use Rattle.jg_table_heap.proofs.Callers.{rows_law}
 use Rattle.jg_rules.specs.declared.named.Named.{Named}
 use Rattle.jg_rules.specs.declared.named.Named.TheVariants.{Nothing, Null as NamesNull, Object}
 use Rattle.jg_rules.specs.declared.operand.ObjectType.{ObjectType}

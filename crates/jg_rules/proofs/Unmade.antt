@@ -3,8 +3,8 @@ use Rattle.std.proofs.Common.{◌≡◌, ℕ, ◌≤◌, ◌∙◌, List, [], �
 use Rattle.std.specs.Prelude.{◌==◌}
 use Rattle.std.proofs.lemmas.Bool.Decides.{nat_tests}
 use Rattle.jg_policy.specs.Stated.{StatedSetup, class_count}
-use Rattle.jg_heap.specs.Making.{Plain}
-use Rattle.jg_heap.specs.History.{Event, Made, Wrote, Collected, Went, count_of, making_at}
+use Rattle.jg_table_heap.specs.Making.{Plain}
+use Rattle.jg_table_heap.specs.History.{Event, Made, Wrote, Collected, Went, count_of, making_at}
 use Rattle.jg_rules.specs.Parts.{Parts, TableRows, TablesStand}
 
 -- it counts as a class object

@@ -34,15 +34,15 @@ use Rattle.jg_words.specs.declared.call.buffers.BuffersCall.{BuffersCall}
 use Rattle.jg_words.specs.declared.call.buffers.BuffersCall.TheVariants.{GetArrayElements, ReleaseArrayElements, GetStringChars, ReleaseStringChars, GetStringUTFChars, ReleaseStringUTFChars, GetPrimitiveArrayCritical, ReleasePrimitiveArrayCritical, GetStringCritical, ReleaseStringCritical, BufferRead, BufferWrite}
 use Rattle.jg_policy.specs.Stated.{StatedSetup}
 use Rattle.jg_policy.specs.Classes.{class_named}
-use Rattle.jg_heap.specs.Reading.{natural}
-use Rattle.jg_heap.specs.Spelling.{spelt}
-use Rattle.jg_heap.specs.declared.object.Slot.{Slot}
-use Rattle.jg_threads.specs.History as threads
-use Rattle.jg_locals.specs.History.{acts_of}
-use Rattle.jg_locals.specs.Room as locals
-use Rattle.jg_monitors.specs.History as monitors
-use Rattle.jg_monitors.specs.declared.entering.Entering.{Entering}
-use Rattle.jg_monitors.specs.declared.entering.Entering.TheVariants.{Entered, Busy as KeptOut}
+use Rattle.jg_table_heap.specs.Reading.{natural}
+use Rattle.jg_table_heap.specs.Spelling.{spelt}
+use Rattle.jg_table_heap.specs.declared.object.Slot.{Slot}
+use Rattle.jg_table_threads.specs.History as threads
+use Rattle.jg_table_locals.specs.History.{acts_of}
+use Rattle.jg_table_locals.specs.Room as locals
+use Rattle.jg_table_monitors.specs.History as monitors
+use Rattle.jg_table_monitors.specs.declared.entering.Entering.{Entering}
+use Rattle.jg_table_monitors.specs.declared.entering.Entering.TheVariants.{Entered, Busy as KeptOut}
 use Rattle.jg_rules.specs.declared.answer.Answer.{Answer}
 use Rattle.jg_rules.specs.declared.named.Named.{Named}
 use Rattle.jg_rules.specs.declared.named.Named.TheVariants.{Nothing}

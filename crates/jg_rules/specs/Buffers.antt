@@ -6,11 +6,11 @@ use Rattle.jg_words.specs.declared.object.Primitive.{Primitive}
 use Rattle.jg_policy.specs.Stated.{StatedSetup}
 use Rattle.jg_words.specs.Classes.{array_class, element_of}
 use Rattle.jg_words.specs.declared.object.ItemType.TheVariants.{Of, Float, Double}
-use Rattle.jg_heap.specs.Reading.{natural}
-use Rattle.jg_buffers.specs.History.{opened, content, info_of, is_critical}
-use Rattle.jg_buffers.specs.declared.family.Family.{Family}
-use Rattle.jg_buffers.specs.declared.family.Family.TheVariants.{Elements, Chars, UtfChars, ArrayCritical, StringCritical}
-use Rattle.jg_buffers.specs.declared.info.Info.{Info}
+use Rattle.jg_table_heap.specs.Reading.{natural}
+use Rattle.jg_table_buffers.specs.History.{opened, content, info_of, is_critical}
+use Rattle.jg_table_buffers.specs.declared.family.Family.{Family}
+use Rattle.jg_table_buffers.specs.declared.family.Family.TheVariants.{Elements, Chars, UtfChars, ArrayCritical, StringCritical}
+use Rattle.jg_table_buffers.specs.declared.info.Info.{Info}
 use Rattle.jg_rules.specs.Parts.{Parts}
 use Rattle.jg_rules.specs.Names.{class_of, units_of, slot_of, number_in}
 use Rattle.jg_rules.specs.Numbers.{is_within, is_value_of}

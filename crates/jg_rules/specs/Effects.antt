@@ -34,23 +34,23 @@ use Rattle.jg_words.specs.declared.call.buffers.BuffersCall.{BuffersCall}
 use Rattle.jg_words.specs.declared.call.buffers.BuffersCall.TheVariants.{GetArrayElements, ReleaseArrayElements, GetStringChars, ReleaseStringChars, GetStringUTFChars, ReleaseStringUTFChars, GetPrimitiveArrayCritical, ReleasePrimitiveArrayCritical, GetStringCritical, ReleaseStringCritical, BufferRead, BufferWrite}
 use Rattle.jg_words.specs.declared.buffer.BufId.{BufId}
 use Rattle.jg_words.specs.declared.object.ItemType.TheVariants.{Of}
-use Rattle.jg_buffers.specs.declared.family.Family.{Family}
-use Rattle.jg_buffers.specs.declared.family.Family.TheVariants.{Elements, Chars, UtfChars, ArrayCritical, StringCritical}
-use Rattle.jg_buffers.specs.declared.info.Info.{Info}
+use Rattle.jg_table_buffers.specs.declared.family.Family.{Family}
+use Rattle.jg_table_buffers.specs.declared.family.Family.TheVariants.{Elements, Chars, UtfChars, ArrayCritical, StringCritical}
+use Rattle.jg_table_buffers.specs.declared.info.Info.{Info}
 use Rattle.jg_policy.specs.Stated.{StatedSetup, StatedMember}
 use Rattle.jg_policy.specs.Classes.{class_at, fields_in, is_class_type}
 use Rattle.jg_policy.specs.Links as links
-use Rattle.jg_threads.specs.History as threads
-use Rattle.jg_locals.specs.History as locals
-use Rattle.jg_globals.specs.History as globals
-use Rattle.jg_buffers.specs.History as buffers
-use Rattle.jg_monitors.specs.History as monitors
-use Rattle.jg_heap.specs.History as heap
-use Rattle.jg_heap.specs.Making.{Text, Plain, Filled}
-use Rattle.jg_heap.specs.Reading.{natural, decoded}
-use Rattle.jg_heap.specs.Spelling.{spelt}
-use Rattle.jg_heap.specs.declared.object.Slot.{Slot}
-use Rattle.jg_heap.specs.declared.object.Slot.TheVariants.{Number, Object as Pointer}
+use Rattle.jg_table_threads.specs.History as threads
+use Rattle.jg_table_locals.specs.History as locals
+use Rattle.jg_table_globals.specs.History as globals
+use Rattle.jg_table_buffers.specs.History as buffers
+use Rattle.jg_table_monitors.specs.History as monitors
+use Rattle.jg_table_heap.specs.History as heap
+use Rattle.jg_table_heap.specs.Making.{Text, Plain, Filled}
+use Rattle.jg_table_heap.specs.Reading.{natural, decoded}
+use Rattle.jg_table_heap.specs.Spelling.{spelt}
+use Rattle.jg_table_heap.specs.declared.object.Slot.{Slot}
+use Rattle.jg_table_heap.specs.declared.object.Slot.TheVariants.{Number, Object as Pointer}
 use Rattle.jg_rules.specs.Names.{the_object, object_named, class_meant, native_meant, slot_place, next_buffer, length_of, units_of, items_of}
 use Rattle.jg_rules.specs.Parts.{Parts, nothing_yet}
 use Rattle.jg_rules.specs.Access.{native_class, home_of}

@@ -1,13 +1,13 @@
 -- What keeps an object from the collector, and what goes at a collection.
 use Rattle.std.specs.Prelude.{ℕ, ◌||◌, Bool, List}
 use Rattle.jg_policy.specs.Stated.{StatedSetup, class_count}
-use Rattle.jg_threads.specs.History as threads
-use Rattle.jg_locals.specs.History as locals
-use Rattle.jg_globals.specs.History as globals
-use Rattle.jg_buffers.specs.History as buffers
-use Rattle.jg_monitors.specs.History as monitors
-use Rattle.jg_heap.specs.History as heap
-use Rattle.jg_heap.specs.Standing.{held_objects}
+use Rattle.jg_table_threads.specs.History as threads
+use Rattle.jg_table_locals.specs.History as locals
+use Rattle.jg_table_globals.specs.History as globals
+use Rattle.jg_table_buffers.specs.History as buffers
+use Rattle.jg_table_monitors.specs.History as monitors
+use Rattle.jg_table_heap.specs.History as heap
+use Rattle.jg_table_heap.specs.Standing.{held_objects}
 use Rattle.jg_rules.specs.Parts.{Parts}
 use Rattle.jg_rules.specs.Names.{object_count}
 

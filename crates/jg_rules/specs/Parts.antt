@@ -4,24 +4,24 @@ use Rattle.jg_policy.specs.Stated.{StatedSetup, class_count}
 use Rattle.jg_policy.specs.Links as links
 use Rattle.jg_policy.specs.LinkRows as link_rows
 use Rattle.jg_policy.specs.LinkStanding as link_standing
-use Rattle.jg_threads.specs.History as threads
-use Rattle.jg_threads.specs.declared.row.Row.{Row}
-use Rattle.jg_threads.specs.Standing as thread_standing
-use Rattle.jg_locals.specs.History as locals
-use Rattle.jg_locals.specs.Rows as local_rows
-use Rattle.jg_locals.specs.Standing as local_standing
-use Rattle.jg_globals.specs.History as globals
-use Rattle.jg_globals.specs.Rows as global_rows
-use Rattle.jg_globals.specs.Standing as global_standing
-use Rattle.jg_buffers.specs.History as buffers
-use Rattle.jg_buffers.specs.Rows as buffer_rows
-use Rattle.jg_buffers.specs.Standing as buffer_standing
-use Rattle.jg_monitors.specs.History as monitors
-use Rattle.jg_monitors.specs.Rows as monitor_rows
-use Rattle.jg_monitors.specs.Standing as monitor_standing
-use Rattle.jg_heap.specs.History as heap
-use Rattle.jg_heap.specs.Rows as heap_rows
-use Rattle.jg_heap.specs.Standing as heap_standing
+use Rattle.jg_table_threads.specs.History as threads
+use Rattle.jg_table_threads.specs.declared.row.Row.{Row}
+use Rattle.jg_table_threads.specs.Standing as thread_standing
+use Rattle.jg_table_locals.specs.History as locals
+use Rattle.jg_table_locals.specs.Rows as local_rows
+use Rattle.jg_table_locals.specs.Standing as local_standing
+use Rattle.jg_table_globals.specs.History as globals
+use Rattle.jg_table_globals.specs.Rows as global_rows
+use Rattle.jg_table_globals.specs.Standing as global_standing
+use Rattle.jg_table_buffers.specs.History as buffers
+use Rattle.jg_table_buffers.specs.Rows as buffer_rows
+use Rattle.jg_table_buffers.specs.Standing as buffer_standing
+use Rattle.jg_table_monitors.specs.History as monitors
+use Rattle.jg_table_monitors.specs.Rows as monitor_rows
+use Rattle.jg_table_monitors.specs.Standing as monitor_standing
+use Rattle.jg_table_heap.specs.History as heap
+use Rattle.jg_table_heap.specs.Rows as heap_rows
+use Rattle.jg_table_heap.specs.Standing as heap_standing
 
 -- the events of each table, the newest first
 pub record Parts : Type 0 where

@@ -1,7 +1,7 @@
 -- What a view stands for.
 use Rattle.std.specs.Prelude.{ℕ, List}
-use Rattle.jg_heap.specs.History.{Event}
-use Rattle.jg_heap.specs.Rows.{Rows}
+use Rattle.jg_table_heap.specs.History.{Event}
+use Rattle.jg_table_heap.specs.Rows.{Rows}
 use Rattle.jg_rules.specs.declared.view.View.{View}
 use Rattle.jg_rules.specs.Parts.{HeapTells, Parts, RowsBeside, StandBeside}
 

@@ -2,8 +2,8 @@
 
 ghost use Rattle.std.specs.Prelude.{◌≡◌};
 ghost use Rattle.std.specs.Option.{option_map};
-ghost use Rattle.jg_buffers.specs.History.{info_of, is_critical as is_pinning};
-ghost use Rattle.jg_buffers.specs.Rows.{row_of};
+ghost use Rattle.jg_table_buffers.specs.History.{info_of, is_critical as is_pinning};
+ghost use Rattle.jg_table_buffers.specs.Rows.{row_of};
 ghost use Rattle.jg_rules.specs.Buffers as buffers_of;
 ghost use Rattle.jg_rules.specs.Parts.{Parts};
 ghost use Rattle.jg_rules.specs.Rules as rules_of;
@@ -13,7 +13,7 @@ use crate::named::object_named;
 use crate::object::class_of;
 use crate::store::Store;
 use crate::view::View;
-use jg_buffers::{Family, Info};
+use jg_table_buffers::{Family, Info};
 use jg_words::{BufId, ItemType, ObjId, Primitive, Ref, Tid, element_of};
 use std::alloc::Allocator;
 

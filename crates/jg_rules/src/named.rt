@@ -10,8 +10,8 @@ ghost use Rattle.jg_rules.specs.View.{ViewTells};
 
 use crate::store::Store;
 use crate::view::View;
-use jg_globals::Target;
 use jg_policy::Setup;
+use jg_table_globals::Target;
 use jg_words::{FieldId, Kind, Name, ObjId, Ref, Tid};
 use std::alloc::Allocator;
 

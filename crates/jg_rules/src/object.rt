@@ -2,8 +2,8 @@
 //! class object.
 
 ghost use Rattle.std.specs.Prelude.{◌≡◌, ◌<◌, ◌≤◌, ◌^◌, length};
-ghost use Rattle.jg_heap.specs.Making.{IsArrayClass, IsPrimitiveArray, HasFields};
-ghost use Rattle.jg_heap.specs.Rows.{count_in, class_at, length_at};
+ghost use Rattle.jg_table_heap.specs.Making.{IsArrayClass, IsPrimitiveArray, HasFields};
+ghost use Rattle.jg_table_heap.specs.Rows.{count_in, class_at, length_at};
 ghost use Rattle.jg_rules.specs.Parts.{Parts};
 ghost use Rattle.jg_rules.specs.Names as names_of;
 ghost use Rattle.jg_rules.specs.Names.{slot_place};
@@ -12,7 +12,7 @@ ghost use Rattle.jg_rules.specs.View.{ViewStands, ViewTells};
 
 use crate::store::Store;
 use crate::view::View;
-use jg_heap::Slot;
+use jg_table_heap::Slot;
 use jg_words::{FieldId, ObjId};
 use std::alloc::Allocator;
 

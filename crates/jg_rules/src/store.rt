@@ -1,11 +1,11 @@
 //! What judging asks of a store of objects.
 
 ghost use Rattle.std.specs.Prelude.{◌≡◌, ℕ, List};
-ghost use Rattle.jg_heap.specs.History.{Event, class_there};
+ghost use Rattle.jg_table_heap.specs.History.{Event, class_there};
 ghost use Rattle.jg_rules.specs.Parts.{HeapTells};
 
-use jg_buffers::Items;
-use jg_heap::Heap;
+use jg_table_buffers::Items;
+use jg_table_heap::Heap;
 use jg_words::{CLASS_CLASS, ObjId};
 use std::alloc::Allocator;
 

@@ -1,13 +1,13 @@
 //! The setup and the tables, as the judge reads them.
 
 use crate::store::Store;
-use jg_buffers::Buffers;
-use jg_globals::Globals;
-use jg_heap::Heap;
-use jg_locals::Locals;
-use jg_monitors::Monitors;
 use jg_policy::{Links, Setup};
-use jg_threads::Threads;
+use jg_table_buffers::Buffers;
+use jg_table_globals::Globals;
+use jg_table_heap::Heap;
+use jg_table_locals::Locals;
+use jg_table_monitors::Monitors;
+use jg_table_threads::Threads;
 use std::alloc::{Allocator, Global};
 
 /// The setup and the tables, lent to judge by. The store of objects is the guard's, or any other that tells

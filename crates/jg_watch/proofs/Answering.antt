@@ -4,7 +4,7 @@ use Rattle.std.specs.Io.KnownBytes.{Appends, Consumes}
 use Rattle.jg_lines.specs.Devices.{IsOneLine}
 use Rattle.jg_policy.specs.Stated.{StatedSetup}
 use Rattle.jg_words.specs.declared.object.ObjId.{ObjId}
-use Rattle.jg_questions.specs.declared.argument.Argument.{Argument}
+use Rattle.jg_judge.specs.declared.argument.Argument.{Argument}
 use Rattle.jg_record.specs.declared.event.Event.{Event}
 use Rattle.jg_record.specs.Events.{SpellsEvent}
 use Rattle.jg_record.specs.Parts.{AreParts}

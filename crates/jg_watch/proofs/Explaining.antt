@@ -1,7 +1,7 @@
 -- What is noted of a line that isn't explained.
 use Rattle.std.proofs.Common.{◌≡◌, ◌∙◌, ◌++◌, ◌⊎◌, ◌<◌, ℕ, Bool, true, false, if◌then◌else◌, List, [], Option, Some, None, append-nil, ap, inl, inr, refl, sym}
 use Rattle.jg_words.specs.declared.rule.Rule.{Rule}
-use Rattle.jg_questions.specs.declared.argument.Argument.{Argument}
+use Rattle.jg_judge.specs.declared.argument.Argument.{Argument}
 use Rattle.jg_record.specs.declared.reply.Reply.{Reply}
 use Rattle.jg_record.specs.declared.reply.Reply.TheVariants.{Passed, Denied, Environment, Reference, Buffer, Object, Nothing}
 use Rattle.jg_watch.specs.Explained.{Explaining, explanation}

@@ -9,7 +9,7 @@ use Rattle.jg_core.specs.Kernel.{CoreStands, CoreState}
 use Rattle.jg_core.specs.declared.fact.Fact.{Fact}
 use Rattle.jg_core.specs.Facts.{all_gone}
 use Rattle.jg_words.specs.declared.object.ObjId.{ObjId}
-use Rattle.jg_questions.specs.declared.argument.Argument.{Argument}
+use Rattle.jg_judge.specs.declared.argument.Argument.{Argument}
 use Rattle.jg_record.specs.declared.event.Event.{Event}
 use Rattle.jg_record.specs.declared.event.Event.TheVariants.{Question, Fact as FactTold, Gone as AreGone, Bounds}
 use Rattle.jg_record.specs.declared.reply.Reply.{Reply}

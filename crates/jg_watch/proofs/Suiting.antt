@@ -7,15 +7,15 @@ use Rattle.jg_words.specs.declared.thread.EnvId.{EnvId}
 use Rattle.jg_words.specs.declared.thread.Tid.{Tid}
 use Rattle.jg_policy.specs.Stated.{StatedSetup}
 use Rattle.jg_rules.specs.Parts.{Parts}
-use Rattle.jg_functions.specs.declared.row.Takes.{Takes}
-use Rattle.jg_functions.specs.declared.row.Takes.TheVariants as takes
-use Rattle.jg_functions.specs.Columns.{Columns}
-use Rattle.jg_functions.specs.Table.{functions}
-use Rattle.jg_questions.specs.declared.argument.Argument.{Argument}
-use Rattle.jg_questions.specs.declared.argument.Bounds.{Bounds}
-use Rattle.jg_questions.specs.Asked.{is_last}
-use Rattle.jg_questions.specs.Broken.{verdict}
-use Rattle.jg_questions.specs.Suits.{suits, suits_one}
+use Rattle.jg_rows.specs.declared.row.Takes.{Takes}
+use Rattle.jg_rows.specs.declared.row.Takes.TheVariants as takes
+use Rattle.jg_rows.specs.Columns.{Columns}
+use Rattle.jg_rows.specs.Table.{functions}
+use Rattle.jg_judge.specs.declared.argument.Argument.{Argument}
+use Rattle.jg_judge.specs.declared.argument.Bounds.{Bounds}
+use Rattle.jg_judge.specs.Asked.{is_last}
+use Rattle.jg_judge.specs.Broken.{verdict}
+use Rattle.jg_judge.specs.Suits.{suits, suits_one}
 use Rattle.jg_core.specs.Asking.{by_row, by_verdict}
 use Rattle.jg_core.specs.declared.asking.Answer.TheVariants.{Misfit}
 use Rattle.jg_core.specs.Facts.{parts_of}

@@ -1,10 +1,10 @@
 -- The explanations of the first denied questions of a record.
 use Rattle.std.specs.Prelude.{◌≡◌, ◌<◌, ◌+◌, ◌++◌, ◌⊎◌, ℕ, if◌then◌else◌, List, [], ◌∷◌, codes, length, nat_lt, Option, Some, None}
-use Rattle.jg_questions.specs.declared.argument.Argument.{Argument}
+use Rattle.jg_judge.specs.declared.argument.Argument.{Argument}
 use Rattle.jg_record.specs.declared.reply.Reply.{Reply}
 use Rattle.jg_record.specs.declared.reply.Reply.TheVariants.{Denied}
 use Rattle.jg_record.specs.Texts.{argument_text}
-use Rattle.jg_telling.specs.Sentences.{denial_text, rule_text}
+use Rattle.jg_denial_text.specs.Sentences.{denial_text, rule_text}
 use Rattle.jg_watch.specs.Lines.{Answered, denials_in}
 
 -- what contracts see of explanations: how many are made at the most, and their text so far, which is lost where memory

@@ -5,7 +5,7 @@ use Rattle.jg_words.specs.declared.rule.Rule.{Rule}
 use Rattle.jg_words.specs.declared.thread.EnvId.{EnvId}
 use Rattle.jg_words.specs.declared.thread.Tid.{Tid}
 use Rattle.jg_policy.specs.Stated.{StatedSetup}
-use Rattle.jg_questions.specs.declared.argument.Argument.{Argument}
+use Rattle.jg_judge.specs.declared.argument.Argument.{Argument}
 use Rattle.jg_record.specs.declared.event.Event.TheVariants.{Question}
 use Rattle.jg_record.specs.declared.reply.Reply.TheVariants.{Denied, Passed}
 use Rattle.jg_record.specs.Events.{SpellsEvent}

@@ -9,7 +9,7 @@ use Rattle.jg_policy.specs.Stated.{StatedSetup}
 use Rattle.jg_text.specs.Faults.{fields}
 use Rattle.jg_advice.specs.Moments.{What, Called, Told as WasTold, Went}
 use Rattle.jg_advice.specs.Functions.{find_class}
-use Rattle.jg_questions.specs.declared.argument.Argument.{Argument}
+use Rattle.jg_judge.specs.declared.argument.Argument.{Argument}
 use Rattle.jg_record.specs.declared.event.Event.{Event}
 use Rattle.jg_record.specs.declared.event.Event.TheVariants.{Question, Fact as FactTold, Gone as AreGone, Bounds}
 use Rattle.jg_record.specs.declared.reply.Reply.{Reply}

@@ -6,7 +6,7 @@ use Rattle.jg_policy.specs.Stated.{StatedSetup}
 use Rattle.jg_core.specs.Facts.{made_in}
 use Rattle.jg_core.specs.declared.kernel.Untold.{Untold}
 use Rattle.jg_core.specs.declared.kernel.Untold.TheVariants as untold
-use Rattle.jg_questions.specs.declared.argument.Argument.{Argument}
+use Rattle.jg_judge.specs.declared.argument.Argument.{Argument}
 use Rattle.jg_record.specs.declared.event.Event.{Event}
 use Rattle.jg_record.specs.declared.reply.Reply.{Reply}
 use Rattle.jg_watch.specs.declared.ending.Stop.{Stop}

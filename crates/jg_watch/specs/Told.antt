@@ -3,8 +3,8 @@ use Rattle.std.specs.Prelude.{◌≡◌, ℕ, pos, List, [], ◌∷◌, Bool, tr
 use Rattle.std.specs.Option.{is_none}
 use Rattle.jg_words.specs.declared.object.ObjId.{ObjId}
 use Rattle.jg_policy.specs.Stated.{StatedSetup}
-use Rattle.jg_questions.specs.declared.argument.Argument.{Argument}
-use Rattle.jg_questions.specs.declared.argument.Bounds.{Bounds}
+use Rattle.jg_judge.specs.declared.argument.Argument.{Argument}
+use Rattle.jg_judge.specs.declared.argument.Bounds.{Bounds}
 use Rattle.jg_core.specs.declared.asking.Answer.{Answer}
 use Rattle.jg_core.specs.declared.asking.Answer.TheVariants as answer
 use Rattle.jg_core.specs.declared.fact.Fact.{Fact}

@@ -12,7 +12,7 @@ ghost use Rattle.jg_watch.specs.Lines.{name_in, what_of};
 use crate::event::Replied;
 use jg_advice::{Counsel, is_find_class};
 use jg_core::{Core, Fact};
-use jg_questions::Argument;
+use jg_judge::Argument;
 use jg_record::{Event, Lists, Reply};
 use jg_text::{cut, next_field};
 use jg_words::Tid;

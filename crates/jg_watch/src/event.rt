@@ -7,7 +7,7 @@ ghost use Rattle.jg_watch.specs.Told.{operand_of, reply_of};
 use crate::telling::tell;
 use crate::watch::Watch;
 use jg_core::{Answer, Core, Untold};
-use jg_questions::Argument;
+use jg_judge::Argument;
 use jg_record::{Event, Lists, Reply};
 use jg_words::ObjId;
 use std::alloc::Allocator;

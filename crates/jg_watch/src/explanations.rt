@@ -7,9 +7,9 @@ ghost use Rattle.jg_watch.specs.Explained.{explanation, subject_text};
 ghost use Rattle.jg_watch.specs.Steps.{Adds};
 
 use crate::event::Replied;
-use jg_questions::Argument;
+use jg_denial_text::{push_denial, push_rule};
+use jg_judge::Argument;
 use jg_record::{Reply, push_argument};
-use jg_telling::{push_denial, push_rule};
 use jg_words::Rule;
 use std::alloc::{AllocError, Global};
 use std::marker::Model;

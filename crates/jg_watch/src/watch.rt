@@ -9,9 +9,9 @@ ghost use Rattle.jg_watch.specs.Steps.{counted_at, denied_after};
 ghost use Rattle.jg_watch.specs.Told.{Stands, Told, nothing_told};
 
 use jg_core::Core;
+use jg_judge::Bounds;
 use jg_leaks::Leaks;
 use jg_policy::Setup;
-use jg_questions::Bounds;
 use jg_record::Reply;
 use jg_words::Rule;
 use std::alloc::{AllocError, Allocator, Global};

@@ -1,5 +1,5 @@
 //! The functions that a core is asked about, and the names of rules and errors. `embed/functions` wrote this from
-//! the table of `crates/jg_functions`, and from `crates/jg_words` and `crates/jg_c`.
+//! the table of `crates/jg_rows`, and from `crates/jg_words` and `crates/jg_c`.
 
 /// A function of the table, by its number there. Its operands stand behind it: a question has just these, in this
 /// order.

@@ -12,9 +12,9 @@ ghost use Rattle.jg_words.specs.declared.call.arrays.ArraysCall.TheVariants.{Get
 use crate::region::{is_outside, items_in};
 use crate::settle::{handing_out, plain, throwing};
 use crate::tables::Tables;
-use jg_heap::{Shape, Slot, natural};
 use jg_policy::Setup;
 use jg_rules::{Answer, View, items_of, length_of, object_named, slot_of, the_object};
+use jg_table_heap::{Shape, Slot, natural};
 use jg_words::{ArraysCall, Items, Kind, ObjId, Primitive, Ref, Thrown, Tid, Value};
 use std::alloc::{AllocError, Allocator, Global};
 

@@ -4,8 +4,8 @@ ghost use Rattle.std.specs.Prelude.{◌≡◌, false, map, pos, slice_index_or, 
 ghost use Rattle.jg_words.specs.declared.call.Call.TheVariants.{Buffers};
 ghost use Rattle.jg_words.specs.declared.call.buffers.BuffersCall.TheVariants.{GetArrayElements, ReleaseArrayElements, GetStringChars, GetStringUTFChars, GetPrimitiveArrayCritical, GetStringCritical, BufferRead, BufferWrite};
 ghost use Rattle.jg_policy.specs.Stated.{StatedSetup};
-ghost use Rattle.jg_threads.specs.Rows.{CanCount};
-ghost use Rattle.jg_heap.specs.Reading as reading;
+ghost use Rattle.jg_table_threads.specs.Rows.{CanCount};
+ghost use Rattle.jg_table_heap.specs.Reading as reading;
 ghost use Rattle.jg_rules.specs.Parts.{Parts, TablesStand};
 ghost use Rattle.jg_rules.specs.View.{ViewStands, rows_in};
 ghost use Rattle.jg_rules.specs.Names as names_of;
@@ -18,10 +18,10 @@ ghost use Rattle.jg_guard.specs.Settled.{buffers_on, heap_on};
 
 use crate::settle::plain;
 use crate::tables::Tables;
-use jg_buffers::Family;
-use jg_heap::{Slot, natural, to_mutf8};
 use jg_policy::Setup;
 use jg_rules::{Answer, View, buffer_named, slot_of, the_object, units_of};
+use jg_table_buffers::Family;
+use jg_table_heap::{Slot, natural, to_mutf8};
 use jg_words::{BufId, BuffersCall, ItemType, ObjId, Primitive, Ref, Tid, Value};
 use std::alloc::{AllocError, Allocator};
 

@@ -11,9 +11,9 @@ ghost use Rattle.jg_rules.specs.Effects.{done_by};
 
 use crate::settle::{handing_out, plain};
 use crate::tables::Tables;
-use jg_heap::natural;
 use jg_policy::Setup;
 use jg_rules::{Answer, View, object_named};
+use jg_table_heap::natural;
 use jg_words::{FramesCall, Kind, Tid, Value};
 use std::alloc::{AllocError, Allocator};
 

@@ -3,7 +3,7 @@
 ghost use Rattle.std.specs.Prelude.{◌≡◌, false, OnOk, OnErr};
 ghost use Rattle.jg_words.specs.declared.call.Call.TheVariants.{Monitors};
 ghost use Rattle.jg_words.specs.declared.call.monitors.MonitorsCall.TheVariants.{MonitorEnter, MonitorExit};
-ghost use Rattle.jg_monitors.specs.History.{entering, owner};
+ghost use Rattle.jg_table_monitors.specs.History.{entering, owner};
 ghost use Rattle.jg_rules.specs.Parts.{Parts, TablesStand};
 ghost use Rattle.jg_rules.specs.View.{ViewStands, rows_in};
 ghost use Rattle.jg_rules.specs.Answers.{entered, monitors_answer};
@@ -13,9 +13,9 @@ ghost use Rattle.jg_guard.specs.Tables.{rows_of, IsDue, IsEffective, KeepsRoom};
 
 use crate::settle::plain;
 use crate::tables::Tables;
-use jg_monitors::Entering;
 use jg_policy::Setup;
 use jg_rules::{Answer, View, the_object};
+use jg_table_monitors::Entering;
 use jg_words::{MonitorsCall, ObjId, Ref, Tid, Value};
 use std::alloc::{AllocError, Allocator};
 

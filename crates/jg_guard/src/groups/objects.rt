@@ -3,7 +3,7 @@
 ghost use Rattle.std.specs.Prelude.{◌≡◌, Some, true, map, IfOk, OnOk, OnErr};
 ghost use Rattle.jg_words.specs.declared.call.Call.TheVariants.{Objects};
 ghost use Rattle.jg_words.specs.declared.call.objects.ObjectsCall.TheVariants.{GetField, GetObjectField, SetField, SetObjectField};
-ghost use Rattle.jg_heap.specs.declared.object.Slot.TheVariants.{Number};
+ghost use Rattle.jg_table_heap.specs.declared.object.Slot.TheVariants.{Number};
 ghost use Rattle.jg_rules.specs.Parts.{Parts, TablesStand};
 ghost use Rattle.jg_rules.specs.View.{ViewStands, rows_in};
 ghost use Rattle.jg_rules.specs.Answers.{objects_answer, class_found};
@@ -15,18 +15,18 @@ ghost use Rattle.jg_rules.specs.Answers as answers;
 ghost use Rattle.jg_rules.specs.Operands.{is_plain};
 ghost use Rattle.jg_rules.specs.Names as names_of;
 ghost use Rattle.jg_rules.specs.Names.{object_named, the_object};
-ghost use Rattle.jg_threads.specs.Rows.{CanCount};
+ghost use Rattle.jg_table_threads.specs.Rows.{CanCount};
 ghost use Rattle.jg_policy.specs.Stated.{StatedMember};
 ghost use Rattle.std.specs.Option.{option_map};
 
 use crate::settle::{handing_out, plain, throwing};
 use crate::tables::Tables;
-use jg_heap::{Shape, Slot};
 use jg_policy::Setup;
 use jg_rules::{
     Answer, View, class_meant, class_of, field_meant, field_of, object_named, slot_place_of,
     the_object,
 };
+use jg_table_heap::{Shape, Slot};
 use jg_words::{FieldId, Kind, Name, ObjId, ObjectsCall, Primitive, Ref, Thrown, Tid, Value};
 use std::alloc::{AllocError, Allocator};
 

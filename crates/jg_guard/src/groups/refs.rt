@@ -9,7 +9,7 @@ ghost use Rattle.jg_rules.specs.Answers.{refs_answer, ref_type};
 ghost use Rattle.jg_guard.specs.Tables.{rows_of, IsDue, IsEffective, KeepsRoom};
 ghost use Rattle.jg_guard.specs.Settled.{deleted_on};
 ghost use Rattle.jg_rules.specs.Effects.{done_by};
-ghost use Rattle.jg_locals.specs.Rows.{spare};
+ghost use Rattle.jg_table_locals.specs.Rows.{spare};
 
 use crate::settle::{handing_out, plain};
 use crate::tables::Tables;

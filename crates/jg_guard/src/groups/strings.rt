@@ -10,15 +10,15 @@ ghost use Rattle.jg_guard.specs.Tables.{rows_of, IsDue, IsEffective, KeepsRoom};
 ghost use Rattle.std.specs.List.{list_all};
 ghost use Rattle.jg_words.specs.declared.object.Primitive.TheVariants.{Char};
 ghost use Rattle.jg_words.specs.declared.call.strings.StringsCall.TheVariants.{GetStringRegion};
-ghost use Rattle.jg_heap.specs.Reading.{natural};
+ghost use Rattle.jg_table_heap.specs.Reading.{natural};
 ghost use Rattle.jg_rules.specs.Numbers.{is_value_of};
 
 use crate::region::{is_outside, units_in};
 use crate::settle::{handing_out, plain, throwing};
 use crate::tables::Tables;
-use jg_heap::{Shape, from_mutf8_items, mutf8_len};
 use jg_policy::Setup;
 use jg_rules::{Answer, View, length_of, the_object, units_of};
+use jg_table_heap::{Shape, from_mutf8_items, mutf8_len};
 use jg_words::{Kind, ObjId, Ref, StringsCall, Thrown, Tid, Value};
 use std::alloc::{AllocError, Allocator, Global};
 

@@ -6,7 +6,7 @@ ghost use Rattle.jg_words.specs.declared.call.Call.TheVariants.{Vm};
 ghost use Rattle.jg_words.specs.declared.call.vm.VmCall.TheVariants.{AttachCurrentThread, RegisterNatives, UnregisterNatives, Collect};
 ghost use Rattle.jg_words.specs.declared.reference.Kind.TheVariants.{Local};
 ghost use Rattle.jg_words.specs.declared.value.Value.TheVariants.{Ok as Done};
-ghost use Rattle.jg_threads.specs.Rows.{CanCount};
+ghost use Rattle.jg_table_threads.specs.Rows.{CanCount};
 ghost use Rattle.jg_policy.specs.declared.access.Operation.TheVariants.{Load, Link};
 ghost use Rattle.jg_policy.specs.Stated.{StatedSetup, class_count};
 ghost use Rattle.jg_policy.specs.Classes.{class_named};

@@ -3,7 +3,7 @@ use Rattle.std.specs.Prelude.{if◌then◌else◌}
 use Rattle.std.specs.Map.{lookup}
 use Rattle.std.specs.Option.{option_map, unwrap_or}
 use Rattle.jg_lists.specs.ByMaker.{same_name, named}
-use Rattle.jg_functions.specs.Columns.{columns}
+use Rattle.jg_rows.specs.Columns.{columns}
 use Rattle.jg_advice.specs.Doing.{doing_after, idle}
 use Rattle.jg_advice.proofs.Steps.{again, doing_put}
 use Rattle.jg_advice.proofs.doing.note_call.Goals as goal

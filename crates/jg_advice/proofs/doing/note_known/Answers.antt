@@ -5,7 +5,7 @@ use Rattle.std.specs.Option.{option_map}
 use Rattle.jg_lists.specs.ByThread.{at}
 use Rattle.jg_lists.specs.ByMaker.{named, same_name, table_in}
 use Rattle.jg_lists.proofs.Tables.{lookup-named}
-use Rattle.jg_functions.specs.Columns.{columns}
+use Rattle.jg_rows.specs.Columns.{columns}
 use Rattle.jg_advice.specs.Doing.{doing_after}
 use Rattle.jg_advice.proofs.Replaced.{none_changed, replaced}
 use Rattle.jg_advice.proofs.doing.note_known.Goals as goal

@@ -1,10 +1,10 @@
 use Rattle.std.proofs.Common.{◌≡◌, ◌∙◌, List, refl}
 use Rattle.jg_words.specs.declared.thread.Tid.{Tid}
 use Rattle.jg_words.specs.declared.rule.Rule.{Rule}
-use Rattle.jg_functions.specs.declared.row.Effect.{Effect}
-use Rattle.jg_functions.specs.declared.row.Effect.TheVariants.{GivesBack, Pops, Detaches}
-use Rattle.jg_questions.specs.declared.argument.Argument.{Argument}
-use Rattle.jg_questions.specs.Asked.{first_reference}
+use Rattle.jg_rows.specs.declared.row.Effect.{Effect}
+use Rattle.jg_rows.specs.declared.row.Effect.TheVariants.{GivesBack, Pops, Detaches}
+use Rattle.jg_judge.specs.declared.argument.Argument.{Argument}
+use Rattle.jg_judge.specs.Asked.{first_reference}
 use Rattle.jg_core.specs.declared.expected.Expected.{Expected}
 use Rattle.jg_core.specs.Denied.{by_rule, by_effect}
 use Rattle.jg_core.proofs.denied.by_effect.Goals as goal

@@ -2,7 +2,7 @@ use Rattle.std.proofs.Common.{rules, ◌+◌, ◌∙◌, drop, sym, slice_index_
 use Rattle.std.specs.Option.{option_map}
 use Rattle.std.proofs.lemmas.List.{at_drop_more, at_drop_all}
 use Rattle.jg_words.specs.declared.object.ObjId.{ObjId}
-use Rattle.jg_objects.specs.Rows.{mark_in}
+use Rattle.jg_table_objects.specs.Rows.{mark_in}
 use Rattle.jg_core.specs.Gone.{first_unfit}
 use Rattle.jg_core.proofs.Going.{marked_more, unfit_later, unfit_now, unlisted_before}
 use Rattle.jg_core.proofs.gone.first_unfit.Goals as goal

@@ -1,7 +1,7 @@
 use Rattle.std.proofs.Common.{ℕ, ◌≡◌, ◌+◌, if◌then◌else◌, true, Some, take, drop}
 use Rattle.std.specs.Option.{option_map}
-use Rattle.jg_objects.specs.History.{is_listed}
-use Rattle.jg_objects.specs.Rows.{IsButMarks, mark_in}
+use Rattle.jg_table_objects.specs.History.{is_listed}
+use Rattle.jg_table_objects.specs.Rows.{IsButMarks, mark_in}
 use Rattle.jg_core.specs.Gone.{first_unfit}
 use Rattle.jg_core.proofs.gone.first_unfit.Given as goal
 

@@ -1,6 +1,6 @@
 use Rattle.std.proofs.Common.{rules, ◌∙◌, ap, sym, refl, []}
-use Rattle.jg_objects.proofs.Callers.{marks_law}
-use Rattle.jg_objects.specs.Rows.{Rows}
+use Rattle.jg_table_objects.proofs.Callers.{marks_law}
+use Rattle.jg_table_objects.specs.Rows.{Rows}
 use Rattle.jg_rules.specs.Parts.{Parts, RowsBeside}
 use Rattle.jg_core.proofs.Going.{are_marked, gone_stand, holders_beside, numbers_of, set_where_listed, unfit_among, unmarked_after}
 use Rattle.jg_core.proofs.gone.let_all_go.Goals as goal

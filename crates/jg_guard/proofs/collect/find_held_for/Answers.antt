@@ -1,7 +1,7 @@
 use Rattle.std.proofs.Common.{ℕ, subst}
 use Rattle.jg_words.specs.declared.call.Call.TheVariants.{Vm}
 use Rattle.jg_words.specs.declared.call.vm.VmCall.TheVariants.{Collect}
-use Rattle.jg_heap.specs.Standing.{MarksHeld}
+use Rattle.jg_table_heap.specs.Standing.{MarksHeld}
 use Rattle.jg_rules.specs.Holding.{roots}
 use Rattle.jg_guard.specs.Findings.{Finds}
 use Rattle.jg_guard.proofs.collect.find_held_for.Goals as goal

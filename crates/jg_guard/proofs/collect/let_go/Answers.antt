@@ -1,5 +1,5 @@
 use Rattle.std.proofs.Common.{ℕ, subst, sym}
-use Rattle.jg_heap.specs.Standing.{MarksHeld}
+use Rattle.jg_table_heap.specs.Standing.{MarksHeld}
 use Rattle.jg_rules.specs.Holding.{roots}
 use Rattle.jg_guard.specs.Tables.{rows_of}
 use Rattle.jg_guard.proofs.Collecting.{collected}

@@ -1,5 +1,5 @@
 use Rattle.std.proofs.Common.{rules, ap, ◌∙◌}
-use Rattle.jg_heap.specs.History.{others_in_being}
+use Rattle.jg_table_heap.specs.History.{others_in_being}
 use Rattle.std.proofs.Common.{length}
 use Rattle.jg_rules.specs.Effects.{parts}
 use Rattle.jg_guard.specs.Tables.{rows_of}

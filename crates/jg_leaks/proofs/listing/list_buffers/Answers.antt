@@ -2,8 +2,8 @@ use Rattle.std.proofs.Common.{rules, ap, ◌∙◌, ◌++◌, ◌≡◌, List, m
 use Rattle.std.specs.Prelude.{IsPermutation}
 use Rattle.std.proofs.lemmas.Fn.{always_returns_same}
 use Rattle.jg_words.specs.declared.buffer.BufId.{BufId}
-use Rattle.jg_buffers.specs.Rows.{name_of}
-use Rattle.jg_buffers.specs.Ordered.{buffer_key}
+use Rattle.jg_table_buffers.specs.Rows.{name_of}
+use Rattle.jg_table_buffers.specs.Ordered.{buffer_key}
 use Rattle.jg_rules.specs.View.{rows_in}
 use Rattle.jg_leaks.proofs.Once.{buffers_in_order}
 use Rattle.jg_leaks.proofs.listing.list_buffers.Goals as goal

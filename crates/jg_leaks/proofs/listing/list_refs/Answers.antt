@@ -2,8 +2,8 @@ use Rattle.std.proofs.Common.{rules, ap, ◌∙◌, ◌++◌, ◌≡◌, List, m
 use Rattle.std.specs.Prelude.{IsPermutation}
 use Rattle.std.proofs.lemmas.Fn.{always_returns_same}
 use Rattle.jg_words.specs.declared.reference.Ref.{Ref}
-use Rattle.jg_locals.specs.Rows.{local_ref}
-use Rattle.jg_globals.specs.Rows.{strong_ref, weak_ref}
+use Rattle.jg_table_locals.specs.Rows.{local_ref}
+use Rattle.jg_table_globals.specs.Rows.{strong_ref, weak_ref}
 use Rattle.jg_leaks.specs.Left.{ref_key}
 use Rattle.jg_rules.specs.View.{rows_in}
 use Rattle.jg_leaks.proofs.Once.{refs_of, listed_in_order}

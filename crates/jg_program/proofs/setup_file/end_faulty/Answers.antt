@@ -1,5 +1,5 @@
 use Rattle.std.proofs.Common.{string_bytes}
-use Rattle.jg_faults.specs.Setups.{TellsSetup}
+use Rattle.jg_fault_text.specs.Setups.{TellsSetup}
 use Rattle.jg_program.specs.declared.stop.ProgramStop.TheVariants.{Setup}
 use Rattle.jg_program.proofs.Refusals.{ends_telling}
 use Rattle.jg_program.proofs.setup_file.end_faulty.Goals as goal

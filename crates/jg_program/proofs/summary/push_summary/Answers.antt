@@ -1,6 +1,6 @@
 use Rattle.std.proofs.Common.{◌++◌, flat_map, string_bytes, refl}
 use Rattle.std.proofs.lemmas.Result.{on_ok_weaker}
-use Rattle.jg_telling.proofs.Chains.{two}
+use Rattle.jg_denial_text.proofs.Chains.{two}
 use Rattle.jg_program.specs.Summary.{all_rules, calls_line, peaks_line, rule_line, summary_text}
 use Rattle.jg_program.proofs.summary.push_summary.Goals as goal
 

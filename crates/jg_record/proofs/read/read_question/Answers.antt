@@ -4,8 +4,8 @@ use Rattle.std.specs.Option.{option_copied, option_map}
 use Rattle.jg_text.specs.Faults.{fields}
 use Rattle.jg_text.specs.Pieces.{rest_fields}
 use Rattle.jg_text.proofs.Reading.{cut_rest}
-use Rattle.jg_functions.specs.Columns.{columns}
-use Rattle.jg_functions.specs.Table.{functions}
+use Rattle.jg_rows.specs.Columns.{columns}
+use Rattle.jg_rows.specs.Table.{functions}
 use Rattle.jg_record.specs.Operands.{is_count}
 use Rattle.jg_record.proofs.Reading.{has_row, no_row, question_fault}
 use Rattle.jg_record.proofs.read.read_question.Goals as goal

@@ -1,10 +1,10 @@
 use Rattle.std.proofs.Common.{ℕ, Bool, refl}
 use Rattle.std.specs.Prelude.{◌||◌}
-use Rattle.jg_threads.specs.History as threads
-use Rattle.jg_locals.specs.History as locals
-use Rattle.jg_globals.specs.History as globals
-use Rattle.jg_buffers.specs.History as buffers
-use Rattle.jg_monitors.specs.History as monitors
+use Rattle.jg_table_threads.specs.History as threads
+use Rattle.jg_table_locals.specs.History as locals
+use Rattle.jg_table_globals.specs.History as globals
+use Rattle.jg_table_buffers.specs.History as buffers
+use Rattle.jg_table_monitors.specs.History as monitors
 use Rattle.jg_lists.proofs.Marks.{marks_more}
 use Rattle.jg_rules.specs.Holding.{is_root}
 use Rattle.jg_rules.proofs.holding.mark_roots.Goals as goal

@@ -1,5 +1,5 @@
 use Rattle.std.proofs.Common.{ap, sym}
-use Rattle.jg_heap.specs.Making.{units_in}
+use Rattle.jg_table_heap.specs.Making.{units_in}
 use Rattle.jg_rules.proofs.Unmade.{making_at-past}
 use Rattle.jg_rules.proofs.object.units_of.Goals as goal
 

@@ -1,8 +1,8 @@
 use Rattle.std.proofs.Common.{◌≡◌, ◌+◌, Bool, Some, None, rules, refl, ◌∙◌, ap, sym, subst}
 use Rattle.std.specs.Prelude.{◌&&◌, if◌then◌else◌, slice_get}
 use Rattle.jg_lists.specs.ByMaker.{Name, same_name}
-use Rattle.jg_functions.specs.Columns.{columns}
-use Rattle.jg_functions.specs.Table.{functions}
+use Rattle.jg_rows.specs.Columns.{columns}
+use Rattle.jg_rows.specs.Table.{functions}
 use Rattle.jg_advice.specs.Advised.{lost, unchecked}
 use Rattle.jg_advice.specs.Buffers.{commits, is_copy, is_named, released_by}
 use Rattle.jg_advice.specs.Doing.{doing_after, source}

@@ -1,8 +1,8 @@
 use Rattle.std.proofs.Common.{rules, ◌≡◌, ◌∙◌, Some, slice_get, ap}
 use Rattle.jg_rules.specs.View.{rows_in}
-use Rattle.jg_functions.specs.Columns.{columns}
-use Rattle.jg_functions.specs.Table.{functions}
-use Rattle.jg_questions.specs.declared.question.Verdict.TheVariants.{Broken}
+use Rattle.jg_rows.specs.Columns.{columns}
+use Rattle.jg_rows.specs.Table.{functions}
+use Rattle.jg_judge.specs.declared.question.Verdict.TheVariants.{Broken}
 use Rattle.jg_core.specs.declared.asking.Answer.TheVariants.{Passed, Denied}
 use Rattle.jg_core.specs.Asking.{asked}
 use Rattle.jg_core.specs.Facts.{parts_of}

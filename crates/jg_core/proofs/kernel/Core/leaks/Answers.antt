@@ -1,5 +1,5 @@
 use Rattle.std.proofs.Common.{rules, ◌≡◌}
-use Rattle.jg_objects.specs.Standing.{Tells}
+use Rattle.jg_table_objects.specs.Standing.{Tells}
 use Rattle.jg_rules.specs.View.{rows_in}
 use Rattle.jg_rules.proofs.Holders.{holders_stand}
 use Rattle.jg_core.specs.Facts.{parts_of}

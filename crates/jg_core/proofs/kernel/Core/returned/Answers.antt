@@ -1,6 +1,6 @@
 use Rattle.std.proofs.Common.{subst, sym}
-use Rattle.jg_threads.specs.Rows.{CanCount}
-use Rattle.jg_objects.specs.Rows.{Rows}
+use Rattle.jg_table_threads.specs.Rows.{CanCount}
+use Rattle.jg_table_objects.specs.Rows.{Rows}
 use Rattle.jg_rules.specs.Parts.{RowsBeside}
 use Rattle.jg_core.specs.Kernel.{CoreState}
 use Rattle.jg_core.specs.Tables.{rows_of}

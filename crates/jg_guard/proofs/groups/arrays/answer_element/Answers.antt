@@ -1,5 +1,5 @@
 use Rattle.std.proofs.Common.{rules, false, ℕ, pos, ◌≡◌, ◌+◌, ◌<◌, ◌≤◌, arith, ◌∙◌, ap}
-use Rattle.jg_heap.specs.Reading.{natural}
+use Rattle.jg_table_heap.specs.Reading.{natural}
 use Rattle.jg_rules.specs.Parts.{Parts}
 use Rattle.jg_rules.specs.Names.{the_object, length_of}
 use Rattle.jg_rules.specs.Answers.{is_outside}

@@ -1,7 +1,7 @@
 use Rattle.std.proofs.Common.{rules, ℕ, pos, ◌≡◌, ◌+◌, ◌≤◌, length, arith}
 use Rattle.jg_words.specs.declared.value.Thrown.TheVariants.{ArrayIndexOutOfBounds}
 use Rattle.jg_words.specs.declared.value.Value.TheVariants.{Ok as Done}
-use Rattle.jg_heap.specs.Reading.{natural}
+use Rattle.jg_table_heap.specs.Reading.{natural}
 use Rattle.jg_rules.specs.Parts.{Parts}
 use Rattle.jg_rules.specs.Names.{the_object, length_of}
 use Rattle.jg_rules.specs.Answers.{is_outside, plain}

@@ -5,7 +5,7 @@ use Rattle.jg_guard.proofs.Due.{stand_at, can_open}
 use Rattle.jg_guard.proofs.Arrays.{is_primitive}
 use Rattle.jg_guard.proofs.Buffers.{elements_there, copied_at}
 use Rattle.jg_words.specs.declared.object.ItemType.TheVariants.{Of}
-use Rattle.jg_buffers.specs.declared.family.Family.TheVariants.{Elements}
+use Rattle.jg_table_buffers.specs.declared.family.Family.TheVariants.{Elements}
 use Rattle.jg_guard.proofs.groups.buffers.copy_items.Goals as goal
 
 pub items-items-requires-clause-made : goal.items-items-requires-clause-made

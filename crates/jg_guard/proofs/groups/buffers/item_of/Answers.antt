@@ -1,5 +1,5 @@
 use Rattle.std.proofs.Common.{rules, ◌≡◌, ◌∙◌, Some, sym, arith}
-use Rattle.jg_heap.specs.Reading.{natural}
+use Rattle.jg_table_heap.specs.Reading.{natural}
 use Rattle.jg_rules.specs.Buffers.{buffer_named}
 use Rattle.jg_guard.proofs.Buffers.{pinned_there, read_within}
 use Rattle.jg_guard.proofs.groups.buffers.item_of.Goals as goal

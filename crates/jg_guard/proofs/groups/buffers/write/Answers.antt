@@ -1,6 +1,6 @@
 use Rattle.std.proofs.Common.{rules, ◌≡◌, ◌∙◌, Some, sym, arith, w64}
 use mir.Val.{to_z, of_z}
-use Rattle.jg_heap.specs.Reading.{natural}
+use Rattle.jg_table_heap.specs.Reading.{natural}
 use Rattle.jg_rules.specs.Buffers.{buffer_named}
 use Rattle.jg_guard.proofs.Due.{stand_at}
 use Rattle.jg_guard.proofs.Buffers.{pinned_there, written_within}

@@ -1,5 +1,5 @@
 use Rattle.std.proofs.Common.{◌∙◌, ap, false}
-use Rattle.jg_monitors.specs.Rows.{owner_in, row_of}
+use Rattle.jg_table_monitors.specs.Rows.{owner_in, row_of}
 use Rattle.jg_rules.specs.Names.{names}
 use Rattle.jg_guard.proofs.Due.{stand_at, owns}
 use Rattle.jg_guard.proofs.groups.monitors.exit.Goals as goal

@@ -1,5 +1,5 @@
 use Rattle.std.proofs.Common.{rules, ◌≡◌, Some, false, ◌∙◌}
-use Rattle.jg_heap.specs.declared.object.Slot.TheVariants.{Number}
+use Rattle.jg_table_heap.specs.declared.object.Slot.TheVariants.{Number}
 use Rattle.jg_rules.specs.Names.{names, slot_place}
 use Rattle.jg_guard.proofs.Due.{stand_at}
 use Rattle.jg_guard.proofs.Arrays.{wrote_at}

@@ -6,7 +6,7 @@ use Rattle.jg_rules.specs.Names.{class_of}
 use Rattle.jg_rules.specs.Parts.{Parts}
 use Rattle.jg_rules.specs.Rules.{verdict}
 use Rattle.jg_rules.specs.View.{ViewStands}
-use Rattle.jg_questions.specs.Written.{AreStated}
+use Rattle.jg_judge.specs.Written.{AreStated}
 use Rattle.jg_laws.proofs.HandedHere.{classes_are_stated}
 use Rattle.jg_guard.specs.Guard.{State}
 use Rattle.jg_guard.proofs.guard.Guard.judge.Goals as goal

@@ -1,5 +1,0 @@
-use Rattle.jg_buffers.proofs.Means.{stays_closed}
-use Rattle.jg_buffers.proofs.meanings.closed_stays_closed.Goals as goal
-
-pub returns : goal.returns
-returns c = stays_closed

@@ -1,9 +1,0 @@
-use Rattle.std.proofs.Common.{◌≡◌, drop, map}
-use Rattle.std.specs.Prelude.{◌==◌}
-use Rattle.jg_lists.specs.ByNumber.{seen}
-use Rattle.jg_lists.proofs.Found.{name_where}
-use Rattle.jg_buffers.proofs.visits.name_of.Given as goal
-
--- what is found in the tables that are left is what is found in all
-abbrev pub invariant-loop-table : goal.invariant-loop-table
-invariant-loop-table g l = name_where (λ w. w.object == l.object) (map seen (drop l.table-index l.table-items)) ≡ name_where (λ w. w.object == l.object) (map seen l.table-items)

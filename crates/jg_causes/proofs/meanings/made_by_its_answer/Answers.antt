@@ -1,5 +1,0 @@
-use Rattle.jg_causes.proofs.Making.{made_by_its_answer as law}
-use Rattle.jg_causes.proofs.meanings.made_by_its_answer.Goals as goal
-
-pub returns : goal.returns
-returns c = law

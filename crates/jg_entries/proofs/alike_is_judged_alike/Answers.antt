@@ -1,5 +1,0 @@
-use Rattle.jg_entries.proofs.Judged.{alike_is_judged_alike as law}
-use Rattle.jg_entries.proofs.alike_is_judged_alike.Goals as goal
-
-pub returns : goal.returns
-returns c = law

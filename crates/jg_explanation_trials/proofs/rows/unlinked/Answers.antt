@@ -1,7 +1,0 @@
-use Rattle.std.proofs.Common.{refl}
-use Rattle.jg_policy.specs.BaseClasses.{base_names}
-use Rattle.jg_explanation_trials.proofs.rows.unlinked.Goals as goal
-
-pub returns : goal.returns
-unfolding base_names
-returns c = refl

@@ -1,8 +1,0 @@
-use Rattle.std.proofs.Common.{refl}
-use Rattle.std.specs.Option.{option_copied}
-use Rattle.jg_functions.specs.Table.{arrays}
-use Rattle.jg_functions.proofs.Rows.{seen_at}
-use Rattle.jg_functions.proofs.table.arrays_at.Goals as goal
-
-pub returns : goal.returns
-returns c = seen_at _ arrays c.args.place (option_copied c.row_in.result) c.row_in.ensures refl

@@ -1,5 +1,0 @@
-use Rattle.jg_globals.proofs.Ended.{never_again}
-use Rattle.jg_globals.proofs.meanings.cleared_stays_cleared.Goals as goal
-
-pub returns : goal.returns
-returns c = never_again

@@ -1,5 +1,0 @@
-use Rattle.jg_heap.proofs.Decoding.{decoded_means}
-use Rattle.jg_heap.proofs.meanings.decoded_means.Goals as goal
-
-pub returns : goal.returns
-returns c = decoded_means

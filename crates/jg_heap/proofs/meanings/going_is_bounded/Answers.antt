@@ -1,5 +1,0 @@
-use Rattle.jg_heap.proofs.Laws.{going_bounded}
-use Rattle.jg_heap.proofs.meanings.going_is_bounded.Goals as goal
-
-pub returns : goal.returns
-returns c = going_bounded

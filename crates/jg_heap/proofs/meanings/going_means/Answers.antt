@@ -1,5 +1,0 @@
-use Rattle.jg_heap.proofs.Laws.{going_means}
-use Rattle.jg_heap.proofs.meanings.going_means.Goals as goal
-
-pub returns : goal.returns
-returns c = going_means

@@ -1,5 +1,0 @@
-use Rattle.jg_heap.proofs.Laws.{points_mean}
-use Rattle.jg_heap.proofs.meanings.points_means.Goals as goal
-
-pub returns : goal.returns
-returns c = points_mean

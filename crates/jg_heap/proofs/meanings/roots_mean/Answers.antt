@@ -1,5 +1,0 @@
-use Rattle.jg_heap.proofs.Laws.{roots_mean}
-use Rattle.jg_heap.proofs.meanings.roots_mean.Goals as goal
-
-pub returns : goal.returns
-returns c = roots_mean

@@ -1,5 +1,0 @@
-use Rattle.jg_heap.proofs.Decoding.{spelling_is_unique}
-use Rattle.jg_heap.proofs.meanings.spelling_is_unique.Goals as goal
-
-pub returns : goal.returns
-returns c = spelling_is_unique

@@ -1,5 +1,0 @@
-use Rattle.jg_locals.proofs.Callers.{pushed_law as law}
-use Rattle.jg_locals.proofs.meanings.pushed_means.Goals as goal
-
-pub returns : goal.returns
-returns c = law

@@ -1,5 +1,0 @@
-use Rattle.jg_locals.proofs.Callers.{top_is as law}
-use Rattle.jg_locals.proofs.meanings.top_means.Goals as goal
-
-pub returns : goal.returns
-returns c = law

@@ -1,5 +1,0 @@
-use Rattle.jg_monitors.proofs.Splits.{count_and_exits}
-use Rattle.jg_monitors.proofs.meanings.count_means.Goals as goal
-
-pub returns : goal.returns
-returns c = count_and_exits

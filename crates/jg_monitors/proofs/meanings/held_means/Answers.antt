@@ -1,5 +1,0 @@
-use Rattle.jg_monitors.proofs.Callers.{held_law}
-use Rattle.jg_monitors.proofs.meanings.held_means.Goals as goal
-
-pub returns : goal.returns
-returns c = held_law

@@ -1,5 +1,0 @@
-use Rattle.jg_monitors.proofs.Lookups.{rows_law}
-use Rattle.jg_monitors.proofs.meanings.rows_tell.Goals as goal
-
-pub returns : goal.returns
-returns c = rows_law

@@ -1,5 +1,0 @@
-use Rattle.std.proofs.Common.{[]}
-use Rattle.jg_own_machine.proofs.Machine.new.Goals as goal
-
-pub returns : goal.returns
-returns c = c.in_ok-env.ensures.ok.stands [] c.new-core.ensures.stands

@@ -1,5 +1,0 @@
-use Rattle.jg_questions.proofs.Agreed as agreed
-use Rattle.jg_questions.proofs.promises.judged_as_written.Goals as goal
-
-pub returns : goal.returns
-returns c = agreed.judged_as_written

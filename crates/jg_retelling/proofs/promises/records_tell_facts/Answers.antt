@@ -1,5 +1,0 @@
-use Rattle.jg_retelling.proofs.Telling.{records_tell_facts}
-use Rattle.jg_retelling.proofs.promises.records_tell_facts.Goals as goal
-
-pub returns : goal.returns
-returns c = records_tell_facts

@@ -1,0 +1,8 @@
+use Rattle.std.proofs.Common.{refl}
+use Rattle.std.specs.Option.{option_copied}
+use Rattle.jg_rows.specs.Table.{static_calls}
+use Rattle.jg_rows.proofs.Rows.{seen_at}
+use Rattle.jg_rows.proofs.table.static_calls_at.Goals as goal
+
+pub returns : goal.returns
+returns c = seen_at _ static_calls c.args.place (option_copied c.row_in.result) c.row_in.ensures refl

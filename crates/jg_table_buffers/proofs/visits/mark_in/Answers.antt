@@ -1,0 +1,8 @@
+use Rattle.std.specs.Prelude.{◌==◌}
+use Rattle.jg_table_buffers.specs.declared.pinned.Pinned.{Pinned}
+use Rattle.jg_lists.proofs.Visited.{any_seat, marks_alike}
+use Rattle.jg_table_buffers.proofs.visits.mark_in.Goals as goal
+
+pub returns : goal.returns
+returns g c =
+    marks_alike _ _ (g.M.Marking.mark_of c.args.marks.now) _ (λ o. any_seat (λ (w : Pinned). w.object == o) c.seats.result.now c.args.numbers.now c.seats.ensures.seats) c.mark_numbers.ensures

@@ -1,0 +1,22 @@
+use Rattle.std.proofs.Common.{◌≡◌, ℕ, ◌∙◌, ◌++◌, List, ap, arith, subst}
+use Rattle.std.specs.Prelude.{map}
+use Rattle.std.proofs.lemmas.List.{take_all}
+use Rattle.jg_lists.specs.ByNumber.{seen}
+use Rattle.jg_lists.specs.declared.by_number.Numbered.{Numbered}
+use Rattle.jg_lists.specs.ByMaker.{Name, named}
+use Rattle.jg_table_globals.specs.Seen.{ref_named}
+use Rattle.jg_lists.proofs.Visited.{listed_more}
+use Rattle.jg_table_globals.proofs.visits.list_names.Goals as goal
+
+pub loop-table-preserved : goal.loop-table-preserved
+loop-table-preserved g c =
+    listed_more (ref_named c.args.kind) c.seats-table-items.result.now c.loop-table.table-index c.table-item.result
+    c.args.refs.now.items c.loop-table.refs.items c.list_in.new.refs.items c.loop-table-test.true c.loop-table.invariant
+    (subst (λ (table : Numbered (List (ℕ × g.row.V.Denot))). c.list_in.new.refs.items ≡ c.loop-table.refs.items ++ map (λ e. ref_named c.args.kind (table.number, e.0)) table.value) c.table-item.is
+    c.in_ok-list_in.ensures.ok)
+
+pub returns-clause-ok : goal.returns-clause-ok
+returns-clause-ok g c =
+    c.loop-table.invariant
+    ∙ ap (λ (tables : List (ℕ × List (ℕ × g.row.V.Denot))). c.args.refs.now.items ++ map (λ (e : Name × g.row.V.Denot). ref_named c.args.kind e.0) (named tables))
+    (ap (map seen) (take_all c.loop-table.table-index c.seats-table-items.result.now (omega (arith, c.loop-table-test.false))) ∙ c.seats-table-items.ensures.seats)

@@ -1,5 +1,0 @@
-use Rattle.jg_threads.proofs.Callers.{leaves_at_most_enters as law}
-use Rattle.jg_threads.proofs.meanings.leaves_at_most_enters.Goals as goal
-
-pub returns : goal.returns
-returns c = law

@@ -1,5 +1,0 @@
-use Rattle.jg_threads.proofs.Callers.{no_row_law as law}
-use Rattle.jg_threads.proofs.meanings.no_row_means.Goals as goal
-
-pub returns : goal.returns
-returns c = law

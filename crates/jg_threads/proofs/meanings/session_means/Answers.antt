@@ -1,5 +1,0 @@
-use Rattle.jg_threads.proofs.Means.{session_means as law}
-use Rattle.jg_threads.proofs.meanings.session_means.Goals as goal
-
-pub returns : goal.returns
-returns c = law

@@ -1,5 +1,0 @@
-use Rattle.jg_threads.proofs.Means.{sessions_never_fall as law}
-use Rattle.jg_threads.proofs.meanings.sessions_never_fall.Goals as goal
-
-pub returns : goal.returns
-returns c = law
