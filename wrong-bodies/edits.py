@@ -4,8 +4,8 @@ An edit's lines: 'file: PATH', then pairs 'old: TEXT' and 'new: TEXT' of one lin
 file. The edit CRATE/NAME is the file wrong-bodies/CRATE/NAME.edit, and its PATH is within the crate. A line
 'by: FUNCTION' names a function whose contract refuses it, by its path below the crate; one that the edit itself changes
 needn't be named. In by-tests/ PATH begins at the top of the repository, and a line 'test: CRATE NAME' names the test
-that must fail, or a line 'case: FILE NAME' the case of crates/jg_test_cases/data/FILE that must come out otherwise, by its
-name or its name's front.
+that must fail, or a line 'case: FILE NAME' the case of crates/jg_test_cases/data/FILE that must come out otherwise, by
+its name or its name's front.
 """
 import dataclasses
 import os
