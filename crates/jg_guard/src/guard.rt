@@ -16,9 +16,9 @@ ghost use Rattle.jg_table_monitors.specs.Rows.{Ascends};
 
 use crate::answer::answer_to;
 use crate::collect::{Findings, find_held_for};
+use crate::forms::is_noticed;
 use crate::peaks::{Peaks, counted, raised};
 use crate::perform::perform;
-use crate::settle::is_noticed;
 use crate::tables::Tables;
 use crate::tally::{Tally, count};
 use jg_blocks::Blocks;

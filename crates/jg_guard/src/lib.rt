@@ -4,6 +4,7 @@
 
 mod answer;
 mod collect;
+mod forms;
 mod groups;
 mod guard;
 mod peaks;

@@ -12,6 +12,7 @@ ghost use Rattle.jg_guard.specs.Tables as tables_of;
 ghost use Rattle.jg_guard.specs.Tables.{rows_of, StillStand, IsAnswered, IsEffective, KeepsRoom};
 
 use crate::collect::Findings;
+use crate::forms::{is_effective, makes_global};
 use crate::groups::arrays::perform_arrays;
 use crate::groups::buffers::perform_buffers;
 use crate::groups::exceptions::perform_exceptions;
@@ -21,9 +22,7 @@ use crate::groups::objects::perform_objects;
 use crate::groups::refs::perform_refs;
 use crate::groups::strings::perform_strings;
 use crate::groups::vm::perform_vm;
-use crate::settle::{
-    is_effective, make_room, makes_global, settle, settle_global, throw_if, warn_if,
-};
+use crate::settle::{make_room, settle, settle_global, throw_if, warn_if};
 use crate::tables::Tables;
 use jg_policy::Setup;
 use jg_rules::{Answer, home_named};

@@ -9,8 +9,8 @@ ghost use Rattle.jg_rules.specs.Effects.{done_by};
 ghost use Rattle.jg_guard.specs.Tables.{rows_of, IsDue, IsEffective, KeepsRoom};
 ghost use Rattle.jg_words.specs.declared.call.arrays.ArraysCall.TheVariants.{GetArrayRegion, SetArrayRegion, GetObjectArrayElement, SetObjectArrayElement};
 
+use crate::forms::{handing_out, plain, throwing};
 use crate::region::{is_outside, items_in};
-use crate::settle::{handing_out, plain, throwing};
 use crate::tables::Tables;
 use jg_policy::Setup;
 use jg_rules::{Answer, View, items_of, length_of, object_named, slot_of, the_object};

@@ -16,7 +16,7 @@ ghost use Rattle.jg_guard.specs.Cleaning.{cleans_up};
 ghost use Rattle.jg_guard.specs.Tables.{rows_of, IsDue, IsEffective, KeepsRoom};
 ghost use Rattle.jg_guard.specs.Settled.{buffers_on, heap_on};
 
-use crate::settle::plain;
+use crate::forms::plain;
 use crate::tables::Tables;
 use jg_policy::Setup;
 use jg_rules::{Answer, View, buffer_named, slot_of, the_object, units_of};

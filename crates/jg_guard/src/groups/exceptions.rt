@@ -8,7 +8,7 @@ ghost use Rattle.jg_rules.specs.Answers.{exceptions_answer};
 ghost use Rattle.jg_rules.specs.Effects.{done_by};
 ghost use Rattle.jg_guard.specs.Tables.{rows_of, IsDue, IsEffective, KeepsRoom};
 
-use crate::settle::{handing_out, plain, saying};
+use crate::forms::{handing_out, plain, saying};
 use crate::tables::Tables;
 use jg_policy::Setup;
 use jg_rules::{Answer, View, object_named};

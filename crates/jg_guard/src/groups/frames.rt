@@ -9,7 +9,7 @@ ghost use Rattle.jg_guard.specs.Cleaning.{cleans_up};
 ghost use Rattle.jg_guard.specs.Tables.{rows_of, IsDue, IsEffective, KeepsRoom};
 ghost use Rattle.jg_rules.specs.Effects.{done_by};
 
-use crate::settle::{handing_out, plain};
+use crate::forms::{handing_out, plain};
 use crate::tables::Tables;
 use jg_policy::Setup;
 use jg_rules::{Answer, View, object_named};

@@ -11,7 +11,7 @@ ghost use Rattle.jg_rules.specs.Effects.{done_by};
 ghost use Rattle.jg_guard.specs.Cleaning.{cleans_up};
 ghost use Rattle.jg_guard.specs.Tables.{rows_of, IsDue, IsEffective, KeepsRoom};
 
-use crate::settle::plain;
+use crate::forms::plain;
 use crate::tables::Tables;
 use jg_policy::Setup;
 use jg_rules::{Answer, View, the_object};

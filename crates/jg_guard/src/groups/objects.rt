@@ -19,7 +19,7 @@ ghost use Rattle.jg_table_threads.specs.Rows.{CanCount};
 ghost use Rattle.jg_policy.specs.Stated.{StatedMember};
 ghost use Rattle.std.specs.Option.{option_map};
 
-use crate::settle::{handing_out, plain, throwing};
+use crate::forms::{handing_out, plain, throwing};
 use crate::tables::Tables;
 use jg_policy::Setup;
 use jg_rules::{

@@ -11,7 +11,7 @@ ghost use Rattle.jg_guard.specs.Settled.{deleted_on};
 ghost use Rattle.jg_rules.specs.Effects.{done_by};
 ghost use Rattle.jg_table_locals.specs.Rows.{spare};
 
-use crate::settle::{handing_out, plain};
+use crate::forms::{handing_out, plain};
 use crate::tables::Tables;
 use jg_policy::Setup;
 use jg_rules::{Answer, Named, View, look_up, object_named};

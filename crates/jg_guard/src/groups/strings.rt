@@ -13,8 +13,8 @@ ghost use Rattle.jg_words.specs.declared.call.strings.StringsCall.TheVariants.{G
 ghost use Rattle.jg_table_heap.specs.Reading.{natural};
 ghost use Rattle.jg_rules.specs.Numbers.{is_value_of};
 
+use crate::forms::{handing_out, plain, throwing};
 use crate::region::{is_outside, units_in};
-use crate::settle::{handing_out, plain, throwing};
 use crate::tables::Tables;
 use jg_policy::Setup;
 use jg_rules::{Answer, View, length_of, the_object, units_of};

@@ -24,7 +24,7 @@ ghost use Rattle.jg_rules.specs.Effects.{done_by};
 ghost use Rattle.jg_guard.specs.Settled.{linked_on, unlinked_on};
 
 use crate::collect::{Findings, collect};
-use crate::settle::{admitted, handing_out, plain, throwing};
+use crate::forms::{admitted, handing_out, plain, throwing};
 use crate::tables::Tables;
 use jg_policy::{Operation, Setup};
 use jg_rules::{Answer, View, class_meant, is_warned_use, native_meant, object_named};
