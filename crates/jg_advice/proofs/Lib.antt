@@ -1,4 +1,4 @@
-mod Counsels
+mod Logs
 mod Lefts
 mod Replaced
 mod Reports

@@ -21,8 +21,8 @@ pub record Tells (most : ℕ) (all : Bool) (h : List Moment) (text : List ℕ) :
   pub left : AreLeft h at_end
   pub is : text ≡ told_text all (reverse at_end ++ advices)
 
--- what contracts see of a counsel: its adviser, whether this is of no more use, and what was noted
-pub record CounselState : Type 0 where
+-- what contracts see of a log: its adviser, whether this is of no more use, and what was noted
+pub record AdviceLogState : Type 0 where
   pub adviser : AdviserState
   pub lost : Bool
   pub noting : Noting
@@ -34,6 +34,6 @@ pub record Notes (most : ℕ) (h : List Moment) (x : Noting) : Type 0 where
   pub noted : IsNoted x advices
 
 -- it stands for the history, unless memory ran out
-pub record Counsels (x : CounselState) (h : List Moment) : Type 0 where
+pub record LogStands (x : AdviceLogState) (h : List Moment) : Type 0 where
   pub stands : x.lost ≡ false → Stands x.adviser h
   pub notes : x.lost ≡ false → Notes x.adviser.most h x.noting

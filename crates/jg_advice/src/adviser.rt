@@ -376,8 +376,8 @@ impl Adviser {
     fn count_collection(&mut self) -> Result<(), AllocError>
         ensures gone { OnOk result ((h : List Moment) (p : Parts) (line : ℕ) (o : ObjIdOf) → Stands self.old h
             → Stands self.new (record { line = line; what = Told (Gone o); parts = p } ∷ h)) }
-        ensures went { OnOk result ((h : List Moment) (p : Parts) (line : ℕ) (objects : List ObjIdOf) → Stands self.old h
-            → Stands self.new (record { line = line; what = Went objects; parts = p } ∷ h)) }
+        ensures went { OnOk result ((h : List Moment) (p : Parts) (line : ℕ) (objects : List ObjIdOf)
+            → Stands self.old h → Stands self.new (record { line = line; what = Went objects; parts = p } ∷ h)) }
         ensures most { self.new.most ≡ self.old.most }
     {
         let collections = self.counts.collections;

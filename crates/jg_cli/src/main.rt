@@ -2,7 +2,7 @@
 //! journal, plays the scripts of several threads, or answers a record.
 #![tactic(auto)]
 
-use jg_program::{ProgramStop, Status, run, tell};
+use jg_program::{ProgramStop, Status, run, say};
 use std::env;
 use std::io::{BufReader, BufWriter, ErrorKind};
 use std::process::ExitCode;
@@ -42,7 +42,7 @@ fn start<T: Threads + Wait + Sync>(rt: &HostRuntime, threads: &T) -> Result<Stat
 fn main(rt: HostRuntime) -> ExitCode {
     let status = match start(&rt, &rt) {
         Ok(status) => status,
-        Err(stop) => tell(stop, &mut rt.stderr()),
+        Err(stop) => say(stop, &mut rt.stderr()),
     };
     ExitCode::from(status as u8)
 }

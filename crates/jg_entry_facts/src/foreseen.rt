@@ -9,7 +9,7 @@ ghost use Rattle.jg_entry_facts.specs.Foreseen.{Foresees};
 
 use crate::going::list_going_for;
 use crate::own::{Own, own_of};
-use crate::told::{push_answer, push_own_of, push_warning};
+use crate::passing::{push_answer, push_own_of, push_warning};
 use jg_core::Fact;
 use jg_lists::ObjectMarks;
 use jg_rules::{View, home_named};

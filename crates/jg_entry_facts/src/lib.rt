@@ -5,6 +5,6 @@
 mod foreseen;
 mod going;
 mod own;
-mod told;
+mod passing;
 
 pub use foreseen::Foreseen;

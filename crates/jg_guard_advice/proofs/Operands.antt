@@ -29,7 +29,7 @@ use Rattle.jg_advice.specs.Moments.{Called, Moment, depth}
 use Rattle.jg_advice.specs.Noted.{Noting}
 use Rattle.jg_advice.specs.Standing.{AdviserState, Stands}
 use Rattle.jg_advice.specs.Throwing.{is_within, may_throw, part_of}
-use Rattle.jg_advice.specs.Told.{CounselState, Counsels, Notes}
+use Rattle.jg_advice.specs.Told.{AdviceLogState, LogStands, Notes}
 use Rattle.jg_guard_advice.specs.Operands.{operands_seen}
 
 -- ---- no other function's row says that it writes to a buffer, gives one back, or throws where its answer doesn't tell
@@ -122,22 +122,22 @@ module _ (n : ℕ) (s : StatedSetup) (t : Tid) (f : ℕ) (xs ys : List Argument)
         noted = notes.noted;
       }
 
-  counsels_alike : (x : CounselState) → Counsels x (call_with xs ∷ h) → Counsels x (call_with ys ∷ h)
-  counsels_alike x counsels = record {
-    stands = λ free. stands_alike x.adviser (counsels.stands free);
-    notes = λ free. notes_alike x.adviser.most x.noting (counsels.notes free);
+  logs_alike : (x : AdviceLogState) → LogStands x (call_with xs ∷ h) → LogStands x (call_with ys ∷ h)
+  logs_alike x logs = record {
+    stands = λ free. stands_alike x.adviser (logs.stands free);
+    notes = λ free. notes_alike x.adviser.most x.noting (logs.notes free);
   }
 
 -- who was told a question with the operands that are seen was told it with all of them
-pub with_all : (s : StatedSetup) (p : Parts) (n : ℕ) (t : Tid) (c : Call) (f : ℕ) (name : List ℕ) (h : List Moment) (x : CounselState) → slice_get functions f ≡ Some (row_for (fun_of c))
-    → Counsels x (record { line = n; what = Called s t f (operands_seen s p t.0 c) name; parts = p } ∷ h)
-    → Counsels x (record { line = n; what = Called s t f (arguments_of s p t.0 c) name; parts = p } ∷ h)
-with_all s p n t (call.Strings c) f name h x is counsels = counsels
-with_all s p n t (call.Arrays c) f name h x is counsels = counsels
-with_all s p n t (call.Buffers c) f name h x is counsels = counsels
-with_all s p n t c f name h x is counsels =
+pub with_all : (s : StatedSetup) (p : Parts) (n : ℕ) (t : Tid) (c : Call) (f : ℕ) (name : List ℕ) (h : List Moment) (x : AdviceLogState) → slice_get functions f ≡ Some (row_for (fun_of c))
+    → LogStands x (record { line = n; what = Called s t f (operands_seen s p t.0 c) name; parts = p } ∷ h)
+    → LogStands x (record { line = n; what = Called s t f (arguments_of s p t.0 c) name; parts = p } ∷ h)
+with_all s p n t (call.Strings c) f name h x is logs = logs
+with_all s p n t (call.Arrays c) f name h x is logs = logs
+with_all s p n t (call.Buffers c) f name h x is logs = logs
+with_all s p n t c f name h x is logs =
     let row = row_is (fun_of c) in
     let none = λ (xs : List Argument). none_seen s p t.0 (fun_of c) (slice_get functions f) xs refl row.takes row.effect is in
     let ys : List Argument = arguments_of s p t.0 c in
-    counsels_alike n s t f [] ys name p h ((none []).written ∙ sym (none ys).written) ((none []).released ∙ sym (none ys).released)
-    ((none []).thrown ∙ sym (none ys).thrown) x counsels
+    logs_alike n s t f [] ys name p h ((none []).written ∙ sym (none ys).written) ((none []).released ∙ sym (none ys).released)
+    ((none []).thrown ∙ sym (none ys).thrown) x logs

@@ -1,4 +1,4 @@
--- What a counsel beside a guard stands for after one call more.
+-- What a log beside a guard stands for after one call more.
 use Rattle.std.proofs.Common.{◌≡◌, ◌+◌, ◌∙◌, ℕ, true, false, length, List, ◌∷◌, Option, Some, None, Result, Ok, Err, OnOk, refl, ap, sym, subst}
 use Rattle.std.specs.Prelude.{is_err, reverse, slice_get, OnErr}
 use Rattle.jg_words.specs.declared.thread.Tid.{Tid}
@@ -23,11 +23,11 @@ use Rattle.jg_entry_facts_laws.specs.Entries.{outcome_facts}
 use Rattle.jg_entry_facts.specs.declared.foreseen.Foreseen.{Foreseen}
 use Rattle.jg_entry_facts.specs.Foreseen.{Foresees}
 use Rattle.jg_advice.specs.Moments.{Called, Moment}
-use Rattle.jg_advice.specs.Told.{CounselState, Counsels}
-use Rattle.jg_guard_advice.specs.Counselled.{AreMoments, Follows, IsQuestion, name_handed, with_facts}
+use Rattle.jg_advice.specs.Told.{AdviceLogState, LogStands}
+use Rattle.jg_guard_advice.specs.Logged.{AreMoments, Follows, IsQuestion, name_handed, with_facts}
 
 -- where memory ran out, there is nothing to stand for
-pub lost_stands : (x : CounselState) (h : List Moment) → x.lost ≡ true → Counsels x h
+pub lost_stands : (x : AdviceLogState) (h : List Moment) → x.lost ≡ true → LogStands x h
 lost_stands x h lost = record {
   stands = λ free. absurd (let clash : true ≡ false = sym lost ∙ free in cc);
   notes = λ free. absurd (let clash : true ≡ false = sym lost ∙ free in cc);
@@ -75,42 +75,42 @@ module _ (s : StatedSetup) (h : List Entry) (t : Tid) (env : Option EnvId) (call
 -- ---- beside a guard
 
 -- the guard took no call, and memory ran out
-pub refused : (first old new : CounselState) (s s' : StatedSetup) (h h' : List Entry) → Follows first old s h → new.lost ≡ true → s' ≡ s → h' ≡ h → new.adviser.most ≡ old.adviser.most
+pub refused : (first old new : AdviceLogState) (s s' : StatedSetup) (h h' : List Entry) → Follows first old s h → new.lost ≡ true → s' ≡ s → h' ≡ h → new.adviser.most ≡ old.adviser.most
     → new.noting.all ≡ old.noting.all → Follows first new s' h'
 refused first old new s s' h h' follows lost setup journal most all = record {
-  counselled = (
-    follows.counselled.0,
-    subst (λ (j : List Entry). AreMoments s' j follows.counselled.0) (sym journal) (subst (λ (t : StatedSetup). AreMoments t h follows.counselled.0) (sym setup) follows.counselled.1),
-    lost_stands new follows.counselled.0 lost,
+  logged = (
+    follows.logged.0,
+    subst (λ (j : List Entry). AreMoments s' j follows.logged.0) (sym journal) (subst (λ (t : StatedSetup). AreMoments t h follows.logged.0) (sym setup) follows.logged.1),
+    lost_stands new follows.logged.0 lost,
   );
   most = most ∙ follows.most;
   all = all ∙ follows.all;
 }
 
--- of a call that is denied the counsel is told nothing, whether the guard took it or memory ran out
-pub denied_follows : {T E : Type 0} (first old : CounselState) (g g' : State) (t : Tid) (env : Option EnvId) (call : Call) (rule : Rule) (r : Result T E) → Follows first old g.setup g.journal
+-- of a call that is denied the log is told nothing, whether the guard took it or memory ran out
+pub denied_follows : {T E : Type 0} (first old : AdviceLogState) (g g' : State) (t : Tid) (env : Option EnvId) (call : Call) (rule : Rule) (r : Result T E) → Follows first old g.setup g.journal
     → verdict g.setup (parts g.setup g.journal) t.0 env call ≡ Some rule → g'.setup ≡ g.setup → OnOk r (Took g g' (next_entry g t env call)) → OnErr r (g'.journal ≡ g.journal)
     → Follows first old g'.setup g'.journal
 denied_follows first old g g' t env call rule (Ok v) follows is setup took same =
-    let before : List Moment = follows.counselled.0 in
+    let before : List Moment = follows.logged.0 in
     let entry : Entry = next_entry g t env call in
-    let are : AreMoments g.setup (entry ∷ g.journal) before = denied g.setup g.journal t env call before follows.counselled.1 rule is in
+    let are : AreMoments g.setup (entry ∷ g.journal) before = denied g.setup g.journal t env call before follows.logged.1 rule is in
     record {
-      counselled = (
+      logged = (
         before,
         subst (λ (j : List Entry). AreMoments g'.setup j before) (sym took.journal) (subst (λ (s : StatedSetup). AreMoments s (entry ∷ g.journal) before) (sym setup) are),
-        follows.counselled.2,
+        follows.logged.2,
       );
       most = follows.most;
       all = follows.all;
     }
 denied_follows first old g g' t env call rule (Err e) follows is setup took same =
-    let before : List Moment = follows.counselled.0 in
+    let before : List Moment = follows.logged.0 in
     record {
-      counselled = (
+      logged = (
         before,
-        subst (λ (j : List Entry). AreMoments g'.setup j before) (sym same) (subst (λ (s : StatedSetup). AreMoments s g.journal before) (sym setup) follows.counselled.1),
-        follows.counselled.2,
+        subst (λ (j : List Entry). AreMoments g'.setup j before) (sym same) (subst (λ (s : StatedSetup). AreMoments s g.journal before) (sym setup) follows.logged.1),
+        follows.logged.2,
       );
       most = follows.most;
       all = follows.all;
@@ -134,33 +134,33 @@ foreseen_so s v p t env call entry seen setup is foresees =
     (subst (λ (c : Call). Foresees s p t c seen) (sym (own_call (verdict s p t.0 env call) (answer s p t call) t env call))
     (subst (λ (w : StatedSetup). Foresees w p t call seen) setup foresees)))
 
--- the guard took a call that passes, and the counsel was told its question before and its facts after it
-pub took : (first old asked told : CounselState) (s s' v : StatedSetup) (h h' : List Entry) (t : Tid) (env : Option EnvId) (call : Call) (entry : Entry) (n : ℕ) → Follows first old s h
+-- the guard took a call that passes, and the log was told its question before and its facts after it
+pub took : (first old asked told : AdviceLogState) (s s' v : StatedSetup) (h h' : List Entry) (t : Tid) (env : Option EnvId) (call : Call) (entry : Entry) (n : ℕ) → Follows first old s h
     → verdict s (parts s h) t.0 env call ≡ None → n ≡ length h + 1 → v ≡ s
-    → ((hist : List Moment) → Counsels old hist → (m : Moment) × IsQuestion v (parts s h) n t call m × Counsels asked (m ∷ hist))
-    → ((hist : List Moment) → Counsels asked hist
-    → Counsels told (with_facts n (parts s' h') (reverse (outcome_facts s (parts s h) entry.tid entry.call entry.outcome entry.object)) hist))
+    → ((hist : List Moment) → LogStands old hist → (m : Moment) × IsQuestion v (parts s h) n t call m × LogStands asked (m ∷ hist))
+    → ((hist : List Moment) → LogStands asked hist
+    → LogStands told (with_facts n (parts s' h') (reverse (outcome_facts s (parts s h) entry.tid entry.call entry.outcome entry.object)) hist))
     → s' ≡ s → h' ≡ entry_at s (parts s h) t env call ∷ h → entry ≡ entry_at s (parts s h) t env call → told.adviser.most ≡ old.adviser.most → told.noting.all ≡ old.noting.all
     → Follows first told s' h'
 took first old asked told s s' v h h' t env call entry n follows passes number seen ask tell setup journal is most all =
     let p : Parts = parts s h in
     let e : Entry = entry_at s p t env call in
-    let before : List Moment = follows.counselled.0 in
-    let asks = ask before follows.counselled.2 in
+    let before : List Moment = follows.logged.0 in
+    let asks = ask before follows.logged.2 in
     let m : Moment = asks.0 in
     let own : IsQuestion s p (length h + 1) t call m =
     subst (λ (k : ℕ). IsQuestion s p k t call m) number (subst (λ (w : StatedSetup). IsQuestion w p n t call m) seen asks.1) in
     let facts : Entry → List Fact = λ x. reverse (outcome_facts s p x.tid x.call x.outcome x.object) in
     let tells = tell (m ∷ before) asks.2 in
     let moments : List Moment = with_facts (length h + 1) (parts s (e ∷ h)) (facts e) (m ∷ before) in
-    let stands : Counsels told moments =
-    subst (λ (k : ℕ). Counsels told (with_facts k (parts s (e ∷ h)) (facts e) (m ∷ before))) number
-    (subst (λ (w : StatedSetup). Counsels told (with_facts n (parts w (e ∷ h)) (facts e) (m ∷ before))) setup
-    (subst (λ (j : List Entry). Counsels told (with_facts n (parts s' j) (facts e) (m ∷ before))) journal
-    (subst (λ (x : Entry). Counsels told (with_facts n (parts s' h') (facts x) (m ∷ before))) is tells))) in
-    let are : AreMoments s (e ∷ h) moments = passed s h t env call before follows.counselled.1 m passes own in
+    let stands : LogStands told moments =
+    subst (λ (k : ℕ). LogStands told (with_facts k (parts s (e ∷ h)) (facts e) (m ∷ before))) number
+    (subst (λ (w : StatedSetup). LogStands told (with_facts n (parts w (e ∷ h)) (facts e) (m ∷ before))) setup
+    (subst (λ (j : List Entry). LogStands told (with_facts n (parts s' j) (facts e) (m ∷ before))) journal
+    (subst (λ (x : Entry). LogStands told (with_facts n (parts s' h') (facts x) (m ∷ before))) is tells))) in
+    let are : AreMoments s (e ∷ h) moments = passed s h t env call before follows.logged.1 m passes own in
     record {
-      counselled = (
+      logged = (
         moments,
         subst (λ (w : StatedSetup). AreMoments w h' moments) (sym setup) (subst (λ (j : List Entry). AreMoments s j moments) (sym journal) are),
         stands,

@@ -3,7 +3,7 @@ use Rattle.std.proofs.Common.{◌≡◌, ℕ, suc, List, [], ◌∷◌, length, 
 use Rattle.jg_core.specs.declared.fact.Fact.{Fact}
 use Rattle.jg_rules.specs.Parts.{Parts}
 use Rattle.jg_advice.specs.Moments.{Moment}
-use Rattle.jg_guard_advice.specs.Counselled.{with_facts}
+use Rattle.jg_guard_advice.specs.Logged.{with_facts}
 
 pub none_told : (n : ℕ) (p : Parts) (facts : List Fact) (h : List Moment) → length facts ≡ 0 → with_facts n p facts h ≡ h
 none_told n p [] h none = refl

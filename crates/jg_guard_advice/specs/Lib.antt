@@ -1,2 +1,2 @@
-pub mod Counselled
+pub mod Logged
 pub mod Operands

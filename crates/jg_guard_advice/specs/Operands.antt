@@ -1,4 +1,4 @@
--- The operands that a counsel is handed of a question.
+-- The operands that a log is handed of a question.
 use Rattle.std.specs.Prelude.{ℕ, List, []}
 use Rattle.jg_words.specs.declared.call.Call.{Call}
 use Rattle.jg_words.specs.declared.call.Call.TheVariants.{Strings, Arrays, Buffers}

@@ -1,10 +1,10 @@
-//! Advice beside a guard: each call that the guard takes is told to a counsel, as the question and the facts that its
+//! Advice beside a guard: each call that the guard takes is told to a log, as the question and the facts that its
 //! entry is.
 #![tactic(auto)]
 
-mod counselling;
+mod advising;
 mod moments;
 mod replaying;
 
-pub use counselling::Counselling;
-pub use replaying::counsel_journal;
+pub use advising::GuardAdviser;
+pub use replaying::advise_on_journal;

@@ -1,15 +1,15 @@
-//! What the counsel is told of a call.
+//! What the log is told of a call.
 
 ghost use Rattle.std.specs.Prelude.{◌≡◌, ◌++◌, List, OnOk};
 ghost use Rattle.jg_advice.specs.Moments.{Moment};
 ghost use Rattle.jg_advice.specs.Standing.{Sees};
-ghost use Rattle.jg_advice.specs.Told.{Counsels};
-ghost use Rattle.jg_guard_advice.specs.Counselled.{name_handed, with_facts};
+ghost use Rattle.jg_advice.specs.Told.{LogStands};
+ghost use Rattle.jg_guard_advice.specs.Logged.{name_handed, with_facts};
 ghost use Rattle.jg_guard_advice.specs.Operands.{operands_seen};
 ghost use Rattle.jg_rules.specs.Parts.{Parts};
 ghost use Rattle.jg_rules.specs.View.{ViewStands};
 
-use jg_advice::Counsel;
+use jg_advice::AdviceLog;
 use jg_core::Fact;
 use jg_judge::{Argument, push_arguments};
 use jg_rules::View;
@@ -47,19 +47,19 @@ pub(crate) fn list_operands<A: Allocator + Clone>(
 
 /// Tells the facts of an entry, the oldest first, all on its line. `view` is of the tables with all of them.
 pub(crate) fn tell_all<A: Allocator + Clone>(
-    counsel: &mut Counsel,
+    log: &mut AdviceLog,
     view: &View<'_, A>,
     line: u64,
     facts: &[Fact],
 )
-    ensures counsels { (h : List Moment) (p : Parts) → Counsels counsel.old h → Sees view.now p
-        → Counsels counsel.new (with_facts line p facts.now h) }
-    ensures most { counsel.new.adviser.most ≡ counsel.old.adviser.most }
-    ensures all { counsel.new.noting.all ≡ counsel.old.noting.all }
+    ensures logs { (h : List Moment) (p : Parts) → LogStands log.old h → Sees view.now p
+        → LogStands log.new (with_facts line p facts.now h) }
+    ensures most { log.new.adviser.most ≡ log.old.adviser.most }
+    ensures all { log.new.noting.all ≡ log.old.noting.all }
 {
     let mut rest = facts;
     while let Some((fact, later)) = rest.split_first() {
-        counsel.told(view, line, *fact);
+        log.told(view, line, *fact);
         rest = later;
     }
 }

@@ -17,11 +17,11 @@ use Rattle.jg_program.proofs.Reading.{gives_known}
 use Rattle.jg_program.proofs.Refusing.{migrates_refused, refused_on}
 
 -- a text was made, or memory ran out for it
-pub ends_telling : {T E : Type 0} (bytes : T → List ℕ) (explained : Bool) (IsSuch : List ℕ → Type 0) (stop : ProgramStop) (told : Result T E) (ending : ProgramEnd)
+pub ends_saying : {T E : Type 0} (bytes : T → List ℕ) (explained : Bool) (IsSuch : List ℕ → Type 0) (stop : ProgramStop) (told : Result T E) (ending : ProgramEnd)
     → ending.ended ≡ Err stop → IfOk told (λ text. said_text ending.said ≡ bytes text) → OnErr told (ending.said ≡ NoMemory)
     → IfOk told (λ text. IsToldIf explained IsSuch (bytes text)) → OnErr told (explained ≡ true) → EndsTelling explained IsSuch stop ending
-ends_telling bytes explained IsSuch stop (Ok text) ending ended said memory such asked = inl (bytes text, such, ended, said)
-ends_telling bytes explained IsSuch stop (Err fault) ending ended said memory such asked = inr (asked, (ended, memory))
+ends_saying bytes explained IsSuch stop (Ok text) ending ended said memory such asked = inl (bytes text, such, ended, said)
+ends_saying bytes explained IsSuch stop (Err fault) ending ended said memory such asked = inr (asked, (ended, memory))
 
 -- there was nothing to tell
 ends_quietly : (explained : Bool) (IsSuch : List ℕ → Type 0) (stop : ProgramStop) (ending : ProgramEnd) → IsSuch []

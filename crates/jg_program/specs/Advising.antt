@@ -5,8 +5,8 @@ use Rattle.jg_words.specs.Entry.{Entry}
 use Rattle.jg_policy.specs.Stated.{StatedSetup}
 use Rattle.jg_advice.specs.Moments.{Moment}
 use Rattle.jg_advice.specs.Told.{Tells as Advises}
-use Rattle.jg_guard_advice.specs.declared.counselling.Counselling.{Counselling}
-use Rattle.jg_guard_advice.specs.Counselled.{AreMoments, Counselled}
+use Rattle.jg_guard_advice.specs.declared.advising.GuardAdviser.{GuardAdviser}
+use Rattle.jg_guard_advice.specs.Logged.{AreMoments, Logged}
 use Rattle.jg_args.specs.declared.asked.Advising.{Advising}
 use Rattle.jg_args.specs.declared.asked.Advising.TheVariants.{Never, Once, Each}
 use Rattle.jg_program.specs.declared.reporting.Reporting.{Reporting}
@@ -31,8 +31,8 @@ SaysAsked (Some (most, all)) s h said = (moments : List Moment) × AreMoments s 
 abbrev pub SaysAdvice : Reporting → StatedSetup → List Entry → List ℕ → Type 0
 SaysAdvice r s h said = SaysAsked (advice_asked r) s h said
 
--- what stands beside a guard of this journal: a counsel that stands for it, where advice is asked for
-abbrev pub StandsBeside : {A : Type 0} → Reporting → Option (Counselling A) → StatedSetup → List Entry → Type 0
+-- what stands beside a guard of this journal: a log that stands for it, where advice is asked for
+abbrev pub StandsBeside : {A : Type 0} → Reporting → Option (GuardAdviser A) → StatedSetup → List Entry → Type 0
 StandsBeside r None s h = advice_asked r ≡ None
 StandsBeside r (Some x) s h =
-    Counselled x.counsel s h × (advice_asked r ≡ Some (x.counsel.adviser.most, x.counsel.noting.all))
+    Logged x.log s h × (advice_asked r ≡ Some (x.log.adviser.most, x.log.noting.all))

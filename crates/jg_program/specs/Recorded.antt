@@ -10,14 +10,14 @@ use Rattle.jg_leaks.specs.Left.{AreLeft}
 use Rattle.jg_core.specs.Facts.{parts_of}
 use Rattle.jg_record.specs.Parts.{AreParts}
 use Rattle.jg_advice.specs.Moments.{Moment}
-use Rattle.jg_advice.specs.Told.{CounselState, Counsels, Tells as Advises}
+use Rattle.jg_advice.specs.Told.{AdviceLogState, LogStands, Tells as Advises}
 use Rattle.jg_script.specs.Leaks.{leaks_text}
 use Rattle.jg_watch.specs.declared.ending.Ended.{Ended}
 use Rattle.jg_watch.specs.declared.ending.Ended.TheVariants.{All, CutOff, Differs, Impossible}
 use Rattle.jg_watch.specs.declared.ending.Stop.{Stop}
 use Rattle.jg_watch.specs.declared.ending.Stop.TheVariants.{Write}
 use Rattle.jg_watch.specs.declared.watch.Shown.{Shown}
-use Rattle.jg_watch.specs.Counselled.{advising_of}
+use Rattle.jg_watch.specs.Logged.{advising_of}
 use Rattle.jg_watch.specs.Ends.{Watches}
 use Rattle.jg_watch.specs.Explained.{Explaining}
 use Rattle.jg_watch.specs.Lines.{any_denied}
@@ -46,16 +46,16 @@ IsEndText (Impossible number) line text = (event : List ℕ) × (answer note : O
 
 -- how the lines of a record were answered, and what that did to the bytes of the reader and of the writer
 abbrev pub AnswersRecord : StatedSetup → Shown → Option (List ℕ) → Option (List ℕ) → List ℕ → Option (List ℕ)
-    → Option (List ℕ) → Watching → Explaining → Option CounselState → Result Ended ProgramStop → Type 0
+    → Option (List ℕ) → Watching → Explaining → Option AdviceLogState → Result Ended ProgramStop → Type 0
 -- the record ended so, and that was written behind its answers
-AnswersRecord s shown input input' line bytes bytes' new explained counsel (Ok ended) =
+AnswersRecord s shown input input' line bytes bytes' new explained log (Ok ended) =
     (before : Option (List ℕ)) × (text : List ℕ)
-    × Watches s shown input input' line bytes before new explained counsel (Ok ended) × IsEndText ended line text
+    × Watches s shown input input' line bytes before new explained log (Ok ended) × IsEndText ended line text
     × Appends before bytes' text
 -- it was stopped so; or what is to be written couldn't be written or handed on
-AnswersRecord s shown input input' line bytes bytes' new explained counsel (Err stop) =
+AnswersRecord s shown input input' line bytes bytes' new explained log (Err stop) =
     (fault : Stop) × (stop ≡ Record fault)
-    × (((before : Option (List ℕ)) × Watches s shown input input' line bytes before new explained counsel (Err fault)
+    × (((before : Option (List ℕ)) × Watches s shown input input' line bytes before new explained log (Err fault)
     × Keeps before bytes') ⊎ ((number : ℕ) × (fault ≡ Write number)))
 
 -- ---- what is said on standard error
@@ -85,16 +85,16 @@ summary_if true new = record_summary new
 
 -- ---- advice
 
--- the advice on what happened by the lines; none without a counsel
-abbrev pub IsAdvice : Option CounselState → List ℕ → Type 0
+-- the advice on what happened by the lines; none without a log
+abbrev pub IsAdvice : Option AdviceLogState → List ℕ → Type 0
 IsAdvice None text = text ≡ []
-IsAdvice (Some x) text = (h : List Moment) → Counsels x h → Advises x.adviser.most x.noting.all h text
+IsAdvice (Some x) text = (h : List Moment) → LogStands x h → Advises x.adviser.most x.noting.all h text
 
 -- the explanations, with the advice that is asked for behind them; None where memory ran out for one of them
-abbrev pub IsSaid : Reporting → Option (List ℕ) → Option CounselState → Option (List ℕ) → Type 0
-IsSaid r explained counsel None = Unit {0}
-IsSaid r explained counsel (Some said) = (advising_of counsel ≡ advice_asked r) × ((explanations advice : List ℕ)
-    × (explained ≡ Some explanations) × IsAdvice counsel advice × (said ≡ explanations ++ advice))
+abbrev pub IsSaid : Reporting → Option (List ℕ) → Option AdviceLogState → Option (List ℕ) → Type 0
+IsSaid r explained log None = Unit {0}
+IsSaid r explained log (Some said) = (advising_of log ≡ advice_asked r) × ((explanations advice : List ℕ)
+    × (explained ≡ Some explanations) × IsAdvice log advice × (said ≡ explanations ++ advice))
 
 -- ---- how the program ends
 
@@ -134,7 +134,7 @@ EndsWith r new None result ending =
 abbrev pub EndsRecord : Reporting → StatedSetup → Shown → Option (List ℕ) → Option (List ℕ) → Option (List ℕ)
     → Option (List ℕ) → ProgramEnd → Type 0
 EndsRecord r s shown input input' bytes bytes' ending =
-    (line : List ℕ) × (new : Watching) × (explained : Explaining) × (counsel : Option CounselState)
+    (line : List ℕ) × (new : Watching) × (explained : Explaining) × (log : Option AdviceLogState)
     × (said : Option (List ℕ)) × (result : Result Ended ProgramStop)
-    × AnswersRecord s shown input input' line bytes bytes' new explained counsel result
-    × (explained.most ≡ r.explain) × IsSaid r explained.text counsel said × EndsWith r new said result ending
+    × AnswersRecord s shown input input' line bytes bytes' new explained log result
+    × (explained.most ≡ r.explain) × IsSaid r explained.text log said × EndsWith r new said result ending

@@ -6,7 +6,7 @@ ghost use Rattle.jg_program.specs.declared.stop.ProgramStop.TheVariants.{Run};
 ghost use Rattle.jg_program.specs.About.{IsAbout, IsAboutScript, IsDifferenceText};
 ghost use Rattle.jg_program.specs.Reported.{EndsTelling, IsToldIf};
 
-use crate::stop::{ProgramEnd, ProgramStop, Status, quietly, telling};
+use crate::stop::{ProgramEnd, ProgramStop, Status, quietly, saying};
 use jg_args::{ArgsFault, refused_word};
 use jg_denial_text::push_quoted;
 use jg_fault_text::push_line_fault;
@@ -163,7 +163,7 @@ fn script_fault_text(
 pub fn end_unread(alloc: Global, explained: bool, line: &[u8], fault: RunFault) -> ProgramEnd
     ensures { EndsTelling explained (IsAboutScript line.now (Err (Run fault))) (Run fault) result }
 {
-    telling(
+    saying(
         ProgramStop::Run(fault),
         script_fault_text(alloc, explained, line, fault),
     )
@@ -192,7 +192,7 @@ fn push_word(out: &mut String, place: usize, word: &str) -> Result<(), AllocErro
 pub fn end_refused(alloc: Global, words: &[&str], fault: ArgsFault) -> ProgramEnd {
     let stop = ProgramStop::Arguments(fault);
     match fault {
-        ArgsFault::Refused => telling(stop, refused_at(alloc, words)),
+        ArgsFault::Refused => saying(stop, refused_at(alloc, words)),
         _ => quietly(alloc, Err(stop)),
     }
 }

@@ -14,12 +14,12 @@ ghost use Rattle.jg_program.specs.Verdicts.{difference_text, verdict_status, ver
 ghost use Rattle.jg_program.specs.Reported.{EndsQuietly};
 
 use crate::about::About;
-use crate::advising::{advice_of, begin_counselling};
+use crate::advising::{advice_of, begin_advising};
 use crate::reporting::{Reporting, report};
 use crate::stop::{ProgramEnd, ProgramStop, Status, quietly};
 use itoa::Buffer;
 use jg_guard::Guard;
-use jg_guard_advice::Counselling;
+use jg_guard_advice::GuardAdviser;
 use jg_policy::Setup;
 use jg_script::{
     DeviceFailed, HandsOn, Replayed, RunFault, Verdict, Watched, replay_beside, write_text,
@@ -86,7 +86,7 @@ fn say<W: io::Write>(out: &mut Watched<W>, verdict: Verdict) -> Result<(), Progr
 fn test_lines<R: BufRead, W: HandsOn>(
     alloc: Global,
     guard: &mut Guard,
-    beside: &mut Option<Counselling>,
+    beside: &mut Option<GuardAdviser>,
     reader: &mut Watched<R>,
     out: &mut Watched<W>,
     line: &mut Vec<u8>,
@@ -143,7 +143,7 @@ pub fn test_journal<R: BufRead, W: HandsOn>(
         return end_without_guard(alloc, out);
     };
     let mut line = Vec::new(alloc);
-    let (mut beside, begun) = begin_counselling(alloc, reporting);
+    let (mut beside, begun) = begin_advising(alloc, reporting);
     let tested = test_lines(alloc, &mut guard, &mut beside, reader, out, &mut line);
     let advised = advice_of(alloc, beside, begun);
     match tested {

@@ -19,4 +19,4 @@ mod summary;
 
 pub use files::Files;
 pub use program::run;
-pub use stop::{ProgramStop, Status, tell};
+pub use stop::{ProgramStop, Status, say};

@@ -8,7 +8,7 @@ ghost use Rattle.jg_program.specs.Advising.{StandsBeside};
 ghost use Rattle.jg_program.specs.Ended.{AnswersLines, Ends, EndsClosed, EndsScript, EndsUnder, IsHandedOn};
 
 use crate::about::{About, end_refused};
-use crate::advising::{advice_of, begin_counselling};
+use crate::advising::{advice_of, begin_advising};
 use crate::files::Files;
 use crate::journal::test_journal;
 use crate::migrating::migrate;
@@ -17,10 +17,10 @@ use crate::recording::answer_record;
 use crate::reporting::{Reporting, report};
 use crate::retelling::retell_record;
 use crate::setup_file::{closed_setup, read_setup, stop_of};
-use crate::stop::{ProgramEnd, ProgramStop, Status, quietly, tell_ending};
+use crate::stop::{ProgramEnd, ProgramStop, Status, quietly, say_ending};
 use jg_args::{ArgsFault, Asked, Task, help_text, read_words};
 use jg_guard::Guard;
-use jg_guard_advice::Counselling;
+use jg_guard_advice::GuardAdviser;
 use jg_policy::{Setup, SetupFault};
 use jg_script::{HandsOn, RunFault, Watched, check_beside};
 use jg_watch::Shown;
@@ -53,7 +53,7 @@ pub enum Job {
 fn answer_lines<R: BufRead, W: HandsOn>(
     alloc: Global,
     guard: &mut Guard,
-    beside: &mut Option<Counselling>,
+    beside: &mut Option<GuardAdviser>,
     reader: &mut Watched<R>,
     out: &mut Watched<W>,
     line: &mut Vec<u8>,
@@ -97,7 +97,7 @@ fn answer_script<R: BufRead, W: HandsOn>(
         return quietly(alloc, Err(ProgramStop::Setup(SetupFault::NoMemory)));
     };
     let mut line = Vec::new(alloc);
-    let (mut beside, begun) = begin_counselling(alloc, reporting);
+    let (mut beside, begun) = begin_advising(alloc, reporting);
     let ended = answer_lines(alloc, &mut guard, &mut beside, reader, out, &mut line);
     let advised = advice_of(alloc, beside, begun);
     let ending = report(
@@ -348,5 +348,5 @@ pub fn run<T: Threads + Wait + Sync, S: Files, R: BufRead + Drop, W: HandsOn + D
         Err(ArgsFault::Help) => quietly(alloc, print_help(alloc, words, &mut out)),
         Err(fault) => end_refused(alloc, words, fault),
     };
-    tell_ending(ending, err)
+    say_ending(ending, err)
 }

@@ -4,7 +4,7 @@ ghost use Rattle.std.specs.Prelude.{◌≡◌, ◌<◌, ◌++◌, ◌⊎◌, [],
 ghost use Rattle.std.specs.Option.{is_some, option_map};
 ghost use Rattle.std.specs.Io.KnownBytes.{Appends};
 ghost use Rattle.jg_watch.specs.declared.ending.Stop.TheVariants.{Write};
-ghost use Rattle.jg_watch.specs.Counselled.{advising_of, CounselsIf};
+ghost use Rattle.jg_watch.specs.Logged.{advising_of, LogStandsIf};
 ghost use Rattle.jg_watch.specs.Ends.{ended_line};
 ghost use Rattle.jg_watch.specs.Lines.{IsTally};
 ghost use Rattle.jg_watch.specs.Told.{Stands, nothing_told};
@@ -17,7 +17,7 @@ use crate::journal::{write_difference, write_number};
 use crate::record_report::report_record;
 use crate::reporting::Reporting;
 use crate::stop::{ProgramEnd, ProgramStop};
-use jg_advice::Counsel;
+use jg_advice::AdviceLog;
 use jg_policy::Setup;
 use jg_record::cut_line;
 use jg_script::{DeviceFailed, HandsOn, Watched, write_text};
@@ -79,31 +79,22 @@ fn answer_lines<R: BufRead, W: HandsOn>(
     out: &mut Watched<W>,
     text: &mut Vec<u8>,
     explanations: &mut Explanations,
-    counsel: &mut Option<Counsel>,
+    log: &mut Option<AdviceLog>,
 ) -> Result<Ended, ProgramStop>
     requires new { Stands watch.old nothing_told }
     requires none { IsTally [] watch.old.tally }
     requires denied { watch.old.denied ≡ 0 }
     requires explained { explanations.old.text ≡ Some [] }
-    requires advised { CounselsIf counsel.old [] }
+    requires advised { LogStandsIf log.old [] }
     ensures answers { AnswersRecord watch.old.core.setup shown (R.remaining reader.old.device)
         (R.remaining reader.new.device) text.new.items (W.contents out.old.device) (W.contents out.new.device)
-        watch.new explanations.new counsel.new result }
+        watch.new explanations.new log.new result }
     ensures most { explanations.new.most ≡ explanations.old.most }
     ensures lost { explanations.new.text ≡ None → 0 < explanations.old.most }
-    ensures advising { advising_of counsel.new ≡ advising_of counsel.old }
+    ensures advising { advising_of log.new ≡ advising_of log.old }
     ensures handed_on { IsHandedOn (W.holds_nothing out.new.device) out.new.failed result }
 {
-    let answered = watch_lines(
-        alloc,
-        watch,
-        shown,
-        reader,
-        out,
-        text,
-        explanations,
-        counsel,
-    );
+    let answered = watch_lines(alloc, watch, shown, reader, out, text, explanations, log);
     let written = match answered {
         Ok(ended) => write_ended(out, ended, text),
         Err(stop) => Err(ProgramStop::Record(stop)),
@@ -117,57 +108,57 @@ fn answer_lines<R: BufRead, W: HandsOn>(
 }
 
 /// What advises, where that is asked for. Fails for want of memory.
-fn counsel_of(alloc: Global, reporting: Reporting) -> Result<Option<Counsel>, AllocError>
-    ensures asked { IfOk result (λ counsel. advising_of counsel ≡ advice_asked reporting) }
-    ensures new { IfOk result (λ counsel. CounselsIf counsel []) }
+fn log_of(alloc: Global, reporting: Reporting) -> Result<Option<AdviceLog>, AllocError>
+    ensures asked { IfOk result (λ log. advising_of log ≡ advice_asked reporting) }
+    ensures new { IfOk result (λ log. LogStandsIf log []) }
     ensures refused { OnErr result (is_advised reporting ≡ true) }
 {
     match reporting.advising() {
         None => Ok(None),
-        Some((most, all)) => Ok(Some(Counsel::new(alloc, most, all)?)),
+        Some((most, all)) => Ok(Some(AdviceLog::new(alloc, most, all)?)),
     }
 }
 
 /// The same, or none where memory runs out for it; and whether it didn't.
-fn begin_counsel(alloc: Global, reporting: Reporting) -> (Option<Counsel>, bool)
-    ensures new { CounselsIf result.0 [] }
+fn begin_log(alloc: Global, reporting: Reporting) -> (Option<AdviceLog>, bool)
+    ensures new { LogStandsIf result.0 [] }
     ensures asked { result.1 ≡ true → advising_of result.0 ≡ advice_asked reporting }
     ensures refused { result.1 ≡ false → is_advised reporting ≡ true }
 {
-    match counsel_of(alloc, reporting) {
-        Ok(counsel) => (counsel, true),
+    match log_of(alloc, reporting) {
+        Ok(log) => (log, true),
         Err(_) => (None, false),
     }
 }
 
 /// The explanations with the advice behind them; `None` where memory ran out for one of them.
-fn with_advice(explained: Option<String>, counsel: Option<Counsel>) -> Option<String>
+fn with_advice(explained: Option<String>, log: Option<AdviceLog>) -> Option<String>
     ensures said { IfSome result (λ said. (explanations advice : List ℕ)
-        × (option_map string_bytes explained ≡ Some explanations) × IsAdvice counsel advice
+        × (option_map string_bytes explained ≡ Some explanations) × IsAdvice log advice
         × (string_bytes said ≡ explanations ++ advice)) }
-    ensures lost { result ≡ None → (option_map string_bytes explained ≡ None) ⊎ (is_some counsel ≡ true) }
+    ensures lost { result ≡ None → (option_map string_bytes explained ≡ None) ⊎ (is_some log ≡ true) }
 {
-    let Some(counsel) = counsel else {
+    let Some(log) = log else {
         return explained;
     };
     let mut said = explained?;
-    let advice = counsel.into_text()?;
+    let advice = log.into_text()?;
     match said.push_str(advice.as_str()) {
         Ok(()) => Some(said),
         Err(_) => None,
     }
 }
 
-/// The same, but where memory ran out for the counsel already.
-fn said_of(explained: Option<String>, counsel: Option<Counsel>, is_advised: bool) -> Option<String>
+/// The same, but where memory ran out for the log already.
+fn said_of(explained: Option<String>, log: Option<AdviceLog>, is_advised: bool) -> Option<String>
     ensures said { IfSome result (λ said. (is_advised ≡ true) × ((explanations advice : List ℕ)
-        × (option_map string_bytes explained ≡ Some explanations) × IsAdvice counsel advice
+        × (option_map string_bytes explained ≡ Some explanations) × IsAdvice log advice
         × (string_bytes said ≡ explanations ++ advice))) }
     ensures lost { result ≡ None → (is_advised ≡ false)
-        ⊎ ((option_map string_bytes explained ≡ None) ⊎ (is_some counsel ≡ true)) }
+        ⊎ ((option_map string_bytes explained ≡ None) ⊎ (is_some log ≡ true)) }
 {
     if is_advised {
-        with_advice(explained, counsel)
+        with_advice(explained, log)
     } else {
         None
     }
@@ -189,7 +180,7 @@ pub fn answer_record<R: BufRead, W: HandsOn>(
     let mut watch = Watch::new(alloc, setup);
     let mut text = Vec::new(alloc);
     let mut explanations = Explanations::new(alloc, reporting.explain);
-    let (mut counsel, is_advised) = begin_counsel(alloc, reporting);
+    let (mut log, is_advised) = begin_log(alloc, reporting);
     let ended = answer_lines(
         alloc,
         &mut watch,
@@ -198,8 +189,8 @@ pub fn answer_record<R: BufRead, W: HandsOn>(
         out,
         &mut text,
         &mut explanations,
-        &mut counsel,
+        &mut log,
     );
-    let said = said_of(explanations.into_text(), counsel, is_advised);
+    let said = said_of(explanations.into_text(), log, is_advised);
     report_record(alloc, reporting, &watch, said, ended)
 }

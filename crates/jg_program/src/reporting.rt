@@ -33,8 +33,8 @@ pub struct Reporting {
 }
 
 impl Reporting {
-    /// How many calls may be made in a region that isn't long, and whether each advice is told or the first of each kind
-    /// and function, where advice is asked for.
+    /// How many calls may be made in a region that isn't long, and whether each advice is told or the first of each
+    /// kind and function, where advice is asked for.
     pub fn advising(self) -> Option<(u64, bool)>
         ensures { result ≡ advice_asked self }
     {

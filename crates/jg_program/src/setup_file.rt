@@ -10,7 +10,7 @@ ghost use Rattle.jg_program.specs.Ended.{EndsRefused};
 ghost use Rattle.jg_program.specs.Reported.{EndsTelling, IsToldIf};
 ghost use Rattle.jg_program.specs.StatedBy.{base_setup, Gives, IsFront, IsStated};
 
-use crate::stop::{ProgramEnd, ProgramStop, quietly, telling};
+use crate::stop::{ProgramEnd, ProgramStop, quietly, saying};
 use jg_fault_text::push_setup_fault;
 use jg_policy::{Setup, SetupFault};
 use std::alloc::{AllocError, Global};
@@ -65,7 +65,7 @@ fn fault_text(
 fn end_faulty(alloc: Global, explained: bool, bytes: &[u8], fault: SetupFault) -> ProgramEnd
     ensures { EndsTelling explained (TellsSetup fault bytes.now) (Faulty fault) result }
 {
-    telling(
+    saying(
         ProgramStop::Setup(fault),
         fault_text(alloc, explained, bytes, fault),
     )
@@ -88,7 +88,7 @@ fn length_text(alloc: Global, explained: bool) -> Result<String, AllocError>
 fn end_too_long(alloc: Global, explained: bool) -> ProgramEnd
     ensures { EndsTelling explained (λ it. it ≡ codes "more than 16777216 bytes\n") (Faulty TooMany) result }
 {
-    telling(
+    saying(
         ProgramStop::Setup(SetupFault::TooMany),
         length_text(alloc, explained),
     )

@@ -168,7 +168,7 @@ pub fn quietly(alloc: Global, ended: Result<Status, ProgramStop>) -> ProgramEnd
 }
 
 /// The ending by this, with what is told of it; or memory ran out for that.
-pub fn telling(stop: ProgramStop, told: Result<String, AllocError>) -> ProgramEnd
+pub fn saying(stop: ProgramStop, told: Result<String, AllocError>) -> ProgramEnd
     ensures ended { result.ended ≡ Err stop }
     ensures said { IfOk told (λ text. said_text result.said ≡ string_bytes text) }
     ensures memory { OnErr told (result.said ≡ NoMemory) }
@@ -184,7 +184,7 @@ pub fn telling(stop: ProgramStop, told: Result<String, AllocError>) -> ProgramEn
 }
 
 /// Says why the program ends. A failed write of that changes nothing.
-pub fn tell<E: Write>(stop: ProgramStop, err: &mut E) -> Status
+pub fn say<E: Write>(stop: ProgramStop, err: &mut E) -> Status
     ensures { result ≡ status_of stop }
 {
     let _ = writeln!(err, "{stop}");
@@ -192,12 +192,12 @@ pub fn tell<E: Write>(stop: ProgramStop, err: &mut E) -> Status
 }
 
 /// Says on standard error how the program ends, and gives its status. A failed write changes nothing.
-pub fn tell_ending<E: Write>(ending: ProgramEnd, err: &mut E) -> Status
+pub fn say_ending<E: Write>(ending: ProgramEnd, err: &mut E) -> Status
     ensures { result ≡ ended_status ending.ended }
 {
     let status = match ending.ended {
         Ok(status) => status,
-        Err(stop) => tell(stop, err),
+        Err(stop) => say(stop, err),
     };
     match ending.said {
         Said::Text(text) => {

@@ -10,7 +10,7 @@ mod parts;
 mod push;
 mod read;
 mod reply;
-mod tell;
+mod spell;
 mod unwritten;
 mod verb;
 mod word;

@@ -9,7 +9,7 @@ ghost use Rattle.jg_record.specs.Writing.{AppendsText, IsUnwritten, IsWritten};
 
 use crate::ask::{push_question, suits_row};
 use crate::event::{Event, Lists};
-use crate::tell::{is_told, push_bounds, push_fact, push_gone, teller_of};
+use crate::spell::{is_told, push_bounds, push_fact, push_gone, teller_of};
 use crate::unwritten::Unwritten;
 use jg_policy::Setup;
 use jg_text::{MAX_LINE, push_tid};

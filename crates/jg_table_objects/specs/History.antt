@@ -1,5 +1,6 @@
 -- What the events of a store tell of its objects, in more words than those of jg_table_heap. A list of events has the
--- newest first. A virtual machine's class objects are the numbers below k: they are there from the beginning and never go.
+-- newest first. A virtual machine's class objects are the numbers below k: they are there from the beginning and never
+-- go.
 use Rattle.std.specs.Prelude.{ℕ, Bool, not, ◌==◌, ◌&&◌, nat_lt, if◌then◌else◌, List, [], ◌∷◌, Option, Some, None}
 use Rattle.std.specs.List.{list_any}
 use Rattle.jg_words.specs.declared.object.ObjId.{ObjId}

@@ -4,7 +4,7 @@
 use crate::devices::{Sink, SinkWriter, Taking};
 use crate::runs::{Difference, Ended, other_end};
 use jg_policy::SetupFault;
-use jg_program::{Files, ProgramStop, Status, run, tell};
+use jg_program::{Files, ProgramStop, Status, run, say};
 use jg_script::RunFault;
 use jg_shell::Stop;
 use std::alloc::Global;
@@ -102,7 +102,7 @@ const STOPS: [(ProgramStop, Status, &str); 13] = [
 fn other_stop(alloc: Global) -> Difference {
     for (stop, status, text) in STOPS {
         let mut err = Vec::new(alloc);
-        if tell(stop, &mut err) as u8 != status as u8 {
+        if say(stop, &mut err) as u8 != status as u8 {
             return Some("a way to stop has another status");
         }
         if err.as_slice() != text.as_bytes() {

@@ -15,7 +15,7 @@ use Rattle.jg_record.specs.declared.event.Event.TheVariants.{Question, Fact as F
 use Rattle.jg_record.specs.declared.reply.Reply.{Reply}
 use Rattle.jg_record.specs.declared.reply.Reply.TheVariants.{Passed, Denied, Environment, Reference, Buffer, Object, Nothing}
 use Rattle.jg_advice.specs.Moments.{Moment, facts_of}
-use Rattle.jg_advice.specs.Told.{CounselState}
+use Rattle.jg_advice.specs.Told.{AdviceLogState}
 use Rattle.jg_watch.specs.declared.ending.Ended.{Ended}
 use Rattle.jg_watch.specs.declared.ending.Stop.{Stop}
 use Rattle.jg_watch.specs.declared.event.Replied.{Replied}
@@ -25,12 +25,12 @@ use Rattle.jg_watch.specs.Ends.{EndsAt, IsWhole, Watches}
 use Rattle.jg_watch.specs.Explained.{AreExplained, Explaining, explanation, explanations}
 use Rattle.jg_watch.specs.Lines.{Answered, AreAnswered, IsAnswered, IsTally, denials_in, reply_number, text_of, what_of, written_of}
 use Rattle.jg_watch.specs.Steps.{Adds, AnswersNext, answered, counted_at, denied_after}
-use Rattle.jg_watch.specs.Counselled.{CounselsIf, moments_of, with_moment}
+use Rattle.jg_watch.specs.Logged.{LogStandsIf, moments_of, with_moment}
 use Rattle.jg_watch.specs.Told.{Stands, Told, Watching, after, nothing_told}
 use Rattle.jg_watch.proofs.Counting.{counts}
 
 -- what is known before line number n: the lines before it were answered, their replies counted, and the first denials explained
-pub record HasWatched (s : StatedSetup) (shown : Shown) (input rest bytes before : Option (List ℕ)) (n : ℕ) (watch : Watching) (told_of : Explaining) (counsel : Option CounselState) : Type 0 where
+pub record HasWatched (s : StatedSetup) (shown : Shown) (input rest bytes before : Option (List ℕ)) (n : ℕ) (watch : Watching) (told_of : Explaining) (log : Option AdviceLogState) : Type 0 where
   pub lines : List Answered
   pub told : Told
   pub answered : AreAnswered s shown lines told
@@ -40,13 +40,13 @@ pub record HasWatched (s : StatedSetup) (shown : Shown) (input rest bytes before
   pub counted : IsTally lines watch.tally
   pub denied : watch.denied ≡ denials_in lines
   pub explained : AreExplained lines told_of
-  pub advised : CounselsIf counsel (moments_of lines)
+  pub advised : LogStandsIf log (moments_of lines)
   pub number : n ≡ length lines + 1
 
 -- nothing yet
-pub begins : (s : StatedSetup) (shown : Shown) (input bytes : Option (List ℕ)) (watch : Watching) (told_of : Explaining) (counsel : Option CounselState) → Stands watch nothing_told → IsTally [] watch.tally → watch.denied ≡ 0
-    → told_of.text ≡ Some [] → CounselsIf counsel [] → HasWatched s shown input input bytes bytes 1 watch told_of counsel
-begins s shown input bytes watch told_of counsel stands none denied text advised = record {
+pub begins : (s : StatedSetup) (shown : Shown) (input bytes : Option (List ℕ)) (watch : Watching) (told_of : Explaining) (log : Option AdviceLogState) → Stands watch nothing_told → IsTally [] watch.tally → watch.denied ≡ 0
+    → told_of.text ≡ Some [] → LogStandsIf log [] → HasWatched s shown input input bytes bytes 1 watch told_of log
+begins s shown input bytes watch told_of log stands none denied text advised = record {
   lines = [];
   told = nothing_told;
   answered = refl;
@@ -61,9 +61,9 @@ begins s shown input bytes watch told_of counsel stands none denied text advised
 }
 
 -- what is held back may be handed on
-pub still : (s : StatedSetup) (shown : Shown) (input rest bytes before before' : Option (List ℕ)) (n : ℕ) (watch : Watching) (told_of : Explaining) (counsel : Option CounselState)
-    → HasWatched s shown input rest bytes before n watch told_of counsel → Keeps before before' → HasWatched s shown input rest bytes before' n watch told_of counsel
-still s shown input rest bytes before before' n watch told_of counsel h kept = record {
+pub still : (s : StatedSetup) (shown : Shown) (input rest bytes before before' : Option (List ℕ)) (n : ℕ) (watch : Watching) (told_of : Explaining) (log : Option AdviceLogState)
+    → HasWatched s shown input rest bytes before n watch told_of log → Keeps before before' → HasWatched s shown input rest bytes before' n watch told_of log
+still s shown input rest bytes before before' n watch told_of log h kept = record {
   lines = h.lines;
   told = h.told;
   answered = h.answered;
@@ -123,15 +123,15 @@ facts_told s shown (l ∷ lines) told (before, answered, is) =
 
 -- one line more was answered
 pub goes_on : (s read : StatedSetup) (shown : Shown) (input rest rest' bytes before before' : Option (List ℕ)) (n : ℕ) (watch next new : Watching) (told_of now_told : Explaining)
-    (line : List ℕ) (x : Replied) (xs : List Argument) (gone : List ObjId) (counsel advised : Option CounselState)
-    → (h : HasWatched s shown input rest bytes before n watch told_of counsel) → read ≡ s → AnswersNext read shown h.told next xs gone rest rest' line before before' n (Ok (step.Answered x))
+    (line : List ℕ) (x : Replied) (xs : List Argument) (gone : List ObjId) (log advised : Option AdviceLogState)
+    → (h : HasWatched s shown input rest bytes before n watch told_of log) → read ≡ s → AnswersNext read shown h.told next xs gone rest rest' line before before' n (Ok (step.Answered x))
     → next.tally ≡ watch.tally → next.denied ≡ watch.denied
     → Adds told_of now_told (if nat_lt next.denied told_of.most then explanation n x.reply x.operand else [])
     → new.tally ≡ counted_at (reply_number x.reply) next.tally → new.denied ≡ denied_after x.reply next.denied → new.core ≡ next.core → new.bounds ≡ next.bounds
-    → ((hist : List Moment) → CounselsIf counsel hist → CoreStands next.core (facts_of (with_moment n (what_of read line x.event x.reply xs gone) hist))
-    → CounselsIf advised (with_moment n (what_of read line x.event x.reply xs gone) hist))
+    → ((hist : List Moment) → LogStandsIf log hist → CoreStands next.core (facts_of (with_moment n (what_of read line x.event x.reply xs gone) hist))
+    → LogStandsIf advised (with_moment n (what_of read line x.event x.reply xs gone) hist))
     → HasWatched s shown input rest' bytes before' (n + 1) new now_told advised
-goes_on s read shown input rest rest' bytes before before' n watch next new told_of now_told line x xs gone counsel advised h same (taken, (out, told, is, stands, written)) tally denials adds counted denied core bounds advise =
+goes_on s read shown input rest rest' bytes before before' n watch next new told_of now_told line x xs gone log advised h same (taken, (out, told, is, stands, written)) tally denials adds counted denied core bounds advise =
     let l : Answered = answered read line x xs gone out in
     let facts : told.facts ≡ facts_of (with_moment n l.what (moments_of h.lines)) = facts_after read shown h.told told l n (moments_of h.lines) (facts_told s shown h.lines h.told h.answered) is in
     let so_many : next.denied ≡ denials_in h.lines = denials ∙ h.denied in
@@ -147,17 +147,17 @@ goes_on s read shown input rest rest' bytes before before' n watch next new told
       explained = explains_on h.lines l told_of now_told _ h.explained adds
           (ap (λ k. if nat_lt k told_of.most then explanation n x.reply x.operand else []) so_many
           ∙ ap (λ k. if nat_lt (denials_in h.lines) told_of.most then explanation k x.reply x.operand else []) h.number);
-      advised = subst (λ (k : ℕ). CounselsIf advised (with_moment k l.what (moments_of h.lines))) h.number
+      advised = subst (λ (k : ℕ). LogStandsIf advised (with_moment k l.what (moments_of h.lines))) h.number
           (advise (moments_of h.lines) h.advised (subst (λ (w : List Fact). CoreStands next.core w) facts stands.core));
       number = omega (arith, h.number);
     }
 
 -- the record ended there
-pub ended_at : (s read : StatedSetup) (shown : Shown) (input rest rest' bytes before before' : Option (List ℕ)) (n : ℕ) (watch new : Watching) (told_of : Explaining) (counsel : Option CounselState) (line : List ℕ)
+pub ended_at : (s read : StatedSetup) (shown : Shown) (input rest rest' bytes before before' : Option (List ℕ)) (n : ℕ) (watch new : Watching) (told_of : Explaining) (log : Option AdviceLogState) (line : List ℕ)
     (result : Result Ended Stop)
-    → (h : HasWatched s shown input rest bytes before n watch told_of counsel) → read ≡ s → new.tally ≡ watch.tally → new.denied ≡ watch.denied
-    → EndsAt read shown h.told rest rest' line before before' n result → IsWhole new h.told result → Watches s shown input rest' line bytes before' new told_of counsel result
-ended_at s read shown input rest rest' bytes before before' n watch new told_of counsel line result h is same denied ends whole = record {
+    → (h : HasWatched s shown input rest bytes before n watch told_of log) → read ≡ s → new.tally ≡ watch.tally → new.denied ≡ watch.denied
+    → EndsAt read shown h.told rest rest' line before before' n result → IsWhole new h.told result → Watches s shown input rest' line bytes before' new told_of log result
+ended_at s read shown input rest rest' bytes before before' n watch new told_of log line result h is same denied ends whole = record {
   lines = h.lines;
   told = h.told;
   answered = h.answered;

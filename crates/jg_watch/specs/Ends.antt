@@ -9,7 +9,7 @@ use Rattle.jg_record.specs.declared.fault.RecordFault.TheVariants.{LineTooLong}
 use Rattle.jg_record.specs.declared.reply.Reply.{Reply}
 use Rattle.jg_record.specs.Faults.{IsFirstFault}
 use Rattle.jg_record.specs.Parts.{AreParts}
-use Rattle.jg_advice.specs.Told.{CounselState}
+use Rattle.jg_advice.specs.Told.{AdviceLogState}
 use Rattle.jg_watch.specs.declared.ending.Ended.{Ended}
 use Rattle.jg_watch.specs.declared.ending.Ended.TheVariants.{All, CutOff, Differs, Impossible}
 use Rattle.jg_watch.specs.declared.ending.Stop.{Stop}
@@ -18,7 +18,7 @@ use Rattle.jg_watch.specs.declared.watch.Shown.{Shown}
 use Rattle.jg_watch.specs.Told.{Stands, Told, Watching, can_be_told}
 use Rattle.jg_watch.specs.Lines.{Agrees, Answered, AreAnswered, IsAnswered, IsReplied, IsTally, Said, Says, denials_in, is_comment, text_of, written_of}
 use Rattle.jg_watch.specs.Explained.{AreExplained, Explaining}
-use Rattle.jg_watch.specs.Counselled.{CounselsIf, moments_of}
+use Rattle.jg_watch.specs.Logged.{LogStandsIf, moments_of}
 
 -- the line can't be: its event is of a fact that can't be after what was told
 abbrev pub CannotBe : StatedSetup → Told → List ℕ → Type 0
@@ -89,7 +89,7 @@ IsWhole new told result = Unit {0}
 -- these lines were read first and answered, what is written of them was written, their replies were counted, the first
 -- denied questions explained, what happened by them advised on, and then it ended so
 pub record Watches (s : StatedSetup) (shown : Shown) (input input' : Option (List ℕ)) (line : List ℕ)
-    (bytes bytes' : Option (List ℕ)) (new : Watching) (explaining : Explaining) (counsel : Option CounselState)
+    (bytes bytes' : Option (List ℕ)) (new : Watching) (explaining : Explaining) (log : Option AdviceLogState)
     (result : Result Ended Stop) : Type 0 where
   pub lines : List Answered
   pub told : Told
@@ -101,7 +101,7 @@ pub record Watches (s : StatedSetup) (shown : Shown) (input input' : Option (Lis
   pub counted : IsTally lines new.tally
   pub denied : new.denied ≡ denials_in lines
   pub explained : AreExplained lines explaining
-  pub advised : CounselsIf counsel (moments_of lines)
+  pub advised : LogStandsIf log (moments_of lines)
   pub stands : IsWhole new told result
   pub ends : EndsAt s shown told rest input' line before bytes' (length lines + 1) result
 

@@ -1,6 +1,6 @@
 pub mod Told
 pub mod Lines
-pub mod Counselled
+pub mod Logged
 pub mod Ends
 pub mod Explained
 pub mod Steps

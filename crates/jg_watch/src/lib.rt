@@ -1,7 +1,7 @@
 //! A record is watched: each of its lines is asked or told a core, and written with the core's answer.
 #![tactic(auto)]
 
-mod counselling;
+mod advising;
 mod ending;
 mod event;
 mod explanations;

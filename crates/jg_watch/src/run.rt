@@ -1,18 +1,18 @@
 //! A record is answered line by line.
 
 ghost use Rattle.std.specs.Prelude.{◌≡◌, ◌<◌, [], Some};
-ghost use Rattle.jg_watch.specs.Counselled.{advising_of, CounselsIf};
+ghost use Rattle.jg_watch.specs.Logged.{advising_of, LogStandsIf};
 ghost use Rattle.jg_watch.specs.Ends.{ReaderFails, Watches, WriterFails};
 ghost use Rattle.jg_watch.specs.Lines.{IsTally};
 ghost use Rattle.jg_watch.specs.Steps.{AnswersNext};
 ghost use Rattle.jg_watch.specs.Told.{Stands, Told, nothing_told};
 
-use crate::counselling::advise;
+use crate::advising::advise;
 use crate::ending::{Ended, Stop};
 use crate::explanations::Explanations;
 use crate::line::{Room, Step, answer_line};
 use crate::watch::{Shown, Watch};
-use jg_advice::Counsel;
+use jg_advice::AdviceLog;
 use jg_lines::{LineFault, Taken, Watched, hand_over, next_line};
 use jg_record::RecordFault;
 use std::alloc::{Allocator, Global};
@@ -56,10 +56,10 @@ fn answer_next<A: Allocator + Copy, R: BufRead, W: Write>(
 }
 
 /// Answers the lines of a record: each is asked or told the core and written with its answer, before the next is read.
-/// The watch was told nothing before, and nothing was explained or advised. With a counsel it is advised on what
-/// happened. Where memory runs out for an explanation or for advice, the record is answered all the same. `text` is room
-/// for a line: what it held is lost. At the end it holds the line that the record ended at, without its line feed, where
-/// it ended at one. What was written before stays written, and what the core was told stays told. `Read` and `Write`
+/// The watch was told nothing before, and nothing was explained or advised. With a log it is advised on what
+/// happened. Where memory runs out for an explanation or for advice, the record is answered all the same. `text` is
+/// room for a line: what it held is lost. At the end it holds the line that the record ended at, without its line feed,
+/// where it ended at one. What was written before stays written, and what the core was told stays told. `Read` and `Write`
 /// come only where the device failed, which is then marked so; `NoMemory` may come at any line.
 pub fn watch_lines<A: Allocator + Copy, R: BufRead, W: Write>(
     alloc: Global,
@@ -69,18 +69,18 @@ pub fn watch_lines<A: Allocator + Copy, R: BufRead, W: Write>(
     writer: &mut Watched<W>,
     text: &mut Vec<u8>,
     explanations: &mut Explanations,
-    counsel: &mut Option<Counsel>,
+    log: &mut Option<AdviceLog>,
 ) -> Result<Ended, Stop>
     requires new { Stands watch.old nothing_told }
     requires none { IsTally [] watch.old.tally }
     requires denied { watch.old.denied ≡ 0 }
     requires explained { explanations.old.text ≡ Some [] }
-    requires advised { CounselsIf counsel.old [] }
+    requires advised { LogStandsIf log.old [] }
     ensures watches { Watches watch.old.core.setup shown (R.remaining reader.old.device)
         (R.remaining reader.new.device) text.new.items (W.contents writer.old.device)
-        (W.contents writer.new.device) watch.new explanations.new counsel.new result }
+        (W.contents writer.new.device) watch.new explanations.new log.new result }
     ensures most { explanations.new.most ≡ explanations.old.most }
-    ensures advising { advising_of counsel.new ≡ advising_of counsel.old }
+    ensures advising { advising_of log.new ≡ advising_of log.old }
     ensures setup { watch.new.core.setup ≡ watch.old.core.setup }
     ensures reader { ReaderFails reader.old.failed reader.new.failed result }
     ensures writer { WriterFails writer.old.failed writer.new.failed result }
@@ -91,7 +91,7 @@ pub fn watch_lines<A: Allocator + Copy, R: BufRead, W: Write>(
         match answer_next(watch, shown, reader, writer, text, &mut room, line) {
             Ok(Step::Answered(replied)) => {
                 explanations.note(watch.denied(), line, replied);
-                advise(counsel, &watch.core, line, replied, &room.lists, text);
+                advise(log, &watch.core, line, replied, &room.lists, text);
                 watch.count(replied.reply);
             }
             Ok(Step::Ended(ended)) => return Ok(ended),

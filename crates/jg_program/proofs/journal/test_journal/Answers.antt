@@ -48,11 +48,11 @@ pub report-requires : goal.report-requires
 report-requires g c =
     let r = c.args.reporting in
     let guard = c.test_lines-tested.new.guard in
-    let stands : c.begin_counselling-beside.result.1 ≡ true → StandsBeside r c.test_lines-tested.new.beside guard.setup guard.journal =
-    λ begun. c.test_lines-tested.ensures.beside r (c.begin_counselling-beside.ensures.stands begun c.in-Ok.guard.setup) in
+    let stands : c.begin_advising-beside.result.1 ≡ true → StandsBeside r c.test_lines-tested.new.beside guard.setup guard.journal =
+    λ begun. c.test_lines-tested.ensures.beside r (c.begin_advising-beside.ensures.stands begun c.in-Ok.guard.setup) in
     record {
       said = IfSome_then c.advice_of-advised.result c.advice_of-advised.ensures.said (λ text both. both.1 r guard.setup guard.journal (stands both.0));
-      lost = lost_advised r c.test_lines-tested.new.beside c.begin_counselling-beside.result.1 guard.setup guard.journal c.advice_of-advised.result c.begin_counselling-beside.ensures.refused stands
+      lost = lost_advised r c.test_lines-tested.new.beside c.begin_advising-beside.result.1 guard.setup guard.journal c.advice_of-advised.result c.begin_advising-beside.ensures.refused stands
           c.advice_of-advised.ensures.lost;
     }
 
@@ -61,11 +61,11 @@ report-requires-in-Err-clause-said g c =
     let r = c.args.reporting in
     let guard = c.test_lines-tested.new.guard in
     IfSome_then c.advice_of-advised.result c.advice_of-advised.ensures.said (λ text both. both.1 r guard.setup guard.journal
-    (c.test_lines-tested.ensures.beside r (c.begin_counselling-beside.ensures.stands both.0 c.in-Ok.guard.setup)))
+    (c.test_lines-tested.ensures.beside r (c.begin_advising-beside.ensures.stands both.0 c.in-Ok.guard.setup)))
 
 pub report-requires-in-Err-clause-lost : goal.report-requires-in-Err-clause-lost
 report-requires-in-Err-clause-lost g c =
     let r = c.args.reporting in
     let guard = c.test_lines-tested.new.guard in
-    lost_advised r c.test_lines-tested.new.beside c.begin_counselling-beside.result.1 guard.setup guard.journal c.advice_of-advised.result c.begin_counselling-beside.ensures.refused
-    (λ begun. c.test_lines-tested.ensures.beside r (c.begin_counselling-beside.ensures.stands begun c.in-Ok.guard.setup)) c.advice_of-advised.ensures.lost
+    lost_advised r c.test_lines-tested.new.beside c.begin_advising-beside.result.1 guard.setup guard.journal c.advice_of-advised.result c.begin_advising-beside.ensures.refused
+    (λ begun. c.test_lines-tested.ensures.beside r (c.begin_advising-beside.ensures.stands begun c.in-Ok.guard.setup)) c.advice_of-advised.ensures.lost

@@ -25,10 +25,10 @@ pub report-ending-requires : goal.report-ending-requires
 report-ending-requires g c =
     let r = c.args.reporting in
     let guard = c.answer_lines-ended.new.guard in
-    let stands : c.begin_counselling-beside.result.1 ≡ true → StandsBeside r c.answer_lines-ended.new.beside guard.setup guard.journal =
-    λ begun. c.answer_lines-ended.ensures.beside r (c.begin_counselling-beside.ensures.stands begun c.in-Ok.guard.setup) in
+    let stands : c.begin_advising-beside.result.1 ≡ true → StandsBeside r c.answer_lines-ended.new.beside guard.setup guard.journal =
+    λ begun. c.answer_lines-ended.ensures.beside r (c.begin_advising-beside.ensures.stands begun c.in-Ok.guard.setup) in
     record {
       said = IfSome_then c.advice_of-advised.result c.advice_of-advised.ensures.said (λ text both. both.1 r guard.setup guard.journal (stands both.0));
-      lost = lost_advised r c.answer_lines-ended.new.beside c.begin_counselling-beside.result.1 guard.setup guard.journal c.advice_of-advised.result c.begin_counselling-beside.ensures.refused stands
+      lost = lost_advised r c.answer_lines-ended.new.beside c.begin_advising-beside.result.1 guard.setup guard.journal c.advice_of-advised.result c.begin_advising-beside.ensures.refused stands
           c.advice_of-advised.ensures.lost;
     }

@@ -2,7 +2,7 @@ use Rattle.std.proofs.Common.{◌<◌, ◌-◌, ◌^◌, ◌∙◌, ℕ, List, O
 use Rattle.jg_policy.specs.Stated.{StatedSetup}
 use Rattle.jg_core.specs.Kernel.{CoreStands, CoreState}
 use Rattle.jg_advice.specs.Moments.{Moment, What, facts_of}
-use Rattle.jg_watch.specs.Counselled.{CounselsIf, with_moment}
+use Rattle.jg_watch.specs.Logged.{LogStandsIf, with_moment}
 use Rattle.jg_watch.specs.Lines.{what_of}
 use Rattle.jg_watch.specs.Told.{Watching}
 use Rattle.std.specs.Prelude.{slice_index_or}
@@ -51,17 +51,17 @@ loop-line-preserved g c =
     let answers = rw c.in-Ok-Answered.field-0-is at (c.in-Ok-Answered.ensures.answers h.told h.stands) in
     let what : StatedSetup → List ℕ → Option What = λ s text. what_of s text c.in-Ok-Answered.replied.event c.in-Ok-Answered.replied.reply c.answer_next.new.room.lists.arguments.items c.answer_next.new.room.lists.objects.items in
     let setup = ap (λ (w : Watching). w.core.setup) c.watch.view_is ∙ c.answer_next.ensures.setup in
-    let advised = subst (λ (s : StatedSetup). (hist : List Moment) → CounselsIf c.loop-line.counsel hist
+    let advised = subst (λ (s : StatedSetup). (hist : List Moment) → LogStandsIf c.loop-line.log hist
     → CoreStands c.watch.inside.core (facts_of (with_moment c.loop-line.line (what s c.answer_next.new.text.items) hist))
-    → CounselsIf c.advise.new.counsel (with_moment c.loop-line.line (what s c.answer_next.new.text.items) hist)) setup
-    (subst (λ (text : List ℕ). (hist : List Moment) → CounselsIf c.loop-line.counsel hist
+    → LogStandsIf c.advise.new.log (with_moment c.loop-line.line (what s c.answer_next.new.text.items) hist)) setup
+    (subst (λ (text : List ℕ). (hist : List Moment) → LogStandsIf c.loop-line.log hist
     → CoreStands c.watch.inside.core (facts_of (with_moment c.loop-line.line (what c.watch.inside.core.setup text) hist))
-    → CounselsIf c.advise.new.counsel (with_moment c.loop-line.line (what c.watch.inside.core.setup text) hist))
-    c.deref.ensures.value c.advise.ensures.counsels) in
+    → LogStandsIf c.advise.new.log (with_moment c.loop-line.line (what c.watch.inside.core.setup text) hist))
+    c.deref.ensures.value c.advise.ensures.logs) in
     record {
       watched = goes_on _ _ c.args.shown _ _ _ _ _ _ _ c.loop-line.watch c.answer_next.new.watch _ _ _ _ c.in-Ok-Answered.replied _ _ _ _ h inv.setup answers c.answer_next.ensures.tally
           c.answer_next.ensures.denied (rw c.denied.ensures at c.note.ensures) c.count.ensures.tally c.count.ensures.denied c.count.ensures.core c.count.ensures.bounds
-          (λ hist counsels stands. advised hist counsels (subst (λ (k : CoreState). CoreStands k (facts_of (with_moment c.loop-line.line (what c.loop-line.watch.core.setup c.answer_next.new.text.items) hist)))
+          (λ hist logs stands. advised hist logs (subst (λ (k : CoreState). CoreStands k (facts_of (with_moment c.loop-line.line (what c.loop-line.watch.core.setup c.answer_next.new.text.items) hist)))
           (sym (ap (λ (w : Watching). w.core) c.watch.view_is)) stands));
       setup = ap (λ (x : CoreState). x.setup) c.count.ensures.core ∙ c.answer_next.ensures.setup ∙ inv.setup;
       most = c.note.ensures.most ∙ inv.most;
