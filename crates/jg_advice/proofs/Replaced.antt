@@ -23,11 +23,13 @@ own_set {V} name q v old new true is sets =
     subst P (eqb-true name.0 q.0 is) (sets.found q.1)
 own_set {V} name q v old new false is sets = ap (at q.1) (sets.others q.0 is)
 
-kept_table : {V : Type 0} (m : ℕ) (olds : List (ℕ × List (ℕ × V))) (now : List (ℕ × V)) (b : Bool) → b ≡ false → table_in (if b then Some now else at m olds) ≡ table_at m olds
+kept_table : {V : Type 0} (m : ℕ) (olds : List (ℕ × List (ℕ × V))) (now : List (ℕ × V)) (b : Bool) → b ≡ false
+    → table_in (if b then Some now else at m olds) ≡ table_at m olds
 kept_table m olds now true is = cc
 kept_table m olds now false is = refl
 
-table_sets : {V : Type 0} (name : Name) (v : Option V) (olds news : List (ℕ × List (ℕ × V))) (was now : List (ℕ × V)) → at name.0 olds ≡ Some was → WritesThrough name.0 olds now news
+table_sets : {V : Type 0} (name : Name) (v : Option V) (olds news : List (ℕ × List (ℕ × V))) (was now : List (ℕ × V)) → at name.0 olds ≡ Some was
+    → WritesThrough name.0 olds now news
     → ((n : ℕ) → at n now ≡ (if name.1 == n then v else at n was)) → TableSets name v olds news
 table_sets {V} name v olds news was now is through set =
     let some : IsSome (at name.0 olds) = rw is refl in
@@ -39,8 +41,10 @@ table_sets {V} name v olds news was now is through set =
       news = through.once;
     }
 
-pub replaced : {V : Type 0} (name : Name) (v : Option V) (olds news : List (ℕ × List (ℕ × V))) (was now : List (ℕ × V)) → at name.0 olds ≡ Some was → WritesThrough name.0 olds now news → IsOnce olds
-    → ((n : ℕ) → at n now ≡ (if name.1 == n then v else at n was)) → (q : Name) → lookup (same_name q) (named news) ≡ (if same_name name q then v else lookup (same_name q) (named olds))
+pub replaced : {V : Type 0} (name : Name) (v : Option V) (olds news : List (ℕ × List (ℕ × V))) (was now : List (ℕ × V)) → at name.0 olds ≡ Some was
+    → WritesThrough name.0 olds now news → IsOnce olds
+    → ((n : ℕ) → at n now ≡ (if name.1 == n then v else at n was)) → (q : Name)
+    → lookup (same_name q) (named news) ≡ (if same_name name q then v else lookup (same_name q) (named olds))
 replaced name v olds news was now is through once set q =
     let sets = table_sets name v olds news was now is through set in
     lookup-named q news sets.news

@@ -40,15 +40,18 @@ pub quiet : (x : Fact)
     → IsQuiet x
 quiet (Push t room) n1 n2 n3 n4 n5 n6 n7 n8 n9 n10 n11 = record {
   told = λ most h n p items. ([], ([], [], refl, refl, refl), sym (append-nil items));
-  stands = λ old h p n stands. fact_stands old h p n (Push t room) stands old (λ u. refl) (λ q. refl) (λ q. refl) (λ q. refl) (λ q once. once) (λ q. refl) refl refl;
+  stands = λ old h p n stands. fact_stands old h p n (Push t room) stands old (λ u. refl) (λ q. refl) (λ q. refl) (λ q. refl) (λ q once. once)
+      (λ q. refl) refl refl;
 }
 quiet (Ensure t room) n1 n2 n3 n4 n5 n6 n7 n8 n9 n10 n11 = record {
   told = λ most h n p items. ([], ([], [], refl, refl, refl), sym (append-nil items));
-  stands = λ old h p n stands. fact_stands old h p n (Ensure t room) stands old (λ u. refl) (λ q. refl) (λ q. refl) (λ q. refl) (λ q once. once) (λ q. refl) refl refl;
+  stands = λ old h p n stands. fact_stands old h p n (Ensure t room) stands old (λ u. refl) (λ q. refl) (λ q. refl) (λ q. refl) (λ q once. once)
+      (λ q. refl) refl refl;
 }
 quiet (Raise t o) n1 n2 n3 n4 n5 n6 n7 n8 n9 n10 n11 = record {
   told = λ most h n p items. ([], ([], [], refl, refl, refl), sym (append-nil items));
-  stands = λ old h p n stands. fact_stands old h p n (Raise t o) stands old (λ u. refl) (λ q. refl) (λ q. refl) (λ q. refl) (λ q once. once) (λ q. refl) refl refl;
+  stands = λ old h p n stands. fact_stands old h p n (Raise t o) stands old (λ u. refl) (λ q. refl) (λ q. refl) (λ q. refl) (λ q once. once)
+      (λ q. refl) refl refl;
 }
 quiet (Calm t) n1 n2 n3 n4 n5 n6 n7 n8 n9 n10 n11 = record {
   told = λ most h n p items. ([], ([], [], refl, refl, refl), sym (append-nil items));
@@ -60,23 +63,28 @@ quiet (Lost r) n1 n2 n3 n4 n5 n6 n7 n8 n9 n10 n11 = record {
 }
 quiet (Meet class k) n1 n2 n3 n4 n5 n6 n7 n8 n9 n10 n11 = record {
   told = λ most h n p items. ([], ([], [], refl, refl, refl), sym (append-nil items));
-  stands = λ old h p n stands. fact_stands old h p n (Meet class k) stands old (λ u. refl) (λ q. refl) (λ q. refl) (λ q. refl) (λ q once. once) (λ q. refl) refl refl;
+  stands = λ old h p n stands. fact_stands old h p n (Meet class k) stands old (λ u. refl) (λ q. refl) (λ q. refl) (λ q. refl) (λ q once. once)
+      (λ q. refl) refl refl;
 }
 quiet (Link class native) n1 n2 n3 n4 n5 n6 n7 n8 n9 n10 n11 = record {
   told = λ most h n p items. ([], ([], [], refl, refl, refl), sym (append-nil items));
-  stands = λ old h p n stands. fact_stands old h p n (Link class native) stands old (λ u. refl) (λ q. refl) (λ q. refl) (λ q. refl) (λ q once. once) (λ q. refl) refl refl;
+  stands = λ old h p n stands. fact_stands old h p n (Link class native) stands old (λ u. refl) (λ q. refl) (λ q. refl) (λ q. refl) (λ q once. once)
+      (λ q. refl) refl refl;
 }
 quiet (Unlink class) n1 n2 n3 n4 n5 n6 n7 n8 n9 n10 n11 = record {
   told = λ most h n p items. ([], ([], [], refl, refl, refl), sym (append-nil items));
-  stands = λ old h p n stands. fact_stands old h p n (Unlink class) stands old (λ u. refl) (λ q. refl) (λ q. refl) (λ q. refl) (λ q once. once) (λ q. refl) refl refl;
+  stands = λ old h p n stands. fact_stands old h p n (Unlink class) stands old (λ u. refl) (λ q. refl) (λ q. refl) (λ q. refl) (λ q once. once)
+      (λ q. refl) refl refl;
 }
 quiet (Warn home) n1 n2 n3 n4 n5 n6 n7 n8 n9 n10 n11 = record {
   told = λ most h n p items. ([], ([], [], refl, refl, refl), sym (append-nil items));
-  stands = λ old h p n stands. fact_stands old h p n (Warn home) stands old (λ u. refl) (λ q. refl) (λ q. refl) (λ q. refl) (λ q once. once) (λ q. refl) refl refl;
+  stands = λ old h p n stands. fact_stands old h p n (Warn home) stands old (λ u. refl) (λ q. refl) (λ q. refl) (λ q. refl) (λ q once. once)
+      (λ q. refl) refl refl;
 }
 quiet (Checked check) n1 n2 n3 n4 n5 n6 n7 n8 n9 n10 n11 = record {
   told = λ most h n p items. ([], ([], [], refl, refl, refl), sym (append-nil items));
-  stands = λ old h p n stands. fact_stands old h p n (Checked check) stands old (λ u. refl) (λ q. refl) (λ q. refl) (λ q. refl) (λ q once. once) (λ q. refl) refl refl;
+  stands = λ old h p n stands. fact_stands old h p n (Checked check) stands old (λ u. refl) (λ q. refl) (λ q. refl) (λ q. refl) (λ q once. once)
+      (λ q. refl) refl refl;
 }
 quiet (Begin t) n1 n2 n3 n4 n5 n6 n7 n8 n9 n10 n11 = absurd (n1 t refl)
 quiet (End t) n1 n2 n3 n4 n5 n6 n7 n8 n9 n10 n11 = absurd (n2 t refl)

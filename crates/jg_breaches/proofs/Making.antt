@@ -69,7 +69,8 @@ quiet n o (a ∷ acts) old none is =
     quiet n o acts old each.1 (live_still n o a (acts ++ old) each.0 is)
 
 -- acts that make none make nothing live
-still : (t u n o : ℕ) (acts : List Act) (e : List Event) → make_none acts ≡ true → live n (acts_of t (map (by u) acts ++ e)) ≡ Some o → live n (acts_of t e) ≡ Some o
+still : (t u n o : ℕ) (acts : List Act) (e : List Event) → make_none acts ≡ true → live n (acts_of t (map (by u) acts ++ e)) ≡ Some o
+    → live n (acts_of t e) ≡ Some o
 still t u n o acts e none is = by_thread (t == u) refl
   where
     by_thread : (b : Bool) → (t == u) ≡ b → live n (acts_of t e) ≡ Some o
@@ -85,7 +86,8 @@ abbrev MakesLocal : ℕ → ℕ → ℕ → Value → Type 0
 MakesLocal t u n v = (t ≡ u) × ((maker : Tid) × (v ≡ Reference (To Local maker n)))
 
 made_seen : (n k p o : ℕ) (acts : List Act) (b : Bool) → b ≡ false
-    → object_of (local_if_live n (if b then Some (record { later = []; object = p; before = acts }) else seen_after (Make k p) (making n acts))) ≡ Some o → live n acts ≡ Some o
+    → object_of (local_if_live n (if b then Some (record { later = []; object = p; before = acts }) else seen_after (Make k p) (making n acts))) ≡ Some o
+    → live n acts ≡ Some o
 made_seen n k p o acts true other is = absurd cc
 made_seen n k p o acts false other is = seen_still n o (Make k p) (making n acts) is
 
@@ -105,10 +107,12 @@ made_by t u n k p o maker e none is = by_thread (t == u) refl
         let own : t ≡ u = grind (arith, nat_tests, same) in
         let number : k ≡ n = made_if n k p o (acts_of t e) none (ap (live n) (sym (acts_more t u (Make k p) e own)) ∙ is) in
         (own, (maker, ap (λ i. Reference (To Local maker i)) number))
-    by_thread false other = absurd (no_some (live n (acts_of t e)) o none (ap (live n) (sym (acts_same t u (Make k p) e (grind (arith, nat_tests, other)))) ∙ is))
+    by_thread false other = absurd
+        (no_some (live n (acts_of t e)) o none (ap (live n) (sym (acts_same t u (Make k p) e (grind (arith, nat_tests, other)))) ∙ is))
 
 -- what an answer makes live
-by_value : (t u n o : ℕ) (v : Value) (object : Option ObjId) (e : List Event) → live n (acts_of t e) ≡ None → live n (acts_of t (map (by u) (value_locals v object) ++ e)) ≡ Some o
+by_value : (t u n o : ℕ) (v : Value) (object : Option ObjId) (e : List Event) → live n (acts_of t e) ≡ None
+    → live n (acts_of t (map (by u) (value_locals v object) ++ e)) ≡ Some o
     → MakesLocal t u n v
 by_value t u n o (Reference (To Local maker k)) (Some p) e none is = made_by t u n k p.0 o maker e none is
 by_value t u n o (Reference (To Local maker k)) None e none is = absurd (no_some (live n (acts_of t e)) o none is)
@@ -145,7 +149,8 @@ weak_none later (Some o) is = by (list_any (globals.clears o) later) is
     by true is = absurd cc
     by false is = absurd cc
 
-weak_some : (later : List globals.Event) (found : Option ℕ) → is_nothing (named_by_target (globals.unless_cleared later found)) ≡ false → (o : ℕ) × (found ≡ Some o)
+weak_some : (later : List globals.Event) (found : Option ℕ) → is_nothing (named_by_target (globals.unless_cleared later found)) ≡ false
+    → (o : ℕ) × (found ≡ Some o)
 weak_some later None is = absurd cc
 weak_some later (Some o) is = (o, refl)
 
@@ -183,13 +188,16 @@ a_global maker n = To Global maker n
 abbrev a_weak : Tid → ℕ → Ref
 a_weak maker n = To Weak maker n
 
-hands_if : (kind : Tid → ℕ → Ref) (m n k o : ℕ) (maker : Tid) (p : ℕ) (old : Option ℕ) → old ≡ None → (b : Bool) → globals.is_same m n maker.0 k ≡ b → (if b then Some p else old) ≡ Some o
+hands_if : (kind : Tid → ℕ → Ref) (m n k o : ℕ) (maker : Tid) (p : ℕ) (old : Option ℕ) → old ≡ None → (b : Bool) → globals.is_same m n maker.0 k ≡ b
+    → (if b then Some p else old) ≡ Some o
     → Hands kind m n (Reference (kind maker k))
 hands_if kind m n k o maker p old none true same is = let each = same_pair m n maker.0 k same in (maker, (k, (each.0, (each.1, refl))))
 hands_if kind m n k o maker p old none false other is = absurd (no_some old o none is)
 
-strong_by : (m n o : ℕ) (v : Value) (object : Option ObjId) (g : List globals.Event) → globals.strong g m n ≡ None → globals.strong (value_globals v object ++ g) m n ≡ Some o → Hands a_global m n v
-strong_by m n o (Reference (To Global maker k)) (Some p) g none is = hands_if a_global m n k o maker p.0 (globals.strong g m n) none (globals.is_same m n maker.0 k) refl is
+strong_by : (m n o : ℕ) (v : Value) (object : Option ObjId) (g : List globals.Event) → globals.strong g m n ≡ None
+    → globals.strong (value_globals v object ++ g) m n ≡ Some o → Hands a_global m n v
+strong_by m n o (Reference (To Global maker k)) (Some p) g none is =
+    hands_if a_global m n k o maker p.0 (globals.strong g m n) none (globals.is_same m n maker.0 k) refl is
 strong_by m n o (Reference (To Global maker k)) None g none is = absurd (no_some (globals.strong g m n) o none is)
 strong_by m n o (Reference (To Weak maker k)) (Some p) g none is = absurd (no_some (globals.strong g m n) o none is)
 strong_by m n o (Reference (To Weak maker k)) None g none is = absurd (no_some (globals.strong g m n) o none is)
@@ -207,8 +215,10 @@ strong_by m n o Busy object g none is = absurd (no_some (globals.strong g m n) o
 strong_by m n o Detached object g none is = absurd (no_some (globals.strong g m n) o none is)
 strong_by m n o (Throw kind) object g none is = absurd (no_some (globals.strong g m n) o none is)
 
-weak_by : (m n o : ℕ) (v : Value) (object : Option ObjId) (g : List globals.Event) → globals.weak g m n ≡ None → globals.weak (value_globals v object ++ g) m n ≡ Some o → Hands a_weak m n v
-weak_by m n o (Reference (To Weak maker k)) (Some p) g none is = hands_if a_weak m n k o maker p.0 (globals.weak g m n) none (globals.is_same m n maker.0 k) refl is
+weak_by : (m n o : ℕ) (v : Value) (object : Option ObjId) (g : List globals.Event) → globals.weak g m n ≡ None
+    → globals.weak (value_globals v object ++ g) m n ≡ Some o → Hands a_weak m n v
+weak_by m n o (Reference (To Weak maker k)) (Some p) g none is =
+    hands_if a_weak m n k o maker p.0 (globals.weak g m n) none (globals.is_same m n maker.0 k) refl is
 weak_by m n o (Reference (To Weak maker k)) None g none is = absurd (no_some (globals.weak g m n) o none is)
 weak_by m n o (Reference (To Global maker k)) (Some p) g none is = absurd (no_some (globals.weak g m n) o none is)
 weak_by m n o (Reference (To Global maker k)) None g none is = absurd (no_some (globals.weak g m n) o none is)
@@ -245,12 +255,14 @@ module _ (s : StatedSetup) (p : Parts) (u : Tid) (call : Call) (reply : Reply) (
     abbrev called : List Event
     called = map (by u.0) (if_effective (is_effective reply.value) (call_locals s p u.0 call)) ++ p.locals
 
-    handed_local : (maker : Tid) (n : ℕ) → maker.0 ≡ t → live n (acts_of t p.locals) ≡ None → (o : ℕ) → live n (acts_of t (map (by u.0) (value_locals reply.value object) ++ called)) ≡ Some o
+    handed_local : (maker : Tid) (n : ℕ) → maker.0 ≡ t → live n (acts_of t p.locals) ≡ None → (o : ℕ)
+        → live n (acts_of t (map (by u.0) (value_locals reply.value object) ++ called)) ≡ Some o
         → reference_in reply.value ≡ Some (To Local maker n)
     handed_local maker n same none o some =
         let acts = if_effective (is_effective reply.value) (call_locals s p u.0 call) in
         let silent = none_if (is_effective reply.value) (call_locals s p u.0 call) (call_makes_none s p u.0 call) in
-        let mid : live n (acts_of t called) ≡ None = none_still (live n (acts_of t called)) (live n (acts_of t p.locals)) (λ k is. still t u.0 n k acts p.locals silent is) none in
+        let mid : live n (acts_of t called) ≡ None =
+            none_still (live n (acts_of t called)) (live n (acts_of t p.locals)) (λ k is. still t u.0 n k acts p.locals silent is) none in
         let made = by_value t u.0 n o reply.value object called mid some in
         let is : reply.value ≡ Reference (To Local made.1.0 n) = made.1.1 in
         let theirs : made.1.0 ≡ u = own_maker made.1.0 n object (subst (λ v. IsProper s p u call v reply.warned object) is own) in
@@ -265,14 +277,16 @@ module _ (s : StatedSetup) (p : Parts) (u : Tid) (call : Call) (reply : Reply) (
         handed_local maker n (grind (arith, nat_tests, same)) (none_of (live n (acts_of t p.locals)) none) now.0 now.1
     comes_local maker n false other none some = absurd cc
 
-    comes : (r : Ref) → is_nothing (names p t r) ≡ true → is_nothing (names (after s u.0 call (Passed reply) object p) t r) ≡ false → reference_in reply.value ≡ Some r
+    comes : (r : Ref) → is_nothing (names p t r) ≡ true → is_nothing (names (after s u.0 call (Passed reply) object p) t r) ≡ false
+        → reference_in reply.value ≡ Some r
     comes Null none some = absurd cc
     comes (To Local maker n) none some = comes_local maker n (maker.0 == t) refl none some
     comes (To Global maker n) none some =
         let e = if_effective (is_effective reply.value) (call_globals s p u.0 call) in
         let silent = no_global_if (is_effective reply.value) (call_globals s p u.0 call) (makes_none s p u.0 call) in
         let old = strong_none (globals.strong p.globals maker.0 n) none in
-        let mid = none_still (globals.strong (e ++ p.globals) maker.0 n) (globals.strong p.globals maker.0 n) (λ o is. strong_quiet maker.0 n o e p.globals silent is) old in
+        let mid = none_still (globals.strong (e ++ p.globals) maker.0 n) (globals.strong p.globals maker.0 n)
+            (λ o is. strong_quiet maker.0 n o e p.globals silent is) old in
         let now = strong_some (globals.strong (value_globals reply.value object ++ (e ++ p.globals)) maker.0 n) some in
         let made = strong_by maker.0 n now.0 reply.value object (e ++ p.globals) mid now.1 in
         ap reference_in made.1.1.1.1 ∙ ap (λ m. Some (To Global m made.1.0)) (tid_is made.0 maker made.1.1.0) ∙ ap (λ k. Some (To Global maker k)) made.1.1.1.0
@@ -281,12 +295,14 @@ module _ (s : StatedSetup) (p : Parts) (u : Tid) (call : Call) (reply : Reply) (
         let silent = no_global_if (is_effective reply.value) (call_globals s p u.0 call) (makes_none s p u.0 call) in
         let all = value_globals reply.value object ++ (e ++ p.globals) in
         let old = weak_none (globals.after_making maker.0 n p.globals) (globals.weak p.globals maker.0 n) none in
-        let mid = none_still (globals.weak (e ++ p.globals) maker.0 n) (globals.weak p.globals maker.0 n) (λ o is. weak_quiet maker.0 n o e p.globals silent is) old in
+        let mid = none_still (globals.weak (e ++ p.globals) maker.0 n) (globals.weak p.globals maker.0 n) (λ o is. weak_quiet maker.0 n o e p.globals silent is)
+            old in
         let now = weak_some (globals.after_making maker.0 n all) (globals.weak all maker.0 n) some in
         let made = weak_by maker.0 n now.0 reply.value object (e ++ p.globals) mid now.1 in
         ap reference_in made.1.1.1.1 ∙ ap (λ m. Some (To Weak m made.1.0)) (tid_is made.0 maker made.1.1.0) ∙ ap (λ k. Some (To Weak maker k)) made.1.1.1.0
 
-entry_hands : (s : StatedSetup) (p : Parts) (u : Tid) (env : Option EnvId) (call : Call) (t : ℕ) (r : Ref) (verdict : Option Rule) (y : Entry) → y ≡ entry_by verdict (answer s p u call) u env call
+entry_hands : (s : StatedSetup) (p : Parts) (u : Tid) (env : Option EnvId) (call : Call) (t : ℕ) (r : Ref) (verdict : Option Rule) (y : Entry)
+    → y ≡ entry_by verdict (answer s p u call) u env call
     → is_nothing (names p t r) ≡ true → is_nothing (names (after s y.tid.0 y.call y.outcome y.object p) t r) ≡ false → reference_of y.outcome ≡ Some r
 entry_hands s p u env call t r (Some rule) y is none some =
     absurd (clash (is_nothing (names p t r)) none (sym (ap (λ (x : Entry). is_nothing (names (after s x.tid.0 x.call x.outcome x.object p) t r)) is) ∙ some))
@@ -295,7 +311,8 @@ entry_hands s p u env call t r None y is none some =
     let here = sym (ap (λ (x : Entry). is_nothing (names (after s x.tid.0 x.call x.outcome x.object p) t r)) is) ∙ some in
     ap (λ (x : Entry). reference_of x.outcome) is ∙ comes s p u call a.reply a.object (proper s p u call) t r none here
 
-comes_to_name : (s : StatedSetup) (h : List Entry) (x : Entry) (t : Tid) (r : Ref) → Legal s (x ∷ h) → holds (parts s h) (Names t r) ≡ false → holds (parts s (x ∷ h)) (Names t r) ≡ true
+comes_to_name : (s : StatedSetup) (h : List Entry) (x : Entry) (t : Tid) (r : Ref) → Legal s (x ∷ h) → holds (parts s h) (Names t r) ≡ false
+    → holds (parts s (x ∷ h)) (Names t r) ≡ true
     → reference_of x.outcome ≡ Some r
 comes_to_name s h x t r legal none some =
     entry_hands s (parts s h) x.tid x.env x.call t.0 r (verdict s (parts s h) x.tid.0 x.env x.call) x legal.0
@@ -320,7 +337,8 @@ handed_before : (r : Ref) (x : Entry) (h : List Entry) → (r ≡ Null) ⊎ WasH
 handed_before r x h (inl null) = inl null
 handed_before r x h (inr was) = inr (inr was)
 
-handed_or_here : (s : StatedSetup) (h : List Entry) (x : Entry) (t : Tid) (r : Ref) (b : Bool) → Legal s (x ∷ h) → holds (parts s h) (Names t r) ≡ b → holds (parts s (x ∷ h)) (Names t r) ≡ true
+handed_or_here : (s : StatedSetup) (h : List Entry) (x : Entry) (t : Tid) (r : Ref) (b : Bool) → Legal s (x ∷ h) → holds (parts s h) (Names t r) ≡ b
+    → holds (parts s (x ∷ h)) (Names t r) ≡ true
     → (holds (parts s h) (Names t r) ≡ true → (r ≡ Null) ⊎ WasHandedOut r h) → (r ≡ Null) ⊎ WasHandedOut r (x ∷ h)
 handed_or_here s h x t r true legal before is old = handed_before r x h (old before)
 handed_or_here s h x t r false legal before is old = inr (inl (comes_to_name s h x t r legal before is))
@@ -333,7 +351,8 @@ handed_later : (r : Ref) (later h : List Entry) → WasHandedOut r h → WasHand
 handed_later r [] h was = was
 handed_later r (x ∷ later) h was = inr (handed_later r later h was)
 
-not_again : (s : StatedSetup) (h : List Entry) (x : Entry) (t : Tid) (r : Ref) (b : Bool) → Legal s (x ∷ h) → WasHandedOut r h → holds (parts s h) (Names t r) ≡ false
+not_again : (s : StatedSetup) (h : List Entry) (x : Entry) (t : Tid) (r : Ref) (b : Bool) → Legal s (x ∷ h) → WasHandedOut r h
+    → holds (parts s h) (Names t r) ≡ false
     → holds (parts s (x ∷ h)) (Names t r) ≡ b → b ≡ false
 not_again s h x t r false legal was ended is = refl
 not_again s h x t r true legal was ended is = absurd (no_reference_twice s [] x h r legal (comes_to_name s h x t r legal ended is) was)
@@ -342,7 +361,8 @@ never_again : (s : StatedSetup) (newest h : List Entry) (t : Tid) (r : Ref) → 
     → holds (parts s (newest ++ h)) (Names t r) ≡ false
 never_again s [] h t r legal was ended = ended
 never_again s (x ∷ newest) h t r legal was ended =
-    not_again s (newest ++ h) x t r (holds (parts s (x ∷ newest ++ h)) (Names t r)) legal (handed_later r newest h was) (never_again s newest h t r legal.1 was ended) refl
+    not_again s (newest ++ h) x t r (holds (parts s (x ∷ newest ++ h)) (Names t r)) legal (handed_later r newest h was)
+        (never_again s newest h t r legal.1 was ended) refl
 
 names_null : (p : Parts) (t : Tid) (r : Ref) → r ≡ Null → holds p (Names t r) ≡ true
 names_null p t r null = ap (λ q. holds p (Names t q)) null

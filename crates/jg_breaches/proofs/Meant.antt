@@ -91,7 +91,8 @@ are_referred s p t (Buffers (BufferRead b index)) = refl
 are_referred s p t (Buffers (BufferWrite b index value)) = refl
 
 -- the first that breaks the rule is the one that is meant
-pub is_meant : (s : StatedSetup) (p : Parts) (t : ℕ) (call : Call) (rule : Rule) (row : Columns) (found : Option Columns) (xs : List Argument) (given : Option Operand)
+pub is_meant : (s : StatedSetup) (p : Parts) (t : ℕ) (call : Call) (rule : Rule) (row : Columns) (found : Option Columns) (xs : List Argument)
+    (given : Option Operand)
     → found ≡ Some row → found ≡ Some (row_for (fun_of call)) → xs ≡ arguments_of s p t call
     → given ≡ find (breaks s p t rule) (referred row.takes xs) → given ≡ operand_meant s p t call rule
 is_meant s p t call rule row found xs given here there xs_are given_is =
@@ -99,7 +100,8 @@ is_meant s p t call rule row found xs given here there xs_are given_is =
     let takes_are : row.takes ≡ takes_of (fun_of call) = ap (λ (r : Columns). r.takes) row_is_its ∙ (row_is (fun_of call)).takes in
     given_is
     ∙ (ap (λ (takes : List Takes). find (breaks s p t rule) (referred takes xs)) takes_are
-    ∙ (ap (λ (x : List Argument). find (breaks s p t rule) (referred (takes_of (fun_of call)) x)) xs_are ∙ ap (find (breaks s p t rule)) (are_referred s p t call)))
+    ∙ (ap (λ (x : List Argument). find (breaks s p t rule) (referred (takes_of (fun_of call)) x)) xs_are
+        ∙ ap (find (breaks s p t rule)) (are_referred s p t call)))
 
 -- ---- the first operand of several
 
@@ -110,5 +112,6 @@ found_by false test x later some = absurd cc
 
 pub one_found : (test : Operand → Bool) (operand found : Option Operand) (later : List Operand) → found ≡ find test (also operand []) → is_some found ≡ true
     → found ≡ find test (also operand later)
-one_found test None found later found_is some = absurd (let none : is_some found ≡ false = ap is_some found_is in let clash : false ≡ true = sym none ∙ some in cc)
+one_found test None found later found_is some =
+    absurd (let none : is_some found ≡ false = ap is_some found_is in let clash : false ≡ true = sym none ∙ some in cc)
 one_found test (Some x) found later found_is some = found_is ∙ found_by (test x) test x later (sym (ap is_some found_is) ∙ some)

@@ -38,18 +38,22 @@ answer_by bounds s p t env row xs Misfit = Misfits
 answer_by bounds s p t env row xs (Broken broken) = Denied broken.rule broken.operand (denied_ticket s p t env row xs broken.rule)
 answer_by bounds s p t env row xs (Passed named) = Passes (record { tid = t; expected = expected_of s p t row row.effect xs })
 
-answer_if : (bounds : Bounds) (s : StatedSetup) (p : Parts) (t : Tid) (env : Option EnvId) (row : Columns) (xs : List Argument) (suited : Bool) (named : Named) (found : Option Rule)
+answer_if : (bounds : Bounds) (s : StatedSetup) (p : Parts) (t : Tid) (env : Option EnvId) (row : Columns) (xs : List Argument) (suited : Bool) (named : Named)
+    (found : Option Rule)
     → answer_by bounds s p t env row xs (if suited then by_rule named (option_map (with_culprit bounds s p t.0 row.takes xs) found) else Misfit)
     ≡ (if suited then by_verdict bounds s p t env row xs found else Misfits)
 answer_if bounds s p t env row xs true named None = refl
 answer_if bounds s p t env row xs true named (Some rule) = refl
 answer_if bounds s p t env row xs false named found = refl
 
-pub answered : (bounds : Bounds) (s : StatedSetup) (p : Parts) (t : Tid) (env : Option EnvId) (function : ℕ) (row : Columns) (xs : List Argument) (out : Verdict)
-    → slice_get functions function ≡ Some row → out ≡ verdict_on bounds s p t.0 env row xs → answer_by bounds s p t env row xs out ≡ asked bounds s p t env function xs
+pub answered : (bounds : Bounds) (s : StatedSetup) (p : Parts) (t : Tid) (env : Option EnvId) (function : ℕ) (row : Columns) (xs : List Argument)
+    (out : Verdict)
+    → slice_get functions function ≡ Some row → out ≡ verdict_on bounds s p t.0 env row xs
+    → answer_by bounds s p t env row xs out ≡ asked bounds s p t env function xs
 answered bounds s p t env function row xs out is_row is =
     ap (answer_by bounds s p t env row xs) is
-    ∙ (answer_if bounds s p t env row xs (suits row.takes xs) (names p t.0 (first_reference xs)) (verdict bounds s p t.0 env row xs) ∙ sym (ap (by_row bounds s p t env xs) is_row))
+    ∙ (answer_if bounds s p t env row xs (suits row.takes xs) (names p t.0 (first_reference xs)) (verdict bounds s p t.0 env row xs)
+        ∙ sym (ap (by_row bounds s p t env xs) is_row))
 
 abbrev named_by : Named → Verdict → Named
 named_by named Misfit = named
@@ -67,6 +71,8 @@ pub passed_names : (bounds : Bounds) (s : StatedSetup) (p : Parts) (t : ℕ) (en
 passed_names bounds s p t env row xs named is = passed_if (suits row.takes xs) (names p t (first_reference xs)) named (first_broken bounds s p t env row xs) is
 
 -- what a core's view lends stands for what the core was told
-pub viewed : {A I : Type 0} (core : CoreState) (view : View A Rows I) (w : List Fact) → view.setup.now ≡ core.setup → rows_in view ≡ core.rows → CoreStands core w → ViewTells Tells view (parts_of w)
+pub viewed : {A I : Type 0} (core : CoreState) (view : View A Rows I) (w : List Fact) → view.setup.now ≡ core.setup → rows_in view ≡ core.rows
+    → CoreStands core w → ViewTells Tells view (parts_of w)
 viewed core view w setup_is rows_is stands =
-    subst (λ s. StandBeside Tells s (rows_in view) (parts_of w)) (sym setup_is) (subst (λ (r : RowsBeside Rows). StandBeside Tells core.setup r (parts_of w)) (sym rows_is) stands.tables)
+    subst (λ s. StandBeside Tells s (rows_in view) (parts_of w)) (sym setup_is)
+        (subst (λ (r : RowsBeside Rows). StandBeside Tells core.setup r (parts_of w)) (sym rows_is) stands.tables)

@@ -75,7 +75,8 @@ ordinary_on s p x can none old = record {
 }
 
 pub due : (c : CoreState) (w : List Fact) (x : Fact) → CoreStands c w → c.made ≤ 2 ^ 60 → can_be c.setup (parts_of w) x ≡ true → IsDue c.setup c.rows x
-due c w x stands few can = record { events = parts_of w; ordinary = ordinary c.setup w stands.history (omega (arith, stands.counted, few)); stand = stands.tables; can = can }
+due c w x stands few can =
+    record { events = parts_of w; ordinary = ordinary c.setup w stands.history (omega (arith, stands.counted, few)); stand = stands.tables; can = can }
 
 -- ---- what the tables hold
 
@@ -91,16 +92,19 @@ counts s p rows t o stands =
     }
 
 pub core_counts : (c : CoreState) (w : List Fact) (t : ℕ) → CoreStands c w → c.made ≤ 2 ^ 60 → CanCount c.rows.threads t
-core_counts c w t stands few = counts c.setup (parts_of w) c.rows.threads t (ordinary c.setup w stands.history (omega (arith, stands.counted, few))) stands.tables.threads
+core_counts c w t stands few =
+    counts c.setup (parts_of w) c.rows.threads t (ordinary c.setup w stands.history (omega (arith, stands.counted, few))) stands.tables.threads
 
 pub is_on : (p : Parts) (rows : List (ℕ × Row)) (t : ℕ) → thread_standing.Stands rows p.threads → is_attached p t ≡ true → IsTrue (row_of rows t).attached
 is_on p rows t stands is = ap (λ (r : Row). r.attached) (stands.threads t) ∙ is
 
-pub has_frame : (s : StatedSetup) (p : Parts) (rows : Rows) (t : ℕ) → IsOrdinary s p → local_standing.Stands rows p.locals → is_attached p t ≡ true → HasFrame t rows
+pub has_frame : (s : StatedSetup) (p : Parts) (rows : Rows) (t : ℕ) → IsOrdinary s p → local_standing.Stands rows p.locals → is_attached p t ≡ true
+    → HasFrame t rows
 has_frame s p rows t o stands is = has_frame_law rows p.locals t stands (sym (o.agree t).session ∙ is)
 
 pub can_push : (s : StatedSetup) (p : Parts) (rows : Rows) (t : ℕ) → IsOrdinary s p → local_standing.Stands rows p.locals → pushed t rows < 18446744073709551615
-can_push s p rows t o stands = omega (arith, pushed_law rows p.locals t stands, frames_most (locals_depth (acts_of t p.locals)) (acts_of t p.locals), o.few.locals t)
+can_push s p rows t o stands =
+    omega (arith, pushed_law rows p.locals t stands, frames_most (locals_depth (acts_of t p.locals)) (acts_of t p.locals), o.few.locals t)
 
 some_of : (n : ℕ) → not (n == 0) ≡ true → 0 < n
 some_of n is = grind (arith, nat_tests)
@@ -108,54 +112,67 @@ some_of n is = grind (arith, nat_tests)
 pub can_pop : (p : Parts) (rows : Rows) (t : ℕ) → local_standing.Stands rows p.locals → not (open_frames p t == 0) ≡ true → 0 < pushed t rows
 can_pop p rows t stands is = subst (λ (n : ℕ). 0 < n) (sym (pushed_law rows p.locals t stands)) (some_of (open_frames p t) is)
 
-pub can_start : (s : StatedSetup) (p : Parts) (rows : Rows) (t : ℕ) → IsOrdinary s p → local_standing.Stands rows p.locals → is_attached p t ≡ false → IsNone (top t rows.frames)
+pub can_start : (s : StatedSetup) (p : Parts) (rows : Rows) (t : ℕ) → IsOrdinary s p → local_standing.Stands rows p.locals → is_attached p t ≡ false
+    → IsNone (top t rows.frames)
 can_start s p rows t o stands is =
     let none : has_session (acts_of t p.locals) ≡ false = sym (o.agree t).session ∙ is in
     rw (top_is rows p.locals t stands, none) refl
 
-pub can_enter : (s : StatedSetup) (p : Parts) (rows : Rows) (t : ℕ) → IsOrdinary s p → local_standing.Stands rows p.locals → entered t rows < 18446744073709551615
+pub can_enter : (s : StatedSetup) (p : Parts) (rows : Rows) (t : ℕ) → IsOrdinary s p → local_standing.Stands rows p.locals
+    → entered t rows < 18446744073709551615
 can_enter s p rows t o stands =
     let same = agree_of _ _ (o.agree t) in
     omega (arith, entered_law rows p.locals t stands, same.depth, depth_most (threads.acts_of t p.threads), o.few.threads t)
 
-pub can_leave : (s : StatedSetup) (p : Parts) (rows : Rows) (t : ℕ) → IsOrdinary s p → local_standing.Stands rows p.locals → not (depth_of p t == 0) ≡ true → 0 < entered t rows
+pub can_leave : (s : StatedSetup) (p : Parts) (rows : Rows) (t : ℕ) → IsOrdinary s p → local_standing.Stands rows p.locals → not (depth_of p t == 0) ≡ true
+    → 0 < entered t rows
 can_leave s p rows t o stands is =
     let same = agree_of _ _ (o.agree t) in
     omega (arith, entered_law rows p.locals t stands, same.depth, some_of (depth_of p t) is)
 
-pub can_leave_native : (p : Parts) (rows : List (ℕ × Row)) (t : ℕ) → thread_standing.Stands rows p.threads → not (depth_of p t == 0) ≡ true → 0 < (row_of rows t).depth
+pub can_leave_native : (p : Parts) (rows : List (ℕ × Row)) (t : ℕ) → thread_standing.Stands rows p.threads → not (depth_of p t == 0) ≡ true
+    → 0 < (row_of rows t).depth
 can_leave_native p rows t stands is = omega (arith, ap (λ (r : Row). r.depth) (stands.threads t), some_of (depth_of p t) is)
 
-pub is_above : (s : StatedSetup) (p : Parts) (rows : Rows) (t n : ℕ) → IsOrdinary s p → local_standing.Stands rows p.locals → n ≡ next_ref p t → All (λ row. row.tid ≡ t → row.n < n) rows.locals
+pub is_above : (s : StatedSetup) (p : Parts) (rows : Rows) (t n : ℕ) → IsOrdinary s p → local_standing.Stands rows p.locals → n ≡ next_ref p t
+    → All (λ row. row.tid ≡ t → row.n < n) rows.locals
 is_above s p rows t n o stands next = rw next (above_law rows p.locals t (next_ref p t) stands (o.below t))
 
-pub is_above_globals : (s : StatedSetup) (p : Parts) (rows : global_rows.Rows) (t n : ℕ) → IsOrdinary s p → global_standing.Stands rows p.globals → n ≡ next_ref p t → global_rows.IsAbove t n rows
+pub is_above_globals : (s : StatedSetup) (p : Parts) (rows : global_rows.Rows) (t n : ℕ) → IsOrdinary s p → global_standing.Stands rows p.globals
+    → n ≡ next_ref p t → global_rows.IsAbove t n rows
 is_above_globals s p rows t n o stands next = rw next (global_above_law rows p.globals t (next_ref p t) stands (o.globals_below t))
 
-pub is_above_buffers : (s : StatedSetup) (p : Parts) (rows : buffer_rows.Rows) (t n : ℕ) → IsOrdinary s p → buffer_standing.Stands rows p.buffers → n ≡ next_buffer p t → buffer_rows.IsAbove t n rows
+pub is_above_buffers : (s : StatedSetup) (p : Parts) (rows : buffer_rows.Rows) (t n : ℕ) → IsOrdinary s p → buffer_standing.Stands rows p.buffers
+    → n ≡ next_buffer p t → buffer_rows.IsAbove t n rows
 is_above_buffers s p rows t n o stands next = rw next (buffer_above_law rows p.buffers t (next_buffer p t) stands (o.buffers_below t))
 
-pub may_lend : (s : StatedSetup) (p : Parts) (t : Tid) (family : Family) (o : ObjId) (via : Ref) (n : ℕ) → can_be s p (Lend t family o via n) ≡ true → is_through family via ≡ true
+pub may_lend : (s : StatedSetup) (p : Parts) (t : Tid) (family : Family) (o : ObjId) (via : Ref) (n : ℕ) → can_be s p (Lend t family o via n) ≡ true
+    → is_through family via ≡ true
 may_lend s p t family o via n is =
     and_second (is_here s p o.0) (is_through family via) (and_second (is_attached p t.0) (is_here s p o.0 && is_through family via) is)
 
 pub can_own : (s : StatedSetup) (p : Parts) (rows : monitor_rows.Rows) (o : ℕ) → IsOrdinary s p → monitor_standing.Stands rows p.monitors
     → monitor_rows.count_in (monitor_rows.row_of o rows) < 18446744073709551615
 can_own s p rows o ordinary stands =
-    omega (arith, (rows_tell_law rows p.monitors o stands).count, owned_most p.monitors o (2 ^ 60) (monitors.owner p.monitors o) (λ t. ordinary.few.monitors t o))
+    omega (arith, (rows_tell_law rows p.monitors o stands).count, owned_most p.monitors o (2 ^ 60) (monitors.owner p.monitors o)
+        (λ t. ordinary.few.monitors t o))
 
 pub may_free : (p : Parts) (rows : monitor_rows.Rows) (t o : ℕ) → monitor_standing.Stands rows p.monitors → is_owner t (monitors.owner p.monitors o) ≡ true
     → monitor_rows.owner_in (monitor_rows.row_of o rows) ≡ Some t
 may_free p rows t o stands is = (rows_tell_law rows p.monitors o stands).owner ∙ owned_by (monitors.owner p.monitors o) t is
 
-pub can_meet : (s : StatedSetup) (p : Parts) (rows : object_rows.Rows) → class_count s < 4294967296 → IsOrdinary s p → Tells rows (class_count s) p.heap → rows.count < 9223372036854775808
-can_meet s p rows few o tells = subst (λ (n : ℕ). n < 9223372036854775808) (sym (tells.stands.count ∙ ap (λ (k : ℕ). heap.count_of k p.heap) tells.classes)) (omega (arith, o.few.heap, few))
+pub can_meet : (s : StatedSetup) (p : Parts) (rows : object_rows.Rows) → class_count s < 4294967296 → IsOrdinary s p → Tells rows (class_count s) p.heap
+    → rows.count < 9223372036854775808
+can_meet s p rows few o tells =
+    subst (λ (n : ℕ). n < 9223372036854775808) (sym (tells.stands.count ∙ ap (λ (k : ℕ). heap.count_of k p.heap) tells.classes))
+    (omega (arith, o.few.heap, few))
 
 attached_left : (p : Parts) (t : Tid) → is_attached p t.0 ≡ true → is_attached (on (Leave t None) p) t.0 ≡ true
 attached_left p t is = rw (acts_more t.0 t.0 threads.Calm (threads.by t.0 threads.Leave ∷ p.threads) refl, acts_more t.0 t.0 threads.Leave p.threads refl) is
 
 -- a thread that left a native method still has its session
-pub session_left : (s : StatedSetup) (rows : RowsBeside object_rows.Rows) (p : Parts) (t : Tid) → can_be s p (Leave t None) ≡ true → IsOrdinary s p → Stand s rows (on (Leave t None) p)
+pub session_left : (s : StatedSetup) (rows : RowsBeside object_rows.Rows) (p : Parts) (t : Tid) → can_be s p (Leave t None) ≡ true → IsOrdinary s p
+    → Stand s rows (on (Leave t None) p)
     → HasSession s rows t.0
 session_left s rows p t can o stand = record {
   events = on (Leave t None) p;
@@ -164,7 +181,8 @@ session_left s rows p t can o stand = record {
   attached = attached_left p t (and_first (is_attached p t.0) _ can);
 }
 
-pub session_popped : (s : StatedSetup) (rows : RowsBeside object_rows.Rows) (p : Parts) (t : Tid) → can_be s p (Pop t None) ≡ true → IsOrdinary s p → Stand s rows (on (Pop t None) p)
+pub session_popped : (s : StatedSetup) (rows : RowsBeside object_rows.Rows) (p : Parts) (t : Tid) → can_be s p (Pop t None) ≡ true → IsOrdinary s p
+    → Stand s rows (on (Pop t None) p)
     → HasSession s rows t.0
 session_popped s rows p t can o stand = record {
   events = on (Pop t None) p;
@@ -183,7 +201,8 @@ pub told_by : (s s' : StatedSetup) (rows rows' : RowsBeside object_rows.Rows) (x
 told_by s s' rows rows' x p b same_setup same_rows told stand =
     subst (λ (r : StatedSetup). can_be r p x ≡ b) same_setup (sym (told p (stand_at s s' rows rows' p same_setup same_rows stand)))
 
-pub told_one : (c d : CoreState) (w : List Fact) (x : Fact) → CoreStands c w → d.setup ≡ c.setup → d.made ≡ (if makes x then c.made + 1 else c.made) → can_be c.setup (parts_of w) x ≡ true
+pub told_one : (c d : CoreState) (w : List Fact) (x : Fact) → CoreStands c w → d.setup ≡ c.setup → d.made ≡ (if makes x then c.made + 1 else c.made)
+    → can_be c.setup (parts_of w) x ≡ true
     → Stand c.setup d.rows (on x (parts_of w)) → CoreStands d (x ∷ w)
 told_one c d w x stands same more can tables =
     rw same (record {

@@ -72,7 +72,8 @@ kept_few k n t (Some o) p few = handed_few k n t Local o.0 p few
 lost_few : (k n : ℕ) (r : Ref) (p : Parts) → AreFew k n p → AreFew k n (lost_on r p)
 lost_few k n Null p few = few
 lost_few k n (To Local maker i) p few =
-    record { threads = few.threads; locals = none_more locals.is_push n maker.0 (locals.Delete i) p.locals refl few.locals; monitors = few.monitors; heap = few.heap }
+    record { threads = few.threads; locals = none_more locals.is_push n maker.0 (locals.Delete i) p.locals refl few.locals; monitors = few.monitors; heap =
+        few.heap }
 lost_few k n (To Global maker i) p few = record { threads = few.threads; locals = few.locals; monitors = few.monitors; heap = few.heap }
 lost_few k n (To Weak maker i) p few = record { threads = few.threads; locals = few.locals; monitors = few.monitors; heap = few.heap }
 
@@ -94,13 +95,15 @@ few_on k n (End t) p few = record {
 few_on k n (Enter t) p few =
     let more = wider k n p few in
     record {
-      threads = none_more raises_count (n + 1) t.0 threads.Calm (by t.0 threads.Enter ∷ p.threads) refl (one_more raises_count n t.0 threads.Enter p.threads few.threads);
+      threads = none_more raises_count (n + 1) t.0 threads.Calm (by t.0 threads.Enter ∷ p.threads) refl
+          (one_more raises_count n t.0 threads.Enter p.threads few.threads);
       locals = none_more locals.is_push (n + 1) t.0 locals.Enter p.locals refl more.locals;
       monitors = more.monitors;
       heap = more.heap;
     }
 few_on k n (Leave t kept) p few = kept_few k n t.0 kept _ (record {
-  threads = none_more raises_count n t.0 threads.Calm (by t.0 threads.Leave ∷ p.threads) refl (none_more raises_count n t.0 threads.Leave p.threads refl few.threads);
+  threads = none_more raises_count n t.0 threads.Calm (by t.0 threads.Leave ∷ p.threads) refl
+      (none_more raises_count n t.0 threads.Leave p.threads refl few.threads);
   locals = none_more locals.is_push n t.0 locals.Leave p.locals refl few.locals;
   monitors = few.monitors;
   heap = few.heap;
@@ -115,9 +118,11 @@ few_on k n (Pop t kept) p few = kept_few k n t.0 kept _ (record {
   heap = few.heap;
 })
 few_on k n (Ensure t room) p few =
-    record { threads = few.threads; locals = none_more locals.is_push n t.0 (locals.Ensure room) p.locals refl few.locals; monitors = few.monitors; heap = few.heap }
+    record { threads = few.threads; locals = none_more locals.is_push n t.0 (locals.Ensure room) p.locals refl few.locals; monitors = few.monitors; heap =
+        few.heap }
 few_on k n (Raise t o) p few =
-    record { threads = none_more raises_count n t.0 (threads.Raise o.0) p.threads refl few.threads; locals = few.locals; monitors = few.monitors; heap = few.heap }
+    record { threads = none_more raises_count n t.0 (threads.Raise o.0) p.threads refl few.threads; locals = few.locals; monitors = few.monitors; heap =
+        few.heap }
 few_on k n (Calm t) p few =
     record { threads = none_more raises_count n t.0 threads.Calm p.threads refl few.threads; locals = few.locals; monitors = few.monitors; heap = few.heap }
 few_on k n (Hand t kind o) p few = handed_few k n t.0 kind o.0 p few
@@ -236,6 +241,7 @@ enters_most_since o (monitors.Enter x ∷ acts) = once (x == o) (enters_most_sin
 enters_most_since o (monitors.Exit x ∷ acts) = enters_most_since o acts
 enters_most_since o (monitors.ReleaseAll ∷ acts) = omega arith
 
-pub owned_most : (e : List monitors.Event) (o n : ℕ) (owner : Option ℕ) → ((t : ℕ) → how_many (monitors.enters o) (acts_of t e) ≤ n) → monitors.count_of e o owner ≤ n
+pub owned_most : (e : List monitors.Event) (o n : ℕ) (owner : Option ℕ) → ((t : ℕ) → how_many (monitors.enters o) (acts_of t e) ≤ n)
+    → monitors.count_of e o owner ≤ n
 owned_most e o n None few = omega arith
 owned_most e o n (Some t) few = omega (arith, enters_most_since o (acts_of t e), few t)

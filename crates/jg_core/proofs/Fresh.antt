@@ -34,7 +34,9 @@ next_handed t Local o p = next_more p t
 next_handed t Global o p = next_more p t
 next_handed t Weak o p = next_more p t
 
-next_left : (t : ℕ) (p : Parts) → next_ref (record p { threads = threads.by t threads.Calm ∷ threads.by t threads.Leave ∷ p.threads; locals = locals.by t locals.Leave ∷ p.locals }) t ≡ next_ref p t
+next_left : (t : ℕ) (p : Parts)
+    → next_ref (record p { threads = threads.by t threads.Calm ∷ threads.by t threads.Leave ∷ p.threads; locals = locals.by t locals.Leave ∷ p.locals }) t
+    ≡ next_ref p t
 next_left t p = next_same (record p { threads = threads.by t threads.Leave ∷ p.threads }) t threads.Calm refl t ∙ next_same p t threads.Leave refl t
 
 is_next : (w : List Fact) (x : Fact) (r : Ref) → handed_out w x ≡ Some r → IsNext w x r
@@ -46,7 +48,8 @@ is_next w (Hand t kind o) r is = record {
 }
 is_next w (Leave t (Some o)) r is =
     let p : Parts = parts_of w in
-    let q : Parts = record p { threads = threads.by t.0 threads.Calm ∷ threads.by t.0 threads.Leave ∷ p.threads; locals = locals.by t.0 locals.Leave ∷ p.locals } in
+    let q : Parts = record p { threads = threads.by t.0 threads.Calm ∷ threads.by t.0 threads.Leave ∷ p.threads; locals =
+        locals.by t.0 locals.Leave ∷ p.locals } in
     record {
       t = t;
       kind = Local;
@@ -92,7 +95,8 @@ no_reference_twice s later x w r could is was =
 -- ---- none that ended is live again
 
 local_gone : (s : StatedSetup) (newer later w : List Fact) (t n o : ℕ) → History s (newer ++ (later ++ w))
-    → live n (acts_of t (parts_of w).locals) ≡ Some o → live n (acts_of t (parts_of (later ++ w)).locals) ≡ None → live n (acts_of t (parts_of (newer ++ (later ++ w))).locals) ≡ None
+    → live n (acts_of t (parts_of w).locals) ≡ Some o → live n (acts_of t (parts_of (later ++ w)).locals) ≡ None
+    → live n (acts_of t (parts_of (newer ++ (later ++ w))).locals) ≡ None
 local_gone s newer later w t n o could was gone =
     let middle = before s newer (later ++ w) could in
     let old = before s later w middle in
@@ -115,5 +119,6 @@ no_reference_revived s newest later first t o Null could was is = refl
 no_reference_revived s newest later first t o (To Global maker n) could was is = global_gone Global s newest later first maker.0 n o could was is
 no_reference_revived s newest later first t o (To Weak maker n) could was is = global_gone Weak s newest later first maker.0 n o could was is
 no_reference_revived s newest later first t o (To Local maker n) could was is =
-    own_gone (maker.0 == t) o (live n (acts_of t (parts_of first).locals)) (live n (acts_of t (parts_of (later ++ first)).locals)) (live n (acts_of t (parts_of (newest ++ (later ++ first))).locals))
+    own_gone (maker.0 == t) o (live n (acts_of t (parts_of first).locals)) (live n (acts_of t (parts_of (later ++ first)).locals))
+        (live n (acts_of t (parts_of (newest ++ (later ++ first))).locals))
     (local_gone s newest later first t n o could) was is

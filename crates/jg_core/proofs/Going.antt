@@ -31,7 +31,8 @@ use Rattle.jg_core.specs.Gone.{first_unfit, gone_on, is_set, is_unset, with_set}
 use Rattle.jg_core.specs.Tables.{Stand}
 
 -- the tables beside a store that was written stand for what they stood for
-pub holders_beside : (s : StatedSetup) (rows new : RowsBeside Rows) (store : Rows) (p : Parts) → Stand s rows p → new ≡ record rows { heap = store } → HoldersStand new p
+pub holders_beside : (s : StatedSetup) (rows new : RowsBeside Rows) (store : Rows) (p : Parts) → Stand s rows p → new ≡ record rows { heap = store }
+    → HoldersStand new p
 holders_beside s rows new store p stand same =
     subst (λ r. HoldersStand r p) (sym same)
     (record { threads = stand.threads; locals = stand.locals; globals = stand.globals; buffers = stand.buffers; monitors = stand.monitors })
@@ -47,7 +48,8 @@ unfit_same : (m m' : ℕ → Option Bool) (objects : List ObjId) → ((o : ℕ) 
 unfit_same m m' [] same = refl
 unfit_same m m' (o ∷ objects) same =
     ap (λ b. if b then option_map (λ n. n + 1) (first_unfit (with_set m o.0) objects) else Some 0) (ap is_unset (same o.0))
-    ∙ ap (λ r. if is_unset (m' o.0) then option_map (λ n. n + 1) r else Some 0) (unfit_same (with_set m o.0) (with_set m' o.0) objects (λ q. set_same (o.0 == q) (m q) (m' q) (same q)))
+    ∙ ap (λ r. if is_unset (m' o.0) then option_map (λ n. n + 1) r else Some 0)
+        (unfit_same (with_set m o.0) (with_set m' o.0) objects (λ q. set_same (o.0 == q) (m q) (m' q) (same q)))
 
 shifted : (i : ℕ) (r : Option ℕ) → option_map (λ n. n + i) (option_map (λ n. n + 1) r) ≡ option_map (λ n. n + (i + 1)) r
 shifted i None = refl
@@ -62,8 +64,10 @@ unfit_later i m m' o objects unset set =
     ∙ ap (option_map (λ n. n + (i + 1))) (unfit_same (with_set m o.0) m' objects (λ q. sym (set q)))
 
 -- it doesn't
-pub unfit_now : (i : ℕ) (m : ℕ → Option Bool) (o : ObjId) (objects : List ObjId) → is_unset (m o.0) ≡ false → option_map (λ n. n + i) (first_unfit m (o ∷ objects)) ≡ Some i
-unfit_now i m o objects set = ap (λ b. option_map (λ n. n + i) (if b then option_map (λ n. n + 1) (first_unfit (with_set m o.0) objects) else Some 0)) set ∙ ap Some (omega arith)
+pub unfit_now : (i : ℕ) (m : ℕ → Option Bool) (o : ObjId) (objects : List ObjId) → is_unset (m o.0) ≡ false
+    → option_map (λ n. n + i) (first_unfit m (o ∷ objects)) ≡ Some i
+unfit_now i m o objects set = ap (λ b. option_map (λ n. n + i) (if b then option_map (λ n. n + 1) (first_unfit (with_set m o.0) objects) else Some 0)) set
+    ∙ ap Some (omega arith)
 
 -- one more of the list is marked
 pub marked_more : (objects : List ObjId) (i q : ℕ) (m new : ℕ → Option Bool) (old : Option Bool) → i < length objects
@@ -90,9 +94,11 @@ unlisted_rest false rest is = is
 unlisted_front : (objects : List ObjId) (i q : ℕ) → is_listed objects q ≡ false → is_listed (take i objects) q ≡ false
 unlisted_front objects zero q is = refl
 unlisted_front [] (suc i) q is = refl
-unlisted_front (o ∷ objects) (suc i) q is = rw (or_first_off (o.0 == q) (is_listed objects q) is) (unlisted_front objects i q (unlisted_rest (o.0 == q) (is_listed objects q) is))
+unlisted_front (o ∷ objects) (suc i) q is =
+    rw (or_first_off (o.0 == q) (is_listed objects q) is) (unlisted_front objects i q (unlisted_rest (o.0 == q) (is_listed objects q) is))
 
-pub unlisted_before : {X : Type 0} (objects : List ObjId) (i q : ℕ) (new old : X) → is_listed objects q ≡ false → (if is_listed (take i objects) q then new else old) ≡ old
+pub unlisted_before : {X : Type 0} (objects : List ObjId) (i q : ℕ) (new old : X) → is_listed objects q ≡ false
+    → (if is_listed (take i objects) q then new else old) ≡ old
 unlisted_before objects i q new old is = rw (unlisted_front objects i q is) refl
 
 -- ---- one that goes leaves others as they were
@@ -135,7 +141,8 @@ gone_once s p o can =
     let same : (o.0 == o.0) ≡ true = grind (arith, nat_tests) in
     let gone : is_here s (on (Gone o) p) o.0 ≡ false =
     ap (λ b. nat_lt o.0 (heap.count_of k p.heap) && not (heap.gone_at k p.heap o.0 || (b && (nat_lt o.0 (heap.count_of k p.heap) && not (nat_lt o.0 k))))) same
-    ∙ gone_then (nat_lt o.0 (heap.count_of k p.heap)) (heap.gone_at k p.heap o.0) (nat_lt o.0 k) (first_two (is_here s p o.0) (not (nat_lt o.0 k)) (not (is_root p o.0)) can) in
+    ∙ gone_then (nat_lt o.0 (heap.count_of k p.heap)) (heap.gone_at k p.heap o.0) (nat_lt o.0 k)
+        (first_two (is_here s p o.0) (not (nat_lt o.0 k)) (not (is_root p o.0)) can) in
     never_twice true (nat_lt o.0 k) (is_root (on (Gone o) p) o.0) (is_here s (on (Gone o) p) o.0) gone
 
 -- ---- what is unfit is what is held
@@ -145,7 +152,8 @@ listed_first o objects = let same : (o.0 == o.0) ≡ true = grind (arith, nat_te
 
 step_mark : (s : StatedSetup) (p : Parts) (m : ℕ → Option Bool) (o x : ObjId) (b : Bool) → (o.0 == x.0) ≡ b → can_be s p (Gone o) ≡ true
     → is_unset (m x.0) ≡ can_be s p (Gone x) → is_unset (if b then Some true else m x.0) ≡ can_be s (on (Gone o) p) (Gone x)
-step_mark s p m o x true same can old = sym (subst (λ (y : ℕ). can_be s (on (Gone o) p) (Gone (record { 0 = y })) ≡ false) (eqb-true o.0 x.0 same) (gone_once s p o can))
+step_mark s p m o x true same can old =
+    sym (subst (λ (y : ℕ). can_be s (on (Gone o) p) (Gone (record { 0 = y })) ≡ false) (eqb-true o.0 x.0 same) (gone_once s p o can))
 step_mark s p m o x false other can old = old ∙ sym (same_can s p o x (turned o.0 x.0 other))
   where
     turned : (i j : ℕ) → (i == j) ≡ false → (j == i) ≡ false
@@ -157,7 +165,8 @@ held_if s p m o objects true can unset rest = rw (can, unset, rest refl) refl
 held_if s p m o objects false can unset rest = rw (can, unset) refl
 
 -- where each object of the list has a mark that isn't set exactly where it can go
-unfit_is_held : (s : StatedSetup) (p : Parts) (m : ℕ → Option Bool) (objects : List ObjId) → ((x : ObjId) → is_listed objects x.0 ≡ true → is_unset (m x.0) ≡ can_be s p (Gone x))
+unfit_is_held : (s : StatedSetup) (p : Parts) (m : ℕ → Option Bool) (objects : List ObjId)
+    → ((x : ObjId) → is_listed objects x.0 ≡ true → is_unset (m x.0) ≡ can_be s p (Gone x))
     → first_unfit m objects ≡ first_held s p objects
 unfit_is_held s p m [] marks = refl
 unfit_is_held s p m (o ∷ objects) marks =
@@ -176,7 +185,8 @@ or_assoc true true c = refl
 or_assoc true false c = refl
 or_assoc false b c = refl
 
-listed_numbers : (objects : List ObjId) (before : List ℕ) (q : ℕ) → list_any (λ x. x == q) (numbers_of objects before) ≡ (is_listed objects q || list_any (λ x. x == q) before)
+listed_numbers : (objects : List ObjId) (before : List ℕ) (q : ℕ)
+    → list_any (λ x. x == q) (numbers_of objects before) ≡ (is_listed objects q || list_any (λ x. x == q) before)
 listed_numbers [] before q = refl
 listed_numbers (o ∷ objects) before q = listed_numbers objects (o.0 ∷ before) q ∙ or_assoc (o.0 == q) (is_listed objects q) (list_any (λ x. x == q) before)
 
@@ -185,7 +195,8 @@ all_listed objects q = listed_numbers objects [] q ∙ or-false (is_listed objec
 
 -- ---- the marks of a list, and what can go of it
 
-given_then_marked : (found : Option (ℕ × ℕ)) (root : Bool) → is_unset (option_map (λ mark. mark || root) (option_map (λ told. false) found)) ≡ (is_some found && not root)
+given_then_marked : (found : Option (ℕ × ℕ)) (root : Bool)
+    → is_unset (option_map (λ mark. mark || root) (option_map (λ told. false) found)) ≡ (is_some found && not root)
 given_then_marked None root = refl
 given_then_marked (Some t) root = refl
 
@@ -209,13 +220,18 @@ pub record AreMarked (p : Parts) (rows : Rows) (objects : List ObjId) (m : ℕ �
   pub others : (o : ℕ) → is_listed objects o ≡ false → m o ≡ None
 
 pub are_marked : (p : Parts) (rows : Rows) (objects : List ObjId) (m n : ℕ → Option Bool) → ((o : ℕ) → mark_in rows o ≡ None)
-    → ((o : ℕ) → m o ≡ (if is_listed objects o then option_map (λ told. false) (told_in rows o) else mark_in rows o)) → Marks (is_root p) m n → AreMarked p rows objects n
+    → ((o : ℕ) → m o ≡ (if is_listed objects o then option_map (λ told. false) (told_in rows o) else mark_in rows o)) → Marks (is_root p) m n
+    → AreMarked p rows objects n
 are_marked p rows objects m n none given set = record {
-  given = λ o listed. set o ∙ ap (option_map (λ mark. mark || is_root p o)) (given o ∙ ap (λ b. if b then option_map (λ told. false) (told_in rows o) else mark_in rows o) listed);
-  others = λ o unlisted. set o ∙ ap (option_map (λ mark. mark || is_root p o)) (given o ∙ ap (λ b. if b then option_map (λ told. false) (told_in rows o) else mark_in rows o) unlisted ∙ none o);
+  given = λ o listed. set o
+      ∙ ap (option_map (λ mark. mark || is_root p o)) (given o ∙ ap (λ b. if b then option_map (λ told. false) (told_in rows o) else mark_in rows o) listed);
+  others = λ o unlisted. set o
+      ∙ ap (option_map (λ mark. mark || is_root p o)) (given o ∙ ap (λ b. if b then option_map (λ told. false) (told_in rows o) else mark_in rows o) unlisted
+      ∙ none o);
 }
 
-pub unfit_among : (s : StatedSetup) (p : Parts) (rows : Rows) (objects : List ObjId) (m : ℕ → Option Bool) → Tells rows (class_count s) p.heap → AreMarked p rows objects m
+pub unfit_among : (s : StatedSetup) (p : Parts) (rows : Rows) (objects : List ObjId) (m : ℕ → Option Bool) → Tells rows (class_count s) p.heap
+    → AreMarked p rows objects m
     → first_unfit m objects ≡ first_held s p objects
 unfit_among s p rows objects m tells marks = unfit_is_held s p m objects (λ x listed.
     ap is_unset (marks.given x.0 listed)
@@ -224,7 +240,8 @@ unfit_among s p rows objects m tells marks = unfit_is_held s p m objects (λ x l
     ∙ turned_and (is_here s p x.0) (nat_lt x.0 (class_count s)) (is_root p x.0))
 
 -- where all passed, exactly the list is marked
-pub set_where_listed : (p : Parts) (rows : Rows) (objects : List ObjId) (m n : ℕ → Option Bool) → AreMarked p rows objects m → ((o : ℕ) → n o ≡ (if is_listed objects o then Some true else m o))
+pub set_where_listed : (p : Parts) (rows : Rows) (objects : List ObjId) (m n : ℕ → Option Bool) → AreMarked p rows objects m
+    → ((o : ℕ) → n o ≡ (if is_listed objects o then Some true else m o))
     → (o : ℕ) → is_set (n o) ≡ list_any (λ x. x == o) (numbers_of objects [])
 set_where_listed p rows objects m n marks set o = ap is_set (set o) ∙ by (is_listed objects o) refl ∙ sym (all_listed objects o)
   where
@@ -233,7 +250,8 @@ set_where_listed p rows objects m n marks set o = ap is_set (set o) ∙ by (is_l
     by false unlisted = ap is_set (marks.others o unlisted)
 
 -- what is taken away of the list leaves no mark
-pub unmarked_after : (p : Parts) (rows : Rows) (objects : List ObjId) (m n last : ℕ → Option Bool) → AreMarked p rows objects m → ((o : ℕ) → is_listed objects o ≡ false → n o ≡ m o)
+pub unmarked_after : (p : Parts) (rows : Rows) (objects : List ObjId) (m n last : ℕ → Option Bool) → AreMarked p rows objects m
+    → ((o : ℕ) → is_listed objects o ≡ false → n o ≡ m o)
     → ((o : ℕ) → last o ≡ (if is_listed objects o then None else n o)) → (o : ℕ) → last o ≡ None
 unmarked_after p rows objects m n last marks same taken o = taken o ∙ by (is_listed objects o) refl
   where
@@ -255,8 +273,10 @@ told_gone [] w = refl
 told_gone (o ∷ objects) w = told_gone objects (Gone o ∷ w)
 
 -- the tables stand for that
-pub gone_stand : (s : StatedSetup) (old new : RowsBeside Rows) (objects : List ObjId) (p : Parts) → Stand s old p → new ≡ record old { globals = new.globals; heap = new.heap }
-    → global_standing.Stands new.globals (map (λ o. globals.Clear o) (numbers_of objects []) ++ p.globals) → Tells new.heap (class_count s) (went objects p.heap) → Stand s new (gone_on objects p)
+pub gone_stand : (s : StatedSetup) (old new : RowsBeside Rows) (objects : List ObjId) (p : Parts) → Stand s old p
+    → new ≡ record old { globals = new.globals; heap = new.heap }
+    → global_standing.Stands new.globals (map (λ o. globals.Clear o) (numbers_of objects []) ++ p.globals)
+    → Tells new.heap (class_count s) (went objects p.heap) → Stand s new (gone_on objects p)
 gone_stand s old new objects p stand others of_globals of_heap =
     let q : Parts = record p { globals = map (λ o. globals.Clear o) (numbers_of objects []) ++ p.globals; heap = went objects p.heap } in
     let all : Stand s (record old { globals = new.globals; heap = new.heap }) q = record {
@@ -292,7 +312,8 @@ made_gone : (objects : List ObjId) (w : List Fact) → made_in (all_gone objects
 made_gone [] w = refl
 made_gone (o ∷ objects) w = made_gone objects (Gone o ∷ w)
 
-pub told_all : (c d : CoreState) (objects : List ObjId) (w : List Fact) → CoreStands c w → d.setup ≡ c.setup → d.made ≡ c.made → first_held c.setup (parts_of w) objects ≡ None
+pub told_all : (c d : CoreState) (objects : List ObjId) (w : List Fact) → CoreStands c w → d.setup ≡ c.setup → d.made ≡ c.made
+    → first_held c.setup (parts_of w) objects ≡ None
     → Stand c.setup d.rows (gone_on objects (parts_of w)) → CoreStands d (all_gone objects w)
 told_all c d objects w stands same_setup same_made none tables =
     rw same_setup (record {

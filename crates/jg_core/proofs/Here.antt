@@ -59,7 +59,8 @@ module _ (H : ℕ → Type 0) (e : List buffers.Event) (old : PinsMeet H e) wher
   pin_opened : (b : buffers.Buffer) → (buffers.is_critical b.family ≡ true → H b.object) → PinsMeet H (buffers.Opened b ∷ e)
   pin_opened b own m n c is critical = opened_by (buffers.is_same m n b.maker b.n) b m n c own is critical
 
-  closed_by : (same : Bool) (m n : ℕ) (c : buffers.Buffer) → (if same then None else buffers.opened e m n) ≡ Some c → buffers.is_critical c.family ≡ true → H c.object
+  closed_by : (same : Bool) (m n : ℕ) (c : buffers.Buffer) → (if same then None else buffers.opened e m n) ≡ Some c → buffers.is_critical c.family ≡ true
+      → H c.object
   closed_by true m n c is critical = none_some is
   closed_by false m n c is critical = old m n c is critical
 
@@ -215,15 +216,22 @@ module _ (k : ℕ) (p : Parts) (all : HeldHere k p) where
       }
 
 handed_here : (k : ℕ) (p : Parts) (t : ℕ) (kind : Kind) (o : ℕ) → Here k p.heap o → HeldHere k p → HeldHere k (handed_on t kind o p)
-handed_here k p t Local o is all = local_made k (record p { threads = threads.by t threads.CountRef ∷ p.threads }) (quiet k p all t (threads.CountRef ∷ []) [] tt refl) t _ o is
-handed_here k p t Global o is all = of_globals k (record p { threads = threads.by t threads.CountRef ∷ p.threads }) (quiet k p all t (threads.CountRef ∷ []) [] tt refl) (globals.MakeStrong t _ o ∷ [])
+handed_here k p t Local o is all =
+    local_made k (record p { threads = threads.by t threads.CountRef ∷ p.threads }) (quiet k p all t (threads.CountRef ∷ []) [] tt refl) t _ o is
+handed_here k p t Global o is all =
+    of_globals k (record p { threads = threads.by t threads.CountRef ∷ p.threads }) (quiet k p all t (threads.CountRef ∷ []) [] tt refl)
+    (globals.MakeStrong t _ o ∷ [])
     (is, tt)
-handed_here k p t Weak o is all = of_globals k (record p { threads = threads.by t threads.CountRef ∷ p.threads }) (quiet k p all t (threads.CountRef ∷ []) [] tt refl) (globals.MakeWeak t _ o ∷ [])
+handed_here k p t Weak o is all =
+    of_globals k (record p { threads = threads.by t threads.CountRef ∷ p.threads }) (quiet k p all t (threads.CountRef ∷ []) [] tt refl)
+    (globals.MakeWeak t _ o ∷ [])
     (is, tt)
 
-kept_here : (s : StatedSetup) (t : ℕ) (kept : Option ObjId) (p q : Parts) → is_kept_here s p kept ≡ true → q.heap ≡ p.heap → HeldHere (class_count s) q → HeldHere (class_count s) (kept_on t kept q)
+kept_here : (s : StatedSetup) (t : ℕ) (kept : Option ObjId) (p q : Parts) → is_kept_here s p kept ≡ true → q.heap ≡ p.heap → HeldHere (class_count s) q
+    → HeldHere (class_count s) (kept_on t kept q)
 kept_here s t None p q is same all = all
-kept_here s t (Some o) p q is same all = handed_here (class_count s) q t Local o.0 (subst (λ (e : List heap.Event). Here (class_count s) e o.0) (sym same) (here s p o.0 is)) all
+kept_here s t (Some o) p q is same all =
+    handed_here (class_count s) q t Local o.0 (subst (λ (e : List heap.Event). Here (class_count s) e o.0) (sym same) (here s p o.0 is)) all
 
 -- ---- an object goes
 
@@ -252,21 +260,27 @@ not_first o x b is same = grind (arith, nat_tests, is, same)
 
 module _ (p : Parts) (x : ℕ) where
   by_local : locals.holds_object p.locals x ≡ true → is_root p x ≡ true
-  by_local is = or_first (locals.holds_object p.locals x) (globals.holds_object p.globals x) (threads.is_pending p.threads x) (buffers.pins_object p.buffers x) (monitors.held p.monitors x) is
+  by_local is = or_first (locals.holds_object p.locals x) (globals.holds_object p.globals x) (threads.is_pending p.threads x) (buffers.pins_object p.buffers x)
+      (monitors.held p.monitors x) is
 
   by_global : globals.holds_object p.globals x ≡ true → is_root p x ≡ true
-  by_global is = or_second (locals.holds_object p.locals x) (globals.holds_object p.globals x) (threads.is_pending p.threads x) (buffers.pins_object p.buffers x) (monitors.held p.monitors x) is
+  by_global is = or_second (locals.holds_object p.locals x) (globals.holds_object p.globals x) (threads.is_pending p.threads x)
+      (buffers.pins_object p.buffers x) (monitors.held p.monitors x) is
 
   by_pending : threads.is_pending p.threads x ≡ true → is_root p x ≡ true
-  by_pending is = or_third (locals.holds_object p.locals x) (globals.holds_object p.globals x) (threads.is_pending p.threads x) (buffers.pins_object p.buffers x) (monitors.held p.monitors x) is
+  by_pending is = or_third (locals.holds_object p.locals x) (globals.holds_object p.globals x) (threads.is_pending p.threads x)
+      (buffers.pins_object p.buffers x) (monitors.held p.monitors x) is
 
   by_pin : buffers.pins_object p.buffers x ≡ true → is_root p x ≡ true
-  by_pin is = or_fourth (locals.holds_object p.locals x) (globals.holds_object p.globals x) (threads.is_pending p.threads x) (buffers.pins_object p.buffers x) (monitors.held p.monitors x) is
+  by_pin is = or_fourth (locals.holds_object p.locals x) (globals.holds_object p.globals x) (threads.is_pending p.threads x) (buffers.pins_object p.buffers x)
+      (monitors.held p.monitors x) is
 
   by_monitor : monitors.held p.monitors x ≡ true → is_root p x ≡ true
-  by_monitor is = or_fifth (locals.holds_object p.locals x) (globals.holds_object p.globals x) (threads.is_pending p.threads x) (buffers.pins_object p.buffers x) (monitors.held p.monitors x) is
+  by_monitor is = or_fifth (locals.holds_object p.locals x) (globals.holds_object p.globals x) (threads.is_pending p.threads x)
+      (buffers.pins_object p.buffers x) (monitors.held p.monitors x) is
 
-gone_here : (k : ℕ) (p : Parts) (o : ℕ) → is_root p o ≡ false → HeldHere k p → HeldHere k (record p { globals = globals.Clear o ∷ p.globals; heap = heap.Went o ∷ p.heap })
+gone_here : (k : ℕ) (p : Parts) (o : ℕ) → is_root p o ≡ false → HeldHere k p
+    → HeldHere k (record p { globals = globals.Clear o ∷ p.globals; heap = heap.Went o ∷ p.heap })
 gone_here k p o none all =
     record {
       locals = λ t n x is. stays k p.heap o x (all.locals t n x is) (apart p o x none (by_local p x ((local_held_law p.locals x).1 (t, n, is))));
@@ -276,16 +290,21 @@ gone_here k p o none all =
           let both = spared (o ∷ []) p.globals m n x is in
           stays k p.heap o x.0 (all.weak m n x both.1) (not_first o x.0 false both.0);
       pins = λ m n b is critical. stays k p.heap o b.object (all.pins m n b is critical)
-          (apart p o b.object none (by_pin p b.object ((pinned_object_law p.buffers b.object).1 (record { maker = m; n = n; buffer = b; is_open = is; critical = critical; holds = refl }))));
+          (apart p o b.object none (by_pin p b.object
+              ((pinned_object_law p.buffers b.object).1 (record { maker = m; n = n; buffer = b; is_open = is; critical = critical; holds = refl }))));
       owned = λ t x some. stays k p.heap o x (all.owned t x some) (apart p o x none (by_monitor p x ((held_law p.monitors x).1 (t, some))));
     }
 
 -- ---- all facts
 
-lent_pin : (c : Bool) (k : ℕ) (p : Parts) (t n o : ℕ) (family : Family) (via : Ref) (length : ℕ) → buffers.is_critical family ≡ c → Here k p.heap o → HeldHere k p
-    → PinsMeet (Here k p.heap) (buffers.Opened (if c then buffers.pin_through t n o family via length else buffers.copy_with t n o family (replicate length (pos 0))) ∷ p.buffers)
-lent_pin true k p t n o family via length critical is all = pin_opened (Here k p.heap) p.buffers all.pins (buffers.pin_through t n o family via length) (λ own. is)
-lent_pin false k p t n o family via length critical is all = pin_opened (Here k p.heap) p.buffers all.pins (buffers.copy_with t n o family (replicate length (pos 0))) (λ own. is)
+lent_pin : (c : Bool) (k : ℕ) (p : Parts) (t n o : ℕ) (family : Family) (via : Ref) (length : ℕ) → buffers.is_critical family ≡ c → Here k p.heap o
+    → HeldHere k p
+    → PinsMeet (Here k p.heap)
+        (buffers.Opened (if c then buffers.pin_through t n o family via length else buffers.copy_with t n o family (replicate length (pos 0))) ∷ p.buffers)
+lent_pin true k p t n o family via length critical is all =
+    pin_opened (Here k p.heap) p.buffers all.pins (buffers.pin_through t n o family via length) (λ own. is)
+lent_pin false k p t n o family via length critical is all =
+    pin_opened (Here k p.heap) p.buffers all.pins (buffers.copy_with t n o family (replicate length (pos 0))) (λ own. is)
 
 each_here : (s : StatedSetup) (p : Parts) (x : Fact) → can_be s p x ≡ true → HeldHere (class_count s) p → HeldHere (class_count s) (on x p)
 each_here s p (Begin t) can all = quiet (class_count s) p all t.0 (threads.Attach ∷ []) (locals.Start ∷ []) tt refl
@@ -293,33 +312,41 @@ each_here s p (End t) can all =
     let k : ℕ = class_count s in
     let q : Parts = record p { threads = threads.by t.0 threads.Detach ∷ p.threads; locals = locals.by t.0 locals.End ∷ p.locals } in
     let r : Parts = record q { monitors = monitors.by t.0 monitors.ReleaseAll ∷ p.monitors } in
-    of_buffers k r (of_monitors k q (quiet k p all t.0 (threads.Detach ∷ []) (locals.End ∷ []) tt refl) t.0 monitors.ReleaseAll tt) (buffers.ReleaseAll t.0 ∷ p.buffers)
+    of_buffers k r (of_monitors k q (quiet k p all t.0 (threads.Detach ∷ []) (locals.End ∷ []) tt refl) t.0 monitors.ReleaseAll tt)
+        (buffers.ReleaseAll t.0 ∷ p.buffers)
     (pins_released (Here k p.heap) p.buffers all.pins t.0)
 each_here s p (Enter t) can all = quiet (class_count s) p all t.0 (threads.Calm ∷ threads.Enter ∷ []) (locals.Enter ∷ []) tt refl
 each_here s p (Leave t kept) can all =
-    let is = and_second (not (depth p t.0 == 0)) (is_kept_here s p kept) (and_second (is_attached p t.0) (not (depth p t.0 == 0) && is_kept_here s p kept) can) in
-    kept_here s t.0 kept p (record p { threads = threads.by t.0 threads.Calm ∷ threads.by t.0 threads.Leave ∷ p.threads; locals = locals.by t.0 locals.Leave ∷ p.locals }) is refl
+    let is = and_second (not (depth p t.0 == 0)) (is_kept_here s p kept) (and_second (is_attached p t.0) (not (depth p t.0 == 0) && is_kept_here s p kept) can)
+        in
+    kept_here s t.0 kept p (record p { threads = threads.by t.0 threads.Calm ∷ threads.by t.0 threads.Leave ∷ p.threads; locals =
+        locals.by t.0 locals.Leave ∷ p.locals }) is refl
     (quiet (class_count s) p all t.0 (threads.Calm ∷ threads.Leave ∷ []) (locals.Leave ∷ []) tt refl)
 each_here s p (Push t room) can all = quiet (class_count s) p all t.0 [] (locals.Push room ∷ []) tt refl
 each_here s p (Pop t kept) can all =
     kept_here s t.0 kept p (record p { locals = locals.by t.0 locals.Pop ∷ p.locals })
-    (and_second (not (open_frames p t.0 == 0)) (is_kept_here s p kept) (and_second (is_attached p t.0) (not (open_frames p t.0 == 0) && is_kept_here s p kept) can)) refl
+    (and_second (not (open_frames p t.0 == 0)) (is_kept_here s p kept)
+        (and_second (is_attached p t.0) (not (open_frames p t.0 == 0) && is_kept_here s p kept) can)) refl
     (quiet (class_count s) p all t.0 [] (locals.Pop ∷ []) tt refl)
 each_here s p (Ensure t room) can all = quiet (class_count s) p all t.0 [] (locals.Ensure room ∷ []) tt refl
-each_here s p (Raise t o) can all = quiet (class_count s) p all t.0 (threads.Raise o.0 ∷ []) [] (here s p o.0 (and_second (is_attached p t.0) (is_here s p o.0) can), tt) refl
+each_here s p (Raise t o) can all =
+    quiet (class_count s) p all t.0 (threads.Raise o.0 ∷ []) [] (here s p o.0 (and_second (is_attached p t.0) (is_here s p o.0) can), tt) refl
 each_here s p (Calm t) can all = quiet (class_count s) p all t.0 (threads.Calm ∷ []) [] tt refl
 each_here s p (Hand t kind o) can all = handed_here (class_count s) p t.0 kind o.0 (here s p o.0 (and_second (is_attached p t.0) (is_here s p o.0) can)) all
 each_here s p (Lost r) can all = lost_here (class_count s) p all r
 each_here s p (Lend t family o via n) can all =
     let k : ℕ = class_count s in
-    let is = here s p o.0 (and_first (is_here s p o.0) (is_through family via) (and_second (is_attached p t.0) (is_here s p o.0 && is_through family via) can)) in
+    let is = here s p o.0 (and_first (is_here s p o.0) (is_through family via) (and_second (is_attached p t.0) (is_here s p o.0 && is_through family via) can))
+        in
     let q : Parts = record p { threads = threads.by t.0 threads.CountBuffer ∷ p.threads } in
     of_buffers k q (quiet k p all t.0 (threads.CountBuffer ∷ []) [] tt refl) (buffers.Opened (lent t.0 (next_buffer p t.0) family o.0 via n) ∷ p.buffers)
     (lent_pin (buffers.is_critical family) k p t.0 (next_buffer p t.0) o.0 family via n refl is all)
-each_here s p (Back b) can all = of_buffers (class_count s) p all (buffers.Closed b.maker.0 b.n ∷ p.buffers) (pin_closed (Here (class_count s) p.heap) p.buffers all.pins b.maker.0 b.n)
+each_here s p (Back b) can all =
+    of_buffers (class_count s) p all (buffers.Closed b.maker.0 b.n ∷ p.buffers) (pin_closed (Here (class_count s) p.heap) p.buffers all.pins b.maker.0 b.n)
 each_here s p (Own t o) can all =
     of_monitors (class_count s) p all t.0 (monitors.Enter o.0) (here s p o.0
-    (and_first (is_here s p o.0) (is_free_for t.0 (monitors.owner p.monitors o.0)) (and_second (is_attached p t.0) (is_here s p o.0 && is_free_for t.0 (monitors.owner p.monitors o.0)) can)))
+    (and_first (is_here s p o.0) (is_free_for t.0 (monitors.owner p.monitors o.0))
+        (and_second (is_attached p t.0) (is_here s p o.0 && is_free_for t.0 (monitors.owner p.monitors o.0)) can)))
 each_here s p (Free t o) can all = of_monitors (class_count s) p all t.0 (monitors.Exit o.0) tt
 each_here s p (Meet class n) can all = met_here (class_count s) p all class n
 each_here s p (Gone o) can all =
@@ -351,7 +378,8 @@ live_is_here s w t o r could is =
 
 -- ---- what is held
 
-held_by : (X : Type 0) (a b c d e : Bool) → ((((a || b) || c) || d) || e) ≡ true → (a ≡ true → X) → (b ≡ true → X) → (c ≡ true → X) → (d ≡ true → X) → (e ≡ true → X) → X
+held_by : (X : Type 0) (a b c d e : Bool) → ((((a || b) || c) || d) || e) ≡ true → (a ≡ true → X) → (b ≡ true → X) → (c ≡ true → X) → (d ≡ true → X)
+    → (e ≡ true → X) → X
 held_by X true b c d e is first second third fourth fifth = first refl
 held_by X false true c d e is first second third fourth fifth = second refl
 held_by X false false true d e is first second third fourth fifth = third refl
@@ -362,12 +390,14 @@ pub held_is_here : HeldIsHere
 held_is_here s w o could root =
     let p : Parts = parts_of w in
     let all = told_here s w could in
-    is_here_of s p o (held_by (Here (class_count s) p.heap o) (locals.holds_object p.locals o) (globals.holds_object p.globals o) (threads.is_pending p.threads o) (buffers.pins_object p.buffers o)
+    is_here_of s p o (held_by (Here (class_count s) p.heap o) (locals.holds_object p.locals o) (globals.holds_object p.globals o)
+        (threads.is_pending p.threads o) (buffers.pins_object p.buffers o)
     (monitors.held p.monitors o) root
     (λ is. let found = (local_held_law p.locals o).0 is in all.locals found.0 found.1 o found.2)
     (λ is. let found = (holds_law p.globals o).0 is in all.strong found.0 found.1 o found.2)
     (λ is. let found = (is_pending_law p.threads o).0 is in all.pending found.0 o found.1)
-    (λ is. let found = (pinned_object_law p.buffers o).0 is in subst (λ (x : ℕ). Here (class_count s) p.heap x) found.holds (all.pins found.maker found.n found.buffer found.is_open found.critical))
+    (λ is. let found = (pinned_object_law p.buffers o).0 is
+        in subst (λ (x : ℕ). Here (class_count s) p.heap x) found.holds (all.pins found.maker found.n found.buffer found.is_open found.critical))
     (λ is. let found = (held_law p.monitors o).0 is in all.owned found.0 o found.1))
 
 -- ---- what is gone
@@ -395,7 +425,9 @@ gone_stays_gone s later older o could =
     let k : ℕ = class_count s in
     let p : Parts = parts_of older in
     let can = (before s later (Gone o ∷ older) could).0 in
-    let made = and_first (nat_lt o.0 (heap.count_of k p.heap)) (not (heap.gone_at k p.heap o.0)) (and_first (is_here s p o.0) (not (nat_lt o.0 k) && not (is_root p o.0)) can) in
-    let class = not-true (nat_lt o.0 k) (and_first (not (nat_lt o.0 k)) (not (is_root p o.0)) (and_second (is_here s p o.0) (not (nat_lt o.0 k) && not (is_root p o.0)) can)) in
+    let made = and_first (nat_lt o.0 (heap.count_of k p.heap)) (not (heap.gone_at k p.heap o.0))
+        (and_first (is_here s p o.0) (not (nat_lt o.0 k) && not (is_root p o.0)) can) in
+    let class = not-true (nat_lt o.0 k)
+        (and_first (not (nat_lt o.0 k)) (not (is_root p o.0)) (and_second (is_here s p o.0) (not (nat_lt o.0 k) && not (is_root p o.0)) can)) in
     let gone = each_later (λ q. heap.gone_at k q.heap o.0 ≡ true) s (keeps_gone s o.0) later (Gone o ∷ older) could (gone_now k p.heap o.0 made class) in
     not_here (nat_lt o.0 (heap.count_of k (parts_of (later ++ Gone o ∷ older)).heap)) _ gone

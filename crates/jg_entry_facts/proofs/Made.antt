@@ -35,7 +35,8 @@ many_items s p o =
     length-map (map (slot_of s p o) (range_with_len 0 (length_of s p o))) number_in
     ∙ (length-map (range_with_len 0 (length_of s p o)) (slot_of s p o) ∙ length-range_with_len 0 (length_of s p o))
 
-pub lent_so : (t : Tid) (family : Family) (via : Ref) (object : ObjId) (o count n : ℕ) (lent : Option Fact) → lent ≡ Some (Lend t family object via count) → object.0 ≡ o → count ≡ n
+pub lent_so : (t : Tid) (family : Family) (via : Ref) (object : ObjId) (o count n : ℕ) (lent : Option Fact) → lent ≡ Some (Lend t family object via count)
+    → object.0 ≡ o → count ≡ n
     → option_to_list lent ≡ Lend t family (record { 0 = o }) via n ∷ []
 lent_so t family via object o count n lent is same long =
     ap (λ (fact : Option Fact). option_to_list fact) is

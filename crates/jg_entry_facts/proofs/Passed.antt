@@ -17,9 +17,11 @@ use Rattle.jg_entry_facts.specs.declared.foreseen.Foreseen.{Foreseen}
 use Rattle.jg_entry_facts.specs.Foreseen.{Foresees, own_told}
 use Rattle.jg_entry_facts.proofs.InOrder.{all_in_order}
 
-passed_told : {A : Type 0} (s : StatedSetup) (p : Parts) (t : Tid) (call : Call) (outcome : Outcome) (o : Option ObjId) (seen : Foreseen A) (value : Value) → Foresees s p t call seen
+passed_told : {A : Type 0} (s : StatedSetup) (p : Parts) (t : Tid) (call : Call) (outcome : Outcome) (o : Option ObjId) (seen : Foreseen A) (value : Value)
+    → Foresees s p t call seen
     → value_in outcome ≡ Some value
-    → link_facts (warning (is_warned outcome) seen.home) ++ (answer_facts call t value o ++ if_effective (is_effective value) (own_told seen.own seen.gone.items t o))
+    → link_facts (warning (is_warned outcome) seen.home)
+        ++ (answer_facts call t value o ++ if_effective (is_effective value) (own_told seen.own seen.gone.items t o))
     ≡ outcome_facts s p t call outcome o
 passed_told s p t call (Passed reply) o seen value foreseen is =
     let same : reply.value ≡ value = cc in
@@ -27,9 +29,12 @@ passed_told s p t call (Passed reply) o seen value foreseen is =
 passed_told s p t call (Denied rule) o seen value foreseen is = absurd cc
 
 -- what is told of the entry, in three steps, by what its readers answered
-pub passed_so : {A : Type 0} (s : StatedSetup) (p : Parts) (x : Entry) (seen : Foreseen A) (call : Call) (t : Tid) (o : Option ObjId) (value : Value) (warned : Bool) (gone : List ℕ)
-    (before did answered after : List Fact) → Foresees s p x.tid x.call seen → value_in x.outcome ≡ Some value → call ≡ x.call → t ≡ x.tid → o ≡ x.object → warned ≡ is_warned x.outcome
-    → gone ≡ seen.gone.items → did ≡ before ++ reverse (if_effective (is_effective value) (own_told seen.own gone t o)) → answered ≡ did ++ reverse (answer_facts call t value o)
+pub passed_so : {A : Type 0} (s : StatedSetup) (p : Parts) (x : Entry) (seen : Foreseen A) (call : Call) (t : Tid) (o : Option ObjId) (value : Value)
+    (warned : Bool) (gone : List ℕ)
+    (before did answered after : List Fact) → Foresees s p x.tid x.call seen → value_in x.outcome ≡ Some value → call ≡ x.call → t ≡ x.tid → o ≡ x.object
+        → warned ≡ is_warned x.outcome
+    → gone ≡ seen.gone.items → did ≡ before ++ reverse (if_effective (is_effective value) (own_told seen.own gone t o))
+    → answered ≡ did ++ reverse (answer_facts call t value o)
     → after ≡ answered ++ reverse (link_facts (warning warned seen.home))
     → after ≡ before ++ reverse (outcome_facts s p x.tid x.call x.outcome x.object)
 passed_so s p x seen call t o value warned gone before did answered after foreseen passed call_is t_is o_is warned_is gone_is did_is answered_is after_is =

@@ -12,7 +12,8 @@ use Rattle.jg_rules.specs.Parts.{Parts, TableRows, TablesStand}
 use Rattle.jg_rules.specs.Holding.{is_root, roots, going}
 
 -- where no object was marked and the roots marked theirs, the marks are those of the roots
-pub roots_marked : (s : StatedSetup) (rows : TableRows) (p : Parts) (old new : List Bool) → TablesStand s rows p → ((o : ℕ) → o < count_in rows.heap → slice_get old o ≡ Some false)
+pub roots_marked : (s : StatedSetup) (rows : TableRows) (p : Parts) (old new : List Bool) → TablesStand s rows p
+    → ((o : ℕ) → o < count_in rows.heap → slice_get old o ≡ Some false)
     → Marks (is_root p) (slice_get old) (slice_get new) → MarksRoots rows.heap.classes (roots s p) p.heap new
 roots_marked s rows p old new stand unset marks o made here =
     let told = rows_law rows.heap p.heap stand.heap.stands in

@@ -9,7 +9,8 @@ own_acts u (x ∷ xs) e = acts_more u u x (map (by u) xs ++ e) refl ∙ ap (λ y
 
 module _ {A : Type 0} (R : List A → List A → Type 0) where
   -- u did these acts on one side, and those on the other
-  pub both : (u : ℕ) (xs ys : List A) (e f : List (Event A)) → (R (acts_of u e) (acts_of u f) → R (xs ++ acts_of u e) (ys ++ acts_of u f)) → ((t : ℕ) → R (acts_of t e) (acts_of t f))
+  pub both : (u : ℕ) (xs ys : List A) (e f : List (Event A)) → (R (acts_of u e) (acts_of u f) → R (xs ++ acts_of u e) (ys ++ acts_of u f))
+      → ((t : ℕ) → R (acts_of t e) (acts_of t f))
       → (t : ℕ) → R (acts_of t (map (by u) xs ++ e)) (acts_of t (map (by u) ys ++ f))
   both u xs ys e f more old t =
       each_thread (λ v. R (acts_of v (map (by u) xs ++ e)) (acts_of v (map (by u) ys ++ f))) u

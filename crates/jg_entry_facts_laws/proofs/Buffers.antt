@@ -27,7 +27,8 @@ opened_both e f b c is number same maker n =
     ap (λ (own : Bool). option_map info_of (if own then Some b else opened e maker n)) test
     ∙ opened_if (is_same maker n c.maker c.n) b c (opened e maker n) (opened f maker n) is (same maker n)
 
-closed_if : (b : Bool) (x y : Option Buffer) → option_map info_of x ≡ option_map info_of y → option_map info_of (if b then None else x) ≡ option_map info_of (if b then None else y)
+closed_if : (b : Bool) (x y : Option Buffer) → option_map info_of x ≡ option_map info_of y
+    → option_map info_of (if b then None else x) ≡ option_map info_of (if b then None else y)
 closed_if true x y old = refl
 closed_if false x y old = old
 
@@ -40,11 +41,13 @@ wrote_one e f k i j v same maker n = same maker n
 
 -- ---- a session that ends outside of a critical region
 
-own_if : (same : Bool) (m : ℕ) (c b : Buffer) (before : Option Buffer) → (same ≡ true → c.maker ≡ m) → (before ≡ Some b → b.maker ≡ m) → (if same then Some c else before) ≡ Some b → b.maker ≡ m
+own_if : (same : Bool) (m : ℕ) (c b : Buffer) (before : Option Buffer) → (same ≡ true → c.maker ≡ m) → (before ≡ Some b → b.maker ≡ m)
+    → (if same then Some c else before) ≡ Some b → b.maker ≡ m
 own_if true m c b before own old is = (let same : c ≡ b = cc in ap (λ (y : Buffer). y.maker) (sym same) ∙ own refl)
 own_if false m c b before own old is = old is
 
-ended_if : (same : Bool) (m : ℕ) (b : Buffer) (before : Option Buffer) → (before ≡ Some b → b.maker ≡ m) → (if same then None else before) ≡ Some b → b.maker ≡ m
+ended_if : (same : Bool) (m : ℕ) (b : Buffer) (before : Option Buffer) → (before ≡ Some b → b.maker ≡ m) → (if same then None else before) ≡ Some b
+    → b.maker ≡ m
 ended_if true m b before old is = absurd cc
 ended_if false m b before old is = old is
 
@@ -56,14 +59,16 @@ copied_own : (m : ℕ) (b : Buffer) (before : Option Buffer) → (before ≡ Som
 copied_own m b None old is = absurd cc
 copied_own m b (Some a) old is = copied_if (is_critical a.family) a b m (λ same. old (ap Some same)) is
 
-released_if : (same : Bool) (m : ℕ) (b : Buffer) (before : Option Buffer) → (before ≡ Some b → b.maker ≡ m) → (if same then copied_only before else before) ≡ Some b → b.maker ≡ m
+released_if : (same : Bool) (m : ℕ) (b : Buffer) (before : Option Buffer) → (before ≡ Some b → b.maker ≡ m)
+    → (if same then copied_only before else before) ≡ Some b → b.maker ≡ m
 released_if true m b before old is = copied_own m b before old is
 released_if false m b before old is = old is
 
 -- an open buffer is its maker's
 own_maker : (e : List Event) (m n : ℕ) (b : Buffer) → opened e m n ≡ Some b → b.maker ≡ m
 own_maker [] m n b is = absurd cc
-own_maker (Opened c ∷ e) m n b is = own_if (is_same m n c.maker c.n) m c b (opened e m n) (λ same. eqb-true c.maker m (and_first (c.maker == m) (c.n == n) same)) (own_maker e m n b) is
+own_maker (Opened c ∷ e) m n b is =
+    own_if (is_same m n c.maker c.n) m c b (opened e m n) (λ same. eqb-true c.maker m (and_first (c.maker == m) (c.n == n) same)) (own_maker e m n b) is
 own_maker (Wrote k i j v ∷ e) m n b is = own_maker e m n b is
 own_maker (Closed k i ∷ e) m n b is = ended_if (is_same m n k i) m b (opened e m n) (own_maker e m n b) is
 own_maker (ReleaseAll k ∷ e) m n b is = released_if (k == m) m b (opened e m n) (own_maker e m n b) is
@@ -71,14 +76,16 @@ own_maker (ReleaseAll k ∷ e) m n b is = released_if (k == m) m b (opened e m n
 copies_only : (e : List Event) (m n : ℕ) (b : Buffer) (critical : Bool) → is_critical b.family ≡ critical
     → opened e m n ≡ Some b → in_critical e m ≡ false → (if critical then None else Some b) ≡ Some b
 copies_only e m n b true is there none =
-    absurd (clash (in_critical e m) ((critical_law e m).1 (record { maker = m; n = n; buffer = b; is_open = there; critical = is; holds = own_maker e m n b there })) none)
+    absurd (clash (in_critical e m)
+        ((critical_law e m).1 (record { maker = m; n = n; buffer = b; is_open = there; critical = is; holds = own_maker e m n b there })) none)
 copies_only e m n b false is there none = refl
 
 all_copies : (e : List Event) (m n : ℕ) (found : Option Buffer) → opened e m n ≡ found → in_critical e m ≡ false → copied_only found ≡ found
 all_copies e m n None there none = refl
 all_copies e m n (Some b) there none = copies_only e m n b (is_critical b.family) refl there none
 
-release_if : (same : Bool) (e : List Event) (m n : ℕ) → (same ≡ true → in_critical e m ≡ false) → (if same then copied_only (opened e m n) else opened e m n) ≡ opened e m n
+release_if : (same : Bool) (e : List Event) (m n : ℕ) → (same ≡ true → in_critical e m ≡ false)
+    → (if same then copied_only (opened e m n) else opened e m n) ≡ opened e m n
 release_if true e m n none = all_copies e m n (opened e m n) refl (none refl)
 release_if false e m n none = refl
 
@@ -98,7 +105,8 @@ found None i is = absurd cc
 found (Some b) i is = record { buffer = b; is = refl; told = cc }
 
 -- an open critical buffer on one side is one on the other, if what is asked of it is told by its look-up
-carried : (e f : List Event) (H : Buffer → Type 0) → SameBuffers e f → ((b c : Buffer) → info_of c ≡ info_of b → H b → H c) → CriticalBuffer e H → CriticalBuffer f H
+carried : (e f : List Event) (H : Buffer → Type 0) → SameBuffers e f → ((b c : Buffer) → info_of c ≡ info_of b → H b → H c) → CriticalBuffer e H
+    → CriticalBuffer f H
 carried e f H same told c =
     let there = found (opened f c.maker c.n) (info_of c.buffer) (sym (same c.maker c.n) ∙ ap (option_map info_of) c.is_open) in
     record {

@@ -39,7 +39,8 @@ strong_made k i o e f same = record {
 }
 
 weak_if : (b : Bool) (k i o : ℕ) (la lb : List Event) (a c : Option ℕ) → unless_cleared la a ≡ unless_cleared lb c
-    → unless_cleared (if b then [] else MakeWeak k i o ∷ la) (if b then Some o else a) ≡ unless_cleared (if b then [] else MakeWeak k i o ∷ lb) (if b then Some o else c)
+    → unless_cleared (if b then [] else MakeWeak k i o ∷ la) (if b then Some o else a)
+        ≡ unless_cleared (if b then [] else MakeWeak k i o ∷ lb) (if b then Some o else c)
 weak_if true k i o la lb a c same = refl
 weak_if false k i o la lb a c same = kept la (MakeWeak k i o) a (λ p. refl) ∙ (same ∙ sym (kept lb (MakeWeak k i o) c (λ p. refl)))
 
@@ -65,7 +66,8 @@ deleted_if false k i la lb a c same = kept la (DeleteWeak k i) a (λ p. refl) �
 pub weak_deleted : (k i : ℕ) (e f : List Event) → SameGlobals e f → SameGlobals (DeleteWeak k i ∷ e) (DeleteWeak k i ∷ f)
 weak_deleted k i e f same = record {
   strong = same.strong;
-  weak = λ maker n. deleted_if (is_same maker n k i) k i (after_making maker n e) (after_making maker n f) (weak e maker n) (weak f maker n) (same.weak maker n);
+  weak = λ maker n. deleted_if (is_same maker n k i) k i (after_making maker n e) (after_making maker n f) (weak e maker n) (weak f maker n)
+      (same.weak maker n);
 }
 
 -- ---- a collection

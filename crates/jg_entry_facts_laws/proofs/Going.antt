@@ -38,7 +38,8 @@ held_still e a o (globals.DeleteWeak k i) = refl
 held_still e a o (globals.Clear p) = refl
 
 root_still : (p : Parts) (a o : ℕ) → is_root (on (Gone (record { 0 = a })) p) o ≡ is_root p o
-root_still p a o = rw (any_same (globals.made_and_held (globals.Clear a ∷ p.globals) o) (globals.made_and_held p.globals o) p.globals (held_still p.globals a o)) refl
+root_still p a o = rw (any_same (globals.made_and_held (globals.Clear a ∷ p.globals) o) (globals.made_and_held p.globals o) p.globals
+    (held_still p.globals a o)) refl
 
 other_if : (g c : Bool) (same : Bool) → same ≡ false → (g || (same && c)) ≡ g
 other_if true c same is = refl
@@ -48,9 +49,11 @@ here_still : (s : StatedSetup) (p : Parts) (a o : ℕ) → o ≢ a → is_here s
 here_still s p a o apart =
     let k : ℕ = class_count s in
     let no : (o == a) ≡ false = grind (arith, nat_tests, apart) in
-    ap (λ (b : Bool). nat_lt o (heap.count_of k p.heap) && not b) (other_if (heap.gone_at k p.heap o) (nat_lt o (heap.count_of k p.heap) && not (nat_lt o k)) (o == a) no)
+    ap (λ (b : Bool). nat_lt o (heap.count_of k p.heap) && not b)
+        (other_if (heap.gone_at k p.heap o) (nat_lt o (heap.count_of k p.heap) && not (nat_lt o k)) (o == a) no)
 
-still_can : (s : StatedSetup) (p : Parts) (a o : ℕ) → o ≢ a → can_be s p (Gone (record { 0 = o })) ≡ true → can_be s (on (Gone (record { 0 = a })) p) (Gone (record { 0 = o })) ≡ true
+still_can : (s : StatedSetup) (p : Parts) (a o : ℕ) → o ≢ a → can_be s p (Gone (record { 0 = o })) ≡ true
+    → can_be s (on (Gone (record { 0 = a })) p) (Gone (record { 0 = o })) ≡ true
 still_can s p a o apart can = rw (here_still s p a o apart, root_still p a o) can
 
 module _ (s : StatedSetup) (goes : ℕ → Bool) where
@@ -67,11 +70,13 @@ module _ (s : StatedSetup) (goes : ℕ → Bool) where
   ready_past : (p : Parts) (a to : ℕ) → Ready p a to → Ready p (a + 1) to
   ready_past p a to ready o from below is = (let low : a ≤ o = omega (arith, from) in ready o low below is)
 
-  went_if : (b : Bool) (a n to : ℕ) (p : Parts) → goes a ≡ b → a < to → ((r : Parts) → Ready r (a + 1) to → CanAll s (gone_facts (filter goes (range_with_len (a + 1) n))) r) → Ready p a to
+  went_if : (b : Bool) (a n to : ℕ) (p : Parts) → goes a ≡ b → a < to
+      → ((r : Parts) → Ready r (a + 1) to → CanAll s (gone_facts (filter goes (range_with_len (a + 1) n))) r) → Ready p a to
       → CanAll s (gone_facts (if b then a ∷ filter goes (range_with_len (a + 1) n) else filter goes (range_with_len (a + 1) n))) p
   went_if true a n to p is below later ready =
       let low : a ≤ a = omega arith in
-      can_more s (gone_facts (filter goes (range_with_len (a + 1) n))) (Gone (record { 0 = a }) ∷ []) p (later (on (Gone (record { 0 = a })) p) (ready_later p a to ready)) (ready a low below is, tt)
+      can_more s (gone_facts (filter goes (range_with_len (a + 1) n))) (Gone (record { 0 = a }) ∷ []) p
+          (later (on (Gone (record { 0 = a })) p) (ready_later p a to ready)) (ready a low below is, tt)
   went_if false a n to p is below later ready = later p (ready_past p a to ready)
 
   all_can : (n a to : ℕ) (p : Parts) → a + n ≤ to → Ready p a to → CanAll s (gone_facts (filter goes (range_with_len a n))) p
@@ -89,7 +94,8 @@ unheld false true x is = absurd (let no : ⊥ = cc in no)
 unheld false false x is = (refl, refl)
 
 not_held : (s : StatedSetup) (p q : Parts) → Known s p q → (o : ℕ) → o < heap.count_of (class_count s) q.heap
-    → (not (heap.gone_at (class_count s) q.heap o) && not (heap.held_at (class_count s) (roots s q) q.heap o)) ≡ true → can_be s p (Gone (record { 0 = o })) ≡ true
+    → (not (heap.gone_at (class_count s) q.heap o) && not (heap.held_at (class_count s) (roots s q) q.heap o)) ≡ true
+    → can_be s p (Gone (record { 0 = o })) ≡ true
 not_held s p q known o made is =
     let k : ℕ = class_count s in
     let parts = and_parts (not (heap.gone_at k q.heap o)) (not (heap.held_at k (roots s q) q.heap o)) is in
@@ -107,7 +113,8 @@ collect_told s p q known =
     let goes : ℕ → Bool = λ o. not (heap.gone_at k q.heap o) && not (heap.held_at k (roots s q) q.heap o) in
     let n : ℕ = heap.count_of k q.heap in
     let whole : 0 + n ≤ n = omega arith in
-    let a1 = globals_on s p q known.same (clear_each (going s q) p.globals) (map (λ o. globals.Clear o) (going s q) ++ q.globals) (all_cleared (going s q) p.globals q.globals known.same.globals) in
+    let a1 = globals_on s p q known.same (clear_each (going s q) p.globals) (map (λ o. globals.Clear o) (going s q) ++ q.globals)
+        (all_cleared (going s q) p.globals q.globals known.same.globals) in
     let a2 = heap_on s _ _ a1 (go_each (going s q) p.heap) (heap.Collected (roots s q) ∷ q.heap) (all_gone k (roots s q) p.heap q.heap known.same.heap) in
     record {
       can = all_can s goes n 0 n p whole (λ o from below is. not_held s p q known o below is);

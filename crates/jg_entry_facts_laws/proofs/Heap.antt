@@ -23,7 +23,8 @@ same_there k e f o same = rw (same.count, same.gone o) refl
 pub same_class : (k : ℕ) (e f : List Event) (o : ℕ) → SameHeap k e f → class_there k e o ≡ class_there k f o
 same_class k e f o same = rw (same_there k e f o same, same.class o) refl
 
-made_if : {A : Type 0} (read : Making → A) (b : Bool) (m n x y : Making) → read m ≡ read n → read x ≡ read y → read (if b then m else x) ≡ read (if b then n else y)
+made_if : {A : Type 0} (read : Making → A) (b : Bool) (m n x y : Making) → read m ≡ read n → read x ≡ read y
+    → read (if b then m else x) ≡ read (if b then n else y)
 made_if read true m n x y made old = made
 made_if read false m n x y made old = old
 
@@ -32,8 +33,10 @@ pub made_both : (k : ℕ) (e f : List Event) (m : Making) → SameHeap k e f →
 made_both k e f m same = record {
   count = ap (λ n. n + 1) same.count;
   gone = same.gone;
-  class = λ o. rw same.count (made_if class_in (o == count_of k f) (Opaque (class_in m) (length_in m)) m (making_at k e o) (making_at k f o) refl (same.class o));
-  length = λ o. rw same.count (made_if length_in (o == count_of k f) (Opaque (class_in m) (length_in m)) m (making_at k e o) (making_at k f o) refl (same.length o));
+  class = λ o. rw same.count
+      (made_if class_in (o == count_of k f) (Opaque (class_in m) (length_in m)) m (making_at k e o) (making_at k f o) refl (same.class o));
+  length = λ o. rw same.count
+      (made_if length_in (o == count_of k f) (Opaque (class_in m) (length_in m)) m (making_at k e o) (making_at k f o) refl (same.length o));
 }
 
 -- what is written changes nothing that is known

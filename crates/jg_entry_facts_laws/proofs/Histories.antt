@@ -33,7 +33,8 @@ use Rattle.jg_entry_facts_laws.proofs.Told.{call_told}
 
 -- the entry of a call is its facts
 entry_told : (s : StatedSetup) (v : Option Rule) (p q : Parts) (t : Tid) (env : Option EnvId) (call : Call) → verdict s q t.0 env call ≡ v → Known s p q
-    → (y : Entry) → y ≡ entry_by v (answer s q t call) t env call → Told s p (after s y.tid.0 y.call y.outcome y.object q) (outcome_facts s q y.tid y.call y.outcome y.object)
+    → (y : Entry) → y ≡ entry_by v (answer s q t call) t env call
+    → Told s p (after s y.tid.0 y.call y.outcome y.object q) (outcome_facts s q y.tid y.call y.outcome y.object)
 entry_told s (Some rule) p q t env call is known y same = rw same (none s p q known.same)
 entry_told s None p q t env call is known y same = rw same (call_told s p q t env known call (unbroken s q t.0 env call is))
 

@@ -34,11 +34,13 @@ abbrev pub Idle : List threads.Event → List locals.Event → List monitors.Eve
 Idle te le me = (t : ℕ) → DidNothing (threads.acts_of t te) (locals.acts_of t le) (monitors.acts_of t me)
 
 -- u did some more
-acted : (te : List threads.Event) (le : List locals.Event) (me : List monitors.Event) (u : ℕ) (xs : List threads.Act) (ys : List locals.Act) (zs : List monitors.Act)
+acted : (te : List threads.Event) (le : List locals.Event) (me : List monitors.Event) (u : ℕ) (xs : List threads.Act) (ys : List locals.Act)
+    (zs : List monitors.Act)
     → DidNothing (xs ++ threads.acts_of u te) (ys ++ locals.acts_of u le) (zs ++ monitors.acts_of u me) → Idle te le me
     → Idle (map (threads.by u) xs ++ te) (map (locals.by u) ys ++ le) (map (monitors.by u) zs ++ me)
 acted te le me u xs ys zs own old t =
-    each_thread (λ v. DidNothing (threads.acts_of v (map (threads.by u) xs ++ te)) (locals.acts_of v (map (locals.by u) ys ++ le)) (monitors.acts_of v (map (monitors.by u) zs ++ me))) u
+    each_thread (λ v. DidNothing (threads.acts_of v (map (threads.by u) xs ++ te)) (locals.acts_of v (map (locals.by u) ys ++ le))
+        (monitors.acts_of v (map (monitors.by u) zs ++ me))) u
     (rw (own_acts u xs te, own_acts u ys le, own_acts u zs me) own)
     (λ v differ. rw (acts_others v u xs te differ, acts_others v u ys le differ, acts_others v u zs me differ) (old v))
     t
@@ -59,7 +61,8 @@ by_local : (p : Parts) (t n : ℕ) (on_now : Bool) → is_attached p t ≡ on_no
     → not (is_nothing (if t == t then named_by (locals.live n (locals.acts_of t p.locals)) else Nothing)) ≡ true → on_now ≡ true
 by_local p t n true is agreed idle some = refl
 by_local p t n false is agreed idle some =
-    let none : locals.live n (locals.acts_of t p.locals) ≡ None = ap locals.object_of (idle_live (locals.acts_of t p.locals) n (sym agreed.session ∙ is) (idle t is).1) in
+    let none : locals.live n (locals.acts_of t p.locals) ≡ None =
+        ap locals.object_of (idle_live (locals.acts_of t p.locals) n (sym agreed.session ∙ is) (idle t is).1) in
     absurd (being_if (t == t) (locals.live n (locals.acts_of t p.locals)) none some)
 
 by_monitor : (p : Parts) (t o : ℕ) (on_now : Bool) → is_attached p t ≡ on_now → IsIdle p → is_owner t (monitors.owner p.monitors o) ≡ true → on_now ≡ true
@@ -72,7 +75,8 @@ by_monitor p t o false is idle owns =
 -- ---- each fact
 
 handed_idle : (p : Parts) (t : ℕ) (kind : Kind) (o : ℕ) → is_attached p t ≡ true → IsIdle p → IsIdle (handed_on t kind o p)
-handed_idle p t Local o here old = acted p.threads p.locals p.monitors t (threads.CountRef ∷ []) (locals.Make (next_ref p t) o ∷ []) [] (λ none. off (is_attached p t) here none) old
+handed_idle p t Local o here old =
+    acted p.threads p.locals p.monitors t (threads.CountRef ∷ []) (locals.Make (next_ref p t) o ∷ []) [] (λ none. off (is_attached p t) here none) old
 handed_idle p t Global o here old = acted p.threads p.locals p.monitors t (threads.CountRef ∷ []) [] [] (λ none. off (is_attached p t) here none) old
 handed_idle p t Weak o here old = acted p.threads p.locals p.monitors t (threads.CountRef ∷ []) [] [] (λ none. off (is_attached p t) here none) old
 
@@ -80,10 +84,12 @@ kept_idle : (p : Parts) (t : ℕ) (kept : Option ObjId) → is_attached p t ≡ 
 kept_idle p t None here old = old
 kept_idle p t (Some o) here old = handed_idle p t Local o.0 here old
 
-lost_idle : (s : StatedSetup) (p : Parts) (r : Ref) → can_be s p (Lost r) ≡ true → ((t : ℕ) → Agreed (threads.acts_of t p.threads) (locals.acts_of t p.locals)) → IsIdle p → IsIdle (lost_on r p)
+lost_idle : (s : StatedSetup) (p : Parts) (r : Ref) → can_be s p (Lost r) ≡ true → ((t : ℕ) → Agreed (threads.acts_of t p.threads) (locals.acts_of t p.locals))
+    → IsIdle p → IsIdle (lost_on r p)
 lost_idle s p Null can agreed old = old
 lost_idle s p (To Local maker n) can agreed old =
-    acted p.threads p.locals p.monitors maker.0 [] (locals.Delete n ∷ []) [] (λ none. off (is_attached p maker.0) (by_local p maker.0 n (is_attached p maker.0) refl (agreed maker.0) old can) none) old
+    acted p.threads p.locals p.monitors maker.0 [] (locals.Delete n ∷ []) []
+        (λ none. off (is_attached p maker.0) (by_local p maker.0 n (is_attached p maker.0) refl (agreed maker.0) old can) none) old
 lost_idle s p (To Global maker n) can agreed old = old
 lost_idle s p (To Weak maker n) can agreed old = old
 
@@ -92,21 +98,28 @@ left_attached : (p : Parts) (t : ℕ) (xs : List threads.Act)
     → threads.attached (threads.acts_of t (map (threads.by t) xs ++ p.threads)) ≡ true
 left_attached p t xs is = rw (own_acts t xs p.threads) is
 
-each_idle : (s : StatedSetup) (p : Parts) (x : Fact) → can_be s p x ≡ true → ((t : ℕ) → Agreed (threads.acts_of t p.threads) (locals.acts_of t p.locals)) → IsIdle p → IsIdle (on x p)
-each_idle s p (Begin t) can agreed old = acted p.threads p.locals p.monitors t.0 (threads.Attach ∷ []) (locals.Start ∷ []) [] (λ none. absurd (let no : ⊥ = cc in no)) old
-each_idle s p (End t) can agreed old = acted p.threads p.locals p.monitors t.0 (threads.Detach ∷ []) (locals.End ∷ []) (monitors.ReleaseAll ∷ []) (λ none. (refl, refl, refl)) old
-each_idle s p (Enter t) can agreed old = acted p.threads p.locals p.monitors t.0 (threads.Calm ∷ threads.Enter ∷ []) (locals.Enter ∷ []) [] (λ none. off (is_attached p t.0) can none) old
+each_idle : (s : StatedSetup) (p : Parts) (x : Fact) → can_be s p x ≡ true → ((t : ℕ) → Agreed (threads.acts_of t p.threads) (locals.acts_of t p.locals))
+    → IsIdle p → IsIdle (on x p)
+each_idle s p (Begin t) can agreed old =
+    acted p.threads p.locals p.monitors t.0 (threads.Attach ∷ []) (locals.Start ∷ []) [] (λ none. absurd (let no : ⊥ = cc in no)) old
+each_idle s p (End t) can agreed old =
+    acted p.threads p.locals p.monitors t.0 (threads.Detach ∷ []) (locals.End ∷ []) (monitors.ReleaseAll ∷ []) (λ none. (refl, refl, refl)) old
+each_idle s p (Enter t) can agreed old =
+    acted p.threads p.locals p.monitors t.0 (threads.Calm ∷ threads.Enter ∷ []) (locals.Enter ∷ []) [] (λ none. off (is_attached p t.0) can none) old
 each_idle s p (Leave t kept) can agreed old =
     let here = and_first (is_attached p t.0) (not (depth p t.0 == 0) && is_kept_here s p kept) can in
-    kept_idle (record p { threads = threads.by t.0 threads.Calm ∷ threads.by t.0 threads.Leave ∷ p.threads; locals = locals.by t.0 locals.Leave ∷ p.locals }) t.0 kept
+    kept_idle (record p { threads = threads.by t.0 threads.Calm ∷ threads.by t.0 threads.Leave ∷ p.threads; locals = locals.by t.0 locals.Leave ∷ p.locals })
+        t.0 kept
     (left_attached p t.0 (threads.Calm ∷ threads.Leave ∷ []) here)
     (acted p.threads p.locals p.monitors t.0 (threads.Calm ∷ threads.Leave ∷ []) (locals.Leave ∷ []) [] (λ none. off (is_attached p t.0) here none) old)
-each_idle s p (Push t room) can agreed old = acted p.threads p.locals p.monitors t.0 [] (locals.Push room ∷ []) [] (λ none. off (is_attached p t.0) can none) old
+each_idle s p (Push t room) can agreed old =
+    acted p.threads p.locals p.monitors t.0 [] (locals.Push room ∷ []) [] (λ none. off (is_attached p t.0) can none) old
 each_idle s p (Pop t kept) can agreed old =
     let here = and_first (is_attached p t.0) (not (open_frames p t.0 == 0) && is_kept_here s p kept) can in
     kept_idle (record p { locals = locals.by t.0 locals.Pop ∷ p.locals }) t.0 kept here
     (acted p.threads p.locals p.monitors t.0 [] (locals.Pop ∷ []) [] (λ none. off (is_attached p t.0) here none) old)
-each_idle s p (Ensure t room) can agreed old = acted p.threads p.locals p.monitors t.0 [] (locals.Ensure room ∷ []) [] (λ none. off (is_attached p t.0) can none) old
+each_idle s p (Ensure t room) can agreed old =
+    acted p.threads p.locals p.monitors t.0 [] (locals.Ensure room ∷ []) [] (λ none. off (is_attached p t.0) can none) old
 each_idle s p (Raise t o) can agreed old =
     acted p.threads p.locals p.monitors t.0 (threads.Raise o.0 ∷ []) [] []
     (λ none. off (is_attached p t.0) (and_first (is_attached p t.0) (is_here s p o.0) can) none) old
@@ -114,14 +127,16 @@ each_idle s p (Calm t) can agreed old = acted p.threads p.locals p.monitors t.0 
 each_idle s p (Hand t kind o) can agreed old = handed_idle p t.0 kind o.0 (and_first (is_attached p t.0) (is_here s p o.0) can) old
 each_idle s p (Lost r) can agreed old = lost_idle s p r can agreed old
 each_idle s p (Lend t family o via n) can agreed old =
-    acted p.threads p.locals p.monitors t.0 (threads.CountBuffer ∷ []) [] [] (λ none. off (is_attached p t.0) (and_first (is_attached p t.0) (is_here s p o.0 && is_through family via) can) none) old
+    acted p.threads p.locals p.monitors t.0 (threads.CountBuffer ∷ []) [] []
+        (λ none. off (is_attached p t.0) (and_first (is_attached p t.0) (is_here s p o.0 && is_through family via) can) none) old
 each_idle s p (Back b) can agreed old = old
 each_idle s p (Own t o) can agreed old =
     acted p.threads p.locals p.monitors t.0 [] [] (monitors.Enter o.0 ∷ [])
     (λ none. off (is_attached p t.0)
     (and_first (is_attached p t.0) (is_here s p o.0 && is_free_for t.0 (monitors.owner p.monitors o.0)) can) none) old
 each_idle s p (Free t o) can agreed old =
-    acted p.threads p.locals p.monitors t.0 [] [] (monitors.Exit o.0 ∷ []) (λ none. off (is_attached p t.0) (by_monitor p t.0 o.0 (is_attached p t.0) refl old can) none) old
+    acted p.threads p.locals p.monitors t.0 [] [] (monitors.Exit o.0 ∷ [])
+        (λ none. off (is_attached p t.0) (by_monitor p t.0 o.0 (is_attached p t.0) refl old can) none) old
 each_idle s p (Meet class n) can agreed old = old
 each_idle s p (Gone o) can agreed old = old
 each_idle s p (Link class native) can agreed old = old
@@ -129,7 +144,8 @@ each_idle s p (Unlink class) can agreed old = old
 each_idle s p (Warn home) can agreed old = old
 each_idle s p (Checked check) can agreed old = old
 
-pub agreed_told : (s : StatedSetup) (w : List Fact) → History s w → (t : ℕ) → Agreed (threads.acts_of t (parts_of w).threads) (locals.acts_of t (parts_of w).locals)
+pub agreed_told : (s : StatedSetup) (w : List Fact) → History s w → (t : ℕ)
+    → Agreed (threads.acts_of t (parts_of w).threads) (locals.acts_of t (parts_of w).locals)
 agreed_told s w could =
     each_told (λ p. (t : ℕ) → Agreed (threads.acts_of t p.threads) (locals.acts_of t p.locals)) s (keeps_agree s)
     (λ t. record { session = refl; enters = refl; leaves = refl; none_entered = λ is. refl; none_left = λ is. refl }) w could

@@ -233,7 +233,8 @@ module _ (s : StatedSetup) (p q : Parts) (same : ReadAlike s p q) where
   rule_same t env call ForeignLocal = refl
   rule_same t env call DeadReference = any_same _ _ (operands call) (λ (x : Operand). ap is_nothing (names_same t x.reference))
   rule_same t env call WrongRefKind = refl
-  rule_same t env call NullReference = any_same _ _ (operands call) (λ (x : Operand). ap (λ (named : Named). not x.nullable && is_null named) (names_same t x.reference))
+  rule_same t env call NullReference =
+      any_same _ _ (operands call) (λ (x : Operand). ap (λ (named : Named). not x.nullable && is_null named) (names_same t x.reference))
   rule_same t env call WrongType = any_same _ _ (operands call) (λ (x : Operand). wrong_at t x)
   rule_same t env (Objects call) BadField = fields t env call
   rule_same t env (Buffers call) BadBuffer = buffer_rule t env call

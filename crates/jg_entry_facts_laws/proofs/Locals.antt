@@ -91,7 +91,8 @@ one_more : (n : ℕ) (pre : List Act) (a : Act) (found : Option Making) → seen
 one_more n pre a None = refl
 one_more n pre a (Some m) = ap (λ later. local_if_live n (Some (record m { later = later }))) (sym (append_assoc pre (a ∷ []) m.later))
 
-further : (n : ℕ) (a : Act) (old new : Option Making) → ((pre : List Act) → seen n pre old ≡ seen n pre new) → (pre : List Act) → seen n pre (seen_after a old) ≡ seen n pre (seen_after a new)
+further : (n : ℕ) (a : Act) (old new : Option Making) → ((pre : List Act) → seen n pre old ≡ seen n pre new) → (pre : List Act)
+    → seen n pre (seen_after a old) ≡ seen n pre (seen_after a new)
 further n a old new same pre = one_more n pre a old ∙ (same (pre ++ a ∷ []) ∙ sym (one_more n pre a new))
 
 made_if : (b : Bool) (n o : ℕ) (a : Act) (acts : List Act) (old new : Option Making) → ((pre : List Act) → seen n pre old ≡ seen n pre new) → (pre : List Act)
@@ -135,7 +136,8 @@ same_depth : (a b : List Act) → SameSession a b → depth a ≡ depth b
 same_depth a b same = rw same.acts refl
 
 pub same_frames : (a b : List Act) → SameSession a b → frames (depth a) a ≡ frames (depth b) b
-same_frames a b same = rw (same_depth a b same) (sym (frames_current (depth b) a) ∙ (ap (frames (depth b)) (same_current a b same) ∙ frames_current (depth b) b))
+same_frames a b same = rw (same_depth a b same)
+    (sym (frames_current (depth b) a) ∙ (ap (frames (depth b)) (same_current a b same) ∙ frames_current (depth b) b))
 
 -- the same acts keep it
 pub same_more : (a b : List Act) (x : Act) → SameSession a b → SameSession (x ∷ a) (x ∷ b)

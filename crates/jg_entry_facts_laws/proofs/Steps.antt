@@ -71,20 +71,25 @@ module _ (s : StatedSetup) (p q : Parts) (same : Alike s p q) where
     links = same.links;
   }
 
-  pub monitor_on : (t : ℕ) (x : monitors.Act) → Alike s (record p { monitors = monitors.by t x ∷ p.monitors }) (record q { monitors = monitors.by t x ∷ q.monitors })
+  pub monitor_on : (t : ℕ) (x : monitors.Act)
+      → Alike s (record p { monitors = monitors.by t x ∷ p.monitors }) (record q { monitors = monitors.by t x ∷ q.monitors })
   monitor_on t x = monitors_on t (x ∷ []) (x ∷ []) (monitor_more (monitors.acts_of t p.monitors) (monitors.acts_of t q.monitors) x)
 
   pub globals_on : (e f : List globals.Event) → SameGlobals e f → Alike s (record p { globals = e }) (record q { globals = f })
-  globals_on e f now = record { threads = same.threads; locals = same.locals; globals = now; buffers = same.buffers; monitors = same.monitors; heap = same.heap; links = same.links }
+  globals_on e f now = record { threads = same.threads; locals = same.locals; globals = now; buffers = same.buffers; monitors = same.monitors; heap =
+      same.heap; links = same.links }
 
   pub buffers_on : (e f : List buffers.Event) → SameBuffers e f → Alike s (record p { buffers = e }) (record q { buffers = f })
-  buffers_on e f now = record { threads = same.threads; locals = same.locals; globals = same.globals; buffers = now; monitors = same.monitors; heap = same.heap; links = same.links }
+  buffers_on e f now = record { threads = same.threads; locals = same.locals; globals = same.globals; buffers = now; monitors = same.monitors; heap =
+      same.heap; links = same.links }
 
   pub heap_on : (e f : List heap.Event) → SameHeap (class_count s) e f → Alike s (record p { heap = e }) (record q { heap = f })
-  heap_on e f now = record { threads = same.threads; locals = same.locals; globals = same.globals; buffers = same.buffers; monitors = same.monitors; heap = now; links = same.links }
+  heap_on e f now = record { threads = same.threads; locals = same.locals; globals = same.globals; buffers = same.buffers; monitors = same.monitors; heap =
+      now; links = same.links }
 
   pub links_on : (x : links.Event) → Alike s (record p { links = x ∷ p.links }) (record q { links = x ∷ q.links })
-  links_on x = record { threads = same.threads; locals = same.locals; globals = same.globals; buffers = same.buffers; monitors = same.monitors; heap = same.heap; links = ap (λ e. x ∷ e) same.links }
+  links_on x = record { threads = same.threads; locals = same.locals; globals = same.globals; buffers = same.buffers; monitors = same.monitors; heap =
+      same.heap; links = ap (λ e. x ∷ e) same.links }
 
   -- what is read of a thread and of an object
   pub same_attached : (t : ℕ) → is_attached p t ≡ is_attached q t
@@ -107,7 +112,8 @@ handed_by t Weak n o q = record q { threads = threads.by t threads.CountRef ∷ 
 counted : (s : StatedSetup) (p q : Parts) (t : ℕ) → Alike s p q
     → Alike s (record p { threads = threads.by t threads.CountRef ∷ p.threads })
     (record q { threads = threads.by t threads.CountRef ∷ q.threads })
-counted s p q t same = threads_on s p q same t (threads.CountRef ∷ []) (threads.CountRef ∷ []) (ref_both (threads.acts_of t p.threads) (threads.acts_of t q.threads))
+counted s p q t same = threads_on s p q same t (threads.CountRef ∷ []) (threads.CountRef ∷ [])
+    (ref_both (threads.acts_of t p.threads) (threads.acts_of t q.threads))
 
 handed_next : (s : StatedSetup) (p q : Parts) (t : ℕ) (kind : Kind) (o : ℕ) → Alike s p q → Alike s (handed_on t kind o p) (handed_by t kind (next_ref p t) o q)
 handed_next s p q t Local o same =
@@ -115,13 +121,18 @@ handed_next s p q t Local o same =
     (record q { threads = threads.by t threads.CountRef ∷ q.threads }) (counted s p q t same) t
     (locals.Make (next_ref p t) o)
 handed_next s p q t Global o same =
-    globals_on s (record p { threads = threads.by t threads.CountRef ∷ p.threads }) (record q { threads = threads.by t threads.CountRef ∷ q.threads }) (counted s p q t same)
-    (globals.MakeStrong t (next_ref p t) o ∷ p.globals) (globals.MakeStrong t (next_ref p t) o ∷ q.globals) (strong_made t (next_ref p t) o p.globals q.globals same.globals)
+    globals_on s (record p { threads = threads.by t threads.CountRef ∷ p.threads }) (record q { threads = threads.by t threads.CountRef ∷ q.threads })
+        (counted s p q t same)
+    (globals.MakeStrong t (next_ref p t) o ∷ p.globals) (globals.MakeStrong t (next_ref p t) o ∷ q.globals)
+        (strong_made t (next_ref p t) o p.globals q.globals same.globals)
 handed_next s p q t Weak o same =
-    globals_on s (record p { threads = threads.by t threads.CountRef ∷ p.threads }) (record q { threads = threads.by t threads.CountRef ∷ q.threads }) (counted s p q t same)
-    (globals.MakeWeak t (next_ref p t) o ∷ p.globals) (globals.MakeWeak t (next_ref p t) o ∷ q.globals) (weak_made t (next_ref p t) o p.globals q.globals same.globals)
+    globals_on s (record p { threads = threads.by t threads.CountRef ∷ p.threads }) (record q { threads = threads.by t threads.CountRef ∷ q.threads })
+        (counted s p q t same)
+    (globals.MakeWeak t (next_ref p t) o ∷ p.globals) (globals.MakeWeak t (next_ref p t) o ∷ q.globals)
+        (weak_made t (next_ref p t) o p.globals q.globals same.globals)
 
-pub handed_alike : (s : StatedSetup) (p q : Parts) (t : ℕ) (kind : Kind) (n o : ℕ) → next_ref q t ≡ n → Alike s p q → Alike s (handed_on t kind o p) (handed_by t kind n o q)
+pub handed_alike : (s : StatedSetup) (p q : Parts) (t : ℕ) (kind : Kind) (n o : ℕ) → next_ref q t ≡ n → Alike s p q
+    → Alike s (handed_on t kind o p) (handed_by t kind n o q)
 handed_alike s p q t kind n o next same =
     subst (λ (m : ℕ). Alike s (handed_on t kind o p) (handed_by t kind m o q)) (same_next s p q same t ∙ next) (handed_next s p q t kind o same)
 
@@ -148,7 +159,8 @@ none s p q same = record { can = tt; alike = same }
 pub one : (s : StatedSetup) (p q : Parts) (x : Fact) → can_be s p x ≡ true → Alike s (on x p) q → Told s p q (x ∷ [])
 one s p q x can same = record { can = (can, tt); alike = same }
 
-pub next : (s : StatedSetup) (p r q : Parts) (x : Fact) (xs : List Fact) → Told s p r xs → can_be s (on_all xs p) x ≡ true → Alike s (on x (on_all xs p)) q → Told s p q (x ∷ xs)
+pub next : (s : StatedSetup) (p r q : Parts) (x : Fact) (xs : List Fact) → Told s p r xs → can_be s (on_all xs p) x ≡ true → Alike s (on x (on_all xs p)) q
+    → Told s p q (x ∷ xs)
 next s p r q x xs told can same = record { can = (can, told.can); alike = same }
 
 pub on_more : (xs ys : List Fact) (p : Parts) → on_all (xs ++ ys) p ≡ on_all xs (on_all ys p)

@@ -103,18 +103,23 @@ rep value = record { value = value; warned = false; noticed = false }
 
 -- the call's own facts, and those of its answer
 abbrev Brings : StatedSetup → Parts → Parts → Tid → Call → Value → Option ObjId → List Fact → Type 0
-Brings s p q t call value o xs = Told s p (settled None t.0 (rep value) o (done_if (is_effective value) s t.0 call q)) (value_facts t value o ++ if_effective (is_effective value) xs)
+Brings s p q t call value o xs =
+    Told s p (settled None t.0 (rep value) o (done_if (is_effective value) s t.0 call q)) (value_facts t value o ++ if_effective (is_effective value) xs)
 
-hands : (s : StatedSetup) (p q : Parts) (t : Tid) (call : Call) (kind : Kind) (found : Option ℕ) (xs : List Fact) → Told s p (done_by s t.0 call q) xs → is_attached (done_by s t.0 call q) t.0 ≡ true
+hands : (s : StatedSetup) (p q : Parts) (t : Tid) (call : Call) (kind : Kind) (found : Option ℕ) (xs : List Fact) → Told s p (done_by s t.0 call q) xs
+    → is_attached (done_by s t.0 call q) t.0 ≡ true
     → AnswersHere (class_count s) (if_effective (is_effective (handed q t kind found).reply.value) (call_heap s q t.0 call) ++ q.heap) (handed q t kind found)
     → Brings s p q t call (handed q t kind found).reply.value (handed q t kind found).object xs
 hands s p q t call kind None xs told on_now here = told
 hands s p q t call Local (Some o) xs told on_now here =
-    hand_told s p (done_by s t.0 call q) t Local (record { 0 = o }) (next_ref q t.0) xs told on_now (here_is (class_count s) (call_heap s q t.0 call ++ q.heap) o here) (next_done s q t.0 call t.0)
+    hand_told s p (done_by s t.0 call q) t Local (record { 0 = o }) (next_ref q t.0) xs told on_now
+        (here_is (class_count s) (call_heap s q t.0 call ++ q.heap) o here) (next_done s q t.0 call t.0)
 hands s p q t call Global (Some o) xs told on_now here =
-    hand_told s p (done_by s t.0 call q) t Global (record { 0 = o }) (next_ref q t.0) xs told on_now (here_is (class_count s) (call_heap s q t.0 call ++ q.heap) o here) (next_done s q t.0 call t.0)
+    hand_told s p (done_by s t.0 call q) t Global (record { 0 = o }) (next_ref q t.0) xs told on_now
+        (here_is (class_count s) (call_heap s q t.0 call ++ q.heap) o here) (next_done s q t.0 call t.0)
 hands s p q t call Weak (Some o) xs told on_now here =
-    hand_told s p (done_by s t.0 call q) t Weak (record { 0 = o }) (next_ref q t.0) xs told on_now (here_is (class_count s) (call_heap s q t.0 call ++ q.heap) o here) (next_done s q t.0 call t.0)
+    hand_told s p (done_by s t.0 call q) t Weak (record { 0 = o }) (next_ref q t.0) xs told on_now
+        (here_is (class_count s) (call_heap s q t.0 call ++ q.heap) o here) (next_done s q t.0 call t.0)
 
 thrown_known : (s : StatedSetup) (kind : Thrown) → nat_lt (class_thrown kind) (class_count s) ≡ true
 thrown_known s ArrayIndexOutOfBounds = grind (arith, nat_tests)
@@ -137,7 +142,8 @@ env_brings : (s : StatedSetup) (p q : Parts) (t : Tid) (call : Call) (n : Option
 env_brings s p q t call None xs told = told
 env_brings s p q t call (Some n) xs told = told
 
-registered_brings : (s : StatedSetup) (p q : Parts) (t : Tid) (call : Call) (class native : Option ℕ) (xs : List Fact) → Told s p (done_by s t.0 call q) xs → Alike s p q → is_attached q t.0 ≡ true
+registered_brings : (s : StatedSetup) (p q : Parts) (t : Tid) (call : Call) (class native : Option ℕ) (xs : List Fact) → Told s p (done_by s t.0 call q) xs
+    → Alike s p q → is_attached q t.0 ≡ true
     → Brings s p q t call (registered s q class native).reply.value (registered s q class native).object xs
 registered_brings s p q t call class None xs told same on_now = throws s p q t call NoSuchMethod xs same on_now
 registered_brings s p q t call class (Some native) xs told same on_now = told
@@ -145,39 +151,47 @@ registered_brings s p q t call class (Some native) xs told same on_now = told
 found_brings : (s : StatedSetup) (p q : Parts) (t : Tid) (call : Call) (class : Option ℕ) (xs : List Fact)
     → Told s p (done_by s t.0 call q) xs → Alike s p q → is_attached q t.0 ≡ true
     → is_attached (done_by s t.0 call q) t.0 ≡ true
-    → AnswersHere (class_count s) (if_effective (is_effective (class_found s q t class).reply.value) (call_heap s q t.0 call) ++ q.heap) (class_found s q t class)
+    → AnswersHere (class_count s) (if_effective (is_effective (class_found s q t class).reply.value) (call_heap s q t.0 call) ++ q.heap)
+        (class_found s q t class)
     → Brings s p q t call (class_found s q t class).reply.value (class_found s q t class).object xs
 found_brings s p q t call None xs told same on_now later here = throws s p q t call NoClassDefFound xs same on_now
 found_brings s p q t call (Some class) xs told same on_now later here = hands s p q t call Local (Some class) xs told later here
 
-field_brings : (s : StatedSetup) (p q : Parts) (t : Tid) (call : Call) (found : Option FieldId) (xs : List Fact) → Told s p (done_by s t.0 call q) xs → Alike s p q → is_attached q t.0 ≡ true
+field_brings : (s : StatedSetup) (p q : Parts) (t : Tid) (call : Call) (found : Option FieldId) (xs : List Fact) → Told s p (done_by s t.0 call q) xs
+    → Alike s p q → is_attached q t.0 ≡ true
     → Brings s p q t call (field_found s q found).reply.value (field_found s q found).object xs
 field_brings s p q t call None xs told same on_now = throws s p q t call NoSuchField xs same on_now
 field_brings s p q t call (Some field) xs told same on_now = told
 
-outside_brings : (s : StatedSetup) (p q : Parts) (t : Tid) (call : Call) (kind : Thrown) (b : Bool) (a : Answer) (xs : List Fact) → Alike s p q → is_attached q t.0 ≡ true
-    → (b ≡ false → Brings s p q t call a.reply.value a.object xs) → Brings s p q t call (or_outside s q kind b a).reply.value (or_outside s q kind b a).object xs
+outside_brings : (s : StatedSetup) (p q : Parts) (t : Tid) (call : Call) (kind : Thrown) (b : Bool) (a : Answer) (xs : List Fact) → Alike s p q
+    → is_attached q t.0 ≡ true
+    → (b ≡ false → Brings s p q t call a.reply.value a.object xs)
+    → Brings s p q t call (or_outside s q kind b a).reply.value (or_outside s q kind b a).object xs
 outside_brings s p q t call kind true a xs same on_now inside = throws s p q t call kind xs same on_now
 outside_brings s p q t call kind false a xs same on_now inside = inside refl
 
-entered_brings : (s : StatedSetup) (p q : Parts) (t : Tid) (call : Call) (e : Entering) (xs : List Fact) → Alike s p q → (e ≡ HasEntered → Told s p (done_by s t.0 call q) xs)
+entered_brings : (s : StatedSetup) (p q : Parts) (t : Tid) (call : Call) (e : Entering) (xs : List Fact) → Alike s p q
+    → (e ≡ HasEntered → Told s p (done_by s t.0 call q) xs)
     → Brings s p q t call (plain (entered e)).reply.value (plain (entered e)).object xs
 entered_brings s p q t call HasEntered xs same told = told refl
 entered_brings s p q t call KeptOut xs same told = none s p q same
 
 -- a Throw's object becomes pending
-raised_brings : (s : StatedSetup) (p q : Parts) (t : Tid) (found : Option ℕ) → Alike s p q → is_attached q t.0 ≡ true → ((o : ℕ) → found ≡ Some o → is_here s q o ≡ true)
+raised_brings : (s : StatedSetup) (p q : Parts) (t : Tid) (found : Option ℕ) → Alike s p q → is_attached q t.0 ≡ true
+    → ((o : ℕ) → found ≡ Some o → is_here s q o ≡ true)
     → Told s p (settled None t.0 (rep Done) (option_map (λ o. record { 0 = o }) found) q) (value_facts t Done (option_map (λ o. record { 0 = o }) found) ++ [])
 raised_brings s p q t None same on_now here = none s p q same
 raised_brings s p q t (Some o) same on_now here = raise_told s p q t (record { 0 = o }) [] (none s p q same) on_now (here o refl)
 
 -- ---- links
 
-linking_told : (s : StatedSetup) (p q : Parts) (class native : Option ℕ) → Alike s p q → ((c n : ℕ) → class ≡ Some c → native ≡ Some n → is_some (native_at s c n) ≡ true)
+linking_told : (s : StatedSetup) (p q : Parts) (class native : Option ℕ) → Alike s p q
+    → ((c n : ℕ) → class ≡ Some c → native ≡ Some n → is_some (native_at s c n) ≡ true)
     → Told s p (record q { links = linking class native ++ q.links }) (link_facts (linking class native))
 linking_told s p q None native same stated = none s p q same
 linking_told s p q (Some class) None same stated = none s p q same
-linking_told s p q (Some class) (Some native) same stated = one s p _ (Link class native) (stated class native refl refl) (links_on s p q same (links.Linked class native))
+linking_told s p q (Some class) (Some native) same stated =
+    one s p _ (Link class native) (stated class native refl refl) (links_on s p q same (links.Linked class native))
 
 unlinked_if : (s : StatedSetup) (p q : Parts) (b : Bool) (o : ℕ) → nat_lt o (class_count s) ≡ b → Alike s p q
     → Told s p (record q { links = unlinking (if b then Some o else None) ++ q.links }) (link_facts (unlinking (if b then Some o else None)))
@@ -189,16 +203,19 @@ unlinking_told : (s : StatedSetup) (p q : Parts) (found : Option ℕ) → Alike 
 unlinking_told s p q None same = none s p q same
 unlinking_told s p q (Some o) same = unlinked_if s p q (nat_lt o (class_count s)) o refl same
 
-native_if : (s : StatedSetup) (class : Option ℕ) (method signature : List ℕ) (c n : ℕ) → class ≡ Some c → native_meant s class method signature ≡ Some n → is_some (native_at s c n) ≡ true
+native_if : (s : StatedSetup) (class : Option ℕ) (method signature : List ℕ) (c n : ℕ) → class ≡ Some c → native_meant s class method signature ≡ Some n
+    → is_some (native_at s c n) ≡ true
 native_if s None method signature c n is named = absurd (let no : ⊥ = cc in no)
 native_if s (Some d) method signature c n is named =
     let same : d ≡ c = cc in
     let there = member_has_its_name (natives_in (class_at s d)) n method signature named in
     subst (λ (x : ℕ). is_some (native_at s x n) ≡ true) same (ap is_some there)
 
-module_if : (s : StatedSetup) (name : Option (List ℕ)) (h : ℕ) → option_and_then (λ name. position (bytes_eq name) (module_names s)) name ≡ Some h → nat_lt h (length (module_names s)) ≡ true
+module_if : (s : StatedSetup) (name : Option (List ℕ)) (h : ℕ) → option_and_then (λ name. position (bytes_eq name) (module_names s)) name ≡ Some h
+    → nat_lt h (length (module_names s)) ≡ true
 module_if s None h is = absurd (let no : ⊥ = cc in no)
-module_if s (Some name) h is = (let below : h < length (module_names s) = position-within (bytes_eq name) (module_names s) h is in grind (arith, nat_tests, below))
+module_if s (Some name) h is =
+    (let below : h < length (module_names s) = position-within (bytes_eq name) (module_names s) h is in grind (arith, nat_tests, below))
 
 home_if : (s : StatedSetup) (class : Option ℕ) (h : ℕ) → home_of s class ≡ Some h → is_home s h ≡ true
 home_if s None h is = absurd (let no : ⊥ = cc in no)
@@ -211,13 +228,15 @@ new_if : (b : Bool) (k : ℕ) (m x : Making) → b ≡ true → class_in (if b t
 new_if true k m x is few = few
 new_if false k m x is few = absurd (let no : ⊥ = cc in no)
 
-class_stated : (s : StatedSetup) (p q : Parts) (t : Tid) (env : Option EnvId) (call : Call) (m : Making) → call_heap s q t.0 call ≡ heap.Made m ∷ [] → Unbroken s q t.0 env call → Known s p q
+class_stated : (s : StatedSetup) (p q : Parts) (t : Tid) (env : Option EnvId) (call : Call) (m : Making) → call_heap s q t.0 call ≡ heap.Made m ∷ []
+    → Unbroken s q t.0 env call → Known s p q
     → nat_lt (class_in m) (class_count s) ≡ true
 class_stated s p q t env call m is u known =
     let k : ℕ = class_count s in
     let n : ℕ = heap.count_of k q.heap in
     let after = (done_here s q t.0 env call u known.all).known n in
-    let here : class_in (heap.making_at k ((heap.Made m ∷ []) ++ q.heap) n) < k = subst (λ (e : List heap.Event). class_in (heap.making_at k (e ++ q.heap) n) < k) is after in
+    let here : class_in (heap.making_at k ((heap.Made m ∷ []) ++ q.heap) n) < k =
+        subst (λ (e : List heap.Event). class_in (heap.making_at k (e ++ q.heap) n) < k) is after in
     let own : (n == n) ≡ true = grind (arith, nat_tests) in
     let few : class_in m < k = new_if (n == n) k m (heap.making_at k q.heap n) own here in
     grind (arith, nat_tests, few)
@@ -232,7 +251,8 @@ met_more (heap.Went o ∷ xs) ys = met_more xs ys
 
 region_met : (o j : ℕ) (values : List ℤ) → object_facts (heap.region_writes o j values) ≡ []
 region_met o j [] = refl
-region_met o j (v ∷ values) = met_more (heap.region_writes o (j + 1) values) (heap.Wrote o j (Number v) ∷ []) ∙ ap (λ xs. xs ++ []) (region_met o (j + 1) values)
+region_met o j (v ∷ values) = met_more (heap.region_writes o (j + 1) values) (heap.Wrote o j (Number v) ∷ [])
+    ∙ ap (λ xs. xs ++ []) (region_met o (j + 1) values)
 
 wrote_told : (s : StatedSetup) (p q : Parts) (o j : ℕ) (v : Slot) → Alike s p q → Told s p (record q { heap = heap.Wrote o j v ∷ q.heap }) []
 wrote_told s p q o j v same = none s p _ (heap_on s p q same p.heap (heap.Wrote o j v ∷ q.heap) (wrote_one (class_count s) p.heap q.heap o j v same.heap))
@@ -249,11 +269,13 @@ found_back : (k : ℕ) (e f : List heap.Event) (items : List ℤ) (found : Optio
 found_back k e f items None same = same
 found_back k e f items (Some info) same = wrote_region k e f info.object.0 0 items same
 
-back_if : (b : Bool) (k : ℕ) (e f : List heap.Event) (items : List ℤ) (found : Option Info) → SameHeap k e f → SameHeap k e ((if b then wrote_back items found else []) ++ f)
+back_if : (b : Bool) (k : ℕ) (e f : List heap.Event) (items : List ℤ) (found : Option Info) → SameHeap k e f
+    → SameHeap k e ((if b then wrote_back items found else []) ++ f)
 back_if true k e f items found same = found_back k e f items found same
 back_if false k e f items found same = same
 
-closing_told : (s : StatedSetup) (p q : Parts) (t : Tid) (b : BufId) (commits : Bool) (f : List heap.Event) → Known s p q → SameHeap (class_count s) p.heap f → is_some (buffer_named q b) ≡ true
+closing_told : (s : StatedSetup) (p q : Parts) (t : Tid) (b : BufId) (commits : Bool) (f : List heap.Event) → Known s p q → SameHeap (class_count s) p.heap f
+    → is_some (buffer_named q b) ≡ true
     → Told s p (record q { buffers = (if commits then [] else closed b) ++ q.buffers; heap = f }) (buffer_facts t (if commits then [] else closed b))
 closing_told s p q t b true f known now there = none s p _ (heap_on s p q known.same p.heap f now)
 closing_told s p q t b false f known now there =
@@ -263,7 +285,8 @@ closing_told s p q t b false f known now there =
     (buffers.Closed b.maker.0 b.n ∷ q.buffers) (closed_both p.buffers q.buffers b.maker.0 b.n known.same.buffers))
 
 write_if : (s : StatedSetup) (p q : Parts) (t : Tid) (b : BufId) (i : ℕ) (v : ℤ) (o : ℕ) (pins : Bool) → Alike s p q
-    → Told s p (record q { buffers = (if pins then [] else buffers.Wrote b.maker.0 b.n i v ∷ []) ++ q.buffers; heap = (if pins then heap.Wrote o i (Number v) ∷ [] else []) ++ q.heap })
+    → Told s p (record q { buffers = (if pins then [] else buffers.Wrote b.maker.0 b.n i v ∷ []) ++ q.buffers; heap =
+        (if pins then heap.Wrote o i (Number v) ∷ [] else []) ++ q.heap })
     (buffer_facts t (if pins then [] else buffers.Wrote b.maker.0 b.n i v ∷ []))
 write_if s p q t b i v o true same = wrote_told s p q o i (Number v) same
 write_if s p q t b i v o false same =
@@ -300,7 +323,8 @@ local_lost s p q t (To Weak maker n) known alive kind = absurd (let no : ⊥ = c
 strong_lost : (s : StatedSetup) (p q : Parts) (t : Tid) (r : Ref) → Known s p q → (is_nothing (names q t.0 r) || false) ≡ false → is_not Global r ≡ false
     → Told s p (done_by s t.0 (Refs (DeleteGlobalRef r)) q) (lost_facts r)
 strong_lost s p q t Null known alive kind = none s p q known.same
-strong_lost s p q t (To Global maker n) known alive kind = strong_told s p q known t maker n (or_first_off (is_nothing (names q t.0 (To Global maker n))) false alive)
+strong_lost s p q t (To Global maker n) known alive kind =
+    strong_told s p q known t maker n (or_first_off (is_nothing (names q t.0 (To Global maker n))) false alive)
 strong_lost s p q t (To Local maker n) known alive kind = absurd (let no : ⊥ = cc in no)
 strong_lost s p q t (To Weak maker n) known alive kind = absurd (let no : ⊥ = cc in no)
 
@@ -313,7 +337,8 @@ weak_lost s p q t (To Global maker n) known alive kind = absurd (let no : ⊥ = 
 
 -- ---- a native method is left, a frame is popped
 
-leaves : (s : StatedSetup) (p q : Parts) (t : Tid) (r : Ref) (raised found : Option ℕ) → Known s p q → is_attached q t.0 ≡ true → (depth q t.0 == 0) ≡ false → pending q t.0 ≡ raised
+leaves : (s : StatedSetup) (p q : Parts) (t : Tid) (r : Ref) (raised found : Option ℕ) → Known s p q → is_attached q t.0 ≡ true → (depth q t.0 == 0) ≡ false
+    → pending q t.0 ≡ raised
     → ((o : ℕ) → found ≡ Some o → is_here s q o ≡ true) → ((o : ℕ) → raised ≡ Some o → is_here s q o ≡ true)
     → (let a : Answer = unless_pending raised (handed q t Local found) in
     Told s p (settled None t.0 (rep a.reply.value) a.object
@@ -375,7 +400,8 @@ module _ (s : StatedSetup) (p q : Parts) (t : Tid) (env : Option EnvId) (known :
   answered_here call u = answer_here s q t env call u known.stated known.all
 
   -- one that hands out a reference to what was there
-  hands_call : (call : Call) (kind : Kind) (found : Option ℕ) (xs : List Fact) → needs_env (fun_of call) ≡ true → Unbroken s q t.0 env call → Told s p (done_by s t.0 call q) xs
+  hands_call : (call : Call) (kind : Kind) (found : Option ℕ) (xs : List Fact) → needs_env (fun_of call) ≡ true → Unbroken s q t.0 env call
+      → Told s p (done_by s t.0 call q) xs
       → AnswersHere (class_count s) (if_effective (is_effective (handed q t kind found).reply.value) (call_heap s q t.0 call) ++ q.heap) (handed q t kind found)
       → Brings s p q t call (handed q t kind found).reply.value (handed q t kind found).object xs
   hands_call call kind found xs takes u told here = hands s p q t call kind found xs told (still call takes u) here
@@ -389,7 +415,8 @@ module _ (s : StatedSetup) (p q : Parts) (t : Tid) (env : Option EnvId) (known :
   vm_core GetEnv u = env_brings s p q t (Vm GetEnv) (session q t.0) [] nothing
   vm_core (NativeEnter class method signature) u =
       let c : Call = Vm (NativeEnter class method signature) in
-      hands_call c Local (class_named s class) (Enter t ∷ []) refl u (enter_told s p q known t (present c refl u) (None-if_not_some (pending q t.0) u.calm)) (answered_here c u)
+      hands_call c Local (class_named s class) (Enter t ∷ []) refl u (enter_told s p q known t (present c refl u) (None-if_not_some (pending q t.0) u.calm))
+          (answered_here c u)
   vm_core (NativeLeave r) u =
       leaves s p q t r (pending q t.0) (object_named q t.0 r) known (present (Vm (NativeLeave r)) refl u) u.right_frame refl
       (λ o is. named_is s p q t.0 o r known is) (λ o is. here_is (class_count s) q.heap o (known.all.pending t.0 o is))
@@ -398,14 +425,16 @@ module _ (s : StatedSetup) (p q : Parts) (t : Tid) (env : Option EnvId) (known :
       let c : Call = Vm (RegisterNatives class method signature) in
       let meant : Option ℕ = class_meant s q t.0 class in
       registered_brings s p q t c meant (native_meant s meant method signature) (link_facts (linking meant (native_meant s meant method signature)))
-      (linking_told s p q meant (native_meant s meant method signature) known.same (λ x n is named. native_if s meant method signature x n is named)) known.same (present c refl u)
+      (linking_told s p q meant (native_meant s meant method signature) known.same (λ x n is named. native_if s meant method signature x n is named)) known.same
+          (present c refl u)
   vm_core (UnregisterNatives class) u = unlinking_told s p q (object_named q t.0 class) known.same
   vm_core Collect u = collect_told s p q known
 
   refs_core : (call : RefsCall) → Unbroken s q t.0 env (Refs call) → Core s p q t (Refs call)
   refs_core (NewLocalRef r) u = hands_call (Refs (NewLocalRef r)) Local (object_named q t.0 r) [] refl u nothing (answered_here (Refs (NewLocalRef r)) u)
   refs_core (NewGlobalRef r) u = hands_call (Refs (NewGlobalRef r)) Global (object_named q t.0 r) [] refl u nothing (answered_here (Refs (NewGlobalRef r)) u)
-  refs_core (NewWeakGlobalRef r) u = hands_call (Refs (NewWeakGlobalRef r)) Weak (object_named q t.0 r) [] refl u nothing (answered_here (Refs (NewWeakGlobalRef r)) u)
+  refs_core (NewWeakGlobalRef r) u =
+      hands_call (Refs (NewWeakGlobalRef r)) Weak (object_named q t.0 r) [] refl u nothing (answered_here (Refs (NewWeakGlobalRef r)) u)
   refs_core (DeleteLocalRef r) u = local_lost s p q t r known u.alive u.right_kind
   refs_core (DeleteGlobalRef r) u = strong_lost s p q t r known u.alive u.right_kind
   refs_core (DeleteWeakGlobalRef r) u = weak_lost s p q t r known u.alive u.right_kind
@@ -414,57 +443,72 @@ module _ (s : StatedSetup) (p q : Parts) (t : Tid) (env : Option EnvId) (known :
 
   frames_core : (call : FramesCall) → Unbroken s q t.0 env (Frames call) → Core s p q t (Frames call)
   frames_core (PushLocalFrame capacity) u = push_told s p q known t (natural capacity) (present (Frames (PushLocalFrame capacity)) refl u)
-  frames_core (PopLocalFrame r) u = pops s p q t r (object_named q t.0 r) known (present (Frames (PopLocalFrame r)) refl u) u.right_frame (λ o is. named_is s p q t.0 o r known is)
+  frames_core (PopLocalFrame r) u =
+      pops s p q t r (object_named q t.0 r) known (present (Frames (PopLocalFrame r)) refl u) u.right_frame (λ o is. named_is s p q t.0 o r known is)
   frames_core (EnsureLocalCapacity capacity) u = ensure_told s p q known t (natural capacity) (present (Frames (EnsureLocalCapacity capacity)) refl u)
 
   exceptions_core : (call : ExceptionsCall) → Unbroken s q t.0 env (Exceptions call) → Core s p q t (Exceptions call)
-  exceptions_core (Throw r) u = raised_brings s p q t (object_named q t.0 r) known.same (present (Exceptions (Throw r)) refl u) (λ o is. named_is s p q t.0 o r known is)
-  exceptions_core ExceptionOccurred u = hands_call (Exceptions ExceptionOccurred) Local (pending q t.0) [] refl u nothing (answered_here (Exceptions ExceptionOccurred) u)
+  exceptions_core (Throw r) u =
+      raised_brings s p q t (object_named q t.0 r) known.same (present (Exceptions (Throw r)) refl u) (λ o is. named_is s p q t.0 o r known is)
+  exceptions_core ExceptionOccurred u =
+      hands_call (Exceptions ExceptionOccurred) Local (pending q t.0) [] refl u nothing (answered_here (Exceptions ExceptionOccurred) u)
   exceptions_core ExceptionDescribe u = calm_told s p q known t (present (Exceptions ExceptionDescribe) refl u)
   exceptions_core ExceptionClear u = calm_told s p q known t (present (Exceptions ExceptionClear) refl u)
   exceptions_core ExceptionCheck u = nothing
 
   -- a call that makes an object and hands out a local for it
   makes_call : (call : Call) (m : Making) → call_heap s q t.0 call ≡ heap.Made m ∷ [] → needs_env (fun_of call) ≡ true → Unbroken s q t.0 env call
-      → (Told s p (record q { heap = heap.Made m ∷ q.heap }) (Meet (class_in m) (length_in m) ∷ []) → Told s p (done_by s t.0 call q) (Meet (class_in m) (length_in m) ∷ []))
+      → (Told s p (record q { heap = heap.Made m ∷ q.heap }) (Meet (class_in m) (length_in m) ∷ [])
+          → Told s p (done_by s t.0 call q) (Meet (class_in m) (length_in m) ∷ []))
       → AnswersHere (class_count s) (call_heap s q t.0 call ++ q.heap) (handed q t Local (Some (object_count s q)))
-      → Brings s p q t call (handed q t Local (Some (object_count s q))).reply.value (handed q t Local (Some (object_count s q))).object (Meet (class_in m) (length_in m) ∷ [])
+      → Brings s p q t call (handed q t Local (Some (object_count s q))).reply.value (handed q t Local (Some (object_count s q))).object
+          (Meet (class_in m) (length_in m) ∷ [])
   makes_call call m is takes u own here =
-      hands_call call Local (Some (object_count s q)) (Meet (class_in m) (length_in m) ∷ []) takes u (own (meet_told s p q m known.same (class_stated s p q t env call m is u known))) here
+      hands_call call Local (Some (object_count s q)) (Meet (class_in m) (length_in m) ∷ []) takes u
+          (own (meet_told s p q m known.same (class_stated s p q t env call m is u known))) here
 
   objects_core : (call : ObjectsCall) → Unbroken s q t.0 env (Objects call) → Core s p q t (Objects call)
   objects_core (FindClass name) u =
       let c : Call = Objects (FindClass name) in
       found_brings s p q t c (class_named s name) [] nothing known.same (present c refl u) (still c refl u) (answered_here c u)
-  objects_core (GetObjectClass r) u = hands_call (Objects (GetObjectClass r)) Local (Some (class_of s q (the_object q t.0 r))) [] refl u nothing (answered_here (Objects (GetObjectClass r)) u)
+  objects_core (GetObjectClass r) u =
+      hands_call (Objects (GetObjectClass r)) Local (Some (class_of s q (the_object q t.0 r))) [] refl u nothing (answered_here (Objects (GetObjectClass r)) u)
   objects_core (IsInstanceOf r class) u = nothing
   objects_core (AllocObject class) u =
       let c : Call = Objects (AllocObject class) in
-      makes_call c (Plain (the_object q t.0 class) (map first_value (fields_in (class_at s (the_object q t.0 class))))) refl refl u (λ told. told) (answered_here c u)
+      makes_call c (Plain (the_object q t.0 class) (map first_value (fields_in (class_at s (the_object q t.0 class))))) refl refl u (λ told. told)
+          (answered_here c u)
   objects_core (GetFieldID class field signature) u =
       let c : Call = Objects (GetFieldID class field signature) in
       field_brings s p q t c (field_meant s (class_meant s q t.0 class) field signature) [] nothing known.same (present c refl u)
   objects_core (GetField primitive r field) u = nothing
   objects_core (GetObjectField r field) u =
-      hands_call (Objects (GetObjectField r field)) Local (target_in (field_value s q (the_object q t.0 r) field)) [] refl u nothing (answered_here (Objects (GetObjectField r field)) u)
+      hands_call (Objects (GetObjectField r field)) Local (target_in (field_value s q (the_object q t.0 r) field)) [] refl u nothing
+          (answered_here (Objects (GetObjectField r field)) u)
   objects_core (SetField primitive r field value) u = wrote_told s p q (the_object q t.0 r) (slot_place field) (Number value) known.same
   objects_core (SetObjectField r field value) u = wrote_told s p q (the_object q t.0 r) (slot_place field) (pointer (object_named q t.0 value)) known.same
 
   strings_core : (call : StringsCall) → Unbroken s q t.0 env (Strings call) → Core s p q t (Strings call)
-  strings_core (NewString units) u = makes_call (Strings (NewString units)) (Text (map natural units)) refl refl u (λ told. told) (answered_here (Strings (NewString units)) u)
-  strings_core (NewStringUTF bytes) u = makes_call (Strings (NewStringUTF bytes)) (Text (unwrap_or (decoded bytes) [])) refl refl u (λ told. told) (answered_here (Strings (NewStringUTF bytes)) u)
+  strings_core (NewString units) u =
+      makes_call (Strings (NewString units)) (Text (map natural units)) refl refl u (λ told. told) (answered_here (Strings (NewString units)) u)
+  strings_core (NewStringUTF bytes) u =
+      makes_call (Strings (NewStringUTF bytes)) (Text (unwrap_or (decoded bytes) [])) refl refl u (λ told. told)
+      (answered_here (Strings (NewStringUTF bytes)) u)
   strings_core (GetStringLength r) u = nothing
   strings_core (GetStringUTFLength r) u = nothing
   strings_core (GetStringRegion r start n) u =
       let c : Call = Strings (GetStringRegion r start n) in
       let o : ℕ = the_object q t.0 r in
-      outside_brings s p q t c StringIndexOutOfBounds (is_outside start n (length (units_of s q o))) (region (map pos (units_of s q o)) start n) [] known.same (present c refl u) (λ inside. nothing)
+      outside_brings s p q t c StringIndexOutOfBounds (is_outside start n (length (units_of s q o))) (region (map pos (units_of s q o)) start n) [] known.same
+          (present c refl u) (λ inside. nothing)
 
   -- an element is handed out where it is within
-  element_core : (r : Ref) (index : ℤ) (b : Bool) → is_outside index (pos 1) (length_of s q (the_object q t.0 r)) ≡ b → Unbroken s q t.0 env (Arrays (GetObjectArrayElement r index))
+  element_core : (r : Ref) (index : ℤ) (b : Bool) → is_outside index (pos 1) (length_of s q (the_object q t.0 r)) ≡ b
+      → Unbroken s q t.0 env (Arrays (GetObjectArrayElement r index))
       → (let a : Answer = or_outside s q ArrayIndexOutOfBounds b (handed q t Local (target_in (slot_of s q (the_object q t.0 r) (natural index)))) in
       Brings s p q t (Arrays (GetObjectArrayElement r index)) a.reply.value a.object [])
-  element_core r index true is u = throws s p q t (Arrays (GetObjectArrayElement r index)) ArrayIndexOutOfBounds [] known.same (present (Arrays (GetObjectArrayElement r index)) refl u)
+  element_core r index true is u =
+      throws s p q t (Arrays (GetObjectArrayElement r index)) ArrayIndexOutOfBounds [] known.same (present (Arrays (GetObjectArrayElement r index)) refl u)
   element_core r index false is u =
       let c : Call = Arrays (GetObjectArrayElement r index) in
       let a : Answer = handed q t Local (target_in (slot_of s q (the_object q t.0 r) (natural index))) in
@@ -482,7 +526,8 @@ module _ (s : StatedSetup) (p q : Parts) (t : Tid) (env : Option EnvId) (known :
   arrays_core (GetArrayRegion element r start n) u =
       let c : Call = Arrays (GetArrayRegion element r start n) in
       let o : ℕ = the_object q t.0 r in
-      outside_brings s p q t c ArrayIndexOutOfBounds (is_outside start n (length_of s q o)) (region (items_of s q o) start n) [] known.same (present c refl u) (λ inside. nothing)
+      outside_brings s p q t c ArrayIndexOutOfBounds (is_outside start n (length_of s q o)) (region (items_of s q o) start n) [] known.same (present c refl u)
+          (λ inside. nothing)
   arrays_core (SetArrayRegion element r start values) u =
       let c : Call = Arrays (SetArrayRegion element r start values) in
       let o : ℕ = the_object q t.0 r in
@@ -490,7 +535,8 @@ module _ (s : StatedSetup) (p q : Parts) (t : Tid) (env : Option EnvId) (known :
       (plain Done) (object_facts (heap.region_writes o (natural start) values)) known.same (present c refl u)
       (λ inside. region_told s p q o (natural start) values known.same)
   arrays_core (NewObjectArray n class fill) u =
-      makes_call (Arrays (NewObjectArray n class fill)) (Filled 3 (natural n) (pointer (object_named q t.0 fill))) refl refl u (λ told. told) (answered_here (Arrays (NewObjectArray n class fill)) u)
+      makes_call (Arrays (NewObjectArray n class fill)) (Filled 3 (natural n) (pointer (object_named q t.0 fill))) refl refl u (λ told. told)
+          (answered_here (Arrays (NewObjectArray n class fill)) u)
   arrays_core (GetObjectArrayElement r index) u = element_core r index (is_outside index (pos 1) (length_of s q (the_object q t.0 r))) refl u
   arrays_core (SetObjectArrayElement r index value) u =
       let c : Call = Arrays (SetObjectArrayElement r index value) in
@@ -505,28 +551,34 @@ module _ (s : StatedSetup) (p q : Parts) (t : Tid) (env : Option EnvId) (known :
       entered_brings s p q t c (monitors.entering t.0 (monitors.owner q.monitors o)) (own_facts s q t None c) known.same
       (λ enters. own_told s p q known t o (present c refl u) (must_here s p q t.0 r known u.alive u.not_null) enters)
   monitors_core (MonitorExit r) u =
-      free_told s p q known t (the_object q t.0 r) (mine q t.0 (the_object q t.0 r) (object_named q t.0 r) (the_named (names q t.0 r) false false u.alive u.not_null) u.owned)
+      free_told s p q known t (the_object q t.0 r)
+          (mine q t.0 (the_object q t.0 r) (object_named q t.0 r) (the_named (names q t.0 r) false false u.alive u.not_null) u.owned)
 
   buffers_core : (call : BuffersCall) → Unbroken s q t.0 env (Buffers call) → Core s p q t (Buffers call)
   buffers_core (GetArrayElements element r) u =
       let o : ℕ = the_object q t.0 r in
-      copy_told s p q known t (Elements (Of element)) o (items_of s q o) refl (present (Buffers (GetArrayElements element r)) refl u) (must_here s p q t.0 r known u.alive u.not_null)
+      copy_told s p q known t (Elements (Of element)) o (items_of s q o) refl (present (Buffers (GetArrayElements element r)) refl u)
+          (must_here s p q t.0 r known u.alive u.not_null)
   buffers_core (ReleaseArrayElements element r b mode) u =
       closing_told s p q t b (is_commit mode) (copied_back q b mode ++ q.heap) known
-      (back_if (writes_back mode) (class_count s) p.heap q.heap (buffers.contents q.buffers b.maker.0 b.n) (buffer_named q b) known.same.heap) (open_some _ (buffer_named q b) u.right_buffer)
+      (back_if (writes_back mode) (class_count s) p.heap q.heap (buffers.contents q.buffers b.maker.0 b.n) (buffer_named q b) known.same.heap)
+          (open_some _ (buffer_named q b) u.right_buffer)
   buffers_core (GetStringChars r) u =
       let o : ℕ = the_object q t.0 r in
-      copy_told s p q known t Chars o (map pos (units_of s q o)) refl (present (Buffers (GetStringChars r)) refl u) (must_here s p q t.0 r known u.alive u.not_null)
+      copy_told s p q known t Chars o (map pos (units_of s q o)) refl (present (Buffers (GetStringChars r)) refl u)
+          (must_here s p q t.0 r known u.alive u.not_null)
   buffers_core (ReleaseStringChars r b) u = back_told s p q known t b (open_some _ (buffer_named q b) u.right_buffer)
   buffers_core (GetStringUTFChars r) u =
       let o : ℕ = the_object q t.0 r in
-      copy_told s p q known t UtfChars o (map pos (spelt (units_of s q o))) refl (present (Buffers (GetStringUTFChars r)) refl u) (must_here s p q t.0 r known u.alive u.not_null)
+      copy_told s p q known t UtfChars o (map pos (spelt (units_of s q o))) refl (present (Buffers (GetStringUTFChars r)) refl u)
+          (must_here s p q t.0 r known u.alive u.not_null)
   buffers_core (ReleaseStringUTFChars r b) u = back_told s p q known t b (open_some _ (buffer_named q b) u.right_buffer)
   buffers_core (GetPrimitiveArrayCritical r) u =
       let o : ℕ = the_object q t.0 r in
       pin_told s p q known t ArrayCritical o r (length_of s q o) refl (through q t.0 r u.not_null)
       (present (Buffers (GetPrimitiveArrayCritical r)) refl u) (must_here s p q t.0 r known u.alive u.not_null)
-  buffers_core (ReleasePrimitiveArrayCritical r b mode) u = closing_told s p q t b (is_commit mode) q.heap known known.same.heap (open_some _ (buffer_named q b) u.right_buffer)
+  buffers_core (ReleasePrimitiveArrayCritical r b mode) u =
+      closing_told s p q t b (is_commit mode) q.heap known known.same.heap (open_some _ (buffer_named q b) u.right_buffer)
   buffers_core (GetStringCritical r) u =
       let o : ℕ = the_object q t.0 r in
       pin_told s p q known t StringCritical o r (length (units_of s q o)) refl (through q t.0 r u.not_null)

@@ -25,7 +25,8 @@ causes_next s h n below =
 
 -- the same where a guard that has gone over those before it tells of it
 causes_more : (whole again : State) (n : ℕ) → n < length whole.journal → IsFront whole again n
-    → causes whole.setup (oldest (n + 1) whole.journal) ≡ causes whole.setup (oldest n whole.journal) ++ causes_at again.setup again.journal (slice_get (reverse whole.journal) n)
+    → causes whole.setup (oldest (n + 1) whole.journal)
+        ≡ causes whole.setup (oldest n whole.journal) ++ causes_at again.setup again.journal (slice_get (reverse whole.journal) n)
 causes_more whole again n below front =
     let at = slice_get (reverse whole.journal) n in
     let told : causes_at again.setup again.journal at ≡ causes_at whole.setup (oldest n whole.journal) at =
@@ -66,28 +67,33 @@ take_whole zero (x ∷ xs) ys long = absurd (omega (arith, long))
 take_whole (suc n) [] ys long = absurd (omega (arith, long))
 take_whole (suc n) (x ∷ xs) ys long = ap (λ l. x ∷ l) (take_whole n xs ys (omega (arith, long)))
 
-pub few_more : (whole again : State) (n most : ℕ) → n < length whole.journal → IsFront whole again n → length (causes whole.setup (oldest n whole.journal)) < most
+pub few_more : (whole again : State) (n most : ℕ) → n < length whole.journal → IsFront whole again n
+    → length (causes whole.setup (oldest n whole.journal)) < most
     → length (causes whole.setup (oldest (n + 1) whole.journal)) ≤ most
 few_more whole again n most below front few =
     let at = slice_get (reverse whole.journal) n in
     let one = at_most_one again.setup again.journal at in
-    let long = ap length (causes_more whole again n below front) ∙ length-append (causes whole.setup (oldest n whole.journal)) (causes_at again.setup again.journal at) in
+    let long = ap length (causes_more whole again n below front)
+        ∙ length-append (causes whole.setup (oldest n whole.journal)) (causes_at again.setup again.journal at) in
     omega (arith, few, one, long)
 
 -- where a front has as many as are wanted, they are its
-pub enough : (s : StatedSetup) (h : List Entry) (n most : ℕ) → n < length h → length (causes s (oldest n h)) ≡ most → take most (causes s h) ≡ causes s (oldest n h)
+pub enough : (s : StatedSetup) (h : List Entry) (n most : ℕ) → n < length h → length (causes s (oldest n h)) ≡ most
+    → take most (causes s h) ≡ causes s (oldest n h)
 enough s h n most below full =
     elim (slice_get_cases (reverse h) n).1 [
       | inl found ↦
           let later : List Entry = reverse (drop (suc n) (reverse h)) ++ found.0 ∷ [] in
-          let split : h ≡ later ++ oldest n h = oldest_before h n found.0 found.2 ∙ sym (append_assoc (reverse (drop (suc n) (reverse h))) (found.0 ∷ []) (oldest n h)) in
+          let split : h ≡ later ++ oldest n h =
+              oldest_before h n found.0 found.2 ∙ sym (append_assoc (reverse (drop (suc n) (reverse h))) (found.0 ∷ []) (oldest n h)) in
           let first = front_first s later (oldest n h) in
           ap (λ l. take most (causes s l)) split ∙ ap (take most) first.is ∙ take_whole most (causes s (oldest n h)) first.rest full
       | inr past ↦ absurd (omega (arith, past.0, below, length-reverse h))
     ]
 
 -- the same where as many are kept as are wanted
-pub when_enough : (s : StatedSetup) (h : List Entry) (n most : ℕ) (kept : List Denial) → n < length h → kept ≡ map denial_of (causes s (oldest n h)) → length (causes s (oldest n h)) ≤ most
+pub when_enough : (s : StatedSetup) (h : List Entry) (n most : ℕ) (kept : List Denial) → n < length h → kept ≡ map denial_of (causes s (oldest n h))
+    → length (causes s (oldest n h)) ≤ most
     → most ≤ length kept → take most (causes s h) ≡ causes s (oldest n h)
 when_enough s h n most kept below are few many =
     let long = ap length are ∙ length-map (causes s (oldest n h)) denial_of in
@@ -96,7 +102,8 @@ when_enough s h n most kept below are few many =
 pub oldest_all : (h : List Entry) (n : ℕ) → length h ≤ n → oldest n h ≡ h
 oldest_all h n all = ap reverse (take_all n (reverse h) (omega (arith, all, length-reverse h))) ∙ reverse-reverse h
 
-pub all_of_them : (s : StatedSetup) (h : List Entry) (n most : ℕ) → length h ≤ n → length (causes s (oldest n h)) ≤ most → take most (causes s h) ≡ causes s (oldest n h)
+pub all_of_them : (s : StatedSetup) (h : List Entry) (n most : ℕ) → length h ≤ n → length (causes s (oldest n h)) ≤ most
+    → take most (causes s h) ≡ causes s (oldest n h)
 all_of_them s h n most whole few =
     let few_all : length (causes s h) ≤ most = subst (λ l. length (causes s l) ≤ most) (oldest_all h n whole) few in
     take_all most (causes s h) few_all ∙ ap (causes s) (sym (oldest_all h n whole))
@@ -124,7 +131,8 @@ causes_within : (s : StatedSetup) (h : List Entry) → AreWithin (length h) (cau
 causes_within s [] = tt
 causes_within s (x ∷ h) =
     subst (λ n. AreWithin n (causes s (x ∷ h))) (add-one (length h))
-    (within_more (length h) (causes s (x ∷ h)) (within_both (length h) (causes s h) (causes_of s h x (rule_in x.outcome)) (causes_within s h) (newest_within s h x (rule_in x.outcome))))
+    (within_more (length h) (causes s (x ∷ h))
+        (within_both (length h) (causes s h) (causes_of s h x (rule_in x.outcome)) (causes_within s h) (newest_within s h x (rule_in x.outcome))))
 
 module _ (s : StatedSetup) (journal : List Entry) (n : ℕ) where
   abbrev known_at : ℕ → Condition → ℕ → Watch
@@ -134,7 +142,8 @@ module _ (s : StatedSetup) (journal : List Entry) (n : ℕ) where
   each_known place within [] = refl
   each_known place within (c ∷ cs) =
       let same : min n place ≡ place = omega (arith, within) in
-      ap (λ i. known_at place c i ∷ map (watched s journal n) (map (unknown place) cs)) same ∙ ap (λ l. known s journal place c ∷ l) (each_known place within cs)
+      ap (λ i. known_at place c i ∷ map (watched s journal n) (map (unknown place) cs)) same
+          ∙ ap (λ l. known s journal place c ∷ l) (each_known place within cs)
 
   pub every_known : (cs : List Cause) → AreWithin n cs → map (watched s journal n) (flat_map watches_of cs) ≡ flat_map (all_known s journal) cs
   every_known [] all = refl
@@ -150,7 +159,8 @@ pub all_watched : (s : StatedSetup) (journal : List Entry) (n most : ℕ) → Ar
 all_watched s journal n most within = every_known s journal n (take most (causes s journal)) within
 
 -- as many as the guard that went over the journal has
-pub front_within : (whole again : State) (n most : ℕ) → IsFront whole again n → take most (causes whole.setup whole.journal) ≡ causes whole.setup (oldest n whole.journal)
+pub front_within : (whole again : State) (n most : ℕ) → IsFront whole again n
+    → take most (causes whole.setup whole.journal) ≡ causes whole.setup (oldest n whole.journal)
     → AreWithin (length again.journal) (take most (causes whole.setup whole.journal))
 front_within whole again n most front is =
     subst (λ h. AreWithin (length h) (take most (causes whole.setup whole.journal))) (sym front.journal)

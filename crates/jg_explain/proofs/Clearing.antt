@@ -78,9 +78,12 @@ module _ (m n : ℕ) (g : List globals.Event) (none : NamesNone m n g) where
   as_it_is o some = no_some (named_after g) o (names_none (globals.after_making m n g) (globals.weak g m n) none) some
 
   strong_made : (k i p o : ℕ) → named_after (globals.MakeStrong k i p ∷ g) ≡ Some o → ⊥
-  strong_made k i p o some = no_some (named_after (globals.MakeStrong k i p ∷ g)) o (names_none (globals.after_making m n (globals.MakeStrong k i p ∷ g)) (globals.weak g m n) none) some
+  strong_made k i p o some =
+      no_some (named_after (globals.MakeStrong k i p ∷ g)) o (names_none (globals.after_making m n (globals.MakeStrong k i p ∷ g)) (globals.weak g m n) none)
+      some
 
-  weak_made : (maker : Tid) (k p o : ℕ) (b : Bool) → globals.is_same m n maker.0 k ≡ b → named_after (globals.MakeWeak maker.0 k p ∷ g) ≡ Some o → HandsWeak m n (Reference (To Weak maker k))
+  weak_made : (maker : Tid) (k p o : ℕ) (b : Bool) → globals.is_same m n maker.0 k ≡ b → named_after (globals.MakeWeak maker.0 k p ∷ g) ≡ Some o
+      → HandsWeak m n (Reference (To Weak maker k))
   weak_made maker k p o true same some = (maker, (k, (grind (arith, nat_tests, same), (grind (arith, nat_tests, same), refl))))
   weak_made maker k p o false other some =
       let e = globals.MakeWeak maker.0 k p ∷ g in

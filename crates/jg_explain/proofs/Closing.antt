@@ -45,7 +45,8 @@ module _ (m n : ℕ) where
   abbrev IsOver : Parts → Type 0
   IsOver p = (opened p.buffers m n ≡ None) × IsGiven p
 
-  given_quiet : (p : Parts) (u : ℕ) (a : threads.Act) → threads.is_count_buffer a ≡ false → IsGiven p → IsGiven (record p { threads = threads.by u a ∷ p.threads })
+  given_quiet : (p : Parts) (u : ℕ) (a : threads.Act) → threads.is_count_buffer a ≡ false → IsGiven p
+      → IsGiven (record p { threads = threads.by u a ∷ p.threads })
   given_quiet p u a is old = subst (λ (k : ℕ). n < k) (sym (ap (λ k. k + 1) (buffers_same p.threads u a is m))) old
 
   given_more : (p : Parts) (u : ℕ) → IsGiven p → IsGiven (record p { threads = threads.by u threads.CountBuffer ∷ p.threads })
@@ -132,7 +133,8 @@ module _ (m n : ℕ) where
   }
 
 -- from the oldest part on: it was open, and then not; then it is never open again
-pub closes_once : (s : StatedSetup) (newest later first : List Entry) (m n : ℕ) (b : Buffer) → Legal s (newest ++ (later ++ first)) → opened (parts s first).buffers m n ≡ Some b
+pub closes_once : (s : StatedSetup) (newest later first : List Entry) (m n : ℕ) (b : Buffer) → Legal s (newest ++ (later ++ first))
+    → opened (parts s first).buffers m n ≡ Some b
     → opened (parts s (later ++ first)).buffers m n ≡ None → opened (parts s (newest ++ (later ++ first))).buffers m n ≡ None
 closes_once s newest later first m n b legal some none =
     let until = Legal-before s newest (later ++ first) legal in

@@ -41,7 +41,8 @@ once_of s (InNative t) is h legal = absurd cc
 once_of s (IsLinked class native) is h legal = absurd cc
 
 -- a number that was given stays given
-still_given : (s : StatedSetup) (c : Condition) → comes_once c ≡ true → (newer h : List Entry) → Legal s (newer ++ h) → given_in (parts s h) c ≡ true → given_in (parts s (newer ++ h)) c ≡ true
+still_given : (s : StatedSetup) (c : Condition) → comes_once c ≡ true → (newer h : List Entry) → Legal s (newer ++ h) → given_in (parts s h) c ≡ true
+    → given_in (parts s (newer ++ h)) c ≡ true
 still_given s (Names t (To kind maker n)) is newer h legal given = ref_still_given s newer h maker.0 n legal given
 still_given s (NamesObject t (To kind maker n)) is newer h legal given = ref_still_given s newer h maker.0 n legal given
 still_given s (IsOpen b) is newer h legal given = buffer_still_given s newer h b.maker.0 b.n legal given
@@ -60,7 +61,8 @@ still_given s (IsLinked class native) is newer h legal given = absurd cc
 Numbered : StatedSetup → Condition → List Entry → Entry → Type 0
 Numbered s c h x = (given_in (parts s h) c ≡ false) × (given_in (parts s (x ∷ h)) c ≡ true)
 
-numbered : (s : StatedSetup) (c : Condition) → comes_once c ≡ true → (h : List Entry) (x : Entry) → Legal s (x ∷ h) → after s c h ≡ false → after s c (x ∷ h) ≡ true → Numbered s c h x
+numbered : (s : StatedSetup) (c : Condition) → comes_once c ≡ true → (h : List Entry) (x : Entry) → Legal s (x ∷ h) → after s c h ≡ false
+    → after s c (x ∷ h) ≡ true → Numbered s c h x
 unfolding Numbered
 numbered s (Names t (To kind maker n)) is h x legal lacked held =
     ref_numbered s h x kind maker n legal (made_by_its_answer s [] x h t (To kind maker n) legal lacked held)
@@ -127,7 +129,8 @@ module _ (s : StatedSetup) (h : List Entry) (legal : Legal s h) (c : Condition) 
   pub ungiven : (n : ℕ) → n ≤ length h → was_given s c h n ≡ false → turns_before s c h n ≡ still
   ungiven n within none =
       (unmade (after s c) h once n within (λ i below lacked. lacks_if i
-      (λ held. clash (was_given s c h n) (given_later (i + 1) n (omega (arith, below)) within (given_there i (omega (arith, below, within)) lacked held).1) none))).1
+      (λ held. clash (was_given s c h n) (given_later (i + 1) n (omega (arith, below)) within (given_there i (omega (arith, below, within)) lacked held).1)
+          none))).1
 
   -- nor ever, where its number was given to something else
   pub given_away : (g n : ℕ) → g < n → n ≤ length h → GaveOther s h c g → turns_before s c h n ≡ still
@@ -143,8 +146,10 @@ module _ (s : StatedSetup) (h : List Entry) (legal : Legal s h) (c : Condition) 
             | inr (inr high) ↦ clash (was_given s c h i) (given_later (g + 1) i (omega (arith, high)) (omega (arith, below, within)) gave.after) there.0
           ]
 
-  pub since_made : (a n : ℕ) → a < n → n ≤ length h → Was s h c false true a → was s c h n ≡ true → turns_before s c h n ≡ record { latest = Some a; earlier = None }
+  pub since_made : (a n : ℕ) → a < n → n ≤ length h → Was s h c false true a → was s c h n ≡ true
+      → turns_before s c h n ≡ record { latest = Some a; earlier = None }
   since_made a n before within made held = holding (after s c) h once a n before within made.before made.after held
 
-  pub since_ended : (a b n : ℕ) → a < b → b < n → n ≤ length h → Was s h c false true a → Was s h c true false b → turns_before s c h n ≡ record { latest = Some b; earlier = Some a }
+  pub since_ended : (a b n : ℕ) → a < b → b < n → n ≤ length h → Was s h c false true a → Was s h c true false b
+      → turns_before s c h n ≡ record { latest = Some b; earlier = Some a }
   since_ended a b n first last within made ended = over_now (after s c) h once a b n first last within made.before made.after ended.before ended.after

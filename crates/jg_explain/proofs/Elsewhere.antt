@@ -45,7 +45,8 @@ moves_none s p t (Arrays call) is = refl
 moves_none s p t (Monitors call) is = absurd cc
 moves_none s p t (Buffers call) is = refl
 
-monitors_kept : (s : StatedSetup) (p : Parts) (t : ℕ) (call : Call) (o : Outcome) (object : Option ObjId) → moves_monitors call ≡ false → (after s t call o object p).monitors ≡ p.monitors
+monitors_kept : (s : StatedSetup) (p : Parts) (t : ℕ) (call : Call) (o : Outcome) (object : Option ObjId) → moves_monitors call ≡ false
+    → (after s t call o object p).monitors ≡ p.monitors
 monitors_kept s p t call (Denied rule) object is = refl
 monitors_kept s p t call (Passed reply) object is =
     ap (λ acts. map (monitors.by t) (if_effective (is_effective reply.value) acts) ++ p.monitors) (moves_none s p t call is)
@@ -87,7 +88,8 @@ links_kept s p t call (Passed reply) object class native is =
 differs : (t u : ℕ) → (t == u) ≡ false → t ≢ u
 differs t u is = grind (arith, nat_tests, is)
 
-kept : (s : StatedSetup) (p : Parts) (u : ℕ) (call : Call) (o : Outcome) (object : Option ObjId) (c : Condition) → may_turn c u call ≡ false → holds (after s u call o object p) c ≡ holds p c
+kept : (s : StatedSetup) (p : Parts) (u : ℕ) (call : Call) (o : Outcome) (object : Option ObjId) (c : Condition) → may_turn c u call ≡ false
+    → holds (after s u call o object p) c ≡ holds p c
 kept s p u call o object (IsAttached t) is = others_keep s p u call o object t (IsAttached t) refl (differs t.0 u is)
 kept s p u call o object (IsPresent env) is = others_keep s p u call o object env.tid (IsPresent env) refl (differs env.tid.0 u is)
 kept s p u call o object (HasPending t) is = others_keep s p u call o object t (HasPending t) refl (differs t.0 u is)
@@ -100,7 +102,8 @@ kept s p u call o object (Names t r) is = absurd cc
 kept s p u call o object (NamesObject t r) is = absurd cc
 kept s p u call o object (IsOpen b) is = absurd cc
 
-at_outcome : (s : StatedSetup) (p : Parts) (u : ℕ) (call : Call) (o : Outcome) (object : Option ObjId) (c : Condition) → turns_by o c u call ≡ false → holds (after s u call o object p) c ≡ holds p c
+at_outcome : (s : StatedSetup) (p : Parts) (u : ℕ) (call : Call) (o : Outcome) (object : Option ObjId) (c : Condition) → turns_by o c u call ≡ false
+    → holds (after s u call o object p) c ≡ holds p c
 at_outcome s p u call (Denied rule) object c is = refl
 at_outcome s p u call (Passed reply) object c is = kept s p u call (Passed reply) object c is
 

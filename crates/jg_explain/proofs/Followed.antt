@@ -18,5 +18,6 @@ all_through P len items lent new long is same all =
     let whole = long ∙ sym (same ∙ ap length is) in
     subst (All P) (sym (ap (λ n. take n (new ++ drop (length new) items)) whole ∙ take-append_seam new (drop (length new) items))) all
 
-pub steady_begun : (whole again : State) (c : Condition) → IsFront whole again 0 → IsSteady whole.setup whole.journal 0 (begun_steady again.setup again.journal c)
+pub steady_begun : (whole again : State) (c : Condition) → IsFront whole again 0
+    → IsSteady whole.setup whole.journal 0 (begun_steady again.setup again.journal c)
 steady_begun whole again c front = record { holds = after_front whole again c 0 front; turns = refl }

@@ -16,7 +16,8 @@ use Rattle.jg_breaches.specs.declared.condition.Condition.{Condition}
 use Rattle.jg_explain.specs.Explained.{IsFront, after, was}
 
 -- the entry's call, made again after the entries before it, makes the entry again
-pub one_more : (whole old new : State) (place : ℕ) (x : Entry) (outcome : Outcome) → Legal whole.setup whole.journal → IsFront whole old place → slice_get (reverse whole.journal) place ≡ Some x
+pub one_more : (whole old new : State) (place : ℕ) (x : Entry) (outcome : Outcome) → Legal whole.setup whole.journal → IsFront whole old place
+    → slice_get (reverse whole.journal) place ≡ Some x
     → Takes old new x.tid x.env x.call outcome → IsFront whole new (place + 1)
 one_more whole old new place x outcome legal front at takes =
     let before : List Entry = oldest place whole.journal in
@@ -31,8 +32,10 @@ one_more whole old new place x outcome legal front at takes =
     }
 
 -- the same where its parts are given with what they are
-pub one_more_of : (whole old new : State) (place : ℕ) (x : Entry) (t : Tid) (env : Option EnvId) (call : Call) (outcome : Outcome) → t ≡ x.tid → env ≡ x.env → call ≡ x.call
-    → Legal whole.setup whole.journal → IsFront whole old place → slice_get (reverse whole.journal) place ≡ Some x → Takes old new t env call outcome → IsFront whole new (place + 1)
+pub one_more_of : (whole old new : State) (place : ℕ) (x : Entry) (t : Tid) (env : Option EnvId) (call : Call) (outcome : Outcome) → t ≡ x.tid → env ≡ x.env
+    → call ≡ x.call
+    → Legal whole.setup whole.journal → IsFront whole old place → slice_get (reverse whole.journal) place ≡ Some x → Takes old new t env call outcome
+    → IsFront whole new (place + 1)
 one_more_of whole old new place x t env call outcome is_tid is_env is_call legal front at takes =
     one_more whole old new place x outcome legal front at
     (subst (λ (a : Call). Takes old new x.tid x.env a outcome) is_call

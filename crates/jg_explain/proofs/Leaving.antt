@@ -13,7 +13,8 @@ use Rattle.jg_explain.specs.Left.{known_left, presence, watch_of}
 use Rattle.jg_explain.specs.Watched.{watched}
 
 -- what is written through a slice of all items of a vector are its items then
-pub through : (f : Watch → Watch) (len : ℕ) (items lent new : List Watch) → len ≡ length items → lent ≡ items → new ≡ map f lent → take len (new ++ drop (length new) items) ≡ map f items
+pub through : (f : Watch → Watch) (len : ℕ) (items lent new : List Watch) → len ≡ length items → lent ≡ items → new ≡ map f lent
+    → take len (new ++ drop (length new) items) ≡ map f items
 through f len items lent new long is done =
     let same : len ≡ length new = long ∙ sym (ap length done ∙ length-map lent f ∙ ap length is) in
     ap (λ n. take n (new ++ drop (length new) items)) same ∙ take-append_seam new (drop (length new) items) ∙ done ∙ ap (map f) is
@@ -27,7 +28,9 @@ module _ (s : StatedSetup) (journal : List Entry) where
   to_the_end n [] = refl
   to_the_end n (x ∷ xs) =
       let same : min n n ≡ n = omega arith in
-      ap (λ i. at_place n (presence x) i ∷ map (watched s journal n) (map (watch_of n) xs)) same ∙ ap (λ l. known s journal n (presence x) ∷ l) (to_the_end n xs)
+      ap (λ i. at_place n (presence x) i ∷ map (watched s journal n) (map (watch_of n) xs)) same
+          ∙ ap (λ l. known s journal n (presence x) ∷ l) (to_the_end n xs)
 
-pub all_left_known : (s : StatedSetup) (journal : List Entry) (n : ℕ) → n ≡ length journal → (xs : List Left) → map (watched s journal n) (map (watch_of n) xs) ≡ map (known_left s journal) xs
+pub all_left_known : (s : StatedSetup) (journal : List Entry) (n : ℕ) → n ≡ length journal → (xs : List Left)
+    → map (watched s journal n) (map (watch_of n) xs) ≡ map (known_left s journal) xs
 all_left_known s journal n is xs = to_the_end s journal n xs ∙ ap (λ k. map (λ x. known s journal k (presence x)) xs) is

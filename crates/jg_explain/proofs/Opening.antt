@@ -55,14 +55,16 @@ module _ (s : StatedSetup) (p : Parts) (t : Tid) (m n : ℕ) (b : Buffer) (none 
   silent : (call : Call) → opens_one (call_buffers s p t.0 call) ≡ false → opened (now call) m n ≡ Some b → LendsIt call
   silent call none_opened some =
       let e = if_effective (is_effective (answer s p t call).reply.value) (call_buffers s p t.0 call) in
-      absurd (clash (opened (now call) m n) b (closed_still m n e p.buffers (opens_none_if (is_effective (answer s p t call).reply.value) (call_buffers s p t.0 call) none_opened) none) some)
+      absurd (clash (opened (now call) m n) b
+          (closed_still m n e p.buffers (opens_none_if (is_effective (answer s p t call).reply.value) (call_buffers s p t.0 call) none_opened) none) some)
 
   by_number : (k : Bool) → is_same m n t.0 (next_buffer p t.0) ≡ k → (c : Buffer) → (if k then Some c else opened p.buffers m n) ≡ Some b
       → buffer_in (Lent (record { maker = t; n = next_buffer p t.0 })) ≡ Some (record { maker = record { 0 = m }; n = n })
   by_number true same c some =
       let maker : t.0 ≡ m = grind (arith, nat_tests, same) in
       let number : next_buffer p t.0 ≡ n = grind (arith, nat_tests, same) in
-      ap (λ (k : ℕ). Some (record { maker = record { 0 = k }; n = next_buffer p t.0 })) maker ∙ ap (λ (k : ℕ). Some (record { maker = record { 0 = m }; n = k })) number
+      ap (λ (k : ℕ). Some (record { maker = record { 0 = k }; n = next_buffer p t.0 })) maker
+          ∙ ap (λ (k : ℕ). Some (record { maker = record { 0 = m }; n = k })) number
   by_number false other c some = absurd (clash (opened p.buffers m n) b none some)
 
   by_buffers : (call : BuffersCall) → opened (now (Buffers call)) m n ≡ Some b → LendsIt (Buffers call)
@@ -90,8 +92,10 @@ module _ (s : StatedSetup) (p : Parts) (t : Tid) (m n : ℕ) (b : Buffer) (none 
   by_call (Monitors call) some = silent (Monitors call) refl some
   by_call (Buffers call) some = by_buffers call some
 
-by_verdict : (s : StatedSetup) (p : Parts) (u : Tid) (env : Option EnvId) (call : Call) (m n : ℕ) (b : Buffer) (verdict : Option Rule) (y : Entry) → y ≡ entry_by verdict (answer s p u call) u env call
-    → opened p.buffers m n ≡ None → opened (after s y.tid.0 y.call y.outcome y.object p).buffers m n ≡ Some b → buffer_of y.outcome ≡ Some (record { maker = record { 0 = m }; n = n })
+by_verdict : (s : StatedSetup) (p : Parts) (u : Tid) (env : Option EnvId) (call : Call) (m n : ℕ) (b : Buffer) (verdict : Option Rule) (y : Entry)
+    → y ≡ entry_by verdict (answer s p u call) u env call
+    → opened p.buffers m n ≡ None → opened (after s y.tid.0 y.call y.outcome y.object p).buffers m n ≡ Some b
+    → buffer_of y.outcome ≡ Some (record { maker = record { 0 = m }; n = n })
 by_verdict s p u env call m n b (Some rule) y is none some =
     absurd (clash (opened p.buffers m n) b none (sym (ap (λ (x : Entry). opened (after s x.tid.0 x.call x.outcome x.object p).buffers m n) is) ∙ some))
 by_verdict s p u env call m n b None y is none some =

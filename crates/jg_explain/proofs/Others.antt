@@ -18,13 +18,15 @@ use Rattle.jg_breaches.specs.declared.condition.Condition.TheVariants.{IsAttache
 use Rattle.jg_breaches.specs.Conditions.{holds}
 
 -- what another thread's call does, in the acts of t
-threads_kept : (s : StatedSetup) (p : Parts) (t u : ℕ) (call : Call) (o : Outcome) (object : Option ObjId) → t ≢ u → threads.acts_of t (after s u call o object p).threads ≡ threads.acts_of t p.threads
+threads_kept : (s : StatedSetup) (p : Parts) (t u : ℕ) (call : Call) (o : Outcome) (object : Option ObjId) → t ≢ u
+    → threads.acts_of t (after s u call o object p).threads ≡ threads.acts_of t p.threads
 threads_kept s p t u call (Denied rule) object differ = refl
 threads_kept s p t u call (Passed reply) object differ =
     let own = if_effective (is_effective reply.value) (call_threads s p u call) in
     acts_others t u (value_threads reply.value object) (map (threads.by u) own ++ p.threads) differ ∙ acts_others t u own p.threads differ
 
-locals_kept : (s : StatedSetup) (p : Parts) (t u : ℕ) (call : Call) (o : Outcome) (object : Option ObjId) → t ≢ u → locals.acts_of t (after s u call o object p).locals ≡ locals.acts_of t p.locals
+locals_kept : (s : StatedSetup) (p : Parts) (t u : ℕ) (call : Call) (o : Outcome) (object : Option ObjId) → t ≢ u
+    → locals.acts_of t (after s u call o object p).locals ≡ locals.acts_of t p.locals
 locals_kept s p t u call (Denied rule) object differ = refl
 locals_kept s p t u call (Passed reply) object differ =
     let own = if_effective (is_effective reply.value) (call_locals s p u call) in
@@ -42,7 +44,8 @@ thread_of c = None
 tid_of : (t u : Tid) (v : ℕ) → Some t ≡ Some u → u.0 ≢ v → t.0 ≢ v
 tid_of t u v same differ is = differ (sym (ap (λ (x : Tid). x.0) (same_Some t u same)) ∙ is)
 
-pub others_keep : (s : StatedSetup) (p : Parts) (u : ℕ) (call : Call) (o : Outcome) (object : Option ObjId) (t : Tid) (c : Condition) → thread_of c ≡ Some t → t.0 ≢ u
+pub others_keep : (s : StatedSetup) (p : Parts) (u : ℕ) (call : Call) (o : Outcome) (object : Option ObjId) (t : Tid) (c : Condition) → thread_of c ≡ Some t
+    → t.0 ≢ u
     → holds (after s u call o object p) c ≡ holds p c
 others_keep s p u call o object t (IsAttached v) of differ = rw (threads_kept s p v.0 u call o object (tid_of v t u of differ)) refl
 others_keep s p u call o object t (IsPresent env) of differ = rw (threads_kept s p env.tid.0 u call o object (tid_of env.tid t u of differ)) refl

@@ -64,7 +64,8 @@ module _ (s : StatedSetup) (h : List Entry) (told : List Cause) (i : ℕ) (c : C
         known.told_is ∙ ap (λ l. l ++ explanation_text s h d.place d.rule d.breach own) known.so_far ∙ ap (λ l. start ++ before ++ l) text
         ∙ append_assoc start before (cause_text s h c) ∙ ap (λ l. start ++ l) (sym text_to)
 
-pub one_told : (s : StatedSetup) (h : List Entry) (told : List Cause) (denials : List Denial) (i : ℕ) (d : Denial) (rest own later : List Watch) (start old new : List ℕ)
+pub one_told : (s : StatedSetup) (h : List Entry) (told : List Cause) (denials : List Denial) (i : ℕ) (d : Denial) (rest own later : List Watch)
+    (start old new : List ℕ)
     → i < length denials → denials ≡ map denial_of told → d ≡ get_or denials i d → rest ≡ flat_map (all_known s h) (drop i told)
     → own ≡ take (min d.asked (length rest)) rest → later ≡ drop (min d.asked (length rest)) rest → old ≡ start ++ flat_map (cause_text s h) (take i told)
     → new ≡ old ++ explanation_text s h d.place d.rule d.breach own
@@ -83,6 +84,7 @@ one_told s h told denials i d rest own later start old new below are item rest_i
             so_far = so_far;
             told_is = told_is;
           } in
-          (later_are s h told i c found.1 found.3 d rest own later start old new known, new_is s h told i c found.1 found.3 d rest own later start old new known)
+          (later_are s h told i c found.1 found.3 d rest own later start old new known, new_is s h told i c found.1 found.3 d rest own later start old new
+              known)
       | inr past ↦ absurd (omega (arith, past.0, below, long))
     ]

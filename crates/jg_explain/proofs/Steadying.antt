@@ -26,7 +26,8 @@ module _ (s : StatedSetup) (h : List Entry) (n : ℕ) (x : Entry) (below : n < l
     turns = one_turn s c.condition h n c.holds (was s c.condition h (n + 1)) c.turns _ below old.holds refl old.turns refl;
   }
   by_test c false cannot old =
-      let still : was s c.condition h (n + 1) ≡ was s c.condition h n = ap (after s c.condition) (oldest_more h n x at) ∙ unturned s (oldest n h) x c.condition cannot in
+      let still : was s c.condition h (n + 1) ≡ was s c.condition h n =
+          ap (after s c.condition) (oldest_more h n x at) ∙ unturned s (oldest n h) x c.condition cannot in
       record {
         holds = old.holds ∙ sym still;
         turns = old.turns ∙ sym (turns_more (after s c.condition) h n below
@@ -36,4 +37,5 @@ module _ (s : StatedSetup) (h : List Entry) (n : ℕ) (x : Entry) (below : n < l
   pub all_asked_steady : (cs : List Steady) → All (IsSteady s h n) cs → All (IsSteady s h (n + 1)) (map (asked_steady s (as_it_was (n + 1) h) x n) cs)
   all_asked_steady cs old =
       All-map (IsSteady s h (n + 1)) (asked_steady s (as_it_was (n + 1) h) x n) cs
-      (All-weaker (IsSteady s h n) (λ c. IsSteady s h (n + 1) (asked_steady s (as_it_was (n + 1) h) x n c)) (λ c is. by_test c (can_turn c.condition x) refl is) cs old)
+      (All-weaker (IsSteady s h n) (λ c. IsSteady s h (n + 1) (asked_steady s (as_it_was (n + 1) h) x n c)) (λ c is. by_test c (can_turn c.condition x) refl is)
+          cs old)

@@ -28,7 +28,8 @@ turns_more test h n below =
     ]
 
 -- what was found of the entries before that place, and then of one entry more
-pub one_turn : (s : StatedSetup) (f : Condition) (h : List Entry) (n : ℕ) (before now : Bool) (ts us : Turns) → n < length h → before ≡ was s f h n → now ≡ was s f h (n + 1)
+pub one_turn : (s : StatedSetup) (f : Condition) (h : List Entry) (n : ℕ) (before now : Bool) (ts us : Turns) → n < length h → before ≡ was s f h n
+    → now ≡ was s f h (n + 1)
     → ts ≡ turns_before s f h n → us ≡ turned (same before now) n ts → us ≡ turns_before s f h (n + 1)
 one_turn s f h n before now ts us below was_before is_now turns_then turned_now =
     turned_now ∙ ap (λ b. turned (same b now) n ts) was_before ∙ ap (λ b. turned (same (was s f h n) b) n ts) is_now

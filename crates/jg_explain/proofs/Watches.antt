@@ -15,7 +15,8 @@ use Rattle.jg_explain.specs.Watched.{watched, asked_if, asked_at}
 use Rattle.jg_explain.proofs.Turning.{turns_more}
 
 -- a loop that writes f of each element over it: one element more
-pub written_more : {X : Type 0} (f : X → X) (xs ys : List X) (i : ℕ) (d y : X) → i < length xs → length ys ≡ length xs → ys ≡ map f (take i xs) ++ drop i xs → y ≡ f (get_or ys i d)
+pub written_more : {X : Type 0} (f : X → X) (xs ys : List X) (i : ℕ) (d y : X) → i < length xs → length ys ≡ length xs → ys ≡ map f (take i xs) ++ drop i xs
+    → y ≡ f (get_or ys i d)
     → set ys i y ≡ map f (take (i + 1) xs) ++ drop (i + 1) xs
 written_more f xs ys i d y below long so_far is =
     let inside : i < length ys = omega (arith, below, long) in

@@ -13,11 +13,13 @@ line_added (Ok _) old words ended written = (words, written ∙ ap (λ it. old +
 line_added (Err _) old words ended written = tt
 
 -- a position, words and a line feed, written one after the other
-pub at_added : {T E : Type 0} (r : Result T E) (front words old : List ℕ) {middle more new : List ℕ} → middle ≡ old ++ position_text front → more ≡ middle ++ words
+pub at_added : {T E : Type 0} (r : Result T E) (front words old : List ℕ) {middle more new : List ℕ} → middle ≡ old ++ position_text front
+    → more ≡ middle ++ words
     → new ≡ (if is_ok r then more ++ codes "\n" else more) → OnOk r (AddsAt front words old new)
 at_added (Err _) front words old first second last = tt
 at_added (Ok _) front words old first second last =
-    last ∙ ap (λ it. it ++ codes "\n") (second ∙ ap (λ it. it ++ words) first ∙ append_assoc old (position_text front) words) ∙ append_assoc old (position_text front ++ words) (codes "\n")
+    last ∙ ap (λ it. it ++ codes "\n") (second ∙ ap (λ it. it ++ words) first ∙ append_assoc old (position_text front) words)
+        ∙ append_assoc old (position_text front ++ words) (codes "\n")
 
 pub position_is : (front : List ℕ) (line column : ℕ) → line ≡ line_behind front → column ≡ column_behind front
     → codes "line " ++ decimal line ++ codes ", column " ++ decimal column ++ codes ": " ≡ position_text front

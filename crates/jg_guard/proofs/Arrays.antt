@@ -49,19 +49,23 @@ is_primitive Long = (omega arith, omega arith)
 
 -- ---- the array
 
-pub primitive_there : (s : StatedSetup) (rows : TableRows) (p : Parts) (element : Primitive) (named : Named) → TablesStand s rows p → (is_nothing named || false) ≡ false
+pub primitive_there : (s : StatedSetup) (rows : TableRows) (p : Parts) (element : Primitive) (named : Named) → TablesStand s rows p
+    → (is_nothing named || false) ≡ false
     → ((true && is_null named) || false) ≡ false → (is_wrong s p (ArrayOf element) named || false) ≡ false
     → IsThere s rows p (unwrap_or (object_in named) 0) (array_class element)
 primitive_there s rows p element named stand alive there right =
     is_there s rows p (unwrap_or (object_in named) 0) (array_class element) stand
-    (eqb-true (class_of s p (unwrap_or (object_in named) 0)) (array_class element) (first_is_of s p (ArrayOf element) named false false false alive there right)) (other_class element)
+    (eqb-true (class_of s p (unwrap_or (object_in named) 0)) (array_class element)
+        (first_is_of s p (ArrayOf element) named false false false alive there right)) (other_class element)
 
-pub get_region_due : (s : StatedSetup) (rows : TableRows) (t : ℕ) (element : Primitive) (r : Ref) (start n : ℤ) (due : IsDue s rows t (Arrays (GetArrayRegion element r start n)))
+pub get_region_due : (s : StatedSetup) (rows : TableRows) (t : ℕ) (element : Primitive) (r : Ref) (start n : ℤ)
+    (due : IsDue s rows t (Arrays (GetArrayRegion element r start n)))
     → IsThere s rows due.events (the_object due.events t r) (array_class element)
 get_region_due s rows t element r start n due =
     primitive_there s rows due.events element (names due.events t r) due.stand due.unbroken.alive due.unbroken.not_null due.unbroken.right_type
 
-pub set_region_due : (s : StatedSetup) (rows : TableRows) (t : ℕ) (element : Primitive) (r : Ref) (start : ℤ) (values : List ℤ) (due : IsDue s rows t (Arrays (SetArrayRegion element r start values)))
+pub set_region_due : (s : StatedSetup) (rows : TableRows) (t : ℕ) (element : Primitive) (r : Ref) (start : ℤ) (values : List ℤ)
+    (due : IsDue s rows t (Arrays (SetArrayRegion element r start values)))
     → IsThere s rows due.events (the_object due.events t r) (array_class element)
 set_region_due s rows t element r start values due =
     primitive_there s rows due.events element (names due.events t r) due.stand due.unbroken.alive due.unbroken.not_null due.unbroken.right_type
@@ -78,14 +82,16 @@ pub get_element_due : (s : StatedSetup) (rows : TableRows) (t : ℕ) (r : Ref) (
 get_element_due s rows t r index due =
     objects_there s rows due.events (names due.events t r) false false false due.stand due.unbroken.alive due.unbroken.not_null due.unbroken.right_type
 
-pub set_element_due : (s : StatedSetup) (rows : TableRows) (t : ℕ) (r : Ref) (index : ℤ) (value : Ref) (due : IsDue s rows t (Arrays (SetObjectArrayElement r index value)))
+pub set_element_due : (s : StatedSetup) (rows : TableRows) (t : ℕ) (r : Ref) (index : ℤ) (value : Ref)
+    (due : IsDue s rows t (Arrays (SetObjectArrayElement r index value)))
     → IsThere s rows due.events (the_object due.events t r) 3
 set_element_due s rows t r index value due =
     objects_there s rows due.events (names due.events t r) _ _ _ due.stand due.unbroken.alive due.unbroken.not_null due.unbroken.right_type
 
 -- ---- the region
 
-within_if : (a b c : Bool) (start n : ℤ) (whole : ℕ) → nat_lt whole (natural start + natural n) ≡ c → (a || (b || c)) ≡ false → natural start + natural n ≤ whole
+within_if : (a b c : Bool) (start n : ℤ) (whole : ℕ) → nat_lt whole (natural start + natural n) ≡ c → (a || (b || c)) ≡ false
+    → natural start + natural n ≤ whole
 within_if true b c start n whole is inside = absurd cc
 within_if false true c start n whole is inside = absurd cc
 within_if false false true start n whole is inside = absurd cc
@@ -107,10 +113,12 @@ remade (Some o) = refl
 
 -- ---- the same events
 
-pub wrote_at : (rows : Rows) (e : List Event) (o o' j j' : ℕ) (v v' : Slot) → o ≡ o' → j ≡ j' → v ≡ v' → Stands rows (Wrote o j v ∷ e) → Stands rows (Wrote o' j' v' ∷ e)
+pub wrote_at : (rows : Rows) (e : List Event) (o o' j j' : ℕ) (v v' : Slot) → o ≡ o' → j ≡ j' → v ≡ v' → Stands rows (Wrote o j v ∷ e)
+    → Stands rows (Wrote o' j' v' ∷ e)
 wrote_at rows e o o' j j' v v' object place value stands = rw (sym object, sym place, sym value) stands
 
-pub filled_at : (rows : Rows) (e : List Event) (n n' : ℕ) (v v' : Slot) → n ≡ n' → v ≡ v' → Stands rows (Made (Filled 3 n v) ∷ e) → Stands rows (Made (Filled 3 n' v') ∷ e)
+pub filled_at : (rows : Rows) (e : List Event) (n n' : ℕ) (v v' : Slot) → n ≡ n' → v ≡ v' → Stands rows (Made (Filled 3 n v) ∷ e)
+    → Stands rows (Made (Filled 3 n' v') ∷ e)
 filled_at rows e n n' v v' size value stands = rw (sym size, sym value) stands
 
 -- what a place is made to hold, as the code has it

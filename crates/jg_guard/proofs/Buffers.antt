@@ -44,21 +44,28 @@ use Rattle.jg_guard.proofs.Arrays.{primitive_there}
 
 pub elements_there : (s : StatedSetup) (rows : TableRows) (t : ℕ) (element : Primitive) (r : Ref) (due : IsDue s rows t (Buffers (GetArrayElements element r)))
     → IsThere s rows due.events (the_object due.events t r) (array_class element)
-elements_there s rows t element r due = primitive_there s rows due.events element (names due.events t r) due.stand due.unbroken.alive due.unbroken.not_null due.unbroken.right_type
+elements_there s rows t element r due =
+    primitive_there s rows due.events element (names due.events t r) due.stand due.unbroken.alive due.unbroken.not_null due.unbroken.right_type
 
-pub released_there : (s : StatedSetup) (rows : TableRows) (t : ℕ) (element : Primitive) (r : Ref) (b : BufId) (mode : ℤ) (due : IsDue s rows t (Buffers (ReleaseArrayElements element r b mode)))
+pub released_there : (s : StatedSetup) (rows : TableRows) (t : ℕ) (element : Primitive) (r : Ref) (b : BufId) (mode : ℤ)
+    (due : IsDue s rows t (Buffers (ReleaseArrayElements element r b mode)))
     → IsThere s rows due.events (the_object due.events t r) (array_class element)
-released_there s rows t element r b mode due = primitive_there s rows due.events element (names due.events t r) due.stand due.unbroken.alive due.unbroken.not_null due.unbroken.right_type
+released_there s rows t element r b mode due =
+    primitive_there s rows due.events element (names due.events t r) due.stand due.unbroken.alive due.unbroken.not_null due.unbroken.right_type
 
-pub string_made : (s : StatedSetup) (rows : TableRows) (p : Parts) (named : Named) → TablesStand s rows p → (is_nothing named || false) ≡ false → ((true && is_null_named named) || false) ≡ false
+pub string_made : (s : StatedSetup) (rows : TableRows) (p : Parts) (named : Named) → TablesStand s rows p → (is_nothing named || false) ≡ false
+    → ((true && is_null_named named) || false) ≡ false
     → (is_wrong s p StringObject named || false) ≡ false → unwrap_or (object_in named) 0 < count_in rows.heap
-string_made s rows p named stand alive there right = made_there s rows p (unwrap_or (object_in named) 0) stand (omega (arith, is_string s p named alive there right))
+string_made s rows p named stand alive there right =
+    made_there s rows p (unwrap_or (object_in named) 0) stand (omega (arith, is_string s p named alive there right))
 
-pub array_made : (s : StatedSetup) (rows : TableRows) (p : Parts) (named : Named) → TablesStand s rows p → (is_nothing named || false) ≡ false → ((true && is_null_named named) || false) ≡ false
+pub array_made : (s : StatedSetup) (rows : TableRows) (p : Parts) (named : Named) → TablesStand s rows p → (is_nothing named || false) ≡ false
+    → ((true && is_null_named named) || false) ≡ false
     → (is_wrong s p PrimitiveArray named || false) ≡ false → unwrap_or (object_in named) 0 < count_in rows.heap
 array_made s rows p named stand alive there right =
     let o : ℕ = unwrap_or (object_in named) 0 in
-    let is = within (nat_le 4 (class_of s p o)) (nat_le (class_of s p o) 9) (class_of s p o) refl refl (first_is_of s p PrimitiveArray named false false false alive there right) in
+    let is = within (nat_le 4 (class_of s p o)) (nat_le (class_of s p o) 9) (class_of s p o) refl refl
+        (first_is_of s p PrimitiveArray named false false false alive there right) in
     made_there s rows p o stand (omega (arith, is.0))
 
 -- a reference that names an object isn't null
@@ -77,7 +84,8 @@ pub record OpenAs (p : Parts) (b : BufId) (info : Info) : Type 0 where
 one_info : (a b : Info) → Some a ≡ Some b → a ≡ b
 one_info a b is = cc
 
-open_if : (p : Parts) (b : BufId) (info : Info) (found : Option Buffer) → opened p.buffers b.maker.0 b.n ≡ found → option_map info_of found ≡ Some info → OpenAs p b info
+open_if : (p : Parts) (b : BufId) (info : Info) (found : Option Buffer) → opened p.buffers b.maker.0 b.n ≡ found → option_map info_of found ≡ Some info
+    → OpenAs p b info
 open_if p b info None is told = absurd cc
 open_if p b info (Some x) is told = record { buffer = x; is_open = is; told = one_info (info_of x) info told }
 
@@ -93,13 +101,15 @@ place_within : (index : ℤ) (n : ℕ) → is_place index n ≡ true → natural
 place_within index n is = place_if (int_le (pos 0) index) (nat_lt (natural index) n) index n refl is
 
 -- a place that is read is one of the buffer's
-pub read_within : (s : StatedSetup) (rows : TableRows) (t : ℕ) (b : BufId) (index : ℤ) (info : Info) (due : IsDue s rows t (Buffers (BufferRead b index))) → buffer_named due.events b ≡ Some info
+pub read_within : (s : StatedSetup) (rows : TableRows) (t : ℕ) (b : BufId) (index : ℤ) (info : Info) (due : IsDue s rows t (Buffers (BufferRead b index)))
+    → buffer_named due.events b ≡ Some info
     → natural index < info.length
 read_within s rows t b index info due is =
     let told : not (is_place index info.length) ≡ false = subst (λ (found : Option Info). is_outside_of index found ≡ false) is due.unbroken.right_argument in
     place_within index info.length (not-false (is_place index info.length) told)
 
-pub written_within : (s : StatedSetup) (rows : TableRows) (t : ℕ) (b : BufId) (index value : ℤ) (info : Info) (due : IsDue s rows t (Buffers (BufferWrite b index value)))
+pub written_within : (s : StatedSetup) (rows : TableRows) (t : ℕ) (b : BufId) (index value : ℤ) (info : Info)
+    (due : IsDue s rows t (Buffers (BufferWrite b index value)))
     → buffer_named due.events b ≡ Some info → natural index < info.length
 written_within s rows t b index value info due is =
     let told : not (is_place index info.length && is_value_of_type (item_type s due.events info info.family) value) ≡ false =
@@ -108,7 +118,8 @@ written_within s rows t b index value info due is =
     (not-false (is_place index info.length && is_value_of_type (item_type s due.events info info.family) value) told))
 
 -- only items of an array are written
-written_array : (s : StatedSetup) (rows : TableRows) (t : ℕ) (b : BufId) (index value : ℤ) (info : Info) (due : IsDue s rows t (Buffers (BufferWrite b index value)))
+written_array : (s : StatedSetup) (rows : TableRows) (t : ℕ) (b : BufId) (index value : ℤ) (info : Info)
+    (due : IsDue s rows t (Buffers (BufferWrite b index value)))
     → buffer_named due.events b ≡ Some info → is_of_array info.family ≡ true
 written_array s rows t b index value info due is =
     let told : not (is_of_array info.family && not (is_anothers t info)) ≡ false =
@@ -132,7 +143,8 @@ pub record PinnedThere (rows : TableRows) (info : Info) : Type 0 where
   pub class : IsPrimitiveArray (class_at rows.heap info.object.0)
   pub len : info.length ≡ length_at rows.heap info.object.0
 
-array_pinned : (s : StatedSetup) (rows : TableRows) (p : Parts) (x : Buffer) → TablesStand s rows p → FitsObject (class_count s) p.heap x → x.family ≡ ArrayCritical → PinnedThere rows (info_of x)
+array_pinned : (s : StatedSetup) (rows : TableRows) (p : Parts) (x : Buffer) → TablesStand s rows p → FitsObject (class_count s) p.heap x
+    → x.family ≡ ArrayCritical → PinnedThere rows (info_of x)
 array_pinned s rows p x stand fits is =
     let made : Making = making_at (class_count s) p.heap x.object in
     let fit : IsPrimitiveArray (class_in made) × (x.length ≡ length_of s p x.object) = subst (λ (f : Family). FitsMaking f made x.length) is fits.1 in
@@ -144,10 +156,12 @@ array_pinned s rows p x stand fits is =
     }
 
 pub pinned_there : (s : StatedSetup) (rows : TableRows) (p : Parts) (b : BufId) (info : Info) → TablesStand s rows p
-    → ((maker n : ℕ) (x : Buffer) → opened p.buffers maker n ≡ Some x → FitsObject (class_count s) p.heap x) → buffer_named p b ≡ Some info → info.family ≡ ArrayCritical → PinnedThere rows info
+    → ((maker n : ℕ) (x : Buffer) → opened p.buffers maker n ≡ Some x → FitsObject (class_count s) p.heap x) → buffer_named p b ≡ Some info
+    → info.family ≡ ArrayCritical → PinnedThere rows info
 pinned_there s rows p b info stand lent is pins =
     let it = open_as p b info is in
-    subst (PinnedThere rows) it.told (array_pinned s rows p it.buffer stand (lent b.maker.0 b.n it.buffer it.is_open) (ap (λ (i : Info). i.family) it.told ∙ pins))
+    subst (PinnedThere rows) it.told
+        (array_pinned s rows p it.buffer stand (lent b.maker.0 b.n it.buffer it.is_open) (ap (λ (i : Info). i.family) it.told ∙ pins))
 
 -- ---- a copy that is released
 
@@ -159,7 +173,8 @@ contents_length : (e : List Event) (m n : ℕ) (x : Buffer) → opened e m n ≡
 contents_length e m n x is copies = rw is (contents_if (is_critical x.family) e m n x.length copies)
 
 -- the buffer's family is that of the element's arrays
-family_is : (f : Family) (element : Primitive) → family_number f ≡ array_class element → (other : Primitive) × (f ≡ Elements (Of other)) × (array_class other ≡ array_class element)
+family_is : (f : Family) (element : Primitive) → family_number f ≡ array_class element
+    → (other : Primitive) × (f ≡ Elements (Of other)) × (array_class other ≡ array_class element)
 family_is (Elements (Of other)) element is = (other, refl, is)
 family_is (Elements Float) element is = absurd (omega (arith, is, array_class-le element))
 family_is (Elements Double) element is = absurd (omega (arith, is, array_class-le element))
@@ -169,7 +184,8 @@ family_is ArrayCritical element is = absurd (omega (arith, is, four element))
 family_is StringCritical element is = absurd (omega (arith, is, four element))
 
 -- it is of the operand's object
-pub released_object : (s : StatedSetup) (rows : TableRows) (t : ℕ) (element : Primitive) (r : Ref) (b : BufId) (mode : ℤ) (due : IsDue s rows t (Buffers (ReleaseArrayElements element r b mode)))
+pub released_object : (s : StatedSetup) (rows : TableRows) (t : ℕ) (element : Primitive) (r : Ref) (b : BufId) (mode : ℤ)
+    (due : IsDue s rows t (Buffers (ReleaseArrayElements element r b mode)))
     (info : Info)
     → buffer_named due.events b ≡ Some info → info.object.0 ≡ the_object due.events t r
 released_object s rows t element r b mode due info is =
@@ -178,7 +194,8 @@ released_object s rows t element r b mode due info is =
     ap (λ (i : Info). i.object.0) (sym told) ∙ it.object
 
 -- what is copied back fits
-pub back_fits : (s : StatedSetup) (rows : TableRows) (t : ℕ) (element : Primitive) (r : Ref) (b : BufId) (mode : ℤ) (due : IsDue s rows t (Buffers (ReleaseArrayElements element r b mode)))
+pub back_fits : (s : StatedSetup) (rows : TableRows) (t : ℕ) (element : Primitive) (r : Ref) (b : BufId) (mode : ℤ)
+    (due : IsDue s rows t (Buffers (ReleaseArrayElements element r b mode)))
     → length (contents due.events.buffers b.maker.0 b.n) ≡ length_of s due.events (the_object due.events t r)
 back_fits s rows t element r b mode due =
     let p : Parts = due.events in
@@ -190,6 +207,7 @@ back_fits s rows t element r b mode due =
 
 -- ---- the same events
 
-pub copied_at : (rows : Rows) (e : List Event) (t n n' o o' : ℕ) (family : Family) (xs ys : List ℤ) → n ≡ n' → o ≡ o' → xs ≡ ys → Stands rows (Opened (copy_with t n o family xs) ∷ e)
+pub copied_at : (rows : Rows) (e : List Event) (t n n' o o' : ℕ) (family : Family) (xs ys : List ℤ) → n ≡ n' → o ≡ o' → xs ≡ ys
+    → Stands rows (Opened (copy_with t n o family xs) ∷ e)
     → Stands rows (Opened (copy_with t n' o' family ys) ∷ e)
 copied_at rows e t n n' o o' family xs ys number object items stands = rw (sym number, sym object, sym items) stands

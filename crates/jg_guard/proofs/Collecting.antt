@@ -23,7 +23,8 @@ use Rattle.jg_rules.specs.Holding.{is_root, roots, going}
 -- ---- marks
 
 -- where no object was marked and the roots marked theirs, the marks are those of the roots
-pub roots_marked : (s : StatedSetup) (rows : TableRows) (p : Parts) (old new : List Bool) → TablesStand s rows p → ((o : ℕ) → o < count_in rows.heap → slice_get old o ≡ Some false)
+pub roots_marked : (s : StatedSetup) (rows : TableRows) (p : Parts) (old new : List Bool) → TablesStand s rows p
+    → ((o : ℕ) → o < count_in rows.heap → slice_get old o ≡ Some false)
     → Marks (is_root p) (slice_get old) (slice_get new) → MarksRoots rows.heap.classes (roots s p) p.heap new
 roots_marked s rows p old new stand unset marks o made here =
     let told = rows_law rows.heap p.heap stand.heap.stands in
@@ -36,7 +37,8 @@ same_going s rows p stand = ap (λ (k : ℕ). going_at k (roots s p) p.heap) sta
 
 -- ---- what goes
 
-past_if : (b : Bool) (a o : ℕ) (rest : List ℕ) → (a == o) ≡ false → list_any (λ x. x == o) rest ≡ false → list_any (λ x. x == o) (if b then a ∷ rest else rest) ≡ false
+past_if : (b : Bool) (a o : ℕ) (rest : List ℕ) → (a == o) ≡ false → list_any (λ x. x == o) rest ≡ false
+    → list_any (λ x. x == o) (if b then a ∷ rest else rest) ≡ false
 past_if true a o rest apart none = rw (apart, none) refl
 past_if false a o rest apart none = none
 
@@ -75,7 +77,8 @@ pub collected : (s : StatedSetup) (rows : TableRows) (p : Parts) (cleared : glob
 collected s rows p cleared swept stand of_globals of_heap classes = record {
   threads = stand.threads;
   locals = stand.locals;
-  globals = subst (λ (objects : List ℕ). global_standing.Stands cleared (map (λ o. globals.Clear o) objects ++ p.globals)) (same_going s rows p stand) of_globals;
+  globals = subst (λ (objects : List ℕ). global_standing.Stands cleared (map (λ o. globals.Clear o) objects ++ p.globals)) (same_going s rows p stand)
+      of_globals;
   buffers = stand.buffers;
   monitors = stand.monitors;
   heap = record { stands = of_heap; classes = classes ∙ stand.heap.classes };

@@ -13,13 +13,15 @@ module _ {A : Type 0} (p : A → Bool) (x : A) (equal : (y : A) → p y ≡ true
   counts q [] some = absurd (omega (arith, some))
   counts q (y ∷ ys) some = by (λ more. counts q ys more) (p y) refl some
     where
-      apart : (b d : Bool) (m n : ℕ) → m ≡ (if b then n + 1 else n) → (if d then m + 1 else m) ≡ (if b then (if d then n + 1 else n) + 1 else (if d then n + 1 else n))
+      apart : (b d : Bool) (m n : ℕ) → m ≡ (if b then n + 1 else n)
+          → (if d then m + 1 else m) ≡ (if b then (if d then n + 1 else n) + 1 else (if d then n + 1 else n))
       apart true true m n is = omega (arith, is)
       apart true false m n is = is
       apart false true m n is = omega (arith, is)
       apart false false m n is = is
 
-      by : (0 < how_many p ys → how_many q ys ≡ how_many q (x ∷ without p ys)) → (b : Bool) → p y ≡ b → 0 < (if b then how_many p ys + 1 else how_many p ys) → how_many q (y ∷ ys)
+      by : (0 < how_many p ys → how_many q ys ≡ how_many q (x ∷ without p ys)) → (b : Bool) → p y ≡ b → 0 < (if b then how_many p ys + 1 else how_many p ys)
+          → how_many q (y ∷ ys)
           ≡ how_many q (x ∷ (if b then ys else y ∷ without p ys))
       by older true is more = ap (λ z. how_many q (z ∷ ys)) (equal y is)
       by older false is more = apart (q x) (q y) (how_many q ys) (how_many q (without p ys)) (older more)

@@ -72,7 +72,8 @@ pub counts : (p : Parts) (rows : List (ℕ × Row)) (t : ℕ) → IsOrdinary p �
 counts p rows t o stands = counts_few p rows t (omega (arith, o.few_threads)) stands
 
 -- an attached thread has a frame
-pub has_frame : (p : Parts) (rows : Rows) (t : ℕ) → IsOrdinary p → local_standing.Stands rows p.locals → threads.attached (threads.acts_of t p.threads) ≡ true → HasFrame t rows
+pub has_frame : (p : Parts) (rows : Rows) (t : ℕ) → IsOrdinary p → local_standing.Stands rows p.locals → threads.attached (threads.acts_of t p.threads) ≡ true
+    → HasFrame t rows
 has_frame p rows t o stands is = has_frame_law rows p.locals t stands (sym (o.agree t).session ∙ is)
 
 -- a frame may be pushed
@@ -88,7 +89,8 @@ pub can_pop : (p : Parts) (rows : Rows) (t : ℕ) → local_standing.Stands rows
 can_pop p rows t stands is = subst (λ (n : ℕ). 0 < n) (sym (pushed_law rows p.locals t stands)) (some_frame (open_frames p t) is)
 
 -- an unattached thread may start
-pub can_start : (p : Parts) (rows : Rows) (t : ℕ) → IsOrdinary p → local_standing.Stands rows p.locals → threads.attached (threads.acts_of t p.threads) ≡ false → IsNone (top t rows.frames)
+pub can_start : (p : Parts) (rows : Rows) (t : ℕ) → IsOrdinary p → local_standing.Stands rows p.locals → threads.attached (threads.acts_of t p.threads) ≡ false
+    → IsNone (top t rows.frames)
 can_start p rows t o stands is =
     let none : has_session (acts_of t p.locals) ≡ false = sym (o.agree t).session ∙ is in
     rw (top_is rows p.locals t stands, none) refl
@@ -106,7 +108,8 @@ can_leave p rows t o stands is =
     let deep = some_frame (depth_of p t) is in
     omega (arith, entered_law rows p.locals t stands, same.depth, deep)
 
-pub can_leave_native : (p : Parts) (rows : List (ℕ × Row)) (t : ℕ) → thread_standing.Stands rows p.threads → (depth_of p t == 0) ≡ false → 0 < (row_of rows t).depth
+pub can_leave_native : (p : Parts) (rows : List (ℕ × Row)) (t : ℕ) → thread_standing.Stands rows p.threads → (depth_of p t == 0) ≡ false
+    → 0 < (row_of rows t).depth
 can_leave_native p rows t stands is =
     let row = ap (λ (r : Row). r.depth) (stands.threads t) in
     let deep = some_frame (depth_of p t) is in
@@ -126,19 +129,23 @@ owned_by None t own = absurd cc
 owned_by (Some owner) t own = own_owner (owner == t) owner t refl own
 
 -- a monitor that the caller owns is its own in the rows, too
-pub owns : (p : Parts) (rows : monitor_rows.Rows) (t : ℕ) (named : Named) (a b : Bool) → monitor_standing.Stands rows p.monitors → (is_nothing named || a) ≡ false
-    → ((true && is_null named) || b) ≡ false → is_not_owned p t (object_in named) ≡ false → monitor_rows.owner_in (monitor_rows.row_of (unwrap_or (object_in named) 0) rows) ≡ Some t
+pub owns : (p : Parts) (rows : monitor_rows.Rows) (t : ℕ) (named : Named) (a b : Bool) → monitor_standing.Stands rows p.monitors
+    → (is_nothing named || a) ≡ false
+    → ((true && is_null named) || b) ≡ false → is_not_owned p t (object_in named) ≡ false
+    → monitor_rows.owner_in (monitor_rows.row_of (unwrap_or (object_in named) 0) rows) ≡ Some t
 owns p rows t Nothing a b stands alive there own = absurd cc
 owns p rows t NamesNull a b stands alive there own = absurd cc
 owns p rows t (Object x) a b stands alive there own = (rows_tell_law rows p.monitors x.0 stands).owner ∙ owned_by (monitors.owner p.monitors x.0) t own
 
 -- t's next buffer may be opened
-pub can_open : (p : Parts) (rows : buffer_rows.Rows) (t n : ℕ) → IsOrdinary p → buffer_standing.Stands rows p.buffers → n ≡ next_buffer p t → buffer_rows.IsAbove t n rows
+pub can_open : (p : Parts) (rows : buffer_rows.Rows) (t n : ℕ) → IsOrdinary p → buffer_standing.Stands rows p.buffers → n ≡ next_buffer p t
+    → buffer_rows.IsAbove t n rows
 can_open p rows t n o stands is = rw is (buffer_above_law rows p.buffers t (next_buffer p t) stands (o.buffers_below t))
 
 -- ---- where the tables still stand
 
-abbrev pub due_still : (s : StatedSetup) (old new : TableRows) (t : ℕ) (call : Call) (due : IsDue s old t call) → TablesStand s new due.events → IsDue s new t call
+abbrev pub due_still : (s : StatedSetup) (old new : TableRows) (t : ℕ) (call : Call) (due : IsDue s old t call) → TablesStand s new due.events
+    → IsDue s new t call
 due_still s old new t call due stand = record {
   events = due.events;
   env = due.env;
@@ -152,7 +159,8 @@ due_still s old new t call due stand = record {
 
 -- ---- what an answer makes can be made
 
-pub is_on : (p : Parts) (rows : List (ℕ × Row)) (t : ℕ) → thread_standing.Stands rows p.threads → threads.attached (threads.acts_of t p.threads) ≡ true → IsTrue (row_of rows t).attached
+pub is_on : (p : Parts) (rows : List (ℕ × Row)) (t : ℕ) → thread_standing.Stands rows p.threads → threads.attached (threads.acts_of t p.threads) ≡ true
+    → IsTrue (row_of rows t).attached
 is_on p rows t stands is = ap (λ (r : Row). r.attached) (stands.threads t) ∙ is
 
 -- what is known after a call's own events
@@ -163,11 +171,13 @@ pub record After (q : Parts) (t : ℕ) : Type 0 where
 
 threads_few : (s : StatedSetup) (p : Parts) (t : ℕ) (call : Call) → IsOrdinary p → length (map (threads.by t) (call_threads s p t call) ++ p.threads) < 2 ^ 63
 threads_few s p t call o =
-    let few : length (map (threads.by t) (call_threads s p t call) ++ p.threads) ≤ length p.threads + 1 = simp (length-append, length-map) (omega (arith, call_threads-le s p t call)) in
+    let few : length (map (threads.by t) (call_threads s p t call) ++ p.threads) ≤ length p.threads + 1 =
+        simp (length-append, length-map) (omega (arith, call_threads-le s p t call)) in
     omega (arith, few, o.few_threads)
 
 -- of a call that opens no buffer
-after_other : (s : StatedSetup) (p : Parts) (t : ℕ) (env : Option EnvId) (call : Call) → Unbroken s p t env call → opens_one (call_buffers s p t call) ≡ false → IsOrdinary p
+after_other : (s : StatedSetup) (p : Parts) (t : ℕ) (env : Option EnvId) (call : Call) → Unbroken s p t env call → opens_one (call_buffers s p t call) ≡ false
+    → IsOrdinary p
     → After (done_by s t call p) t
 after_other s p t env call kept none o = record {
   few = threads_few s p t call o;
@@ -175,7 +185,8 @@ after_other s p t env call kept none o = record {
   below = each_done Below s (below_steps s) p t env call kept none o.below t;
 }
 
-pub after_done : (s : StatedSetup) (p : Parts) (t : ℕ) (env : Option EnvId) (call : Call) → Unbroken s p t env call → IsOrdinary p → After (done_by s t call p) t
+pub after_done : (s : StatedSetup) (p : Parts) (t : ℕ) (env : Option EnvId) (call : Call) → Unbroken s p t env call → IsOrdinary p
+    → After (done_by s t call p) t
 after_done s p t env (Vm call) kept o = after_other s p t env (Vm call) kept refl o
 after_done s p t env (Refs call) kept o = after_other s p t env (Refs call) kept refl o
 after_done s p t env (Frames call) kept o = after_other s p t env (Frames call) kept refl o
@@ -188,7 +199,8 @@ after_done s p t env (Buffers call) kept o = record { few = threads_few s p t (B
 
 -- an attached thread whose tables stand for a call's own events may be handed out its next local
 can_hand_out : {A : Type 0} (s : StatedSetup) (p : Parts) (tables : Tables A) (t : ℕ) (n : ℕ) (env : Option EnvId) (call : Call) → After (done_by s t call p) t
-    → TablesStand s (rows_of tables) (done_by s t call p) → needs_env (fun_of call) ≡ true → detached p t env call ≡ false → n ≡ next_ref p t → 0 < spare tables.locals t → CanHandOut tables t n
+    → TablesStand s (rows_of tables) (done_by s t call p) → needs_env (fun_of call) ≡ true → detached p t env call ≡ false → n ≡ next_ref p t
+    → 0 < spare tables.locals t → CanHandOut tables t n
 can_hand_out s p tables t n env call after stand takes is next room =
     let q : Parts = done_by s t call p in
     let on = attached_done s p t call takes (attached_caller p t env call takes is) in
@@ -203,7 +215,8 @@ can_hand_out s p tables t n env call after stand takes is next room =
 
 -- an attached thread may be handed out its next global reference
 can_make_global : {A : Type 0} (s : StatedSetup) (p : Parts) (tables : Tables A) (t maker : Tid) (n : ℕ) (env : Option EnvId) (call : Call) → IsOrdinary p
-    → TablesStand s (rows_of tables) p → needs_env (fun_of call) ≡ true → detached p t.0 env call ≡ false → maker ≡ t → n ≡ next_ref p t.0 → CanMakeGlobal tables t.0 maker.0 n
+    → TablesStand s (rows_of tables) p → needs_env (fun_of call) ≡ true → detached p t.0 env call ≡ false → maker ≡ t → n ≡ next_ref p t.0
+    → CanMakeGlobal tables t.0 maker.0 n
 can_make_global s p tables t maker n env call o stand takes is own next =
     record {
       counts = counts p tables.threads t.0 o stand.threads;
@@ -211,7 +224,8 @@ can_make_global s p tables t maker n env call o stand takes is own next =
       above = rw (own, next) (global_above_law tables.globals p.globals t.0 (next_ref p t.0) stand.globals (o.globals_below t.0));
     }
 
-pub can_settle : {A : Type 0} (s : StatedSetup) (p : Parts) (tables : Tables A) (t : Tid) (env : Option EnvId) (call : Call) (value : Value) (warned : Bool) (o : Option ObjId)
+pub can_settle : {A : Type 0} (s : StatedSetup) (p : Parts) (tables : Tables A) (t : Tid) (env : Option EnvId) (call : Call) (value : Value) (warned : Bool)
+    (o : Option ObjId)
     → IsProper s p t call value warned o → is_effective value ≡ true → makes_global value ≡ false
     → After (done_by s t.0 call p) t.0 → TablesStand s (rows_of tables) (done_by s t.0 call p) → detached p t.0 env call ≡ false
     → (makes_local value ≡ true → needs_env (fun_of call) ≡ true → 0 < spare tables.locals t.0)
@@ -233,24 +247,30 @@ can_settle s p tables t env call Done warned (Some o) own effective not_global a
     is_on (done_by s t.0 call p) tables.threads t.0 stand.threads (attached_done s p t.0 call own (attached_caller p t.0 env call own is))
 can_settle s p tables t env call value warned o own effective not_global after stand is room = tt
 
-pub can_settle_global : {A : Type 0} (s : StatedSetup) (p : Parts) (tables : Tables A) (t : Tid) (env : Option EnvId) (call : Call) (value : Value) (warned : Bool) (o : Option ObjId)
-    → IsProper s p t call value warned o → makes_global value ≡ true → IsOrdinary p → TablesStand s (rows_of tables) p → detached p t.0 env call ≡ false → CanSettleGlobal tables t.0 value o
+pub can_settle_global : {A : Type 0} (s : StatedSetup) (p : Parts) (tables : Tables A) (t : Tid) (env : Option EnvId) (call : Call) (value : Value)
+    (warned : Bool) (o : Option ObjId)
+    → IsProper s p t call value warned o → makes_global value ≡ true → IsOrdinary p → TablesStand s (rows_of tables) p → detached p t.0 env call ≡ false
+    → CanSettleGlobal tables t.0 value o
 can_settle_global s p tables t env call (Reference r) warned None own global before stand is = absurd own
 can_settle_global s p tables t env call (Reference Null) warned (Some o) own global before stand is = absurd own
 can_settle_global s p tables t env call (Reference (To Local maker n)) warned (Some o) own global before stand is = absurd cc
-can_settle_global s p tables t env call (Reference (To Global maker n)) warned (Some o) own global before stand is = can_make_global s p tables t maker n env call before stand own.0 is own.1 own.2
-can_settle_global s p tables t env call (Reference (To Weak maker n)) warned (Some o) own global before stand is = can_make_global s p tables t maker n env call before stand own.0 is own.1 own.2
+can_settle_global s p tables t env call (Reference (To Global maker n)) warned (Some o) own global before stand is =
+    can_make_global s p tables t maker n env call before stand own.0 is own.1 own.2
+can_settle_global s p tables t env call (Reference (To Weak maker n)) warned (Some o) own global before stand is =
+    can_make_global s p tables t maker n env call before stand own.0 is own.1 own.2
 can_settle_global s p tables t env call value warned o own global before stand is = absurd cc
 
 -- a call that does nothing of its own takes an environment
-pub takes_env : (s : StatedSetup) (p : Parts) (t : Tid) (call : Call) (value : Value) (warned : Bool) (o : Option ObjId) → IsProper s p t call value warned o → is_effective value ≡ false
+pub takes_env : (s : StatedSetup) (p : Parts) (t : Tid) (call : Call) (value : Value) (warned : Bool) (o : Option ObjId) → IsProper s p t call value warned o
+    → is_effective value ≡ false
     → needs_env (fun_of call) ≡ true
 takes_env s p t call (Threw kind) warned None own none = absurd own
 takes_env s p t call (Threw kind) warned (Some o) own none = own.0
 takes_env s p t call Busy warned o own none = own.0
 takes_env s p t call value warned o own none = absurd cc
 
-pub can_throw : (s : StatedSetup) (p : Parts) (t : Tid) (call : Call) (value : Value) (warned : Bool) (o : Option ObjId) → IsProper s p t call value warned o → is_effective value ≡ false
+pub can_throw : (s : StatedSetup) (p : Parts) (t : Tid) (call : Call) (value : Value) (warned : Bool) (o : Option ObjId) → IsProper s p t call value warned o
+    → is_effective value ≡ false
     → CanThrow value o
 can_throw s p t call (Threw kind) warned None own none = own
 can_throw s p t call (Threw kind) warned (Some o) own none = tt
@@ -269,35 +289,45 @@ pub own_proper : (s : StatedSetup) (p : Parts) (t : Tid) (call : Call) (given : 
 own_proper s p t call given is = rw is (proper s p t call)
 
 -- nothing of its own
-settled_none : (s : StatedSetup) (home : Option ℕ) (p : Parts) (t : Tid) (call : Call) (value : Value) (warned : Bool) (o : Option ObjId) → IsProper s p t call value warned o
+settled_none : (s : StatedSetup) (home : Option ℕ) (p : Parts) (t : Tid) (call : Call) (value : Value) (warned : Bool) (o : Option ObjId)
+    → IsProper s p t call value warned o
     → is_effective value ≡ false
-    → settled None t.0 (saying_of value) o p ≡ settled home t.0 (record { value = value; warned = warned; noticed = false }) o (done_if (is_effective value) s t.0 call p)
+    → settled None t.0 (saying_of value) o p
+        ≡ settled home t.0 (record { value = value; warned = warned; noticed = false }) o (done_if (is_effective value) s t.0 call p)
 settled_none s home p t call (Threw kind) warned None own none = absurd own
 settled_none s home p t call (Threw kind) warned (Some o) own none = rw own.2 refl
 settled_none s home p t call Busy warned o own none = rw own.1 refl
 settled_none s home p t call value warned o own none = absurd cc
 
-pub stand_none : (s : StatedSetup) (rows : TableRows) (p : Parts) (t : Tid) (call : Call) (given : Answer) → given ≡ unnoticed s p t call → is_effective given.reply.value ≡ false
+pub stand_none : (s : StatedSetup) (rows : TableRows) (p : Parts) (t : Tid) (call : Call) (given : Answer) → given ≡ unnoticed s p t call
+    → is_effective given.reply.value ≡ false
     → TablesStand s rows (settled None t.0 (saying_of given.reply.value) given.object p) → TablesStand s rows (passed_on s t.0 call given.reply given.object p)
 stand_none s rows p t call given is none stand =
     let own : ProperAnswer s p t call given = rw is (proper s p t call) in
-    subst (λ (q : Parts). TablesStand s rows q) (settled_none s (home_of s (native_class s p t.0 call)) p t call given.reply.value given.reply.warned given.object own none) stand
+    subst (λ (q : Parts). TablesStand s rows q)
+        (settled_none s (home_of s (native_class s p t.0 call)) p t call given.reply.value given.reply.warned given.object own none) stand
 
-settled_globals : (s : StatedSetup) (home : Option ℕ) (p : Parts) (t : Tid) (call : Call) (value : Value) (warned : Bool) (o : Option ObjId) → IsProper s p t call value warned o
+settled_globals : (s : StatedSetup) (home : Option ℕ) (p : Parts) (t : Tid) (call : Call) (value : Value) (warned : Bool) (o : Option ObjId)
+    → IsProper s p t call value warned o
     → makes_global value ≡ true
-    → settled None t.0 (saying_of value) o p ≡ settled home t.0 (record { value = value; warned = warned; noticed = false }) o (done_if (is_effective value) s t.0 call p)
+    → settled None t.0 (saying_of value) o p
+        ≡ settled home t.0 (record { value = value; warned = warned; noticed = false }) o (done_if (is_effective value) s t.0 call p)
 settled_globals s home p t call (Reference r) warned None own global = absurd own
 settled_globals s home p t call (Reference Null) warned (Some o) own global = absurd own
 settled_globals s home p t call (Reference (To Local maker n)) warned (Some o) own global = absurd cc
-settled_globals s home p t call (Reference (To Global maker n)) warned (Some o) own global = rw own.4 (ap (settled None t.0 (saying_of (Reference (To Global maker n))) (Some o)) (sym own.3))
-settled_globals s home p t call (Reference (To Weak maker n)) warned (Some o) own global = rw own.4 (ap (settled None t.0 (saying_of (Reference (To Weak maker n))) (Some o)) (sym own.3))
+settled_globals s home p t call (Reference (To Global maker n)) warned (Some o) own global =
+    rw own.4 (ap (settled None t.0 (saying_of (Reference (To Global maker n))) (Some o)) (sym own.3))
+settled_globals s home p t call (Reference (To Weak maker n)) warned (Some o) own global =
+    rw own.4 (ap (settled None t.0 (saying_of (Reference (To Weak maker n))) (Some o)) (sym own.3))
 settled_globals s home p t call value warned o own global = absurd cc
 
-pub stand_global : (s : StatedSetup) (rows : TableRows) (p : Parts) (t : Tid) (call : Call) (given : Answer) → given ≡ unnoticed s p t call → makes_global given.reply.value ≡ true
+pub stand_global : (s : StatedSetup) (rows : TableRows) (p : Parts) (t : Tid) (call : Call) (given : Answer) → given ≡ unnoticed s p t call
+    → makes_global given.reply.value ≡ true
     → TablesStand s rows (settled None t.0 (saying_of given.reply.value) given.object p) → TablesStand s rows (passed_on s t.0 call given.reply given.object p)
 stand_global s rows p t call given is global stand =
     let own : ProperAnswer s p t call given = rw is (proper s p t call) in
-    subst (λ (q : Parts). TablesStand s rows q) (settled_globals s (home_of s (native_class s p t.0 call)) p t call given.reply.value given.reply.warned given.object own global) stand
+    subst (λ (q : Parts). TablesStand s rows q)
+        (settled_globals s (home_of s (native_class s p t.0 call)) p t call given.reply.value given.reply.warned given.object own global) stand
 
 pub stand_done : (s : StatedSetup) (rows : TableRows) (home : Option ℕ) (p : Parts) (t : Tid) (call : Call) (given : Answer)
     → warning given.reply.warned home ≡ warning given.reply.warned (home_of s (native_class s p t.0 call))

@@ -17,7 +17,8 @@ type_at fields i =
     rw (some, back) refl
 
 pub next_slot : (fields : List StatedMember) (i n : ℕ) (slots slots' : List Slot) (slot : Slot) (signature : Option (List ℕ)) → n ≡ length fields → i < n
-    → slots ≡ map first_value (take i fields) → signature ≡ member_type fields (i + 1) → ((field : StatedMember) → signature ≡ Some field.signature → slot ≡ first_value field)
+    → slots ≡ map first_value (take i fields) → signature ≡ member_type fields (i + 1)
+    → ((field : StatedMember) → signature ≡ Some field.signature → slot ≡ first_value field)
     → slots' ≡ slots ++ slot ∷ [] → slots' ≡ map first_value (take (i + 1) fields)
 next_slot fields i n slots slots' slot signature size inside old told value more =
     let d : StatedMember = record { name = []; signature = [] } in

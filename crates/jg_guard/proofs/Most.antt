@@ -108,12 +108,14 @@ buffer_equal b c is =
 
 buffers_once : (p : Parts) (m n : ℕ) → CountsBuffers p m → CountsBuffers p n → m ≡ n
 buffers_once p m n (bs, lists, long) (cs, others, same) =
-    sym long ∙ as_long (λ b c. is_same c.maker.0 c.n b.maker.0 b.n) buffer_itself buffer_equal bs cs (λ b. lists b.maker.0 b.n ∙ sym (others b.maker.0 b.n)) ∙ same
+    sym long ∙ as_long (λ b c. is_same c.maker.0 c.n b.maker.0 b.n) buffer_itself buffer_equal bs cs (λ b. lists b.maker.0 b.n ∙ sym (others b.maker.0 b.n))
+        ∙ same
 
 objects_once : (s : StatedSetup) (p : Parts) (m n : ℕ) → CountsObjects s p m → CountsObjects s p n → m ≡ n
 objects_once s p m n first second = first ∙ sym second
 
-pub peaks_raised : (s : StatedSetup) (h : List Entry) (x : Entry) (peaks now : Peaks) → ArePeaks s h peaks → IsNow s (x ∷ h) now → ArePeaks s (x ∷ h) (raised peaks now)
+pub peaks_raised : (s : StatedSetup) (h : List Entry) (x : Entry) (peaks now : Peaks) → ArePeaks s h peaks → IsNow s (x ∷ h) now
+    → ArePeaks s (x ∷ h) (raised peaks now)
 peaks_raised s h x peaks now old counts = record {
   references = most_more CountsRefs refs_once s h x peaks.references now.references old.references counts.references;
   objects = most_more (CountsObjects s) (objects_once s) s h x peaks.objects now.objects old.objects counts.objects;
@@ -149,7 +151,8 @@ none_at_first s none is = subst (ArePeaks s []) (sym is) (record {
     no_objects : 0 ≡ length (others_in_being (class_count s) [])
     no_objects = ap (λ n. length (filter (λ o. not (gone_at (class_count s) [] o)) (range_with_len (class_count s) n))) (nothing_more (class_count s))
 
-pub counted_refs : (s : StatedSetup) (rows : TableRows) (p : Parts) → TablesStand s rows p → (n : ℕ) → n ≡ length rows.locals.locals + (length rows.globals.strong + length rows.globals.weak)
+pub counted_refs : (s : StatedSetup) (rows : TableRows) (p : Parts) → TablesStand s rows p → (n : ℕ)
+    → n ≡ length rows.locals.locals + (length rows.globals.strong + length rows.globals.weak)
     → CountsRefs p n
 counted_refs s rows p stands n is =
     let strong = map strong_ref rows.globals.strong in
@@ -162,4 +165,5 @@ counted_refs s rows p stands n is =
     (refs_of rows, all_listed rows p (holders_stand HeapTells s rows p stands), omega (arith, all, others, a, b, c, is))
 
 pub counted_buffers : (s : StatedSetup) (rows : TableRows) (p : Parts) → TablesStand s rows p → (n : ℕ) → n ≡ length rows.buffers.lent → CountsBuffers p n
-counted_buffers s rows p stands n is = (map name_of rows.buffers.lent, buffers_listed rows p (holders_stand HeapTells s rows p stands), length-map rows.buffers.lent name_of ∙ sym is)
+counted_buffers s rows p stands n is =
+    (map name_of rows.buffers.lent, buffers_listed rows p (holders_stand HeapTells s rows p stands), length-map rows.buffers.lent name_of ∙ sym is)

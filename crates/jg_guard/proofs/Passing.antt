@@ -43,18 +43,21 @@ ordinary state rows s =
       few_monitors = omega (arith, sizes.monitors, s.bounded, s.small);
     }
 
-entry_passed : (s : StatedSetup) (p : Parts) (t : Tid) (env : Option EnvId) (call : Call) → verdict s p t.0 env call ≡ None → entry_at s p t env call ≡ entry_by None (answer s p t call) t env call
+entry_passed : (s : StatedSetup) (p : Parts) (t : Tid) (env : Option EnvId) (call : Call) → verdict s p t.0 env call ≡ None
+    → entry_at s p t env call ≡ entry_by None (answer s p t call) t env call
 entry_passed s p t env call none = rw none refl
 
 -- one entry more keeps a guard sound
 pub sound_after : (state : State) (journal : List Entry) (spare : ℕ) (x : Entry) (rows rows' : TableRows)
-    → IsSound state rows → length state.journal < state.limit → journal ≡ x ∷ state.journal → x ≡ entry_at state.setup (parts state.setup state.journal) x.tid x.env x.call
+    → IsSound state rows → length state.journal < state.limit → journal ≡ x ∷ state.journal
+    → x ≡ entry_at state.setup (parts state.setup state.journal) x.tid x.env x.call
     → TablesStand state.setup rows' (parts state.setup (x ∷ state.journal))
     → IsSound (record state { journal = journal; spare = spare }) rows'
 sound_after state journal spare x rows rows' s room is legal stands =
     record { legal = rw is (legal, s.legal); small = s.small; bounded = rw is (omega arith); tables = rw is stands }
 
-abbrev pub due_of : (state : State) (rows : TableRows) (t : Tid) (env : Option EnvId) (call : Call) → IsSound state rows → verdict state.setup (parts state.setup state.journal) t.0 env call ≡ None
+abbrev pub due_of : (state : State) (rows : TableRows) (t : Tid) (env : Option EnvId) (call : Call) → IsSound state rows
+    → verdict state.setup (parts state.setup state.journal) t.0 env call ≡ None
     → IsDue state.setup rows t.0 call
 due_of state rows t env call s none =
     let p : Parts = parts state.setup state.journal in
@@ -81,13 +84,15 @@ entry_denied s p t env call rule is = rw is refl
 abbrev pub passed_entry : Tid → Option EnvId → Call → Answer → Entry
 passed_entry t env call given = record { tid = t; env = env; call = call; outcome = Passed given.reply; object = given.object }
 
-entry_given : (s : StatedSetup) (p : Parts) (t : Tid) (env : Option EnvId) (call : Call) (given : Answer) → verdict s p t.0 env call ≡ None → given ≡ answer s p t call
+entry_given : (s : StatedSetup) (p : Parts) (t : Tid) (env : Option EnvId) (call : Call) (given : Answer) → verdict s p t.0 env call ≡ None
+    → given ≡ answer s p t call
     → passed_entry t env call given ≡ entry_at s p t env call
 entry_given s p t env call given none is = rw (none, is) refl
 
 -- with its notice, as it stands after the call, it is the whole answer
 noticed_given : (s : StatedSetup) (p : Parts) (t : Tid) (call : Call) (given : Answer) (b : Bool) → given ≡ unnoticed s p t call
-    → b ≡ (makes_local given.reply.value && crowded (acts_of t.0 (passed_on s t.0 call given.reply given.object p).locals)) → with_notice b given ≡ answer s p t call
+    → b ≡ (makes_local given.reply.value && crowded (acts_of t.0 (passed_on s t.0 call given.reply given.object p).locals))
+    → with_notice b given ≡ answer s p t call
 noticed_given s p t call given b is told = ap (λ (n : Bool). with_notice n given) told ∙ ap (noticed s p t call) is
 
 -- the guard took the entry
@@ -102,15 +107,18 @@ takes_entry old rows x journal spare s is legal = record {
   legal = rw is (legal, s.legal);
 }
 
-pub denied_sound : (state : State) (journal : List Entry) (spare : ℕ) (rows : TableRows) (t : Tid) (env : Option EnvId) (call : Call) (rule : Rule) → IsSound state rows
+pub denied_sound : (state : State) (journal : List Entry) (spare : ℕ) (rows : TableRows) (t : Tid) (env : Option EnvId) (call : Call) (rule : Rule)
+    → IsSound state rows
     → length state.journal < state.limit
     → verdict state.setup (parts state.setup state.journal) t.0 env call ≡ Some rule → journal ≡ denied_entry t env call rule ∷ state.journal
     → IsSound (record state { journal = journal; spare = spare }) rows
 denied_sound state journal spare rows t env call rule s room denied is =
-    sound_after state journal spare (denied_entry t env call rule) rows rows s room is (entry_denied state.setup (parts state.setup state.journal) t env call rule denied) s.tables
+    sound_after state journal spare (denied_entry t env call rule) rows rows s room is
+        (entry_denied state.setup (parts state.setup state.journal) t env call rule denied) s.tables
 
 same_answer : (a b : Answer) → a.reply.value ≡ b.reply.value → a.reply.warned ≡ b.reply.warned → a.reply.noticed ≡ b.reply.noticed → a.object ≡ b.object → a ≡ b
-same_answer a b value warned noticed object = ap (λ (v : Value). record { reply = record { value = v; warned = a.reply.warned; noticed = a.reply.noticed }; object = a.object }) value
+same_answer a b value warned noticed object =
+    ap (λ (v : Value). record { reply = record { value = v; warned = a.reply.warned; noticed = a.reply.noticed }; object = a.object }) value
     ∙ (ap (λ (w : Bool). record { reply = record { value = b.reply.value; warned = w; noticed = a.reply.noticed }; object = a.object }) warned
     ∙ (ap (λ (n : Bool). record { reply = record { value = b.reply.value; warned = b.reply.warned; noticed = n }; object = a.object }) noticed
     ∙ ap (λ (o : Option ObjId). record { reply = record { value = b.reply.value; warned = b.reply.warned; noticed = b.reply.noticed }; object = o }) object))
@@ -123,7 +131,8 @@ pub record IsPassed (A : Type 0) (state : State) (t : Tid) (env : Option EnvId) 
   pub found : Finds state.setup (parts state.setup state.journal) call held
 
 -- what was found and answered under the view is so under the guard
-pub passed_by : (A : Type 0) (state now : State) (s : StatedSetup) (rows rows' : TableRows) (t : Tid) (env : Option EnvId) (call : Call) (given : Answer) (held : Findings A) → IsSound state rows
+pub passed_by : (A : Type 0) (state now : State) (s : StatedSetup) (rows rows' : TableRows) (t : Tid) (env : Option EnvId) (call : Call) (given : Answer)
+    (held : Findings A) → IsSound state rows
     → state ≡ now
     → s ≡ state.setup → rows' ≡ rows → verdict now.setup (parts now.setup now.journal) t.0 env call ≡ None
     → ((p : Parts) → TablesStand s rows' p → Finds s p call held)
@@ -139,8 +148,10 @@ passed_by A state now s rows rows' t env call given held sound seen same_setup s
     }
 
 -- so its effects are due
-pub answered_due : (A : Type 0) (state : State) (rows : TableRows) (t : Tid) (env : Option EnvId) (call : Call) (given again : Answer) (held : Findings A) → IsSound state rows
-    → IsPassed A state t env call given held → again.reply.value ≡ given.reply.value → again.reply.warned ≡ given.reply.warned → again.reply.noticed ≡ given.reply.noticed → again.object ≡ given.object
+pub answered_due : (A : Type 0) (state : State) (rows : TableRows) (t : Tid) (env : Option EnvId) (call : Call) (given again : Answer) (held : Findings A)
+    → IsSound state rows
+    → IsPassed A state t env call given held → again.reply.value ≡ given.reply.value → again.reply.warned ≡ given.reply.warned
+    → again.reply.noticed ≡ given.reply.noticed → again.object ≡ given.object
     → IsAnswered state.setup rows t call again held
 answered_due A state rows t env call given again held s passed value warned noticed object = record {
   due = due_of state rows t env call s passed.none;
@@ -149,8 +160,10 @@ answered_due A state rows t env call given again held s passed value warned noti
 }
 
 -- its entry, with a notice or without as the tables say after it, is the history's next
-pub entry_taken : (A : Type 0) (state : State) (t : Tid) (env : Option EnvId) (call : Call) (given : Answer) (held : Findings A) (b : Bool) → IsPassed A state t env call given held
-    → b ≡ (makes_local given.reply.value && crowded (acts_of t.0 (passed_on state.setup t.0 call given.reply given.object (parts state.setup state.journal)).locals))
+pub entry_taken : (A : Type 0) (state : State) (t : Tid) (env : Option EnvId) (call : Call) (given : Answer) (held : Findings A) (b : Bool)
+    → IsPassed A state t env call given held
+    → b ≡ (makes_local given.reply.value
+        && crowded (acts_of t.0 (passed_on state.setup t.0 call given.reply given.object (parts state.setup state.journal)).locals))
     → passed_entry t env call (with_notice b given) ≡ entry_at state.setup (parts state.setup state.journal) t env call
 entry_taken A state t env call given held b passed told =
     let p : Parts = parts state.setup state.journal in

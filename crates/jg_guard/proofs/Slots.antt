@@ -42,7 +42,8 @@ slot_here s rows p o field stand stated is same =
     }
 
 -- where the call breaks no rule
-pub has_slot : (s : StatedSetup) (rows : TableRows) (p : Parts) (wanted : Option Primitive) (named : Named) (field : FieldId) (a b : Bool) → TablesStand s rows p
+pub has_slot : (s : StatedSetup) (rows : TableRows) (p : Parts) (wanted : Option Primitive) (named : Named) (field : FieldId) (a b : Bool)
+    → TablesStand s rows p
     → AllByRecursion (MakesStated s) p.heap → (is_nothing named || a) ≡ false → ((true && is_null named) || b) ≡ false
     → not (is_stated_as wanted (field_type s field.class field.field) && is_of_class s p field.class named) ≡ false
     → HasSlot rows (unwrap_or (object_in named) 0) field

@@ -96,8 +96,11 @@ module _ (n : ℕ) (s : StatedSetup) (t : Tid) (f : ℕ) (xs ys : List Argument)
     doings = λ q. stands.doings q
         ∙ ap (λ b. if same_name (t.0, depth p t.0) q then doing_after (slice_get functions f) b (source n t f) (doing q h) else doing q h) throws_same;
     written = λ q. stands.written q
-        ∙ (ap (λ r. if commits q r then None else (if is_named q (written_by (slice_get functions f) xs) && is_copy p (written_by (slice_get functions f) xs) then Some (source n t f) else written q h)) releases_same
-        ∙ ap (λ b. if commits q (released_by (slice_get functions f) ys) then None else (if is_named q b && is_copy p b then Some (source n t f) else written q h)) writes_same);
+        ∙ (ap (λ r. if commits q r then None
+            else (if is_named q (written_by (slice_get functions f) xs) && is_copy p (written_by (slice_get functions f) xs) then Some (source n t f)
+            else written q h)) releases_same
+        ∙ ap (λ b. if commits q (released_by (slice_get functions f) ys) then None
+            else (if is_named q b && is_copy p b then Some (source n t f) else written q h)) writes_same);
     committed = λ q. stands.committed q ∙ ap (λ r. if commits q r then Some (source n t f) else committed q h) releases_same;
     once = stands.once;
     entered = stands.entered;
@@ -129,7 +132,8 @@ module _ (n : ℕ) (s : StatedSetup) (t : Tid) (f : ℕ) (xs ys : List Argument)
   }
 
 -- who was told a question with the operands that are seen was told it with all of them
-pub with_all : (s : StatedSetup) (p : Parts) (n : ℕ) (t : Tid) (c : Call) (f : ℕ) (name : List ℕ) (h : List Moment) (x : AdviceLogState) → slice_get functions f ≡ Some (row_for (fun_of c))
+pub with_all : (s : StatedSetup) (p : Parts) (n : ℕ) (t : Tid) (c : Call) (f : ℕ) (name : List ℕ) (h : List Moment) (x : AdviceLogState)
+    → slice_get functions f ≡ Some (row_for (fun_of c))
     → LogStands x (record { line = n; what = Called s t f (operands_seen s p t.0 c) name; parts = p } ∷ h)
     → LogStands x (record { line = n; what = Called s t f (arguments_of s p t.0 c) name; parts = p } ∷ h)
 with_all s p n t (call.Strings c) f name h x is logs = logs

@@ -38,7 +38,8 @@ pub unless_err : {T E P : Type 0} (r : Result T E) → is_err r ≡ false → On
 unless_err (Ok v) free says = says
 unless_err (Err e) free says = absurd (let clash : true ≡ false = free in cc)
 
-pub question : (s : StatedSetup) (p : Parts) (n : ℕ) (t : Tid) (call : Call) (place : ℕ) (name : List ℕ) → slice_get functions place ≡ Some (row_for (fun_of call))
+pub question : (s : StatedSetup) (p : Parts) (n : ℕ) (t : Tid) (call : Call) (place : ℕ) (name : List ℕ)
+    → slice_get functions place ≡ Some (row_for (fun_of call))
     → name ≡ name_handed call → IsQuestion s p n t call (record { line = n; what = Called s t place (arguments_of s p t.0 call) name; parts = p })
 question s p n t call place name function is = record {
   place = place;
@@ -54,14 +55,16 @@ module _ (s : StatedSetup) (h : List Entry) (t : Tid) (env : Option EnvId) (call
 
   passed_by : (v : Option Rule) (a : Answer) (m : Moment) → v ≡ None → IsQuestion s p (length h + 1) t call m
       → AreMoments s (entry_by v a t env call ∷ h) (with_facts (length h + 1) (parts s (entry_by v a t env call ∷ h))
-      (reverse (outcome_facts s p (entry_by v a t env call).tid (entry_by v a t env call).call (entry_by v a t env call).outcome (entry_by v a t env call).object)) (m ∷ before))
+      (reverse (outcome_facts s p (entry_by v a t env call).tid (entry_by v a t env call).call (entry_by v a t env call).outcome
+          (entry_by v a t env call).object)) (m ∷ before))
   passed_by None a m is asked = (before, are, (m, asked, refl))
   passed_by (Some rule) a m is asked = absurd (let clash : Some rule ≡ None = is in cc)
 
   -- its call passed
   pub passed : (m : Moment) → verdict s p t.0 env call ≡ None → IsQuestion s p (length h + 1) t call m
       → AreMoments s (entry_at s p t env call ∷ h) (with_facts (length h + 1) (parts s (entry_at s p t env call ∷ h))
-      (reverse (outcome_facts s p (entry_at s p t env call).tid (entry_at s p t env call).call (entry_at s p t env call).outcome (entry_at s p t env call).object)) (m ∷ before))
+      (reverse (outcome_facts s p (entry_at s p t env call).tid (entry_at s p t env call).call (entry_at s p t env call).outcome
+          (entry_at s p t env call).object)) (m ∷ before))
   passed m is asked = passed_by (verdict s p t.0 env call) (answer s p t call) m is asked
 
   denied_by : (v : Option Rule) (a : Answer) (rule : Rule) → v ≡ Some rule → AreMoments s (entry_by v a t env call ∷ h) before
@@ -75,12 +78,14 @@ module _ (s : StatedSetup) (h : List Entry) (t : Tid) (env : Option EnvId) (call
 -- ---- beside a guard
 
 -- the guard took no call, and memory ran out
-pub refused : (first old new : AdviceLogState) (s s' : StatedSetup) (h h' : List Entry) → Follows first old s h → new.lost ≡ true → s' ≡ s → h' ≡ h → new.adviser.most ≡ old.adviser.most
+pub refused : (first old new : AdviceLogState) (s s' : StatedSetup) (h h' : List Entry) → Follows first old s h → new.lost ≡ true → s' ≡ s → h' ≡ h
+    → new.adviser.most ≡ old.adviser.most
     → new.noting.all ≡ old.noting.all → Follows first new s' h'
 refused first old new s s' h h' follows lost setup journal most all = record {
   logged = (
     follows.logged.0,
-    subst (λ (j : List Entry). AreMoments s' j follows.logged.0) (sym journal) (subst (λ (t : StatedSetup). AreMoments t h follows.logged.0) (sym setup) follows.logged.1),
+    subst (λ (j : List Entry). AreMoments s' j follows.logged.0) (sym journal)
+        (subst (λ (t : StatedSetup). AreMoments t h follows.logged.0) (sym setup) follows.logged.1),
     lost_stands new follows.logged.0 lost,
   );
   most = most ∙ follows.most;
@@ -88,8 +93,10 @@ refused first old new s s' h h' follows lost setup journal most all = record {
 }
 
 -- of a call that is denied the log is told nothing, whether the guard took it or memory ran out
-pub denied_follows : {T E : Type 0} (first old : AdviceLogState) (g g' : State) (t : Tid) (env : Option EnvId) (call : Call) (rule : Rule) (r : Result T E) → Follows first old g.setup g.journal
-    → verdict g.setup (parts g.setup g.journal) t.0 env call ≡ Some rule → g'.setup ≡ g.setup → OnOk r (Took g g' (next_entry g t env call)) → OnErr r (g'.journal ≡ g.journal)
+pub denied_follows : {T E : Type 0} (first old : AdviceLogState) (g g' : State) (t : Tid) (env : Option EnvId) (call : Call) (rule : Rule) (r : Result T E)
+    → Follows first old g.setup g.journal
+    → verdict g.setup (parts g.setup g.journal) t.0 env call ≡ Some rule → g'.setup ≡ g.setup → OnOk r (Took g g' (next_entry g t env call))
+    → OnErr r (g'.journal ≡ g.journal)
     → Follows first old g'.setup g'.journal
 denied_follows first old g g' t env call rule (Ok v) follows is setup took same =
     let before : List Moment = follows.logged.0 in
@@ -98,7 +105,8 @@ denied_follows first old g g' t env call rule (Ok v) follows is setup took same 
     record {
       logged = (
         before,
-        subst (λ (j : List Entry). AreMoments g'.setup j before) (sym took.journal) (subst (λ (s : StatedSetup). AreMoments s (entry ∷ g.journal) before) (sym setup) are),
+        subst (λ (j : List Entry). AreMoments g'.setup j before) (sym took.journal)
+            (subst (λ (s : StatedSetup). AreMoments s (entry ∷ g.journal) before) (sym setup) are),
         follows.logged.2,
       );
       most = follows.most;
@@ -109,7 +117,8 @@ denied_follows first old g g' t env call rule (Err e) follows is setup took same
     record {
       logged = (
         before,
-        subst (λ (j : List Entry). AreMoments g'.setup j before) (sym same) (subst (λ (s : StatedSetup). AreMoments s g.journal before) (sym setup) follows.logged.1),
+        subst (λ (j : List Entry). AreMoments g'.setup j before) (sym same)
+            (subst (λ (s : StatedSetup). AreMoments s g.journal before) (sym setup) follows.logged.1),
         follows.logged.2,
       );
       most = follows.most;
@@ -125,7 +134,8 @@ own_call None a t env call = refl
 own_call (Some rule) a t env call = refl
 
 -- what was foreseen of the call is of its entry
-pub foreseen_so : {A : Type 0} (s v : StatedSetup) (p : Parts) (t : Tid) (env : Option EnvId) (call : Call) (entry : Entry) (seen : Foreseen A) → v ≡ s → entry ≡ entry_at s p t env call
+pub foreseen_so : {A : Type 0} (s v : StatedSetup) (p : Parts) (t : Tid) (env : Option EnvId) (call : Call) (entry : Entry) (seen : Foreseen A) → v ≡ s
+    → entry ≡ entry_at s p t env call
     → Foresees v p t call seen → Foresees s p entry.tid entry.call seen
 foreseen_so s v p t env call entry seen setup is foresees =
     let e : Entry = entry_at s p t env call in
@@ -135,12 +145,14 @@ foreseen_so s v p t env call entry seen setup is foresees =
     (subst (λ (w : StatedSetup). Foresees w p t call seen) setup foresees)))
 
 -- the guard took a call that passes, and the log was told its question before and its facts after it
-pub took : (first old asked told : AdviceLogState) (s s' v : StatedSetup) (h h' : List Entry) (t : Tid) (env : Option EnvId) (call : Call) (entry : Entry) (n : ℕ) → Follows first old s h
+pub took : (first old asked told : AdviceLogState) (s s' v : StatedSetup) (h h' : List Entry) (t : Tid) (env : Option EnvId) (call : Call) (entry : Entry)
+    (n : ℕ) → Follows first old s h
     → verdict s (parts s h) t.0 env call ≡ None → n ≡ length h + 1 → v ≡ s
     → ((hist : List Moment) → LogStands old hist → (m : Moment) × IsQuestion v (parts s h) n t call m × LogStands asked (m ∷ hist))
     → ((hist : List Moment) → LogStands asked hist
     → LogStands told (with_facts n (parts s' h') (reverse (outcome_facts s (parts s h) entry.tid entry.call entry.outcome entry.object)) hist))
-    → s' ≡ s → h' ≡ entry_at s (parts s h) t env call ∷ h → entry ≡ entry_at s (parts s h) t env call → told.adviser.most ≡ old.adviser.most → told.noting.all ≡ old.noting.all
+    → s' ≡ s → h' ≡ entry_at s (parts s h) t env call ∷ h → entry ≡ entry_at s (parts s h) t env call → told.adviser.most ≡ old.adviser.most
+    → told.noting.all ≡ old.noting.all
     → Follows first told s' h'
 took first old asked told s s' v h h' t env call entry n follows passes number seen ask tell setup journal is most all =
     let p : Parts = parts s h in

@@ -29,7 +29,8 @@ all_but_last x g =
     subst (λ (n : ℕ). take n (reverse g ++ x ∷ []) ≡ reverse g) (length-reverse g) (take-append_seam (reverse g) (x ∷ [])) in
     ap reverse (ap (take (length g)) last ∙ seam) ∙ reverse-reverse g
 
-are_alike : (g after : List Entry) (line : ℕ) → (after ≡ g) ⊎ ((x : Entry) × (after ≡ x ∷ g)) → line ≡ length g + 1 → AreAlike g after (min (length after) (line - 1))
+are_alike : (g after : List Entry) (line : ℕ) → (after ≡ g) ⊎ ((x : Entry) × (after ≡ x ∷ g)) → line ≡ length g + 1
+    → AreAlike g after (min (length after) (line - 1))
 are_alike g after line (inl is) long =
     let many : length after ≡ length g = ap length is in
     let count : min (length after) (line - 1) ≡ length g = omega (arith, many, long) in
@@ -45,7 +46,8 @@ are_alike g after line (inr (x, is)) long =
       same = ap (λ (n : ℕ). as_it_was n after) count ∙ (ap (as_it_was (length g)) is ∙ all_but_last x g);
     }
 
-pub alike : (input input' : Option (List ℕ)) (s : StatedSetup) (limit : ℕ) (g after : List Entry) (text : List ℕ) (result : Result Replayed RunFault) → Finds input input' s limit g (verdict_in result)
+pub alike : (input input' : Option (List ℕ)) (s : StatedSetup) (limit : ℕ) (g after : List Entry) (text : List ℕ) (result : Result Replayed RunFault)
+    → Finds input input' s limit g (verdict_in result)
     → Leaves input input' g after text result → AreAlike g after (entries_alike result (length after))
 alike input input' s limit g after text (Ok Legal) finds leaves = record { within = omega arith; same = all_of after ∙ leaves }
 alike input input' s limit g after text (Ok (Differs line NoLineFeed)) finds leaves = are_alike g after line (inl leaves.0) finds.2

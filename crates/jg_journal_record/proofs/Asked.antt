@@ -16,8 +16,10 @@ use Rattle.jg_record.specs.declared.event.Event.TheVariants.{Question}
 use Rattle.jg_journal_record.specs.Retold.{IsQuestion}
 
 -- it is made of what the entry's readers answered
-pub asked_so : (s : StatedSetup) (p : Parts) (x : Entry) (t : Tid) (env : Option EnvId) (call : Call) (place : ℕ) (before arguments : List Argument) (gone : List ObjId)
-    → t ≡ x.tid → env ≡ x.env → call ≡ x.call → slice_get functions place ≡ Some (row_for (fun_of call)) → before ≡ [] → arguments ≡ before ++ arguments_of s p t.0 call
+pub asked_so : (s : StatedSetup) (p : Parts) (x : Entry) (t : Tid) (env : Option EnvId) (call : Call) (place : ℕ) (before arguments : List Argument)
+    (gone : List ObjId)
+    → t ≡ x.tid → env ≡ x.env → call ≡ x.call → slice_get functions place ≡ Some (row_for (fun_of call)) → before ≡ []
+    → arguments ≡ before ++ arguments_of s p t.0 call
     → IsQuestion s p x (record { by = t; event = Question t env place; arguments = arguments; gone = gone })
 asked_so s p x t env call place before arguments gone t_is env_is call_is function none operands = record {
   place = place;

@@ -20,8 +20,10 @@ use Rattle.jg_journal_record.specs.Retold.{AddsEntry, FailsAt, WritesBounds, Wri
 line_behind : (s : StatedSetup) (line : Line) (front old new : List ℕ) → AddsLine s line old new → AddsLine s line (front ++ old) (front ++ new)
 line_behind s line front old new (own, is, text) = (own, is, ap (λ (t : List ℕ). front ++ t) text ∙ sym (append_assoc front old (own ++ 10 ∷ [])))
 
-facts_behind : (s : StatedSetup) (by : Tid) (facts : List Fact) (front old new : List ℕ) → AddsFacts s by facts old new → AddsFacts s by facts (front ++ old) (front ++ new)
-facts_behind s by facts front old new (lines, tell, text, are, is) = (lines, tell, text, are, ap (λ (t : List ℕ). front ++ t) is ∙ sym (append_assoc front old text))
+facts_behind : (s : StatedSetup) (by : Tid) (facts : List Fact) (front old new : List ℕ) → AddsFacts s by facts old new
+    → AddsFacts s by facts (front ++ old) (front ++ new)
+facts_behind s by facts front old new (lines, tell, text, are, is) =
+    (lines, tell, text, are, ap (λ (t : List ℕ). front ++ t) is ∙ sym (append_assoc front old text))
 
 -- what is an entry's on its own is so behind anything
 entry_behind : (s : StatedSetup) (p : Parts) (x : Entry) (front text : List ℕ) → AddsEntry s p x [] text → AddsEntry s p x front (front ++ text)
@@ -32,7 +34,8 @@ entry_behind s p x front text (asked, (line, question, adds), told) = (
 )
 
 -- one entry more
-pub one_written : (s : StatedSetup) (h : List Entry) (n : ℕ) (x : Entry) (bytes mid bytes' : Option (List ℕ)) → slice_get (reverse h) n ≡ Some x → WritesRecord s (as_it_was n h) bytes mid
+pub one_written : (s : StatedSetup) (h : List Entry) (n : ℕ) (x : Entry) (bytes mid bytes' : Option (List ℕ)) → slice_get (reverse h) n ≡ Some x
+    → WritesRecord s (as_it_was n h) bytes mid
     → WritesEntry s (parts s (as_it_was n h)) x mid bytes' → WritesRecord s (as_it_was (n + 1) h) bytes bytes'
 one_written s h n x bytes mid bytes' at (first, rest, is, before, written) (text, entry, appended) =
     let all : Appends bytes bytes' ((first ++ 10 ∷ []) ++ (rest ++ text)) =
@@ -42,7 +45,8 @@ one_written s h n x bytes mid bytes' at (first, rest, is, before, written) (text
 
 -- the bounds alone
 pub none_written : (s : StatedSetup) (bytes bytes' : Option (List ℕ)) → WritesBounds s bytes bytes' → WritesRecord s [] bytes bytes'
-none_written s bytes bytes' (first, is, written) = (first, [], is, refl, subst (λ (t : List ℕ). Appends bytes bytes' t) (sym (append-nil (first ++ 10 ∷ []))) written)
+none_written s bytes bytes' (first, is, written) =
+    (first, [], is, refl, subst (λ (t : List ℕ). Appends bytes bytes' t) (sym (append-nil (first ++ 10 ∷ []))) written)
 
 -- a fault of a later writing, where the writer was sound before it
 pub still_fails : (old mid new : Bool) (fault : RetellFault) → mid ≡ old → FailsAt mid new fault → FailsAt old new fault

@@ -21,21 +21,25 @@ tell_append by (x ∷ xs) ys f g (own, rest, tell, is) others =
     (own, rest ++ g, tell_append by xs ys rest g tell others, ap (λ (t : List Fact). t ++ g) is ∙ append_assoc (facts_in x.event x.gone) rest g)
 
 -- one line more
-line_told : (s : StatedSetup) (by : Tid) (start : List ℕ) (told after : List Fact) (listed left : List ObjId) (old new : List ℕ) (line : Line) (telling : IsTelling s by start told listed old)
-    → AddsLine s line old new → line.by ≡ by → after ≡ (telling.facts ++ facts_in line.event line.gone) ++ map (λ o. Gone o) left → IsTelling s by start after left new
+line_told : (s : StatedSetup) (by : Tid) (start : List ℕ) (told after : List Fact) (listed left : List ObjId) (old new : List ℕ) (line : Line)
+    (telling : IsTelling s by start told listed old)
+    → AddsLine s line old new → line.by ≡ by → after ≡ (telling.facts ++ facts_in line.event line.gone) ++ map (λ o. Gone o) left
+    → IsTelling s by start after left new
 line_told s by start told after listed left old new line telling (own, is, text) by_is after_is =
     record {
       lines = telling.lines ++ line ∷ [];
       facts = telling.facts ++ facts_in line.event line.gone;
       own = telling.own ++ (own ++ 10 ∷ []);
       are = lines_append s telling.lines (line ∷ []) telling.own (own ++ 10 ∷ []) telling.are (own, [], is, refl, refl);
-      tell = tell_append by telling.lines (line ∷ []) telling.facts (facts_in line.event line.gone) telling.tell (by_is, [], refl, sym (append-nil (facts_in line.event line.gone)));
+      tell = tell_append by telling.lines (line ∷ []) telling.facts (facts_in line.event line.gone) telling.tell
+          (by_is, [], refl, sym (append-nil (facts_in line.event line.gone)));
       all = after_is;
       is = text ∙ ap (λ (t : List ℕ). t ++ (own ++ 10 ∷ [])) telling.is ∙ append_assoc start telling.own (own ++ 10 ∷ []);
     }
 
 -- the line of a fact
-pub fact_told : (s : StatedSetup) (by : Tid) (start : List ℕ) (told : List Fact) (old new : List ℕ) (line : Line) (fact : Fact) → IsTelling s by start told [] old
+pub fact_told : (s : StatedSetup) (by : Tid) (start : List ℕ) (told : List Fact) (old new : List ℕ) (line : Line) (fact : Fact)
+    → IsTelling s by start told [] old
     → AddsLine s line old new → line.by ≡ by → line.event ≡ Told fact → IsTelling s by start (told ++ fact ∷ []) [] new
 fact_told s by start told old new line fact telling adds by_is event_is =
     let facts : facts_in line.event line.gone ≡ fact ∷ [] = ap (λ (e : Event). facts_in e line.gone) event_is in
@@ -44,7 +48,8 @@ fact_told s by start told old new line fact telling adds by_is event_is =
     ∙ (ap (λ (t : List Fact). telling.facts ++ t) (sym facts) ∙ sym (append-nil (telling.facts ++ facts_in line.event line.gone))))
 
 -- the line of what is listed
-pub gone_told : (s : StatedSetup) (by : Tid) (start : List ℕ) (told : List Fact) (listed : List ObjId) (old new : List ℕ) (line : Line) → IsTelling s by start told listed old → AddsLine s line old new
+pub gone_told : (s : StatedSetup) (by : Tid) (start : List ℕ) (told : List Fact) (listed : List ObjId) (old new : List ℕ) (line : Line)
+    → IsTelling s by start told listed old → AddsLine s line old new
     → line.by ≡ by → line.event ≡ AreGone → line.gone ≡ listed → IsTelling s by start told [] new
 gone_told s by start told listed old new line telling adds by_is event_is gone_is =
     let facts : facts_in line.event line.gone ≡ map (λ o. Gone o) listed = ap (λ (e : Event). facts_in e line.gone) event_is ∙ ap (map (λ o. Gone o)) gone_is in
@@ -52,7 +57,8 @@ gone_told s by start told listed old new line telling adds by_is event_is gone_i
     (telling.all ∙ (ap (λ (t : List Fact). telling.facts ++ t) (sym facts) ∙ sym (append-nil (telling.facts ++ facts_in line.event line.gone))))
 
 -- an object more is listed
-pub gone_listed : (s : StatedSetup) (by : Tid) (start : List ℕ) (told : List Fact) (listed after : List ObjId) (text : List ℕ) (o : ObjId) → IsTelling s by start told listed text
+pub gone_listed : (s : StatedSetup) (by : Tid) (start : List ℕ) (told : List Fact) (listed after : List ObjId) (text : List ℕ) (o : ObjId)
+    → IsTelling s by start told listed text
     → after ≡ listed ++ o ∷ [] → IsTelling s by start (told ++ Gone o ∷ []) after text
 gone_listed s by start told listed after text o telling after_is =
     record {
@@ -72,6 +78,8 @@ pub none_told : (s : StatedSetup) (by : Tid) (start : List ℕ) → IsTelling s 
 none_told s by start = record { lines = []; facts = []; own = []; are = refl; tell = refl; all = refl; is = sym (append-nil start) }
 
 -- all is told
-pub all_told : (s : StatedSetup) (by : Tid) (start : List ℕ) (told : List Fact) (text : List ℕ) → IsTelling s by start told [] text → AddsFacts s by told start text
+pub all_told : (s : StatedSetup) (by : Tid) (start : List ℕ) (told : List Fact) (text : List ℕ) → IsTelling s by start told [] text
+    → AddsFacts s by told start text
 all_told s by start told text telling =
-    (telling.lines, subst (λ (t : List Fact). Tell by telling.lines t) (sym (telling.all ∙ append-nil telling.facts)) telling.tell, telling.own, telling.are, telling.is)
+    (telling.lines, subst (λ (t : List Fact). Tell by telling.lines t) (sym (telling.all ∙ append-nil telling.facts)) telling.tell, telling.own, telling.are,
+        telling.is)

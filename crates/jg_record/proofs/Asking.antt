@@ -15,21 +15,25 @@ pub record GoesOn (takes : List Takes) (words : List (List ℕ)) (wanted : List 
   pub whole : (xs : List Argument) → Asks wanted left xs → Asks takes words (read ++ xs)
   pub rest : (xs : List Argument) → Asks takes words xs → (ys : List Argument) × Asks wanted left ys
 
-behind_one : (t : Takes) (more : List Takes) (w : List ℕ) (later : List (List ℕ)) (b : Bool) → is_last t ≡ b → (ys : List Argument) → Asks (t ∷ more) (w ∷ later) ys
+behind_one : (t : Takes) (more : List Takes) (w : List ℕ) (later : List (List ℕ)) (b : Bool) → is_last t ≡ b → (ys : List Argument)
+    → Asks (t ∷ more) (w ∷ later) ys
     → (zs : List Argument) × Asks (if b then t ∷ more else more) later zs
 behind_one t more w later b last [] asks = absurd asks
 behind_one t more w later b last (y ∷ ys) asks = (ys, subst (λ (c : Bool). Asks (if c then t ∷ more else more) later ys) last asks.1)
 
 -- one word more is read
-pub one_more : (takes : List Takes) (words : List (List ℕ)) (t : Takes) (more : List Takes) (w : List ℕ) (later : List (List ℕ)) (read : List Argument) (x : Argument) (b : Bool) → is_last t ≡ b
+pub one_more : (takes : List Takes) (words : List (List ℕ)) (t : Takes) (more : List Takes) (w : List ℕ) (later : List (List ℕ)) (read : List Argument)
+    (x : Argument) (b : Bool) → is_last t ≡ b
     → GoesOn takes words (t ∷ more) (w ∷ later) read → Spells (sort_of t) w x → GoesOn takes words (if b then t ∷ more else more) later (read ++ x ∷ [])
 one_more takes words t more w later read x b last old spelt = record {
-  whole = λ xs asks. subst (Asks takes words) (sym (append_assoc read (x ∷ []) xs)) (old.whole (x ∷ xs) (spelt, subst (λ (c : Bool). Asks (if c then t ∷ more else more) later xs) (sym last) asks));
+  whole = λ xs asks. subst (Asks takes words) (sym (append_assoc read (x ∷ []) xs))
+      (old.whole (x ∷ xs) (spelt, subst (λ (c : Bool). Asks (if c then t ∷ more else more) later xs) (sym last) asks));
   rest = λ xs asks. let found = old.rest xs asks in behind_one t more w later b last found.0 found.1;
 }
 
 -- none is left
-pub all_read : (takes : List Takes) (words : List (List ℕ)) (wanted : List Takes) (read : List Argument) → GoesOn takes words wanted [] read → are_none wanted ≡ true → Asks takes words read
+pub all_read : (takes : List Takes) (words : List (List ℕ)) (wanted : List Takes) (read : List Argument) → GoesOn takes words wanted [] read
+    → are_none wanted ≡ true → Asks takes words read
 all_read takes words wanted read old none = subst (Asks takes words) (append-nil read) (old.whole [] none)
 
 -- what was put was put, where memory didn't run out

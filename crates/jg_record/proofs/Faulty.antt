@@ -56,7 +56,8 @@ module _ (s : StatedSetup) (text : List ℕ) (plain : IsPlain text) where
     threaded BadOperand low = absurd (omega (arith, low))
     threaded NoMemory low = absurd (omega (arith, low))
 
-    pub no_event : ((env : Option EnvId) → FitsEnv env → slice_get rest 0 ≢ Some (env_text env)) → ((word : List ℕ) (v : Verb) → slice_get rest 0 ≡ Some word → verb_named word ≢ Some v)
+    pub no_event : ((env : Option EnvId) → FitsEnv env → slice_get rest 0 ≢ Some (env_text env))
+        → ((word : List ℕ) (v : Verb) → slice_get rest 0 ≡ Some word → verb_named word ≢ Some v)
         → IsFirstFault s text NoEvent
     no_event no_env none = record {
       fault = (
@@ -68,7 +69,8 @@ module _ (s : StatedSetup) (text : List ℕ) (plain : IsPlain text) where
 
   -- ---- a question
 
-  module _ (t : Tid) (fits : FitsTid t) (env : Option EnvId) (fits_env : FitsEnv env) (words : List (List ℕ)) (split : fields text ≡ tid_text t ∷ env_text env ∷ words) where
+  module _ (t : Tid) (fits : FitsTid t) (env : Option EnvId) (fits_env : FitsEnv env) (words : List (List ℕ))
+      (split : fields text ≡ tid_text t ∷ env_text env ∷ words) where
     asked : (g : RecordFault) → rank g < 4 → ¬ HasFault g s text
     asked LineTooLong low = early LineTooLong (omega arith)
     asked NotAscii low = early NotAscii (omega arith)
@@ -81,7 +83,8 @@ module _ (s : StatedSetup) (text : List ℕ) (plain : IsPlain text) where
 
     pub unknown_function : ((place : ℕ) → place < 243 → slice_get words 0 ≢ Some (name_at place)) → IsFirstFault s text UnknownFunction
     unknown_function none = record {
-      fault = (env, fits_env, ap (λ fs. slice_get fs 1) split, λ place below is. none place below (ap (λ (fs : List (List ℕ)). slice_get fs 2) (sym split) ∙ is));
+      fault = (env, fits_env, ap (λ fs. slice_get fs 1) split, λ place below is. none place below
+          (ap (λ (fs : List (List ℕ)). slice_get fs 2) (sym split) ∙ is));
       first = asked;
     }
 
@@ -92,7 +95,8 @@ module _ (s : StatedSetup) (text : List ℕ) (plain : IsPlain text) where
       asks : AsksFor text t env place row rest
       asks = record { fits_tid = fits; fits_env = fits_env; at = h.at; split = whole }
 
-      one_row : (t' : Tid) (env' : Option EnvId) (place' : ℕ) (row' : Columns) (words' : List (List ℕ)) → AsksFor text t' env' place' row' words' → (row' ≡ row) × (words' ≡ rest)
+      one_row : (t' : Tid) (env' : Option EnvId) (place' : ℕ) (row' : Columns) (words' : List (List ℕ)) → AsksFor text t' env' place' row' words'
+          → (row' ≡ row) × (words' ≡ rest)
       one_row t' env' place' row' words' other =
           let both : tid_text t ∷ env_text env ∷ row.name ∷ rest ≡ tid_text t' ∷ env_text env' ∷ row'.name ∷ words' = sym whole ∙ other.split in
           let name : row'.name ≡ row.name = cc in
@@ -130,7 +134,8 @@ module _ (s : StatedSetup) (text : List ℕ) (plain : IsPlain text) where
       counted count NoThread low = known NoThread (omega arith)
       counted count NoEvent low = known NoEvent (omega arith)
       counted count UnknownFunction low = known UnknownFunction (omega arith)
-      counted count WrongCount low = λ bad. let not : is_count row.takes (length rest) ≡ false = bad.0 t env place row rest asks in absurd (let no : ⊥ = cc (not, count) in no)
+      counted count WrongCount low = λ bad. let not : is_count row.takes (length rest) ≡ false = bad.0 t env place row rest asks
+          in absurd (let no : ⊥ = cc (not, count) in no)
       counted count BadOperand low = absurd (omega (arith, low))
       counted count NoMemory low = absurd (omega (arith, low))
 
@@ -194,7 +199,8 @@ module _ (s : StatedSetup) (text : List ℕ) (plain : IsPlain text) where
     spoken_whole count NoThread low = spoken NoThread (omega arith)
     spoken_whole count NoEvent low = spoken NoEvent (omega arith)
     spoken_whole count UnknownFunction low = spoken UnknownFunction (omega arith)
-    spoken_whole count WrongCount low = λ bad. let not : is_told_count v (length words) ≡ false = bad.1 t v words told in absurd (let no : ⊥ = cc (not, count) in no)
+    spoken_whole count WrongCount low = λ bad. let not : is_told_count v (length words) ≡ false = bad.1 t v words told
+        in absurd (let no : ⊥ = cc (not, count) in no)
     spoken_whole count BadOperand low = absurd (omega (arith, low))
     spoken_whole count NoMemory low = absurd (omega (arith, low))
 

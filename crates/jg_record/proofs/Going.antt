@@ -18,18 +18,22 @@ fits_more : (read : List ObjId) (o : ObjId) → AllByRecursion FitsObject read �
 fits_more [] o fits new = (new, tt)
 fits_more (r ∷ read) o fits new = (fits.0, fits_more read o fits.1 new)
 
-pub one_more : (words : List (List ℕ)) (read : List ObjId) (o : ObjId) (later : List (List ℕ)) → GoneThen words read (object_text o ∷ later) → FitsObject o → GoneThen words (read ++ o ∷ []) later
+pub one_more : (words : List (List ℕ)) (read : List ObjId) (o : ObjId) (later : List (List ℕ)) → GoneThen words read (object_text o ∷ later) → FitsObject o
+    → GoneThen words (read ++ o ∷ []) later
 one_more words read o later old new = record { fits = fits_more read o old.fits new; split = old.split ∙ sym (texts_more read o later) }
 
-no_text : (read : List ObjId) (word : List ℕ) (later : List (List ℕ)) (gone : List ObjId) → ((o : ObjId) → FitsObject o → word ≢ object_text o) → AllByRecursion FitsObject gone
+no_text : (read : List ObjId) (word : List ℕ) (later : List (List ℕ)) (gone : List ObjId) → ((o : ObjId) → FitsObject o → word ≢ object_text o)
+    → AllByRecursion FitsObject gone
     → map object_text read ++ word ∷ later ≢ map object_text gone
 no_text [] word later [] none fits is = cc
 no_text [] word later (o ∷ gone) none fits is = none o fits.0 (let same : word ≡ object_text o = cc in same)
 no_text (r ∷ read) word later [] none fits is = cc
-no_text (r ∷ read) word later (o ∷ gone) none fits is = no_text read word later gone none fits.1 (let same : map object_text read ++ word ∷ later ≡ map object_text gone = cc in same)
+no_text (r ∷ read) word later (o ∷ gone) none fits is =
+    no_text read word later gone none fits.1 (let same : map object_text read ++ word ∷ later ≡ map object_text gone = cc in same)
 
 -- a word that spells no object
-pub no_object : (words : List (List ℕ)) (read : List ObjId) (word : List ℕ) (later : List (List ℕ)) → GoneThen words read (word ∷ later) → ((o : ObjId) → FitsObject o → word ≢ object_text o)
+pub no_object : (words : List (List ℕ)) (read : List ObjId) (word : List ℕ) (later : List (List ℕ)) → GoneThen words read (word ∷ later)
+    → ((o : ObjId) → FitsObject o → word ≢ object_text o)
     → (gone : List ObjId) → ¬ AreGone words gone
 no_object words read word later old none gone are = no_text read word later gone none are.0 (sym old.split ∙ are.2)
 

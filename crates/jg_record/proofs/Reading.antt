@@ -52,7 +52,8 @@ has_row words rest name place row split named one at =
     }
 
 -- where the table has no row at the name's place, no function has the name
-pub no_row : (words rest : List (List ℕ)) (name : List ℕ) (place : ℕ) → words ≡ name ∷ rest → ((other : ℕ) → other < 243 → name_at other ≡ name → place ≡ other) → slice_get functions place ≡ None
+pub no_row : (words rest : List (List ℕ)) (name : List ℕ) (place : ℕ) → words ≡ name ∷ rest → ((other : ℕ) → other < 243 → name_at other ≡ name → place ≡ other)
+    → slice_get functions place ≡ None
     → (other : ℕ) → other < 243 → slice_get words 0 ≢ Some (name_at other)
 no_row words rest name place split one none other below found =
     let both : Some name ≡ Some (name_at other) = sym (ap (λ ws. slice_get ws 0) split) ∙ found in
@@ -60,7 +61,8 @@ no_row words rest name place split one none other below found =
     let place_is : place ≡ other = one other below same in
     past (slice_get_cases functions place).1
   where
-    past : ((x : Columns) × (place < length functions) × (slice_get functions place ≡ Some x) × (get_or functions place x ≡ x)) ⊎ ((length functions ≤ place) × (slice_get functions place ≡ None)) → ⊥
+    past : ((x : Columns) × (place < length functions) × (slice_get functions place ≡ Some x) × (get_or functions place x ≡ x))
+        ⊎ ((length functions ≤ place) × (slice_get functions place ≡ None)) → ⊥
     past (inl (x, within, at, is)) = let no : ⊥ = cc (at, none) in no
     past (inr (far, is)) =
         let both : Some name ≡ Some (name_at other) = sym (ap (λ ws. slice_get ws 0) split) ∙ found in
@@ -82,7 +84,8 @@ bad_or_none UnknownFunction N bad = inr (bad (λ is. cc))
 bad_or_none WrongCount N bad = inr (bad (λ is. cc))
 
 -- why a question asks nothing, where its operands aren't read
-pub question_fault : (words : List (List ℕ)) (place : ℕ) (row : Columns) (rest : List (List ℕ)) (f : RecordFault) → HasRow words place row rest → is_count row.takes (length rest) ≡ true
+pub question_fault : (words : List (List ℕ)) (place : ℕ) (row : Columns) (rest : List (List ℕ)) (f : RecordFault) → HasRow words place row rest
+    → is_count row.takes (length rest) ≡ true
     → IsOperandFault row.takes rest f → IsQuestionFault words f
 question_fault words place row rest f h count bad = by (bad_or_none f _ bad)
   where
@@ -91,7 +94,8 @@ question_fault words place row rest f h count bad = by (bad_or_none f _ bad)
     by (inr (is, no_operands)) = subst (IsQuestionFault words) (sym is) (place, row, rest, h, count, no_operands)
 
 -- why the words of a fact tell nothing
-pub words_fault : (s : StatedSetup) (v : Verb) (t : Tid) (words : List (List ℕ)) (f : RecordFault) → is_told_count v (length words) ≡ true → IsToldFault s v t words f → IsWordsFault s v t words f
+pub words_fault : (s : StatedSetup) (v : Verb) (t : Tid) (words : List (List ℕ)) (f : RecordFault) → is_told_count v (length words) ≡ true
+    → IsToldFault s v t words f → IsWordsFault s v t words f
 words_fault s v t words f count bad = by (bad_or_none f _ bad)
   where
     by : (f ≡ NoMemory) ⊎ ((f ≡ BadOperand) × ((e : Event) (gone : List ObjId) → ¬ Tells s v t words e gone)) → IsWordsFault s v t words f
@@ -100,11 +104,14 @@ words_fault s v t words f count bad = by (bad_or_none f _ bad)
 
 module _ (s : StatedSetup) (text : List ℕ) (plain : IsPlain text) where
   -- of a question
-  pub question_named : (t : Tid) (env : Option EnvId) (words : List (List ℕ)) → FitsTid t → FitsEnv env → fields text ≡ tid_text t ∷ env_text env ∷ words → (f : RecordFault)
+  pub question_named : (t : Tid) (env : Option EnvId) (words : List (List ℕ)) → FitsTid t → FitsEnv env → fields text ≡ tid_text t ∷ env_text env ∷ words
+      → (f : RecordFault)
       → IsQuestionFault words f → NamesFirstFault s text f
   question_named t env words fits fits_env split UnknownFunction none = λ _. unknown_function s text plain t fits env fits_env words split none
-  question_named t env words fits fits_env split WrongCount (place, row, rest, h, other) = λ _. wrong_count s text plain t fits env fits_env words split place row rest h other
-  question_named t env words fits fits_env split BadOperand (place, row, rest, h, count, none) = λ _. bad_operand s text plain t fits env fits_env words split place row rest h count none
+  question_named t env words fits fits_env split WrongCount (place, row, rest, h, other) =
+      λ _. wrong_count s text plain t fits env fits_env words split place row rest h other
+  question_named t env words fits fits_env split BadOperand (place, row, rest, h, count, none) =
+      λ _. bad_operand s text plain t fits env fits_env words split place row rest h count none
   question_named t env words fits fits_env split NoMemory fault = λ ne. absurd (ne refl)
   question_named t env words fits fits_env split LineTooLong fault = absurd fault
   question_named t env words fits fits_env split NotAscii fault = absurd fault
@@ -112,7 +119,8 @@ module _ (s : StatedSetup) (text : List ℕ) (plain : IsPlain text) where
   question_named t env words fits fits_env split NoEvent fault = absurd fault
 
   -- of a fact
-  pub words_named : (t : Tid) (v : Verb) (words : List (List ℕ)) → TellsOf text t v words → (f : RecordFault) → IsWordsFault s v t words f → NamesFirstFault s text f
+  pub words_named : (t : Tid) (v : Verb) (words : List (List ℕ)) → TellsOf text t v words → (f : RecordFault) → IsWordsFault s v t words f
+      → NamesFirstFault s text f
   words_named t v words told WrongCount other = λ _. wrong_words s text plain t v words told other
   words_named t v words told BadOperand (count, none) = λ _. bad_words s text plain t v words told count none
   words_named t v words told NoMemory fault = λ ne. absurd (ne refl)
@@ -124,13 +132,16 @@ module _ (s : StatedSetup) (text : List ℕ) (plain : IsPlain text) where
 
 -- ---- events
 
-pub question_spelt : (s : StatedSetup) (text : List ℕ) (r : Result Event RecordFault) (t : Tid) (env : Option EnvId) (words : List (List ℕ)) (xs : List Argument) (gone : List ObjId) → FitsTid t
+pub question_spelt : (s : StatedSetup) (text : List ℕ) (r : Result Event RecordFault) (t : Tid) (env : Option EnvId) (words : List (List ℕ))
+    (xs : List Argument) (gone : List ObjId) → FitsTid t
     → FitsEnv env → fields text ≡ tid_text t ∷ env_text env ∷ words → IfOk r (λ e. AsksBehind t env words e xs) → IfOk r (λ e. SpellsEvent s text e xs gone)
 question_spelt s text (Ok e) t env words xs gone fits fits_env split (place, row, rest, h, is, asks) =
-    inl (t, env, place, row, rest, record { fits_tid = fits; fits_env = fits_env; at = h.at; split = split ∙ ap (λ (ws : List (List ℕ)). tid_text t ∷ env_text env ∷ ws) h.split }, asks, is)
+    inl (t, env, place, row, rest, record { fits_tid = fits; fits_env = fits_env; at = h.at; split =
+        split ∙ ap (λ (ws : List (List ℕ)). tid_text t ∷ env_text env ∷ ws) h.split }, asks, is)
 question_spelt s text (Err f) t env words xs gone fits fits_env split spelt = spelt
 
-pub words_spelt : (s : StatedSetup) (text : List ℕ) (r : Result Event RecordFault) (t : Tid) (v : Verb) (words : List (List ℕ)) (xs : List Argument) (gone : List ObjId) → TellsOf text t v words
+pub words_spelt : (s : StatedSetup) (text : List ℕ) (r : Result Event RecordFault) (t : Tid) (v : Verb) (words : List (List ℕ)) (xs : List Argument)
+    (gone : List ObjId) → TellsOf text t v words
     → IfOk r (λ e. Tells s v t words e gone) → IfOk r (λ e. SpellsEvent s text e xs gone)
 words_spelt s text (Ok e) t v words xs gone told tells = inr (t, v, words, told, tells)
 words_spelt s text (Err f) t v words xs gone told tells = tells

@@ -44,13 +44,15 @@ pub known : (bs : List ℕ) → list_all is_seen bs ≡ true → IsVisible bs
 known bs h = All-from_recursion (λ b. IsInRange 33 126 b) bs (by_test bs h)
 
 -- the names of functions
-row_seen : (rows : List Columns) (place : ℕ) (row : Columns) → list_all (λ (r : Columns). list_all is_seen r.name) rows ≡ true → slice_get rows place ≡ Some row → list_all is_seen row.name ≡ true
+row_seen : (rows : List Columns) (place : ℕ) (row : Columns) → list_all (λ (r : Columns). list_all is_seen r.name) rows ≡ true → slice_get rows place ≡ Some row
+    → list_all is_seen row.name ≡ true
 row_seen [] place row h at = cc
 row_seen (r ∷ rows) zero row h at =
     let parts = and_parts (list_all is_seen r.name) (list_all (λ (r : Columns). list_all is_seen r.name) rows) h in
     let same : r ≡ row = cc in
     rw same at parts.0
-row_seen (r ∷ rows) (suc place) row h at = row_seen rows place row (and_parts (list_all is_seen r.name) (list_all (λ (r : Columns). list_all is_seen r.name) rows) h).1 at
+row_seen (r ∷ rows) (suc place) row h at =
+    row_seen rows place row (and_parts (list_all is_seen r.name) (list_all (λ (r : Columns). list_all is_seen r.name) rows) h).1 at
 
 pub seen_name : (place : ℕ) (row : Columns) → slice_get functions place ≡ Some row → IsVisible row.name
 seen_name place row at = known row.name (row_seen functions place row refl at)

@@ -41,9 +41,11 @@ pub record ToldAs (s : StatedSetup) (words : List (List ℕ)) (t : Tid) (e : Eve
   pub tells : Tells s v t rest e gone
   pub seen : AllByRecursion IsVisible words
 
-pub spoken : (s : StatedSetup) (t : Tid) (e : Event) (gone : List ObjId) (v : Verb) (word : List ℕ) (rest : List (List ℕ)) → verb_named word ≡ Some v → list_all is_seen word ≡ true
+pub spoken : (s : StatedSetup) (t : Tid) (e : Event) (gone : List ObjId) (v : Verb) (word : List ℕ) (rest : List (List ℕ)) → verb_named word ≡ Some v
+    → list_all is_seen word ≡ true
     → AllByRecursion IsVisible rest → Tells s v t rest e gone → ToldAs s (word ∷ rest) t e gone
-spoken s t e gone v word rest named seen others tells = record { v = v; word = word; rest = rest; split = refl; named = named; tells = tells; seen = (known word seen, others) }
+spoken s t e gone v word rest named seen others tells =
+    record { v = v; word = word; rest = rest; split = refl; named = named; tells = tells; seen = (known word seen, others) }
 
 -- ---- words of kinds, families and classes
 
@@ -101,7 +103,8 @@ class_meant s class below has = class_by s class (nat_lt class (class_count s)) 
 
 -- ---- facts
 
-pub told : (s : StatedSetup) (by : Tid) (f : FactOf) (gone : List ObjId) → is_told s f ≡ true → FitsFact f → ToldAs s (fact_words s f) (teller_of by f) (Fact f) gone
+pub told : (s : StatedSetup) (by : Tid) (f : FactOf) (gone : List ObjId) → is_told s f ≡ true → FitsFact f
+    → ToldAs s (fact_words s f) (teller_of by f) (Fact f) gone
 told s by (fact.Begin t) gone has fits = spoken s t _ gone verb.Begins (codes "begins") [] refl refl tt (refl, refl)
 told s by (fact.End t) gone has fits = spoken s t _ gone verb.Ends (codes "ends") [] refl refl tt (refl, refl)
 told s by (fact.Enter t) gone has fits = spoken s t _ gone verb.Enters (codes "enters") [] refl refl tt (refl, refl)
@@ -137,18 +140,21 @@ told s by (fact.Meet class n) gone has fits =
     (class_word s class, class, meant.means, n, fits.1, refl, refl)
 told s by (fact.Gone o) gone has fits = absurd (let no : ⊥ = cc in no)
 told s by (fact.Link class native) gone has fits =
-    spoken s by _ gone verb.Linked (codes "linked") (decimal class ∷ decimal native ∷ []) refl refl (seen_natural class fits.0, (seen_natural native fits.1, tt))
+    spoken s by _ gone verb.Linked (codes "linked") (decimal class ∷ decimal native ∷ []) refl refl
+        (seen_natural class fits.0, (seen_natural native fits.1, tt))
     (class, fits.0, native, fits.1, refl, refl)
 told s by (fact.Unlink class) gone has fits =
     spoken s by _ gone verb.Unlinked (codes "unlinked") (decimal class ∷ []) refl refl (seen_natural class fits, tt) (class, fits, refl, refl)
 told s by (fact.Warn home) gone has fits =
     spoken s by _ gone verb.Warned (codes "warned") (decimal home ∷ []) refl refl (seen_natural home fits, tt) (home, fits, refl, refl)
 told s by (fact.Checked (checked.Local t n o)) gone has fits =
-    spoken s t _ gone verb.Local (codes "local") (decimal n ∷ kept_text o ∷ []) refl refl (seen_number n fits.0, (seen_kept o fits.1, tt)) (n, fits.0, o, fits.1, refl, refl)
+    spoken s t _ gone verb.Local (codes "local") (decimal n ∷ kept_text o ∷ []) refl refl (seen_number n fits.0, (seen_kept o fits.1, tt))
+        (n, fits.0, o, fits.1, refl, refl)
 told s by (fact.Checked (checked.Pending t o)) gone has fits =
     spoken s t _ gone verb.Pending (codes "pending") (kept_text o ∷ []) refl refl (seen_kept o fits, tt) (o, fits, refl, refl)
 told s by (fact.Checked (checked.Length o n)) gone has fits =
-    spoken s by _ gone verb.Length (codes "length") (object_text o ∷ decimal n ∷ []) refl refl (seen_object o fits.0, (seen_natural n fits.1, tt)) (o, fits.0, n, fits.1, refl, refl)
+    spoken s by _ gone verb.Length (codes "length") (object_text o ∷ decimal n ∷ []) refl refl (seen_object o fits.0, (seen_natural n fits.1, tt))
+        (o, fits.0, n, fits.1, refl, refl)
 
 -- ---- and back
 
@@ -173,7 +179,8 @@ class_is s word class (inr (kind, named, at)) = let few = own_below kind in grin
 some_gone : (gone : List ObjId) → 0 < length gone → not (length gone == 0) ≡ true
 some_gone gone some = grind (arith, nat_tests, some)
 
-pub told_has : (s : StatedSetup) (v : Verb) (t : Tid) (words : List (List ℕ)) (e : Event) (gone : List ObjId) → Tells s v t words e gone → has_told s e gone ≡ true
+pub told_has : (s : StatedSetup) (v : Verb) (t : Tid) (words : List (List ℕ)) (e : Event) (gone : List ObjId) → Tells s v t words e gone
+    → has_told s e gone ≡ true
 told_has s verb.Begins t words e gone (none, is) = ap (λ x. has_told s x gone) is
 told_has s verb.Ends t words e gone (none, is) = ap (λ x. has_told s x gone) is
 told_has s verb.Enters t words e gone (none, is) = ap (λ x. has_told s x gone) is

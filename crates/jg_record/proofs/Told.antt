@@ -5,7 +5,8 @@ use Rattle.jg_policy.specs.Stated.{StatedSetup, class_count}
 use Rattle.jg_record.specs.Words.{own_named}
 use Rattle.jg_record.specs.Events.{MeansClass}
 
-pub no_class : (s : StatedSetup) (word : List ℕ) → own_named word ≡ None → ((n : ℕ) → n < class_count s → word ≢ decimal n) → (class : ℕ) → ¬ MeansClass s word class
+pub no_class : (s : StatedSetup) (word : List ℕ) → own_named word ≡ None → ((n : ℕ) → n < class_count s → word ≢ decimal n) → (class : ℕ)
+    → ¬ MeansClass s word class
 no_class s word none none_such class (inl (below, is)) = none_such class below is
 no_class s word none none_such class (inr (kind, named, at)) = absurd (let clash : ⊥ = cc (none, named) in clash)
 

@@ -35,7 +35,8 @@ abbrev pub text_of : Tid → List (List ℕ) → List ℕ
 text_of t words = tid_text t ++ after_spaces words
 
 -- a thread's words that tell an event are a text of it
-told_text : (s : StatedSetup) (by t : Tid) (words : List (List ℕ)) (e : Event) (xs : List Argument) (gone : List ObjId) → teller by e ≡ t → FitsTid t → ToldAs s words t e gone
+told_text : (s : StatedSetup) (by t : Tid) (words : List (List ℕ)) (e : Event) (xs : List Argument) (gone : List ObjId) → teller by e ≡ t → FitsTid t
+    → ToldAs s words t e gone
     → IsTextOf s by e xs gone (text_of t words)
 told_text s by t words e xs gone teller_is fits as_told =
     let seen = seen_tid t fits in
@@ -58,8 +59,10 @@ told_text s by t words e xs gone teller_is fits as_told =
     }
 
 -- a question's, for a row that suits its operands
-question_text : (s : StatedSetup) (by t : Tid) (env : Option EnvId) (place : ℕ) (xs : List Argument) (gone : List ObjId) (r : Option Columns) → slice_get functions place ≡ r → suits_row r xs ≡ true
-    → FitsTid t → FitsEvent (Question t env place) xs gone → IsTextOf s by (Question t env place) xs gone (text_of t (env_text env ∷ name_at place ∷ map argument_text xs))
+question_text : (s : StatedSetup) (by t : Tid) (env : Option EnvId) (place : ℕ) (xs : List Argument) (gone : List ObjId) (r : Option Columns)
+    → slice_get functions place ≡ r → suits_row r xs ≡ true
+    → FitsTid t → FitsEvent (Question t env place) xs gone
+    → IsTextOf s by (Question t env place) xs gone (text_of t (env_text env ∷ name_at place ∷ map argument_text xs))
 question_text s by t env place xs gone None at suits fits_tid fits = absurd (let no : ⊥ = cc in no)
 question_text s by t env place xs gone (Some row) at suits fits_tid fits =
     let tid_seen = seen_tid t fits_tid in
@@ -87,7 +90,8 @@ question_text s by t env place xs gone (Some row) at suits fits_tid fits =
       printable = printable_after (tid_text t) (env_text env ∷ name_at place ∷ map argument_text xs) tid_seen seen;
     }
 
-gone_told : (s : StatedSetup) (t : Tid) (gone : List ObjId) → not (length gone == 0) ≡ true → AllByRecursion FitsObject gone → ToldAs s (codes "gone" ∷ map object_text gone) t Gone gone
+gone_told : (s : StatedSetup) (t : Tid) (gone : List ObjId) → not (length gone == 0) ≡ true → AllByRecursion FitsObject gone
+    → ToldAs s (codes "gone" ∷ map object_text gone) t Gone gone
 gone_told s t gone some fits =
     spoken s t Gone gone verb.Gone (codes "gone") (map object_text gone) refl refl (seen_objects gone fits) ((fits, grind (arith, nat_tests, some), refl), refl)
 
@@ -98,7 +102,8 @@ bounds_told s t b xs gone fits =
     (seen_small b.capacity fits.0, (seen_small b.length fits.1, (seen_small b.items fits.2, tt)))
     (b.capacity, fits.0, b.length, fits.1, b.items, fits.2, refl, refl)
 
-pub event_text : (s : StatedSetup) (by : Tid) (e : Event) (xs : List Argument) (gone : List ObjId) → has_text s e xs gone ≡ true → FitsTid (teller by e) → FitsEvent e xs gone
+pub event_text : (s : StatedSetup) (by : Tid) (e : Event) (xs : List Argument) (gone : List ObjId) → has_text s e xs gone ≡ true → FitsTid (teller by e)
+    → FitsEvent e xs gone
     → IsTextOf s by e xs gone (text_of (teller by e) (event_words s e xs gone))
 event_text s by (Question t env place) xs gone has fits_tid fits = question_text s by t env place xs gone (slice_get functions place) refl has fits_tid fits
 event_text s by (Fact f) xs gone has fits_tid fits = told_text s by (teller by (Fact f)) _ (Fact f) xs gone refl fits_tid (told s by f gone has fits)
@@ -118,12 +123,14 @@ has_of s text e xs gone (inl (t, env, place, row, words, asks, operands, is)) =
     ap (λ x. has_text s x xs gone) is ∙ (ap (λ r. suits_row r xs) asks.at ∙ sorted_of row.takes words xs operands)
 has_of s text e xs gone (inr (t, v, words, as_told, tells)) = has_of_told s e xs gone (told_has s v t words e gone tells)
 
-pub no_text : (s : StatedSetup) (e : Event) (xs : List Argument) (gone : List ObjId) → has_text s e xs gone ≡ false → (text : List ℕ) → ¬ SpellsEvent s text e xs gone
+pub no_text : (s : StatedSetup) (e : Event) (xs : List Argument) (gone : List ObjId) → has_text s e xs gone ≡ false → (text : List ℕ)
+    → ¬ SpellsEvent s text e xs gone
 no_text s e xs gone none text spelt = let has = has_of s text e xs gone spelt in let no : ⊥ = cc (none, has) in no
 
 -- ---- behind what stands there
 
-pub writes : (s : StatedSetup) (by : Tid) (e : Event) (xs : List Argument) (gone : List ObjId) (old first new : List ℕ) → has_text s e xs gone ≡ true → FitsTid (teller by e)
+pub writes : (s : StatedSetup) (by : Tid) (e : Event) (xs : List Argument) (gone : List ObjId) (old first new : List ℕ) → has_text s e xs gone ≡ true
+    → FitsTid (teller by e)
     → FitsEvent e xs gone → first ≡ old ++ tid_text (teller by e) → new ≡ appended first (event_words s e xs gone) → AppendsText s by e xs gone old new
 writes s by e xs gone old first new has fits_tid fits tid written = record {
   tail = decimal (teller by e).0 ++ after_spaces (event_words s e xs gone);

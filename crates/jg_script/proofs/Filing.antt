@@ -30,14 +30,16 @@ pub record HasRead (input input' : Option (List ℕ)) (line : ℕ) (scripts : Li
 line_in : CallLine → Line
 line_in x = record { env = x.env; call = x.call }
 
-lines_by-last : (t : ℕ) (file : List CallLine) (x : CallLine) → lines_by t (file ++ x ∷ []) ≡ (if x.tid.0 == t then lines_by t file ++ line_in x ∷ [] else lines_by t file)
+lines_by-last : (t : ℕ) (file : List CallLine) (x : CallLine)
+    → lines_by t (file ++ x ∷ []) ≡ (if x.tid.0 == t then lines_by t file ++ line_in x ∷ [] else lines_by t file)
 unfolding line_in
 lines_by-last t [] x = refl
 lines_by-last t (y ∷ file) x = by (y.tid.0 == t) (x.tid.0 == t) (lines_by-last t file x)
   where
     by : (b c : Bool) → lines_by t (file ++ x ∷ []) ≡ (if c then lines_by t file ++ line_in x ∷ [] else lines_by t file)
         → (if b then line_in y ∷ lines_by t (file ++ x ∷ []) else lines_by t (file ++ x ∷ []))
-        ≡ (if c then (if b then line_in y ∷ lines_by t file else lines_by t file) ++ line_in x ∷ [] else (if b then line_in y ∷ lines_by t file else lines_by t file))
+        ≡ (if c then (if b then line_in y ∷ lines_by t file else lines_by t file) ++ line_in x ∷ []
+            else (if b then line_in y ∷ lines_by t file else lines_by t file))
     by true true e = ap (λ ls. line_in y ∷ ls) e
     by true false e = ap (λ ls. line_in y ∷ ls) e
     by false true e = e
@@ -53,7 +55,8 @@ spelt_more [] x all one = one
 spelt_more (y ∷ file) x (first, rest) one = (first, spelt_more file x rest one)
 
 -- a line that was taken is the file's next
-file_more : (file : List CallLine) (n : ℕ) (old new : List Lines) (text : List ℕ) (x : CallLine) → IsFile file old → n ≡ length file + 1 → n ≤ 1000000 → Spells text x.tid x.env x.call
+file_more : (file : List CallLine) (n : ℕ) (old new : List Lines) (text : List ℕ) (x : CallLine) → IsFile file old → n ≡ length file + 1 → n ≤ 1000000
+    → Spells text x.tid x.env x.call
     → Adds x.tid.0 (record { env = x.env; call = x.call }) old new → IsFile (file ++ x ∷ []) new
 unfolding line_in
 file_more file n old new text x f counted within spelt adds = record {
@@ -68,29 +71,36 @@ file_more file n old new text x f counted within spelt adds = record {
 }
 
 module _ (input mid input' : Option (List ℕ)) (n : ℕ) (old : List Lines) (h : HasRead input mid n old) where
-  read_more : (text : List ℕ) (x : CallLine) → Spells text x.tid x.env x.call → LinesTaken mid input' (text ∷ []) → LinesTaken input input' (map text_of (h.file ++ x ∷ []))
+  read_more : (text : List ℕ) (x : CallLine) → Spells text x.tid x.env x.call → LinesTaken mid input' (text ∷ [])
+      → LinesTaken input input' (map text_of (h.file ++ x ∷ []))
   read_more text x spelt line =
-      subst (λ (ls : List (List ℕ)). LinesTaken input input' ls) (ap (λ (t : List ℕ). map text_of h.file ++ t ∷ []) spelt.text ∙ sym (map-append text_of h.file (x ∷ [])))
+      subst (λ (ls : List (List ℕ)). LinesTaken input input' ls)
+          (ap (λ (t : List ℕ). map text_of h.file ++ t ∷ []) spelt.text ∙ sym (map-append text_of h.file (x ∷ [])))
       (lines_more input mid input' _ _ h.read line)
 
-  pub goes_on : (new : List Lines) (text : List ℕ) → TakesLine text n old new (Ok tt) → LinesTaken mid input' (text ∷ []) → Consumes mid input' (text ++ 10 ∷ []) → HasRead input input' (n + 1) new
+  pub goes_on : (new : List Lines) (text : List ℕ) → TakesLine text n old new (Ok tt) → LinesTaken mid input' (text ∷ [])
+      → Consumes mid input' (text ++ 10 ∷ []) → HasRead input input' (n + 1) new
   goes_on new text (within, (x, spelt, adds)) line bytes =
       let counted = h.counted in
       record {
         file = h.file ++ x ∷ [];
         is_file = file_more h.file n old new text x h.is_file h.counted within spelt adds;
         read = read_more text x spelt line;
-        taken = subst (Consumes input input') (ap (λ (t : List ℕ). file_text h.file ++ (t ++ 10 ∷ [])) spelt.text ∙ sym (file_text-last h.file x)) (Consumes-trans input mid input' _ _ h.taken bytes);
+        taken = subst (Consumes input input') (ap (λ (t : List ℕ). file_text h.file ++ (t ++ 10 ∷ [])) spelt.text ∙ sym (file_text-last h.file x))
+            (Consumes-trans input mid input' _ _ h.taken bytes);
         counted = omega (arith, length-append h.file (x ∷ []));
       }
 
-  pub last_read : (new : List Lines) (text : List ℕ) → TakesLine text n old new (Ok tt) → LinesTaken mid input' (text ∷ []) → IsAtEnd input' → ReadsScripts input input' (Ok new)
+  pub last_read : (new : List Lines) (text : List ℕ) → TakesLine text n old new (Ok tt) → LinesTaken mid input' (text ∷ []) → IsAtEnd input'
+      → ReadsScripts input input' (Ok new)
   last_read new text (within, (x, spelt, adds)) line done =
       (h.file ++ x ∷ [], file_more h.file n old new text x h.is_file h.counted within spelt adds, ended input input' _ (read_more text x spelt line) done, done)
 
   pub all_read : LinesTaken mid input' [] → IsAtEnd input' → ReadsScripts input input' (Ok old)
   all_read none done =
-      (h.file, h.is_file, ended input input' _ (subst (λ (ls : List (List ℕ)). LinesTaken input input' ls) (append-nil (map text_of h.file)) (lines_more input mid input' _ _ h.read none)) done, done)
+      (h.file, h.is_file, ended input input' _
+          (subst (λ (ls : List (List ℕ)). LinesTaken input input' ls) (append-nil (map text_of h.file)) (lines_more input mid input' _ _ h.read none)) done,
+          done)
 
   is_refused : (new : List Lines) (text : List ℕ) (l : ℕ) (f : ScriptFault) → TakesLine text n old new (Err (Script l f)) → IsRefused h.file old f text
   is_refused new text l f (is, inl first) = inl first
@@ -98,7 +108,8 @@ module _ (input mid input' : Option (List ℕ)) (n : ℕ) (old : List Lines) (h 
       let counted = h.counted in
       inr (many, all, omega arith, new_thread)
 
-  pub refused : (new : List Lines) (text : List ℕ) (fault : RunFault) → TakesLine text n old new (Err fault) → LinesTaken mid input' (text ∷ []) → TakesFront mid input'
+  pub refused : (new : List Lines) (text : List ℕ) (fault : RunFault) → TakesLine text n old new (Err fault) → LinesTaken mid input' (text ∷ [])
+      → TakesFront mid input'
       → ReadsScripts input input' (Err fault)
   refused new text (Script l f) takes line front = (
     h.file,
@@ -109,14 +120,17 @@ module _ (input mid input' : Option (List ℕ)) (n : ℕ) (old : List Lines) (h 
   refused new text (Limit l) (is, past, well) line front =
       let counted = h.counted in
       let few = h.is_file.few_lines in
-      (h.file, (old, h.is_file), followed input input' _ text IsWellFormed (lines_more input mid input' _ _ h.read line) well, omega arith, omega arith, one_more input mid input' _ h.taken front)
+      (h.file, (old, h.is_file), followed input input' _ text IsWellFormed (lines_more input mid input' _ _ h.read line) well, omega arith, omega arith,
+          one_more input mid input' _ h.taken front)
   refused new text (NoMemory l) is line front = (h.file, (old, h.is_file), begun input mid _ h.read, is ∙ h.counted, one_more input mid input' _ h.taken front)
   refused new text (Read l) none line front = absurd none
   refused new text (Write l) none line front = absurd none
 
-  pub holds_refused : (new : List Lines) (text : List ℕ) (fault : RunFault) → TakesLine text n old new (Err fault) → LinesTaken mid input' (text ∷ []) → HoldsRefused input text (Err fault)
+  pub holds_refused : (new : List Lines) (text : List ℕ) (fault : RunFault) → TakesLine text n old new (Err fault) → LinesTaken mid input' (text ∷ [])
+      → HoldsRefused input text (Err fault)
   holds_refused new text (Script l f) takes line =
-      λ short. (h.file, (old, h.is_file, followed input input' _ text (λ next. next ≡ text) (lines_more input mid input' _ _ h.read line) refl, is_refused new text l f takes), takes.0 ∙ h.counted)
+      λ short. (h.file, (old, h.is_file, followed input input' _ text (λ next. next ≡ text) (lines_more input mid input' _ _ h.read line) refl, is_refused new
+          text l f takes), takes.0 ∙ h.counted)
   holds_refused new text (Limit l) takes line = tt
   holds_refused new text (NoMemory l) takes line = tt
   holds_refused new text (Read l) takes line = tt

@@ -45,7 +45,8 @@ no_feed (y ∷ ys) (x ∷ xs) back clean e = no_feed ys xs back clean.1 cc
 
 -- where a line ends with the text, or is longer than a front without a line feed, that front is
 -- the text's
-front_within : (front text tail back : List ℕ) → AllByRecursion (λ b. (b == 10) ≡ false) front → (tail ≡ []) ⊎ (((more : List ℕ) × (tail ≡ 10 ∷ more)) ⊎ (length front ≤ length text))
+front_within : (front text tail back : List ℕ) → AllByRecursion (λ b. (b == 10) ≡ false) front
+    → (tail ≡ []) ⊎ (((more : List ℕ) × (tail ≡ 10 ∷ more)) ⊎ (length front ≤ length text))
     → text ++ tail ≡ front ++ back
     → (rest : List ℕ) × (text ≡ front ++ rest)
 front_within [] text tail back clean cut e = (text, refl)
@@ -70,10 +71,12 @@ front_within (x ∷ xs) (y ∷ ys) tail back clean (inr (inr long)) e =
     (more.0, cc (head, more.1))
 
 -- the same, of a text that is cut
-cut_within : (front text tail back : List ℕ) → IsOneLine front → length front ≤ 65537 → IsCut text tail → text ++ tail ≡ front ++ back → (rest : List ℕ) × (text ≡ front ++ rest)
+cut_within : (front text tail back : List ℕ) → IsOneLine front → length front ≤ 65537 → IsCut text tail → text ++ tail ≡ front ++ back
+    → (rest : List ℕ) × (text ≡ front ++ rest)
 cut_within front text tail back clean short (inl none) e = front_within front text tail back (recursion_from_All _ front clean) (inl none) e
 cut_within front text tail back clean short (inr (inl feed)) e = front_within front text tail back (recursion_from_All _ front clean) (inr (inl feed)) e
-cut_within front text tail back clean short (inr (inr long)) e = front_within front text tail back (recursion_from_All _ front clean) (inr (inr (omega (arith, short, long)))) e
+cut_within front text tail back clean short (inr (inr long)) e =
+    front_within front text tail back (recursion_from_All _ front clean) (inr (inr (omega (arith, short, long)))) e
 
 seen_equals : All (λ b. IsInRange 32 126 b) (codes " = ")
 seen_equals =
@@ -88,7 +91,8 @@ begun_in text tail t e c cut h =
     let equals = codes " = " in
     let short = short_call t e c h.tid h.env h.call in
     let printable = All-append (λ b. IsInRange 32 126 b) call equals (printable_line t e c h.tid h.env h.call) seen_equals in
-    let rest = cut_within (call ++ equals) text tail begins.0 (clean_of (call ++ equals) printable) (omega (arith, short, length-append call equals)) cut (begins.1
+    let rest = cut_within (call ++ equals) text tail begins.0 (clean_of (call ++ equals) printable) (omega (arith, short, length-append call equals)) cut
+        (begins.1
     ∙ sym (append_assoc call equals begins.0)) in
     record { tid = h.tid; env = h.env; call = h.call; begins = (rest.0, rest.1 ∙ append_assoc call equals rest.0) }
 
@@ -145,7 +149,8 @@ ends_with_feed x text more clean e =
     let line = (spelling x.tid x.env x.call ++ codes " = ") ++ outcome_text x.outcome in
     no_feed text line more (recursion_from_All _ text clean) (e ∙ append_assoc line (10 ∷ []) more)
 
-too_far : (line text rest tail more : List ℕ) → AllByRecursion (λ b. (b == 10) ≡ false) text → text ≡ line ++ rest → length line < length text → text ++ tail ≡ line ++ (10 ∷ more) → ⊥
+too_far : (line text rest tail more : List ℕ) → AllByRecursion (λ b. (b == 10) ≡ false) text → text ≡ line ++ rest → length line < length text
+    → text ++ tail ≡ line ++ (10 ∷ more) → ⊥
 too_far line text [] tail more clean is long e = absurd (omega (arith, long, ap length (is ∙ append-nil line)))
 too_far line text (r ∷ rest) tail more clean is long e =
     let both : line ++ ((r ∷ rest) ++ tail) ≡ line ++ (10 ∷ more) = sym (append_assoc line (r ∷ rest) tail) ∙ ap (λ (bs : List ℕ). bs ++ tail) (sym is) ∙ e in
@@ -154,7 +159,8 @@ too_far line text (r ∷ rest) tail more clean is long e =
     no_feed text line rest clean (is ∙ ap (λ (b : ℕ). line ++ (b ∷ rest)) head)
 
 -- the only line with which the reader's bytes can begin is the text
-same_line : (line text tail more : List ℕ) → IsOneLine line → length line ≤ 65536 → IsOneLine text → IsCut text tail → text ++ tail ≡ line ++ (10 ∷ more) → text ≡ line
+same_line : (line text tail more : List ℕ) → IsOneLine line → length line ≤ 65536 → IsOneLine text → IsCut text tail → text ++ tail ≡ line ++ (10 ∷ more)
+    → text ≡ line
 same_line line text tail more clean short one (inl none) e =
     let whole : text ≡ line ++ (10 ∷ more) = sym (append-nil text) ∙ ap (λ (bs : List ℕ). text ++ bs) (sym none) ∙ e in
     absurd (no_feed text line more (recursion_from_All _ text one) whole)
@@ -164,13 +170,15 @@ same_line line text tail more clean short one (inr (inr long)) e =
     let within = cut_within line text tail (10 ∷ more) clean (omega (arith, short)) (inr (inr long)) e in
     absurd (too_far line text within.0 tail more (recursion_from_All _ text one) within.1 (omega (arith, short, long)) e)
 
-entry_is_line : (x : Entry) (text tail more : List ℕ) → IsScript (x ∷ []) → FitsOutcome x.outcome → IsOneLine text → IsCut text tail → text ++ tail ≡ entry_text x ++ more
+entry_is_line : (x : Entry) (text tail more : List ℕ) → IsScript (x ∷ []) → FitsOutcome x.outcome → IsOneLine text → IsCut text tail
+    → text ++ tail ≡ entry_text x ++ more
     → entry_text x ≡ text ++ 10 ∷ []
 entry_is_line x text tail more fits outcome one cut e =
     let plain = line_plain x fits.0.0 fits.0.1 fits.0.2 outcome in
     let line = plain.0 in
     let is = plain.2 in
-    let same = same_line line text tail more (clean_of line is.printable) is.short one cut (e ∙ ap (λ (bs : List ℕ). bs ++ more) plain.1 ∙ append_assoc line (10 ∷ []) more) in
+    let same = same_line line text tail more (clean_of line is.printable) is.short one cut
+        (e ∙ ap (λ (bs : List ℕ). bs ++ more) plain.1 ∙ append_assoc line (10 ∷ []) more) in
     plain.1 ∙ ap (λ (bs : List ℕ). bs ++ 10 ∷ []) (sym same)
 
 line_within : (x : Entry) (text : List ℕ) → IsScript (x ∷ []) → FitsOutcome x.outcome → entry_text x ≡ text ++ 10 ∷ [] → length text ≤ 65536
@@ -180,7 +188,8 @@ line_within x text fits outcome e =
     omega (arith, short, ap length (sym e ∙ plain.1), length-append text (10 ∷ []), length-append plain.0 (10 ∷ []))
 
 -- a legal history goes on with the one entry of the call with which the text begins
-same_entry : (guard : State) (x : Entry) (text tail more : List ℕ) (t : Tid) (env : Option EnvId) (call : Call) → Legal guard.setup (x ∷ guard.journal) → IsScript (x ∷ []) → IsCut text tail
+same_entry : (guard : State) (x : Entry) (text tail more : List ℕ) (t : Tid) (env : Option EnvId) (call : Call) → Legal guard.setup (x ∷ guard.journal)
+    → IsScript (x ∷ []) → IsCut text tail
     → text ++ tail ≡ entry_text x ++ more → BeginsWith text t env call → x ≡ next_entry guard t env call
 same_entry guard x text tail more t env call legal fits cut e begun =
     let same = same_begun text x.tid t x.env env x.call call (begun_in text tail x.tid x.env x.call cut (entry_begins x (text ++ tail) more fits e)) begun in
@@ -196,7 +205,8 @@ no_call guard text none = λ tail one cut goes.
     none (x.tid, x.env, x.call, begun_in text tail x.tid x.env x.call cut (entry_begins x (text ++ tail) more (fits.0, tt) e))
 
 -- a text that isn't the line of its call's entry is the line of no entry
-not_replayed : (guard : State) (text : List ℕ) (t : Tid) (env : Option EnvId) (call : Call) → BeginsWith text t env call → FitsOutcome (next_entry guard t env call).outcome
+not_replayed : (guard : State) (text : List ℕ) (t : Tid) (env : Option EnvId) (call : Call) → BeginsWith text t env call
+    → FitsOutcome (next_entry guard t env call).outcome
     → entry_text (next_entry guard t env call) ≢ text ++ 10 ∷ []
     → IsNoEntry guard text
 not_replayed guard text t env call begun outcome other = λ tail one cut goes.
@@ -206,7 +216,8 @@ not_replayed guard text t env call begun outcome other = λ tail one cut goes.
     other (ap entry_text (sym same) ∙ entry_is_line x text tail more (fits.0, tt) fitting one cut e)
 
 -- the call isn't taken
-pub not_taken : (old new : State) (e : Entry) (text : List ℕ) (n : ℕ) (fault : RunFault) → length old.journal < old.limit → FailsCall old new e n fault → ReplaysLine old new text n (Err fault)
+pub not_taken : (old new : State) (e : Entry) (text : List ℕ) (n : ℕ) (fault : RunFault) → length old.journal < old.limit → FailsCall old new e n fault
+    → ReplaysLine old new text n (Err fault)
 not_taken old new e text n (Limit line) room (same, full, is) = absurd (omega (arith, room, full))
 not_taken old new e text n (NoMemory line) room (inl same, is) = (is, inl same)
 not_taken old new e text n (NoMemory line) room (inr took, is) = (is, inr (e, took))
@@ -215,7 +226,8 @@ not_taken old new e text n (Read line) room none = absurd none
 not_taken old new e text n (Write line) room none = absurd none
 
 module _ (old new : State) (text entry : List ℕ) (t : Tid) (env : Option EnvId) (call : Call) (n : ℕ) (begun : BeginsWith text t env call)
-    (outcome : FitsOutcome (next_entry old t env call).outcome) (took : Took old new (next_entry old t env call)) (is : entry ≡ entry_text (next_entry old t env call)) where
+    (outcome : FitsOutcome (next_entry old t env call).outcome) (took : Took old new (next_entry old t env call))
+        (is : entry ≡ entry_text (next_entry old t env call)) where
   pub is_its_line : entry ≡ text ++ 10 ∷ [] → ReplaysLine old new text n (Ok None)
   is_its_line same =
       let fits = next_fits old t env call begun.tid begun.env begun.call in

@@ -62,30 +62,35 @@ ended None input' text P taken done p = tt
 ended (Some rest) None text P taken done p = absurd taken
 ended (Some rest) (Some back) text P taken done p = subst P (sym (taken ∙ ap (λ (bs : List ℕ). text ++ bs) done ∙ append-nil text)) p
 
-all_read : (input mid input' : Option (List ℕ)) (g : List Entry) → Consumes input mid (journal_text g) → Consumes mid input' [] → IsAtEnd input' → IfSome input (λ all. all ≡ journal_text g)
+all_read : (input mid input' : Option (List ℕ)) (g : List Entry) → Consumes input mid (journal_text g) → Consumes mid input' [] → IsAtEnd input'
+    → IfSome input (λ all. all ≡ journal_text g)
 all_read None mid input' g e taken done = tt
 all_read (Some all) None input' g e taken done = absurd e
 all_read (Some all) (Some rest) None g e taken done = absurd taken
 all_read (Some all) (Some rest) (Some back) g e taken done = e ∙ ap (λ (bs : List ℕ). journal_text g ++ bs) (taken ∙ done) ∙ append-nil (journal_text g)
 
-one_more : (input mid input' : Option (List ℕ)) (g : List Entry) → Consumes input mid (journal_text g) → TakesFront mid input' → ReadsOneMore input input' (journal_text g)
+one_more : (input mid input' : Option (List ℕ)) (g : List Entry) → Consumes input mid (journal_text g) → TakesFront mid input'
+    → ReadsOneMore input input' (journal_text g)
 one_more input mid input' g e (bytes, front, taken) = (bytes, front, Consumes-trans input mid input' (journal_text g) bytes e taken)
 
 -- a line of an entry is taken whole
-whole : (mid input' : Option (List ℕ)) (text : List ℕ) (taken : Taken) → TakesBytes mid input' text taken → taken ≢ Nothing → taken ≢ LastLine → length text ≤ 65536
+whole : (mid input' : Option (List ℕ)) (text : List ℕ) (taken : Taken) → TakesBytes mid input' text taken → taken ≢ Nothing → taken ≢ LastLine
+    → length text ≤ 65536
     → Consumes mid input' (text ++ 10 ∷ [])
 whole mid input' text Line bytes some more short = bytes
 whole mid input' text LastLine bytes some more short = absurd (more refl)
 whole mid input' text Nothing bytes some more short = absurd (some refl)
 whole mid input' text TooLong bytes some more short = (let long = bytes.1 in absurd (omega (arith, long, short)))
 
-pub started : (input : Option (List ℕ)) (setup : StatedSetup) (limit : ℕ) (guard : State) → guard.setup ≡ setup → guard.limit ≡ limit → guard.journal ≡ [] → HasReplayed input input setup limit 1 guard
+pub started : (input : Option (List ℕ)) (setup : StatedSetup) (limit : ℕ) (guard : State) → guard.setup ≡ setup → guard.limit ≡ limit → guard.journal ≡ []
+    → HasReplayed input input setup limit 1 guard
 started input setup limit guard same_setup same_limit none =
     let P : List Entry → Type 0 = λ g. Consumes input input (journal_text g) × IsHistory setup limit g × (1 ≡ length g + 1) in
     let all = subst P (sym none) (Consumes-nil input, record { legal = tt; spelt = tt; within = omega arith }, refl) in
     record { read = all.0; history = all.1; counted = all.2; setup_kept = same_setup; limit_kept = same_limit }
 
-module _ (input mid input' : Option (List ℕ)) (setup : StatedSetup) (limit line : ℕ) (old : State) (h : HasReplayed input mid setup limit line old) (text : List ℕ) where
+module _ (input mid input' : Option (List ℕ)) (setup : StatedSetup) (limit line : ℕ) (old : State) (h : HasReplayed input mid setup limit line old)
+    (text : List ℕ) where
   pub unread : TakesFront mid input' → ReplaysJournal input input' setup limit old.journal text (Err (Read line))
   unread front = (old.journal, h.history, (one_more input mid input' old.journal h.read front, h.counted), refl)
 
@@ -108,7 +113,8 @@ module _ (input mid input' : Option (List ℕ)) (setup : StatedSetup) (limit lin
         old.journal,
         h.history,
         (
-          then input mid old.journal (IsDifferent setup limit old.journal) h.read (ended mid input' text (IsDifferent setup limit old.journal) taken done differs),
+          then input mid old.journal (IsDifferent setup limit old.journal) h.read
+              (ended mid input' text (IsDifferent setup limit old.journal) taken done differs),
           one_more input mid input' old.journal h.read front,
           counted,
         ),
@@ -117,24 +123,29 @@ module _ (input mid input' : Option (List ℕ)) (setup : StatedSetup) (limit lin
 
   -- the line itself comes next
   next_is : (taken : Taken) → TakesBytes mid input' text taken → taken ≢ Nothing → IsOneLine text → IsTextThen input old.journal (IsNextLine text)
-  next_is taken bytes some one = then input mid old.journal (IsNextLine text) h.read (left mid input' text taken (IsNextLine text) bytes some (λ tail cut long. (one, (tail, refl, cut))))
+  next_is taken bytes some one =
+      then input mid old.journal (IsNextLine text) h.read (left mid input' text taken (IsNextLine text) bytes some (λ tail cut long. (one, (tail, refl, cut))))
 
   -- the line is that of no entry with which the journal stays legal
-  differs_here : (taken : Taken) → TakesBytes mid input' text taken → taken ≢ Nothing → IsOneLine text → TakesFront mid input' → line ≤ limit → IsNoEntry old text
+  differs_here : (taken : Taken) → TakesBytes mid input' text taken → taken ≢ Nothing → IsOneLine text → TakesFront mid input' → line ≤ limit
+      → IsNoEntry old text
       → Finds input input' setup limit old.journal (Ok (verdict.Differs line))
   differs_here taken bytes some one front below other =
       let counted = h.counted in
-      let differs : (tail : List ℕ) → IsCut text tail → 0 < length (text ++ tail) → IsDifferent setup limit old.journal (text ++ tail) = λ tail cut long. record {
+      let differs : (tail : List ℕ) → IsCut text tail → 0 < length (text ++ tail) → IsDifferent setup limit old.journal (text ++ tail) =
+          λ tail cut long. record {
         some = long;
         within = λ _. subst (λ (s : StatedSetup). ¬ GoesOn s old.journal (text ++ tail)) h.setup_kept (other tail one cut);
         past = λ full. absurd (omega (arith, counted, below, full));
       } in (
-        then input mid old.journal (IsDifferent setup limit old.journal) h.read (left mid input' text taken (IsDifferent setup limit old.journal) bytes some differs),
+        then input mid old.journal (IsDifferent setup limit old.journal) h.read
+            (left mid input' text taken (IsDifferent setup limit old.journal) bytes some differs),
         one_more input mid input' old.journal h.read front,
         counted,
       )
 
-  pub is_other : (taken : Taken) (new : State) (how : Difference) → TakesBytes mid input' text taken → taken ≢ Nothing → IsOneLine text → TakesFront mid input' → line ≤ limit
+  pub is_other : (taken : Taken) (new : State) (how : Difference) → TakesBytes mid input' text taken → taken ≢ Nothing → IsOneLine text → TakesFront mid input'
+      → line ≤ limit
       → ReplaysLine old new text line (Ok (Some how)) → ReplaysJournal input input' setup limit new.journal text (Ok (replayed.Differs line how))
   is_other taken new NoLineFeed bytes some one front below none = absurd none
   is_other taken new NoCall bytes some one front below (other, same, begins) =
@@ -142,11 +153,13 @@ module _ (input mid input' : Option (List ℕ)) (setup : StatedSetup) (limit lin
   is_other taken new OtherOutcome bytes some one front below (other, (e, took, begins, unlike)) =
       (old.journal, h.history, differs_here taken bytes some one front below other, (e, took.journal, next_is taken bytes some one, begins, unlike))
 
-  pub is_past : (taken : Taken) (result : Result Replayed RunFault) → TakesBytes mid input' text taken → taken ≢ Nothing → IsOneLine text → TakesFront mid input' → limit < line
+  pub is_past : (taken : Taken) (result : Result Replayed RunFault) → TakesBytes mid input' text taken → taken ≢ Nothing → IsOneLine text
+      → TakesFront mid input' → limit < line
       → IsPast text line result → ReplaysJournal input input' setup limit old.journal text result
   is_past taken (Ok (replayed.Differs l NoCall)) bytes some one front above (is, none) =
       let counted = h.counted in
-      let differs : (tail : List ℕ) → IsCut text tail → 0 < length (text ++ tail) → IsDifferent setup limit old.journal (text ++ tail) = λ tail cut long. record {
+      let differs : (tail : List ℕ) → IsCut text tail → 0 < length (text ++ tail) → IsDifferent setup limit old.journal (text ++ tail) =
+          λ tail cut long. record {
         some = long;
         within = λ below. absurd (omega (arith, counted, above, below));
         past = λ _ begins. none (call_in text tail cut begins);
@@ -154,7 +167,8 @@ module _ (input mid input' : Option (List ℕ)) (setup : StatedSetup) (limit lin
         old.journal,
         h.history,
         (
-          then input mid old.journal (IsDifferent setup limit old.journal) h.read (left mid input' text taken (IsDifferent setup limit old.journal) bytes some differs),
+          then input mid old.journal (IsDifferent setup limit old.journal) h.read
+              (left mid input' text taken (IsDifferent setup limit old.journal) bytes some differs),
           one_more input mid input' old.journal h.read front,
           is ∙ counted,
         ),
@@ -167,7 +181,8 @@ module _ (input mid input' : Option (List ℕ)) (setup : StatedSetup) (limit lin
       let (t, env, call, begun) = begins_call in
       let counted = h.counted in
       let within = (h.history).within in
-      let begins : (tail : List ℕ) → IsCut text tail → 0 < length (text ++ tail) → BeginsCall (text ++ tail) = λ tail cut long. call_goes_on text tail t env call begun in (
+      let begins : (tail : List ℕ) → IsCut text tail → 0 < length (text ++ tail) → BeginsCall (text ++ tail) =
+          λ tail cut long. call_goes_on text tail t env call begun in (
         old.journal,
         h.history,
         (
@@ -179,22 +194,27 @@ module _ (input mid input' : Option (List ℕ)) (setup : StatedSetup) (limit lin
         ),
         refl,
       )
-  is_past taken (Err (NoMemory l)) bytes some one front above is = (old.journal, h.history, (one_more input mid input' old.journal h.read front, is ∙ h.counted), inl refl)
+  is_past taken (Err (NoMemory l)) bytes some one front above is =
+      (old.journal, h.history, (one_more input mid input' old.journal h.read front, is ∙ h.counted), inl refl)
   is_past taken (Err (Script l fault)) bytes some one front above none = absurd none
   is_past taken (Err (Read l)) bytes some one front above none = absurd none
   is_past taken (Err (Write l)) bytes some one front above none = absurd none
 
   pub replay_failed : (line_text : List ℕ) (new : State) (fault : RunFault) → TakesFront mid input' → ReplaysLine old new line_text line (Err fault)
       → ReplaysJournal input input' setup limit new.journal text (Err fault)
-  replay_failed line_text new (NoMemory l) front (is, inl same) = (old.journal, h.history, (one_more input mid input' old.journal h.read front, is ∙ h.counted), inl same)
-  replay_failed line_text new (NoMemory l) front (is, inr (e, took)) = (old.journal, h.history, (one_more input mid input' old.journal h.read front, is ∙ h.counted), inr (e, took.journal))
+  replay_failed line_text new (NoMemory l) front (is, inl same) =
+      (old.journal, h.history, (one_more input mid input' old.journal h.read front, is ∙ h.counted), inl same)
+  replay_failed line_text new (NoMemory l) front (is, inr (e, took)) =
+      (old.journal, h.history, (one_more input mid input' old.journal h.read front, is ∙ h.counted), inr (e, took.journal))
   replay_failed line_text new (Script l fault) front is = absurd is
   replay_failed line_text new (Limit l) front is = absurd is
   replay_failed line_text new (Read l) front is = absurd is
   replay_failed line_text new (Write l) front is = absurd is
 
-  pub goes_on : (taken : Taken) (new : State) → TakesBytes mid input' text taken → taken ≢ Nothing → taken ≢ LastLine → new.setup ≡ old.setup → new.limit ≡ old.limit
-      → (Legal old.setup old.journal → Legal new.setup new.journal) → ReplaysLine old new text line (Ok None) → HasReplayed input input' setup limit (line + 1) new
+  pub goes_on : (taken : Taken) (new : State) → TakesBytes mid input' text taken → taken ≢ Nothing → taken ≢ LastLine → new.setup ≡ old.setup
+      → new.limit ≡ old.limit
+      → (Legal old.setup old.journal → Legal new.setup new.journal) → ReplaysLine old new text line (Ok None)
+      → HasReplayed input input' setup limit (line + 1) new
   goes_on taken new bytes some more same_setup same_limit legal (e, took, fits, is, short) =
       let counted = h.counted in
       let room = took.room in
@@ -221,7 +241,8 @@ pub verdict_found : (input input' : Option (List ℕ)) (setup : StatedSetup) (li
 verdict_found input input' setup limit after text result (g, history, finds, leaves) = (g, history, finds)
 
 -- the reader isn't at fault where a line past the limit is answered, or a line isn't replayed
-pub past_sound : (old new : Bool) (text : List ℕ) (line : ℕ) (result : Result Replayed RunFault) → new ≡ old → IsPast text line result → ReaderFails old new result
+pub past_sound : (old new : Bool) (text : List ℕ) (line : ℕ) (result : Result Replayed RunFault) → new ≡ old → IsPast text line result
+    → ReaderFails old new result
 past_sound old new text line (Ok (replayed.Differs l NoCall)) same is = same
 past_sound old new text line (Ok (replayed.Differs l NoLineFeed)) same none = absurd none
 past_sound old new text line (Ok (replayed.Differs l OtherOutcome)) same none = absurd none
@@ -232,7 +253,8 @@ past_sound old new text line (Err (Script l fault)) same none = absurd none
 past_sound old new text line (Err (Read l)) same none = absurd none
 past_sound old new text line (Err (Write l)) same none = absurd none
 
-pub failed_sound : (old new : Bool) (before after : State) (text : List ℕ) (line : ℕ) (fault : RunFault) → new ≡ old → ReplaysLine before after text line (Err fault)
+pub failed_sound : (old new : Bool) (before after : State) (text : List ℕ) (line : ℕ) (fault : RunFault) → new ≡ old
+    → ReplaysLine before after text line (Err fault)
     → ReaderFails {N = Replayed} old new (Err fault)
 failed_sound old new before after text line (NoMemory l) same is = same
 failed_sound old new before after text line (Script l fault) same none = absurd none

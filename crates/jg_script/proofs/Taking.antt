@@ -30,12 +30,16 @@ spelt_by : (rule : Option Rule) (a : Answer) (text : List ℕ) (t : Tid) (env : 
 spelt_by (Some rule) a text t env call h = h
 spelt_by None a text t env call h = h
 
-fits_by : (rule : Option Rule) (a : Answer) (t : Tid) (env : Option EnvId) (call : Call) → FitsTid t → FitsEnv env → FitsCall call → IsScript (entry_by rule a t env call ∷ [])
+fits_by : (rule : Option Rule) (a : Answer) (t : Tid) (env : Option EnvId) (call : Call) → FitsTid t → FitsEnv env → FitsCall call
+    → IsScript (entry_by rule a t env call ∷ [])
 fits_by (Some rule) a t env call ht he hc = ((ht, he, hc), tt)
 fits_by None a t env call ht he hc = ((ht, he, hc), tt)
 
-pub next_fits : (guard : State) (t : Tid) (env : Option EnvId) (call : Call) → FitsTid t → FitsEnv env → FitsCall call → IsScript (next_entry guard t env call ∷ [])
-next_fits guard t env call ht he hc = fits_by (verdict guard.setup (parts guard.setup guard.journal) t.0 env call) (answer guard.setup (parts guard.setup guard.journal) t call) t env call ht he hc
+pub next_fits : (guard : State) (t : Tid) (env : Option EnvId) (call : Call) → FitsTid t → FitsEnv env → FitsCall call
+    → IsScript (next_entry guard t env call ∷ [])
+next_fits guard t env call ht he hc =
+    fits_by (verdict guard.setup (parts guard.setup guard.journal) t.0 env call) (answer guard.setup (parts guard.setup guard.journal) t call) t env call ht he
+    hc
 
 begins_by : (rule : Option Rule) (a : Answer) (text : List ℕ) (t : Tid) (env : Option EnvId) (call : Call) → BeginsWith text t env call
     → BeginsWith text (entry_by rule a t env call).tid (entry_by rule a t env call).env (entry_by rule a t env call).call
@@ -45,9 +49,12 @@ begins_by None a text t env call h = h
 -- the text begins with the call of the entry that the guard takes for it
 pub next_begins : (guard : State) (text : List ℕ) (t : Tid) (env : Option EnvId) (call : Call) → BeginsWith text t env call
     → BeginsWith text (next_entry guard t env call).tid (next_entry guard t env call).env (next_entry guard t env call).call
-next_begins guard text t env call h = begins_by (verdict guard.setup (parts guard.setup guard.journal) t.0 env call) (answer guard.setup (parts guard.setup guard.journal) t call) text t env call h
+next_begins guard text t env call h =
+    begins_by (verdict guard.setup (parts guard.setup guard.journal) t.0 env call) (answer guard.setup (parts guard.setup guard.journal) t call) text t env call
+    h
 
-pub journals : (old new : State) (text : List ℕ) (t : Tid) (env : Option EnvId) (call : Call) → Took old new (next_entry old t env call) → Spells text t env call
+pub journals : (old new : State) (text : List ℕ) (t : Tid) (env : Option EnvId) (call : Call) → Took old new (next_entry old t env call)
+    → Spells text t env call
     → Journals old new text (next_entry old t env call)
 journals old new text t env call took spelt = record {
   spelt = spelt_by (verdict old.setup (parts old.setup old.journal) t.0 env call) (answer old.setup (parts old.setup old.journal) t call) text t env call spelt;
@@ -56,7 +63,8 @@ journals old new text t env call took spelt = record {
 }
 
 -- behind the line of its call the newest entry's answer is put
-pub completes : (front : Option Entry) (x e : Entry) (text new : List ℕ) → front ≡ Some x → front ≡ Some e → text ≡ call_line e → new ≡ text ++ answer_text x.outcome → new ≡ entry_text e
+pub completes : (front : Option Entry) (x e : Entry) (text new : List ℕ) → front ≡ Some x → front ≡ Some e → text ≡ call_line e
+    → new ≡ text ++ answer_text x.outcome → new ≡ entry_text e
 completes front x e text new seen first is added =
     let same : x ≡ e = cc in
     added ∙ ap (λ (y : Entry). text ++ answer_text y.outcome) same ∙ completed e text is
@@ -65,7 +73,8 @@ pub not_taken : (bytes : Option (List ℕ)) (old new : State) (text : List ℕ) 
     → FailsCall old new (next_entry old t env call) n fault → Spells text t env call → Answers bytes bytes old new text n (Err fault)
 not_taken bytes old new text t env call n (Limit line) (same, full, is) spelt = (refl, same, (t, env, call, spelt), full, is)
 not_taken bytes old new text t env call n (NoMemory line) (inl same, is) spelt = (refl, inl same, is)
-not_taken bytes old new text t env call n (NoMemory line) (inr took, is) spelt = (refl, inr (next_entry old t env call, journals old new text t env call took spelt), is)
+not_taken bytes old new text t env call n (NoMemory line) (inr took, is) spelt =
+    (refl, inr (next_entry old t env call, journals old new text t env call took spelt), is)
 not_taken bytes old new text t env call n (Script line fault) none spelt = absurd none
 not_taken bytes old new text t env call n (Read line) none spelt = absurd none
 not_taken bytes old new text t env call n (Write line) none spelt = absurd none
@@ -79,14 +88,16 @@ taken_kept old new e text n (Read line) fails = tt
 taken_kept old new e text n (Write line) fails = tt
 
 -- the entry in front of the journal is the one that was taken
-pub newest_told : (old new : State) (e x : Entry) (out : List ℕ) → Took old new e → slice_get new.journal 0 ≡ Some x → FitsOutcome x.outcome → out ≡ [] ++ entry_text x
+pub newest_told : (old new : State) (e x : Entry) (out : List ℕ) → Took old new e → slice_get new.journal 0 ≡ Some x → FitsOutcome x.outcome
+    → out ≡ [] ++ entry_text x
     → (out ≡ entry_text e) × FitsOutcome e.outcome
 newest_told old new e x out took first fits made =
     let front : slice_get new.journal 0 ≡ Some e = ap (λ (h : List Entry). slice_get h 0) took.journal in
     let same : x ≡ e = cc in
     (made ∙ ap entry_text same, subst (λ (y : Entry). FitsOutcome y.outcome) same fits)
 
-module _ (bytes bytes' : Option (List ℕ)) (old new : State) (text line : List ℕ) (t : Tid) (env : Option EnvId) (call : Call) (n : ℕ) (took : Took old new (next_entry old t env call))
+module _ (bytes bytes' : Option (List ℕ)) (old new : State) (text line : List ℕ) (t : Tid) (env : Option EnvId) (call : Call) (n : ℕ)
+    (took : Took old new (next_entry old t env call))
     (spelt : Spells text t env call) where
   -- the entry's line can't be made
   pub not_made : Answers bytes bytes old new text n (Err (NoMemory n))
@@ -100,7 +111,8 @@ module _ (bytes bytes' : Option (List ℕ)) (old new : State) (text line : List 
   pub written : line ≡ entry_text (next_entry old t env call) → Appends bytes bytes' line → Answers bytes bytes' old new text n (Ok tt)
   written is more = (next_entry old t env call, journals old new text t env call took spelt, subst (λ (l : List ℕ). Appends bytes bytes' l) is more)
 
-  pub not_written : line ≡ entry_text (next_entry old t env call) → (k : ℕ) × (k < length line) × Appends bytes bytes' (take k line) → Answers bytes bytes' old new text n (Err (Write n))
+  pub not_written : line ≡ entry_text (next_entry old t env call) → (k : ℕ) × (k < length line) × Appends bytes bytes' (take k line)
+      → Answers bytes bytes' old new text n (Err (Write n))
   not_written is front = (
     (
       next_entry old t env call,

@@ -17,10 +17,12 @@ module _ (bytes mid bytes' : Option (List ℕ)) (h : List Entry) (n : ℕ) (e : 
   pub one_line : WritesAll bytes mid (oldest n h) → Appends mid bytes' (entry_text e) → WritesAll bytes bytes' (oldest (n + 1) h)
   one_line before line = subst (WritesAll bytes bytes') (sym (oldest_more h n e at)) (Appends-trans bytes mid bytes' _ _ before line)
 
-  pub not_written : (fault : RunFault) → WritesAll bytes mid (oldest n h) → WritesLine mid bytes' e (n + 1) (Err fault) → WritesJournal bytes bytes' h (Err fault)
+  pub not_written : (fault : RunFault) → WritesAll bytes mid (oldest n h) → WritesLine mid bytes' e (n + 1) (Err fault)
+      → WritesJournal bytes bytes' h (Err fault)
   not_written (NoMemory l) before (is, same) =
       let long = length-oldest h n (omega (arith, slice_get_within (reverse h) n e at, length-reverse h)) in
-      (reverse (drop (suc n) (reverse h)), e, oldest n h, oldest_before h n e at, omega arith, subst (λ (b : Option (List ℕ)). WritesAll bytes b (oldest n h)) (sym same) before)
+      (reverse (drop (suc n) (reverse h)), e, oldest n h, oldest_before h n e at, omega arith, subst (λ (b : Option (List ℕ)). WritesAll bytes b (oldest n h))
+          (sym same) before)
   not_written (Write l) before (is, front) =
       let long = length-oldest h n (omega (arith, slice_get_within (reverse h) n e at, length-reverse h)) in
       (reverse (drop (suc n) (reverse h)), e, oldest n h, oldest_before h n e at, omega arith, (mid, before, front))

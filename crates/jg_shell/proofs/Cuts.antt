@@ -15,18 +15,21 @@ use Rattle.jg_shell.specs.Played.{IsOfLine, IsBusy, IsGroup, IsPart, IsCut, Play
 last_is : (turns : ℕ) (line : Line) (g rest : List Receipt) → (a : IsGroup turns line g) → get_or (g ++ rest) (length a.retries) a.last ≡ a.last
 last_is turns line g rest a =
     ap (λ (rs : List Receipt). get_or (rs ++ rest) (length a.retries) a.last) a.group_is
-    ∙ (ap (λ (rs : List Receipt). get_or rs (length a.retries) a.last) (append_assoc a.retries (a.last ∷ []) rest) ∙ get_or-append_seam a.retries a.last rest a.last)
+    ∙ (ap (λ (rs : List Receipt). get_or rs (length a.retries) a.last) (append_assoc a.retries (a.last ∷ []) rest)
+        ∙ get_or-append_seam a.retries a.last rest a.last)
 
 size : (turns : ℕ) (line : Line) (g : List Receipt) → (a : IsGroup turns line g) → length g ≡ length a.retries + 1
 size turns line g a = omega (arith, ap (λ (rs : List Receipt). length rs) a.group_is, length-append a.retries (a.last ∷ []))
 
 -- a list in which a group's last place is busy is no longer list of turns
-busy_last : (turns : ℕ) (line : Line) (g : List Receipt) (n : ℕ) → (a : IsGroup turns line g) → is_monitor_enter line.call ≡ true → is_busy a.last.outcome ≡ true → length g < n → n ≤ turns → ⊥
+busy_last : (turns : ℕ) (line : Line) (g : List Receipt) (n : ℕ) → (a : IsGroup turns line g) → is_monitor_enter line.call ≡ true
+    → is_busy a.last.outcome ≡ true → length g < n → n ≤ turns → ⊥
 busy_last turns line g n a enter busy lt le =
     elim (a.ends enter) [ inl free ↦ cc (free, busy) | inr all ↦ omega (arith, all) ]
 
 -- of two groups of one line that begin one list, none is longer
-no_longer : (turns : ℕ) (line : Line) (g g' rest rest' : List Receipt) → g ++ rest ≡ g' ++ rest' → IsGroup turns line g → IsGroup turns line g' → (b : Bool) → is_monitor_enter line.call ≡ b
+no_longer : (turns : ℕ) (line : Line) (g g' rest rest' : List Receipt) → g ++ rest ≡ g' ++ rest' → IsGroup turns line g → IsGroup turns line g' → (b : Bool)
+    → is_monitor_enter line.call ≡ b
     → length g < length g' → ⊥
 no_longer turns line g g' rest rest' e a c false is lt =
     let one = ap (λ (rs : List Receipt). length rs) (c.once is) in
@@ -52,10 +55,12 @@ same_rest turns line g g' rest rest' e a c =
     let no = no_longer turns line g g' rest rest' e a c (is_monitor_enter line.call) refl in
     let no' = no_longer turns line g' g rest' rest (sym e) c a (is_monitor_enter line.call) refl in
     let same : length g' ≡ length g = omega (arith, no, no') in
-    sym (drop-append_seam g' rest') ∙ (ap (λ (rs : List Receipt). drop (length g') rs) (sym e) ∙ (ap (λ (n : ℕ). drop n (g ++ rest)) same ∙ drop-append_seam g rest))
+    sym (drop-append_seam g' rest')
+        ∙ (ap (λ (rs : List Receipt). drop (length g') rs) (sym e) ∙ (ap (λ (n : ℕ). drop n (g ++ rest)) same ∙ drop-append_seam g rest))
 
 -- what is told before a line has ended isn't the whole of it
-part_only : (turns : ℕ) (line : Line) (part g rest : List Receipt) → IsPart turns line part → part ≡ g ++ rest → IsGroup turns line g → (b : Bool) → is_monitor_enter line.call ≡ b → ⊥
+part_only : (turns : ℕ) (line : Line) (part g rest : List Receipt) → IsPart turns line part → part ≡ g ++ rest → IsGroup turns line g → (b : Bool)
+    → is_monitor_enter line.call ≡ b → ⊥
 part_only turns line part g rest q e a false is =
     omega (arith, ap (λ (rs : List Receipt). length rs) (q.once is), ap (λ (rs : List Receipt). length rs) e, length-append g rest, size turns line g a)
 part_only turns line part g rest q e a true is =
@@ -111,15 +116,19 @@ Played-append turns (l ∷ ls) ms xs ys p q =
     (p.0, p.1 ++ ys, ap (λ (rs : List Receipt). rs ++ ys) p.2 ∙ append_assoc p.0 p.1 ys, p.3, Played-append turns ls ms p.1 ys p.4 q)
 
 -- a stopped worker's receipts begin those of a worker that went on
-pub IsCut-begins : (turns : ℕ) (t : Tid) (lines : List Line) (rs : List Receipt) → 1 ≤ turns → IsCut turns lines rs → (more : List Receipt) × Played turns lines (rs ++ more)
+pub IsCut-begins : (turns : ℕ) (t : Tid) (lines : List Line) (rs : List Receipt) → 1 ≤ turns → IsCut turns lines rs
+    → (more : List Receipt) × Played turns lines (rs ++ more)
 IsCut-begins turns t lines rs some c =
     let last = c.part ++ free t c.line ∷ [] in
     let rest = map (free t) c.later in
     let p : Played turns (c.done ++ c.line ∷ c.later) (c.whole ++ (last ++ rest)) =
-    Played-append turns c.done (c.line ∷ c.later) c.whole (last ++ rest) c.played (last, rest, refl, closed turns t c.line c.part c.begun, all_free turns t c.later some) in
+    Played-append turns c.done (c.line ∷ c.later) c.whole (last ++ rest) c.played
+        (last, rest, refl, closed turns t c.line c.part c.begun, all_free turns t c.later some) in
     let same : rs ++ (free t c.line ∷ rest) ≡ c.whole ++ (last ++ rest) =
     ap (λ (qs : List Receipt). qs ++ (free t c.line ∷ rest)) c.receipts_are
-    ∙ (append_assoc c.whole c.part (free t c.line ∷ rest) ∙ ap (λ (qs : List Receipt). c.whole ++ qs) (sym (append_assoc c.part (free t c.line ∷ []) rest))) in (
+    ∙ (append_assoc c.whole c.part (free t c.line ∷ rest) ∙ ap (λ (qs : List Receipt). c.whole ++ qs) (sym (append_assoc c.part (free t c.line ∷ []) rest)))
+        in (
       free t c.line ∷ rest,
-      subst (λ (ls : List Line). Played turns ls (rs ++ (free t c.line ∷ rest))) (sym c.lines_are) (subst (λ (qs : List Receipt). Played turns (c.done ++ c.line ∷ c.later) qs) (sym same) p),
+      subst (λ (ls : List Line). Played turns ls (rs ++ (free t c.line ∷ rest))) (sym c.lines_are)
+          (subst (λ (qs : List Receipt). Played turns (c.done ++ c.line ∷ c.later) qs) (sym same) p),
     )

@@ -49,7 +49,8 @@ three true true false p q r all one two last = (λ e. absurd (cc e), λ w. r.1 (
 three true false u p q r all one two last = (λ e. absurd (cc e), λ w. q.1 (two w))
 three false t u p q r all one two last = (λ e. absurd (cc e), λ w. p.1 (one w))
 
-four : (s t u v : Bool) {P Q R S W : Type 0} → Decides s P → Decides t Q → Decides u R → Decides v S → (P → Q → R → S → W) → (W → P) → (W → Q) → (W → R) → (W → S) → Decides (s && (t && (u && v))) W
+four : (s t u v : Bool) {P Q R S W : Type 0} → Decides s P → Decides t Q → Decides u R → Decides v S → (P → Q → R → S → W) → (W → P) → (W → Q) → (W → R)
+    → (W → S) → Decides (s && (t && (u && v))) W
 four true t u v p q r s all one two third last = three t u v q r s (λ y z x. all (p.0 refl) y z x) two third last
 four false t u v p q r s all one two third last = (λ e. absurd (cc e), λ w. p.1 (one w))
 
@@ -126,9 +127,11 @@ objects_same (GetField a b c) (GetField p q r) = three _ _ _ (primitive_same a p
 objects_same (GetField a b c) y = grind arith
 objects_same (GetObjectField a b) (GetObjectField p q) = grind (arith, ref_same a p, field_same b q)
 objects_same (GetObjectField a b) y = grind arith
-objects_same (SetField a b c d) (SetField p q r s) = four _ _ _ _ (primitive_same a p) (ref_same b q) (field_same c r) (Decides-int_eq d s) (λ e f g h. cc) (λ e. cc) (λ e. cc) (λ e. cc) (λ e. cc)
+objects_same (SetField a b c d) (SetField p q r s) =
+    four _ _ _ _ (primitive_same a p) (ref_same b q) (field_same c r) (Decides-int_eq d s) (λ e f g h. cc) (λ e. cc) (λ e. cc) (λ e. cc) (λ e. cc)
 objects_same (SetField a b c d) y = grind arith
-objects_same (SetObjectField a b c) (SetObjectField p q r) = three _ _ _ (ref_same a p) (field_same b q) (ref_same c r) (λ e f g. cc) (λ e. cc) (λ e. cc) (λ e. cc)
+objects_same (SetObjectField a b c) (SetObjectField p q r) =
+    three _ _ _ (ref_same a p) (field_same b q) (ref_same c r) (λ e f g. cc) (λ e. cc) (λ e. cc) (λ e. cc)
 objects_same (SetObjectField a b c) y = grind arith
 
 strings_same : (x y : StringsCall) → Decides (strings.eq x y) (x ≡ y)
@@ -154,11 +157,13 @@ arrays_same (GetArrayRegion a b c d) y = grind arith
 arrays_same (SetArrayRegion a b c d) (SetArrayRegion p q r s) =
     four _ _ _ _ (primitive_same a p) (ref_same b q) (Decides-int_eq c r) (items_same d s) (λ e f g h. cc) (λ e. cc) (λ e. cc) (λ e. cc) (λ e. cc)
 arrays_same (SetArrayRegion a b c d) y = grind arith
-arrays_same (NewObjectArray a b c) (NewObjectArray p q r) = three _ _ _ (Decides-int_eq a p) (ref_same b q) (ref_same c r) (λ e f g. cc) (λ e. cc) (λ e. cc) (λ e. cc)
+arrays_same (NewObjectArray a b c) (NewObjectArray p q r) =
+    three _ _ _ (Decides-int_eq a p) (ref_same b q) (ref_same c r) (λ e f g. cc) (λ e. cc) (λ e. cc) (λ e. cc)
 arrays_same (NewObjectArray a b c) y = grind arith
 arrays_same (GetObjectArrayElement a b) (GetObjectArrayElement p q) = grind (arith, ref_same a p)
 arrays_same (GetObjectArrayElement a b) y = grind arith
-arrays_same (SetObjectArrayElement a b c) (SetObjectArrayElement p q r) = three _ _ _ (ref_same a p) (Decides-int_eq b q) (ref_same c r) (λ e f g. cc) (λ e. cc) (λ e. cc) (λ e. cc)
+arrays_same (SetObjectArrayElement a b c) (SetObjectArrayElement p q r) =
+    three _ _ _ (ref_same a p) (Decides-int_eq b q) (ref_same c r) (λ e f g. cc) (λ e. cc) (λ e. cc) (λ e. cc)
 arrays_same (SetObjectArrayElement a b c) y = grind arith
 
 monitors_same : (x y : MonitorsCall) → Decides (monitors.eq x y) (x ≡ y)
@@ -180,7 +185,8 @@ buffers_same (ReleaseStringUTFChars a b) (ReleaseStringUTFChars p q) = grind (ar
 buffers_same (ReleaseStringUTFChars a b) y = grind arith
 buffers_same (GetPrimitiveArrayCritical a) (GetPrimitiveArrayCritical p) = grind (arith, ref_same a p)
 buffers_same (GetPrimitiveArrayCritical a) y = grind arith
-buffers_same (ReleasePrimitiveArrayCritical a b c) (ReleasePrimitiveArrayCritical p q r) = three _ _ _ (ref_same a p) (buffer_same b q) (Decides-int_eq c r) (λ e f g. cc) (λ e. cc) (λ e. cc) (λ e. cc)
+buffers_same (ReleasePrimitiveArrayCritical a b c) (ReleasePrimitiveArrayCritical p q r) =
+    three _ _ _ (ref_same a p) (buffer_same b q) (Decides-int_eq c r) (λ e f g. cc) (λ e. cc) (λ e. cc) (λ e. cc)
 buffers_same (ReleasePrimitiveArrayCritical a b c) y = grind arith
 buffers_same (GetStringCritical a) (GetStringCritical p) = grind (arith, ref_same a p)
 buffers_same (GetStringCritical a) y = grind arith
@@ -188,7 +194,8 @@ buffers_same (ReleaseStringCritical a b) (ReleaseStringCritical p q) = grind (ar
 buffers_same (ReleaseStringCritical a b) y = grind arith
 buffers_same (BufferRead a b) (BufferRead p q) = grind (arith, buffer_same a p)
 buffers_same (BufferRead a b) y = grind arith
-buffers_same (BufferWrite a b c) (BufferWrite p q r) = three _ _ _ (buffer_same a p) (Decides-int_eq b q) (Decides-int_eq c r) (λ e f g. cc) (λ e. cc) (λ e. cc) (λ e. cc)
+buffers_same (BufferWrite a b c) (BufferWrite p q r) =
+    three _ _ _ (buffer_same a p) (Decides-int_eq b q) (Decides-int_eq c r) (λ e f g. cc) (λ e. cc) (λ e. cc) (λ e. cc)
 buffers_same (BufferWrite a b c) y = grind arith
 
 pub call_same : (x y : Call) → Decides (calls.eq x y) (x ≡ y)

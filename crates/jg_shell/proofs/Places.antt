@@ -46,22 +46,27 @@ told_within h i t is =
     let lt : i < length (map told_of (reverse h)) = slice_get_within (map told_of (reverse h)) i t (slice_get-map told_of (reverse h) i ∙ is) in
     omega (arith, length-map (reverse h) told_of, length-reverse h)
 
-told_of_entry : (v : Option Rule) (a : Answer) (t : Tid) (env : Option EnvId) (call : Call) (r : Receipt) → IsReceiptOf t env call r → r.outcome ≡ (entry_by v a t env call).outcome
+told_of_entry : (v : Option Rule) (a : Answer) (t : Tid) (env : Option EnvId) (call : Call) (r : Receipt) → IsReceiptOf t env call r
+    → r.outcome ≡ (entry_by v a t env call).outcome
     → told_of (entry_by v a t env call) ≡ told_by r
 told_of_entry None a t env call r of is = cc (of.tid_is, of.env_is, of.call_is)
 told_of_entry (Some rule) a t env call r of is = cc (of.tid_is, of.env_is, of.call_is)
 
 -- the receipt of a call that the guard took is the newest entry
-told_taken : (old new : State) (t : Tid) (env : Option EnvId) (call : Call) (r : Receipt) → Takes old new t env call r.outcome → r.place ≡ length old.journal → IsReceiptOf t env call r
+told_taken : (old new : State) (t : Tid) (env : Option EnvId) (call : Call) (r : Receipt) → Takes old new t env call r.outcome → r.place ≡ length old.journal
+    → IsReceiptOf t env call r
     → told_at new.journal r.place ≡ Some (told_by r)
 told_taken old new t env call r takes place of =
     let x = entry_at old.setup (parts old.setup old.journal) t env call in
     ap (λ (h : List Entry). told_at h r.place) takes.journal
     ∙ (ap (λ n. told_at (x ∷ old.journal) n) place
-    ∙ (told_newest x old.journal ∙ ap Some (told_of_entry (verdict old.setup (parts old.setup old.journal) t.0 env call) (answer old.setup (parts old.setup old.journal) t call) t env call r of
+    ∙ (told_newest x old.journal
+        ∙ ap Some (told_of_entry (verdict old.setup (parts old.setup old.journal) t.0 env call) (answer old.setup (parts old.setup old.journal) t call) t env
+        call r of
     takes.answered)))
 
-pub told_where_taken : (old new : State) (t : Tid) (env : Option EnvId) (call : Call) (result : Result Receipt Refusal) → IfOk result (λ r. Takes old new t env call r.outcome)
+pub told_where_taken : (old new : State) (t : Tid) (env : Option EnvId) (call : Call) (result : Result Receipt Refusal)
+    → IfOk result (λ r. Takes old new t env call r.outcome)
     → IfOk result (λ r. r.place ≡ length old.journal) → IfOk result (IsReceiptOf t env call)
     → IfOk result (λ r. told_at new.journal r.place ≡ Some (told_by r))
 told_where_taken old new t env call (Ok r) takes place of = told_taken old new t env call r takes place of

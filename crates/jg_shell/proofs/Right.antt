@@ -24,7 +24,8 @@ pub record IsChecked (h : List Entry) (rs : List Receipt) (index low : ℕ) : Ty
   pub stand : Stand h 0 (take index rs)
   pub low_is : low ≡ next_place 0 (take index rs)
 
-pub IsChecked-more : (h : List Entry) (rs : List Receipt) (index low : ℕ) (r : Receipt) → index < length rs → r ≡ get_or rs index r → IsChecked h rs index low → IsRight h low r
+pub IsChecked-more : (h : List Entry) (rs : List Receipt) (index low : ℕ) (r : Receipt) → index < length rs → r ≡ get_or rs index r → IsChecked h rs index low
+    → IsRight h low r
     → IsChecked h rs (index + 1) (r.place + 1)
 IsChecked-more h rs index low r within is so_far right =
     let next : take (index + 1) rs ≡ take index rs ++ r ∷ [] = take_more rs index r within ∙ ap (λ (q : Receipt). take index rs ++ q ∷ []) (sym is) in
@@ -34,7 +35,8 @@ IsChecked-more h rs index low r within is so_far right =
       low_is = rw next (sym (next_place-last 0 (take index rs) r));
     }
 
-pub IsChecked-wrong : (h : List Entry) (rs : List Receipt) (index low : ℕ) (r : Receipt) → index < length rs → r ≡ get_or rs index r → IsChecked h rs index low → (IsRight h low r → ⊥)
+pub IsChecked-wrong : (h : List Entry) (rs : List Receipt) (index low : ℕ) (r : Receipt) → index < length rs → r ≡ get_or rs index r → IsChecked h rs index low
+    → (IsRight h low r → ⊥)
     → IsFirstWrong h rs r.place
 IsChecked-wrong h rs index low r within is so_far wrong = record {
   good = take index rs;
@@ -46,7 +48,8 @@ IsChecked-wrong h rs index low r within is so_far wrong = record {
   place_is = refl;
 }
 
-pub IsWrongReceipt-at : (h : List Entry) (workers : List Work) (i : ℕ) (w : Work) (tid : Tid) (place : ℕ) → i < length workers → w ≡ get_or workers i w → All (IsRightWorker h) (take i workers)
+pub IsWrongReceipt-at : (h : List Entry) (workers : List Work) (i : ℕ) (w : Work) (tid : Tid) (place : ℕ) → i < length workers → w ≡ get_or workers i w
+    → All (IsRightWorker h) (take i workers)
     → tid ≡ w.tid → IsFirstWrong h w.receipts place → IsWrongReceipt h workers tid place
 IsWrongReceipt-at h workers i w tid place within is right tid_is wrong = record {
   before = take i workers;
@@ -63,12 +66,14 @@ Stand-from : (h : List Entry) (low : ℕ) (rs : List Receipt) → Stand h low rs
 Stand-from h low [] s = All-nil _
 Stand-from h low (r ∷ rs) s =
     All-cons (λ (q : Receipt). low ≤ q.place) r rs s.0.after
-    (All-weaker (λ (q : Receipt). r.place + 1 ≤ q.place) (λ (q : Receipt). low ≤ q.place) (λ q le. omega (arith, s.0.after, le)) rs (Stand-from h (r.place + 1) rs s.1))
+    (All-weaker (λ (q : Receipt). r.place + 1 ≤ q.place) (λ (q : Receipt). low ≤ q.place) (λ q le. omega (arith, s.0.after, le)) rs
+        (Stand-from h (r.place + 1) rs s.1))
 
 -- receipts that stand in the journal have rising places
 pub Stand-rise : (h : List Entry) (low : ℕ) (rs : List Receipt) → Stand h low rs → PlacesRise rs
 Stand-rise h low [] s = λ i j d lt within. absurd (omega arith)
 Stand-rise h low (r ∷ rs) s =
     AllPairs-cons (λ (one later : Receipt). one.place < later.place) r rs
-    (All-weaker (λ (q : Receipt). r.place + 1 ≤ q.place) (λ (q : Receipt). r.place < q.place) (λ q le. omega (arith, le)) rs (Stand-from h (r.place + 1) rs s.1))
+    (All-weaker (λ (q : Receipt). r.place + 1 ≤ q.place) (λ (q : Receipt). r.place < q.place) (λ q le. omega (arith, le)) rs
+        (Stand-from h (r.place + 1) rs s.1))
     (Stand-rise h (r.place + 1) rs s.1)

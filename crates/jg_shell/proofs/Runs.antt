@@ -17,7 +17,8 @@ pub record IsAt (turns : ℕ) (lines : List Line) (index : ℕ) (old now : OwnRe
   pub played : Played turns (take index lines) receipts
 
 -- one line more
-Played-line : (turns : ℕ) (lines : List Line) (receipts : List Receipt) (line : Line) (group : List Receipt) → Played turns lines receipts → IsGroup turns line group
+Played-line : (turns : ℕ) (lines : List Line) (receipts : List Receipt) (line : Line) (group : List Receipt) → Played turns lines receipts
+    → IsGroup turns line group
     → Played turns (lines ++ line ∷ []) (receipts ++ group)
 Played-line turns [] receipts line group p g = (group, [], ap (λ (rs : List Receipt). rs ++ group) p ∙ sym (append-nil group), g, refl)
 Played-line turns (l ∷ ls) receipts line group p g =
@@ -26,10 +27,12 @@ Played-line turns (l ∷ ls) receipts line group p g =
 pub IsAt-none : (turns : ℕ) (lines : List Line) (own : OwnReceipts) → IsAt turns lines 0 own own
 IsAt-none turns lines own = record { receipts = []; now_is = added_none own; played = refl }
 
-pub IsAt-line : (turns : ℕ) (lines : List Line) (index : ℕ) (old now new : OwnReceipts) (line : Line) → index < length lines → line ≡ get_or lines index line → IsAt turns lines index old now
+pub IsAt-line : (turns : ℕ) (lines : List Line) (index : ℕ) (old now new : OwnReceipts) (line : Line) → index < length lines → line ≡ get_or lines index line
+    → IsAt turns lines index old now
     → AddsGroup turns line now new → IsAt turns lines (index + 1) old new
 IsAt-line turns lines index old now new line within is at adds =
-    let next : take (index + 1) lines ≡ take index lines ++ line ∷ [] = take_more lines index line within ∙ ap (λ (l : Line). take index lines ++ l ∷ []) (sym is) in
+    let next : take (index + 1) lines ≡ take index lines ++ line ∷ [] =
+        take_more lines index line within ∙ ap (λ (l : Line). take index lines ++ l ∷ []) (sym is) in
     record {
       receipts = at.receipts ++ adds.group;
       now_is = added_twice old now new at.receipts adds.group at.now_is adds.new_is;
@@ -37,12 +40,15 @@ IsAt-line turns lines index old now new line within is at adds =
     }
 
 -- a worker that stops at a line
-pub Ran-cut : (turns : ℕ) (slice lines : List Line) (index : ℕ) (old now new : OwnReceipts) (line : Line) (before : Option Stop) (stop : Stop) → 1 ≤ turns → slice ≡ lines → index < length slice
+pub Ran-cut : (turns : ℕ) (slice lines : List Line) (index : ℕ) (old now new : OwnReceipts) (line : Line) (before : Option Stop) (stop : Stop) → 1 ≤ turns
+    → slice ≡ lines → index < length slice
     → line ≡ get_or slice index line → IsAt turns slice index old now → AddsPart turns line now new
-    → Ran turns (record { tid = old.tid; lines = lines; receipts = old.receipts; stopped = before }) (record { tid = new.tid; lines = lines; receipts = new.receipts; stopped = Some stop })
+    → Ran turns (record { tid = old.tid; lines = lines; receipts = old.receipts; stopped = before })
+        (record { tid = new.tid; lines = lines; receipts = new.receipts; stopped = Some stop })
 Ran-cut turns slice lines index old now new line before stop some same within is at adds =
     let new_is = added_twice old now new at.receipts adds.part at.now_is adds.new_is in
-    let split : slice ≡ take index slice ++ line ∷ drop (suc index) slice = split_at slice index line within ∙ ap (λ (l : Line). take index slice ++ l ∷ drop (suc index) slice) (sym is) in
+    let split : slice ≡ take index slice ++ line ∷ drop (suc index) slice =
+        split_at slice index line within ∙ ap (λ (l : Line). take index slice ++ l ∷ drop (suc index) slice) (sym is) in
     let cut : IsCut turns lines (at.receipts ++ adds.part) = record {
       done = take index slice;
       line = line;

@@ -22,7 +22,8 @@ module _ (rs : List Receipt) (rise : PlacesRise rs) (place : ℕ) where
   here (x ∷ xs) i lt is = list_any_at (λ (r : Receipt). r.place == place) (x ∷ xs) i x lt (let at = is x in grind (arith, nat_tests))
 
   -- a binary search ends at the place, or there is none
-  pub searched : (r : Result ℕ ℕ) → IsSearchInRange r (length rs) → IsBinarySearchResult (λ (q : Receipt). nat_cmp q.place place) rs r → is_ok r ≡ has_place place rs
+  pub searched : (r : Result ℕ ℕ) → IsSearchInRange r (length rs) → IsBinarySearchResult (λ (q : Receipt). nat_cmp q.place place) rs r
+      → is_ok r ≡ has_place place rs
   searched (Ok index) within equal = sym (here rs index within (λ d. ranked _ place _ (sym (equal d))))
   searched (Err index) within parted =
       let parts = parted comparisons_rise in

@@ -29,12 +29,14 @@ Down-raise t h a b (r ∷ rs) le d = (omega (arith, d.0), d.1, d.2, d.3)
 turned : (r : Receipt) (rs acc : List Receipt) → reverse (r ∷ rs) ++ acc ≡ reverse rs ++ r ∷ acc
 turned r rs acc = ap (λ (qs : List Receipt). qs ++ acc) (reverse-append (r ∷ []) rs) ∙ append_assoc (reverse rs) (r ∷ []) acc
 
-down_onto : (t : Tid) (h : List Entry) (low : ℕ) (rs acc : List Receipt) → All (λ (r : Receipt). r.tid ≡ t) rs → Stand h low rs → Down t h low acc → Down t h (next_place low rs) (reverse rs ++ acc)
+down_onto : (t : Tid) (h : List Entry) (low : ℕ) (rs acc : List Receipt) → All (λ (r : Receipt). r.tid ≡ t) rs → Stand h low rs → Down t h low acc
+    → Down t h (next_place low rs) (reverse rs ++ acc)
 down_onto t h low [] acc own s d = d
 down_onto t h low (r ∷ rs) acc own s d =
     let own' = λ (q : Receipt). q.tid ≡ t in
     subst (λ (qs : List Receipt). Down t h (next_place (r.place + 1) rs) qs) (sym (turned r rs acc))
-    (down_onto t h (r.place + 1) rs (r ∷ acc) (All-tail own' r rs own) s.1 (omega arith, All-head own' r rs own, s.0.told_is, Down-raise t h low r.place acc s.0.after d))
+    (down_onto t h (r.place + 1) rs (r ∷ acc) (All-tail own' r rs own) s.1
+        (omega arith, All-head own' r rs own, s.0.told_is, Down-raise t h low r.place acc s.0.after d))
 
 Down-within : (t : Tid) (h : List Entry) (n : ℕ) (rs : List Receipt) → Down t h n rs → Down t h (length h) rs
 Down-within t h n [] d = tt
@@ -43,7 +45,8 @@ Down-within t h n (r ∷ rs) d = (told_within h r.place (told_by r) d.2, d.1, d.
 -- a worker's receipts that are right, the newest first
 right_down : (h : List Entry) (w : Work) → IsRightWorker h w → Down w.tid h (length h) (reverse w.receipts)
 right_down h w right =
-    let down : Down w.tid h (next_place 0 w.receipts) (reverse w.receipts) = subst (λ (qs : List Receipt). Down w.tid h (next_place 0 w.receipts) qs) (append-nil (reverse w.receipts))
+    let down : Down w.tid h (next_place 0 w.receipts) (reverse w.receipts) =
+        subst (λ (qs : List Receipt). Down w.tid h (next_place 0 w.receipts) qs) (append-nil (reverse w.receipts))
     (down_onto w.tid h 0 w.receipts [] right.own right.stand tt) in
     Down-within w.tid h (next_place 0 w.receipts) (reverse w.receipts) down
 
@@ -75,12 +78,15 @@ Covers-older : (t : Tid) (x : Entry) (h : List Entry) (rs : List Receipt) → Co
 Covers-older t x h rs c i told at own = c i told (told_older x h i (told_within h i told at) ∙ at) own
 
 own_at : (t : Tid) (x : Entry) (h : List Entry) (rs : List Receipt) (b : Bool) → (x.tid.0 == t.0) ≡ b → Down t (x ∷ h) (length (x ∷ h)) rs → Covers t (x ∷ h) rs
-    → ((qs : List Receipt) → Down t h (length h) qs → Covers t h qs → entries_of t h ≡ map placed qs) → (if b then (length h, told_of x) ∷ entries_of t h else entries_of t h) ≡ map placed rs
+    → ((qs : List Receipt) → Down t h (length h) qs → Covers t h qs → entries_of t h ≡ map placed qs)
+    → (if b then (length h, told_of x) ∷ entries_of t h else entries_of t h) ≡ map placed rs
 own_at t x h [] true is d c rec =
     let bad : false ≡ true = c (length h) (told_of x) (told_newest x h) (tid_same x.tid t is) in absurd (cc bad)
 own_at t x h (r ∷ rs) true is d c rec =
     let has : has_place (length h) (r ∷ rs) ≡ true = c (length h) (told_of x) (told_newest x h) (tid_same x.tid t is) in
-    let here : r.place ≡ length h = here_at (r.place == length h) (has_place (length h) rs) r.place (length h) refl has (no_place t (x ∷ h) r.place (length h) rs (omega (arith, d.0)) d.3) in
+    let here : r.place ≡ length h =
+        here_at (r.place == length h) (has_place (length h) rs) r.place (length h) refl has (no_place t (x ∷ h) r.place (length h) rs (omega (arith, d.0)) d.3)
+        in
     let same : told_of x ≡ told_by r = same_Some (told_of x) (told_by r) (sym (told_newest x h) ∙ (ap (told_at (x ∷ h)) (sym here) ∙ d.2)) in
     let below : Down t h (length h) rs = older t x h (length h) rs (omega arith) (subst (λ (n : ℕ). Down t (x ∷ h) n rs) here d.3) in
     let covers : Covers t h rs =
@@ -120,7 +126,8 @@ teller h workers all i told at =
     record { index = any.0; worker = any.1; within = any.2; worker_is = any.3; thread = tid_same any.1.tid told.tid test.0; has = test.1 }
 
 -- workers of one thread are one
-apart_index : (workers : List Work) → AreApart workers → (i j : ℕ) (d : Work) → i < length workers → j < length workers → (get_or workers i d).tid ≡ (get_or workers j d).tid → i ≡ j
+apart_index : (workers : List Work) → AreApart workers → (i j : ℕ) (d : Work) → i < length workers → j < length workers
+    → (get_or workers i d).tid ≡ (get_or workers j d).tid → i ≡ j
 apart_index workers apart i j d i_in j_in same =
     elim (cases_lt i j) [
       | inl lt ↦ absurd (apart i j d lt j_in same)

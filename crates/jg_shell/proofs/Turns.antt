@@ -19,10 +19,12 @@ pub added_none : (old : OwnReceipts) → old ≡ record old { receipts = old.rec
 added_none old = ap (λ (rs : List Receipt). record old { receipts = rs }) (sym (append-nil old.receipts))
 
 -- receipts added twice are added at once
-pub added_twice : (old now new : OwnReceipts) (a b : List Receipt) → now ≡ record old { receipts = old.receipts ++ a } → new ≡ record now { receipts = now.receipts ++ b }
+pub added_twice : (old now new : OwnReceipts) (a b : List Receipt) → now ≡ record old { receipts = old.receipts ++ a }
+    → new ≡ record now { receipts = now.receipts ++ b }
     → new ≡ record old { receipts = old.receipts ++ (a ++ b) }
 added_twice old now new a b p q =
-    q ∙ (ap (λ (t : OwnReceipts). record t { receipts = t.receipts ++ b }) p ∙ ap (λ (rs : List Receipt). record old { receipts = rs }) (append_assoc old.receipts a b))
+    q ∙ (ap (λ (t : OwnReceipts). record t { receipts = t.receipts ++ b }) p
+        ∙ ap (λ (rs : List Receipt). record old { receipts = rs }) (append_assoc old.receipts a b))
 
 pub IsTurn-first : (turns : ℕ) (line : Line) (own : OwnReceipts) → 1 ≤ turns → IsTurn 1 turns line own own
 IsTurn-first turns line own some = record {
@@ -34,7 +36,8 @@ IsTurn-first turns line own some = record {
 }
 
 -- a busy turn that is not the last
-pub IsTurn-more : (turn turns : ℕ) (line : Line) (old now new : OwnReceipts) (busy : Bool) → IsTurn turn turns line old now → AddsReceipt line now new busy → busy ≡ true
+pub IsTurn-more : (turn turns : ℕ) (line : Line) (old now new : OwnReceipts) (busy : Bool) → IsTurn turn turns line old now → AddsReceipt line now new busy
+    → busy ≡ true
     → is_monitor_enter line.call ≡ true → turn < turns → IsTurn (turn + 1) turns line old new
 IsTurn-more turn turns line old now new busy t a again enter more = record {
   part = t.part ++ a.receipt ∷ [];

@@ -27,7 +27,8 @@ use Rattle.jg_watch.specs.Told.{Stands, Told, Watching, after, can_be_told, oper
 abbrev pub said : List ℕ → Option (List ℕ) → Option (List ℕ) → Event → List Argument → List ObjId → Said
 said event told noted e xs gone = record { event = event; answer = told; note = noted; says = e; operands = xs; gone = gone }
 
-pub says_line : (s read : StatedSetup) (line event : List ℕ) (told noted : Option (List ℕ)) (e : Event) (xs : List Argument) (gone : List ObjId) → is_comment line ≡ false
+pub says_line : (s read : StatedSetup) (line event : List ℕ) (told noted : Option (List ℕ)) (e : Event) (xs : List Argument) (gone : List ObjId)
+    → is_comment line ≡ false
     → AreParts line event told noted → read ≡ s → SpellsEvent read event e xs gone → Says s line (said event told noted e xs gone)
 says_line s read line event told noted e xs gone comment parts same spelt = record {
   event = comment;
@@ -45,14 +46,16 @@ reply_stops told reply text bytes bytes' n (Limit number) agrees wrote = absurd 
 reply_stops told reply text bytes bytes' n (Read number) agrees wrote = absurd wrote
 
 -- no write is a failed read
-pub line_unread : (text : List ℕ) (bytes bytes' : Option (List ℕ)) (n : ℕ) (stop : Stop) → WritesLine text bytes bytes' n (Err stop) → IsNoRead {N = Step} (Err stop)
+pub line_unread : (text : List ℕ) (bytes bytes' : Option (List ℕ)) (n : ℕ) (stop : Stop) → WritesLine text bytes bytes' n (Err stop)
+    → IsNoRead {N = Step} (Err stop)
 line_unread text bytes bytes' n (NoMemory number) wrote = tt
 line_unread text bytes bytes' n (Write number) wrote = tt
 line_unread text bytes bytes' n (Faulty number fault) wrote = tt
 line_unread text bytes bytes' n (Limit number) wrote = tt
 line_unread text bytes bytes' n (Read number) wrote = wrote
 
-pub reply_unread : (told : Option (List ℕ)) (reply : Reply) (text : List ℕ) (bytes bytes' : Option (List ℕ)) (n : ℕ) (stop : Stop) → WritesReply told reply text bytes bytes' n (Err stop)
+pub reply_unread : (told : Option (List ℕ)) (reply : Reply) (text : List ℕ) (bytes bytes' : Option (List ℕ)) (n : ℕ) (stop : Stop)
+    → WritesReply told reply text bytes bytes' n (Err stop)
     → IsNoRead {N = Step} (Err stop)
 reply_unread told reply text bytes bytes' n (NoMemory number) wrote = tt
 reply_unread told reply text bytes bytes' n (Write number) wrote = tt
@@ -74,9 +77,11 @@ step_by n x (Ok true) = Ok (step.Answered x)
 step_by n x (Ok false) = Ok (step.Ended (Differs n))
 step_by n x (Err stop) = Err stop
 
-pub replied_line : (s : StatedSetup) (shown : Shown) (told : Told) (old new : Watching) (line : List ℕ) (bytes bytes' : Option (List ℕ)) (n : ℕ) (x : Said) (r : Replied)
+pub replied_line : (s : StatedSetup) (shown : Shown) (told : Told) (old new : Watching) (line : List ℕ) (bytes bytes' : Option (List ℕ)) (n : ℕ) (x : Said)
+    (r : Replied)
     (result : Result Bool Stop) → old.core.setup ≡ s → Says s line x → Stands old told → Replies old new x.says x.operands x.gone r
-    → WritesReply x.answer r.reply (shown_text shown x.event x.note r.reply) bytes bytes' n result → AnswersLine s shown told new x.operands x.gone line bytes bytes' n (step_by n r result)
+    → WritesReply x.answer r.reply (shown_text shown x.event x.note r.reply) bytes bytes' n result
+    → AnswersLine s shown told new x.operands x.gone line bytes bytes' n (step_by n r result)
 replied_line s shown told old new line bytes bytes' n x r result same says stands replies wrote = by result wrote
   where
     can : can_be_told s told x.says x.gone ≡ true
@@ -97,7 +102,8 @@ replied_line s shown told old new line bytes bytes' n x r result same says stand
     by : (result : Result Bool Stop) → WritesReply x.answer r.reply (shown_text shown x.event x.note r.reply) bytes bytes' n result
         → AnswersLine s shown told new x.operands x.gone line bytes bytes' n (step_by n r result)
     by (Ok true) (agrees, written) =
-        (shown_text shown x.event x.note r.reply, after x.says x.gone told, inr (x, says, record { can = can; is = is }, agrees, operand, what, refl, refl), now, written)
+        (shown_text shown x.event x.note r.reply, after x.says x.gone told, inr (x, says, record { can = can; is = is }, agrees, operand, what, refl, refl),
+            now, written)
     by (Ok false) (differs, kept) = ((x, r.reply, says, record { can = can; is = is }, differs), kept, refl)
     by (Err (NoMemory number)) wrote = wrote
     by (Err (Write number)) (agrees, front, is_n) = (
@@ -119,9 +125,12 @@ abbrev step_of : Result (Unit {0}) Stop → Result Step Stop
 step_of (Ok done) = Ok (step.Answered (unasked None Nothing))
 step_of (Err stop) = Err stop
 
-pub comment_line : (s : StatedSetup) (shown : Shown) (told : Told) (new : Watching) (xs : List Argument) (gone : List ObjId) (line : List ℕ) (bytes bytes' : Option (List ℕ)) (n : ℕ) (result : Result (Unit {0}) Stop)
-    → is_comment line ≡ true → Stands new told → WritesLine (comment_text shown line) bytes bytes' n result → AnswersLine s shown told new xs gone line bytes bytes' n (step_of result)
-comment_line s shown told new xs gone line bytes bytes' n (Ok done) comment stands written = (comment_text shown line, told, inl (comment, refl, refl, refl, refl, refl), stands, written)
+pub comment_line : (s : StatedSetup) (shown : Shown) (told : Told) (new : Watching) (xs : List Argument) (gone : List ObjId) (line : List ℕ)
+    (bytes bytes' : Option (List ℕ)) (n : ℕ) (result : Result (Unit {0}) Stop)
+    → is_comment line ≡ true → Stands new told → WritesLine (comment_text shown line) bytes bytes' n result
+    → AnswersLine s shown told new xs gone line bytes bytes' n (step_of result)
+comment_line s shown told new xs gone line bytes bytes' n (Ok done) comment stands written =
+    (comment_text shown line, told, inl (comment, refl, refl, refl, refl, refl), stands, written)
 comment_line s shown told new xs gone line bytes bytes' n (Err (NoMemory number)) comment stands wrote = wrote
 comment_line s shown told new xs gone line bytes bytes' n (Err (Write number)) comment stands (front, is) =
     ((answered s line (unasked None Nothing) xs gone (comment_text shown line), told, refl, inl (comment, refl, refl, refl, refl, refl), front), is)
@@ -129,7 +138,8 @@ comment_line s shown told new xs gone line bytes bytes' n (Err (Faulty number fa
 comment_line s shown told new xs gone line bytes bytes' n (Err (Limit number)) comment stands wrote = absurd wrote
 comment_line s shown told new xs gone line bytes bytes' n (Err (Read number)) comment stands wrote = absurd wrote
 
-pub comment_answered : (s : StatedSetup) (shown : Shown) (told : Told) (new : Watching) (xs : List Argument) (gone : List ObjId) (line : List ℕ) (bytes bytes' : Option (List ℕ)) (n : ℕ) (x : Replied)
+pub comment_answered : (s : StatedSetup) (shown : Shown) (told : Told) (new : Watching) (xs : List Argument) (gone : List ObjId) (line : List ℕ)
+    (bytes bytes' : Option (List ℕ)) (n : ℕ) (x : Replied)
     → is_comment line ≡ true → Stands new told → Appends bytes bytes' (comment_text shown line) → x ≡ unasked None Nothing
     → AnswersLine s shown told new xs gone line bytes bytes' n (Ok (step.Answered x))
 comment_answered s shown told new xs gone line bytes bytes' n x comment stands written is =
@@ -145,7 +155,8 @@ line_whole s shown told new line bytes bytes' n (Differs number) stops = tt
 line_whole s shown told new line bytes bytes' n (Impossible number) stops = tt
 
 -- a line that was read whole is the next
-pub next_line : (s : StatedSetup) (shown : Shown) (told : Told) (new : Watching) (xs : List Argument) (gone : List ObjId) (input input' : Option (List ℕ)) (line : List ℕ) (bytes bytes' : Option (List ℕ)) (n : ℕ)
+pub next_line : (s : StatedSetup) (shown : Shown) (told : Told) (new : Watching) (xs : List Argument) (gone : List ObjId) (input input' : Option (List ℕ))
+    (line : List ℕ) (bytes bytes' : Option (List ℕ)) (n : ℕ)
     (result : Result Step Stop) → IsOneLine line → Consumes input input' (line ++ 10 ∷ []) → AnswersLine s shown told new xs gone line bytes bytes' n result
     → AnswersNext s shown told new xs gone input input' line bytes bytes' n result
 next_line s shown told new xs gone input input' line bytes bytes' n (Ok (step.Answered reply)) one taken answers = (taken, answers)

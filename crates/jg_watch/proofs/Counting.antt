@@ -57,7 +57,8 @@ one_more lines l tally new (Some n) number small old now =
     by k false is =
         get_or-set_other tally n k (slice_index_or tally n 0 + 1) 0 (grind (arith, nat_tests, is)) ∙ old.1 k ∙ sym (counted k false is)
 
-pub counts : (lines : List Answered) (l : Answered) (tally new : List ℕ) → IsTally lines tally → new ≡ counted_at (reply_number l.reply) tally → IsTally (l ∷ lines) new
+pub counts : (lines : List Answered) (l : Answered) (tally new : List ℕ) → IsTally lines tally → new ≡ counted_at (reply_number l.reply) tally
+    → IsTally (l ∷ lines) new
 counts lines l tally new old now = one_more lines l tally new (reply_number l.reply) refl (inside l.reply) old now
 
 blank : (n k : ℕ) → slice_index_or (replicate {A = ℕ} n 0) k 0 ≡ 0

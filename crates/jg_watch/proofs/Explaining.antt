@@ -17,7 +17,8 @@ adds_nothing x more none = record { most = refl; text = by x.text refl }
     by (Some so_far) is = inr (so_far, is, is ∙ ap Some (sym (ap (λ it. so_far ++ it) none ∙ append-nil so_far)))
 
 -- what was answered otherwise than by a denial isn't explained
-pub not_explained : (n : ℕ) (b : Bool) (reply : Reply) (operand : Option Argument) → ((rule : Rule) → ¬ (reply ≡ Denied rule)) → (if b then explanation n reply operand else []) ≡ []
+pub not_explained : (n : ℕ) (b : Bool) (reply : Reply) (operand : Option Argument) → ((rule : Rule) → ¬ (reply ≡ Denied rule))
+    → (if b then explanation n reply operand else []) ≡ []
 not_explained n false reply operand otherwise = refl
 not_explained n true Passed operand otherwise = refl
 not_explained n true (Denied rule) operand otherwise = absurd (otherwise rule refl)

@@ -30,7 +30,8 @@ use Rattle.jg_watch.specs.Told.{Stands, Told, Watching, after, nothing_told}
 use Rattle.jg_watch.proofs.Counting.{counts}
 
 -- what is known before line number n: the lines before it were answered, their replies counted, and the first denials explained
-pub record HasWatched (s : StatedSetup) (shown : Shown) (input rest bytes before : Option (List ℕ)) (n : ℕ) (watch : Watching) (told_of : Explaining) (log : Option AdviceLogState) : Type 0 where
+pub record HasWatched (s : StatedSetup) (shown : Shown) (input rest bytes before : Option (List ℕ)) (n : ℕ) (watch : Watching) (told_of : Explaining)
+    (log : Option AdviceLogState) : Type 0 where
   pub lines : List Answered
   pub told : Told
   pub answered : AreAnswered s shown lines told
@@ -44,7 +45,8 @@ pub record HasWatched (s : StatedSetup) (shown : Shown) (input rest bytes before
   pub number : n ≡ length lines + 1
 
 -- nothing yet
-pub begins : (s : StatedSetup) (shown : Shown) (input bytes : Option (List ℕ)) (watch : Watching) (told_of : Explaining) (log : Option AdviceLogState) → Stands watch nothing_told → IsTally [] watch.tally → watch.denied ≡ 0
+pub begins : (s : StatedSetup) (shown : Shown) (input bytes : Option (List ℕ)) (watch : Watching) (told_of : Explaining) (log : Option AdviceLogState)
+    → Stands watch nothing_told → IsTally [] watch.tally → watch.denied ≡ 0
     → told_of.text ≡ Some [] → LogStandsIf log [] → HasWatched s shown input input bytes bytes 1 watch told_of log
 begins s shown input bytes watch told_of log stands none denied text advised = record {
   lines = [];
@@ -61,7 +63,8 @@ begins s shown input bytes watch told_of log stands none denied text advised = r
 }
 
 -- what is held back may be handed on
-pub still : (s : StatedSetup) (shown : Shown) (input rest bytes before before' : Option (List ℕ)) (n : ℕ) (watch : Watching) (told_of : Explaining) (log : Option AdviceLogState)
+pub still : (s : StatedSetup) (shown : Shown) (input rest bytes before before' : Option (List ℕ)) (n : ℕ) (watch : Watching) (told_of : Explaining)
+    (log : Option AdviceLogState)
     → HasWatched s shown input rest bytes before n watch told_of log → Keeps before before' → HasWatched s shown input rest bytes before' n watch told_of log
 still s shown input rest bytes before before' n watch told_of log h kept = record {
   lines = h.lines;
@@ -82,7 +85,8 @@ explains_on : (lines : List Answered) (l : Answered) (old new : Explaining) (tex
     → text ≡ (if nat_lt (denials_in lines) old.most then explanation (length lines + 1) l.reply l.operand else []) → AreExplained (l ∷ lines) new
 explains_on lines l old new text (inl (lost, some)) adds is = inl (by adds.text, subst (λ n. 0 < n) (sym adds.most) some)
   where
-    by : ((new.text ≡ None) × ((old.text ≡ None) ⊎ (0 < old.most))) ⊎ ((so_far : List ℕ) × (old.text ≡ Some so_far) × (new.text ≡ Some (so_far ++ text))) → new.text ≡ None
+    by : ((new.text ≡ None) × ((old.text ≡ None) ⊎ (0 < old.most))) ⊎ ((so_far : List ℕ) × (old.text ≡ Some so_far) × (new.text ≡ Some (so_far ++ text)))
+        → new.text ≡ None
     by (inl now) = now.0
     by (inr (so_far, had, now)) = absurd (none-some so_far (sym lost ∙ had))
 explains_on lines l old new text (inr had) adds is = by adds.text
@@ -92,11 +96,13 @@ explains_on lines l old new text (inr had) adds is = by adds.text
     by (inl (lost, inl none)) = absurd (none-some _ (sym none ∙ had))
     by (inl (lost, inr some)) = inl (lost, subst (λ n. 0 < n) (sym adds.most) some)
     by (inr (so_far, was, now)) =
-        inr (now ∙ ap Some (ap (λ it. it ++ text) (same_Some _ _ (sym was ∙ had)) ∙ ap (λ it. explanations old.most lines ++ it) is) ∙ ap (λ n. Some (explanations n (l ∷ lines))) (sym adds.most))
+        inr (now ∙ ap Some (ap (λ it. it ++ text) (same_Some _ _ (sym was ∙ had)) ∙ ap (λ it. explanations old.most lines ++ it) is)
+            ∙ ap (λ n. Some (explanations n (l ∷ lines))) (sym adds.most))
 
 -- ---- the facts of what happened
 
-facts_by : (s : StatedSetup) (before : Told) (n : ℕ) (line : List ℕ) (xs : List Argument) (gone : List ObjId) (hist : List Moment) → before.facts ≡ facts_of hist → (e : Event) (reply : Reply)
+facts_by : (s : StatedSetup) (before : Told) (n : ℕ) (line : List ℕ) (xs : List Argument) (gone : List ObjId) (hist : List Moment)
+    → before.facts ≡ facts_of hist → (e : Event) (reply : Reply)
     → (after e gone before).facts ≡ facts_of (with_moment n (what_of s line (Some e) reply xs gone) hist)
 facts_by s before n line xs gone hist same (Question t env f) Passed = same
 facts_by s before n line xs gone hist same (Question t env f) (Denied rule) = same
@@ -109,7 +115,8 @@ facts_by s before n line xs gone hist same (FactTold fact) reply = ap (λ w. fac
 facts_by s before n line xs gone hist same AreGone reply = ap (all_gone gone) same
 facts_by s before n line xs gone hist same (Bounds bounds) reply = same
 
-facts_after : (s : StatedSetup) (shown : Shown) (before told : Told) (l : Answered) (n : ℕ) (hist : List Moment) → before.facts ≡ facts_of hist → IsAnswered s shown before l told
+facts_after : (s : StatedSetup) (shown : Shown) (before told : Told) (l : Answered) (n : ℕ) (hist : List Moment) → before.facts ≡ facts_of hist
+    → IsAnswered s shown before l told
     → told.facts ≡ facts_of (with_moment n l.what hist)
 facts_after s shown before told l n hist same (inl (comment, reply, operand, what, is, out)) =
     ap (λ (t : Told). t.facts) is ∙ same ∙ ap (λ w. facts_of (with_moment n w hist)) (sym what)
@@ -122,18 +129,22 @@ facts_told s shown (l ∷ lines) told (before, answered, is) =
     facts_after s shown before told l (length lines + 1) (moments_of lines) (facts_told s shown lines before answered) is
 
 -- one line more was answered
-pub goes_on : (s read : StatedSetup) (shown : Shown) (input rest rest' bytes before before' : Option (List ℕ)) (n : ℕ) (watch next new : Watching) (told_of now_told : Explaining)
+pub goes_on : (s read : StatedSetup) (shown : Shown) (input rest rest' bytes before before' : Option (List ℕ)) (n : ℕ) (watch next new : Watching)
+    (told_of now_told : Explaining)
     (line : List ℕ) (x : Replied) (xs : List Argument) (gone : List ObjId) (log advised : Option AdviceLogState)
-    → (h : HasWatched s shown input rest bytes before n watch told_of log) → read ≡ s → AnswersNext read shown h.told next xs gone rest rest' line before before' n (Ok (step.Answered x))
+    → (h : HasWatched s shown input rest bytes before n watch told_of log) → read ≡ s
+    → AnswersNext read shown h.told next xs gone rest rest' line before before' n (Ok (step.Answered x))
     → next.tally ≡ watch.tally → next.denied ≡ watch.denied
     → Adds told_of now_told (if nat_lt next.denied told_of.most then explanation n x.reply x.operand else [])
     → new.tally ≡ counted_at (reply_number x.reply) next.tally → new.denied ≡ denied_after x.reply next.denied → new.core ≡ next.core → new.bounds ≡ next.bounds
     → ((hist : List Moment) → LogStandsIf log hist → CoreStands next.core (facts_of (with_moment n (what_of read line x.event x.reply xs gone) hist))
     → LogStandsIf advised (with_moment n (what_of read line x.event x.reply xs gone) hist))
     → HasWatched s shown input rest' bytes before' (n + 1) new now_told advised
-goes_on s read shown input rest rest' bytes before before' n watch next new told_of now_told line x xs gone log advised h same (taken, (out, told, is, stands, written)) tally denials adds counted denied core bounds advise =
+goes_on s read shown input rest rest' bytes before before' n watch next new told_of now_told line x xs gone log advised h same
+    (taken, (out, told, is, stands, written)) tally denials adds counted denied core bounds advise =
     let l : Answered = answered read line x xs gone out in
-    let facts : told.facts ≡ facts_of (with_moment n l.what (moments_of h.lines)) = facts_after read shown h.told told l n (moments_of h.lines) (facts_told s shown h.lines h.told h.answered) is in
+    let facts : told.facts ≡ facts_of (with_moment n l.what (moments_of h.lines)) =
+        facts_after read shown h.told told l n (moments_of h.lines) (facts_told s shown h.lines h.told h.answered) is in
     let so_many : next.denied ≡ denials_in h.lines = denials ∙ h.denied in
     record {
       lines = l ∷ h.lines;
@@ -153,10 +164,12 @@ goes_on s read shown input rest rest' bytes before before' n watch next new told
     }
 
 -- the record ended there
-pub ended_at : (s read : StatedSetup) (shown : Shown) (input rest rest' bytes before before' : Option (List ℕ)) (n : ℕ) (watch new : Watching) (told_of : Explaining) (log : Option AdviceLogState) (line : List ℕ)
+pub ended_at : (s read : StatedSetup) (shown : Shown) (input rest rest' bytes before before' : Option (List ℕ)) (n : ℕ) (watch new : Watching)
+    (told_of : Explaining) (log : Option AdviceLogState) (line : List ℕ)
     (result : Result Ended Stop)
     → (h : HasWatched s shown input rest bytes before n watch told_of log) → read ≡ s → new.tally ≡ watch.tally → new.denied ≡ watch.denied
-    → EndsAt read shown h.told rest rest' line before before' n result → IsWhole new h.told result → Watches s shown input rest' line bytes before' new told_of log result
+    → EndsAt read shown h.told rest rest' line before before' n result → IsWhole new h.told result
+    → Watches s shown input rest' line bytes before' new told_of log result
 ended_at s read shown input rest rest' bytes before before' n watch new told_of log line result h is same denied ends whole = record {
   lines = h.lines;
   told = h.told;

@@ -73,7 +73,8 @@ answered : (bounds : Bounds) (s : StatedSetup) (p : Parts) (t : Tid) (env : Opti
 answered bounds s p t env row xs None = inl refl
 answered bounds s p t env row xs (Some rule) = inr (rule, refl)
 
-asked_of : (s : StatedSetup) (told : Told) (t : Tid) (env : Option EnvId) (function : ℕ) (row : Columns) (xs : List Argument) → slice_get functions function ≡ Some row → suits row.takes xs ≡ true
+asked_of : (s : StatedSetup) (told : Told) (t : Tid) (env : Option EnvId) (function : ℕ) (row : Columns) (xs : List Argument)
+    → slice_get functions function ≡ Some row → suits row.takes xs ≡ true
     → replied s told (Question t env function) xs
     ≡ reply_of (by_verdict told.bounds s (parts_of told.facts) t env row xs (verdict told.bounds s (parts_of told.facts) t.0 env row xs))
 asked_of s told t env function row xs at suit =
@@ -123,6 +124,8 @@ is_judged s told text t env function xs gone (inl (t', env', place, row, words, 
     let at : slice_get functions function ≡ Some row = ap (slice_get functions) (ap place_in same) ∙ asks_for.at in
     let p = parts_of told.facts in
     let found = verdict told.bounds s p t.0 env row xs in
-    subst (λ (reply : Reply). (reply ≡ Passed) ⊎ ((rule : Rule) × (reply ≡ Denied rule))) (sym (asked_of s told t env function row xs at (all_suit row.takes words xs asks)))
+    subst (λ (reply : Reply). (reply ≡ Passed) ⊎ ((rule : Rule) × (reply ≡ Denied rule)))
+        (sym (asked_of s told t env function row xs at (all_suit row.takes words xs asks)))
     (answered told.bounds s p t env row xs found)
-is_judged s told text t env function xs gone (inr (t', v, words, tells_of, tells)) = absurd (let no : ⊥ = cc (told_is s v t' words (Question t env function) gone tells) in no)
+is_judged s told text t env function xs gone (inr (t', v, words, tells_of, tells)) =
+    absurd (let no : ⊥ = cc (told_is s v t' words (Question t env function) gone tells) in no)

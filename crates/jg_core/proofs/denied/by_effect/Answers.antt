@@ -10,7 +10,8 @@ use Rattle.jg_core.specs.Denied.{by_rule, by_effect}
 use Rattle.jg_core.proofs.denied.by_effect.Goals as goal
 
 -- of the other effects the rule says it
-of_others : (rule : Rule) (effect : Effect) (t : Tid) (passed : Expected) (xs : List Argument) → (effect ≡ GivesBack → ⊥) → (effect ≡ Pops → ⊥) → (effect ≡ Detaches → ⊥)
+of_others : (rule : Rule) (effect : Effect) (t : Tid) (passed : Expected) (xs : List Argument) → (effect ≡ GivesBack → ⊥) → (effect ≡ Pops → ⊥)
+    → (effect ≡ Detaches → ⊥)
     → by_rule rule passed (first_reference xs) ≡ by_effect rule effect t passed xs
 of_others rule GivesBack t passed xs back pops detaches = absurd (back refl)
 of_others rule Pops t passed xs back pops detaches = absurd (pops refl)

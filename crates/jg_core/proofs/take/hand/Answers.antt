@@ -5,7 +5,8 @@ pub next_ref-n-requires : goal.next_ref-n-requires
 next_ref-n-requires g c = (counts c.args.setup.now c.requires.events c.args.tables.now.threads c.args.tid.0 c.requires.ordinary c.requires.stand.threads).refs
 
 pub make-requires-clause-started : goal.make-requires-clause-started
-make-requires-clause-started g c = has_frame c.args.setup.now c.requires.events c.args.tables.now.locals.rows c.args.tid.0 c.requires.ordinary c.requires.stand.locals c.requires.attached
+make-requires-clause-started g c =
+    has_frame c.args.setup.now c.requires.events c.args.tables.now.locals.rows c.args.tid.0 c.requires.ordinary c.requires.stand.locals c.requires.attached
 
 pub make-requires-clause-above : goal.make-requires-clause-above
 make-requires-clause-above g c =
@@ -23,10 +24,13 @@ make_weak-requires g c =
     (c.next_ref-n.ensures.history c.requires.events.threads c.requires.stand.threads)
 
 pub count_ref-requires-clause-room : goal.count_ref-requires-clause-room
-count_ref-requires-clause-room g c = (counts c.args.setup.now c.requires.events c.args.tables.now.threads c.args.tid.0 c.requires.ordinary c.requires.stand.threads).refs
+count_ref-requires-clause-room g c =
+    (counts c.args.setup.now c.requires.events c.args.tables.now.threads c.args.tid.0 c.requires.ordinary c.requires.stand.threads).refs
 
 pub count_ref-requires-in-Global-clause-room : goal.count_ref-requires-in-Global-clause-room
-count_ref-requires-in-Global-clause-room g c = (counts c.args.setup.now c.requires.events c.args.tables.now.threads c.args.tid.0 c.requires.ordinary c.requires.stand.threads).refs
+count_ref-requires-in-Global-clause-room g c =
+    (counts c.args.setup.now c.requires.events c.args.tables.now.threads c.args.tid.0 c.requires.ordinary c.requires.stand.threads).refs
 
 pub count_ref-requires-in-Weak-clause-room : goal.count_ref-requires-in-Weak-clause-room
-count_ref-requires-in-Weak-clause-room g c = (counts c.args.setup.now c.requires.events c.args.tables.now.threads c.args.tid.0 c.requires.ordinary c.requires.stand.threads).refs
+count_ref-requires-in-Weak-clause-room g c =
+    (counts c.args.setup.now c.requires.events c.args.tables.now.threads c.args.tid.0 c.requires.ordinary c.requires.stand.threads).refs

@@ -45,8 +45,10 @@ loop-at-preserved g c =
     let few : length (causes whole.setup (as_it_was n whole.journal)) < c.args.most = omega (arith, long, c.if-len-most.false) in
     record {
       front = c.in_ok-replay_entry.ensures;
-      denials = kept_more (map denial_of) whole c.loop-at.again n _ _ (map-append denial_of) below so_far.front so_far.denials c.in_ok-push_if_denied.ensures.denials;
-      watches = kept_more (flat_map watches_of) whole c.loop-at.again n _ _ (flat_map-append watches_of) below so_far.front so_far.watches c.in_ok-push_if_denied.ensures.watches;
+      denials = kept_more (map denial_of) whole c.loop-at.again n _ _ (map-append denial_of) below so_far.front so_far.denials
+          c.in_ok-push_if_denied.ensures.denials;
+      watches = kept_more (flat_map watches_of) whole c.loop-at.again n _ _ (flat_map-append watches_of) below so_far.front so_far.watches
+          c.in_ok-push_if_denied.ensures.watches;
       few = few_more whole c.loop-at.again n c.args.most below so_far.front few;
     }
 

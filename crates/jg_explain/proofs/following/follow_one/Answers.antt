@@ -25,7 +25,9 @@ returns-clause-followed g c old =
     ∙ ap (λ (j : List Entry). map (asked_steady s j entry at) c.deref_mut-2.result.now) front.journal in
     let all = subst (All (IsSteady s h (at + 1))) (sym (made ∙ ap (map (asked_steady s _ entry at)) c.deref_mut-2.ensures.value)) asked in
     record {
-      seen = all_through (IsTraced s h) traces.len traces.items c.deref_mut.result.now c.trace_each.new.traces (omega (arith, traces.ok)) c.deref_mut.ensures.value c.trace_each.auto.traces seen;
-      asked = all_through (IsSteady s h (at + 1)) steady.len steady.items c.deref_mut-2.result.now c.ask_steady.new.all (omega (arith, steady.ok)) c.deref_mut-2.ensures.value
+      seen = all_through (IsTraced s h) traces.len traces.items c.deref_mut.result.now c.trace_each.new.traces (omega (arith, traces.ok))
+          c.deref_mut.ensures.value c.trace_each.auto.traces seen;
+      asked = all_through (IsSteady s h (at + 1)) steady.len steady.items c.deref_mut-2.result.now c.ask_steady.new.all (omega (arith, steady.ok))
+          c.deref_mut-2.ensures.value
           c.ask_steady.auto.all all;
     }

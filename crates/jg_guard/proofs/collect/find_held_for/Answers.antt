@@ -11,7 +11,8 @@ returns-in_ok-find_held-in-Collect-clause-found g c = λ p stands.
     let held = c.find_held.new.findings in
     let found : Finds c.args.view.now.setup.now p (Vm Collect) held =
     record {
-      marks = subst (λ (k : ℕ). MarksHeld k (roots c.args.view.now.setup.now p) p.heap held.marks) stands.heap.classes (c.in_ok-find_held-in-Collect.ensures.marks p stands);
+      marks = subst (λ (k : ℕ). MarksHeld k (roots c.args.view.now.setup.now p) p.heap held.marks) stands.heap.classes
+          (c.in_ok-find_held-in-Collect.ensures.marks p stands);
       unheld = c.in_ok-find_held-in-Collect.ensures.unheld p stands;
     } in
     rw (c.in-Vm.is, c.in-Collect.is) found

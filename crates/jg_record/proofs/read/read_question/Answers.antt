@@ -24,7 +24,8 @@ returns-in-Ok-clause-ok c =
       c.in-Some-place_of.function,
       columns c.in-Some-row_of.row.now,
       rest_fields (option_copied c.cut.result.1),
-      has_row _ _ c.cut.result.0.now c.in-Some-place_of.function (columns c.in-Some-row_of.row.now) split c.in-Some-place_of.ensures.some c.in-Some-place_of.ensures.one at,
+      has_row _ _ c.cut.result.0.now c.in-Some-place_of.function (columns c.in-Some-row_of.row.now) split c.in-Some-place_of.ensures.some
+          c.in-Some-place_of.ensures.one at,
       refl,
       c.in-Ok.ensures.ok,
     )
@@ -40,7 +41,8 @@ returns-in-Err c =
         c.in-Some-place_of.function,
         columns c.in-Some-row_of.row.now,
         rest_fields (option_copied c.cut.result.1),
-        has_row _ _ c.cut.result.0.now c.in-Some-place_of.function (columns c.in-Some-row_of.row.now) split c.in-Some-place_of.ensures.some c.in-Some-place_of.ensures.one at,
+        has_row _ _ c.cut.result.0.now c.in-Some-place_of.function (columns c.in-Some-row_of.row.now) split c.in-Some-place_of.ensures.some
+            c.in-Some-place_of.ensures.one at,
         count,
       );
     }
@@ -52,7 +54,8 @@ returns-in-Err-2 c =
     let count = ap (is_count c.in-Some-row_of.row.now.takes.now) (sym c.count_fields.ensures) ∙ sym c.is_count.ensures ∙ c.if-not-is_count.false in
     record {
       ok = tt;
-      err = rw c.in-Some.is (question_fault _ c.in-Some-place_of.function (columns c.in-Some-row_of.row.now) (rest_fields (option_copied c.cut.result.1)) c.in-Err.field-0
+      err = rw c.in-Some.is (question_fault _ c.in-Some-place_of.function (columns c.in-Some-row_of.row.now) (rest_fields (option_copied c.cut.result.1))
+          c.in-Err.field-0
           (has_row _ _ c.cut.result.0.now c.in-Some-place_of.function (columns c.in-Some-row_of.row.now) split c.in-Some-place_of.ensures.some
           c.in-Some-place_of.ensures.one at) count c.in-Err.ensures.err);
     }

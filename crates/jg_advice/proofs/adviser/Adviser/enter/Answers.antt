@@ -15,5 +15,6 @@ returns-clause-stands g c = λ h p line stands sees.
     (λ u. refl) (λ q. refl) (λ q. refl) (λ q. refl) (λ q once. once)
     (λ q. doing_gone c.self.inside.doings c.remove-ended.new.tables q (same_name (c.args.tid.0, depth p c.args.tid.0) q)
     (c.remove-ended.ensures.drops q
-    ∙ ap (λ d. if same_name (c.args.tid.0, d) q then None else lookup (same_name q) (named c.self.inside.doings)) (c.depth.ensures.history p.locals sees.locals)))
+    ∙ ap (λ d. if same_name (c.args.tid.0, d) q then None else lookup (same_name q) (named c.self.inside.doings))
+        (c.depth.ensures.history p.locals sees.locals)))
     refl refl

@@ -12,5 +12,6 @@ returns-in-Ok-clause-logs c = λ h p logs.
     let free : c.self.inside.lost ≡ false = c.if-self.false in
     record {
       stands = λ kept. c.in-Ok.ensures.stands h p (before.stands free);
-      notes = λ kept. notes_more c.self.inside.adviser c.went.new.self c.self.inside.advices c.self.inside.advices h m [] [] c.went.ensures.most refl refl (before.notes free) (λ older noted. noted);
+      notes = λ kept. notes_more c.self.inside.adviser c.went.new.self c.self.inside.advices c.self.inside.advices h m [] [] c.went.ensures.most refl refl
+          (before.notes free) (λ older noted. noted);
     }

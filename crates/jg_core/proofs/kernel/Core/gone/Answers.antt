@@ -12,7 +12,8 @@ invariant_of-self-2 g c =
     let stands = c.self.invariant.stands in
     record {
       told = all_gone c.args.objects.now w;
-      stands = told_all state (record { setup = c.self.inside.setup; rows = rows_of c.let_all_go.new.tables; made = c.self.inside.made }) c.args.objects.now w stands refl refl
+      stands = told_all state (record { setup = c.self.inside.setup; rows = rows_of c.let_all_go.new.tables; made = c.self.inside.made }) c.args.objects.now w
+          stands refl refl
           (c.in_ok-let_all_go.ensures.all (parts_of w) stands.tables) (c.in_ok-let_all_go.ensures.ok (parts_of w) stands.tables);
       few = c.self.invariant.few;
       unmarked = c.in_ok-let_all_go.ensures.unmarked;
@@ -25,6 +26,7 @@ returns-clause-ok g c =
       setup = search rules;
       stands = λ w was.
           let stands : CoreStands state w = subst (λ s. CoreStands s w) (sym c.self.view_is) was in
-          told_all state (record { setup = c.self.inside.setup; rows = rows_of c.let_all_go.new.tables; made = c.self.inside.made }) c.args.objects.now w stands refl refl
+          told_all state (record { setup = c.self.inside.setup; rows = rows_of c.let_all_go.new.tables; made = c.self.inside.made }) c.args.objects.now w stands
+              refl refl
           (c.in_ok-let_all_go.ensures.all (parts_of w) stands.tables) (c.in_ok-let_all_go.ensures.ok (parts_of w) stands.tables);
     }

@@ -12,7 +12,8 @@ take-requires g c =
     let w : List Fact = c.self.invariant.told in
     let found : c.can_be.result ≡ true = search rules in
     let can : can_be state.setup (parts_of w) c.args.fact ≡ true =
-    told_by state.setup _ state.rows _ c.args.fact (parts_of w) c.can_be.result c.view.ensures.setup c.view.ensures.rows c.can_be.ensures c.self.invariant.stands.tables ∙ found in
+    told_by state.setup _ state.rows _ c.args.fact (parts_of w) c.can_be.result c.view.ensures.setup c.view.ensures.rows c.can_be.ensures
+        c.self.invariant.stands.tables ∙ found in
     due state w c.args.fact c.self.invariant.stands c.self.invariant.few can
 
 pub invariant_of-self-then-made-2 : goal.invariant_of-self-then-made-2
@@ -21,11 +22,13 @@ invariant_of-self-then-made-2 g c =
     let w : List Fact = c.self.invariant.told in
     let found : c.can_be.result ≡ true = search rules in
     let can : can_be state.setup (parts_of w) c.args.fact ≡ true =
-    told_by state.setup _ state.rows _ c.args.fact (parts_of w) c.can_be.result c.view.ensures.setup c.view.ensures.rows c.can_be.ensures c.self.invariant.stands.tables ∙ found in
+    told_by state.setup _ state.rows _ c.args.fact (parts_of w) c.can_be.result c.view.ensures.setup c.view.ensures.rows c.can_be.ensures
+        c.self.invariant.stands.tables ∙ found in
     let made : makes c.args.fact ≡ true = search rules in
     record {
       told = c.args.fact ∷ w;
-      stands = told_one state (record { setup = c.self.inside.setup; rows = rows_of c.take.new.tables; made = c.self.inside.made + 1 }) w c.args.fact c.self.invariant.stands refl (rw made refl) can
+      stands = told_one state (record { setup = c.self.inside.setup; rows = rows_of c.take.new.tables; made = c.self.inside.made + 1 }) w c.args.fact
+          c.self.invariant.stands refl (rw made refl) can
           (c.in-Ok.ensures.ok (parts_of w) c.self.invariant.stands.tables);
       few = search rules;
       unmarked = c.take.ensures.marks c.self.invariant.unmarked;
@@ -37,11 +40,13 @@ invariant_of-self-else-made-2 g c =
     let w : List Fact = c.self.invariant.told in
     let found : c.can_be.result ≡ true = search rules in
     let can : can_be state.setup (parts_of w) c.args.fact ≡ true =
-    told_by state.setup _ state.rows _ c.args.fact (parts_of w) c.can_be.result c.view.ensures.setup c.view.ensures.rows c.can_be.ensures c.self.invariant.stands.tables ∙ found in
+    told_by state.setup _ state.rows _ c.args.fact (parts_of w) c.can_be.result c.view.ensures.setup c.view.ensures.rows c.can_be.ensures
+        c.self.invariant.stands.tables ∙ found in
     let made : makes c.args.fact ≡ false = search rules in
     record {
       told = c.args.fact ∷ w;
-      stands = told_one state (record { setup = c.self.inside.setup; rows = rows_of c.take.new.tables; made = c.self.inside.made }) w c.args.fact c.self.invariant.stands refl (rw made refl) can
+      stands = told_one state (record { setup = c.self.inside.setup; rows = rows_of c.take.new.tables; made = c.self.inside.made }) w c.args.fact
+          c.self.invariant.stands refl (rw made refl) can
           (c.in-Ok.ensures.ok (parts_of w) c.self.invariant.stands.tables);
       few = c.self.invariant.few;
       unmarked = c.take.ensures.marks c.self.invariant.unmarked;

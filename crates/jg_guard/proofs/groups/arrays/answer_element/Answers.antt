@@ -7,7 +7,8 @@ use Rattle.jg_guard.proofs.Arrays.{get_element_due, within}
 use Rattle.jg_guard.proofs.groups.arrays.answer_element.Goals as goal
 
 pub slot_of-requires-clause-made : goal.slot_of-requires-clause-made
-slot_of-requires-clause-made g c = rw (c.the_object-object.ensures c.requires.events c.requires.stand) (get_element_due _ _ _ c.args.array c.args.index c.requires).made
+slot_of-requires-clause-made g c =
+    rw (c.the_object-object.ensures c.requires.events c.requires.stand) (get_element_due _ _ _ c.args.array c.args.index c.requires).made
 
 pub slot_of-requires-clause-array : goal.slot_of-requires-clause-array
 slot_of-requires-clause-array g c =

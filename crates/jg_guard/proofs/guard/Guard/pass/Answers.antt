@@ -37,7 +37,8 @@ perform-requires-clause-answered g c =
     let passed = passed_by g.row.A.Denot state c.args.self.now c.view-view.result.setup.now
     (rows_of c.self.inside.tables) _ c.args.tid c.args.env c.args.call given c.find_held_for.new.findings c.self.invariant.0 c.self.view_is
     c.view-view.ensures.setup c.view-view.ensures.rows c.requires.passed c.in-Ok.ensures.found c.in-Ok-answer_to.ensures.given in
-    answered_due g.row.A.Denot state (rows_of c.self.inside.tables) c.args.tid c.args.env c.args.call given _ c.find_held_for.new.findings c.self.invariant.0 passed refl refl refl refl
+    answered_due g.row.A.Denot state (rows_of c.self.inside.tables) c.args.tid c.args.env c.args.call given _ c.find_held_for.new.findings c.self.invariant.0
+        passed refl refl refl refl
 
 -- what gives something back answers no list, so its answer is copied without memory
 pub returns-in_default-try_copy-clause-wants : goal.returns-in_default-try_copy-clause-wants
@@ -47,7 +48,8 @@ returns-in_default-try_copy-clause-wants g c = λ room.
     let passed = passed_by g.row.A.Denot state c.args.self.now c.view-view.result.setup.now
     (rows_of c.self.inside.tables) _ c.args.tid c.args.env c.args.call given c.find_held_for.new.findings c.self.invariant.0 c.self.view_is
     c.view-view.ensures.setup c.view-view.ensures.rows c.requires.passed c.in-Ok.ensures.found c.in-Ok-answer_to.ensures.given in
-    listed state.setup (parts state.setup state.journal) c.args.tid c.args.call (ap (λ (a : Answer). is_list a.reply.value) (sym passed.answers) ∙ c.in_default-try_copy.ensures.wants)
+    listed state.setup (parts state.setup state.journal) c.args.tid c.args.call
+        (ap (λ (a : Answer). is_list a.reply.value) (sym passed.answers) ∙ c.in_default-try_copy.ensures.wants)
 
 pub invariant_of-self-in_default-perform : goal.invariant_of-self-in_default-perform
 invariant_of-self-in_default-perform g c =
@@ -80,7 +82,8 @@ invariant_of-self-2 g c =
     let now = subst (λ (j : List Entry). IsNow state.setup j c.counted.result) journal (c.counted.ensures state.setup _ sound.tables) in
     let peaks = peaks_raised state.setup state.journal x c.self.inside.peaks c.counted.result c.self.invariant.1 now in (
       sound,
-      subst (λ (j : List Entry). ArePeaks state.setup j c.raised-self-inside.result) (sym journal) (subst (ArePeaks state.setup (x ∷ state.journal)) (sym c.raised-self-inside.ensures) peaks),
+      subst (λ (j : List Entry). ArePeaks state.setup j c.raised-self-inside.result) (sym journal)
+          (subst (ArePeaks state.setup (x ∷ state.journal)) (sym c.raised-self-inside.ensures) peaks),
       subst (λ (j : List Entry). IsTally j c.count.new.tally) (sym journal)
           (one_more state.journal x c.self.inside.tally c.count.new.tally 0 (search rules) refl c.self.invariant.2 c.count.ensures),
     )
@@ -104,6 +107,8 @@ returns-clause-ok g c =
     let x : Entry = passed_entry c.args.tid c.args.env c.args.call (with_notice c.is_noticed-noticed.result given) in
     let next = entry_taken g.row.A.Denot state c.args.tid c.args.env c.args.call given c.find_held_for.new.findings c.is_noticed-noticed.result passed told in
     let journal : reverse c.push_reserved.new.journal.items ≡ x ∷ state.journal = search rules in
-    rw c.in-Ok-try_copy.ensures.copy (subst (λ (s : State). Takes s (state_of c.self.inside.setup c.self.inside.limit c.push_reserved.new.journal) x.tid x.env x.call x.outcome)
+    rw c.in-Ok-try_copy.ensures.copy
+        (subst (λ (s : State). Takes s (state_of c.self.inside.setup c.self.inside.limit c.push_reserved.new.journal) x.tid x.env x.call x.outcome)
     c.self.view_is
-    (takes_entry state (rows_of c.self.inside.tables) x (reverse c.push_reserved.new.journal.items) c.push_reserved.new.journal.spare c.self.invariant.0 journal next))
+    (takes_entry state (rows_of c.self.inside.tables) x (reverse c.push_reserved.new.journal.items) c.push_reserved.new.journal.spare c.self.invariant.0 journal
+        next))
