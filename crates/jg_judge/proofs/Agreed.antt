@@ -79,7 +79,8 @@ kinds_agree s p PrimitiveArray o all = rw (none_own s p own.Floats o all, none_o
 kinds_agree s p (ArrayOf element) o all = refl
 kinds_agree s p ObjectArray o all = refl
 
-wrong_same : (s : StatedSetup) (p : Parts) → AreStated s p → (type : ObjectType) (named : Named) → is_wrong_kind s p (kind_of type) named ≡ rules.is_wrong s p type named
+wrong_same : (s : StatedSetup) (p : Parts) → AreStated s p → (type : ObjectType) (named : Named)
+    → is_wrong_kind s p (kind_of type) named ≡ rules.is_wrong s p type named
 wrong_same s p all type Nothing = refl
 wrong_same s p all type NamesNull = refl
 wrong_same s p all type (Object o) = ap not (kinds_agree s p type o.0 all)
@@ -99,7 +100,8 @@ either_bound true true = refl
 either_bound true false = refl
 either_bound false b = refl
 
-item_bounds : (s : StatedSetup) (p : Parts) (index v : ℤ) (found : Option Info) → (rules.is_outside_of index found || (is_wrong_item s p v found || false)) ≡ rules.is_wrong_item s p index v found
+item_bounds : (s : StatedSetup) (p : Parts) (index v : ℤ) (found : Option Info)
+    → (rules.is_outside_of index found || (is_wrong_item s p v found || false)) ≡ rules.is_wrong_item s p index v found
 item_bounds s p index v None = refl
 item_bounds s p index v (Some info) = either_bound (is_place index info.length) (is_value_of_type (item_type s p info info.family) v)
 
@@ -1090,7 +1092,8 @@ same_found : {X : Type 0} (p q : X → Bool) (xs : List X) → ((x : X) → p x 
 same_found p q [] same = refl
 same_found p q (x ∷ xs) same = rw (same x, same_found p q xs same) refl
 
-each_rule : (s : StatedSetup) (p : Parts) (t : ℕ) (env : Option EnvId) (call : Call) (row : Columns) → IsRow (fun_of call) row → Agrees s p t call (takes_of (fun_of call)) (arguments_of s p t call)
+each_rule : (s : StatedSetup) (p : Parts) (t : ℕ) (env : Option EnvId) (call : Call) (row : Columns) → IsRow (fun_of call) row
+    → Agrees s p t call (takes_of (fun_of call)) (arguments_of s p t call)
     → (rule : Rule) → broken rule written_bounds s p t env row (arguments_of s p t call) ≡ rules.broken rule s p t env call
 each_rule s p t env call row is agree WrongThread = rw (is.effect, agree.machine) refl
 each_rule s p t None call row is agree Detached = is.env
@@ -1113,5 +1116,6 @@ each_rule s p t env call row is agree NotLinked = rw (is.effect) agree.linked
 
 pub judged_as_written : JudgedAsWritten
 judged_as_written s p t env call all =
-    same_found (λ rule. broken rule written_bounds s p t env (row_for (fun_of call)) (arguments_of s p t call)) (λ rule. rules.broken rule s p t env call) rules_in_order
+    same_found (λ rule. broken rule written_bounds s p t env (row_for (fun_of call)) (arguments_of s p t call)) (λ rule. rules.broken rule s p t env call)
+        rules_in_order
     (each_rule s p t env call (row_for (fun_of call)) (row_is (fun_of call)) (agrees s p t call all))

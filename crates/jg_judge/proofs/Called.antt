@@ -36,7 +36,8 @@ of_rule : (named : Named) (found : Option BrokenBy) → rule_of (by_rule named f
 of_rule named None = refl
 of_rule named (Some broken) = refl
 
-of_culprit : (named : Rule → BrokenBy) (found : Option Rule) → ((rule : Rule) → (named rule).rule ≡ rule) → option_map (λ broken. broken.rule) (option_map named found) ≡ found
+of_culprit : (named : Rule → BrokenBy) (found : Option Rule) → ((rule : Rule) → (named rule).rule ≡ rule)
+    → option_map (λ broken. broken.rule) (option_map named found) ≡ found
 of_culprit named None kept = refl
 of_culprit named (Some rule) kept = ap Some (kept rule)
 
@@ -46,10 +47,12 @@ pub asked : (bounds : Bounds) (s : StatedSetup) (p : Parts) (t : ℕ) (env : Opt
 asked bounds s p t env row xs given is suit =
     let named : Named = names p t (first_reference xs) in
     ap rule_of (is ∙ ap (λ b. if b then by_rule named (first_broken bounds s p t env row xs) else Misfit) suit)
-    ∙ (of_rule named (first_broken bounds s p t env row xs) ∙ of_culprit (with_culprit bounds s p t row.takes xs) (verdict bounds s p t env row xs) (λ rule. refl))
+    ∙ (of_rule named (first_broken bounds s p t env row xs)
+        ∙ of_culprit (with_culprit bounds s p t row.takes xs) (verdict bounds s p t env row xs) (λ rule. refl))
 
 -- the question that a call is, of its function's row and its operands
-pub judged : (s : StatedSetup) (p : Parts) (t : ℕ) (env : Option EnvId) (call : Call) (row : Columns) (found : Option Columns) (xs : List Argument) (given : Option Rule)
+pub judged : (s : StatedSetup) (p : Parts) (t : ℕ) (env : Option EnvId) (call : Call) (row : Columns) (found : Option Columns) (xs : List Argument)
+    (given : Option Rule)
     → found ≡ Some row → found ≡ Some (row_for (fun_of call)) → xs ≡ arguments_of s p t call
     → (suits row.takes xs ≡ true → given ≡ verdict written_bounds s p t env row xs) → AreStated s p → given ≡ rules.verdict s p t env call
 judged s p t env call row found xs given here there xs_are by_row stated =

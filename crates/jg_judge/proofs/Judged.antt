@@ -22,12 +22,14 @@ use Rattle.jg_judge.specs.Suits.{suits}
 use Rattle.jg_judge.proofs.Callers.{by_its_caller}
 use Rattle.jg_judge.proofs.Split.{broken_after_four}
 
-pub of_caller : (bounds : Bounds) (s : StatedSetup) (p : Parts) (t : ℕ) (env : Option EnvId) (row : Columns) (xs : List Argument) (rule : Rule) → Some rule ≡ by_caller p t env row
+pub of_caller : (bounds : Bounds) (s : StatedSetup) (p : Parts) (t : ℕ) (env : Option EnvId) (row : Columns) (xs : List Argument) (rule : Rule)
+    → Some rule ≡ by_caller p t env row
     → (if suits row.takes xs then Broken (record { rule = rule; operand = None }) else Misfit) ≡ verdict_on bounds s p t env row xs
 of_caller bounds s p t env row xs rule is =
     ap (λ b. if suits row.takes xs then by_rule (names p t (first_reference xs)) b else Misfit) (by_its_caller bounds s p t env row xs rule is)
 
-pub of_others : (bounds : Bounds) (s : StatedSetup) (p : Parts) (t : ℕ) (env : Option EnvId) (row : Columns) (xs : List Argument) (named : Named) (given : Option BrokenBy)
+pub of_others : (bounds : Bounds) (s : StatedSetup) (p : Parts) (t : ℕ) (env : Option EnvId) (row : Columns) (xs : List Argument) (named : Named)
+    (given : Option BrokenBy)
     → by_caller p t env row ≡ None → suits row.takes xs ≡ true → named ≡ names p t (first_reference xs)
     → given ≡ option_or (of_operands (places_from s p t (beside_of bounds p xs) 0 (paired row.takes xs)) (wrong_kind row.effect (first_reference xs)))
     (option_map with_operand (of_effect s p t row.effect (first_reference xs) xs))

@@ -5,7 +5,8 @@ use Rattle.jg_judge.specs.Faults.{Faults, Places, first_of, of_operands, or_here
 
 -- one operand more: by the rule that it breaks first
 merged : (n : ℕ) (a b c d e f g : Option ℕ) (s t u v w x y : Bool)
-    → with_rule (of_operands (record { foreign_local = a; dead_reference = b; null_reference = c; wrong_type = d; bad_field = e; bad_buffer = f; bad_argument = g }) false)
+    → with_rule (of_operands (record { foreign_local = a; dead_reference = b; null_reference = c; wrong_type = d; bad_field = e; bad_buffer = f; bad_argument =
+        g }) false)
     (first_of (record { foreign_local = s; dead_reference = t; null_reference = u; wrong_type = v; bad_field = w; bad_buffer = x; bad_argument = y })) n
     ≡ of_operands (record {
       foreign_local = or_here a n s;
@@ -81,14 +82,16 @@ merged n None None None None None None (Some i) false false false false false fa
 merged n None None None None None None None false false false false false false true = refl
 merged n None None None None None None None false false false false false false false = refl
 
-pub one_kept : (places : Places) (faults : Faults) (n : ℕ) → with_rule (of_operands places false) (first_of faults) n ≡ of_operands (with_one places n faults) false
+pub one_kept : (places : Places) (faults : Faults) (n : ℕ)
+    → with_rule (of_operands places false) (first_of faults) n ≡ of_operands (with_one places n faults) false
 one_kept places faults n =
     merged n places.foreign_local places.dead_reference places.null_reference places.wrong_type places.bad_field places.bad_buffer places.bad_argument
     faults.foreign_local faults.dead_reference faults.null_reference faults.wrong_type faults.bad_field faults.bad_buffer faults.bad_argument
 
 -- the reference that is deleted stands first
 with_kind : (a b c d e f g : Option ℕ)
-    → Some (sooner (of_operands (record { foreign_local = a; dead_reference = b; null_reference = c; wrong_type = d; bad_field = e; bad_buffer = f; bad_argument = g }) false)
+    → Some (sooner (of_operands
+        (record { foreign_local = a; dead_reference = b; null_reference = c; wrong_type = d; bad_field = e; bad_buffer = f; bad_argument = g }) false)
     (record { rule = WrongRefKind; operand = Some 0 }))
     ≡ of_operands (record { foreign_local = a; dead_reference = b; null_reference = c; wrong_type = d; bad_field = e; bad_buffer = f; bad_argument = g }) true
 with_kind (Some i) b c d e f g = refl
@@ -101,4 +104,5 @@ with_kind None None None None None None (Some i) = refl
 with_kind None None None None None None None = refl
 
 pub kind_kept : (places : Places) → Some (sooner (of_operands places false) (record { rule = WrongRefKind; operand = Some 0 })) ≡ of_operands places true
-kind_kept places = with_kind places.foreign_local places.dead_reference places.null_reference places.wrong_type places.bad_field places.bad_buffer places.bad_argument
+kind_kept places = with_kind places.foreign_local places.dead_reference places.null_reference places.wrong_type places.bad_field places.bad_buffer
+    places.bad_argument

@@ -35,9 +35,11 @@ of_faults faults is_wrong_kind =
     else None
 
 nested : (a b c d e f g h : Bool) (later : Option Rule)
-    → (if a then Some ForeignLocal else if b then Some DeadReference else if c then Some WrongRefKind else if d then Some NullReference else if e then Some WrongType
+    → (if a then Some ForeignLocal else if b then Some DeadReference else if c then Some WrongRefKind else if d then Some NullReference else if e
+        then Some WrongType
     else if f then Some BadField else if g then Some BadBuffer else if h then Some BadArgument else later)
-    ≡ option_or (if a then Some ForeignLocal else if b then Some DeadReference else if c then Some WrongRefKind else if d then Some NullReference else if e then Some WrongType
+    ≡ option_or (if a then Some ForeignLocal else if b then Some DeadReference else if c then Some WrongRefKind else if d then Some NullReference else if e
+        then Some WrongType
     else if f then Some BadField else if g then Some BadBuffer else if h then Some BadArgument else None) later
 nested true b c d e f g h later = refl
 nested false true c d e f g h later = refl
@@ -53,7 +55,8 @@ nested false false false false false false false false later = refl
 after_four : (bounds : Bounds) (s : StatedSetup) (p : Parts) (t : ℕ) (env : Option EnvId) (row : Columns) (xs : List Argument)
     → wrong_thread t env row ≡ false → detached p t env row ≡ false → in_critical p t row ≡ false → while_pending p t row ≡ false
     → verdict bounds s p t env row xs
-    ≡ option_or (of_faults (faults_in s p t (record { bounds = bounds; via = first_reference xs; info = buffer_meant p (first_buffer xs) }) (paired row.takes xs))
+    ≡ option_or (of_faults (faults_in s p t (record { bounds = bounds; via = first_reference xs; info = buffer_meant p (first_buffer xs) })
+        (paired row.takes xs))
     (wrong_kind row.effect (first_reference xs))) (of_effect s p t row.effect (first_reference xs) xs)
 after_four bounds s p t env row xs own attached outside calm =
     let beside : Beside = record { bounds = bounds; via = first_reference xs; info = buffer_meant p (first_buffer xs) } in
@@ -100,7 +103,8 @@ operands_named bounds s p t takes xs wrong =
     let beside : Beside = record { bounds = bounds; via = first_reference xs; info = buffer_meant p (first_buffer xs) } in
     let x : List (Takes × Argument) = paired takes xs in
     let found = placed (with_culprit bounds s p t takes xs) (first_that s p t beside ForeignLocal 0 x) (first_that s p t beside DeadReference 0 x)
-    (first_that s p t beside NullReference 0 x) (first_that s p t beside WrongType 0 x) (first_that s p t beside BadField 0 x) (first_that s p t beside BadBuffer 0 x)
+    (first_that s p t beside NullReference 0 x) (first_that s p t beside WrongType 0 x) (first_that s p t beside BadField 0 x)
+        (first_that s p t beside BadBuffer 0 x)
     (first_that s p t beside BadArgument 0 x) wrong refl refl refl refl refl refl refl refl in
     found ∙ rw (
       there_is_first s p t beside ForeignLocal 0 x,
@@ -115,8 +119,10 @@ operands_named bounds s p t takes xs wrong =
 effect_named : (named : Rule → Broken) (a b c d e : Bool)
     → named Pinned ≡ with_operand Pinned → named NotOwner ≡ with_operand NotOwner → named BadFrame ≡ with_operand BadFrame
     → named NoNativeAccess ≡ with_operand NoNativeAccess → named NotLinked ≡ with_operand NotLinked
-    → option_map named (if a then Some Pinned else if b then Some NotOwner else if c then Some BadFrame else if d then Some NoNativeAccess else if e then Some NotLinked else None)
-    ≡ option_map with_operand (if a then Some Pinned else if b then Some NotOwner else if c then Some BadFrame else if d then Some NoNativeAccess else if e then Some NotLinked else None)
+    → option_map named (if a then Some Pinned else if b then Some NotOwner else if c then Some BadFrame else if d then Some NoNativeAccess else if e
+        then Some NotLinked else None)
+    ≡ option_map with_operand (if a then Some Pinned else if b then Some NotOwner else if c then Some BadFrame else if d then Some NoNativeAccess else if e
+        then Some NotLinked else None)
 effect_named named true b c d e na nb nc nd ne = ap Some na
 effect_named named false true c d e na nb nc nd ne = ap Some nb
 effect_named named false false true d e na nb nc nd ne = ap Some nc
@@ -124,12 +130,14 @@ effect_named named false false false true e na nb nc nd ne = ap Some nd
 effect_named named false false false false true na nb nc nd ne = ap Some ne
 effect_named named false false false false false na nb nc nd ne = refl
 
-first_named : (named : Rule → Broken) (found later : Option Rule) → option_map named (option_or found later) ≡ option_or (option_map named found) (option_map named later)
+first_named : (named : Rule → Broken) (found later : Option Rule)
+    → option_map named (option_or found later) ≡ option_or (option_map named found) (option_map named later)
 first_named named (Some rule) later = refl
 first_named named None later = refl
 
 -- a question that breaks none of the first four rules
-pub broken_after_four : (bounds : Bounds) (s : StatedSetup) (p : Parts) (t : ℕ) (env : Option EnvId) (row : Columns) (xs : List Argument) → by_caller p t env row ≡ None
+pub broken_after_four : (bounds : Bounds) (s : StatedSetup) (p : Parts) (t : ℕ) (env : Option EnvId) (row : Columns) (xs : List Argument)
+    → by_caller p t env row ≡ None
     → first_broken bounds s p t env row xs
     ≡ option_or (of_operands (places_from s p t (beside_of bounds p xs) 0 (paired row.takes xs)) (wrong_kind row.effect (first_reference xs)))
     (option_map with_operand (of_effect s p t row.effect (first_reference xs) xs))
@@ -144,5 +152,6 @@ broken_after_four bounds s p t env row xs passes =
     ∙ (first_named named found later
     ∙ (ap (λ b. option_or b (option_map named later)) (sym (operands_named bounds s p t row.takes xs (wrong_kind row.effect r)))
     ∙ ap (option_or (of_operands (places_from s p t beside 0 (paired row.takes xs)) (wrong_kind row.effect r)))
-    (effect_named named (pinned p row.effect r) (not_owner p t row.effect r) (bad_frame p t row.effect) (no_access s p t row.effect r xs) (not_linked s p row.effect xs)
+    (effect_named named (pinned p row.effect r) (not_owner p t row.effect r) (bad_frame p t row.effect) (no_access s p t row.effect r xs)
+        (not_linked s p row.effect xs)
     refl refl refl refl refl)))

@@ -20,7 +20,7 @@ pub use call::verdict_on_call;
 pub use firsts::{first_buffer, first_number, first_reference, native_by_name};
 pub use function::function_of;
 pub use judge::Broken;
-pub use kinds::{OwnKind, is_class};
+pub use kinds::{OwnKind, is_class, is_kind};
 pub use operands::{Arguments, arguments_of, push_arguments};
 pub use promises::{calls_suit, judged_as_written};
 pub use question::{Verdict, verdict_on};
